@@ -1,0 +1,168 @@
+-- Document 01, "Complex (kind 2)", with "Sweep" and "Cancel".
+use mathlib.Core.Bool.{Bool, not, _&&_, _||_}
+use Prim.Native.Nat.{ℕ, zero, suc, min}
+use lib.Dec.{ltb, eqb}
+use lib.IntN.{pos, negℤ, _+ℤ_}
+use lib.Signed.{leZ, ltZ}
+use Rattle.rules.specs.declared.Complex.{Complex}
+use Rattle.rules.specs.declared.Venue.{Venue}
+use Rattle.rules.specs.declared.Cause.the-variants.{Executed, Withdrawn, Touched}
+use Rattle.rules.specs.Base.{if_then_else_, held, placeWhere, Picked, nobody, picked, first}
+use Rattle.rules.specs.Words.{closed, opposite, placeOf, statusOf, regularAt, complexAt, isRegularOf, isComplexOf, earlierComplex}
+use Rattle.rules.specs.Prices.{bestRegular, bestSize, bestOwn, net, inBand}
+use Rattle.rules.specs.Records.{crossed, cancelled}
+use Rattle.rules.specs.Effects.{Effect, nothing, report, _⟫_, Turn, ended, turned, repeat}
+use Rattle.rules.specs.Removal.{remove, removeOf, failIf}
+use Rattle.rules.specs.Standing.{settle}
+use Rattle.rules.specs.Trading.{fillRegular, fillComplex, freeComplex, putComplex, take, pairOff}
+use Rattle.rules.specs.Generation.{generate}
+
+-- a series of c is closed
+unfoldable pub anyClosed : Venue → Complex → Bool
+anyClosed v c = eqb (statusOf v (c .series1)) closed || eqb (statusOf v (c .series2)) closed
+
+-- Cross ---------------------------------------------------------------------------------------
+
+-- "with the same series and in each the reversed side, whichever leg is named first"
+unfoldable pub reversed : Complex → Complex → Bool
+reversed a b =
+    (eqb (a .series1) (b .series1) && eqb (a .side1) (opposite (b .side1))
+    && eqb (a .series2) (b .series2) && eqb (a .side2) (opposite (b .side2)))
+    || (eqb (a .series1) (b .series2) && eqb (a .side1) (opposite (b .side2))
+    && eqb (a .series2) (b .series1) && eqb (a .side2) (opposite (b .side1)))
+
+-- "N + their N ≥ 0, both nets in band": the resting order m is a candidate for c. Dealt "at the resting limit", m's net is its N and c's is minus that.
+unfoldable pub crosses : Venue → Complex → Complex → Bool
+crosses v c m =
+    held (m .quantity)
+    && reversed c m
+    && leZ (pos 0) (c .limit +ℤ m .limit)
+    && inBand v c (negℤ (m .limit))
+    && inBand v m (m .limit)
+
+-- "take the highest N, then earliest"
+unfoldable pub limitThenId : Complex → Complex → Bool
+limitThenId a b = ltZ (b .limit) (a .limit) || (not (ltZ (a .limit) (b .limit)) && earlierComplex a b)
+
+-- The orders at places i and j cross for k: "Any cross or pair removes the legging orders of each party (3), right after its 70 or 66, the taker's first."
+unfoldable pub cross : (i j k : ℕ) → Venue → Effect
+cross i j k v =
+    let c = complexAt v i in
+    let m = complexAt v j in
+    report (crossed (c .id) (m .id) (negℤ (m .limit)) k) (fillComplex j k (fillComplex i k v))
+    ⟫ removeOf (c .id) Executed
+    ⟫ removeOf (m .id) Executed
+
+-- "for the lesser of both open quantities; repeat"
+unfoldable pub crossTurn : (i : ℕ) → Venue → Turn
+crossTurn i v =
+    let c = complexAt v i in
+    if not (held (c .quantity)) then ended
+    else elim (first (crosses v c) limitThenId (v .complex)) [
+      | nobody ↦ ended
+      | picked j m ↦ turned (cross i j (min (c .quantity) (m .quantity)) v)
+    ]
+
+-- Touch ---------------------------------------------------------------------------------------
+
+-- "if both sides it would take have a price and the best own prices, legging included, net ≤ N", while some quantity is open
+unfoldable pub touches : Venue → Complex → Bool
+touches v c =
+    let a = bestOwn v (c .series1) (opposite (c .side1)) in
+    let b = bestOwn v (c .series2) (opposite (c .side2)) in
+    held (c .quantity) && held a && held b && leZ (net c a b) (c .limit)
+
+-- place n is one of the two sides that c would take
+unfoldable pub takenSide : Complex → (place : ℕ) → Bool
+takenSide c n =
+    eqb n (placeOf (c .series1) (opposite (c .side1))) || eqb n (placeOf (c .series2) (opposite (c .side2)))
+
+-- "remove legging orders on those two sides (cause 8; this stands for viii and ix)"
+unfoldable pub touch : (i : ℕ) → Venue → Effect
+touch i v =
+    let c = complexAt v i in
+    if touches v c then remove (λ n _. failIf (takenSide c n) Touched) v else nothing v
+
+-- Leg in --------------------------------------------------------------------------------------
+
+-- "while best regular prices net ≤ N and in band": best prices a and b, while some quantity is open
+unfoldable pub legsIn : Venue → Complex → (a b : ℕ) → Bool
+legsIn v c a b =
+    held (c .quantity) && held a && held b && leZ (net c a b) (c .limit) && inBand v c (net c a b)
+
+-- k contracts of each leg at prices a and b: "first leg's trades, second's, 66", and the removals
+unfoldable pub legIn : (i a b k : ℕ) → Venue → Effect
+legIn i a b k v =
+    let c = complexAt v i in
+    take k (c .id) (c .series1) (c .side1) a k v
+    ⟫ take k (c .id) (c .series2) (c .side2) b k
+    ⟫ pairOff i (c .id) (net c a b) k
+
+-- "trade the least of open quantity and both sizes"
+unfoldable pub legInTurn : (i : ℕ) → Venue → Turn
+legInTurn i v =
+    let c = complexAt v i in
+    let a = bestRegular v (c .series1) (opposite (c .side1)) in
+    let b = bestRegular v (c .series2) (opposite (c .side2)) in
+    let k = min (c .quantity) (min (bestSize v (c .series1) (opposite (c .side1))) (bestSize v (c .series2) (opposite (c .side2)))) in
+    if legsIn v c a b then turned (legIn i a b k v) else ended
+
+-- The messages --------------------------------------------------------------------------------
+
+-- "First cross …; repeat. Then touch … Then leg in", "if neither series is closed", for the order at place i
+unfoldable pub work : (i : ℕ) → Venue → Effect
+work i v =
+    let c = complexAt v i in
+    if anyClosed v c then nothing v
+    else repeat (c .quantity) (crossTurn i) v ⟫ touch i ⟫ repeat (c .quantity) (legInTurn i)
+
+-- The order is given a place and is worked there; "The rest rests; settle; generate for its first leg, then second."
+unfoldable pub complex : Complex → Venue → Effect
+complex c v =
+    let i = freeComplex v in
+    work i (putComplex i c v) ⟫ settle ⟫ generate i
+
+-- the earliest resting order above an id, with its place
+unfoldable pub nextAbove : (id : ℕ) → Venue → Picked Complex
+nextAbove id v = first (λ c. held (c .quantity) && ltb id (c .id)) earlierComplex (v .complex)
+
+-- f for each resting order above an id, "earliest first"; the fuel is the number of places
+unfoldable pub each : (fuel : ℕ) → (ℕ → Venue → Effect) → (id : ℕ) → Venue → Effect
+each zero f id v = nothing v
+each (suc fuel) f id v =
+    elim (nextAbove id v) [ nobody ↦ nothing v | picked i c ↦ f i v ⟫ each fuel f (c .id) ]
+
+-- "Sweep: all this for each resting order, earliest first, but settle once and then generate."
+unfoldable pub sweep : Venue → Effect
+sweep v = each 32 work 0 v ⟫ settle ⟫ each 32 generate 0
+
+-- "Cancel: 71, then removals (4)"; (C)(4)(iv)
+unfoldable pub cancelRegular : (i : ℕ) → Venue → Effect
+cancelRegular i v =
+    let o = regularAt v i in
+    report (cancelled (o .id) (o .quantity)) (fillRegular i (o .quantity) v)
+
+unfoldable pub cancelComplex : (i : ℕ) → Venue → Effect
+cancelComplex i v =
+    let c = complexAt v i in
+    report (cancelled (c .id) (c .quantity)) (fillComplex i (c .quantity) v) ⟫ removeOf (c .id) Withdrawn
+
+-- the place of the resting order with an id, and that there is one
+unfoldable pub regularPlace : Venue → (id : ℕ) → ℕ
+regularPlace v id = placeWhere (isRegularOf id) (v .regular)
+
+unfoldable pub complexPlace : Venue → (id : ℕ) → ℕ
+complexPlace v id = placeWhere (isComplexOf id) (v .complex)
+
+unfoldable pub restsRegular : Venue → (id : ℕ) → Bool
+restsRegular v id = isRegularOf id (regularAt v (regularPlace v id))
+
+unfoldable pub restsComplex : Venue → (id : ℕ) → Bool
+restsComplex v id = isComplexOf id (complexAt v (complexPlace v id))
+
+unfoldable pub cancel : (id : ℕ) → Venue → Effect
+cancel id v =
+    (if restsRegular v id
+    then cancelRegular (regularPlace v id) v
+    else cancelComplex (complexPlace v id) v)
+    ⟫ settle

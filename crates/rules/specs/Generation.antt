@@ -1,0 +1,99 @@
+-- Document 01, "Generation of a leg".
+use mathlib.Core.Bool.{Bool, true, not, _&&_, _||_}
+use mathlib.Core.List.{List, [], _∷_}
+use Prim.Native.Nat.{ℕ, suc, min}
+use lib.Dec.{eqb}
+use lib.ListN.{set}
+use lib.IntN.{ℤ, pos, negsuc, _-ℤ_}
+use Rattle.rules.specs.declared.Complex.{Complex}
+use Rattle.rules.specs.declared.Legging.{Legging}
+use Rattle.rules.specs.declared.Venue.{Venue}
+use Rattle.rules.specs.declared.Cause.the-variants.{Replaced}
+use Rattle.rules.specs.Base.{if_then_else_, held}
+use Rattle.rules.specs.Words.{within, opposite, signed, increment, customer, otherClass, withLegging, placeOf, complexAt, leggingAt}
+use Rattle.rules.specs.Prices.{better, reaches, bestOwn, ownPrice, displayed, away, inBand}
+use Rattle.rules.specs.Records.{generated}
+use Rattle.rules.specs.Effects.{Effect, nothing, report, _⟫_}
+use Rattle.rules.specs.Removal.{remove, failIf}
+use Rattle.rules.specs.Standing.{otherLeg, otherClear, otherSize, parentOf, bothOpen, shownWell, verdict, stands}
+
+-- The legging order of a leg ------------------------------------------------------------------
+
+-- a price; none where the number is negative
+unfoldable pub asPrice : ℤ → ℕ
+asPrice (pos n) = n
+asPrice (negsuc n) = 0
+
+-- "Price p = sign × (N - other leg's sign × other clear price)", for the leg of c at side d of series s; (C)(1)(ii)
+unfoldable pub legPrice : Venue → Complex → (series side : ℕ) → ℕ
+legPrice v c s d = asPrice (signed d (c .limit -ℤ signed (otherLeg c s .side) (pos (otherClear v c s))))
+
+-- "Quantity: the lesser of open and size at the clear price."
+unfoldable pub newLegging : Venue → Complex → (series side : ℕ) → Legging
+newLegging v c s d = record { parent = c .id; price = legPrice v c s d; quantity = min (c .quantity) (otherSize v c s) }
+
+-- the venue with a legging order at a place
+unfoldable pub placed : (place : ℕ) → Legging → Venue → Venue
+placed n l v = withLegging v (set (v .legging) n l)
+
+-- When it is made -----------------------------------------------------------------------------
+
+-- "p itself not reaching (equal is reaching) any own price opposite …, nor the away price opposite where there is one":
+-- p at side d reaches q, where q is there
+unfoldable pub reachesAny : (side p q : ℕ) → Bool
+reachesAny d p q = held q && reaches d p q
+
+-- "its place is empty, or held at a worse price, or at equal price by class 1 while this is class 0":
+-- l gives way to c at price p; (C)(2)(iv) and (C)(4)(vii)
+unfoldable pub givesWay : Venue → Complex → (side p : ℕ) → Legging → Bool
+givesWay v c d p l =
+    better d p (ownPrice l)
+    || (eqb p (ownPrice l) && eqb (c .class) customer && eqb (parentOf v l .class) otherClass)
+
+-- "no other standing order would then fail its test": of the legging orders from place n on, but the one at place m, each passes in w; (C)(2)(vi)
+unfoldable pub othersStand : (w : Venue) (m n : ℕ) → List Legging → Bool
+othersStand w m n [] = true
+othersStand w m n (l ∷ ls) = (eqb n m || stands (verdict w n l)) && othersStand w m (suc n) ls
+
+-- "Made when", for the leg of c at side d of series s
+unfoldable pub makes : Venue → Complex → (series side : ℕ) → Bool
+makes v c s d =
+    let p = legPrice v c s d in
+    let n = placeOf s d in
+    let w = placed n (newLegging v c s d) v in
+    -- "both series open"; (C)(1), (C)(2)(ii)
+    bothOpen v c
+    -- "N in band"; (C)(2)(iii)
+    && inBand v c (c .limit)
+    -- "clear price present"; (C)(1)(ii)
+    && held (otherClear v c s)
+    -- "displayed price from the increment to 100,000"
+    && within (increment s) 100000 (displayed (increment s) d p)
+    -- "not worse than best regular of its side"; (C)(1)(i)
+    && shownWell v s d p
+    -- "p itself not reaching any own price opposite in its series": not the best of them
+    && not (reachesAny d p (bestOwn v s (opposite d)))
+    -- "nor the away price opposite where there is one"; (C)(2)(i)
+    && not (reachesAny d p (away v s (opposite d)))
+    -- its place
+    && givesWay v c d p (leggingAt v s d)
+    -- the others
+    && othersStand w n 0 (w .legging)
+
+-- What is done --------------------------------------------------------------------------------
+
+-- "(the holder goes, cause 7, before the 67)"
+unfoldable pub make : Complex → (series side : ℕ) → Venue → Effect
+make c s d v =
+    let l = newLegging v c s d in
+    remove (λ n _. failIf (eqb n (placeOf s d)) Replaced) v
+    ⟫ (λ w. report (generated (c .id) s d (l .price) (displayed (increment s) d (l .price)) (l .quantity)) (placed (placeOf s d) l w))
+
+unfoldable pub generateLeg : Complex → (series side : ℕ) → Venue → Effect
+generateLeg c s d v = if held (c .quantity) && makes v c s d then make c s d v else nothing v
+
+-- "generate for its first leg, then second", of the order at place i
+unfoldable pub generate : (i : ℕ) → Venue → Effect
+generate i v =
+    let c = complexAt v i in
+    generateLeg c (c .series1) (c .side1) v ⟫ generateLeg c (c .series2) (c .side2)

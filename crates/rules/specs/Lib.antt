@@ -1,0 +1,19 @@
+-- Document 01 as definitions, a file for each of its sections, in the order in which each uses the ones before it.
+pub mod Base
+pub mod Words
+pub mod Bytes
+pub mod Messages
+pub mod Records
+pub mod Effects
+pub mod Prices
+pub mod Removal
+pub mod Standing
+pub mod Trading
+pub mod Order
+pub mod Generation
+pub mod Complex
+pub mod Places
+pub mod Refusals
+pub mod Step
+pub mod Sound
+pub mod Calls

@@ -1,0 +1,61 @@
+-- Document 01, "Message and record bytes": the messages, kinds 1 to 6.
+use mathlib.Core.List.{List, [], _++_}
+use Prim.Native.Nat.{ℕ}
+use lib.Dec.{eqb}
+use Rattle.rules.specs.declared.Regular.{Regular}
+use Rattle.rules.specs.declared.Complex.{Complex}
+use Rattle.rules.specs.declared.Message.{Message}
+use Rattle.rules.specs.declared.Message.the-variants.{Order, TwoLeg, Cancel, Away, Status, Sweep}
+use Rattle.rules.specs.Base.{if_then_else_}
+use Rattle.rules.specs.Bytes.{u8At, u32At, asSigned, kindField, u8, u32, i32, framed}
+
+-- The table's column "Length", by kind; 0 for what is no kind of message.
+unfoldable pub lengthOf : (kind : ℕ) → ℕ
+lengthOf k =
+    if eqb k 1 then 18
+    else if eqb k 2 then 21
+    else if eqb k 3 then 8
+    else if eqb k 4 then 13
+    else if eqb k 5 then 6
+    else if eqb k 6 then 4
+    else 0
+
+-- 1 order: id u32, series u8, side u8, price u32, quantity u32
+unfoldable pub orderAt : List ℕ → Regular
+orderAt bs = record { id = u32At bs 4; series = u8At bs 8; side = u8At bs 9; price = u32At bs 10; quantity = u32At bs 14 }
+
+-- 2 complex: id u32, series u8, side u8, series u8, side u8, class u8, N i32, quantity u32
+unfoldable pub twoLegAt : List ℕ → Complex
+twoLegAt bs = record {
+  id = u32At bs 4;
+  series1 = u8At bs 8;
+  side1 = u8At bs 9;
+  series2 = u8At bs 10;
+  side2 = u8At bs 11;
+  class = u8At bs 12;
+  limit = asSigned (u32At bs 13);
+  quantity = u32At bs 17;
+}
+
+-- the message at the front of bs, whose kind is one of 1 to 6:
+-- 3 cancel: id u32; 4 away: series u8, bid u32, offer u32; 5 status: series u8, status u8; 6 sweep: none
+unfoldable pub messageOf : List ℕ → Message
+messageOf bs =
+    let k = kindField bs in
+    if eqb k 1 then Order (orderAt bs)
+    else if eqb k 2 then TwoLeg (twoLegAt bs)
+    else if eqb k 3 then Cancel (u32At bs 4)
+    else if eqb k 4 then Away (u8At bs 4) (u32At bs 5) (u32At bs 9)
+    else if eqb k 5 then Status (u8At bs 4) (u8At bs 5)
+    else Sweep
+
+-- the bytes of a message
+unfoldable pub encodeMessage : Message → List ℕ
+encodeMessage (Order o) = framed 1 (u32 (o .id) ++ u8 (o .series) ++ u8 (o .side) ++ u32 (o .price) ++ u32 (o .quantity))
+encodeMessage (TwoLeg c) =
+    framed 2 (u32 (c .id) ++ u8 (c .series1) ++ u8 (c .side1) ++ u8 (c .series2) ++ u8 (c .side2)
+    ++ u8 (c .class) ++ i32 (c .limit) ++ u32 (c .quantity))
+encodeMessage (Cancel id) = framed 3 (u32 id)
+encodeMessage (Away s bid offer) = framed 4 (u8 s ++ u32 bid ++ u32 offer)
+encodeMessage (Status s x) = framed 5 (u8 s ++ u8 x)
+encodeMessage Sweep = framed 6 []

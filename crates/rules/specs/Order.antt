@@ -1,0 +1,80 @@
+-- Document 01, "Order (kind 1)".
+use mathlib.Core.Bool.{Bool, not, _&&_, _||_}
+use Prim.Native.Nat.{ℕ, min}
+use lib.Dec.{eqb}
+use lib.IntN.{pos, _+ℤ_}
+use Rattle.rules.specs.declared.Regular.{Regular}
+use Rattle.rules.specs.declared.Legging.{Legging}
+use Rattle.rules.specs.declared.Venue.{Venue}
+use Rattle.rules.specs.Base.{if_then_else_, held, placeWhere, Picked, nobody, picked, first}
+use Rattle.rules.specs.Words.{opposite, signed, regularAt, leggingAt, isComplexOf, earlier}
+use Rattle.rules.specs.Prices.{better, restsAt, reaches, ownPrice}
+use Rattle.rules.specs.Records.{trade}
+use Rattle.rules.specs.Effects.{Effect, report, _⟫_, Turn, ended, turned, repeat}
+use Rattle.rules.specs.Standing.{otherLeg, otherClear, parentOf, settle}
+use Rattle.rules.specs.Trading.{fillRegular, freeRegular, putRegular, tradeWith, take, pairOff}
+
+-- Who is met ----------------------------------------------------------------------------------
+
+-- "It meets the other side while prices cross or are equal": an order of side d at price p in series s meets the regular order m
+unfoldable pub isMet : (series side price : ℕ) → Regular → Bool
+isMet s d p m = restsAt s (opposite d) m && reaches d p (m .price)
+
+-- "best own price first, then regular by id"
+unfoldable pub priceThenId : Regular → Regular → Bool
+priceThenId a b = better (a .side) (a .price) (b .price) || (eqb (a .price) (b .price) && earlier a b)
+
+-- the regular order that the order at place i meets first
+unfoldable pub firstMet : (i : ℕ) → Venue → Picked Regular
+firstMet i v =
+    let o = regularAt v i in
+    first (isMet (o .series) (o .side) (o .price)) priceThenId (v .regular)
+
+-- "best own price first, … legging last at equal price": the order o meets the legging order l before a regular order at price p
+-- (0: none) where l's own price is strictly better; (C)(3)
+unfoldable pub leggingFirst : Regular → Legging → (p : ℕ) → Bool
+leggingFirst o l p =
+    held (ownPrice l) && reaches (o .side) (o .price) (ownPrice l) && better (opposite (o .side)) (ownPrice l) p
+
+-- What is done --------------------------------------------------------------------------------
+
+-- the order at place i trades k contracts with the regular order at place j
+unfoldable pub meet : (i j k : ℕ) → Venue → Effect
+meet i j k v = tradeWith (regularAt v i .id) (regularAt v i .side) j k (fillRegular i k v)
+
+-- "A legging order hit for k contracts: trade, then k contracts of the other leg at its clear price (trades by id, taker the complex
+-- order), then 66, then removal of all its parent's legging orders (cause 3, by place)": l, by the order at place i; (C)(3)
+unfoldable pub hit : (i : ℕ) → Legging → (k : ℕ) → Venue → Effect
+hit i l k v =
+    let o = regularAt v i in
+    let c = parentOf v l in
+    let leg = otherLeg c (o .series) in
+    let clear = otherClear v c (o .series) in
+    let n = signed (opposite (o .side)) (pos (l .price)) +ℤ signed (leg .side) (pos clear) in
+    report (trade (o .series) (o .side) (l .price) k (o .id) (c .id)) (fillRegular i k v)
+    ⟫ take k (c .id) (leg .series) (leg .side) clear k
+    ⟫ (λ w. pairOff (placeWhere (isComplexOf (c .id)) (w .complex)) (c .id) n k w)
+
+-- "trades at the resting price, each time for the lesser of both quantities"
+unfoldable pub meetTurn : (i : ℕ) → Venue → Turn
+meetTurn i v =
+    let o = regularAt v i in
+    let l = leggingAt v (o .series) (opposite (o .side)) in
+    let hitting = hit i l (min (o .quantity) (l .quantity)) v in
+    if not (held (o .quantity)) then ended
+    else elim (firstMet i v) [
+      | nobody ↦ if leggingFirst o l 0 then turned hitting else ended
+      | picked j m ↦
+          if leggingFirst o l (m .price) then turned hitting
+          else turned (meet i j (min (o .quantity) (m .quantity)) v)
+    ]
+
+-- the order is given a place and meets the other side there; "the rest of it rests"
+unfoldable pub enterRegular : Regular → Venue → Effect
+enterRegular o v =
+    let i = freeRegular v in
+    repeat (o .quantity) (meetTurn i) (putRegular i o v)
+
+-- "Nothing is generated meanwhile."
+unfoldable pub order : Regular → Venue → Effect
+order o v = enterRegular o v ⟫ settle

@@ -1,0 +1,137 @@
+-- Document 01, "Prices of a side". A price of 0 means that there is none.
+use mathlib.Core.Bool.{Bool, not, _&&_, _||_}
+use mathlib.Core.List.{List, [], _∷_}
+use Prim.Native.Nat.{ℕ, _+_, _-_, _*_, _/_}
+use lib.Dec.{leb, ltb, eqb}
+use lib.IntN.{ℤ, pos, natAbs, _+ℤ_, _*ℤ_}
+use lib.Signed.{leZ}
+use Rattle.rules.specs.declared.Regular.{Regular}
+use Rattle.rules.specs.declared.Complex.{Complex}
+use Rattle.rules.specs.declared.Legging.{Legging}
+use Rattle.rules.specs.declared.Venue.{Venue}
+use Rattle.rules.specs.Base.{if_then_else_, held}
+use Rattle.rules.specs.Words.{buy, opposite, signed, leggingAt, listedAt}
+
+-- Prices compared -----------------------------------------------------------------------------
+
+-- a is strictly better than b at side d: "higher to buy, lower to sell"; any price is better than none
+unfoldable pub better : (side a b : ℕ) → Bool
+better d a b = if eqb d buy then ltb b a else (held a && (not (held b) || ltb a b))
+
+-- the better of two prices
+unfoldable pub betterOf : (side a b : ℕ) → ℕ
+betterOf d a b = if better d a b then a else b
+
+-- a price p of side d and a price q of the other side "cross or are equal"
+unfoldable pub reaches : (side p q : ℕ) → Bool
+reaches d p q = if eqb d buy then leb q p else leb p q
+
+-- Regular orders ------------------------------------------------------------------------------
+
+-- a regular order rests in series s at side d
+unfoldable pub restsAt : (series side : ℕ) → Regular → Bool
+restsAt s d o = held (o .quantity) && eqb (o .series) s && eqb (o .side) d
+
+-- the size of an order that counts for best price, size and clear price: all of it
+unfoldable pub shown : Regular → ℕ
+shown o = o .quantity
+
+-- it shows some size in series s at side d
+unfoldable pub showsAt : (series side : ℕ) → Regular → Bool
+showsAt s d o = held (shown o) && eqb (o .series) s && eqb (o .side) d
+
+-- and that at price p
+unfoldable pub showsFor : (series side price : ℕ) → Regular → Bool
+showsFor s d p o = showsAt s d o && eqb (o .price) p
+
+-- the best price of those in a list
+unfoldable pub bestIn : (series side : ℕ) → List Regular → ℕ
+bestIn s d [] = 0
+bestIn s d (o ∷ os) =
+    let rest = bestIn s d os in
+    if showsAt s d o then betterOf d (o .price) rest else rest
+
+-- their total size at a price
+unfoldable pub sizeIn : (series side price : ℕ) → List Regular → ℕ
+sizeIn s d p [] = 0
+sizeIn s d p (o ∷ os) =
+    let rest = sizeIn s d p os in
+    if showsFor s d p o then shown o + rest else rest
+
+-- "Per series and side: best regular price and its total size"
+unfoldable pub bestRegular : Venue → (series side : ℕ) → ℕ
+bestRegular v s d = bestIn s d (v .regular)
+
+unfoldable pub bestSize : Venue → (series side : ℕ) → ℕ
+bestSize v s d = sizeIn s d (bestRegular v s d) (v .regular)
+
+-- Legging orders ------------------------------------------------------------------------------
+
+-- the own price of what stands at a legging place; none where it is free
+unfoldable pub ownPrice : Legging → ℕ
+ownPrice l = if held (l .quantity) then l .price else 0
+
+-- the best own price of a side, "legging included"
+unfoldable pub bestOwn : Venue → (series side : ℕ) → ℕ
+bestOwn v s d = betterOf d (ownPrice (leggingAt v s d)) (bestRegular v s d)
+
+-- "clear price: the best regular price, absent if there is none or if a legging order of that side has a strictly better own price";
+-- the filing's "best displayed bid or offer (other than Legging Orders)", (C)(1)(ii) and (C)(4)(ii)
+unfoldable pub clearPrice : Venue → (series side : ℕ) → ℕ
+clearPrice v s d =
+    let best = bestRegular v s d in
+    if better d (ownPrice (leggingAt v s d)) best then 0 else best
+
+-- "Displayed price of a legging order: its own, down (buy) or up (sell) to the increment"; (C)(2), last part
+unfoldable pub displayed : (increment side price : ℕ) → ℕ
+displayed i d p = if eqb d buy then p / i * i else (p + (i - 1)) / i * i
+
+-- The market and the band ---------------------------------------------------------------------
+
+-- the away price of a side
+unfoldable pub away : Venue → (series side : ℕ) → ℕ
+away v s d =
+    let x = listedAt v s in
+    if eqb d buy then x .bid else x .offer
+
+-- "Market best: the better of away and best regular."
+unfoldable pub marketBest : Venue → (series side : ℕ) → ℕ
+marketBest v s d = betterOf d (away v s d) (bestRegular v s d)
+
+-- how many contracts of each leg make one of a complex order: "one-to-one ratio"
+unfoldable pub ratio1 : Complex → ℕ
+ratio1 c = 1
+
+unfoldable pub ratio2 : Complex → ℕ
+ratio2 c = 1
+
+-- what a leg adds to the net: sign × price, by its ratio
+unfoldable pub weighed : (ratio side price : ℕ) → ℤ
+weighed r d p = signed d (pos (r * p))
+
+-- "Net = the sum over both legs of sign × price": of prices a and b at the legs of c
+unfoldable pub net : Complex → (a b : ℕ) → ℤ
+net c a b = weighed (ratio1 c) (c .side1) a +ℤ weighed (ratio2 c) (c .side2) b
+
+-- "the market bests that the legs would take"
+unfoldable pub taken1 : Venue → Complex → ℕ
+taken1 v c = marketBest v (c .series1) (opposite (c .side1))
+
+unfoldable pub taken2 : Venue → Complex → ℕ
+taken2 v c = marketBest v (c .series2) (opposite (c .side2))
+
+-- the band's percentage: "ACE of 5 percent"
+abbrev pub percent : ℕ
+percent = 5
+
+-- "100t ≤ 100·O + 5·|O|"
+unfoldable pub nearNet : (percent : ℕ) (O t : ℤ) → Bool
+nearNet x O t = leZ (pos 100 *ℤ t) (pos 100 *ℤ O +ℤ pos (x * natAbs O))
+
+-- "O = net of the market bests that the legs would take. A net t is in band when 100t ≤ 100·O + 5·|O| (ACE of 5 percent);
+-- never if a market best is missing." The ACE parameter of (C)(2)(iii) and (C)(4)(v).
+unfoldable pub inBand : Venue → Complex → (t : ℤ) → Bool
+inBand v c t =
+    let a = taken1 v c in
+    let b = taken2 v c in
+    held a && held b && nearNet percent (net c a b) t

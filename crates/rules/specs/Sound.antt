@@ -1,0 +1,64 @@
+-- Document 01: "A venue is sound when fields are in range, resting ids distinct and at most the last id, no series is locked or crossed
+-- counting own prices, and each legging order matches an open parent leg, is no larger than what its parent has open, and passes its test."
+use mathlib.Core.Bool.{Bool, true, not, _&&_, _||_}
+use mathlib.Core.List.{List, [], _∷_}
+use Prim.Native.Nat.{ℕ, suc, _/_, _%_}
+use lib.Dec.{leb, ltb}
+use Rattle.rules.specs.declared.Legging.{Legging}
+use Rattle.rules.specs.declared.Listed.{Listed}
+use Rattle.rules.specs.declared.Venue.{Venue}
+use Rattle.rules.specs.Base.{if_then_else_, held, all}
+use Rattle.rules.specs.Words.{buy, sell, isPrice, isQuantity, isAway, isStatus, isId}
+use Rattle.rules.specs.Prices.{bestOwn}
+use Rattle.rules.specs.Standing.{parentOf, hasLeg, verdict, stands}
+use Rattle.rules.specs.Complex.{restsComplex}
+use Rattle.rules.specs.Places.{holdsRegular, holdsComplex, blankRegular, blankComplex, blankLegging, arranged}
+use Rattle.rules.specs.Refusals.{regularInRange, complexInRange}
+
+-- "no series is locked or crossed counting own prices"
+unfoldable pub apart : Venue → (series : ℕ) → Bool
+apart v s =
+    let bid = bestOwn v s buy in
+    let offer = bestOwn v s sell in
+    not (held bid) || not (held offer) || ltb bid offer
+
+-- the fields of a series
+unfoldable pub listedInRange : Listed → Bool
+listedInRange x = isStatus (x .status) && isAway (x .bid) && isAway (x .offer)
+
+-- "each legging order matches an open parent leg, is no larger than what its parent has open, and passes its test";
+-- its fields in range; and a free legging place is all zero
+unfoldable pub leggingSound : Venue → (place : ℕ) → Legging → Bool
+leggingSound v n l =
+    if held (l .quantity)
+    then isId (l .parent) && isPrice (l .price) && isQuantity (l .quantity)
+    && hasLeg (parentOf v l) (n / 2) (n % 2)
+    && leb (l .quantity) (parentOf v l .quantity)
+    && stands (verdict v n l)
+    else blankLegging l
+
+-- from place n on
+unfoldable pub leggingsSound : Venue → (n : ℕ) → List Legging → Bool
+leggingsSound v n [] = true
+leggingsSound v n (l ∷ ls) = leggingSound v n l && leggingsSound v (suc n) ls
+
+-- the resting orders: in range, with ids "at most the last id", and arranged, so that ids of one book are distinct
+unfoldable pub regularsSound : Venue → Bool
+regularsSound v = arranged holdsRegular (λ o. regularInRange o && leb (o .id) (v .last)) blankRegular (λ o. o .id) 0 (v .regular)
+
+unfoldable pub complexesSound : Venue → Bool
+complexesSound v = arranged holdsComplex (λ c. complexInRange c && leb (c .id) (v .last)) blankComplex (λ c. c .id) 0 (v .complex)
+
+-- no id rests in both books
+unfoldable pub idsDistinct : Venue → Bool
+idsDistinct v = all (λ o. not (held (o .quantity)) || not (restsComplex v (o .id))) (v .regular)
+
+unfoldable pub sound : Venue → Bool
+sound v =
+    regularsSound v
+    && complexesSound v
+    && all listedInRange (v .series)
+    && leb (v .last) 4294967295
+    && idsDistinct v
+    && all (apart v) (0 ∷ 1 ∷ 2 ∷ 3 ∷ 4 ∷ 5 ∷ 6 ∷ 7 ∷ [])
+    && leggingsSound v 0 (v .legging)

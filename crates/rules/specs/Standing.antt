@@ -1,0 +1,86 @@
+-- Document 01, "Standing test and settling".
+use mathlib.Core.Bool.{Bool, true, false, not, _&&_, _||_}
+use mathlib.Core.List.{List, [], _∷_}
+use Prim.Native.Nat.{ℕ, _/_, _%_}
+use lib.Dec.{leb, eqb}
+use lib.IntN.{ℤ, pos, _+ℤ_}
+use lib.Signed.{leZ}
+use Rattle.rules.specs.declared.Complex.{Complex}
+use Rattle.rules.specs.declared.Legging.{Legging}
+use Rattle.rules.specs.declared.Leg.{Leg}
+use Rattle.rules.specs.declared.Venue.{Venue}
+use Rattle.rules.specs.declared.Cause.the-variants.{Worse, Unpaired, OutOfBand, NotOpen}
+use Rattle.rules.specs.declared.Verdict.{Verdict}
+use Rattle.rules.specs.declared.Verdict.the-variants.{Stands, Fails}
+use Rattle.rules.specs.Base.{if_then_else_, held}
+use Rattle.rules.specs.Words.{opposite, signed, increment, opened, statusOf, noComplex, isComplexOf}
+use Rattle.rules.specs.Prices.{better, bestRegular, bestSize, clearPrice, displayed, inBand}
+use Rattle.rules.specs.Effects.{Effect}
+use Rattle.rules.specs.Removal.{remove}
+
+-- A legging order's complex order -------------------------------------------------------------
+
+-- the resting complex order with an id
+unfoldable pub findComplex : (id : ℕ) → List Complex → Complex
+findComplex id [] = noComplex
+findComplex id (c ∷ cs) = if isComplexOf id c then c else findComplex id cs
+
+unfoldable pub parentOf : Venue → Legging → Complex
+parentOf v l = findComplex (l .parent) (v .complex)
+
+-- side d of series s is a leg of c
+unfoldable pub hasLeg : Complex → (series side : ℕ) → Bool
+hasLeg c s d = (eqb (c .series1) s && eqb (c .side1) d) || (eqb (c .series2) s && eqb (c .side2) d)
+
+-- the leg of c that is not in series s
+unfoldable pub otherLeg : Complex → (series : ℕ) → Leg
+otherLeg c s =
+    if eqb (c .series1) s
+    then record { series = c .series2; side = c .side2 }
+    else record { series = c .series1; side = c .side1 }
+
+-- "a leg's clear price is that of the side it takes": the other leg's, and the size there
+unfoldable pub otherClear : Venue → Complex → (series : ℕ) → ℕ
+otherClear v c s = clearPrice v (otherLeg c s .series) (opposite (otherLeg c s .side))
+
+unfoldable pub otherSize : Venue → Complex → (series : ℕ) → ℕ
+otherSize v c s = bestSize v (otherLeg c s .series) (opposite (otherLeg c s .side))
+
+-- The test ------------------------------------------------------------------------------------
+
+-- "both its series are open (else cause 6)"; (C)(1), last part, and (C)(4)(vi)
+unfoldable pub bothOpen : Venue → Complex → Bool
+bothOpen v c = eqb (statusOf v (c .series1)) opened && eqb (statusOf v (c .series2)) opened
+
+-- "its displayed price is no worse than the best regular of its side (else 1)", for own price p at side d of series s; (C)(4)(i)
+unfoldable pub shownWell : Venue → (series side p : ℕ) → Bool
+shownWell v s d p = not (better d (bestRegular v s d) (displayed (increment s) d p))
+
+-- "the other leg has a clear price, net with it ≤ N, size there ≥ its quantity (else 2)",
+-- for a legging order of c for k contracts at own price p at side d of series s; (C)(4)(ii)
+unfoldable pub pairs : Venue → Complex → (series side p k : ℕ) → Bool
+pairs v c s d p k =
+    held (otherClear v c s)
+    && leZ (signed d (pos p) +ℤ signed (otherLeg c s .side) (pos (otherClear v c s))) (c .limit)
+    && leb k (otherSize v c s)
+
+-- The test of a legging order l of c at side d of series s: "with the lowest cause that applies". "N is in band (else 5)"; (C)(4)(v)
+unfoldable pub verdictOf : Venue → Complex → (series side : ℕ) → Legging → Verdict
+verdictOf v c s d l =
+    if not (shownWell v s d (l .price)) then Fails Worse
+    else if not (pairs v c s d (l .price) (l .quantity)) then Fails Unpaired
+    else if not (inBand v c (c .limit)) then Fails OutOfBand
+    else if not (bothOpen v c) then Fails NotOpen
+    else Stands
+
+-- the test of what stands at place n
+unfoldable pub verdict : Venue → (place : ℕ) → Legging → Verdict
+verdict v n l = if held (l .quantity) then verdictOf v (parentOf v l) (n / 2) (n % 2) l else Stands
+
+unfoldable pub stands : Verdict → Bool
+stands Stands = true
+stands (Fails c) = false
+
+-- "After every accepted message all are tested against the same state, failures go together"
+unfoldable pub settle : Venue → Effect
+settle v = remove (verdict v) v

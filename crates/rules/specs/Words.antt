@@ -1,0 +1,168 @@
+-- Document 01, "Words and ranges".
+use mathlib.Core.Bool.{Bool, _&&_}
+use mathlib.Core.List.{List}
+use Prim.Native.Nat.{ℕ, _+_, _-_, _*_, _%_}
+use lib.Dec.{leb, ltb, eqb}
+use lib.ListN.{getD, replicate}
+use lib.IntN.{ℤ, pos, negsuc, negℤ}
+use lib.Signed.{leZ}
+use Rattle.rules.specs.declared.Regular.{Regular}
+use Rattle.rules.specs.declared.Complex.{Complex}
+use Rattle.rules.specs.declared.Legging.{Legging}
+use Rattle.rules.specs.declared.Listed.{Listed}
+use Rattle.rules.specs.declared.Venue.{Venue}
+use Rattle.rules.specs.Base.{if_then_else_, held}
+
+-- Sides, signs, statuses ----------------------------------------------------------------------
+
+-- "Side 0 buy, 1 sell"
+abbrev pub buy : ℕ
+buy = 0
+
+abbrev pub sell : ℕ
+sell = 1
+
+-- the other side: the one that a leg or an order takes ("A buy leg takes offers, a sell leg bids")
+unfoldable pub opposite : ℕ → ℕ
+opposite d = 1 - d
+
+-- "the sign of a buy leg is +1, of a sell leg -1": sign × z
+unfoldable pub signed : (side : ℕ) → ℤ → ℤ
+signed d z = if eqb d buy then z else negℤ z
+
+-- "Class 0 customer, 1 other"
+abbrev pub customer : ℕ
+customer = 0
+
+abbrev pub otherClass : ℕ
+otherClass = 1
+
+-- "Status 0 closed, 1 open, 2 auction"
+abbrev pub closed : ℕ
+closed = 0
+
+abbrev pub opened : ℕ
+opened = 1
+
+-- Ranges --------------------------------------------------------------------------------------
+
+unfoldable pub within : (low high x : ℕ) → Bool
+within low high x = leb low x && leb x high
+
+-- "Ids are chosen by the sender, 1 to 4,294,967,295"
+unfoldable pub isId : ℕ → Bool
+isId = within 1 4294967295
+
+-- "8 option series (0 to 7)"
+unfoldable pub isSeries : ℕ → Bool
+isSeries = within 0 7
+
+unfoldable pub isSide : ℕ → Bool
+isSide = within 0 1
+
+unfoldable pub isClass : ℕ → Bool
+isClass = within 0 1
+
+unfoldable pub isStatus : ℕ → Bool
+isStatus = within 0 2
+
+-- "Quantity 1 to 10,000"
+unfoldable pub isQuantity : ℕ → Bool
+isQuantity = within 1 10000
+
+-- "Away prices 0 to 100,000, 0 meaning none"
+unfoldable pub isAway : ℕ → Bool
+isAway = within 0 100000
+
+-- "Prices are whole cents, 1 to 100,000"
+unfoldable pub isPrice : ℕ → Bool
+isPrice = within 1 100000
+
+-- "its series' increment: 5 in series 0 to 5, 10 in series 6 and 7"
+unfoldable pub increment : (series : ℕ) → ℕ
+increment s = if ltb s 6 then 5 else 10
+
+-- "a regular price a multiple of its series' increment"
+unfoldable pub isRegularPrice : (increment price : ℕ) → Bool
+isRegularPrice i p = isPrice p && eqb (p % i) 0
+
+-- "a complex order's limit N, from -200,000 to 200,000"
+unfoldable pub isLimit : ℤ → Bool
+isLimit n = leZ (negsuc 199999) n && leZ n (pos 200000)
+
+-- Places --------------------------------------------------------------------------------------
+
+-- "A legging place is 2 × series + side: 16 places, one order each."
+unfoldable pub placeOf : (series side : ℕ) → ℕ
+placeOf s d = 2 * s + d
+
+-- free places: all zero
+abbrev pub noRegular : Regular
+noRegular = record { id = 0; series = 0; side = 0; price = 0; quantity = 0 }
+
+abbrev pub noComplex : Complex
+noComplex = record { id = 0; series1 = 0; side1 = 0; series2 = 0; side2 = 0; class = 0; limit = pos 0; quantity = 0 }
+
+abbrev pub noLegging : Legging
+noLegging = record { parent = 0; price = 0; quantity = 0 }
+
+abbrev pub notListed : Listed
+notListed = record { status = 0; bid = 0; offer = 0 }
+
+-- "Fresh: no orders, all series closed, no away prices, last id 0." "At most 128 regular and 32 complex orders rest"
+unfoldable pub freshVenue : Venue
+freshVenue = record {
+  regular = replicate 128 noRegular;
+  complex = replicate 32 noComplex;
+  legging = replicate 16 noLegging;
+  series = replicate 8 notListed;
+  last = 0;
+}
+
+-- what stands at a place; past the end, nothing
+unfoldable pub regularAt : Venue → ℕ → Regular
+regularAt v i = getD (v .regular) i noRegular
+
+unfoldable pub complexAt : Venue → ℕ → Complex
+complexAt v i = getD (v .complex) i noComplex
+
+unfoldable pub leggingAt : Venue → (series side : ℕ) → Legging
+leggingAt v s d = getD (v .legging) (placeOf s d) noLegging
+
+abbrev pub listedAt : Venue → (series : ℕ) → Listed
+listedAt v s = getD (v .series) s notListed
+
+unfoldable pub statusOf : Venue → (series : ℕ) → ℕ
+statusOf v s = listedAt v s .status
+
+-- the venue with one part anew
+unfoldable pub withRegular : Venue → List Regular → Venue
+withRegular v x = record { regular = x; complex = v .complex; legging = v .legging; series = v .series; last = v .last }
+
+unfoldable pub withComplex : Venue → List Complex → Venue
+withComplex v x = record { regular = v .regular; complex = x; legging = v .legging; series = v .series; last = v .last }
+
+unfoldable pub withLegging : Venue → List Legging → Venue
+withLegging v x = record { regular = v .regular; complex = v .complex; legging = x; series = v .series; last = v .last }
+
+unfoldable pub withSeries : Venue → List Listed → Venue
+withSeries v x = record { regular = v .regular; complex = v .complex; legging = v .legging; series = x; last = v .last }
+
+unfoldable pub withLast : Venue → ℕ → Venue
+withLast v x = record { regular = v .regular; complex = v .complex; legging = v .legging; series = v .series; last = x }
+
+-- Resting orders ------------------------------------------------------------------------------
+
+-- a resting order of this id
+unfoldable pub isRegularOf : (id : ℕ) → Regular → Bool
+isRegularOf id o = held (o .quantity) && eqb (o .id) id
+
+unfoldable pub isComplexOf : (id : ℕ) → Complex → Bool
+isComplexOf id c = held (c .quantity) && eqb (c .id) id
+
+-- "a lower id is earlier"
+unfoldable pub earlier : Regular → Regular → Bool
+earlier a b = ltb (a .id) (b .id)
+
+unfoldable pub earlierComplex : Complex → Complex → Bool
+earlierComplex a b = ltb (a .id) (b .id)
