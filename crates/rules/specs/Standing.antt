@@ -15,6 +15,7 @@ use Rattle.rules.specs.declared.Verdict.the-variants.{Stands, Fails}
 use Rattle.rules.specs.Base.{if_then_else_, held}
 use Rattle.rules.specs.Words.{opposite, signed, increment, opened, statusOf, noComplex, isComplexOf}
 use Rattle.rules.specs.Prices.{better, bestRegular, bestSize, clearPrice, displayed, inBand}
+use Rattle.rules.specs.Records.{causeNumber}
 use Rattle.rules.specs.Effects.{Effect}
 use Rattle.rules.specs.Removal.{remove}
 
@@ -76,6 +77,11 @@ verdictOf v c s d l =
 -- the test of what stands at place n
 unfoldable pub verdict : Venue → (place : ℕ) → Legging → Verdict
 verdict v n l = if held (l .quantity) then verdictOf v (parentOf v l) (n / 2) (n % 2) l else Stands
+
+-- the number of a verdict: 0, or its cause's
+abbrev pub verdictNumber : Verdict → ℕ
+verdictNumber Stands = 0
+verdictNumber (Fails c) = causeNumber c
 
 unfoldable pub stands : Verdict → Bool
 stands Stands = true
