@@ -3,9 +3,11 @@
 
 #![forbid(unsafe_code)]
 
+pub mod audit;
 pub mod check;
 pub mod corrupt;
 pub mod coverage;
+pub mod explain;
 pub mod generator;
 pub mod ledger;
 pub mod lent;
@@ -14,6 +16,7 @@ pub mod phases;
 pub mod random;
 pub mod record;
 pub mod scripts;
+pub mod sheet;
 pub mod soak;
 pub mod sound;
 pub mod text;

@@ -274,8 +274,7 @@ fn read_record(bytes: &[u8]) -> Result<(Record, usize), String> {
 /// Reads the lines of a printed sheet; an error names the line.
 pub fn parse_sheet(text: &str) -> Result<Vec<Record>, String> {
     let numbered = text.lines().enumerate();
-    let lines = numbered.filter(|(_, line)| !line.trim().is_empty());
-    lines
+    numbered
         .map(|(index, line)| {
             parse_sheet_line(line).map_err(|what| format!("line {}: {what}", index + 1))
         })
