@@ -4,6 +4,7 @@
 use crate::ledger::Ledger;
 use crate::message::Leg;
 use crate::message::Message;
+use crate::model::{refusal, work};
 use crate::phases::{expected_generation, expected_settling, phases, Attempt, Phases};
 use crate::record::Record;
 use crate::sound::fault;
@@ -15,6 +16,8 @@ use reference::{Complex, Legging, Returned, Venue};
 /// One message as a caller saw it.
 pub struct Step<'a> {
     pub message: &'a Message,
+    /// The bytes lent to the call.
+    pub bytes: &'a [u8],
     pub before: &'a Venue,
     pub returned: &'a Returned,
     pub records: &'a [Record],
@@ -39,6 +42,11 @@ impl Checker {
         self.done += 1;
         let after = &step.returned.venue;
         let effects = check_answer(step, self.done)?;
+        let expected = refusal(step.before, step.bytes);
+        if expected != step.returned.number {
+            let found = step.returned.number;
+            return Err(format!("answered {found}, expected {expected}"));
+        }
         let seen = if step.returned.number == 0 {
             Some(self.check_accepted(step, effects)?)
         } else {
@@ -66,6 +74,7 @@ impl Checker {
         }
         let after = &step.returned.venue;
         let phases = phases(step.before, after, effects)?;
+        check_work(step, &phases)?;
         let expected = expected_settling(&phases.at_settling, after);
         if expected != phases.settled {
             return Err(format!(
@@ -86,6 +95,27 @@ impl Checker {
         }
         Ok(Seen { phases, attempts })
     }
+}
+
+/// The work's records and the books left are those of the plain model.
+fn check_work(step: &Step, phases: &Phases) -> Result<(), String> {
+    let after = &step.returned.venue;
+    let expected = work(step.before, step.message);
+    if expected.records != phases.work {
+        return Err(format!(
+            "the work wrote {:?}, expected {:?}",
+            phases.work, expected.records
+        ));
+    }
+    let same = expected.venue.regular == after.regular
+        && expected.venue.complex == after.complex
+        && expected.venue.series == after.series
+        && expected.venue.last == after.last
+        && expected.venue.legging == phases.at_settling.legging;
+    if !same {
+        return Err("the work left other books".to_string());
+    }
+    Ok(())
 }
 
 /// The first record is the message's 64, and there is no other.

@@ -18,6 +18,7 @@ pub fn explain(list: &[u8]) -> Result<String, String> {
         let message = Message::decode(piece);
         let step = Step {
             message: &message,
+            bytes: piece,
             before: &venue,
             returned: &returned,
             records: &records,

@@ -12,6 +12,7 @@ pub mod generator;
 pub mod ledger;
 pub mod lent;
 pub mod message;
+pub mod model;
 pub mod phases;
 pub mod random;
 pub mod record;

@@ -10,6 +10,7 @@ use reference::{Complex, Legging, Venue};
 
 /// What the records of an accepted message tell of its legging orders.
 pub struct Phases<'a> {
+    pub work: &'a [Record],
     /// The state that the settling tested.
     pub at_settling: View,
     /// The orders that the settling removed: place and cause.
@@ -64,6 +65,7 @@ pub fn phases<'a>(
         settled.extend(take_away(&mut settled_view, record)?);
     }
     Ok(Phases {
+        work,
         at_settling,
         settled,
         settled_view,

@@ -134,6 +134,7 @@ impl<'a> Session<'a> {
         let decoded = Message::decode(&message);
         let step = Step {
             message: &decoded,
+            bytes: &message,
             before: &self.venue,
             returned: &returned,
             records: &self.records,
@@ -237,6 +238,7 @@ impl<'a> Session<'a> {
         let first = split(&bytes).first().map(|piece| Message::decode(piece));
         let step = Step {
             message: &first.unwrap_or(Message::Raw(Vec::new())),
+            bytes: &bytes,
             before: &self.venue,
             returned: &returned,
             records: &self.records,

@@ -43,6 +43,7 @@ impl Search<'_> {
         read_report_into(written, &mut records).unwrap();
         let step = Step {
             message: &Message::decode(choice),
+            bytes: choice,
             before: venue,
             returned: &returned,
             records: &records,
@@ -88,6 +89,7 @@ fn search(first: &str, choices: &str, depth: usize) -> u64 {
         read_report_into(written, &mut records).unwrap();
         let step = Step {
             message: &Message::decode(piece),
+            bytes: piece,
             before: &venue,
             returned: &returned,
             records: &records,
