@@ -44,6 +44,15 @@ impl RegularBook {
         Some(Level { price, size })
     }
 
+    /// Makes room for as many orders on each side as these are.
+    pub fn reserve(&mut self, places: impl Iterator<Item = Place>) {
+        let mut counts = [0; LEGGING_PLACES];
+        places.for_each(|place| counts[place] += 1);
+        for (side, count) in self.sides.iter_mut().zip(counts) {
+            side.reserve(count);
+        }
+    }
+
     /// Adds an order that is later than all others on its side.
     pub fn insert(&mut self, place: Place, order: Resting) {
         let side = &mut self.sides[place];

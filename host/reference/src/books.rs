@@ -14,12 +14,20 @@ pub struct ComplexOrder {
     pub class: u8,
     pub limit: i32,
     pub quantity: u32,
+    /// The legs as a mask of places.
+    pub mask: u16,
 }
 
 impl ComplexOrder {
-    /// The legs as a mask of places.
-    pub fn mask(&self) -> u16 {
-        bit(self.legs[0]) | bit(self.legs[1])
+    pub fn new(id: u32, legs: [Place; 2], class: u8, limit: i32, quantity: u32) -> Self {
+        ComplexOrder {
+            id,
+            legs,
+            class,
+            limit,
+            quantity,
+            mask: bit(legs[0]) | bit(legs[1]),
+        }
     }
 
     /// The mask of an order with the same series and each side reversed.
@@ -150,27 +158,27 @@ fn best_of(place: Place, a: Option<u32>, b: Option<u32>) -> Option<u32> {
 }
 
 impl Books {
-    pub fn add_regular(&mut self, order: &Regular) {
-        let resting = Resting {
-            id: order.id,
-            price: order.price,
-            quantity: order.quantity,
-        };
-        self.regular
-            .insert(place(order.series, order.side), resting);
+    /// Adds orders in rising id.
+    pub fn add_regular(&mut self, orders: &[Regular]) {
+        let places = orders.iter().map(|order| place(order.series, order.side));
+        self.regular.reserve(places.clone());
+        for (place, order) in places.zip(orders) {
+            let resting = Resting {
+                id: order.id,
+                price: order.price,
+                quantity: order.quantity,
+            };
+            self.regular.insert(place, resting);
+        }
     }
 
     pub fn add_complex(&mut self, order: &Complex) {
-        self.complex.push(ComplexOrder {
-            id: order.id,
-            legs: [
-                place(order.series1, order.side1),
-                place(order.series2, order.side2),
-            ],
-            class: order.class,
-            limit: order.limit,
-            quantity: order.quantity,
-        });
+        let legs = [
+            place(order.series1, order.side1),
+            place(order.series2, order.side2),
+        ];
+        let added = ComplexOrder::new(order.id, legs, order.class, order.limit, order.quantity);
+        self.complex.push(added);
     }
 
     /// The venue by value, in its one form.

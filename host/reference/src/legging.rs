@@ -107,11 +107,15 @@ impl Books {
         }
     }
 
-    /// Makes legging orders for the first leg, then the second.
+    /// Makes legging orders for the first leg, then the second. Neither leg
+    /// changes what both need: open series and a limit in band.
     pub fn generate(&mut self, order: ComplexOrder, report: &mut Report) {
         let [first, second] = order.legs;
-        self.generate_leg(&order, first, second, report);
-        self.generate_leg(&order, second, first, report);
+        let both_open = self.is_series_open(first) && self.is_series_open(second);
+        if both_open && self.is_in_band(order.limit, order.legs) {
+            self.generate_leg(&order, first, second, report);
+            self.generate_leg(&order, second, first, report);
+        }
     }
 
     fn generate_leg(
@@ -133,14 +137,8 @@ impl Books {
         self.filled |= bit(leg);
     }
 
-    /// The legging order to make for a leg, if every condition holds.
+    /// The legging order to make for a leg, if every other condition holds.
     fn legging_for(&self, order: &ComplexOrder, leg: Place, other: Place) -> Option<Standing> {
-        if !self.is_series_open(leg) || !self.is_series_open(other) {
-            return None;
-        }
-        if !self.is_in_band(order.limit, [leg, other]) {
-            return None;
-        }
         let clear = self.clear(facing(other))?;
         let rest = order.limit - signed(other, clear.price);
         let price = if leg & 1 == 0 { rest } else { -rest };

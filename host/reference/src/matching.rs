@@ -157,13 +157,15 @@ impl Books {
 
     fn complex(&mut self, order: NewComplex, report: &mut Report) {
         self.last = order.id;
-        self.complex.push(ComplexOrder {
-            id: order.id,
-            legs: order.legs,
-            class: order.class,
-            limit: order.limit,
-            quantity: order.quantity,
-        });
+        let NewComplex {
+            id,
+            legs,
+            class,
+            limit,
+            quantity,
+        } = order;
+        self.complex
+            .push(ComplexOrder::new(id, legs, class, limit, quantity));
         let index = self.complex.len() - 1;
         self.work(index, report);
         let worked = self.complex[index];
@@ -219,7 +221,7 @@ impl Books {
         let taker = &self.complex[index];
         let reversed = taker.reversed_mask();
         let candidates = self.complex.iter().enumerate().filter(|(_, maker)| {
-            maker.mask() == reversed && maker.quantity > 0 && taker.limit + maker.limit >= 0
+            maker.mask == reversed && maker.quantity > 0 && taker.limit + maker.limit >= 0
         });
         let mut best: Option<(usize, i32)> = None;
         for (at, maker) in candidates {

@@ -30,40 +30,41 @@ pub fn lay_out(venue: &Venue) -> Option<Books> {
 }
 
 fn lay_out_regular(books: &mut Books, orders: &[Regular; REGULAR_PLACES]) -> Option<()> {
-    let mut before = 0;
     let held = orders.iter().position(|order| order.quantity == 0);
     let (held, free) = orders.split_at(held.unwrap_or(orders.len()));
-    for order in held {
-        let valid = order.id > before
-            && order.id <= books.last
-            && valid_leg(order.series, order.side)
-            && valid_regular_price(order.series, order.price)
-            && valid_quantity(order.quantity);
-        if !valid {
-            return None;
-        }
+    let mut before = 0;
+    let valid = held.iter().all(|order| {
+        let rises = order.id > before;
         before = order.id;
-        books.add_regular(order);
+        rises && valid_regular(order)
+    });
+    if !valid || before > books.last || free.iter().any(|order| *order != Regular::default()) {
+        return None;
     }
-    free.iter()
-        .all(|order| *order == Regular::default())
-        .then_some(())
+    books.add_regular(held);
+    Some(())
+}
+
+fn valid_regular(order: &Regular) -> bool {
+    valid_leg(order.series, order.side)
+        && valid_regular_price(order.series, order.price)
+        && valid_quantity(order.quantity)
 }
 
 fn lay_out_complex(books: &mut Books, orders: &[Complex; COMPLEX_PLACES]) -> Option<()> {
-    let mut before = 0;
     let held = orders.iter().position(|order| order.quantity == 0);
     let (held, free) = orders.split_at(held.unwrap_or(orders.len()));
-    for order in held {
-        if order.id <= before || order.id > books.last || !valid_complex(order) {
-            return None;
-        }
+    let mut before = 0;
+    let valid = held.iter().all(|order| {
+        let rises = order.id > before;
         before = order.id;
-        books.add_complex(order);
+        rises && valid_complex(order)
+    });
+    if !valid || before > books.last || free.iter().any(|order| *order != Complex::default()) {
+        return None;
     }
-    free.iter()
-        .all(|order| *order == Complex::default())
-        .then_some(())
+    held.iter().for_each(|order| books.add_complex(order));
+    Some(())
 }
 
 fn valid_complex(order: &Complex) -> bool {
