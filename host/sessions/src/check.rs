@@ -214,3 +214,144 @@ fn check_hit(
     }
     Ok(())
 }
+
+#[cfg(test)]
+mod tests {
+    use super::*;
+    use crate::record::{parse_sheet, read_report};
+    use crate::text::encode_session;
+    use reference::{one_message, run};
+
+    const OFFERS: &str = "open 0\nopen 1\norder 1 sell 15 series 0 at 130\n\
+        order 2 sell 12 series 1 at 90\n";
+    const LEGGING: &str = "complex 3 buy 0 buy 1 class 1 net 203 quantity 8\n";
+
+    fn venue_after(text: &str) -> Venue {
+        run(&encode_session(text).unwrap(), &mut [0; 4096]).venue
+    }
+
+    fn standing() -> Venue {
+        venue_after(&format!("{OFFERS}{LEGGING}order 4 buy 1 series 0 at 110\n"))
+    }
+
+    #[test]
+    fn standing_orders_of_a_session_hold() {
+        assert_eq!(check_standing(&standing()), Ok(()));
+    }
+
+    #[test]
+    fn legging_order_that_is_not_best_displayed_is_found() {
+        let mut venue = standing();
+        venue.regular[2].price = 115;
+        let expected = "regular order 4 is better than the legging order of 3 shown at 110";
+        assert_eq!(check_standing(&venue), Err(expected.to_string()));
+    }
+
+    #[test]
+    fn legging_order_out_of_band_is_found() {
+        let mut venue = standing();
+        venue.series[1].offer = 40;
+        let expected = "order 3 is not in band";
+        assert_eq!(check_standing(&venue), Err(expected.to_string()));
+    }
+
+    #[test]
+    fn hit_that_finds_too_few_contracts_or_too_high_a_net_is_found() {
+        let mut venue = standing();
+        venue.regular[1].quantity = 7;
+        let expected = "a hit of order 3 finds 7 contracts at a net of 203";
+        assert_eq!(check_standing(&venue), Err(expected.to_string()));
+        let mut venue = standing();
+        venue.regular[1].price = 95;
+        let expected = "a hit of order 3 finds 12 contracts at a net of 208";
+        assert_eq!(check_standing(&venue), Err(expected.to_string()));
+        let mut venue = standing();
+        venue.legging[3] = Legging {
+            parent: 3,
+            price: 85,
+            quantity: 1,
+        };
+        let expected = "a hit of order 3 finds no clear price";
+        assert_eq!(check_standing(&venue), Err(expected.to_string()));
+    }
+
+    /// Checks the printed session's last message after a change to what the
+    /// call returned or wrote.
+    fn check_changed(change: impl Fn(&mut Returned, &mut Vec<Record>)) -> Result<(), String> {
+        let complex = "complex 3 buy 0 buy 1 class 1 net 205 quantity 8\n";
+        let order = "order 4 sell 5 series 0 at 115\n";
+        let list = encode_session(&format!("{OFFERS}{complex}{order}")).unwrap();
+        let mut checker = Checker::default();
+        let mut venue = Venue::fresh();
+        let pieces = crate::message::split(&list);
+        for (before, piece) in pieces.iter().enumerate() {
+            let mut report = [0; 1024];
+            let mut returned = one_message(&venue, before as u32, piece, &mut report);
+            let mut records = read_report(&report).unwrap();
+            if before + 1 == pieces.len() {
+                change(&mut returned, &mut records);
+            }
+            let step = Step {
+                message: &Message::decode(piece),
+                bytes: piece,
+                before: &venue,
+                returned: &returned,
+                records: &records,
+            };
+            checker.check(&step)?;
+            venue = returned.venue;
+        }
+        Ok(())
+    }
+
+    #[test]
+    fn session_without_a_change_holds() {
+        assert_eq!(check_changed(|_, _| {}), Ok(()));
+    }
+
+    #[test]
+    fn every_changed_missing_or_doubled_record_is_found() {
+        for index in 0..6 {
+            assert!(check_changed(|_, records| {
+                records.remove(index);
+            })
+            .is_err());
+            assert!(check_changed(|_, records| records.insert(index, records[index])).is_err());
+        }
+        let changes = [
+            (0, "64 6 0 1 1"),
+            (1, "65 0 1 110 5 4 3"),
+            (2, "65 1 0 90 5 3 1"),
+            (3, "66 3 204 5"),
+            (4, "68 3 0 0 4"),
+        ];
+        for (index, line) in changes {
+            let record = parse_sheet(line).unwrap()[0];
+            assert!(check_changed(|_, records| records[index] = record).is_err());
+        }
+        assert!(check_changed(|_, records| records.swap(4, 5)).is_err());
+    }
+
+    #[test]
+    fn every_changed_part_of_the_venue_left_is_found() {
+        let changes: [fn(&mut Venue); 7] = [
+            |venue| venue.regular[0].quantity = 14,
+            |venue| venue.regular[1].quantity = 8,
+            |venue| venue.complex[0].quantity = 4,
+            |venue| venue.complex[0].limit = 204,
+            |venue| venue.series[5].status = 1,
+            |venue| venue.last = 5,
+            |venue| {
+                venue.legging[0] = Legging {
+                    parent: 3,
+                    price: 115,
+                    quantity: 3,
+                }
+            },
+        ];
+        for change in changes {
+            assert!(check_changed(|returned, _| change(&mut returned.venue)).is_err());
+        }
+        assert!(check_changed(|returned, _| returned.number = 4).is_err());
+    }
+}

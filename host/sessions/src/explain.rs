@@ -87,6 +87,19 @@ fn in_words(record: &Record) -> String {
             format!("trade: {taker} {leg}, {quantity} at {price}, maker {maker}")
         }
         Record::Pair { id, net, quantity } => format!("pair: {id}, {quantity} at net {net}"),
+        Record::Generated { .. } | Record::Removed { .. } => legging_in_words(record),
+        Record::Cross {
+            taker,
+            maker,
+            net,
+            quantity,
+        } => format!("cross: {taker} with {maker}, {quantity} at the taker's net {net}"),
+        Record::Cancelled { id, quantity } => format!("cancelled: {id}, {quantity} were open"),
+    }
+}
+
+fn legging_in_words(record: &Record) -> String {
+    match *record {
         Record::Generated {
             id,
             series,
@@ -108,13 +121,7 @@ fn in_words(record: &Record) -> String {
             let why = cause_name(cause);
             format!("removed the legging order of {id}, {leg}: cause {cause}, {why}")
         }
-        Record::Cross {
-            taker,
-            maker,
-            net,
-            quantity,
-        } => format!("cross: {taker} with {maker}, {quantity} at the taker's net {net}"),
-        Record::Cancelled { id, quantity } => format!("cancelled: {id}, {quantity} were open"),
+        _ => String::new(),
     }
 }
 

@@ -14,6 +14,7 @@ pub mod lent;
 pub mod message;
 pub mod model;
 pub mod phases;
+pub mod profile;
 pub mod random;
 pub mod record;
 pub mod scripts;

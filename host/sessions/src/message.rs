@@ -58,21 +58,15 @@ impl Message {
             ),
             Message::Complex {
                 id,
-                legs,
+                legs: [first, second],
                 class,
                 limit,
                 quantity,
-            } => framed(
-                2,
-                &[
-                    &id.to_le_bytes(),
-                    &legs[0].bytes(),
-                    &legs[1].bytes(),
-                    &[*class],
-                    &limit.to_le_bytes(),
-                    &quantity.to_le_bytes(),
-                ],
-            ),
+            } => {
+                let legs = [first.bytes(), second.bytes()].concat();
+                let (limit, quantity) = (limit.to_le_bytes(), quantity.to_le_bytes());
+                framed(2, &[&id.to_le_bytes(), &legs, &[*class], &limit, &quantity])
+            }
             Message::Cancel { id } => framed(3, &[&id.to_le_bytes()]),
             Message::Away { series, bid, offer } => {
                 framed(4, &[&[*series], &bid.to_le_bytes(), &offer.to_le_bytes()])

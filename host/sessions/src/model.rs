@@ -111,25 +111,8 @@ pub fn work(before: &Venue, message: &Message) -> Work {
             price,
             quantity,
         } => work.order(id, leg, price, quantity),
-        Message::Complex {
-            id,
-            legs,
-            class,
-            limit,
-            quantity,
-        } => {
-            let place = held_complex(before).count();
-            work.venue.last = id;
-            work.venue.complex[place] = Complex {
-                id,
-                series1: legs[0].series,
-                side1: legs[0].side,
-                series2: legs[1].series,
-                side2: legs[1].side,
-                class,
-                limit,
-                quantity,
-            };
+        Message::Complex { id, .. } => {
+            work.rest(message);
             work.complex(id);
         }
         Message::Cancel { id } => work.cancel(id),
@@ -150,6 +133,32 @@ pub fn work(before: &Venue, message: &Message) -> Work {
 }
 
 impl Work {
+    /// Puts an arriving complex order in the first free place.
+    fn rest(&mut self, message: &Message) {
+        let Message::Complex {
+            id,
+            legs,
+            class,
+            limit,
+            quantity,
+        } = *message
+        else {
+            return;
+        };
+        let place = held_complex(&self.venue).count();
+        self.venue.last = id;
+        self.venue.complex[place] = Complex {
+            id,
+            series1: legs[0].series,
+            side1: legs[0].side,
+            series2: legs[1].series,
+            side2: legs[1].side,
+            class,
+            limit,
+            quantity,
+        };
+    }
+
     fn find(&self, id: u32) -> Option<Complex> {
         held_complex(&self.venue)
             .find(|order| order.id == id)

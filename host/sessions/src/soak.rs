@@ -3,9 +3,10 @@
 use crate::check::{Checker, Step};
 use crate::corrupt::corrupt;
 use crate::coverage::Coverage;
-use crate::generator::{Generator, Profile};
+use crate::generator::Generator;
 use crate::lent::Lent;
 use crate::message::{split, Message};
+use crate::profile::Profile;
 use crate::record::{read_report_into, Record};
 use crate::sound::fault;
 use reference::{is_sound, one_message, run, Returned, Venue};

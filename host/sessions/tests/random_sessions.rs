@@ -2,8 +2,8 @@
 //! A failure names the profile and seed that repeat it.
 
 use sessions::coverage::Coverage;
-use sessions::generator::Profile;
 use sessions::message::{split, Message};
+use sessions::profile::Profile;
 use sessions::soak::{check_session, generate};
 use sessions::text::{decode_session, encode_session};
 

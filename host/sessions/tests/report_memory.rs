@@ -5,9 +5,9 @@ mod common;
 
 use common::{by_calls, bytes, with_legging};
 use reference::{one_message, run, Venue};
-use sessions::generator::Profile;
 use sessions::lent::Lent;
 use sessions::message::split;
+use sessions::profile::Profile;
 use sessions::soak::generate;
 
 /// The venue and the report bytes after each message, from none on.
