@@ -2,7 +2,7 @@
 
 use crate::books::{Books, ComplexOrder, Standing};
 use crate::price::{
-    better, bit, displayed, facing, increment, places, reaches, series_of, signed, Place,
+    better, bit, displayed, facing, increment, places, reaches, series_of, sign, signed, Place,
     HIGHEST_PRICE,
 };
 use crate::types::{CUSTOMER, LEGGING_PLACES, OTHER};
@@ -140,8 +140,7 @@ impl Books {
     /// The legging order to make for a leg, if every other condition holds.
     fn legging_for(&self, order: &ComplexOrder, leg: Place, other: Place) -> Option<Standing> {
         let clear = self.clear(facing(other))?;
-        let rest = order.limit - signed(other, clear.price);
-        let price = if leg & 1 == 0 { rest } else { -rest };
+        let price = sign(leg) * (order.limit - signed(other, clear.price));
         let shown = displayed(leg, price);
         if shown < increment(series_of(leg)) as i32 || shown > HIGHEST_PRICE as i32 {
             return None;

@@ -3,7 +3,9 @@
 use crate::book::Resting;
 use crate::books::{Books, ComplexOrder};
 use crate::legging::Cause;
-use crate::price::{better, bit, facing, in_band, places, reaches, signed, Place, BAND_PERCENT};
+use crate::price::{
+    better, bit, facing, in_band, places, reaches, series_of, signed, Place, BAND_PERCENT,
+};
 use crate::types::{CLOSED, COMPLEX_PLACES};
 use crate::wire::{Message, NewComplex, NewOrder, Refusal, Report};
 
@@ -13,7 +15,7 @@ enum Met {
     Legging,
 }
 
-/// One round of legging in: both best prices, their net and the quantity.
+/// One round of legging in: the net of both best prices and the quantity.
 struct Round {
     net: i32,
     quantity: u32,
@@ -49,7 +51,7 @@ impl Books {
     }
 
     fn is_closed(&self, place: Place) -> bool {
-        self.series[place >> 1].status == CLOSED
+        self.series[series_of(place)].status == CLOSED
     }
 
     fn rests(&self, id: u32) -> bool {

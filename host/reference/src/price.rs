@@ -55,13 +55,18 @@ pub fn reaches(place: Place, price: i32, opposite: u32) -> bool {
     }
 }
 
-/// A leg's part of a net: positive for a buy, negative for a sell.
-pub fn signed(leg: Place, price: u32) -> i32 {
+/// +1 for a buy leg, -1 for a sell leg.
+pub fn sign(leg: Place) -> i32 {
     if side_of(leg) == BUY {
-        price as i32
+        1
     } else {
-        -(price as i32)
+        -1
     }
+}
+
+/// A leg's part of a net.
+pub fn signed(leg: Place, price: u32) -> i32 {
+    sign(leg) * price as i32
 }
 
 /// The price rounded away from the market to the increment.

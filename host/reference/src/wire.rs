@@ -1,6 +1,8 @@
 //! Message bytes read, record bytes written. All numbers are little-endian.
 
-use crate::price::{place, valid_limit, valid_price, valid_quantity, valid_regular_price, Place};
+use crate::price::{
+    place, series_of, side_of, valid_limit, valid_price, valid_quantity, valid_regular_price, Place,
+};
 use crate::types::{AUCTION, OTHER, SELL, SERIES};
 
 /// Why a message was refused, by the numbers of the document.
@@ -333,6 +335,6 @@ impl<const N: usize> Record<N> {
     }
 
     fn place(self, place: Place) -> Self {
-        self.u8((place >> 1) as u8).u8((place & 1) as u8)
+        self.u8(series_of(place) as u8).u8(side_of(place))
     }
 }
