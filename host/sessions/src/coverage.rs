@@ -25,6 +25,7 @@ pub enum Rare {
     SeveralRounds,
     RegularBookFull,
     ComplexBookFull,
+    BothBooksFull,
     BelowIncrement,
     ShownAtIncrement,
     ShownAtHighest,
@@ -32,7 +33,7 @@ pub enum Rare {
 }
 
 impl Rare {
-    pub const ALL: [(Rare, &'static str); 17] = [
+    pub const ALL: [(Rare, &'static str); 18] = [
         (
             Rare::FailingHides,
             "settling: a failing order hides another's clear price",
@@ -58,6 +59,7 @@ impl Rare {
         (Rare::SeveralRounds, "legging in of several rounds"),
         (Rare::RegularBookFull, "128 regular orders rest"),
         (Rare::ComplexBookFull, "32 complex orders rest"),
+        (Rare::BothBooksFull, "both books full at once"),
         (
             Rare::BelowIncrement,
             "legging order at an own price below the increment",
@@ -110,7 +112,7 @@ pub struct Coverage {
     causes: [u64; 9],
     answers: [u64; 11],
     declined: [u64; 9],
-    rare: [u64; 17],
+    rare: [u64; 18],
 }
 
 impl Coverage {
@@ -153,8 +155,11 @@ impl Coverage {
     }
 
     fn observe_books(&mut self, venue: &Venue) {
-        self.add(Rare::RegularBookFull, held_regular(venue).count() == 128);
-        self.add(Rare::ComplexBookFull, held_complex(venue).count() == 32);
+        let regular = held_regular(venue).count() == 128;
+        let complex = held_complex(venue).count() == 32;
+        self.add(Rare::RegularBookFull, regular);
+        self.add(Rare::ComplexBookFull, complex);
+        self.add(Rare::BothBooksFull, regular && complex);
     }
 
     /// Failing orders that hide a clear price from other failing orders.

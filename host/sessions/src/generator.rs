@@ -45,6 +45,9 @@ impl Generator {
                 self.queue.push_back(message);
             }
         }
+        if self.profile == Profile::Refusals && self.random.chance(40) {
+            self.queue.extend(scripts::full_book(&mut self.random));
+        }
     }
 
     /// The next message upon a venue.

@@ -139,3 +139,14 @@ pub fn quoted_pair(random: &mut Random) -> Vec<Message> {
     messages.push(complex([(a, 0), (b, 0)], limit, quantity, random));
     messages
 }
+
+/// Orders that fill one of the two books without trading.
+pub fn full_book(random: &mut Random) -> Vec<Message> {
+    if random.chance(50) {
+        let quantity = random.between(1, 9);
+        return (0..128).map(|_| order(0, 1, 5_000, quantity)).collect();
+    }
+    (0..32)
+        .map(|_| complex([(0, 0), (1, 0)], -200_000, 5, random))
+        .collect()
+}

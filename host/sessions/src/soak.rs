@@ -20,7 +20,8 @@ const ROOM: usize = 16_384;
 pub struct Failure {
     pub profile: Profile,
     pub seed: u64,
-    pub message: usize,
+    /// Messages that went well before it.
+    pub after: usize,
     pub what: String,
 }
 
@@ -29,8 +30,8 @@ impl Display for Failure {
         let name = self.profile.name();
         write!(
             f,
-            "profile {name} seed {} message {}: {}",
-            self.seed, self.message, self.what
+            "profile {name} seed {} after {} messages: {}",
+            self.seed, self.after, self.what
         )
     }
 }
@@ -77,11 +78,11 @@ pub fn generate(profile: Profile, seed: u64, messages: usize) -> Vec<Vec<u8>> {
 pub fn check_session(profile: Profile, seed: u64, coverage: &mut Coverage) -> Result<(), Failure> {
     let mut session = Session::new(profile, seed, coverage);
     let checked = session.check_all(profile, session_length(profile, seed));
-    let message = session.pieces.len();
+    let after = session.pieces.len();
     checked.map_err(|what| Failure {
         profile,
         seed,
-        message,
+        after,
         what,
     })
 }
