@@ -411,6 +411,40 @@ fn failing_order_still_hides_a_clear_price_in_its_settling() {
     assert_eq!(last_lines(text), expected);
 }
 
+/// Orders 5 and 6 are reversed and their limits meet, but 211 is out of the
+/// band of 200 until order 7 takes the offer at 100 in the first sweep.
+const KEPT_APART: &str = "open 0\nopen 1\nopen 2\naway 1 bid 0 offer 100\n\
+    order 1 sell 5 series 0 at 100\norder 2 sell 15 series 0 at 130\n\
+    order 3 buy 20 series 0 at 90\norder 4 buy 20 series 1 at 60\n\
+    complex 5 sell 0 sell 1 class 1 net -211 quantity 4\n\
+    complex 6 buy 1 buy 0 class 1 net 215 quantity 3\n\
+    complex 7 buy 0 buy 2 class 1 net 150 quantity 7\norder 8 sell 6 series 2 at 50\nsweep\n";
+
+#[test]
+fn sweep_works_all_orders_then_settles_then_generates_by_id() {
+    let expected = [
+        "64 13 0 28 3",
+        "65 0 0 100 5 7 1",
+        "65 2 0 50 5 7 8",
+        "66 7 150 5",
+        "67 6 1 0 85 85 3",
+        "67 7 2 0 20 20 2",
+    ];
+    assert_eq!(last_lines(KEPT_APART), expected);
+}
+
+#[test]
+fn cross_in_a_sweep_removes_the_takers_legging_orders_then_the_makers() {
+    let expected = [
+        "64 14 0 24 2",
+        "70 5 6 -215 3",
+        "68 5 1 1 3",
+        "68 6 1 0 3",
+        "67 5 1 1 121 125 1",
+    ];
+    assert_eq!(last_lines(&format!("{KEPT_APART}sweep\n")), expected);
+}
+
 #[test]
 fn cancel_of_a_regular_order_tells_what_was_open() {
     let text = "open 0\norder 1 sell 5 series 0 at 110\norder 2 buy 2 series 0 at 110\ncancel 1\n";
