@@ -426,13 +426,12 @@ impl Generator {
     /// A message meant to be refused with one of 2 to 8.
     fn refused(&mut self, venue: &Venue, view: &View) -> Message {
         match self.random.below(8) {
-            0 => Message::Raw(self.unknown_kind()),
             1 => Message::Raw(self.wrong_length(venue, view)),
             2 | 3 => self.out_of_range(venue, view),
             4 => self.stale_id(venue, view),
             5 => self.in_closed_series(venue, view),
             6 => Message::Cancel {
-                id: venue.last.saturating_add(1).max(1),
+                id: venue.last.saturating_add(1),
             },
             _ => Message::Raw(self.unknown_kind()),
         }
