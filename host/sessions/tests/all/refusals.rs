@@ -1,9 +1,7 @@
 //! Every refusal: its example in document 01, its place in the order of
 //! checks, and what it leaves.
 
-mod common;
-
-use common::{by_calls, bytes, last_lines, one, sheet, venue_after, with_legging};
+use crate::common::{by_calls, bytes, last_lines, one, sheet, venue_after, with_legging};
 use reference::{one_message, run, Venue};
 use sessions::lent::Lent;
 use sessions::message::{Leg, Message};

@@ -1,8 +1,6 @@
 //! Each rule of document 01 by a session whose sheet was worked out by hand.
 
-mod common;
-
-use common::{last_lines, venue_after, with_legging, with_offers};
+use crate::common::{last_lines, venue_after, with_legging, with_offers};
 
 #[test]
 fn order_meets_best_price_first_then_lower_id() {

@@ -1,8 +1,6 @@
 //! The trials and the printed session of document 01.
 
-mod common;
-
-use common::{last_lines, sheet, with_legging, with_offers};
+use crate::common::{last_lines, sheet, with_legging, with_offers};
 
 #[test]
 fn printed_session_comes_out_to_the_letter() {

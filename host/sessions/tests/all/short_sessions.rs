@@ -1,9 +1,7 @@
 //! Every short session from a small list, with every check after every
 //! message, and the run of each whole session against its calls.
 
-mod common;
-
-use common::{bytes, venue_after};
+use crate::common::{bytes, venue_after};
 use reference::{is_sound, one_message, run, Venue};
 use sessions::check::{Checker, Step};
 use sessions::lent::Lent;

@@ -1,9 +1,7 @@
 //! Each kind of unsoundness is found, by the reference and by the check
 //! written apart from it; and what is sound stays sound.
 
-mod common;
-
-use common::{one, venue_after, with_legging};
+use crate::common::{one, venue_after, with_legging};
 use reference::{is_sound, Venue};
 use sessions::sound::fault;
 

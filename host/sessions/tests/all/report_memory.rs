@@ -1,9 +1,7 @@
 //! Short report memory: at every length from 0 up, a call ends before the
 //! message whose records do not fit, and that message leaves no trace.
 
-mod common;
-
-use common::{by_calls, bytes, with_legging};
+use crate::common::{by_calls, bytes, with_legging};
 use reference::{one_message, run, Venue};
 use sessions::lent::Lent;
 use sessions::message::split;

@@ -1,7 +1,5 @@
 //! What the tests share.
 
-#![allow(dead_code)]
-
 use reference::{one_message, Returned, Venue};
 use sessions::lent::Lent;
 use sessions::message::split;
