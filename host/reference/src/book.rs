@@ -25,6 +25,10 @@ pub struct RegularBook {
 }
 
 impl RegularBook {
+    pub fn count(&self) -> usize {
+        self.count
+    }
+
     pub fn is_full(&self) -> bool {
         self.count >= REGULAR_PLACES
     }

@@ -108,7 +108,7 @@ fn refuse(books: &Books, number: u32, refusal: Refusal, report: &mut Report) -> 
 /// Carries out a message. Only where its records might not fit is the state
 /// kept beforehand, to be put back.
 fn accept(books: &mut Books, number: u32, message: Message, report: &mut Report) -> Outcome {
-    let kept = (report.left() < most_bytes(&message)).then(|| books.clone());
+    let kept = (report.left() < most_bytes(books, &message)).then(|| books.clone());
     let start = report.reserve_answer();
     books.perform(message, report);
     if !report.overflowed() {
@@ -123,23 +123,26 @@ fn accept(books: &mut Books, number: u32, message: Message, report: &mut Report)
     Outcome::DoesNotFit
 }
 
-/// No message of the kind writes more bytes than this.
+/// No such message writes more bytes upon these books than this.
 ///
-/// A message that trades nothing writes its answer, at most one 71, and one 68
-/// for each of 16 legging orders. A sweep writes the most: each cross fills one
-/// of 32 orders; each round of legging in fills one of 32 orders or ends one of
-/// 128 price levels, so there are at most 160 rounds, and each of their trades
-/// fills one of 128 regular orders or ends a leg of a round; each of 64 legs
-/// makes one order and removes one; 16 legging orders are removed besides.
-fn most_bytes(message: &Message) -> usize {
-    const REMOVALS: usize = 16 * 11;
-    const QUIET: usize = ANSWER_BYTES + 12 + REMOVALS;
-    const CROSSES: usize = 32 * 20;
-    const ROUNDS: usize = 160 * 16;
-    const TRADES: usize = (128 + 2 * 160) * 22;
-    const GENERATIONS: usize = 64 * (22 + 11);
-    match message {
-        Message::Cancel { .. } | Message::Away { .. } | Message::Status { .. } => QUIET,
-        _ => QUIET + CROSSES + ROUNDS + TRADES + GENERATIONS,
-    }
+/// Every message has its answer, at most one 71, and one 68 for each legging
+/// order that stands. A trade fills one of the regular orders, or is the last of
+/// an order, a hit or a leg of a round. A cross fills one of the complex orders.
+/// A round of legging in fills an order worked or ends a price level, of which
+/// there are no more than regular orders. Each leg of an order worked makes one
+/// legging order and removes one.
+fn most_bytes(books: &Books, message: &Message) -> usize {
+    const TRADE: usize = 22;
+    let regular = books.regular.count();
+    let quiet = ANSWER_BYTES + 12 + 11 * books.filled.count_ones() as usize;
+    let worked = match message {
+        Message::Cancel { .. } | Message::Away { .. } | Message::Status { .. } => return quiet,
+        Message::Order(_) => return quiet + TRADE * (regular + 3) + 16,
+        Message::Complex(_) => 1,
+        Message::Sweep => books.complex.len(),
+    };
+    let crosses = books.complex.len() + 1;
+    let rounds = worked + regular;
+    let trades = regular + 2 * rounds;
+    quiet + 20 * crosses + 16 * rounds + TRADE * trades + 2 * worked * (22 + 11)
 }
