@@ -1,0 +1,307 @@
+-- A regular order that meets the other side: its turns carry the invariant and the ledger.
+use mathlib.Core.Path.{_≡_, refl, sym, ap, _∙_, subst}
+use mathlib.Core.Bool.{Bool, true, false, false≢true}
+use mathlib.Core.Logic.{_≢_, _⊎_}
+use mathlib.Core.List.{List, [], _∷_}
+use Prim.Native.Nat.{ℕ, zero, suc, _≤_, _<_, min}
+use native.Mathlib.Omega.{arith}
+use lib.ListN.{length, getD, set}
+use borrow.Author.Tests.{eqb-true, ne-eqb}
+use Rattle.rules.specs.declared.Regular.{Regular}
+use Rattle.rules.specs.declared.Complex.{Complex}
+use Rattle.rules.specs.declared.Legging.{Legging}
+use Rattle.rules.specs.declared.Venue.{Venue}
+use Rattle.rules.specs.declared.Cause.the-variants.{Executed}
+use Rattle.rules.proofs.Tests.{and-l, and-r, held-pos, pos-held, and-false}
+use Rattle.rules.proofs.Picking.{At}
+use Rattle.rules.proofs.Settling.{clear-best}
+use Rattle.rules.proofs.Generating.{place-series}
+use Rattle.demands.proofs.Trades.{take-chain, chain-apart}
+use Rattle.demands.proofs.Ledger.{reg, cx}
+use Rattle.demands.proofs.Moves.{Meets, moves-meet, other-same, rests-held, rests-series, fill-complex}
+use Rattle.demands.proofs.Pairing.{Hits, moves-hit}
+use Rattle.demands.proofs.Good.{leg-series, lg, Home, Homes, homes-same, homes-fill-id, place-at, found, stay-of}
+use Rattle.demands.proofs.Turns.{Fine, Carries, TurnOk, repeat-carries, opposite-not}
+use Rattle.rules.proofs.Cases.{meetTurn-by}
+use Rattle.rules.specs.Base.{if_then_else_, held, placeWhere}
+use Rattle.rules.specs.Words.{opposite, noRegular, noComplex, noLegging, placeOf, leggingAt, withRegular, withComplex, withLegging, regularAt, isComplexOf}
+use Rattle.rules.specs.Effects.{report, _⟫_, turned, repeat}
+use Rattle.rules.specs.Prices.{restsAt, shown, showsAt, showsFor, bestIn, sizeIn, bestRegular, bestSize, ownPrice, clearPrice}
+use Rattle.rules.specs.Removal.{remove, removeOf}
+use Rattle.rules.specs.Standing.{otherLeg, otherClear, parentOf}
+use Rattle.rules.specs.Trading.{lessRegular, fillRegular, fillComplex, tradeWith, take, pairOff}
+use Rattle.rules.specs.Order.{meet, hit, leggingFirst, meetTurn, isMet}
+
+-- Books of other series -----------------------------------------------------------------------
+
+-- a place whose old and new order do not rest at a side leaves its best price and sizes as they were
+pub best-set : (t e : ℕ) (l : List Regular) (i : ℕ) (o : Regular) → showsAt t e (getD l i noRegular) ≡ false → showsAt t e o ≡ false →
+    bestIn t e (set l i o) ≡ bestIn t e l
+unfolding bestIn
+best-set t e [] i o a b = refl
+best-set t e (x ∷ l) zero o a b = rw (a, b)
+best-set t e (x ∷ l) (suc i) o a b = rw (best-set t e l i o a b)
+
+pub size-set : (t e p : ℕ) (l : List Regular) (i : ℕ) (o : Regular) → showsAt t e (getD l i noRegular) ≡ false → showsAt t e o ≡ false →
+    sizeIn t e p (set l i o) ≡ sizeIn t e p l
+unfolding sizeIn showsFor
+size-set t e p [] i o a b = refl
+size-set t e p (x ∷ l) zero o a b = rw (a, b)
+size-set t e p (x ∷ l) (suc i) o a b = rw (size-set t e p l i o a b)
+
+pub not-there : (t e : ℕ) (o : Regular) → o .series ≢ t → showsAt t e o ≡ false
+unfolding showsAt shown
+not-there t e o ne = simp (ne-eqb (o .series) t ne, and-false)
+
+-- w has v's books of every series but s, v's complex and v's legging orders
+pub record Elsewhere (s : ℕ) (v w : Venue) : Type 0 where
+  pub best : (t e : ℕ) → s ≢ t → bestIn t e (w .regular) ≡ bestIn t e (v .regular)
+  pub size : (t e p : ℕ) → s ≢ t → sizeIn t e p (w .regular) ≡ sizeIn t e p (v .regular)
+  pub complex : w .complex ≡ v .complex
+  pub legging : w .legging ≡ v .legging
+
+pub fill-elsewhere : (i k s : ℕ) (v : Venue) → reg v i .series ≡ s → Elsewhere s v (fillRegular i k v)
+unfolding fillRegular withRegular regularAt lessRegular
+fill-elsewhere i k s v h = record {
+  best = λ t e ne. best-set t e (v .regular) i _ (not-there t e _ (λ x. ne (sym h ∙ x))) (not-there t e _ (λ x. ne (sym h ∙ x)));
+  size = λ t e p ne. size-set t e p (v .regular) i _ (not-there t e _ (λ x. ne (sym h ∙ x))) (not-there t e _ (λ x. ne (sym h ∙ x)));
+  complex = refl;
+  legging = refl;
+}
+
+elsewhere-trans : {s : ℕ} {u v w : Venue} → Elsewhere s u v → Elsewhere s v w → Elsewhere s u w
+elsewhere-trans a b = record {
+  best = λ t e ne. b .best t e ne ∙ a .best t e ne;
+  size = λ t e p ne. b .size t e p ne ∙ a .size t e p ne;
+  complex = b .complex ∙ a .complex;
+  legging = b .legging ∙ a .legging;
+}
+
+-- The legging order that the order could hit --------------------------------------------------
+
+-- its other leg can be paid for
+pub record Pays (v : Venue) (s : ℕ) (l : Legging) : Type 0 where
+  pub apart : s ≢ otherLeg (parentOf v l) s .series
+  pub clear : held (clearPrice v (otherLeg (parentOf v l) s .series) (opposite (otherLeg (parentOf v l) s .side))) ≡ true
+  pub size : l .quantity ≤ bestSize v (otherLeg (parentOf v l) s .series) (opposite (otherLeg (parentOf v l) s .side))
+
+module _ {s : ℕ} {v w : Venue} (x : Elsewhere s v w) where
+  clear-same : (t e : ℕ) → s ≢ t → clearPrice w t e ≡ clearPrice v t e
+  unfolding clearPrice leggingAt bestRegular
+  clear-same t e ne = rw (x .best t e ne, x .legging)
+
+  size-same : (t e : ℕ) → s ≢ t → bestSize w t e ≡ bestSize v t e
+  unfolding bestSize bestRegular
+  size-same t e ne = rw (x .best t e ne, x .size t e _ ne)
+
+  parent-same : (l : Legging) → parentOf w l ≡ parentOf v l
+  unfolding parentOf
+  parent-same l = rw (x .complex)
+
+  pub pays-kept : (l : Legging) → Pays v s l → Pays w s l
+  pays-kept l p = record {
+    apart = rw parent-same (p .apart);
+    clear = rw (parent-same, clear-same _ _ (p .apart)) (p .clear);
+    size = rw (parent-same, size-same _ _ (p .apart)) (p .size);
+  }
+
+  pub pays-there : (n : ℕ) → (held (lg v n .quantity) ≡ true → Pays v s (lg v n)) → held (lg w n .quantity) ≡ true → Pays w s (lg w n)
+  pays-there n p t =
+      let same : lg w n ≡ lg v n = ap (λ (y : List Legging). getD y n noLegging) (x .legging) in
+      subst (λ (y : Legging). Pays w s y) (sym same) (pays-kept (lg v n) (p (subst (λ (y : Legging). held (y .quantity) ≡ true) same t)))
+
+-- the order at place i, of side d in series s, and what it could hit
+pub record Ready (i s d : ℕ) (v : Venue) : Type 0 where
+  pub fits : i < 128
+  pub series : reg v i .series ≡ s
+  pub side : reg v i .side ≡ d
+  pub small : opposite d < 2
+  pub pays : held (lg v (placeOf s (opposite d)) .quantity) ≡ true → Pays v s (lg v (placeOf s (opposite d)))
+
+module _ (i s d : ℕ) (v : Venue) (f : Fine v) (r : Ready i s d v) where
+  abbrev o : Regular
+  o = reg v i
+
+  fits : i < length (v .regular)
+  fits = rw (f .good .len1) (r .fits)
+
+  abbrev l : Legging
+  l = lg v (placeOf s (opposite d))
+
+  -- the order meets a regular order
+  module _ (j : ℕ) (m : Regular) (h : held (o .quantity) ≡ true)
+      (a : At noRegular (isMet (o .series) (o .side) (o .price)) (v .regular) j m) where
+    rests : restsAt (o .series) (opposite (o .side)) m ≡ true
+    unfolding isMet
+    rests = let z = a .is in search (and-l, and-r, z)
+
+    side-of : m .side ≡ opposite (o .side)
+    unfolding restsAt
+    side-of = let z = rests in eqb-true (m .side) (opposite (o .side)) (search (and-l, and-r, z))
+
+    meets : Meets v i j (min (o .quantity) (m .quantity))
+    meets = record {
+      apart = λ e. opposite-not (o .side) (ap (λ (x : Regular). x .side) (ap (λ (n : ℕ). reg v n) e ∙ a .at) ∙ side-of);
+      fits1 = fits;
+      fits2 = a .fits;
+      held1 = h;
+      held2 = rw (a .at) (rests-held _ _ m rests);
+      series = rw (a .at) (rests-series _ _ m rests);
+      enough1 = omega arith;
+      enough2 = rw (a .at) (omega arith);
+    }
+
+    after-meet : Elsewhere s v (meet i j (min (o .quantity) (m .quantity)) v .venue)
+    unfolding meet tradeWith report
+    after-meet =
+        let k = min (o .quantity) (m .quantity) in
+        elsewhere-trans (fill-elsewhere i k s v (r .series))
+        (fill-elsewhere j k s (fillRegular i k v)
+        (ap (λ (x : Regular). x .series) (other-same i j k v meets ∙ a .at) ∙ rests-series _ _ m rests ∙ r .series))
+
+    pub carries-meet : Carries v (meet i j (min (o .quantity) (m .quantity)) v) × Ready i s d (meet i j (min (o .quantity) (m .quantity)) v .venue)
+    carries-meet =
+        let mv = moves-meet i j _ v meets in
+        let x = after-meet in (
+          record { moves = mv; homes = homes-same (x .complex) (x .legging) (f .homes) },
+          record {
+            fits = r .fits;
+            series = mv .regular .lesser i .series ∙ r .series;
+            side = mv .regular .lesser i .side ∙ r .side;
+            small = r .small;
+            pays = pays-there x (placeOf s (opposite d)) (r .pays);
+          },
+        )
+
+  -- the order hits the legging order
+  module _ (h : held (o .quantity) ≡ true) (hl : held (l .quantity) ≡ true) where
+    abbrev k : ℕ
+    k = min (o .quantity) (l .quantity)
+
+    home : Home v (placeOf s (opposite d)) l
+    home = f .homes .home (placeOf s (opposite d)) hl
+
+    abbrev j : ℕ
+    j = home .at
+
+    holdsC : held (cx v j .quantity) ≡ true
+    holdsC = let z = held-pos (l .quantity) hl in let e = home .enough in pos-held (cx v j .quantity) (omega arith)
+
+    parent-is : parentOf v l ≡ cx v j
+    unfolding parentOf
+    parent-is = rw (← home .id) (found v (f .good) j (home .fits) holdsC)
+
+    at-series : (o .series ≡ cx v j .series1) ⊎ (o .series ≡ cx v j .series2)
+    at-series = rw (r .series) (rw (place-series s (opposite d) (r .small)) at (leg-series (cx v j) _ _ (home .leg)))
+
+    abbrev Paid : Complex → Type 0
+    Paid c = l .quantity ≤ sizeIn (otherLeg c s .series) (opposite (otherLeg c s .side)) (clearPrice v (otherLeg c s .series) (opposite (otherLeg c s .side))) (v .regular)
+
+    paid : Paid (cx v j)
+    unfolding bestSize
+    paid = let p = r .pays hl in subst Paid parent-is (rw (clear-best v _ _ (p .clear)) (p .size))
+
+    hits : Hits v i j k l
+    hits =
+        let p = r .pays hl in
+        record {
+          fits = fits;
+          holds = h;
+          enough = omega arith;
+          parent = parent-is;
+          fitsC = home .fits;
+          holdsC = holdsC;
+          enoughC = let e = home .enough in omega arith;
+          place = place-at v (f .good) j (home .fits) holdsC;
+          leg = at-series;
+          apart = f .good .ranges j holdsC .apart;
+          size = rw (r .series) (let z = paid in omega arith);
+        }
+
+    -- the venue as the parent is filled and its legging orders go
+    abbrev par : Complex
+    par = parentOf v l
+
+    abbrev t : ℕ
+    t = otherLeg par (o .series) .series
+
+    abbrev e : ℕ
+    e = otherLeg par (o .series) .side
+
+    abbrev W : Venue
+    W = take k (par .id) t e (clearPrice v t (opposite e)) k (fillRegular i k v) .venue
+
+    fill-legging : fillRegular i k v .legging ≡ v .legging
+    unfolding fillRegular withRegular
+    fill-legging = refl
+
+    sameC : W .complex ≡ v .complex
+    sameC = chain-apart (take-chain (par .id) t e (clearPrice v t (opposite e)) k k (fillRegular i k v)) .complex ∙ fill-complex i k v
+
+    sameL : W .legging ≡ v .legging
+    sameL = chain-apart (take-chain (par .id) t e (clearPrice v t (opposite e)) k k (fillRegular i k v)) .legging ∙ fill-legging
+
+    hit-venue : hit i l k v .venue ≡ removeOf (par .id) Executed (fillComplex (placeWhere (isComplexOf (par .id)) (W .complex)) k W) .venue
+    unfolding hit pairOff report _⟫_ otherClear regularAt
+    hit-venue = refl
+
+    place-W : placeWhere (isComplexOf (par .id)) (W .complex) ≡ j
+    place-W = rw (sameC, parent-is) (place-at v (f .good) j (home .fits) holdsC)
+
+    hit-homes : Homes (hit i l k v .venue)
+    hit-homes =
+        rw (hit-venue, place-W)
+        (homes-fill-id j k Executed W (par .id) (ap (λ (c : Complex). c .id) parent-is ∙ ap (λ (x : List Complex). getD x j noComplex .id) (sym sameC)) (homes-same sameC sameL (f .homes)))
+
+    -- its place is free afterwards
+    gone : (J : ℕ) → held (lg (removeOf (par .id) Executed (fillComplex J k W) .venue) (placeOf s (opposite d)) .quantity) ≡ true → ⊥
+    unfolding removeOf remove withLegging fillComplex withComplex
+    gone J q =
+        let z = stay-of (par .id) Executed 0 (W .legging) (placeOf s (opposite d)) q in
+        z .1 (ap (λ (x : Legging). x .parent) (z .0 ∙ ap (λ (x : List Legging). getD x (placeOf s (opposite d)) noLegging) sameL)
+        ∙ sym (home .id) ∙ ap (λ (c : Complex). c .id) (sym parent-is))
+
+    emptied : held (lg (hit i l k v .venue) (placeOf s (opposite d)) .quantity) ≡ true → ⊥
+    emptied q = gone _ (rw hit-venue at q)
+
+    pub carries-hit : Carries v (hit i l k v) × Ready i s d (hit i l k v .venue)
+    carries-hit =
+        let mv = moves-hit v i j k l hits in (
+          record { moves = mv; homes = hit-homes },
+          record {
+            fits = r .fits;
+            series = mv .regular .lesser i .series ∙ r .series;
+            side = mv .regular .lesser i .side ∙ r .side;
+            small = r .small;
+            pays = λ q. absurd (emptied q);
+          },
+        )
+
+  -- a turn
+  own-held : held (ownPrice l) ≡ true → held (l .quantity) ≡ true
+  unfolding ownPrice
+  own-held = go (held (l .quantity))
+    where
+      go : (b : Bool) → held (if b then l .price else 0) ≡ true → b ≡ true
+      go true z = refl
+      go false z = absurd (false≢true z)
+
+  legging-is : leggingAt v (o .series) (opposite (o .side)) ≡ l
+  unfolding leggingAt
+  legging-is = rw (r .series, r .side)
+
+  first-held : (p : ℕ) → leggingFirst o (leggingAt v (o .series) (opposite (o .side))) p ≡ true → held (l .quantity) ≡ true
+  unfolding leggingFirst
+  first-held p z =
+      let y : held (ownPrice (leggingAt v (o .series) (opposite (o .side)))) ≡ true = search (and-l, and-r, z) in
+      own-held (rw legging-is at y)
+
+  pub meetTurn-ok : TurnOk (Ready i s d) v (meetTurn i v)
+  unfolding regularAt
+  meetTurn-ok =
+      meetTurn-by (TurnOk (Ready i s d) v) i v (λ _. tt) (λ _ _ _. tt)
+      (λ h p e. subst (λ (x : Legging). TurnOk (Ready i s d) v (turned (hit i x (min (o .quantity) (x .quantity)) v))) (sym legging-is) (carries-hit h (first-held p e)))
+      (λ h j m a _. carries-meet j m h a)
+
+pub enter-carries : (i s d fuel : ℕ) (v : Venue) → Fine v → Ready i s d v → Carries v (repeat fuel (meetTurn i) v)
+enter-carries i s d fuel v f r = repeat-carries (Ready i s d) (meetTurn i) (λ w g x. meetTurn-ok i s d w g x) fuel v f r

@@ -1,0 +1,6 @@
+-- Statements about the rules.
+pub mod Sums
+pub mod ReadsBack
+pub mod Ending
+pub mod Demand
+pub mod Kept
