@@ -1,45 +1,49 @@
--- The account of a session so far, and how one message takes it on.
-use mathlib.Core.Path.{_≡_, refl, sym, ap, _∙_, subst}
-use mathlib.Core.Bool.{Bool, true, false}
+-- The account of what callers have seen: the one invariant of the induction over calls, and how one message takes it on.
+use mathlib.Core.Path.{_∙_, _≡_, ap, subst, sym}
+use mathlib.Core.Bool.{true}
 use mathlib.Core.Logic.{_⊎_, inl, inr, ⊎-elim}
-use mathlib.Core.List.{List, [], _∷_, _++_, List·Memᴰ, List·Memᴰ·append-cases, List·Memᴰ·cases-cons, List·Memᴰ·not-nil, List·Memᴰ·head}
-use Prim.Native.Nat.{ℕ, suc, _+_, _≤_, _<_}
+use mathlib.Core.List.{List, List·Memᴰ, List·Memᴰ·append-cases, List·Memᴰ·cases-cons, List·Memᴰ·head, List·Memᴰ·not-nil, [], _++_, _∷_}
+use Prim.Native.Nat.{_*_, _+_, _<_, _≤_, suc, ℕ}
 use native.Mathlib.Omega.{arith}
-use lib.Dec.{eqb}
-use lib.ListN.{length, getD, length-append, List·getD-append}
+use lib.IntN.{pos}
+use lib.ListN.{List·getD-append, length, length-append}
 use lib.Seq.{getD-at}
-use borrow.Author.Tests.{eqb-true}
-use Rattle.rules.specs.declared.Regular.{Regular}
 use Rattle.rules.specs.declared.Complex.{Complex}
-use Rattle.rules.specs.declared.Venue.{Venue}
-use Rattle.demands.specs.Sums.{total, contracts, paired, crossedFor, cancelledOf, openRegular, openComplex}
-use Rattle.rules.proofs.Tests.{free-none}
-use Rattle.demands.proofs.Taking.{total-append}
-use Rattle.rules.proofs.Generating.{AllStand}
-use Rattle.demands.proofs.Ledger.{reg, cx, Reg, Cx, Moved, reg-kept, cx-kept}
-use Rattle.demands.proofs.Good.{Good}
-use Rattle.demands.proofs.Closed.{Tidy, Ends}
-use Rattle.demands.proofs.Turns.{Fine}
-use Rattle.demands.proofs.Widths.{Plain, Ranged}
 use Rattle.rules.specs.declared.Message.{Message}
 use Rattle.rules.specs.declared.Message.the-variants.{Order, TwoLeg}
-use Rattle.rules.specs.Base.{if_then_else_, held}
-use Rattle.rules.specs.Words.{noRegular, noComplex}
+use Rattle.rules.specs.declared.Regular.{Regular}
+use Rattle.rules.specs.declared.Venue.{Venue}
+use Rattle.rules.specs.Base.{held}
+use Rattle.rules.specs.Words.{noComplex, noRegular}
 use Rattle.rules.specs.Messages.{messageOf}
-use Rattle.rules.specs.Records.{Report, answer, Each}
+use Rattle.rules.specs.Records.{Each, Report, answer}
+use Rattle.rules.specs.Effects.{Effect}
+use Rattle.rules.specs.Prices.{ratio1, ratio2}
+use Rattle.rules.specs.Sums.{cancelledOf, contracts, crossedFor, openComplex, openRegular, paired, total}
+use Rattle.demands.specs.Demand.{Accepted, Seen, start}
+use Rattle.rules.proofs.Adding.{open-none, total-append}
+use Rattle.rules.proofs.Filling.{cx, reg}
+use Rattle.rules.proofs.Generating.{AllStand}
+use Rattle.rules.proofs.Ledger.{Cx, Moved, Reg, cx-kept, ratio-none, ratio-then, reg-kept}
+use Rattle.rules.proofs.Widths.{Plain}
+use Rattle.demands.proofs.Closed.{Ends}
+use Rattle.demands.proofs.Homes.{Fine, Good, Invariant}
 
--- an accepted order's account
-pub record OrderAccount (v : Venue) (rs : List Report) (o : Regular) : Type 0 where
-  pub known : o .id ≤ v .last
-  pub own : Reg (o .id) (o .series) v
-  pub adds : o .quantity ≡ total (contracts (o .id) (o .series)) rs + total (cancelledOf (o .id)) rs + openRegular (o .id) (v .regular)
+-- Accounts ------------------------------------------------------------------------------------
 
-pub record ComplexAccount (v : Venue) (rs : List Report) (c : Complex) : Type 0 where
-  pub known : c .id ≤ v .last
-  pub own : Cx (c .id) (c .series1) (c .series2) v
-  pub first : total (contracts (c .id) (c .series1)) rs ≡ total (paired (c .id)) rs
-  pub second : total (contracts (c .id) (c .series2)) rs ≡ total (paired (c .id)) rs
-  pub adds : c .quantity ≡ total (paired (c .id)) rs + total (crossedFor (c .id)) rs + total (cancelledOf (c .id)) rs + openComplex (c .id) (v .complex)
+-- of an accepted regular order
+pub record OrderAccount (s : Seen) (o : Regular) : Type 0 where
+  pub known : o .id ≤ s .venue .last
+  pub own : Reg (o .id) (o .series) (s .venue)
+  pub adds : o .quantity ≡ total (contracts (o .id) (o .series)) (s .reports) + total (cancelledOf (o .id)) (s .reports) + openRegular (o .id) (s .venue .regular)
+
+-- of an accepted complex order: its contracts in each series are its pairs by the leg's ratio
+pub record ComplexAccount (s : Seen) (c : Complex) : Type 0 where
+  pub known : c .id ≤ s .venue .last
+  pub own : Cx c (s .venue)
+  pub first : total (contracts (c .id) (c .series1)) (s .reports) ≡ ratio1 c * total (paired (c .id)) (s .reports)
+  pub second : total (contracts (c .id) (c .series2)) (s .reports) ≡ ratio2 c * total (paired (c .id)) (s .reports)
+  pub adds : c .quantity ≡ total (paired (c .id)) (s .reports) + total (crossedFor (c .id)) (s .reports) + total (cancelledOf (c .id)) (s .reports) + openComplex (c .id) (s .venue .complex)
 
 -- records name no id y
 pub record Unnamed (y : ℕ) (rs : List Report) : Type 0 where
@@ -48,46 +52,13 @@ pub record Unnamed (y : ℕ) (rs : List Report) : Type 0 where
   pub crossed0 : total (crossedFor y) rs ≡ 0
   pub cancelled0 : total (cancelledOf y) rs ≡ 0
 
--- message m is one of ds, and the 64 of its number has refusal 0
-pub record Entered (ds : List (List ℕ)) (rs : List Report) (m : Message) : Type 0 where
-  pub before : ℕ
-  pub is : messageOf (getD ds before []) ≡ m
-  pub mask : ℕ
-  pub count : ℕ
-  pub told : List·Memᴰ (answer (suc before) 0 mask count) rs
-
--- after n messages ds, with the records rs
-pub record Account (v : Venue) (n : ℕ) (ds : List (List ℕ)) (rs : List Report) : Type 0 where
-  pub fine : Fine v
-  pub stand : AllStand v
-  pub tidy : Tidy v
-  pub ranged : Ranged v
-  pub count : length ds ≡ n
-  pub numbers : (j x m c : ℕ) → List·Memᴰ (answer j x m c) rs → j ≤ n
-  pub orders : (o : Regular) → Entered ds rs (Order o) → OrderAccount v rs o
-  pub complexes : (c : Complex) → Entered ds rs (TwoLeg c) → ComplexAccount v rs c
-  pub above : (y : ℕ) → v .last < y → Unnamed y rs
-
--- an id that no order has: nothing is open under it
-pub open-none : (y : ℕ) (l : List Regular) → ((i : ℕ) → held (getD l i noRegular .quantity) ≡ true → getD l i noRegular .id ≡ y → ⊥) → openRegular y l ≡ 0
-unfolding openRegular
-open-none y [] n = refl
-open-none y (o ∷ l) n = go (eqb (o .id) y) refl (held (o .quantity)) refl (open-none y l (λ i. n (suc i)))
-  where
-    go : (b : Bool) → eqb (o .id) y ≡ b → (h : Bool) → held (o .quantity) ≡ h → openRegular y l ≡ 0 → (if b then o .quantity else 0) + openRegular y l ≡ 0
-    go true e true q ih = absurd (n 0 q (eqb-true (o .id) y e))
-    go true e false q ih = let z = free-none (o .quantity) q in omega arith
-    go false e h q ih = omega arith
-
-pub open-noneC : (y : ℕ) (l : List Complex) → ((i : ℕ) → held (getD l i noComplex .quantity) ≡ true → getD l i noComplex .id ≡ y → ⊥) → openComplex y l ≡ 0
-unfolding openComplex
-open-noneC y [] n = refl
-open-noneC y (o ∷ l) n = go (eqb (o .id) y) refl (held (o .quantity)) refl (open-noneC y l (λ i. n (suc i)))
-  where
-    go : (b : Bool) → eqb (o .id) y ≡ b → (h : Bool) → held (o .quantity) ≡ h → openComplex y l ≡ 0 → (if b then o .quantity else 0) + openComplex y l ≡ 0
-    go true e true q ih = absurd (n 0 q (eqb-true (o .id) y e))
-    go true e false q ih = let z = free-none (o .quantity) q in omega arith
-    go false e h q ih = omega arith
+pub record Account (s : Seen) : Type 0 where
+  pub invariant : Invariant (s .venue)
+  pub count : length (s .messages) ≡ s .done
+  pub numbers : (j x m c : ℕ) → List·Memᴰ (answer j x m c) (s .reports) → j ≤ s .done
+  pub orders : (o : Regular) → Accepted s (Order o) → OrderAccount s o
+  pub complexes : (c : Complex) → Accepted s (TwoLeg c) → ComplexAccount s c
+  pub above : (y : ℕ) → s .venue .last < y → Unnamed y (s .reports)
 
 -- above the last id, a move's records name nothing
 moved-above : {v w : Venue} {qs : List Report} → Good v → Moved v qs w → (y : ℕ) → v .last < y → Unnamed y qs
@@ -95,18 +66,31 @@ moved-above {v} {w} {qs} g m y lt =
     let nr : (i : ℕ) → held (reg v i .quantity) ≡ true → reg v i .id ≡ y → ⊥ = λ i h e. (let z = g .rlast i h in omega arith) in
     let nx : (i : ℕ) → held (cx v i .quantity) ≡ true → cx v i .id ≡ y → ⊥ = λ i h e. (let z = g .xlast i h in omega arith) in
     let r : (s : ℕ) → Reg y s v = λ s. record { home = λ i h e. absurd (nr i h e); alone = λ i j h k e q. absurd (nr i h e); none = nx } in
-    let x : Cx y 0 0 v = record { home1 = λ i h e. absurd (nx i h e); home2 = λ i h e. absurd (nx i h e); alone = λ i j h k e q. absurd (nx i h e); none = nr } in
-    let a = open-none y (v .regular) nr in
-    let b = open-noneC y (v .complex) nx in
-    let p = m .complexes y 0 0 x .falls in
+    let x : Cx (named y) v = record { home = λ i h e. absurd (nx i h e); alone = λ i j h k e q. absurd (nx i h e); none = nr } in
+    let a = open-none noRegular (λ o. o .id) (λ o. o .quantity) y (v .regular) nr in
+    let b = open-none noComplex (λ c. c .id) (λ c. c .quantity) y (v .complex) nx in
+    let p = m .complexes (named y) x .falls in
     record {
       contracts0 = λ s. (let q = m .orders y s (r s) in omega arith);
       paired0 = omega arith;
       crossed0 = omega arith;
       cancelled0 = omega arith;
     }
+  where
+    -- some order of that id
+    named : ℕ → Complex
+    named y = record { id = y; series1 = 0; side1 = 0; series2 = 0; side2 = 0; class = 0; limit = pos 0; quantity = 0 }
 
--- Answers -------------------------------------------------------------------------------------
+-- One message more ----------------------------------------------------------------------------
+
+-- the message at the front of bs has been done, with this effect
+unfoldable pub onto : Seen → List ℕ → Effect → Seen
+onto s bs e = record {
+  venue = e .venue;
+  done = suc (s .done);
+  messages = s .messages ++ (bs ∷ []);
+  reports = s .reports ++ e .reports;
+}
 
 -- an answer is not among a message's effects
 no-answer : (j x m c : ℕ) (qs : List Report) → Each Plain qs → List·Memᴰ (answer j x m c) qs → ⊥
@@ -119,33 +103,6 @@ no-answer j x m c (q ∷ qs) h k = elim (List·Memᴰ·cases-cons k) [
 same-number : {j x m c n y k l : ℕ} → answer j x m c ≡ answer n y k l → (j ≡ n) × (x ≡ y)
 same-number e = (cc, cc)
 
--- what was entered before, or is entered by the message bs
-entered-cases : {ds : List (List ℕ)} {rs : List Report} {m : Message} (n : ℕ) → length ds ≡ n → ((j x m c : ℕ) → List·Memᴰ (answer j x m c) rs → j ≤ n) →
-    (bs : List ℕ) (x k l : ℕ) (qs : List Report) → Each Plain qs → Entered (ds ++ (bs ∷ [])) (rs ++ (answer (suc n) x k l ∷ qs)) m →
-    Entered ds rs m ⊎ ((x ≡ 0) × (messageOf bs ≡ m))
-entered-cases {ds} {rs} {m} n len old bs x k l qs h e = go (List·Memᴰ·append-cases rs (e .told))
-  where
-    go : List·Memᴰ (answer (suc (e .before)) 0 (e .mask) (e .count)) rs ⊎ List·Memᴰ (answer (suc (e .before)) 0 (e .mask) (e .count)) (answer (suc n) x k l ∷ qs) →
-        Entered ds rs m ⊎ ((x ≡ 0) × (messageOf bs ≡ m))
-    go (inl t) =
-        let z = old _ _ _ _ t in
-        inl (record {
-          before = e .before;
-          is = ap messageOf (sym (List·getD-append ds (bs ∷ []) [] (e .before) (omega arith))) ∙ e .is;
-          mask = e .mask;
-          count = e .count;
-          told = t;
-        })
-    go (inr t) = elim (List·Memᴰ·cases-cons t) [
-      | inl q ↦
-          let z = same-number q in
-          let b : length ds ≡ e .before = (let y = z .0 in omega arith) in
-          inr (sym (z .1), ap messageOf (sym (getD-at ds bs [] [] (e .before) b)) ∙ e .is)
-      | inr q ↦ absurd (no-answer _ _ _ _ qs h q)
-    ]
-
--- One message ---------------------------------------------------------------------------------
-
 -- what a message brings in: nothing, or an order of a new id, all of it open
 pub record NewOrder (v v₀ : Venue) (o : Regular) : Type 0 where
   pub new : v .last < o .id
@@ -156,7 +113,7 @@ pub record NewOrder (v v₀ : Venue) (o : Regular) : Type 0 where
 pub record NewComplex (v v₀ : Venue) (c : Complex) : Type 0 where
   pub new : v .last < c .id
   pub known : c .id ≤ v₀ .last
-  pub own : Cx (c .id) (c .series1) (c .series2) v₀
+  pub own : Cx c v₀
   pub whole : openComplex (c .id) (v₀ .complex) ≡ c .quantity
 
 -- v becomes v₀ when the message's order is given its place, and then w by the records qs, its gaps not yet closed
@@ -165,7 +122,7 @@ pub record Takes (v : Venue) (qs : List Report) (w : Venue) (ms : List Message) 
   pub fine₀ : Fine start
   pub later : v .last ≤ start .last
   pub regs : (y s : ℕ) → y ≤ v .last → Reg y s v → Reg y s start
-  pub cxs : (y s t : ℕ) → y ≤ v .last → Cx y s t v → Cx y s t start
+  pub cxs : (m : Complex) → m .id ≤ v .last → Cx m v → Cx m start
   pub openR : (y : ℕ) → y ≤ v .last → openRegular y (start .regular) ≡ openRegular y (v .regular)
   pub openC : (y : ℕ) → y ≤ v .last → openComplex y (start .complex) ≡ openComplex y (v .complex)
   pub moved : Moved start qs w
@@ -174,14 +131,18 @@ pub record Takes (v : Venue) (qs : List Report) (w : Venue) (ms : List Message) 
   pub orders : (o : Regular) → List·Memᴰ (Order o) ms → NewOrder v start o
   pub complexes : (c : Complex) → List·Memᴰ (TwoLeg c) ms → NewComplex v start c
 
--- the message bs, after n others: its 64, its effects, and the venue that is returned
-module _ {v u w : Venue} {n : ℕ} {ds : List (List ℕ)} {rs qs : List Report} {ns : List Message} (a : Account v n ds rs) (t : Takes v qs u ns) (z : Ends u w)
-    (bs : List ℕ) (x k l : ℕ) (es : List Report) (is : qs ≡ answer (suc n) x k l ∷ es) (plain : Each Plain es)
-    (brings : x ≡ 0 → ns ≡ messageOf bs ∷ []) (r : Ranged w) where
-  last-is : w .last ≡ t .start .last
+-- the message bs, and its effect e: what it brings in, its records with its 64 first, and the venue that is returned
+module _ {s : Seen} {u : Venue} {ns : List Message} (bs : List ℕ) {e : Effect} (a : Account s) (t : Takes (s .venue) (e .reports) u ns) (z : Ends u (e .venue))
+    (x k l : ℕ) (es : List Report) (is : e .reports ≡ answer (suc (s .done)) x k l ∷ es) (plain : Each Plain es)
+    (brings : x ≡ 0 → ns ≡ messageOf bs ∷ []) (invariant : Invariant (e .venue)) where
+  abbrev qs : List Report
+  qs = e .reports
+
+  last-is : e .venue .last ≡ t .start .last
   last-is = z .last ∙ t .moved .last
 
-  old-order : (o : Regular) → OrderAccount v rs o → OrderAccount w (rs ++ qs) o
+  old-order : (o : Regular) → OrderAccount s o → OrderAccount (onto s bs e) o
+  unfolding onto
   old-order o x =
       let r = t .regs _ _ (x .known) (x .own) in
       let p = t .moved .orders _ _ r in
@@ -189,57 +150,80 @@ module _ {v u w : Venue} {n : ℕ} {ds : List (List ℕ)} {rs qs : List Report} 
       record {
         known = let l = t .later in let e = last-is in let k = x .known in omega arith;
         own = z .regs _ _ (reg-kept (t .moved .regular) (t .moved .complex) r);
-        adds = rw (total-append (contracts (o .id) (o .series)) rs qs, total-append (cancelledOf (o .id)) rs qs) (let y = x .adds in let g = z .openR (o .id) in omega arith);
+        adds = rw (total-append (contracts (o .id) (o .series)) (s .reports) qs, total-append (cancelledOf (o .id)) (s .reports) qs)
+            (let y = x .adds in let g = z .openR (o .id) in omega arith);
       }
 
-  new-order : (o : Regular) → NewOrder v (t .start) o → OrderAccount w (rs ++ qs) o
+  new-order : (o : Regular) → NewOrder (s .venue) (t .start) o → OrderAccount (onto s bs e) o
+  unfolding onto
   new-order o x =
       let p = t .moved .orders _ _ (x .own) in
       let f = a .above (o .id) (x .new) in
       record {
         known = let e = last-is in let k = x .known in omega arith;
         own = z .regs _ _ (reg-kept (t .moved .regular) (t .moved .complex) (x .own));
-        adds = rw (total-append (contracts (o .id) (o .series)) rs qs, total-append (cancelledOf (o .id)) rs qs)
+        adds = rw (total-append (contracts (o .id) (o .series)) (s .reports) qs, total-append (cancelledOf (o .id)) (s .reports) qs)
             (let y = x .whole in let c = f .contracts0 (o .series) in let g = z .openR (o .id) in omega arith);
       }
 
-  old-complex : (c : Complex) → ComplexAccount v rs c → ComplexAccount w (rs ++ qs) c
+  old-complex : (c : Complex) → ComplexAccount s c → ComplexAccount (onto s bs e) c
+  unfolding onto
   old-complex c x =
-      let r = t .cxs _ _ _ (x .known) (x .own) in
-      let p = t .moved .complexes _ _ _ r in
+      let r = t .cxs _ (x .known) (x .own) in
+      let p = t .moved .complexes _ r in
       let q = t .openC _ (x .known) in
       record {
         known = let l = t .later in let e = last-is in let k = x .known in omega arith;
-        own = z .cxs _ _ _ (cx-kept (t .moved .regular) (t .moved .complex) r);
-        first = rw (total-append (contracts (c .id) (c .series1)) rs qs, total-append (paired (c .id)) rs qs) (let y = x .first in omega arith);
-        second = rw (total-append (contracts (c .id) (c .series2)) rs qs, total-append (paired (c .id)) rs qs) (let y = x .second in omega arith);
-        adds = rw (total-append (paired (c .id)) rs qs, total-append (crossedFor (c .id)) rs qs, total-append (cancelledOf (c .id)) rs qs) (let y = x .adds in let g = z .openC (c .id) in omega arith);
+        own = z .cxs _ (cx-kept (t .moved .regular) (t .moved .complex) r);
+        first = rw (total-append (contracts (c .id) (c .series1)) (s .reports) qs, total-append (paired (c .id)) (s .reports) qs) (ratio-then (ratio1 c) _ _ _ _ (x .first) (p .first));
+        second = rw (total-append (contracts (c .id) (c .series2)) (s .reports) qs, total-append (paired (c .id)) (s .reports) qs) (ratio-then (ratio2 c) _ _ _ _ (x .second) (p .second));
+        adds = rw (total-append (paired (c .id)) (s .reports) qs, total-append (crossedFor (c .id)) (s .reports) qs, total-append (cancelledOf (c .id)) (s .reports) qs)
+            (let y = x .adds in let f = p .falls in let g = z .openC (c .id) in omega arith);
       }
 
-  new-complex : (c : Complex) → NewComplex v (t .start) c → ComplexAccount w (rs ++ qs) c
+  new-complex : (c : Complex) → NewComplex (s .venue) (t .start) c → ComplexAccount (onto s bs e) c
+  unfolding onto
   new-complex c x =
-      let p = t .moved .complexes _ _ _ (x .own) in
+      let p = t .moved .complexes _ (x .own) in
       let f = a .above (c .id) (x .new) in
-      let c1 = f .contracts0 (c .series1) in
-      let c2 = f .contracts0 (c .series2) in
       record {
         known = let e = last-is in let k = x .known in omega arith;
-        own = z .cxs _ _ _ (cx-kept (t .moved .regular) (t .moved .complex) (x .own));
-        first = rw (total-append (contracts (c .id) (c .series1)) rs qs, total-append (paired (c .id)) rs qs) (omega arith);
-        second = rw (total-append (contracts (c .id) (c .series2)) rs qs, total-append (paired (c .id)) rs qs) (omega arith);
-        adds = rw (total-append (paired (c .id)) rs qs, total-append (crossedFor (c .id)) rs qs, total-append (cancelledOf (c .id)) rs qs) (let y = x .whole in let g = z .openC (c .id) in omega arith);
+        own = z .cxs _ (cx-kept (t .moved .regular) (t .moved .complex) (x .own));
+        first = rw (total-append (contracts (c .id) (c .series1)) (s .reports) qs, total-append (paired (c .id)) (s .reports) qs)
+            (ratio-then (ratio1 c) _ _ _ _ (ratio-none (ratio1 c) _ _ (f .contracts0 (c .series1)) (f .paired0)) (p .first));
+        second = rw (total-append (contracts (c .id) (c .series2)) (s .reports) qs, total-append (paired (c .id)) (s .reports) qs)
+            (ratio-then (ratio2 c) _ _ _ _ (ratio-none (ratio2 c) _ _ (f .contracts0 (c .series2)) (f .paired0)) (p .second));
+        adds = rw (total-append (paired (c .id)) (s .reports) qs, total-append (crossedFor (c .id)) (s .reports) qs, total-append (cancelledOf (c .id)) (s .reports) qs)
+            (let y = x .whole in let h = p .falls in let g = z .openC (c .id) in omega arith);
       }
 
-  -- by an old message or by this one
-  cases : (m : Message) → Entered (ds ++ (bs ∷ [])) (rs ++ qs) m → Entered ds rs m ⊎ List·Memᴰ m ns
-  cases m e =
-      elim (entered-cases {ds = ds} {rs = rs} {m = m} n (a .count) (a .numbers) bs x k l es plain (subst (λ (q : List Report). Entered (ds ++ (bs ∷ [])) (rs ++ q) m) is e)) [
-        | inl o ↦ inl o
-        | inr p ↦ inr (subst (λ (q : List Message). List·Memᴰ m q) (sym (brings (p .0))) (List·Memᴰ·head (sym (p .1))))
+  -- accepted before, or by this message
+  cases : (m : Message) → Accepted (onto s bs e) m → Accepted s m ⊎ List·Memᴰ m ns
+  unfolding onto
+  cases m y = go (List·Memᴰ·append-cases (s .reports) (y .told))
+    where
+      go : List·Memᴰ (answer (suc (y .before)) 0 (y .mask) (y .count)) (s .reports) ⊎ List·Memᴰ (answer (suc (y .before)) 0 (y .mask) (y .count)) qs → Accepted s m ⊎ List·Memᴰ m ns
+      go (inl h) =
+          let n = a .numbers _ _ _ _ h in
+          let c = a .count in
+          inl (record {
+            before = y .before;
+            is = ap messageOf (sym (List·getD-append (s .messages) (bs ∷ []) [] (y .before) (omega arith))) ∙ y .is;
+            mask = y .mask;
+            count = y .count;
+            told = h;
+          })
+      go (inr h) = elim (List·Memᴰ·cases-cons (subst (λ (q : List Report). List·Memᴰ (answer (suc (y .before)) 0 (y .mask) (y .count)) q) is h)) [
+        | inl q ↦
+            let n = same-number q in
+            let b : length (s .messages) ≡ y .before = (let i = n .0 in let c = a .count in omega arith) in
+            let m=bs = ap messageOf (sym (getD-at (s .messages) bs [] [] (y .before) b)) ∙ y .is in
+            inr (subst (λ (q : List Message). List·Memᴰ m q) (sym (brings (sym (n .1)))) (List·Memᴰ·head (sym m=bs)))
+        | inr q ↦ absurd (no-answer _ _ _ _ es plain q)
       ]
 
-  told-by : (j y m c : ℕ) → List·Memᴰ (answer j y m c) (rs ++ qs) → j ≤ suc n
-  told-by j y m c h = elim (List·Memᴰ·append-cases rs h) [
+  told-by : (j y m c : ℕ) → List·Memᴰ (answer j y m c) (s .reports ++ qs) → j ≤ suc (s .done)
+  told-by j y m c h = elim (List·Memᴰ·append-cases (s .reports) h) [
     | inl o ↦ let b = a .numbers j y m c o in omega arith
     | inr p ↦ elim (List·Memᴰ·cases-cons (subst (λ (q : List Report). List·Memᴰ (answer j y m c) q) is p)) [
       | inl q ↦ let b = same-number q .0 in omega arith
@@ -247,24 +231,25 @@ module _ {v u w : Venue} {n : ℕ} {ds : List (List ℕ)} {rs qs : List Report} 
     ]
   ]
 
-  pub advance : Account w (suc n) (ds ++ (bs ∷ [])) (rs ++ qs)
+  unnamed : (y : ℕ) → e .venue .last < y → Unnamed y (s .reports ++ qs)
+  unnamed y lt =
+      let l = t .later in
+      let i = last-is in
+      let b = a .above y (omega arith) in
+      let n = moved-above (t .fine₀ .good) (t .moved) y (omega arith) in
+      record {
+        contracts0 = λ r. rw (total-append (contracts y r) (s .reports) qs, b .contracts0 r, n .contracts0 r);
+        paired0 = rw (total-append (paired y) (s .reports) qs, b .paired0, n .paired0);
+        crossed0 = rw (total-append (crossedFor y) (s .reports) qs, b .crossed0, n .crossed0);
+        cancelled0 = rw (total-append (cancelledOf y) (s .reports) qs, b .cancelled0, n .cancelled0);
+      }
+
+  pub advance : Account (onto s bs e)
   advance = record {
-    fine = z .fine;
-    stand = z .stand;
-    tidy = z .tidy;
-    ranged = r;
-    count = simp length-append (let c = a .count in omega arith);
-    numbers = told-by;
+    invariant = unfold onto in invariant;
+    count = unfold onto in (simp length-append (let c = a .count in omega arith));
+    numbers = unfold onto in told-by;
     orders = λ o m. ⊎-elim (λ x. old-order o (a .orders o x)) (λ x. new-order o (t .orders o x)) (cases (Order o) m);
     complexes = λ c m. ⊎-elim (λ x. old-complex c (a .complexes c x)) (λ x. new-complex c (t .complexes c x)) (cases (TwoLeg c) m);
-    above = λ y lt.
-        (let l = t .later in let e = last-is in
-        let b = a .above y (omega arith) in
-        let n = moved-above (t .fine₀ .good) (t .moved) y (omega arith) in
-        record {
-          contracts0 = λ s. rw (total-append (contracts y s) rs qs, b .contracts0 s, n .contracts0 s);
-          paired0 = rw (total-append (paired y) rs qs, b .paired0, n .paired0);
-          crossed0 = rw (total-append (crossedFor y) rs qs, b .crossed0, n .crossed0);
-          cancelled0 = rw (total-append (cancelledOf y) rs qs, b .cancelled0, n .cancelled0);
-        });
+    above = unfold onto in unnamed;
   }

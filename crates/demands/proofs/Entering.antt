@@ -1,81 +1,36 @@
--- A regular order that meets the other side: its turns carry the invariant and the ledger.
-use mathlib.Core.Path.{_≡_, refl, sym, ap, _∙_, subst}
-use mathlib.Core.Bool.{Bool, true, false, false≢true}
+-- What an incoming regular order does: its turns, each a trade or a hit, carry the invariant. The one fact kept meanwhile is `Ready`: the
+-- legging order that it could hit can still be paid for.
+use mathlib.Core.Path.{_∙_, _≡_, ap, refl, subst, sym}
+use mathlib.Core.Bool.{Bool, false, false≢true, true}
 use mathlib.Core.Logic.{_≢_, _⊎_}
-use mathlib.Core.List.{List, [], _∷_}
-use Prim.Native.Nat.{ℕ, zero, suc, _≤_, _<_, min}
+use mathlib.Core.List.{List}
+use Prim.Native.Nat.{_<_, _≤_, min, ℕ}
 use native.Mathlib.Omega.{arith}
-use lib.ListN.{length, getD, set}
-use borrow.Author.Tests.{eqb-true, ne-eqb}
-use Rattle.rules.specs.declared.Regular.{Regular}
+use lib.ListN.{getD, length}
+use borrow.Author.Tests.{eqb-true}
 use Rattle.rules.specs.declared.Complex.{Complex}
 use Rattle.rules.specs.declared.Legging.{Legging}
+use Rattle.rules.specs.declared.Regular.{Regular}
 use Rattle.rules.specs.declared.Venue.{Venue}
-use Rattle.rules.specs.declared.Cause.the-variants.{Executed}
-use Rattle.rules.proofs.Tests.{and-l, and-r, held-pos, pos-held, and-false}
+use Rattle.rules.specs.Base.{held, if_then_else_, placeWhere}
+use Rattle.rules.specs.Words.{isComplexOf, leggingAt, noComplex, noLegging, noRegular, opposite, placeOf, regularAt}
+use Rattle.rules.specs.Effects.{repeat, report, turned}
+use Rattle.rules.specs.Prices.{bestRegular, bestSize, clearPrice, ownPrice, restsAt, sizeIn}
+use Rattle.rules.specs.Standing.{otherClear, otherLeg, parentOf}
+use Rattle.rules.specs.Trading.{fillRegular, tradeWith}
+use Rattle.rules.specs.Order.{hit, isMet, leggingFirst, meet, meetTurn}
+use Rattle.rules.proofs.Cases.{meetTurn-by}
+use Rattle.rules.proofs.Filling.{cx, lg, reg}
+use Rattle.rules.proofs.Finding.{leg-series}
+use Rattle.rules.proofs.Generating.{place-series}
+use Rattle.rules.proofs.Hitting.{Hits, hit-removes, hit-stays, hit-venue, hitting, hitting-complex, hitting-legging, moves-hit}
+use Rattle.rules.proofs.Moving.{Meets, moves-meet, other-same}
 use Rattle.rules.proofs.Picking.{At}
 use Rattle.rules.proofs.Settling.{clear-best}
-use Rattle.rules.proofs.Generating.{place-series}
-use Rattle.demands.proofs.Trades.{take-chain, chain-apart}
-use Rattle.demands.proofs.Ledger.{reg, cx}
-use Rattle.demands.proofs.Moves.{Meets, moves-meet, other-same, rests-held, rests-series, fill-complex}
-use Rattle.demands.proofs.Pairing.{Hits, moves-hit}
-use Rattle.demands.proofs.Good.{leg-series, lg, Home, Homes, homes-same, homes-fill-id, place-at, found, stay-of}
-use Rattle.demands.proofs.Turns.{Fine, Carries, TurnOk, repeat-carries, opposite-not}
-use Rattle.rules.proofs.Cases.{meetTurn-by}
-use Rattle.rules.specs.Base.{if_then_else_, held, placeWhere}
-use Rattle.rules.specs.Words.{opposite, noRegular, noComplex, noLegging, placeOf, leggingAt, withRegular, withComplex, withLegging, regularAt, isComplexOf}
-use Rattle.rules.specs.Effects.{report, _⟫_, turned, repeat}
-use Rattle.rules.specs.Prices.{restsAt, shown, showsAt, showsFor, bestIn, sizeIn, bestRegular, bestSize, ownPrice, clearPrice}
-use Rattle.rules.specs.Removal.{remove, removeOf}
-use Rattle.rules.specs.Standing.{otherLeg, otherClear, parentOf}
-use Rattle.rules.specs.Trading.{lessRegular, fillRegular, fillComplex, tradeWith, take, pairOff}
-use Rattle.rules.specs.Order.{meet, hit, leggingFirst, meetTurn, isMet}
-
--- Books of other series -----------------------------------------------------------------------
-
--- a place whose old and new order do not rest at a side leaves its best price and sizes as they were
-pub best-set : (t e : ℕ) (l : List Regular) (i : ℕ) (o : Regular) → showsAt t e (getD l i noRegular) ≡ false → showsAt t e o ≡ false →
-    bestIn t e (set l i o) ≡ bestIn t e l
-unfolding bestIn
-best-set t e [] i o a b = refl
-best-set t e (x ∷ l) zero o a b = rw (a, b)
-best-set t e (x ∷ l) (suc i) o a b = rw (best-set t e l i o a b)
-
-pub size-set : (t e p : ℕ) (l : List Regular) (i : ℕ) (o : Regular) → showsAt t e (getD l i noRegular) ≡ false → showsAt t e o ≡ false →
-    sizeIn t e p (set l i o) ≡ sizeIn t e p l
-unfolding sizeIn showsFor
-size-set t e p [] i o a b = refl
-size-set t e p (x ∷ l) zero o a b = rw (a, b)
-size-set t e p (x ∷ l) (suc i) o a b = rw (size-set t e p l i o a b)
-
-pub not-there : (t e : ℕ) (o : Regular) → o .series ≢ t → showsAt t e o ≡ false
-unfolding showsAt shown
-not-there t e o ne = simp (ne-eqb (o .series) t ne, and-false)
-
--- w has v's books of every series but s, v's complex and v's legging orders
-pub record Elsewhere (s : ℕ) (v w : Venue) : Type 0 where
-  pub best : (t e : ℕ) → s ≢ t → bestIn t e (w .regular) ≡ bestIn t e (v .regular)
-  pub size : (t e p : ℕ) → s ≢ t → sizeIn t e p (w .regular) ≡ sizeIn t e p (v .regular)
-  pub complex : w .complex ≡ v .complex
-  pub legging : w .legging ≡ v .legging
-
-pub fill-elsewhere : (i k s : ℕ) (v : Venue) → reg v i .series ≡ s → Elsewhere s v (fillRegular i k v)
-unfolding fillRegular withRegular regularAt lessRegular
-fill-elsewhere i k s v h = record {
-  best = λ t e ne. best-set t e (v .regular) i _ (not-there t e _ (λ x. ne (sym h ∙ x))) (not-there t e _ (λ x. ne (sym h ∙ x)));
-  size = λ t e p ne. size-set t e p (v .regular) i _ (not-there t e _ (λ x. ne (sym h ∙ x))) (not-there t e _ (λ x. ne (sym h ∙ x)));
-  complex = refl;
-  legging = refl;
-}
-
-elsewhere-trans : {s : ℕ} {u v w : Venue} → Elsewhere s u v → Elsewhere s v w → Elsewhere s u w
-elsewhere-trans a b = record {
-  best = λ t e ne. b .best t e ne ∙ a .best t e ne;
-  size = λ t e p ne. b .size t e p ne ∙ a .size t e p ne;
-  complex = b .complex ∙ a .complex;
-  legging = b .legging ∙ a .legging;
-}
+use Rattle.rules.proofs.Sizes.{Elsewhere, elsewhere-trans, fill-elsewhere, rests-held, rests-series}
+use Rattle.rules.proofs.Tests.{and-l, and-r, held-pos, pos-held}
+use Rattle.demands.proofs.Carrying.{Carries, TurnOk, opposite-not, repeat-carries}
+use Rattle.demands.proofs.Homes.{Fine, Home, Homes, found, homes-pairOff, homes-same, place-at}
 
 -- The legging order that the order could hit --------------------------------------------------
 
@@ -194,12 +149,9 @@ module _ (i s d : ℕ) (v : Venue) (f : Fine v) (r : Ready i s d v) where
     at-series : (o .series ≡ cx v j .series1) ⊎ (o .series ≡ cx v j .series2)
     at-series = rw (r .series) (rw (place-series s (opposite d) (r .small)) at (leg-series (cx v j) _ _ (home .leg)))
 
-    abbrev Paid : Complex → Type 0
-    Paid c = l .quantity ≤ sizeIn (otherLeg c s .series) (opposite (otherLeg c s .side)) (clearPrice v (otherLeg c s .series) (opposite (otherLeg c s .side))) (v .regular)
-
-    paid : Paid (cx v j)
-    unfolding bestSize
-    paid = let p = r .pays hl in subst Paid parent-is (rw (clear-best v _ _ (p .clear)) (p .size))
+    paid : l .quantity ≤ sizeIn (otherLeg (parentOf v l) s .series) (opposite (otherLeg (parentOf v l) s .side)) (otherClear v (parentOf v l) s) (v .regular)
+    unfolding bestSize otherClear
+    paid = let p = r .pays hl in rw (clear-best v _ _ (p .clear)) (p .size)
 
     hits : Hits v i j k l
     hits =
@@ -218,51 +170,20 @@ module _ (i s d : ℕ) (v : Venue) (f : Fine v) (r : Ready i s d v) where
           size = rw (r .series) (let z = paid in omega arith);
         }
 
-    -- the venue as the parent is filled and its legging orders go
-    abbrev par : Complex
-    par = parentOf v l
-
-    abbrev t : ℕ
-    t = otherLeg par (o .series) .series
-
-    abbrev e : ℕ
-    e = otherLeg par (o .series) .side
-
-    abbrev W : Venue
-    W = take k (par .id) t e (clearPrice v t (opposite e)) k (fillRegular i k v) .venue
-
-    fill-legging : fillRegular i k v .legging ≡ v .legging
-    unfolding fillRegular withRegular
-    fill-legging = refl
-
-    sameC : W .complex ≡ v .complex
-    sameC = chain-apart (take-chain (par .id) t e (clearPrice v t (opposite e)) k k (fillRegular i k v)) .complex ∙ fill-complex i k v
-
-    sameL : W .legging ≡ v .legging
-    sameL = chain-apart (take-chain (par .id) t e (clearPrice v t (opposite e)) k k (fillRegular i k v)) .legging ∙ fill-legging
-
-    hit-venue : hit i l k v .venue ≡ removeOf (par .id) Executed (fillComplex (placeWhere (isComplexOf (par .id)) (W .complex)) k W) .venue
-    unfolding hit pairOff report _⟫_ otherClear regularAt
-    hit-venue = refl
-
-    place-W : placeWhere (isComplexOf (par .id)) (W .complex) ≡ j
-    place-W = rw (sameC, parent-is) (place-at v (f .good) j (home .fits) holdsC)
-
     hit-homes : Homes (hit i l k v .venue)
     hit-homes =
-        rw (hit-venue, place-W)
-        (homes-fill-id j k Executed W (par .id) (ap (λ (c : Complex). c .id) parent-is ∙ ap (λ (x : List Complex). getD x j noComplex .id) (sym sameC)) (homes-same sameC sameL (f .homes)))
+        rw (hit-venue v i k l, place-then) (homes-pairOff j _ _ k (hitting v i k l)
+        (ap (λ (c : Complex). c .id) parent-is ∙ ap (λ (x : List Complex). getD x j noComplex .id) (sym (hitting-complex v i k l)))
+        (homes-same (hitting-complex v i k l) (hitting-legging v i k l) (f .homes)))
+      where
+        place-then : placeWhere (isComplexOf (parentOf v l .id)) (hitting v i k l .complex) ≡ j
+        place-then = rw (hitting-complex v i k l, parent-is) (place-at v (f .good) j (home .fits) holdsC)
 
     -- its place is free afterwards
-    gone : (J : ℕ) → held (lg (removeOf (par .id) Executed (fillComplex J k W) .venue) (placeOf s (opposite d)) .quantity) ≡ true → ⊥
-    unfolding removeOf remove withLegging fillComplex withComplex
-    gone J q =
-        let z = stay-of (par .id) Executed 0 (W .legging) (placeOf s (opposite d)) q in
-        z .1 (ap (λ (x : Legging). x .parent) (z .0 ∙ ap (λ (x : List Legging). getD x (placeOf s (opposite d)) noLegging) sameL)
-        ∙ sym (home .id) ∙ ap (λ (c : Complex). c .id) (sym parent-is))
-
     emptied : held (lg (hit i l k v .venue) (placeOf s (opposite d)) .quantity) ≡ true → ⊥
-    emptied q = gone _ (rw hit-venue at q)
+    emptied q =
+        hit-removes v i k l (placeOf s (opposite d)) q
+        (ap (λ (x : Legging). x .parent) (hit-stays v i k l (placeOf s (opposite d)) q) ∙ sym (home .id) ∙ ap (λ (c : Complex). c .id) (sym parent-is))
 
     pub carries-hit : Carries v (hit i l k v) × Ready i s d (hit i l k v .venue)
     carries-hit =

@@ -1,48 +1,37 @@
 -- Soundness as tests, and place by place: each gives the other.
-use mathlib.Core.Path.{_≡_, refl, sym, ap, _∙_, subst}
-use mathlib.Core.Bool.{Bool, true, false, not, _&&_, _||_, true≢false, false≢true}
-use mathlib.Core.Logic.{inl, inr}
+use mathlib.Core.Path.{_∙_, _≡_, ap, refl, subst, sym}
+use mathlib.Core.Bool.{Bool, _&&_, _||_, false, false≢true, not, true, true≢false}
 use mathlib.Core.List.{List, [], _∷_}
-use Prim.Native.Nat.{ℕ, zero, suc, _+_, _<_, _/_, _%_}
+use Prim.Native.Nat.{_%_, _+_, _/_, _<_, suc, zero, ℕ}
+use native.Mathlib.Nat.{add-suc, add-zero, suc-add, zero-add}
 use native.Mathlib.Omega.{arith}
-use native.Mathlib.Nat.{add-zero, add-suc, suc-add, zero-add}
 use lib.Dec.{eqb, leb}
 use lib.IntN.{natAbs}
-use lib.ListN.{length, getD}
-use borrow.Author.Tests.{leb-true, le-leb, eqb-true, eqb-false, eq-eqb, not-true}
-use Rattle.rules.specs.declared.Regular.{Regular}
+use lib.ListN.{getD}
+use borrow.Author.Tests.{eqb-false, eqb-true, le-leb, leb-true, not-true}
 use Rattle.rules.specs.declared.Complex.{Complex}
 use Rattle.rules.specs.declared.Legging.{Legging}
+use Rattle.rules.specs.declared.Regular.{Regular}
 use Rattle.rules.specs.declared.Venue.{Venue}
 use Rattle.rules.specs.declared.Verdict.the-variants.{Stands}
+use Rattle.rules.specs.Base.{all, held, if_then_else_}
+use Rattle.rules.specs.Words.{isAway, isId, isPrice, isQuantity, isStatus, noComplex, noLegging, noRegular, notListed, within}
+use Rattle.rules.specs.Standing.{findComplex, hasLeg, parentOf, stands, verdict}
+use Rattle.rules.specs.Complex.{restsComplex}
+use Rattle.rules.specs.Places.{blankComplex, blankLegging, blankRegular, holdsComplex, holdsRegular}
+use Rattle.rules.specs.Refusals.{complexInRange, regularInRange}
+use Rattle.rules.specs.Sound.{apart, complexesSound, idsDistinct, leggingSound, leggingsSound, listedInRange, regularsSound, sound}
 use Rattle.demands.specs.Kept.{Shaped, SoundVenue}
-use Rattle.rules.proofs.Tests.{and-l, and-r, and-in, held-pos, pos-held}
-use Rattle.rules.proofs.Integers.{abs-is}
-use Rattle.rules.proofs.Arranging.{blank-free, blank-freeC, all-at, all-in, Arranged, arranged-out, arranged-in}
-use Rattle.rules.proofs.Settling.{free-stands}
+use Rattle.rules.proofs.Arranging.{Arranged, all-at, all-in, arranged-in, arranged-out, blank-free, blank-freeC}
+use Rattle.rules.proofs.Filling.{cx, lg, reg}
+use Rattle.rules.proofs.Finding.{LegOf, find-at, leg-in, leg-out, rests-in, rests-out}
 use Rattle.rules.proofs.Generating.{AllStand, is-stands}
-use Rattle.demands.proofs.Ledger.{reg, cx}
-use Rattle.demands.proofs.Good.{lg, InRange, LegOf, Home, held-fitsC}
-use Rattle.demands.proofs.Turns.{Fine}
-use Rattle.demands.proofs.Closed.{Tidy}
-use Rattle.demands.proofs.Widths.{Ranged, RegFits, CxFits, LgFits, order-fits, complex-fits}
-use Rattle.demands.proofs.Apartness.{Uncrossed, apart-in, apart-out}
-use Rattle.demands.proofs.Admit.{where-passes, parent-found}
-use Rattle.rules.specs.Base.{if_then_else_, held, placeWhere, all}
-use Rattle.rules.specs.Words.{noRegular, noComplex, noLegging, notListed, within, isId, isStatus, isAway, isQuantity, isPrice, complexAt, isComplexOf}
-use Rattle.rules.specs.Standing.{findComplex, parentOf, verdict, stands, hasLeg}
-use Rattle.rules.specs.Complex.{restsComplex, complexPlace}
-use Rattle.rules.specs.Places.{holdsRegular, holdsComplex, blankRegular, blankComplex, blankLegging}
-use Rattle.rules.specs.Refusals.{regularInRange, complexInRange}
-use Rattle.rules.specs.Sound.{apart, listedInRange, leggingSound, leggingsSound, regularsSound, complexesSound, idsDistinct, sound}
-
--- place by place
-pub record Invariant (v : Venue) : Type 0 where
-  pub fine : Fine v
-  pub stand : AllStand v
-  pub tidy : Tidy v
-  pub ranged : Ranged v
-  pub uncrossed : Uncrossed v
+use Rattle.rules.proofs.Integers.{abs-is}
+use Rattle.rules.proofs.Settling.{free-stands}
+use Rattle.rules.proofs.Tests.{and-in, and-l, and-r, held-pos, pos-held}
+use Rattle.rules.proofs.Widths.{CxFits, LgFits, Ranged, RegFits, complex-fits, order-fits}
+use Rattle.demands.proofs.Homes.{Home, InRange, Invariant, parent-found}
+use Rattle.demands.proofs.Uncrossed.{apart-in, apart-out}
 
 -- Blank places --------------------------------------------------------------------------------
 
@@ -118,69 +107,6 @@ range-of c z =
     let f = complex-fits c z in
     let g : not (eqb (c .series1) (c .series2)) ≡ true = search (and-l, and-r, z) depth 12 in
     record { side1 = f .side1; side2 = f .side2; series1 = f .series1; series2 = f .series2; apart = eqb-false (c .series1) (c .series2) (not-true _ g) }
-
--- a place that passes a test: the first such is there
-where-fits : {A : Type 0} (d : A) (p : A → Bool) (l : List A) (j : ℕ) → j < length l → p (getD l j d) ≡ true → placeWhere p l < length l
-unfolding placeWhere
-where-fits d p [] j f h = absurd (omega arith)
-where-fits d p (x ∷ l) zero f h = rw h (omega arith)
-where-fits d p (x ∷ l) (suc j) f h = go (p x) (where-fits d p l j (omega arith) h)
-  where
-    go : (b : Bool) → placeWhere p l < length l → (if b then 0 else suc (placeWhere p l)) < suc (length l)
-    go true h = omega arith
-    go false h = omega arith
-
--- a resting complex order is found by its id, and what is found rests
-rests-in : (v : Venue) (j : ℕ) → held (cx v j .quantity) ≡ true → restsComplex v (cx v j .id) ≡ true
-unfolding restsComplex complexPlace complexAt
-rests-in v j h =
-    where-passes noComplex (isComplexOf (cx v j .id)) (v .complex)
-    (where-fits noComplex (isComplexOf (cx v j .id)) (v .complex) j (held-fitsC (v .complex) j h) (unfold isComplexOf in (rw (h, eq-eqb (cx v j .id) (cx v j .id) refl))))
-
-record Rests (v : Venue) (id : ℕ) : Type 0 where
-  at : ℕ
-  holds : held (cx v at .quantity) ≡ true
-  is : cx v at .id ≡ id
-
-rests-out : (v : Venue) (id : ℕ) → restsComplex v id ≡ true → Rests v id
-unfolding restsComplex complexPlace isComplexOf complexAt
-rests-out v id h =
-    let j = placeWhere (isComplexOf id) (v .complex) in
-    record { at = j; holds = and-l (held (cx v j .quantity)) (eqb (cx v j .id) id) h; is = eqb-true (cx v j .id) id (and-r (held (cx v j .quantity)) (eqb (cx v j .id) id) h) }
-
--- the parent that is found rests
-record Found (cs : List Complex) (id : ℕ) : Type 0 where
-  at : ℕ
-  fits : at < length cs
-  there : getD cs at noComplex ≡ findComplex id cs
-  is : findComplex id cs .id ≡ id
-
-find-at : (id : ℕ) (cs : List Complex) → held (findComplex id cs .quantity) ≡ true → Found cs id
-unfolding findComplex isComplexOf
-find-at id [] h = absurd (false≢true h)
-find-at id (c ∷ cs) h = go (held (c .quantity) && eqb (c .id) id) refl h (find-at id cs)
-  where
-    go : (b : Bool) → (held (c .quantity) && eqb (c .id) id) ≡ b → held ((if b then c else findComplex id cs) .quantity) ≡ true →
-        (held (findComplex id cs .quantity) ≡ true → Found cs id) → Found (c ∷ cs) id
-    go true e t ih = record { at = 0; fits = omega arith; there = rw e; is = rw e (eqb-true (c .id) id (and-r (held (c .quantity)) (eqb (c .id) id) e)) }
-    go false e t ih = let x = ih t in record { at = suc (x .at); fits = (let y = x .fits in omega arith); there = rw e (x .there); is = rw e (x .is) }
-
-leg-out : (c : Complex) (s d : ℕ) → hasLeg c s d ≡ true → LegOf c s d
-unfolding hasLeg
-leg-out c s d h = go (eqb (c .series1) s && eqb (c .side1) d) refl h
-  where
-    go : (b : Bool) → (eqb (c .series1) s && eqb (c .side1) d) ≡ b → (b || (eqb (c .series2) s && eqb (c .side2) d)) ≡ true → LegOf c s d
-    go true e x = inl (sym (eqb-true (c .series1) s (and-l _ (eqb (c .side1) d) e)), sym (eqb-true (c .side1) d (and-r (eqb (c .series1) s) _ e)))
-    go false e x = inr (sym (eqb-true (c .series2) s (and-l _ (eqb (c .side2) d) x)), sym (eqb-true (c .side2) d (and-r (eqb (c .series2) s) _ x)))
-
-pub leg-in : (c : Complex) (s d : ℕ) → LegOf c s d → hasLeg c s d ≡ true
-unfolding hasLeg
-leg-in c s d (inl h) = rw (eq-eqb (c .series1) s (sym (h .0)), eq-eqb (c .side1) d (sym (h .1)))
-leg-in c s d (inr h) = rw (eq-eqb (c .series2) s (sym (h .0)), eq-eqb (c .side2) d (sym (h .1))) (go (eqb (c .series1) s && eqb (c .side1) d))
-  where
-    go : (b : Bool) → (b || true) ≡ true
-    go true = refl
-    go false = refl
 
 -- of the legging order at a place
 leggings-at : (v : Venue) (n : ℕ) (ls : List Legging) → leggingsSound v n ls ≡ true → (i : ℕ) → leggingSound v (n + i) (getD ls i noLegging) ≡ true
@@ -262,6 +188,7 @@ module _ (v : Venue) (sh : Shaped v) (t : Tests v) where
     listed = all-at listedInRange notListed (v .series) listed-none (t .listed);
     last = leb-true (v .last) 4294967295 (t .last);
     len = sh .legging;
+    eight = sh .series;
   }
     where
       reg-fits : (i : ℕ) (b : Bool) → held (reg v i .quantity) ≡ b → RegFits (reg v i)
@@ -415,7 +342,7 @@ module _ (v : Venue) (k : Invariant v) where
 
   pub sound-in : SoundVenue v
   sound-in = record {
-    shaped = record { regular = k .fine .good .len1; complex = k .fine .good .len2; legging = k .fine .homes .len };
+    shaped = record { regular = k .fine .good .len1; complex = k .fine .good .len2; legging = k .fine .homes .len; series = k .ranged .eight };
     is = unfold sound in
         (and-in _ _ (and-in _ _ (and-in _ _ (and-in _ _ (and-in _ _ (and-in _ _ regulars-in complexes-in)
         (all-in listedInRange notListed (v .series) (k .ranged .listed)))

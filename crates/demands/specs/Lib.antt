@@ -1,6 +1,4 @@
--- Statements about the rules.
-pub mod Sums
-pub mod ReadsBack
-pub mod Ending
+-- The statements: Demand 3 (Demand), soundness is kept (Kept), the sheet reads back (ReadsBack).
 pub mod Demand
 pub mod Kept
+pub mod ReadsBack

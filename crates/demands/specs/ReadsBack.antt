@@ -1,13 +1,14 @@
--- The sheet reads back: a report memory gives the records written, and all that a step writes can be read so.
+-- The sheet reads back: a report memory gives the records written, and all that a message writes upon a sound venue can be read so.
 use mathlib.Core.Path.{_≡_}
 use mathlib.Core.List.{List}
-use Prim.Native.Nat.{ℕ, _≤_, _<_}
+use Prim.Native.Nat.{_<_, _≤_, ℕ}
 use lib.ListN.{length}
 use Rattle.rules.specs.declared.Venue.{Venue}
-use Rattle.demands.specs.Kept.{SoundVenue}
-use Rattle.rules.specs.Records.{Report, encodeAll, sheet, records, Fits, Each}
+use Rattle.rules.specs.Bytes.{bytes}
+use Rattle.rules.specs.Records.{Each, Fits, Report, encodeAll, records, sheet}
 use Rattle.rules.specs.Step.{step}
-use Rattle.rules.specs.Calls.{run, one}
+use Rattle.rules.specs.Calls.{one, run}
+use Rattle.demands.specs.Kept.{SoundVenue}
 
 -- "the sheet ends at the first zero length or at the end of the report memory": reading so gives back exactly the records written
 abbrev pub ReadsBack : Type 0

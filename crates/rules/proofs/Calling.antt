@@ -1,13 +1,13 @@
 -- One message and the two calls, by their cases; a call's records fit the report memory, whatever the venue and the bytes.
 use mathlib.Core.Path.{_≡_, refl}
-use mathlib.Core.Bool.{Bool, true, false, not}
+use mathlib.Core.Bool.{Bool, false, not, true}
 use mathlib.Core.Logic.{_≢_}
-use mathlib.Core.List.{List, [], _∷_, _++_}
-use Prim.Native.Nat.{ℕ, zero, suc, _+_, _-_, _≤_, _<_}
+use mathlib.Core.List.{List, [], _++_, _∷_}
+use Prim.Native.Nat.{_+_, _-_, _<_, _≤_, suc, zero, ℕ}
 use native.Mathlib.Omega.{arith}
 use lib.Dec.{eqb, ltb}
-use lib.ListN.{length, drop, length-append, length-replicate}
-use borrow.Author.Tests.{eqb-true, eqb-false, ltb-false}
+use lib.ListN.{drop, length, length-append, length-drop, length-replicate}
+use borrow.Author.Tests.{eqb-false, eqb-true, ltb-false, ne-eqb}
 use Rattle.rules.specs.declared.Venue.{Venue}
 use Rattle.rules.specs.Base.{if_then_else_}
 use Rattle.rules.specs.Words.{freshVenue}
@@ -15,12 +15,13 @@ use Rattle.rules.specs.Bytes.{lengthField}
 use Rattle.rules.specs.Messages.{messageOf}
 use Rattle.rules.specs.Records.{Report, encodeAll, sheet}
 use Rattle.rules.specs.Effects.{Effect, nothing}
-use Rattle.rules.specs.Refusals.{refusal}
-use Rattle.rules.specs.Step.{accept, Answered, step}
+use Rattle.rules.specs.Refusals.{full, refusal, torn}
+use Rattle.rules.specs.Step.{Answered, accept, answered, step}
 use Rattle.rules.specs.Sound.{sound}
-use Rattle.rules.specs.Calls.{Outcome, exceeds, ends, after, called, runFrom, run, oneFrom, one}
-use Rattle.rules.proofs.Tests.{or-false-l, or-false-r}
+use Rattle.rules.specs.Calls.{Outcome, after, called, ends, exceeds, one, oneFrom, run, runFrom}
 use Rattle.rules.proofs.Cases.{if-by}
+use Rattle.rules.proofs.Refusing.{not-torn, whole}
+use Rattle.rules.proofs.Tests.{or-false-l, or-false-r}
 
 -- one message: accepted, or refused and then nothing is done
 module _ {ℓ} (Q : Effect → Type ℓ) (v : Venue) (bs : List ℕ) where
@@ -124,3 +125,31 @@ run-memory room bs = sheet-length room _ (run-room (length bs) freshVenue 0 room
 pub one-memory : (v : Venue) (n room : ℕ) (bs : List ℕ) → length (one v n room bs .report) ≡ room
 unfolding one called
 one-memory v n room bs = sheet-length room _ (one-room v n room bs)
+
+-- The whole list ------------------------------------------------------------------------------
+
+-- the bytes left after some messages
+unfoldable pub left : (done : ℕ) → List ℕ → List ℕ
+left zero bs = bs
+left (suc done) bs = left done (drop (lengthField bs) bs)
+
+torn-not : (v : Venue) (n : ℕ) (bs : List ℕ) → step v (suc n) bs .refused ≢ 1 → torn bs ≡ false
+unfolding step answered
+torn-not v n bs h = not-torn v bs (ne-eqb (refusal v bs) 1 h)
+
+no-bytes : (bs : List ℕ) → length bs ≡ 0 → bs ≡ []
+no-bytes [] h = refl
+no-bytes (x ∷ bs) h = absurd (omega arith)
+
+run-ends : (fuel : ℕ) (v : Venue) (n room : ℕ) (bs : List ℕ) → length bs ≤ fuel → runFrom fuel v n room bs .number ≡ 0 → left (runFrom fuel v n room bs .done) bs ≡ []
+unfolding ends after left
+run-ends zero v n room bs le = unfold runFrom in (λ e. no-bytes bs (omega arith))
+run-ends (suc fuel) v n room bs le =
+    runFrom-by (λ r. r .number ≡ 0 → left (r .done) bs ≡ []) v n room bs fuel
+    (λ z _. no-bytes bs z) (λ _ h. absurd (omega arith)) (λ _ _ h. absurd (omega arith))
+    (λ _ t h. run-ends fuel _ (suc n) _ (drop (lengthField bs) bs) (simp length-drop (let z = whole bs (torn-not v n bs t) in omega arith)) h)
+
+-- the fuel of a run is enough: where its number is 0 it has done the whole list
+pub run-done : (room : ℕ) (bs : List ℕ) → run room bs .returned .number ≡ 0 → left (run room bs .returned .done) bs ≡ []
+unfolding run called
+run-done room bs h = run-ends (length bs) freshVenue 0 room bs (omega arith) h

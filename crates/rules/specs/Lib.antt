@@ -17,3 +17,4 @@ pub mod Refusals
 pub mod Step
 pub mod Sound
 pub mod Calls
+pub mod Sums

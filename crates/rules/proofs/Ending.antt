@@ -1,37 +1,37 @@
--- Each turn of a loop trades at least one contract of its order, so fuel for its quantity is enough.
-use mathlib.Core.Path.{_≡_, refl, sym, ap, _∙_}
-use mathlib.Core.Bool.{Bool, true, false, not, _&&_, _||_, true≢false, false≢true}
+-- The fuel of each loop is enough: each turn trades at least one contract of its order, so what document 01 goes on with "while" has come to
+-- its end. `after-matching`: after an order has met the other side nothing there reaches it. `after-crossing`: after crossing no order crosses with it.
+-- `after-legging-in`: after legging in the best prices no longer net. None of them asks anything of the venue.
+use mathlib.Core.Path.{_∙_, _≡_, ap, refl, subst, sym}
+use mathlib.Core.Bool.{Bool, _&&_, _||_, false, false≢true, not, true, true≢false}
 use mathlib.Core.List.{List, [], _∷_}
-use Prim.Native.Nat.{ℕ, zero, suc, _-_, _≤_, _<_, min}
+use Prim.Native.Nat.{_-_, _<_, _≤_, min, suc, zero, ℕ}
 use native.Mathlib.Omega.{arith}
 use lib.Dec.{eqb, ltb}
 use lib.ListN.{getD, set}
 use lib.Seq.{getD-set-same}
 use borrow.Author.Tests.{eqb-true, lt-ltb}
-use Rattle.rules.specs.declared.Regular.{Regular}
 use Rattle.rules.specs.declared.Complex.{Complex}
 use Rattle.rules.specs.declared.Legging.{Legging}
+use Rattle.rules.specs.declared.Regular.{Regular}
 use Rattle.rules.specs.declared.Venue.{Venue}
 use Rattle.rules.specs.declared.Verdict.{Verdict}
-use Rattle.rules.proofs.Tests.{and-l, and-r, held-pos, pos-held}
+use Rattle.rules.specs.Base.{held, if_then_else_, nobody}
+use Rattle.rules.specs.Words.{buy, complexAt, leggingAt, noComplex, noRegular, opposite, regularAt, withComplex, withLegging, withRegular}
+use Rattle.rules.specs.Effects.{Effect, Turn, _⟫_, ended, nothing, repeat, turned}
+use Rattle.rules.specs.Prices.{bestRegular, better, ownPrice, reaches, restsAt}
+use Rattle.rules.specs.Removal.{remove}
+use Rattle.rules.specs.Trading.{fillComplex, fillRegular, freeRegular, lessComplex, lessRegular, putRegular}
+use Rattle.rules.specs.Order.{enterRegular, hit, isMet, leggingFirst, meet, meetTurn}
+use Rattle.rules.specs.Complex.{anyClosed, cross, crossTurn, crosses, legIn, legInTurn, legsIn, touch, work}
 use Rattle.rules.proofs.Better.{is-false}
+use Rattle.rules.proofs.Cases.{crossTurn-by, if-by, meetTurn-by, repeat-by}
+use Rattle.rules.proofs.Filling.{cx, fill-fewer, fill-fewerC, held-fits, held-fitsC, reg}
+use Rattle.rules.proofs.Keeping.{Lasts, cross-from, hit-from, keeps-crossing, keeps-touch, meet-from}
+use Rattle.rules.proofs.Owning.{Own, byLegging, byRegular, own-is}
+use Rattle.rules.proofs.Pairing.{legIn-filled}
 use Rattle.rules.proofs.Picking.{At, Chosen}
-use Rattle.demands.specs.Ending.{Own, regular, legging, Matched, Crossed, LeggedIn}
-use Rattle.demands.proofs.Ledger.{reg, cx}
-use Rattle.demands.proofs.Trades.{fill-fewer, take-chain, chain-apart}
-use Rattle.demands.proofs.Books.{fill-fewerC}
-use Rattle.demands.proofs.Good.{held-fits, held-fitsC}
-use Rattle.demands.proofs.Best.{best-some}
-use Rattle.demands.proofs.Keeping.{meet-from, hit-from, cross-from, keeps-touch, keeps-crossing}
-use Rattle.rules.proofs.Cases.{meetTurn-by, crossTurn-by}
-use Rattle.rules.specs.Base.{if_then_else_, held, nobody}
-use Rattle.rules.specs.Words.{buy, opposite, noRegular, noComplex, withRegular, withComplex, withLegging, leggingAt, regularAt, complexAt}
-use Rattle.rules.specs.Effects.{Effect, nothing, report, _⟫_, Turn, ended, turned, repeat}
-use Rattle.rules.specs.Prices.{better, restsAt, bestRegular, ownPrice, reaches}
-use Rattle.rules.specs.Removal.{remove, removeOf}
-use Rattle.rules.specs.Trading.{lessRegular, lessComplex, fillRegular, fillComplex, freeRegular, take, pairOff, putRegular}
-use Rattle.rules.specs.Order.{meet, hit, leggingFirst, meetTurn, enterRegular, isMet}
-use Rattle.rules.specs.Complex.{crosses, cross, crossTurn, touch, legsIn, legIn, legInTurn, work}
+use Rattle.rules.proofs.Sizes.{best-some}
+use Rattle.rules.proofs.Tests.{and-l, and-r, held-pos, pos-held}
 
 -- Loops ---------------------------------------------------------------------------------------
 
@@ -41,39 +41,49 @@ Smaller size v ended = Unit {0}
 Smaller size v (turned e) = size (e .venue) < size v
 
 repeat-ends : (size : Venue → ℕ) (turn : Venue → Turn) → ((v : Venue) → Smaller size v (turn v)) → (fuel : ℕ) (v : Venue) → size v ≤ fuel → turn (repeat fuel turn v .venue) ≡ ended
-unfolding repeat nothing _⟫_
-repeat-ends size turn ok zero v le = go (turn v) (ok v)
+unfolding nothing _⟫_
+repeat-ends size turn ok zero v le = unfold repeat in (go (turn v) (ok v))
   where
     go : (t : Turn) → Smaller size v t → t ≡ ended
     go ended k = refl
     go (turned e) k = absurd (omega arith)
-repeat-ends size turn ok (suc fuel) v le = go (turn v) refl (ok v) (repeat-ends size turn ok fuel)
-  where
-    go : (t : Turn) → turn v ≡ t → Smaller size v t → ((w : Venue) → size w ≤ fuel → turn (repeat fuel turn w .venue) ≡ ended) →
-        turn ((elim t as (λ _. Effect) [ ended ↦ nothing v | turned e ↦ e ⟫ repeat fuel turn ]) .venue) ≡ ended
-    go ended q k ih = q
-    go (turned e) q k ih = ih (e .venue) (omega arith)
+repeat-ends size turn ok (suc fuel) v le =
+    repeat-by (λ e. turn (e .venue) ≡ ended) fuel turn v (λ stop. stop)
+    (λ e is. let k = subst (Smaller size v) is (ok v) in repeat-ends size turn ok fuel (e .venue) (omega arith))
 
 turned-not : {e : Effect} {A : Type 0} → turned e ≡ ended → A
 turned-not h = let z : _≡_ {A = ℕ} 0 1 = cc in absurd (omega arith)
 
--- Matching ------------------------------------------------------------------------------------
+-- a size that no fill and no removal makes greater
+record Shrinks (size : Venue → ℕ) : Type 0 where
+  fillR : (j k : ℕ) (v : Venue) → size (fillRegular j k v) ≤ size v
+  fillC : (j k : ℕ) (v : Venue) → size (fillComplex j k v) ≤ size v
+  gone : (f : ℕ → Legging → Verdict) (v : Venue) → size (remove f v .venue) ≤ size v
+
+-- stays at most n
+few : {size : Venue → ℕ} → Shrinks size → (n : ℕ) → Lasts (λ v. size v ≤ n)
+few s n = record {
+  fillR = λ j k v h. (let z = s .fillR j k v in omega arith);
+  fillC = λ j k v h. (let z = s .fillC j k v in omega arith);
+  gone = λ f v h. (let z = s .gone f v in omega arith);
+}
 
 -- what the order at place i has open
-module _ (i n : ℕ) where
-  abbrev Few : Venue → Type 0
-  Few w = reg w i .quantity ≤ n
+shrinks-regular : (i : ℕ) → Shrinks (λ v. reg v i .quantity)
+shrinks-regular i = record {
+  fillR = λ j k v. fill-fewer j k v .lesser i .quantity;
+  fillC = λ j k v. unfold fillComplex withComplex in (omega arith);
+  gone = λ f v. unfold remove withLegging in (omega arith);
+}
 
-  few-fill : (j k : ℕ) (v : Venue) → Few v → Few (fillRegular j k v)
-  few-fill j k v h = let z = fill-fewer j k v .lesser i .quantity in omega arith
+shrinks-complex : (i : ℕ) → Shrinks (λ v. cx v i .quantity)
+shrinks-complex i = record {
+  fillR = λ j k v. unfold fillRegular withRegular in (omega arith);
+  fillC = λ j k v. fill-fewerC j k v .lesser i .quantity;
+  gone = λ f v. unfold remove withLegging in (omega arith);
+}
 
-  few-fillC : (j k : ℕ) (v : Venue) → Few v → Few (fillComplex j k v)
-  unfolding fillComplex withComplex
-  few-fillC j k v h = h
-
-  few-gone : (f : ℕ → Legging → Verdict) (v : Venue) → Few v → Few (remove f v .venue)
-  unfolding remove withLegging
-  few-gone f v h = h
+-- Matching ------------------------------------------------------------------------------------
 
 filled : (i k : ℕ) (v : Venue) → held (reg v i .quantity) ≡ true → reg (fillRegular i k v) i .quantity ≡ reg v i .quantity - k
 unfolding fillRegular withRegular regularAt lessRegular
@@ -102,7 +112,7 @@ meetTurn-less i v = meetTurn-by (Smaller (λ w. reg w i .quantity) v) i v (λ _.
     hitting : held q ≡ true → 0 < l .quantity → reg (hit i l (min q (l .quantity)) v .venue) i .quantity < q
     hitting h p =
         let k = min q (l .quantity) in
-        let x = hit-from (Few i (q - k)) (few-fill i (q - k)) (few-fillC i (q - k)) (few-gone i (q - k)) i l k v (rw (filled i k v h) (omega arith)) in
+        let x = hit-from (few (shrinks-regular i) (q - k)) i l k v (rw (filled i k v h) (omega arith)) in
         let y = less (l .quantity) h p in
         omega arith
 
@@ -112,13 +122,9 @@ meetTurn-less i v = meetTurn-by (Smaller (λ w. reg w i .quantity) v) i v (λ _.
         let z = a .is in
         let p = held-pos (m .quantity) (unfold isMet restsAt in (search (and-l, and-r, z) depth 8)) in
         let k = min q (m .quantity) in
-        let x = meet-from (Few i (q - k)) (few-fill i (q - k)) (few-fillC i (q - k)) (few-gone i (q - k)) i j k v (rw (filled i k v h) (omega arith)) in
+        let x = meet-from (few (shrinks-regular i) (q - k)) i j k v (rw (filled i k v h) (omega arith)) in
         let y = less (m .quantity) h p in
         omega arith
-
-pub own-is : (l : Legging) (p : ℕ) → held (l .quantity) ≡ true → l .price ≡ p → ownPrice l ≡ p
-unfolding ownPrice
-own-is l p h e = rw h e
 
 -- where the turn has nothing to do, nothing on the other side reaches the order
 module _ (i : ℕ) (w : Venue) where
@@ -158,21 +164,21 @@ module _ (i : ℕ) (w : Venue) where
 
   pub none-reaches : meetTurn i w ≡ ended → (s d p : ℕ) → restsAt s d o ≡ true → 0 < p → Own w s (opposite d) p → reaches d (o .price) p ≡ false
   unfolding isMet restsAt regularAt
-  none-reaches e s d p r pos own =
+  none-reaches e s d p r some own =
       let h : held (o .quantity) ≡ true = search (and-l, and-r, r) in
       let es = eqb-true (o .series) s (search (and-l, and-r, r)) in
       let ed = eqb-true (o .side) d (search (and-l, and-r, r)) in
       go es ed (alone h e) own
     where
       go : o .series ≡ s → o .side ≡ d → Alone → Own w s (opposite d) p → reaches d (o .price) p ≡ false
-      go es ed a (regular j t q) =
+      go es ed a (byRegular j t q) =
           let x : restsAt (o .series) (opposite (o .side)) (reg w j) ≡ true = rw (es, ed) t in
           let f = a .regulars j (held-fits (w .regular) j (search (and-l, and-r, t))) in
           rw (ed, q) at (and-second _ _ x f)
-      go es ed a (legging t q) =
+      go es ed a (byLegging t q) =
           let m : leggingAt w s (opposite d) ≡ l = rw (es, ed) in
           let own : ownPrice l ≡ p = rw (← m) (own-is (leggingAt w s (opposite d)) p t q) in
-          let x = pos-held p pos in
+          let x = pos-held p some in
           rw ed at (legging-first p own x (a .none))
 
 -- the order as it was given its place
@@ -187,26 +193,15 @@ matching-ends o v =
     repeat-ends (λ w. reg w (freeRegular v) .quantity) (meetTurn (freeRegular v)) (meetTurn-less (freeRegular v)) (o .quantity) _
     (unfold withRegular in (put-small (v .regular) (freeRegular v) o))
 
-pub matched : Matched
+-- "It meets the other side while prices cross or are equal": after that no own price of the other side reaches what is left of it
+pub after-matching : (o : Regular) (v : Venue) (s d p : ℕ) →
+    let i = freeRegular v in
+    let w = enterRegular o v .venue in
+    restsAt s d (regularAt w i) ≡ true → 0 < p → Own w s (opposite d) p → reaches d (regularAt w i .price) p ≡ false
 unfolding regularAt
-matched o v s d p r pos own = none-reaches (freeRegular v) (enterRegular o v .venue) (matching-ends o v) s d p r pos own
+after-matching o v s d p r some own = none-reaches (freeRegular v) (enterRegular o v .venue) (matching-ends o v) s d p r some own
 
 -- Crossing ------------------------------------------------------------------------------------
-
-module _ (i n : ℕ) where
-  abbrev FewC : Venue → Type 0
-  FewC w = cx w i .quantity ≤ n
-
-  fewC-fill : (j k : ℕ) (v : Venue) → FewC v → FewC (fillRegular j k v)
-  unfolding fillRegular withRegular
-  fewC-fill j k v h = h
-
-  fewC-fillC : (j k : ℕ) (v : Venue) → FewC v → FewC (fillComplex j k v)
-  fewC-fillC j k v h = let z = fill-fewerC j k v .lesser i .quantity in omega arith
-
-  fewC-gone : (f : ℕ → Legging → Verdict) (v : Venue) → FewC v → FewC (remove f v .venue)
-  unfolding remove withLegging
-  fewC-gone f v h = h
 
 filledC : (i k : ℕ) (v : Venue) → held (cx v i .quantity) ≡ true → cx (fillComplex i k v) i .quantity ≡ cx v i .quantity - k
 unfolding fillComplex withComplex complexAt lessComplex
@@ -228,7 +223,7 @@ crossTurn-less i v = crossTurn-by (Smaller (λ w. cx w i .quantity) v) i v (λ _
         let p = held-pos (m .quantity) (crosses-held v (cx v i) m (a .is)) in
         let p′ = held-pos q h in
         let k = min q (m .quantity) in
-        let x = cross-from (FewC i (q - k)) (fewC-fill i (q - k)) (fewC-fillC i (q - k)) (fewC-gone i (q - k)) i j k v (rw (filledC i k v h) (omega arith)) in
+        let x = cross-from (few (shrinks-complex i) (q - k)) i j k v (rw (filledC i k v h) (omega arith)) in
         omega arith
 
 pub crossing-ends : (i fuel : ℕ) (v : Venue) → cx v i .quantity ≤ fuel → crossTurn i (repeat fuel (crossTurn i) v .venue) ≡ ended
@@ -241,73 +236,56 @@ none-crosses i j w e h =
     (λ _ a _. is-false _ (λ z. true≢false (sym z ∙ a j (held-fitsC (w .complex) j (crosses-held w (cx w i) (cx w j) z)))))
     (λ _ _ _ _ e. turned-not e) e
 
-pub crossed : Crossed
+-- "First cross … repeat": after that nothing is open, or no resting order crosses with it
+pub after-crossing : (i j : ℕ) (v : Venue) →
+    let w = repeat (complexAt v i .quantity) (crossTurn i) v .venue in
+    held (complexAt w i .quantity) ≡ true → crosses w (complexAt w i) (complexAt w j) ≡ false
 unfolding complexAt
-crossed i j v h = none-crosses i j _ (crossing-ends i (cx v i .quantity) v (omega arith)) h
+after-crossing i j v h = none-crosses i j _ (crossing-ends i (cx v i .quantity) v (omega arith)) h
 
 -- Legging in ----------------------------------------------------------------------------------
 
--- the trades leave the complex orders as they are
-leg-complex : (i a b k : ℕ) (v : Venue) → held (cx v i .quantity) ≡ true → cx (legIn i a b k v .venue) i .quantity ≡ cx v i .quantity - k
-unfolding legIn pairOff report _⟫_ removeOf remove withLegging complexAt
-leg-complex i a b k v h =
-    filledC′ (take k (c .id) (c .series2) (c .side2) b k (take k (c .id) (c .series1) (c .side1) a k v .venue) .venue)
-    (chain-apart (take-chain (c .id) (c .series2) (c .side2) b k k _) .complex ∙ chain-apart (take-chain (c .id) (c .series1) (c .side1) a k k v) .complex)
-  where
-    c : Complex
-    c = cx v i
+leg-less : (i a b k : ℕ) (v : Venue) → held (cx v i .quantity) ≡ true → cx (legIn i a b k v .venue) i .quantity ≡ cx v i .quantity - k
+leg-less i a b k v h = ap (λ (l : List Complex). getD l i noComplex .quantity) (legIn-filled v i a b k) ∙ filledC i k v h
 
-    filledC′ : (w : Venue) → w .complex ≡ v .complex → cx (fillComplex i k w) i .quantity ≡ cx v i .quantity - k
-    filledC′ w e =
-        let s = ap (λ (x : List Complex). getD x i noComplex .quantity) e in
-        filledC i k w (rw s h) ∙ ap (λ (n : ℕ). n - k) s
+legs-facts : (v : Venue) (c : Complex) (a b : ℕ) → legsIn v c a b ≡ true → (held (c .quantity) ≡ true) × (held a ≡ true) × (held b ≡ true)
+unfolding legsIn
+legs-facts v c a b e = (search (and-l, and-r, e) depth 8, search (and-l, and-r, e) depth 8, search (and-l, and-r, e) depth 8)
 
 legInTurn-less : (i : ℕ) (v : Venue) → Smaller (λ w. cx w i .quantity) v (legInTurn i v)
 unfolding legInTurn complexAt
-legInTurn-less i v = go _ _ _ _ (best-some v s1 d1) (best-some v s2 d2) (legsIn v (cx v i) _ _) refl
-  where
-    s1 : ℕ
-    s1 = cx v i .series1
-
-    d1 : ℕ
-    d1 = opposite (cx v i .side1)
-
-    s2 : ℕ
-    s2 = cx v i .series2
-
-    d2 : ℕ
-    d2 = opposite (cx v i .side2)
-
-    q : ℕ
-    q = cx v i .quantity
-
-    go : (a b m n : ℕ) → (held a ≡ true → 0 < m) → (held b ≡ true → 0 < n) → (t : Bool) → legsIn v (cx v i) a b ≡ t →
-        Smaller (λ w. cx w i .quantity) v (if t then turned (legIn i a b (min q (min m n)) v) else ended)
-    go a b m n f g false e = tt
-    go a b m n f g true e =
-        let h : held q ≡ true = unfold legsIn in (search (and-l, and-r, e) depth 8) in
-        let x = f (unfold legsIn in (search (and-l, and-r, e) depth 8)) in
-        let y = g (unfold legsIn in (search (and-l, and-r, e) depth 8)) in
-        let z = held-pos q h in
-        rw (leg-complex i a b (min q (min m n)) v h) (omega arith)
+legInTurn-less i v =
+    let c = cx v i in
+    if-by (Smaller (λ w. cx w i .quantity) v) (legsIn v c _ _)
+    (λ e.
+    let f = legs-facts v c _ _ e in
+    let x = best-some v (c .series1) (opposite (c .side1)) (f .1) in
+    let y = best-some v (c .series2) (opposite (c .side2)) (f .2) in
+    let z = held-pos (c .quantity) (f .0) in
+    rw (leg-less i _ _ _ v (f .0)) (omega arith))
+    (λ _. tt)
 
 none-legs : (i : ℕ) (w : Venue) → legInTurn i w ≡ ended →
     legsIn w (cx w i) (bestRegular w (cx w i .series1) (opposite (cx w i .side1))) (bestRegular w (cx w i .series2) (opposite (cx w i .side2))) ≡ false
 unfolding legInTurn complexAt
-none-legs i w e = go (legsIn w (cx w i) _ _) _ e
-  where
-    go : (t : Bool) (x : Effect) → (if t then turned x else ended) ≡ ended → t ≡ false
-    go true x h = turned-not h
-    go false x h = refl
+none-legs i w =
+    let c = cx w i in
+    let a = bestRegular w (c .series1) (opposite (c .side1)) in
+    let b = bestRegular w (c .series2) (opposite (c .side2)) in
+    if-by (λ t. t ≡ ended → legsIn w c a b ≡ false) (legsIn w c a b) (λ _ e. turned-not e) (λ f _. f)
 
-pub leggedIn : LeggedIn
+-- "Then leg in: while best regular prices net ≤ N and in band": after that nothing is open, or they no longer do
+pub after-legging-in : (i : ℕ) (v : Venue) → anyClosed v (complexAt v i) ≡ false →
+    let w = work i v .venue in
+    let c = complexAt w i in
+    legsIn w c (bestRegular w (c .series1) (opposite (c .side1))) (bestRegular w (c .series2) (opposite (c .side2))) ≡ false
 unfolding work complexAt _⟫_
-leggedIn i v h = rw h (none-legs i _ (repeat-ends (λ w. cx w i .quantity) (legInTurn i) (legInTurn-less i) n _ few))
+after-legging-in i v h = rw h (none-legs i _ (repeat-ends (λ w. cx w i .quantity) (legInTurn i) (legInTurn-less i) n _ small))
   where
     n : ℕ
     n = cx v i .quantity
 
-    few : cx (touch i (repeat n (crossTurn i) v .venue) .venue) i .quantity ≤ n
-    few =
-        keeps-touch (FewC i n) (fewC-fill i n) (fewC-fillC i n) (fewC-gone i n) i _
-        (keeps-crossing (FewC i n) (fewC-fill i n) (fewC-fillC i n) (fewC-gone i n) i n v (omega arith))
+    small : cx (touch i (repeat n (crossTurn i) v .venue) .venue) i .quantity ≤ n
+    small =
+        keeps-touch (few (shrinks-complex i) n) i _
+        (keeps-crossing (few (shrinks-complex i) n) i n v (omega arith))

@@ -1,39 +1,35 @@
--- The turns of a complex order carry the invariant and the ledger.
-use mathlib.Core.Path.{_≡_, refl, sym, ap, _∙_, subst}
-use mathlib.Core.Bool.{true, _&&_, _||_, false≢true}
+-- `Carries v e`: the effect e upon v moves the ledger and keeps the invariant. Here for what a complex order does: cross, touch, leg in.
+use mathlib.Core.Path.{_∙_, _≡_, ap, refl, subst, sym}
+use mathlib.Core.Bool.{_&&_, _||_, false≢true, true}
 use mathlib.Core.Logic.{_≢_}
 use mathlib.Core.List.{List}
-use Prim.Native.Nat.{ℕ, zero, suc, _<_, min}
+use Prim.Native.Nat.{_<_, min, suc, zero, ℕ}
 use native.Mathlib.Omega.{arith}
 use lib.Dec.{eqb}
 use lib.ListN.{getD}
 use borrow.Author.Tests.{eq-eqb, ne-eqb}
+use Rattle.rules.specs.declared.Cause.the-variants.{Executed}
 use Rattle.rules.specs.declared.Complex.{Complex}
 use Rattle.rules.specs.declared.Legging.{Legging}
 use Rattle.rules.specs.declared.Venue.{Venue}
-use Rattle.rules.specs.declared.Cause.the-variants.{Executed}
 use Rattle.rules.specs.declared.Verdict.{Verdict}
-use Rattle.rules.proofs.Tests.{and-l, and-r}
-use Rattle.rules.proofs.Picking.{At}
-use Rattle.demands.proofs.Trades.{take-chain, chain-apart}
-use Rattle.demands.proofs.Ledger.{cx}
-use Rattle.demands.proofs.Moves.{Moves, moves-then, moves-nothing, moves-remove, Crosses, moves-cross, other-sameC}
-use Rattle.demands.proofs.Pairing.{LegsIn, moves-legIn}
-use Rattle.demands.proofs.Good.{Good, good-kept, Homes, homes-remove, homes-same, homes-fill, homes-fill-id}
-use Rattle.rules.proofs.Cases.{if-by, repeat-by, crossTurn-by}
 use Rattle.rules.specs.Base.{held}
-use Rattle.rules.specs.Words.{opposite, noComplex, withComplex, withLegging, complexAt}
-use Rattle.rules.specs.Effects.{Effect, nothing, report, _⟫_, Turn, ended, turned, repeat}
+use Rattle.rules.specs.Words.{complexAt, noComplex, opposite, withComplex, withLegging}
+use Rattle.rules.specs.Bytes.{i32}
+use Rattle.rules.specs.Effects.{Effect, Turn, _⟫_, ended, nothing, repeat, report, turned}
 use Rattle.rules.specs.Prices.{bestRegular, bestSize}
 use Rattle.rules.specs.Removal.{remove, removeOf}
-use Rattle.rules.specs.Trading.{fillComplex, take, pairOff}
-use Rattle.rules.specs.Complex.{reversed, crosses, cross, crossTurn, touches, touch, legsIn, legIn, legInTurn, anyClosed, work}
-
--- Carrying ------------------------------------------------------------------------------------
-
-pub record Fine (v : Venue) : Type 0 where
-  pub good : Good v
-  pub homes : Homes v
+use Rattle.rules.specs.Standing.{settle, verdict}
+use Rattle.rules.specs.Trading.{fillComplex}
+use Rattle.rules.specs.Complex.{anyClosed, cross, crossTurn, crosses, legIn, legInTurn, legsIn, reversed, touch, touches, work}
+use Rattle.rules.proofs.Cases.{crossTurn-by, if-by, repeat-by}
+use Rattle.rules.proofs.Filling.{cx}
+use Rattle.rules.proofs.Ledger.{Moves, moves-nothing, moves-remove, moves-then}
+use Rattle.rules.proofs.Moving.{Crosses, moves-cross, other-sameC}
+use Rattle.rules.proofs.Pairing.{LegsIn, legIn-venue, legged, legged-complex, legged-legging, moves-legIn}
+use Rattle.rules.proofs.Picking.{At}
+use Rattle.rules.proofs.Tests.{and-l, and-r}
+use Rattle.demands.proofs.Homes.{Fine, Homes, good-kept, homes-fill, homes-pairOff, homes-remove, homes-same}
 
 pub record Carries (v : Venue) (e : Effect) : Type 0 where
   pub moves : Moves v e
@@ -52,6 +48,10 @@ carries-nothing v f = record { moves = moves-nothing v; homes = f .homes }
 
 pub carries-remove : (g : ℕ → Legging → Verdict) (v : Venue) → Fine v → Carries v (remove g v)
 carries-remove g v f = record { moves = moves-remove g v; homes = homes-remove g v (f .homes) }
+
+pub settle-carries : (v : Venue) → Fine v → Carries v (settle v)
+unfolding settle
+settle-carries v f = carries-remove (verdict v) v f
 
 -- Turns ---------------------------------------------------------------------------------------
 
@@ -85,9 +85,9 @@ module _ (i j k : ℕ) (v : Venue) (f : Fine v) (m : Crosses v i j k) where
   cross-homes : Homes (cross i j k v .venue)
   unfolding cross report _⟫_ removeOf remove withLegging fillComplex withComplex complexAt
   cross-homes =
-      homes-fill-id j k Executed (removeOf (cx v i .id) Executed (fillComplex i k v) .venue) (cx v j .id)
-      (ap (λ (c : Complex). c .id) (sym (other-sameC i j k v m)))
-      (homes-fill i k Executed v (f .homes))
+      subst (λ (id : ℕ). Homes (removeOf id Executed (fillComplex j k (removeOf (cx v i .id) Executed (fillComplex i k v) .venue)) .venue))
+      (ap (λ (c : Complex). c .id) (other-sameC i j k v m))
+      (homes-fill j k Executed (removeOf (cx v i .id) Executed (fillComplex i k v) .venue) (homes-fill i k Executed v (f .homes)))
 
   pub carries-cross : Carries v (cross i j k v)
   carries-cross = record { moves = moves-cross i j k v m; homes = cross-homes }
@@ -127,22 +127,12 @@ module _ (i : ℕ) (i32 : i < 32) where
 
   -- Leg in
   module _ (a b k : ℕ) (v : Venue) (f : Fine v) (m : LegsIn v i a b k) where
-    abbrev w : Venue
-    w = take k (cx v i .id) (cx v i .series2) (cx v i .side2) b k (take k (cx v i .id) (cx v i .series1) (cx v i .side1) a k v .venue) .venue
-
-    sameC : w .complex ≡ v .complex
-    sameC = chain-apart (take-chain (cx v i .id) (cx v i .series2) (cx v i .side2) b k k _) .complex
-        ∙ chain-apart (take-chain (cx v i .id) (cx v i .series1) (cx v i .side1) a k k v) .complex
-
-    sameL : w .legging ≡ v .legging
-    sameL = chain-apart (take-chain (cx v i .id) (cx v i .series2) (cx v i .side2) b k k _) .legging
-        ∙ chain-apart (take-chain (cx v i .id) (cx v i .series1) (cx v i .side1) a k k v) .legging
-
     pub carries-legIn : Carries v (legIn i a b k v)
-    unfolding legIn pairOff report _⟫_ complexAt
     carries-legIn = record {
       moves = moves-legIn v i a b k m;
-      homes = homes-fill-id i k Executed w (cx v i .id) (ap (λ (x : List Complex). getD x i noComplex .id) (sym sameC)) (homes-same sameC sameL (f .homes));
+      homes = rw (legIn-venue v i a b k) (homes-pairOff i _ _ k (legged v i a b k)
+          (ap (λ (l : List Complex). getD l i noComplex .id) (sym (legged-complex v i a b k)))
+          (homes-same (legged-complex v i a b k) (legged-legging v i a b k) (f .homes)));
     }
 
   pub legInTurn-ok : (v : Venue) → Fine v → Unit {0} → TurnOk (λ _. Unit {0}) v (legInTurn i v)

@@ -1,18 +1,20 @@
--- Sums over records and over resting orders: the words of Demand 3.
+-- Document 01, Demand 3: "The rest is summed from the records that name its id: contracts in a series from that series' 65, as taker or
+-- maker; pairs, or paired, from 66; crossed from 70, as taker or maker; cancelled from 71."
 use mathlib.Core.Bool.{_&&_, _||_}
 use mathlib.Core.List.{List, [], _∷_}
 use Prim.Native.Nat.{ℕ, _+_}
 use lib.Dec.{eqb}
 use Rattle.rules.specs.declared.Regular.{Regular}
 use Rattle.rules.specs.declared.Complex.{Complex}
 use Rattle.rules.specs.Base.{if_then_else_}
 use Rattle.rules.specs.Records.{Report, answer, trade, pair, generated, removed, crossed, cancelled}
 
+-- the sum of what each record counts
 unfoldable pub total : (Report → ℕ) → List Report → ℕ
 total f [] = 0
 total f (r ∷ rs) = f r + total f rs
 
--- contracts in series s, as taker or maker
+-- "contracts in a series from that series' 65, as taker or maker"
 unfoldable pub contracts : (id s : ℕ) → Report → ℕ
 contracts id s (answer n x m c) = 0
 contracts id s (trade t d p q taker maker) = if eqb t s && (eqb taker id || eqb maker id) then q else 0
@@ -32,7 +34,7 @@ contractsAt id s p (removed i t d c) = 0
 contractsAt id s p (crossed taker maker n q) = 0
 contractsAt id s p (cancelled i q) = 0
 
--- pairs
+-- "pairs, or paired, from 66"
 unfoldable pub paired : ℕ → Report → ℕ
 paired id (answer n x m c) = 0
 paired id (trade t d p q taker maker) = 0
@@ -42,7 +44,7 @@ paired id (removed i t d c) = 0
 paired id (crossed taker maker n q) = 0
 paired id (cancelled i q) = 0
 
--- crossed, as taker or maker
+-- "crossed from 70, as taker or maker"
 unfoldable pub crossedFor : ℕ → Report → ℕ
 crossedFor id (answer n x m c) = 0
 crossedFor id (trade t d p q taker maker) = 0
@@ -52,7 +54,7 @@ crossedFor id (removed i t d c) = 0
 crossedFor id (crossed taker maker n q) = if eqb taker id || eqb maker id then q else 0
 crossedFor id (cancelled i q) = 0
 
--- cancelled
+-- "cancelled from 71"
 unfoldable pub cancelledOf : ℕ → Report → ℕ
 cancelledOf id (answer n x m c) = 0
 cancelledOf id (trade t d p q taker maker) = 0
@@ -62,11 +64,14 @@ cancelledOf id (removed i t d c) = 0
 cancelledOf id (crossed taker maker n q) = 0
 cancelledOf id (cancelled i q) = if eqb i id then q else 0
 
--- the quantity resting under an id, 0 if none rests (a free place has quantity 0)
-unfoldable pub openRegular : ℕ → List Regular → ℕ
-openRegular id [] = 0
-openRegular id (o ∷ os) = (if eqb (o .id) id then o .quantity else 0) + openRegular id os
+-- the quantity under an id in a list of places
+unfoldable pub openIn : {A : Type 0} → (id quantity : A → ℕ) → (y : ℕ) → List A → ℕ
+openIn id quantity y [] = 0
+openIn id quantity y (o ∷ os) = (if eqb (id o) y then quantity o else 0) + openIn id quantity y os
 
-unfoldable pub openComplex : ℕ → List Complex → ℕ
-openComplex id [] = 0
-openComplex id (c ∷ cs) = (if eqb (c .id) id then c .quantity else 0) + openComplex id cs
+-- "still open is the quantity resting in the venue left (0 if none rests)": a free place has quantity 0
+abbrev pub openRegular : (id : ℕ) → List Regular → ℕ
+openRegular = openIn (λ o. o .id) (λ o. o .quantity)
+
+abbrev pub openComplex : (id : ℕ) → List Complex → ℕ
+openComplex = openIn (λ c. c .id) (λ c. c .quantity)

@@ -1,36 +1,40 @@
--- The venue's invariant: shapes, ranges, ids, and a home for each legging order; and what keeps it.
-use mathlib.Core.Path.{_≡_, refl, sym, ap, _∙_}
-use mathlib.Core.Bool.{Bool, true, false, _&&_, true≢false, false≢true}
+-- The invariant of a venue, place by place: what soundness asks (`Soundness` has the test), in the form that every effect keeps.
+-- `Good`: shapes, ranges and ids. `Homes`: each legging order has a resting parent whose leg it is and which has as much open.
+-- `Tidy`: no gap, and free places are all zero; this holds between messages. `Uncrossed`: no series is locked or crossed.
+use mathlib.Core.Path.{_∙_, _≡_, ap, refl, sym}
+use mathlib.Core.Bool.{Bool, false, false≢true, true, true≢false}
 use mathlib.Core.Logic.{_≢_, _⊎_, inl, inr}
-use mathlib.Core.List.{List, [], _∷_}
-use Prim.Native.Nat.{ℕ, zero, suc, pred, _≤_, _<_, _/_, _%_}
-use native.Mathlib.Omega.{arith}
+use mathlib.Core.List.{List}
+use Prim.Native.Nat.{_%_, _/_, _<_, _≤_, ℕ}
 use native.Mathlib.Decide.{decLt}
-use lib.Dec.{eqb}
-use lib.ListN.{length, getD, length-set}
+use native.Mathlib.Omega.{arith}
+use lib.IntN.{ℤ}
+use lib.ListN.{getD, length, length-set}
 use lib.Seq.{getD-set-other}
-use borrow.Author.Tests.{eqb-true, eqb-false, eq-eqb}
-use Rattle.rules.specs.declared.Regular.{Regular}
+use Rattle.rules.specs.declared.Cause.{Cause}
+use Rattle.rules.specs.declared.Cause.the-variants.{Executed}
 use Rattle.rules.specs.declared.Complex.{Complex}
 use Rattle.rules.specs.declared.Legging.{Legging}
 use Rattle.rules.specs.declared.Venue.{Venue}
-use Rattle.rules.specs.declared.Cause.{Cause}
 use Rattle.rules.specs.declared.Verdict.{Verdict}
-use Rattle.rules.specs.declared.Verdict.the-variants.{Stands, Fails}
-use Rattle.rules.proofs.Tests.{and-l, and-r}
-use Rattle.rules.proofs.Settling.{Kept, stayers-kept}
-use Rattle.demands.proofs.Trades.{still-held}
-use Rattle.demands.proofs.Books.{LesserC, still-heldC}
-use Rattle.demands.proofs.Ledger.{reg, cx, Moved}
-use Rattle.rules.specs.Base.{if_then_else_, held, placeWhere}
-use Rattle.rules.specs.Words.{noRegular, noComplex, noLegging, withComplex, withLegging, complexAt, isComplexOf}
+use Rattle.rules.specs.Base.{held, placeWhere}
+use Rattle.rules.specs.Words.{buy, complexAt, isComplexOf, noComplex, noLegging, sell, withComplex, withLegging}
 use Rattle.rules.specs.Records.{Report}
-use Rattle.rules.specs.Removal.{stay, stayers, remove, removeOf, failIf}
-use Rattle.rules.specs.Standing.{findComplex}
-use Rattle.rules.specs.Trading.{fillComplex, lessComplex}
-
-abbrev pub lg : Venue → ℕ → Legging
-lg v n = getD (v .legging) n noLegging
+use Rattle.rules.specs.Effects.{_⟫_, report}
+use Rattle.rules.specs.Removal.{remove, removeOf}
+use Rattle.rules.specs.Standing.{findComplex, otherLeg, parentOf}
+use Rattle.rules.specs.Trading.{fillComplex, lessComplex, pairOff}
+use Rattle.rules.specs.Places.{blankComplex, blankRegular}
+use Rattle.rules.proofs.Filling.{LesserC, cx, lg, reg, still-held, still-heldC}
+use Rattle.rules.proofs.Finding.{LegOf, leg-series, place-is}
+use Rattle.rules.proofs.Generating.{AllStand}
+use Rattle.rules.proofs.Hitting.{other-is₁, other-is₂}
+use Rattle.rules.proofs.Ledger.{Moved}
+use Rattle.rules.proofs.Owning.{Own}
+use Rattle.rules.proofs.Removing.{length-stayers, stay-of}
+use Rattle.rules.proofs.Settling.{Kept, stayers-kept}
+use Rattle.rules.proofs.Tests.{held-pos, pos-held}
+use Rattle.rules.proofs.Widths.{Ranged}
 
 -- a complex order in range
 pub record InRange (c : Complex) : Type 0 where
@@ -64,17 +68,6 @@ good-rr {v} g = apart-rise (λ i. held (reg v i .quantity)) (λ i. reg v i .id) 
 pub good-xx : {v : Venue} → Good v → (i j : ℕ) → held (cx v i .quantity) ≡ true → held (cx v j .quantity) ≡ true → cx v i .id ≡ cx v j .id → i ≡ j
 good-xx {v} g = apart-rise (λ i. held (cx v i .quantity)) (λ i. cx v i .id) (g .rise2)
 
--- a held place is there
-pub held-fits : (l : List Regular) (i : ℕ) → held (getD l i noRegular .quantity) ≡ true → i < length l
-held-fits [] i h = absurd (false≢true h)
-held-fits (o ∷ l) zero h = omega arith
-held-fits (o ∷ l) (suc i) h = let z = held-fits l i h in omega arith
-
-pub held-fitsC : (l : List Complex) (i : ℕ) → held (getD l i noComplex .quantity) ≡ true → i < length l
-held-fitsC [] i h = absurd (false≢true h)
-held-fitsC (o ∷ l) zero h = omega arith
-held-fitsC (o ∷ l) (suc i) h = let z = held-fitsC l i h in omega arith
-
 range-kept : {a b : Complex} → LesserC a b → InRange b → InRange a
 range-kept h r = record {
   side1 = rw (h .side1) (r .side1);
@@ -102,14 +95,6 @@ good-kept {v} {w} m g =
 
 -- Homes ---------------------------------------------------------------------------------------
 
--- side d of series s is a leg of c
-abbrev pub LegOf : Complex → ℕ → ℕ → Type 0
-LegOf c s d = ((s ≡ c .series1) × (d ≡ c .side1)) ⊎ ((s ≡ c .series2) × (d ≡ c .side2))
-
-pub leg-series : (c : Complex) (s d : ℕ) → LegOf c s d → (s ≡ c .series1) ⊎ (s ≡ c .series2)
-leg-series c s d (inl h) = inl (h .0)
-leg-series c s d (inr h) = inr (h .0)
-
 -- the parent of the legging order l at place n
 pub record Home (v : Venue) (n : ℕ) (l : Legging) : Type 0 where
   pub at : ℕ
@@ -122,10 +107,7 @@ pub record Homes (v : Venue) : Type 0 where
   pub len : length (v .legging) ≡ 16
   pub home : (n : ℕ) → held (lg v n .quantity) ≡ true → Home v n (lg v n)
 
-none-free : {A : Type 0} → held (noLegging .quantity) ≡ true → A
-none-free h = absurd (false≢true h)
-
-home-same : {v w : Venue} {n : ℕ} {l : Legging} → w .complex ≡ v .complex → Home v n l → Home w n l
+pub home-same : {v w : Venue} {n : ℕ} {l : Legging} → w .complex ≡ v .complex → Home v n l → Home w n l
 home-same {v} {w} e h = record {
   at = h .at;
   fits = rw e (h .fits);
@@ -140,12 +122,7 @@ homes-thin {v} {w} e len k h = record { len = len ∙ h .len; home = λ n. go n 
   where
     go : (n : ℕ) → (lg w n ≡ lg v n) ⊎ (lg w n ≡ noLegging) → held (lg w n .quantity) ≡ true → Home w n (lg w n)
     go n (inl p) t = rw p (home-same e (h .home n (rw p at t)))
-    go n (inr p) t = none-free (rw p at t)
-
-pub length-stayers : (f : ℕ → Legging → Verdict) (n : ℕ) (ls : List Legging) → length (stayers f n ls) ≡ length ls
-unfolding stayers
-length-stayers f n [] = refl
-length-stayers f n (l ∷ ls) = ap suc (length-stayers f (suc n) ls)
+    go n (inr p) t = absurd (false≢true (rw p at t))
 
 pub homes-remove : (f : ℕ → Legging → Verdict) (v : Venue) → Homes v → Homes (remove f v .venue)
 unfolding remove withLegging
@@ -154,26 +131,6 @@ homes-remove f v h = homes-thin refl (length-stayers f 0 (v .legging)) (stayers-
 pub homes-same : {v w : Venue} → w .complex ≡ v .complex → w .legging ≡ v .legging → Homes v → Homes w
 unfolding Kept
 homes-same {v} {w} e l h = homes-thin e (ap length l) (λ n. inl (ap (λ (x : List Legging). getD x n noLegging) l)) h
-
-gone-free : {A : Type 0} (l : Legging) → held ((if held (l .quantity) then noLegging else l) .quantity) ≡ true → A
-gone-free {A} l = go (held (l .quantity)) refl
-  where
-    go : (b : Bool) → held (l .quantity) ≡ b → held ((if b then noLegging else l) .quantity) ≡ true → A
-    go true e t = none-free t
-    go false e t = absurd (true≢false (sym t ∙ e))
-
--- what stays when a parent's orders go is of another parent
-pub stay-of : (id : ℕ) (c : Cause) (n : ℕ) (ls : List Legging) (i : ℕ) → let r = getD (stayers (λ n l. failIf (eqb (l .parent) id) c) n ls) i noLegging in
-    held (r .quantity) ≡ true → (r ≡ getD ls i noLegging) × (r .parent ≢ id)
-unfolding stayers stay failIf
-stay-of id c n [] i t = none-free t
-stay-of id c n (l ∷ ls) zero t = go (eqb (l .parent) id) refl t
-  where
-    go : (b : Bool) → eqb (l .parent) id ≡ b →
-        held (stay (if b then Fails c else Stands) l .quantity) ≡ true → (stay (if b then Fails c else Stands) l ≡ l) × (stay (if b then Fails c else Stands) l .parent ≢ id)
-    go true e t = gone-free l t
-    go false e t = (refl, eqb-false (l .parent) id e)
-stay-of id c n (l ∷ ls) (suc i) t = stay-of id c (suc n) ls i t
 
 -- an order is filled, and its legging orders go
 pub homes-fill : (j k : ℕ) (c : Cause) (v : Venue) → Homes v → Homes (removeOf (cx v j .id) c (fillComplex j k v) .venue)
@@ -197,29 +154,16 @@ homes-fill j k c v h = record {
           enough = rw s (o .enough);
         }
 
-pub homes-fill-id : (j k : ℕ) (c : Cause) (v : Venue) (id : ℕ) → id ≡ cx v j .id → Homes v → Homes (removeOf id c (fillComplex j k v) .venue)
-homes-fill-id j k c v id e h = rw e (homes-fill j k c v h)
+-- k of the order at place j are paired
+pub homes-pairOff : (j id : ℕ) (n : ℤ) (k : ℕ) (v : Venue) → id ≡ cx v j .id → Homes v → Homes (pairOff j id n k v .venue)
+unfolding pairOff report _⟫_
+homes-pairOff j id n k v e h = rw e (homes-fill j k Executed v h)
+
+pub record Fine (v : Venue) : Type 0 where
+  pub good : Good v
+  pub homes : Homes v
 
 -- The parent that is found --------------------------------------------------------------------
-
--- the first order of an id is at its only place
-pub place-is : (cs : List Complex) (j : ℕ) → j < length cs → held (getD cs j noComplex .quantity) ≡ true →
-    ((i : ℕ) → held (getD cs i noComplex .quantity) ≡ true → getD cs i noComplex .id ≡ getD cs j noComplex .id → i ≡ j) →
-    (placeWhere (isComplexOf (getD cs j noComplex .id)) cs ≡ j) × (findComplex (getD cs j noComplex .id) cs ≡ getD cs j noComplex)
-unfolding placeWhere findComplex isComplexOf
-place-is [] j f h u = absurd (omega arith)
-place-is (c ∷ cs) zero f h u = (rw (h, eq-eqb (c .id) (c .id) refl), rw (h, eq-eqb (c .id) (c .id) refl))
-place-is (c ∷ cs) (suc j) f h u =
-    let ih = place-is cs j (omega arith) h (λ i q e. ap pred (u (suc i) q e)) in
-    go (held (c .quantity) && eqb (c .id) (getD cs j noComplex .id)) refl (ih .0) (ih .1)
-  where
-    go : (b : Bool) → (held (c .quantity) && eqb (c .id) (getD cs j noComplex .id)) ≡ b →
-        placeWhere (isComplexOf (getD cs j noComplex .id)) cs ≡ j → findComplex (getD cs j noComplex .id) cs ≡ getD cs j noComplex →
-        ((if b then 0 else suc (placeWhere (isComplexOf (getD cs j noComplex .id)) cs)) ≡ suc j)
-        × ((if b then c else findComplex (getD cs j noComplex .id) cs) ≡ getD cs j noComplex)
-    go true e p q =
-        let z = u 0 (and-l (held (c .quantity)) _ e) (eqb-true (c .id) (getD cs j noComplex .id) (and-r (held (c .quantity)) _ e)) in absurd (omega arith)
-    go false e p q = (ap suc p, q)
 
 module _ (v : Venue) (g : Good v) (j : ℕ) (f : j < length (v .complex)) (h : held (cx v j .quantity) ≡ true) where
   only : (i : ℕ) → held (cx v i .quantity) ≡ true → cx v i .id ≡ cx v j .id → i ≡ j
@@ -230,3 +174,63 @@ module _ (v : Venue) (g : Good v) (j : ℕ) (f : j < length (v .complex)) (h : h
 
   pub found : findComplex (cx v j .id) (v .complex) ≡ cx v j
   found = place-is (v .complex) j f h only .1
+
+-- the parent of a legging order is the one at its home, and its other leg is in another series
+module _ (v : Venue) (f : Fine v) (n : ℕ) (h : held (lg v n .quantity) ≡ true) where
+  abbrev home : Home v n (lg v n)
+  home = f .homes .home n h
+
+  pub home-held : held (cx v (home .at) .quantity) ≡ true
+  home-held = let z = held-pos (lg v n .quantity) h in let e = home .enough in pos-held (cx v (home .at) .quantity) (omega arith)
+
+  pub parent-found : parentOf v (lg v n) ≡ cx v (home .at)
+  unfolding parentOf
+  parent-found = rw (← home .id) (found v (f .good) (home .at) (home .fits) home-held)
+
+  pub other-apart : n / 2 ≢ otherLeg (cx v (home .at)) (n / 2) .series
+  other-apart = go (leg-series (cx v (home .at)) _ _ (home .leg))
+    where
+      c : Complex
+      c = cx v (home .at)
+
+      ne : c .series1 ≢ c .series2
+      ne = f .good .ranges (home .at) home-held .apart
+
+      go : (n / 2 ≡ c .series1) ⊎ (n / 2 ≡ c .series2) → n / 2 ≢ otherLeg c (n / 2) .series
+      go (inl e) x = ne (sym e ∙ x ∙ other-is₂ c (n / 2) (sym e))
+      go (inr e) x = ne (sym (sym e ∙ x ∙ other-is₁ c (n / 2) (λ y. ne (y ∙ e))))
+
+-- Between messages ----------------------------------------------------------------------------
+
+-- no gap: a place before a held one is held; and a free place is all zero
+pub record Tidy (v : Venue) : Type 0 where
+  pub dense1 : (i j : ℕ) → i < j → held (reg v j .quantity) ≡ true → held (reg v i .quantity) ≡ true
+  pub dense2 : (i j : ℕ) → i < j → held (cx v j .quantity) ≡ true → held (cx v i .quantity) ≡ true
+  pub blank1 : (i : ℕ) → held (reg v i .quantity) ≡ false → blankRegular (reg v i) ≡ true
+  pub blank2 : (i : ℕ) → held (cx v i .quantity) ≡ false → blankComplex (cx v i) ≡ true
+
+-- a free place is after every held one
+after-all : (h : ℕ → Bool) → ((i j : ℕ) → i < j → h j ≡ true → h i ≡ true) → (i : ℕ) → h i ≡ false → (n : ℕ) → h n ≡ true → n < i
+after-all h d i free n t = elim (decLt n i) [
+  | yes q ↦ q
+  | no q ↦ elim (decLt i n) [
+    | yes p ↦ absurd (true≢false (sym (d i n p t) ∙ free))
+    | no p ↦ let e : n ≡ i = omega arith in absurd (true≢false (sym t ∙ ap h e ∙ free))
+  ]
+]
+
+pub after-regular : {v : Venue} → Tidy v → (i : ℕ) → held (reg v i .quantity) ≡ false → (n : ℕ) → held (reg v n .quantity) ≡ true → n < i
+after-regular {v} t = after-all (λ i. held (reg v i .quantity)) (t .dense1)
+
+pub after-complex : {v : Venue} → Tidy v → (i : ℕ) → held (cx v i .quantity) ≡ false → (n : ℕ) → held (cx v n .quantity) ≡ true → n < i
+after-complex {v} t = after-all (λ i. held (cx v i .quantity)) (t .dense2)
+
+abbrev pub Uncrossed : Venue → Type 0
+Uncrossed v = (s a b : ℕ) → s < 8 → Own v s buy a → Own v s sell b → a < b
+
+pub record Invariant (v : Venue) : Type 0 where
+  pub fine : Fine v
+  pub stand : AllStand v
+  pub tidy : Tidy v
+  pub ranged : Ranged v
+  pub uncrossed : Uncrossed v

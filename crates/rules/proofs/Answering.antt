@@ -1,23 +1,24 @@
 -- One message: its 64 comes first and is its only answer, and all its records fit.
 use mathlib.Core.Path.{_≡_, refl}
-use mathlib.Core.Bool.{Bool, true, false}
+use mathlib.Core.Bool.{Bool, false, true}
 use mathlib.Core.List.{List, [], _∷_}
-use Prim.Native.Nat.{ℕ, suc, _+_, _*_, _^_, _≤_, _<_}
-use native.Mathlib.Omega.{arith}
+use Prim.Native.Nat.{_*_, _+_, _<_, _^_, _≤_, suc, ℕ}
 use native.Mathlib.Nat.{pow-suc}
+use native.Mathlib.Omega.{arith}
 use lib.Dec.{eqb}
 use lib.ListN.{length}
 use Rattle.rules.specs.declared.Legging.{Legging}
 use Rattle.rules.specs.declared.Venue.{Venue}
-use Rattle.demands.proofs.Widths.{Plain, plain-fits, Ranged, Writes, writes-accept, writes-nothing}
-use Rattle.rules.proofs.Calling.{step-by}
-use Rattle.rules.proofs.Refusing.{accepted, refusal-small}
-use Rattle.rules.specs.Base.{if_then_else_, held}
+use Rattle.rules.specs.Base.{held, if_then_else_}
 use Rattle.rules.specs.Messages.{messageOf}
-use Rattle.rules.specs.Records.{Report, answer, U8, U16, U32, Fits, Each}
+use Rattle.rules.specs.Records.{Each, Fits, Report, U16, U32, U8, answer}
 use Rattle.rules.specs.Effects.{Effect, nothing}
 use Rattle.rules.specs.Refusals.{refusal}
-use Rattle.rules.specs.Step.{accept, mask, filled, answered, step}
+use Rattle.rules.specs.Step.{accept, answered, filled, mask, step}
+use Rattle.rules.proofs.Calling.{step-by}
+use Rattle.rules.proofs.Refusing.{accepted, refusal-small}
+use Rattle.rules.proofs.Widths.{Plain, Ranged, plain-fits}
+use Rattle.rules.proofs.Writing.{Writes, writes-accept, writes-nothing}
 
 -- Mask and count ------------------------------------------------------------------------------
 

@@ -1,43 +1,40 @@
--- Generation and settling carry the invariant and the ledger, and leave every legging order standing.
-use mathlib.Core.Path.{_≡_, refl, sym, ap, _∙_, subst}
-use mathlib.Core.Bool.{Bool, true, false, _&&_}
+-- Generation and sweeps carry the invariant and leave every legging order standing. `Stood v e`: the effect e upon v does both.
+use mathlib.Core.Path.{_∙_, _≡_, ap, refl, subst, sym}
+use mathlib.Core.Bool.{Bool, _&&_, false, true}
 use mathlib.Core.Logic.{_≢_, inl, inr}
 use mathlib.Core.List.{List}
-use Prim.Native.Nat.{ℕ, zero, suc, _<_}
-use native.Mathlib.Omega.{arith}
+use Prim.Native.Nat.{_<_, suc, zero, ℕ}
 use native.Mathlib.Decide.{ℕ-discrete}
 use native.Mathlib.Nat.{min-le-left}
+use native.Mathlib.Omega.{arith}
 use lib.Dec.{eqb}
-use lib.ListN.{length, getD, set, length-set}
+use lib.ListN.{getD, length, length-set, set}
 use lib.Seq.{getD-set-other, getD-set-same}
+use Rattle.rules.specs.declared.Cause.the-variants.{Replaced}
 use Rattle.rules.specs.declared.Complex.{Complex}
 use Rattle.rules.specs.declared.Legging.{Legging}
 use Rattle.rules.specs.declared.Venue.{Venue}
-use Rattle.rules.specs.declared.Cause.the-variants.{Replaced}
-use Rattle.demands.specs.Sums.{total, contracts, paired, crossedFor, cancelledOf}
-use Rattle.rules.proofs.Settling.{settle-stands}
-use Rattle.rules.proofs.Generating.{AllStand, generate-stands, place-series, place-side, place-side}
-use Rattle.rules.proofs.Picking.{At}
-use Rattle.demands.proofs.Ledger.{cx, moved-silent}
-use Rattle.demands.proofs.Pairing.{other-is₁, other-is₂}
-use Rattle.demands.proofs.Good.{LegOf, InRange, Home, Homes, found}
-use Rattle.demands.proofs.Turns.{Fine, Carries, fine-after, carries-then, carries-nothing, carries-remove, work-carries}
-use Rattle.rules.proofs.Cases.{isAbove, each-by}
-use Rattle.rules.specs.Base.{if_then_else_, held}
-use Rattle.rules.specs.Words.{opposite, noComplex, noLegging, placeOf, withLegging, complexAt}
-use Rattle.rules.specs.Effects.{Effect, nothing, report, _⟫_}
-use Rattle.rules.specs.Removal.{remove, failIf}
-use Rattle.rules.specs.Standing.{otherLeg, settle, verdict}
-use Rattle.rules.specs.Generation.{newLegging, placed, makes, make, generateLeg, generate}
+use Rattle.rules.specs.declared.Verdict.{Verdict}
+use Rattle.rules.specs.Base.{held, if_then_else_}
+use Rattle.rules.specs.Words.{complexAt, noComplex, noLegging, opposite, placeOf, withLegging}
+use Rattle.rules.specs.Bytes.{i32}
+use Rattle.rules.specs.Records.{generated}
+use Rattle.rules.specs.Effects.{Effect, _⟫_, nothing, report}
+use Rattle.rules.specs.Removal.{failIf, remove}
+use Rattle.rules.specs.Standing.{otherLeg, settle}
+use Rattle.rules.specs.Generation.{generate, generateLeg, make, makes, newLegging, placed}
 use Rattle.rules.specs.Complex.{each, sweep, work}
-
-pub settle-carries : (v : Venue) → Fine v → Carries v (settle v)
-unfolding settle
-settle-carries v f = carries-remove (verdict v) v f
-
-pub settle-all : (v : Venue) → AllStand (settle v .venue)
-unfolding AllStand
-settle-all v = settle-stands v
+use Rattle.rules.proofs.Cases.{each-by, if-by, isAbove}
+use Rattle.rules.proofs.Filling.{cx}
+use Rattle.rules.proofs.Finding.{LegOf}
+use Rattle.rules.proofs.Generating.{AllStand, generate-stands, place-series, place-side}
+use Rattle.rules.proofs.Hitting.{other-is₁, other-is₂}
+use Rattle.rules.proofs.Ledger.{moves-placed}
+use Rattle.rules.proofs.Picking.{At}
+use Rattle.rules.proofs.Settled.{settled}
+use Rattle.rules.proofs.Sweeping.{leg-same}
+use Rattle.demands.proofs.Carrying.{Carries, carries-nothing, carries-remove, carries-then, fine-after, settle-carries, work-carries}
+use Rattle.demands.proofs.Homes.{Fine, Home, Homes, InRange, found, home-same}
 
 -- One leg -------------------------------------------------------------------------------------
 
@@ -66,6 +63,10 @@ placed-homes n l v n16 a h = record { len = length-set (v .legging) n l ∙ h .l
     go m (yes e) t = rw (e, getD-set-same (v .legging) n l noLegging n16) (keep n l a)
     go m (no ne) t = rw (getD-set-other (v .legging) n m l noLegging ne) (keep m _ (h .home m (rw (getD-set-other (v .legging) n m l noLegging ne) at t)))
 
+remove-complex : (f : ℕ → Legging → Verdict) (v : Venue) → remove f v .venue .complex ≡ v .complex
+unfolding remove withLegging
+remove-complex f v = refl
+
 place-fits : (s d : ℕ) → s < 8 → d < 2 → placeOf s d < 16
 unfolding placeOf
 place-fits s d a b = omega arith
@@ -84,25 +85,22 @@ module _ (v : Venue) (i : ℕ) (i32 : i < 32) (f : Fine v) (h : held (cx v i .qu
   unfolding newLegging
   new-home = record { at = i; fits = fitsC; id = refl; leg = rw (place-series s d (g .side), place-side s d (g .side)) (g .leg); enough = min-le-left _ _ }
 
-  -- the holder goes, and the new order takes its place
+  -- when the holder has gone, the new order takes its place
+  placed-carries : (w : Venue) (id p x q : ℕ) → Fine w → w .complex ≡ v .complex → Carries w (report (generated id s d p x q) (placed (placeOf s d) (newLegging v c s d) w))
+  placed-carries w id p x q g′ e = record {
+    moves = moves-placed (placeOf s d) (newLegging v c s d) id s d p x q w;
+    homes = unfold report in (placed-homes (placeOf s d) (newLegging v c s d) w (rw (g′ .homes .len) (place-fits s d (g .series) (g .side))) (home-same e new-home) (g′ .homes));
+  }
+
   make-carries : Carries v (make c s d v)
-  unfolding make report remove withLegging placed total contracts paired crossedFor cancelledOf
+  unfolding make
   make-carries =
       let a = carries-remove (λ n _. failIf (eqb n (placeOf s d)) Replaced) v f in
-      let w = remove (λ n _. failIf (eqb n (placeOf s d)) Replaced) v .venue in
-      let hm : Home w (placeOf s d) (newLegging v c s d) = record { at = new-home .at; fits = new-home .fits; id = new-home .id; leg = new-home .leg; enough = new-home .enough } in
-      carries-then _ _ a (record {
-        moves = moved-silent refl refl refl (record { contracts0 = λ _ _. refl; paired0 = λ _. refl; crossed0 = λ _. refl; cancelled0 = λ _. refl });
-        homes = placed-homes (placeOf s d) (newLegging v c s d) w (rw (a .homes .len) (place-fits s d (g .series) (g .side))) hm (a .homes);
-      })
+      carries-then _ _ a (placed-carries _ _ _ _ _ (fine-after f a) (remove-complex _ v))
 
   pub leg-carries : Carries v (generateLeg c s d v)
   unfolding generateLeg
-  leg-carries = go (held (c .quantity) && makes v c s d)
-    where
-      go : (b : Bool) → Carries v (if b then make c s d v else nothing v)
-      go true = make-carries
-      go false = carries-nothing v f
+  leg-carries = if-by (Carries v) (held (c .quantity) && makes v c s d) (λ _. make-carries) (λ _. carries-nothing v f)
 
   opposite-small : (x : ℕ) → opposite x < 2
   unfolding opposite
@@ -110,14 +108,6 @@ module _ (v : Venue) (i : ℕ) (i32 : i < 32) (f : Fine v) (h : held (cx v i .qu
 
   pub leg-stands : AllStand v → AllStand (generateLeg c s d v .venue)
   leg-stands = generate-stands v c s d (g .side) (opposite-small _) (g .other) (found v (f .good) i fitsC h) fitsL
-
-  pub leg-complex : generateLeg c s d v .venue .complex ≡ v .complex
-  unfolding generateLeg make report remove withLegging placed nothing _⟫_
-  leg-complex = go (held (c .quantity) && makes v c s d)
-    where
-      go : (b : Bool) → (if b then make c s d v else nothing v) .venue .complex ≡ v .complex
-      go true = refl
-      go false = refl
 
 -- Both legs -----------------------------------------------------------------------------------
 
@@ -144,14 +134,6 @@ module _ (i : ℕ) (i32 : i < 32) where
           record { carries = leg-carries v i i32 f h′ s d g′; stand = leg-stands v i i32 f h′ s d g′ st })
       go false h = rw h (record { carries = carries-nothing v f; stand = st })
 
-  same-complex : (v : Venue) (c : Complex) (s d : ℕ) → generateLeg c s d v .venue .complex ≡ v .complex
-  unfolding generateLeg make report remove withLegging placed nothing _⟫_
-  same-complex v c s d = go (held (c .quantity) && makes v c s d)
-    where
-      go : (b : Bool) → (if b then make c s d v else nothing v) .venue .complex ≡ v .complex
-      go true = refl
-      go false = refl
-
   pub generate-stood : (v : Venue) → Fine v → AllStand v → Stood v (generate i v)
   unfolding generate complexAt
   generate-stood v f st =
@@ -159,7 +141,7 @@ module _ (i : ℕ) (i32 : i < 32) where
       let a = one-leg v c (c .series1) (c .side1) refl (λ h. first-leg c (f .good .ranges i h)) f st in
       stood-then _ _ (a .carries)
       (one-leg (generateLeg c (c .series1) (c .side1) v .venue) c (c .series2) (c .side2)
-      (ap (λ (x : List Complex). getD x i noComplex) (sym (same-complex v c (c .series1) (c .side1))))
+      (ap (λ (x : List Complex). getD x i noComplex) (sym (leg-same v c (c .series1) (c .side1))))
       (λ h. second-leg c (f .good .ranges i h)) (fine-after f (a .carries)) (a .stand))
 
 -- Sweep ---------------------------------------------------------------------------------------
@@ -186,10 +168,6 @@ each-stood (suc fuel) id v f st =
     (λ i c _ a.
     let k = generate-stood i (each-place id v f i c a) v f st in
     stood-then _ _ (k .carries) (each-stood fuel (c .id) _ (fine-after f (k .carries)) (k .stand)))
-
-pub settled : (e : Effect) → AllStand ((e ⟫ settle) .venue)
-unfolding _⟫_
-settled e = settle-all (e .venue)
 
 pub sweep-stood : (v : Venue) → Fine v → Stood v (sweep v)
 unfolding sweep

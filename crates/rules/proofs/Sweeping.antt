@@ -1,43 +1,31 @@
--- The fuel of a sweep and of a run is enough: a sweep's next order has a higher id, and each message of a run has a length.
-use mathlib.Core.Path.{_≡_, refl, sym, ap, _∙_}
-use mathlib.Core.Bool.{Bool, true, false, _&&_, true≢false, false≢true}
+-- The fuel of a sweep is enough: its next order has a higher id, so it comes to each resting order, and more fuel changes nothing.
+use mathlib.Core.Path.{_∙_, _≡_, ap, refl, sym}
+use mathlib.Core.Bool.{Bool, _&&_, false, false≢true, true, true≢false}
 use mathlib.Core.List.{List, [], _∷_}
-use Prim.Native.Nat.{ℕ, zero, suc, _+_, _≤_, _<_}
-use native.Mathlib.Omega.{arith}
+use Prim.Native.Nat.{_+_, _<_, _≤_, suc, zero, ℕ}
 use native.Mathlib.Nat.{suc-add, zero-add}
+use native.Mathlib.Omega.{arith}
 use lib.Dec.{ltb}
-use lib.ListN.{length, getD, drop, length-drop}
-use borrow.Author.Tests.{ltb-true, ltb-false, le-ltb, ne-eqb}
+use lib.ListN.{getD, length}
+use borrow.Author.Tests.{le-ltb, ltb-false, ltb-true}
 use Rattle.rules.specs.declared.Complex.{Complex}
 use Rattle.rules.specs.declared.Venue.{Venue}
-use Rattle.demands.specs.Ending.{Swept, left, RunDone}
-use Rattle.rules.proofs.Tests.{and-r}
-use Rattle.rules.proofs.Picking.{Chosen, first-chosen}
-use Rattle.demands.proofs.Ledger.{cx}
-use Rattle.demands.proofs.Books.{FewerC, LesserC, fewerC-refl, fewerC-trans, fill-fewerC, still-heldC}
-use Rattle.demands.proofs.Keeping.{keeps-work}
-use Rattle.rules.specs.Calls.{called}
-use Rattle.rules.proofs.Cases.{isAbove, each-by, each-done, each-on}
-use Rattle.rules.proofs.Calling.{runFrom-by}
-use Rattle.rules.proofs.Refusing.{whole, not-torn}
-use mathlib.Core.Logic.{_≢_}
-use Rattle.rules.specs.Base.{if_then_else_, held, Picked, nobody, picked}
-use Rattle.rules.specs.Words.{noComplex, freshVenue, withRegular, withLegging, complexAt, earlierComplex}
-use Rattle.rules.specs.Bytes.{lengthField}
-use Rattle.rules.specs.Effects.{Effect, nothing, report, _⟫_}
+use Rattle.rules.specs.Base.{Picked, held, if_then_else_, nobody, picked}
+use Rattle.rules.specs.Words.{complexAt, earlierComplex, noComplex, withLegging, withRegular}
+use Rattle.rules.specs.Effects.{Effect, _⟫_, nothing, report}
 use Rattle.rules.specs.Removal.{remove}
 use Rattle.rules.specs.Trading.{fillRegular}
-use Rattle.rules.specs.Generation.{placed, makes, make, generate, generateLeg}
-use Rattle.rules.specs.Complex.{work, nextAbove, each}
-use Rattle.rules.specs.Refusals.{torn, refusal}
-use Rattle.rules.specs.Step.{answered, step}
-use Rattle.rules.specs.Calls.{ends, after, runFrom, run}
-
--- Sweeps --------------------------------------------------------------------------------------
+use Rattle.rules.specs.Generation.{generate, generateLeg, make, makes, placed}
+use Rattle.rules.specs.Complex.{each, nextAbove, work}
+use Rattle.rules.proofs.Cases.{each-by, each-done, each-on, if-by, isAbove}
+use Rattle.rules.proofs.Filling.{FewerC, LesserC, cx, fewerC-refl, fewerC-trans, fill-fewerC, still-heldC}
+use Rattle.rules.proofs.Keeping.{keeps-work}
+use Rattle.rules.proofs.Picking.{Chosen, first-chosen}
+use Rattle.rules.proofs.Tests.{and-r}
 
 -- the resting orders above an id
 above : ℕ → Complex → Bool
-above x c = held (c .quantity) && ltb x (c .id)
+above = isAbove
 
 count : ℕ → List Complex → ℕ
 count x [] = 0
@@ -129,19 +117,15 @@ each-more f ok (suc fuel) more id v le =
 
 work-fewer : (i : ℕ) (v : Venue) → FewerC (work i v .venue .complex) (v .complex)
 work-fewer i v =
-    keeps-work (λ w. FewerC (w .complex) (v .complex))
-    (λ i k w h. unfold fillRegular withRegular in h)
-    (λ i k w h. fewerC-trans (fill-fewerC i k w) h)
-    (λ f w h. unfold remove withLegging in h)
-    i v (fewerC-refl _)
+    keeps-work {P = λ w. FewerC (w .complex) (v .complex)} (record {
+      fillR = λ i k w h. unfold fillRegular withRegular in h;
+      fillC = λ i k w h. fewerC-trans (fill-fewerC i k w) h;
+      gone = λ f w h. unfold remove withLegging in h;
+    }) i v (fewerC-refl _)
 
-leg-same : (v : Venue) (c : Complex) (s d : ℕ) → generateLeg c s d v .venue .complex ≡ v .complex
+pub leg-same : (v : Venue) (c : Complex) (s d : ℕ) → generateLeg c s d v .venue .complex ≡ v .complex
 unfolding generateLeg make report remove withLegging placed nothing _⟫_
-leg-same v c s d = go (held (c .quantity) && makes v c s d)
-  where
-    go : (b : Bool) → (if b then make c s d v else nothing v) .venue .complex ≡ v .complex
-    go true = refl
-    go false = refl
+leg-same v c s d = if-by (λ (e : Effect). e .venue .complex ≡ v .complex) (held (c .quantity) && makes v c s d) (λ _. refl) (λ _. refl)
 
 generate-fewer : (i : ℕ) (v : Venue) → FewerC (generate i v .venue .complex) (v .complex)
 unfolding generate complexAt _⟫_
@@ -149,29 +133,8 @@ generate-fewer i v =
     let c = cx v i in
     rw (leg-same (generateLeg c (c .series1) (c .side1) v .venue) c (c .series2) (c .side2), leg-same v c (c .series1) (c .side1)) (fewerC-refl _)
 
-pub swept : Swept
+pub swept : (v : Venue) → length (v .complex) ≡ 32 → (more : ℕ) →
+    (each (32 + more) work 0 v ≡ each 32 work 0 v) × (each (32 + more) generate 0 v ≡ each 32 generate 0 v)
 swept v len more =
     let z = count-length 0 (v .complex) in
     (each-more work work-fewer 32 more 0 v (omega arith), each-more generate generate-fewer 32 more 0 v (omega arith))
-
--- Runs ----------------------------------------------------------------------------------------
-
-torn-not : (v : Venue) (n : ℕ) (bs : List ℕ) → step v (suc n) bs .refused ≢ 1 → torn bs ≡ false
-unfolding step answered
-torn-not v n bs h = not-torn v bs (ne-eqb (refusal v bs) 1 h)
-
-no-bytes : (bs : List ℕ) → length bs ≡ 0 → bs ≡ []
-no-bytes [] h = refl
-no-bytes (x ∷ bs) h = absurd (omega arith)
-
-run-ends : (fuel : ℕ) (v : Venue) (n room : ℕ) (bs : List ℕ) → length bs ≤ fuel → runFrom fuel v n room bs .number ≡ 0 → left (runFrom fuel v n room bs .done) bs ≡ []
-unfolding ends after left
-run-ends zero v n room bs le = unfold runFrom in (λ e. no-bytes bs (omega arith))
-run-ends (suc fuel) v n room bs le =
-    runFrom-by (λ r. r .number ≡ 0 → left (r .done) bs ≡ []) v n room bs fuel
-    (λ z _. no-bytes bs z) (λ _ h. absurd (omega arith)) (λ _ _ h. absurd (omega arith))
-    (λ _ t h. run-ends fuel _ (suc n) _ (drop (lengthField bs) bs) (simp length-drop (let z = whole bs (torn-not v n bs t) in omega arith)) h)
-
-pub run-done : RunDone
-unfolding run called
-run-done room bs h = run-ends (length bs) freshVenue 0 room bs (omega arith) h

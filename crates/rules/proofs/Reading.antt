@@ -1,16 +1,15 @@
 -- The sheet reads back: each field's bytes give the field, each record's bytes the record, and the zeros after them end the sheet.
-use mathlib.Core.Path.{_≡_, refl, ap}
-use mathlib.Core.List.{List, [], _∷_, _++_, append-assoc}
-use Prim.Native.Nat.{ℕ, zero, suc, _+_, _-_, _*_, _≤_, _<_, _/_, _%_}
+use mathlib.Core.Path.{_≡_, ap, refl}
+use mathlib.Core.List.{List, [], _++_, _∷_, append-assoc}
+use Prim.Native.Nat.{_%_, _*_, _+_, _-_, _/_, _<_, _≤_, suc, zero, ℕ}
 use native.Mathlib.Omega.{arith}
-use lib.IntN.{ℤ, pos, negsuc}
-use lib.ListN.{length, getD, drop, replicate, length-append, length-replicate}
-use borrow.Author.Tests.{lt-ltb, le-ltb, ne-eqb}
+use lib.IntN.{negsuc, pos, ℤ}
+use lib.ListN.{drop, getD, length, length-append, length-replicate, replicate}
+use borrow.Author.Tests.{le-ltb, lt-ltb, ne-eqb}
 use Rattle.rules.specs.declared.Cause.{Cause}
-use Rattle.rules.specs.declared.Cause.the-variants.{Worse, Unpaired, Executed, Withdrawn, OutOfBand, NotOpen, Replaced, Touched}
-use Rattle.demands.specs.ReadsBack.{ReadsBack}
-use Rattle.rules.specs.Bytes.{u8At, u16At, u32At, asSigned, asUnsigned, lengthField, kindField, bytes, framed}
-use Rattle.rules.specs.Records.{Report, answer, trade, pair, generated, removed, crossed, cancelled, causeNumber, encode, encodeAll, sheet, causeOf, recordOf, recordsFrom, records, U8, U16, U32, I32, Fits, Each}
+use Rattle.rules.specs.declared.Cause.the-variants.{Executed, NotOpen, OutOfBand, Replaced, Touched, Unpaired, Withdrawn, Worse}
+use Rattle.rules.specs.Bytes.{asSigned, asUnsigned, bytes, framed, kindField, lengthField, u16At, u32At, u8At}
+use Rattle.rules.specs.Records.{Each, Fits, I32, Report, U16, U32, U8, answer, cancelled, causeNumber, causeOf, crossed, encode, encodeAll, generated, pair, recordOf, records, recordsFrom, removed, sheet, trade}
 
 -- Fields --------------------------------------------------------------------------------------
 
@@ -121,7 +120,8 @@ reads (suc fuel) m (r ∷ rs) h le =
     let y = simp length-append at le in
     rw (append-assoc (encode r) (encodeAll rs) (replicate m 0), one-more fuel r (h .0) (encodeAll rs ++ replicate m 0), reads fuel m rs (h .1) (omega arith))
 
-pub reads-back : ReadsBack
+-- "the sheet ends at the first zero length or at the end of the report memory": reading so gives back exactly the records written
+pub reads-back : (room : ℕ) (rs : List Report) → Each Fits rs → length (encodeAll rs) ≤ room → records (sheet room rs) ≡ rs
 unfolding records sheet
 reads-back room rs h le =
     reads (length (encodeAll rs ++ replicate (room - length (encodeAll rs)) 0)) (room - length (encodeAll rs)) rs h
