@@ -18,3 +18,4 @@ pub mod Step
 pub mod Sound
 pub mod Calls
 pub mod Sums
+pub mod Opened
