@@ -2,3 +2,4 @@
 pub mod Demand
 pub mod Kept
 pub mod ReadsBack
+pub mod Witness
