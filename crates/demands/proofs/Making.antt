@@ -5,7 +5,6 @@ use mathlib.Core.Logic.{_≢_, inl, inr}
 use mathlib.Core.List.{List}
 use Prim.Native.Nat.{_<_, suc, zero, ℕ}
 use native.Mathlib.Decide.{ℕ-discrete}
-use native.Mathlib.Nat.{min-le-left}
 use native.Mathlib.Omega.{arith}
 use lib.Dec.{eqb}
 use lib.ListN.{getD, length, length-set, set}
@@ -24,6 +23,8 @@ use Rattle.rules.specs.Removal.{failIf, remove}
 use Rattle.rules.specs.Standing.{otherLeg, settle}
 use Rattle.rules.specs.Generation.{generate, generateLeg, make, makes, newLegging, placed}
 use Rattle.rules.specs.Complex.{each, sweep, work}
+use Rattle.rules.proofs.Afforded.{new-open}
+use Rattle.rules.proofs.AllSettled.{settled}
 use Rattle.rules.proofs.Cases.{each-by, if-by, isAbove}
 use Rattle.rules.proofs.Filling.{cx}
 use Rattle.rules.proofs.Finding.{LegOf}
@@ -31,7 +32,6 @@ use Rattle.rules.proofs.Generating.{AllStand, generate-stands, place-series, pl
 use Rattle.rules.proofs.Hitting.{other-is₁, other-is₂}
 use Rattle.rules.proofs.Ledger.{moves-placed}
 use Rattle.rules.proofs.Picking.{At}
-use Rattle.rules.proofs.Settled.{settled}
 use Rattle.rules.proofs.Sweeping.{leg-same}
 use Rattle.demands.proofs.Carrying.{Carries, carries-nothing, carries-remove, carries-then, fine-after, settle-carries, work-carries}
 use Rattle.demands.proofs.Homes.{Fine, Home, Homes, InRange, found, home-same}
@@ -83,7 +83,7 @@ module _ (v : Venue) (i : ℕ) (i32 : i < 32) (f : Fine v) (h : held (cx v i .qu
 
   new-home : Home v (placeOf s d) (newLegging v c s d)
   unfolding newLegging
-  new-home = record { at = i; fits = fitsC; id = refl; leg = rw (place-series s d (g .side), place-side s d (g .side)) (g .leg); enough = min-le-left _ _ }
+  new-home = record { at = i; fits = fitsC; id = refl; leg = rw (place-series s d (g .side), place-side s d (g .side)) (g .leg); enough = new-open v c s d }
 
   -- when the holder has gone, the new order takes its place
   placed-carries : (w : Venue) (id p x q : ℕ) → Fine w → w .complex ≡ v .complex → Carries w (report (generated id s d p x q) (placed (placeOf s d) (newLegging v c s d) w))

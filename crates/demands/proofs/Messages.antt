@@ -34,7 +34,7 @@ use Rattle.rules.proofs.Generating.{AllStand}
 use Rattle.rules.proofs.Ledger.{Moved, moved-silent, moved-trans, silent-nil}
 use Rattle.rules.proofs.Moving.{moves-cancelComplex, moves-cancelRegular}
 use Rattle.rules.proofs.Refusing.{Passed, accepted}
-use Rattle.rules.proofs.Settled.{settle-all, settled}
+use Rattle.rules.proofs.AllSettled.{settle-all, settled}
 use Rattle.rules.proofs.Tests.{and-l, or-r}
 use Rattle.demands.proofs.Account.{NewComplex, NewOrder, Takes}
 use Rattle.demands.proofs.Admitting.{complex-cx, complex-fine, complex-keeps-cx, complex-keeps-reg, complex-open, order-fine, order-keeps-cx, order-keeps-reg, order-open, order-ready, order-reg, withComplexOrder, withOrder}

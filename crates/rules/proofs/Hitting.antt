@@ -9,28 +9,24 @@ use lib.Dec.{eqb}
 use lib.IntN.{_+ℤ_, pos, ℤ}
 use lib.ListN.{getD, length}
 use borrow.Author.Tests.{eq-eqb, eqb-false, eqb-true, ne-eqb}
-use Rattle.rules.specs.declared.Cause.{Cause}
 use Rattle.rules.specs.declared.Complex.{Complex}
 use Rattle.rules.specs.declared.Legging.{Legging}
 use Rattle.rules.specs.declared.Regular.{Regular}
 use Rattle.rules.specs.declared.Venue.{Venue}
-use Rattle.rules.specs.Base.{first, held, if_then_else_, placeWhere}
+use Rattle.rules.specs.Base.{held, if_then_else_, placeWhere}
 use Rattle.rules.specs.Words.{complexAt, isComplexOf, noLegging, opposite, regularAt, signed, withComplex}
-use Rattle.rules.specs.Records.{Report, pair, removed, trade}
+use Rattle.rules.specs.Records.{Report, trade}
 use Rattle.rules.specs.Effects.{Effect, _⟫_, report}
 use Rattle.rules.specs.Prices.{sizeIn}
-use Rattle.rules.specs.Standing.{otherClear, otherLeg, pairs, parentOf}
+use Rattle.rules.specs.Standing.{otherClear, otherLeg, parentOf}
 use Rattle.rules.specs.Trading.{fillComplex, fillRegular, pairOff, take}
 use Rattle.rules.specs.Order.{hit}
-use Rattle.rules.specs.Complex.{complex, crosses}
-use Rattle.rules.specs.Step.{filled}
-use Rattle.rules.specs.Sound.{apart}
 use Rattle.rules.specs.Sums.{cancelledOf, contracts, crossedFor, openRegular, paired, total}
-use Rattle.rules.proofs.Adding.{count-elsewhere, count-neither, count-taker, open-fill, total-then}
+use Rattle.rules.proofs.Adding.{count-elsewhere, count-neither, count-taker, open-fill, total-append}
 use Rattle.rules.proofs.Filling.{cx, fewer-trans, fill-complex, fill-fewer, fill-fewerC, fill-last, fill-legging, lg, reg}
 use Rattle.rules.proofs.Ledger.{Moves, Reg}
 use Rattle.rules.proofs.Moving.{chain-cx, chain-reg, cx-fill, reg-fill}
-use Rattle.rules.proofs.Pairing.{Pairs, pair-complex, pair-last, pair-regular, pair-removes, pair-total, pairs-settle}
+use Rattle.rules.proofs.Pairing.{Pairs, Tells, pair-complex, pair-last, pair-regular, pair-removes, pair-tells, pairs-settle}
 use Rattle.rules.proofs.Sizes.{fill-elsewhere}
 use Rattle.rules.proofs.Taking.{Chain, chain-elsewhere, chain-fewer, chain-last, chain-other, chain-silent, take-chain, take-total}
 
@@ -93,14 +89,21 @@ module _ (v : Venue) (i k : ℕ) (l : Legging) where
   hit-stays place h =
       rw hit-venue (pair-removes _ (q .id) net-of k hitting place (rw hit-venue at h) .0 ∙ ap (λ (x : List Legging). getD x place noLegging) hitting-legging)
 
-  hit-total : (f : Report → ℕ) → ((id s d : ℕ) (z : Cause) → f (removed id s d z) ≡ 0) →
-      total f (hit i l k v .reports) ≡ f (trade (o .series) (o .side) (l .price) k (o .id) (q .id)) + total f (trades .reports) + f (pair (q .id) net-of k)
-  unfolding hit report total regularAt
-  hit-total f z = rw (total-then, total-then, pair-total f z) (omega arith)
+  -- the 66, and the removals
+  abbrev pairing : Effect
+  pairing = pairOff (placeWhere (isComplexOf (q .id)) (hitting .complex)) (q .id) net-of k hitting
 
-  hit-quiet : (f : Report → ℕ) → ((id s d : ℕ) (z : Cause) → f (removed id s d z) ≡ 0) → ((a b c d g h : ℕ) → f (trade a b c d g h) ≡ 0) →
-      total f (hit i l k v .reports) ≡ f (pair (q .id) net-of k)
-  hit-quiet f z t = omega (arith, hit-total f z, chain-silent f t chn, t (o .series) (o .side) (l .price) k (o .id) (q .id))
+  tells : Tells (q .id) k (pairing .reports)
+  tells = pair-tells _ (q .id) net-of k hitting
+
+  hit-total : (f : Report → ℕ) →
+      total f (hit i l k v .reports) ≡ f (trade (o .series) (o .side) (l .price) k (o .id) (q .id)) + total f (trades .reports) + total f (pairing .reports)
+  unfolding hit report total _⟫_ regularAt
+  hit-total f = rw (total-append f (trades .reports) (pairing .reports)) (omega arith)
+
+  -- what counts no trades counts the pair alone
+  hit-quiet : (f : Report → ℕ) → ((a b c d g h : ℕ) → f (trade a b c d g h) ≡ 0) → total f (hit i l k v .reports) ≡ total f (pairing .reports)
+  hit-quiet f t = omega (arith, hit-total f, chain-silent f t chn, t (o .series) (o .side) (l .price) k (o .id) (q .id))
 
 count-own : (y s d p k x : ℕ) → contracts y s (trade s d p k x y) ≡ k
 unfolding contracts
@@ -161,7 +164,8 @@ module _ (v : Venue) (i j k : ℕ) (l : Legging) (m : Hits v i j k l) where
   own-contracts =
       omega (
         arith,
-        hit-total v i k l (contracts (Q .id) (reg v i .series)) (λ _ _ _ _. refl),
+        hit-total v i k l (contracts (Q .id) (reg v i .series)),
+        tells v i k l .contracts0 (Q .id) (reg v i .series),
         chain-other (Q .id) (reg v i .series) (λ g. series-apart (sym g)) (chn v i k l),
         count-own (Q .id) (reg v i .series) (reg v i .side) (l .price) k (reg v i .id),
       )
@@ -171,7 +175,8 @@ module _ (v : Venue) (i j k : ℕ) (l : Legging) (m : Hits v i j k l) where
   other-contracts =
       omega (
         arith,
-        hit-total v i k l (contracts (Q .id) T) (λ _ _ _ _. refl),
+        hit-total v i k l (contracts (Q .id) T),
+        tells v i k l .contracts0 (Q .id) T,
         take-total (Q .id) T _ _ k k (fillRegular i k v) (omega arith) size-then,
         count-elsewhere (Q .id) T (reg v i .series) (reg v i .side) (l .price) k (reg v i .id) (Q .id) series-apart,
       )
@@ -197,36 +202,39 @@ module _ (v : Venue) (i j k : ℕ) (l : Legging) (m : Hits v i j k l) where
     others = λ c ne r s.
         omega (
           arith,
-          hit-total v i k l (contracts (c .id) s) (λ _ _ _ _. refl),
+          hit-total v i k l (contracts (c .id) s),
+          tells v i k l .contracts0 (c .id) s,
           chain-cx (c .id) s (rw (m .parent) ne) (cx-fill i k v r .none) (chn v i k l),
           count-neither (c .id) s (reg v i .series) (reg v i .side) (l .price) k (reg v i .id) (Q .id) (λ g. r .none i (m .holds) g) (rw (m .parent) ne),
         );
-    pairs = λ y. rw (m .parent) at (hit-quiet v i k l (paired y) (λ _ _ _ _. refl) (λ _ _ _ _ _ _. refl));
-    crosses = λ y. hit-quiet v i k l (crossedFor y) (λ _ _ _ _. refl) (λ _ _ _ _ _ _. refl);
-    cancels = λ y. hit-quiet v i k l (cancelledOf y) (λ _ _ _ _. refl) (λ _ _ _ _ _ _. refl);
+    pairs = λ y. rw (m .parent) at (hit-quiet v i k l (paired y) (λ _ _ _ _ _ _. refl) ∙ tells v i k l .pairs y);
+    crosses = λ y. hit-quiet v i k l (crossedFor y) (λ _ _ _ _ _ _. refl) ∙ tells v i k l .crossed0 y;
+    cancels = λ y. hit-quiet v i k l (cancelledOf y) (λ _ _ _ _ _ _. refl) ∙ tells v i k l .cancelled0 y;
     filled = hit-filled;
   }
 
+  -- the incoming order's contracts, and those of the orders that the other leg takes
+  own-trade : (y s : ℕ) → Reg y s v → Q .id ≢ y →
+      contracts y s (trade (reg v i .series) (reg v i .side) (l .price) k (reg v i .id) (Q .id)) ≡ (if eqb (reg v i .id) y then k else 0)
+  own-trade y s r x≠y = go (eqb (reg v i .id) y) refl
+    where
+      go : (b : Bool) → eqb (reg v i .id) y ≡ b → contracts y s (trade (reg v i .series) (reg v i .side) (l .price) k (reg v i .id) (Q .id)) ≡ (if b then k else 0)
+      go true g = let i=y = eqb-true (reg v i .id) y g in count-taker y s _ _ _ k _ _ i=y (r .home i (m .holds) i=y)
+      go false g = count-neither y s _ _ _ k _ _ (eqb-false (reg v i .id) y g) x≠y
+
   hit-orders : (y s : ℕ) → Reg y s v →
       openRegular y (v .regular) ≡ openRegular y (hitting v i k l .regular) + (total (contracts y s) (hit i l k v .reports) + total (cancelledOf y) (hit i l k v .reports))
-  unfolding contracts cancelledOf
   hit-orders y s r =
       let x≠y : Q .id ≢ y = λ g. r .none j (m .holdsC) (rw (m .parent) at g) in
-      go x≠y (eqb (reg v i .id) y) refl (open-fill i k v y (m .fits) (m .enough)) (chain-reg y s x≠y (reg-fill i k v r) (chn v i k l))
-      (hit-total v i k l (contracts y s) (λ _ _ _ _. refl)) (hit-quiet v i k l (cancelledOf y) (λ _ _ _ _. refl) (λ _ _ _ _ _ _. refl))
-    where
-      go : Q .id ≢ y → (b : Bool) → eqb (reg v i .id) y ≡ b →
-          openRegular y (v .regular) ≡ openRegular y (fillRegular i k v .regular) + (if eqb (reg v i .id) y then k else 0) →
-          openRegular y (fillRegular i k v .regular) ≡ openRegular y (hitting v i k l .regular) + total (contracts y s) (trades v i k l .reports) →
-          total (contracts y s) (hit i l k v .reports) ≡
-          contracts y s (trade (reg v i .series) (reg v i .side) (l .price) k (reg v i .id) (Q .id)) + total (contracts y s) (trades v i k l .reports) + 0 →
-          total (cancelledOf y) (hit i l k v .reports) ≡ 0 →
-          openRegular y (v .regular) ≡ openRegular y (hitting v i k l .regular) + (total (contracts y s) (hit i l k v .reports) + total (cancelledOf y) (hit i l k v .reports))
-      go x≠y true g a b c d =
-          let i=y = eqb-true (reg v i .id) y g in
-          omega (arith, rw g at a, count-taker y s (reg v i .series) (reg v i .side) (l .price) k (reg v i .id) (Q .id) i=y (r .home i (m .holds) i=y))
-      go x≠y false g a b c d =
-          omega (arith, rw g at a, count-neither y s (reg v i .series) (reg v i .side) (l .price) k (reg v i .id) (Q .id) (eqb-false (reg v i .id) y g) x≠y)
+      omega (
+        arith,
+        open-fill i k v y (m .fits) (m .enough),
+        chain-reg y s x≠y (reg-fill i k v r) (chn v i k l),
+        hit-total v i k l (contracts y s),
+        own-trade y s r x≠y,
+        tells v i k l .contracts0 y s,
+        hit-pairs .cancels y,
+      )
 
   same-regular : hit i l k v .venue .regular ≡ hitting v i k l .regular
   same-regular = ap (λ (w : Venue). w .regular) (hit-venue v i k l) ∙ pair-regular _ (Q .id) _ k (hitting v i k l)

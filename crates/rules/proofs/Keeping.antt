@@ -45,7 +45,7 @@ module _ {P : Venue → Type 0} (lasts : Lasts P) where
 
   keeps-pairOff : (i id : ℕ) (n : ℤ) (k : ℕ) (v : Venue) → P v → P (pairOff i id n k v .venue)
   unfolding pairOff report _⟫_
-  keeps-pairOff i id n k v h = keeps-removeOf id _ _ (lasts .fillC i k v h)
+  keeps-pairOff i id n k v h = keeps-removeOf _ _ _ (lasts .fillC i k v h)
 
   -- each from the fill of its taker on
   pub meet-from : (i j k : ℕ) (v : Venue) → P (fillRegular i k v) → P (meet i j k v .venue)

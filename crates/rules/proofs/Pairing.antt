@@ -10,22 +10,18 @@ use lib.Dec.{eqb}
 use lib.IntN.{ℤ}
 use lib.ListN.{length}
 use borrow.Author.Tests.{eqb-false, eqb-true}
-use Rattle.rules.specs.declared.Cause.{Cause}
 use Rattle.rules.specs.declared.Complex.{Complex}
 use Rattle.rules.specs.declared.Venue.{Venue}
 use Rattle.rules.specs.Base.{first, held, if_then_else_}
 use Rattle.rules.specs.Words.{complexAt, opposite, withComplex, withLegging}
-use Rattle.rules.specs.Records.{Report, pair, removed, trade}
+use Rattle.rules.specs.Records.{Report, trade}
 use Rattle.rules.specs.Effects.{Effect, _⟫_, report}
 use Rattle.rules.specs.Prices.{net, ratio1, ratio2, sizeIn}
 use Rattle.rules.specs.Removal.{remove, removeOf}
-use Rattle.rules.specs.Standing.{pairs}
 use Rattle.rules.specs.Trading.{fillComplex, pairOff, take}
-use Rattle.rules.specs.Complex.{complex, crosses, legIn}
-use Rattle.rules.specs.Step.{filled}
-use Rattle.rules.specs.Sound.{apart}
+use Rattle.rules.specs.Complex.{legIn}
 use Rattle.rules.specs.Sums.{cancelledOf, contracts, crossedFor, openComplex, openRegular, paired, total}
-use Rattle.rules.proofs.Adding.{open-fillC, remove-silent, total-then}
+use Rattle.rules.proofs.Adding.{open-fillC, remove-silent, total-append, total-then}
 use Rattle.rules.proofs.Filling.{Fewer, cx, fewer-trans, fewerC-refl, fill-fewerC, lg}
 use Rattle.rules.proofs.Ledger.{Cx, Moves, Reg, Settles, cx-kept, ratio-none, reg-kept}
 use Rattle.rules.proofs.Moving.{chain-cx, chain-reg}
@@ -34,13 +30,24 @@ use Rattle.rules.proofs.Taking.{Chain, chain-elsewhere, chain-fewer, ch
 
 -- The 66 and the removals ---------------------------------------------------------------------
 
--- what they count: the pair alone
-pub pair-total : (f : Report → ℕ) → ((id s d : ℕ) (c : Cause) → f (removed id s d c) ≡ 0) → (i id : ℕ) (n : ℤ) (k : ℕ) (v : Venue) →
-    total f (pairOff i id n k v .reports) ≡ f (pair id n k)
-unfolding pairOff report total
-pair-total f silent i id n k v = rw (total-then, remove-silent f silent) (omega arith)
+-- what records tell of a pair: k pairs of this id, and nothing else is counted
+pub record Tells (id k : ℕ) (rs : List Report) : Type 0 where
+  pub pairs : (y : ℕ) → total (paired y) rs ≡ (if eqb id y then k else 0)
+  pub contracts0 : (y s : ℕ) → total (contracts y s) rs ≡ 0
+  pub crossed0 : (y : ℕ) → total (crossedFor y) rs ≡ 0
+  pub cancelled0 : (y : ℕ) → total (cancelledOf y) rs ≡ 0
 
 module _ (i id : ℕ) (n : ℤ) (k : ℕ) (v : Venue) where
+  -- "then 66": its quantity is the k that was traded and filled
+  pub pair-tells : Tells id k (pairOff i id n k v .reports)
+  unfolding pairOff report total contracts paired crossedFor cancelledOf
+  pair-tells = record {
+    pairs = λ y. rw (total-then, remove-silent (paired y) (λ _ _ _ _. refl)) (omega arith);
+    contracts0 = λ y s. rw (total-then, remove-silent (contracts y s) (λ _ _ _ _. refl));
+    crossed0 = λ y. rw (total-then, remove-silent (crossedFor y) (λ _ _ _ _. refl));
+    cancelled0 = λ y. rw (total-then, remove-silent (cancelledOf y) (λ _ _ _ _. refl));
+  }
+
   pub pair-regular : pairOff i id n k v .venue .regular ≡ v .regular
   unfolding pairOff report _⟫_ removeOf remove withLegging fillComplex withComplex
   pair-regular = refl
@@ -151,15 +158,20 @@ module _ (v : Venue) (i a b k : ℕ) where
   unfolding legIn _⟫_ complexAt
   legIn-venue = refl
 
-  legIn-total : (f : Report → ℕ) → ((id s d : ℕ) (c : Cause) → f (removed id s d c) ≡ 0) →
-      total f (legIn i a b k v .reports) ≡ total f (first-trades .reports) + total f (second-trades .reports) + f (pair (c .id) (net c a b) k)
-  unfolding legIn complexAt
-  legIn-total f silent = rw (total-then, total-then, pair-total f silent)
+  -- the 66, and the removals
+  abbrev pairing : Effect
+  pairing = pairOff i (c .id) (net c a b) k legged
 
-  -- the sums of the step, for what counts neither removals nor trades
-  quiet : (f : Report → ℕ) → ((id s d : ℕ) (z : Cause) → f (removed id s d z) ≡ 0) → ((p q s t x y : ℕ) → f (trade p q s t x y) ≡ 0) →
-      total f (legIn i a b k v .reports) ≡ f (pair (c .id) (net c a b) k)
-  quiet f z t = omega (arith, legIn-total f z, chain-silent f t ch₁, chain-silent f t ch₂)
+  tells : Tells (c .id) k (pairing .reports)
+  tells = pair-tells i (c .id) (net c a b) k legged
+
+  legIn-total : (f : Report → ℕ) → total f (legIn i a b k v .reports) ≡ total f (first-trades .reports) + total f (second-trades .reports) + total f (pairing .reports)
+  unfolding legIn _⟫_ complexAt
+  legIn-total f = rw (total-append, total-append)
+
+  -- what counts no trades counts the pair alone
+  quiet : (f : Report → ℕ) → ((p q s t x y : ℕ) → f (trade p q s t x y) ≡ 0) → total f (legIn i a b k v .reports) ≡ total f (pairing .reports)
+  quiet f t = omega (arith, legIn-total f, chain-silent f t ch₁, chain-silent f t ch₂)
 
   pub legIn-filled : legIn i a b k v .venue .complex ≡ fillComplex i k v .complex
   legIn-filled = ap (λ (w : Venue). w .complex) legIn-venue ∙ pair-complex i (c .id) (net c a b) k legged ∙ refill
@@ -172,35 +184,43 @@ module _ (v : Venue) (i a b k : ℕ) where
     size2′ : k ≤ sizeIn (c .series2) (opposite (c .side2)) b (first-trades .venue .regular)
     size2′ = rw (chain-elsewhere ch₁ .size (c .series2) (opposite (c .side2)) b (m .apart)) (m .size2)
 
+    -- in a leg-in step's records the contracts in each series are those paired
     pub legIn-pairs : Pairs v i k (legIn i a b k v .reports) (legIn i a b k v .venue)
-    unfolding contracts paired crossedFor cancelledOf
+    unfolding paired crossedFor cancelledOf
     legIn-pairs = record {
       first =
           omega (
             arith,
-            legIn-total (contracts (c .id) (c .series1)) (λ _ _ _ _. refl),
+            legIn-total (contracts (c .id) (c .series1)),
             take-total (c .id) (c .series1) (c .side1) a k k v (omega arith) (m .size1),
             chain-other (c .id) (c .series1) (λ e. m .apart (sym e)) ch₂,
+            tells .contracts0 (c .id) (c .series1),
           );
       second =
           omega (
             arith,
-            legIn-total (contracts (c .id) (c .series2)) (λ _ _ _ _. refl),
+            legIn-total (contracts (c .id) (c .series2)),
             take-total (c .id) (c .series2) (c .side2) b k k (first-trades .venue) (omega arith) size2′,
             chain-other (c .id) (c .series2) (m .apart) ch₁,
+            tells .contracts0 (c .id) (c .series2),
           );
       others = λ q ne r s.
           (let r₁ = cx-kept {w = first-trades .venue} (chain-fewer ch₁) (rw (chain-elsewhere ch₁ .complex) (fewerC-refl _)) r in
-          omega (arith, legIn-total (contracts (q .id) s) (λ _ _ _ _. refl), chain-cx (q .id) s ne (r .none) ch₁, chain-cx (q .id) s ne (r₁ .none) ch₂));
-      pairs = λ y. quiet (paired y) (λ _ _ _ _. refl) (λ _ _ _ _ _ _. refl);
-      crosses = λ y. quiet (crossedFor y) (λ _ _ _ _. refl) (λ _ _ _ _ _ _. refl);
-      cancels = λ y. quiet (cancelledOf y) (λ _ _ _ _. refl) (λ _ _ _ _ _ _. refl);
+          omega (
+            arith,
+            legIn-total (contracts (q .id) s),
+            chain-cx (q .id) s ne (r .none) ch₁,
+            chain-cx (q .id) s ne (r₁ .none) ch₂,
+            tells .contracts0 (q .id) s,
+          ));
+      pairs = λ y. quiet (paired y) (λ _ _ _ _ _ _. refl) ∙ tells .pairs y;
+      crosses = λ y. quiet (crossedFor y) (λ _ _ _ _ _ _. refl) ∙ tells .crossed0 y;
+      cancels = λ y. quiet (cancelledOf y) (λ _ _ _ _ _ _. refl) ∙ tells .cancelled0 y;
       filled = legIn-filled;
     }
 
     leg-orders : (y s : ℕ) → Reg y s v →
         openRegular y (v .regular) ≡ openRegular y (legged .regular) + (total (contracts y s) (legIn i a b k v .reports) + total (cancelledOf y) (legIn i a b k v .reports))
-    unfolding contracts cancelledOf
     leg-orders y s r =
         let x≠y : c .id ≢ y = λ g. r .none i (m .holds) g in
         let r₁ = reg-kept {w = first-trades .venue} (chain-fewer ch₁) (rw (chain-elsewhere ch₁ .complex) (fewerC-refl _)) r in
@@ -208,8 +228,9 @@ module _ (v : Venue) (i a b k : ℕ) where
           arith,
           chain-reg y s x≠y r ch₁,
           chain-reg y s x≠y r₁ ch₂,
-          legIn-total (contracts y s) (λ _ _ _ _. refl),
-          quiet (cancelledOf y) (λ _ _ _ _. refl) (λ _ _ _ _ _ _. refl),
+          legIn-total (contracts y s),
+          tells .contracts0 y s,
+          legIn-pairs .cancels y,
         )
 
     same-regular : legIn i a b k v .venue .regular ≡ legged .regular
