@@ -19,7 +19,7 @@ use Rattle.rules.specs.Sound.{sound}
 use Rattle.rules.specs.Calls.{Outcome, after, called, ends, one, oneFrom, run, runFrom}
 use Rattle.demands.specs.Kept.{FreshSound, Kept, NeverNine}
 use Rattle.demands.specs.Demand.{ComplexAdds, Demand3, Given, Opening, Seen, alone, byRun, calls, extend, opening, parts, start}
-use Rattle.demands.specs.ReadsBack.{StepFits, WholeMemory}
+use Rattle.demands.specs.ReadsBack.{ReadsBack, StepFits, WholeMemory}
 use Rattle.rules.proofs.Answering.{told}
 use Rattle.rules.proofs.Calling.{one-memory, one-room, oneFrom-by, run-memory, run-room, runFrom-by}
 use Rattle.rules.proofs.Reading.{reads-back}
@@ -150,6 +150,9 @@ unfolding one called
 never-nine o gs g =
     let s = calls (opening o) gs in
     not-nine (s .venue) (sound-in (s .venue) (all-account o gs .invariant) .is) (s .done) (g .room) (g .bytes)
+
+pub sheet-reads-back : ReadsBack
+sheet-reads-back = reads-back
 
 pub whole-memory : WholeMemory
 whole-memory = record { byRun = run-memory; byOne = one-memory }
