@@ -16,8 +16,8 @@ use Rattle.rules.specs.declared.Verdict.the-variants.{Stands}
 use Rattle.rules.specs.Base.{held, if_then_else_}
 use Rattle.rules.specs.Words.{noComplex, noRegular, opposite, placeOf, withComplex, withLast, withRegular}
 use Rattle.rules.specs.Bytes.{i32}
-use Rattle.rules.specs.Prices.{bestSize}
-use Rattle.rules.specs.Standing.{otherClear, otherLeg, otherSize, pairs, parentOf, verdict, verdictOf}
+use Rattle.rules.specs.Standing.{otherLeg, otherSize, pairs, parentOf, verdict, verdictOf}
+use Rattle.rules.specs.Sound.{apart}
 use Rattle.rules.specs.Sums.{openComplex, openRegular}
 use Rattle.rules.proofs.Adding.{open-put}
 use Rattle.rules.proofs.Filling.{cx, lg, reg}
@@ -32,19 +32,18 @@ use Rattle.demands.proofs.Homes.{Fine, Home, InRange, good-rr, good-xx,
 
 -- what stands can be paid for
 stands-pays : (v : Venue) (s d : ℕ) → Fine v → AllStand v → d < 2 → held (lg v (placeOf s d) .quantity) ≡ true → Pays v s (lg v (placeOf s d))
-unfolding AllStand verdict pairs otherClear otherSize
+unfolding AllStand verdict pairs
 stands-pays v s d f st d2 h =
     let n = placeOf s d in
-    let l = lg v n in
-    let a : verdictOf v (parentOf v l) (n / 2) (n % 2) l ≡ Stands = rw h at (st n) in
-    let p = passed a .pair in
-    let ap : n / 2 ≢ otherLeg (parentOf v l) (n / 2) .series = rw (parent-found v f n h) (other-apart v f n h) in
-    let q = rw (place-series s d d2) at p in
-    let sz : leb (l .quantity) (bestSize v (otherLeg (parentOf v l) s .series) (opposite (otherLeg (parentOf v l) s .side))) ≡ true = search (and-l, and-r, q) in
+    let c = parentOf v (lg v n) in
+    let a : verdictOf v c (n / 2) (n % 2) (lg v n) ≡ Stands = rw h at (st n) in
+    let q = rw (place-series s d d2) at (passed a .pair) in
+    let apart : n / 2 ≢ otherLeg c (n / 2) .series = rw (parent-found v f n h) (other-apart v f n h) in
+    let size : leb (lg v n .quantity) (otherSize v c s) ≡ true = search (and-l, and-r, q) in
     record {
-      apart = rw (place-series s d d2) at ap;
+      apart = rw (place-series s d d2) at apart;
       clear = search (and-l, and-r, q);
-      size = leb-true _ _ sz;
+      size = leb-true _ _ size;
     }
 
 -- A regular order -----------------------------------------------------------------------------

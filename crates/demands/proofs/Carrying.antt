@@ -23,6 +23,7 @@ use Rattle.rules.specs.Standing.{settle, verdict}
 use Rattle.rules.specs.Trading.{fillComplex}
 use Rattle.rules.specs.Complex.{anyClosed, cross, crossTurn, crosses, legIn, legInTurn, legsIn, reversed, touch, touches, work}
 use Rattle.rules.proofs.Cases.{crossTurn-by, if-by, repeat-by}
+use Rattle.rules.proofs.Ending.{legs-facts}
 use Rattle.rules.proofs.Filling.{cx}
 use Rattle.rules.proofs.Ledger.{Moves, moves-nothing, moves-remove, moves-then}
 use Rattle.rules.proofs.Moving.{Crosses, moves-cross, other-sameC}
@@ -92,10 +93,6 @@ module _ (i j k : ℕ) (v : Venue) (f : Fine v) (m : Crosses v i j k) where
   pub carries-cross : Carries v (cross i j k v)
   carries-cross = record { moves = moves-cross i j k v m; homes = cross-homes }
 
-legs-held : (v : Venue) (c : Complex) (a b : ℕ) → legsIn v c a b ≡ true → held (c .quantity) ≡ true
-unfolding legsIn
-legs-held v c a b z = search (and-l, and-r, z)
-
 module _ (i : ℕ) (i32 : i < 32) where
   -- the order that is picked crosses
   picked-crosses : (v : Venue) (j : ℕ) (m : Complex) → Fine v → held (cx v i .quantity) ≡ true → At noComplex (crosses v (cx v i)) (v .complex) j m →
@@ -145,8 +142,8 @@ module _ (i : ℕ) (i32 : i < 32) where
       (λ e. (
         carries-legIn a b _ v f (record {
           fits = rw (f .good .len2) i32;
-          holds = legs-held v c a b e;
-          apart = f .good .ranges i (legs-held v c a b e) .apart;
+          holds = legs-facts v c a b e .0;
+          apart = f .good .ranges i (legs-facts v c a b e .0) .apart;
           enough = omega arith;
           size1 = omega arith;
           size2 = omega arith;

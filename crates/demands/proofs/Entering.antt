@@ -1,53 +1,53 @@
 -- What an incoming regular order does: its turns, each a trade or a hit, carry the invariant. The one fact kept meanwhile is `Ready`: the
 -- legging order that it could hit can still be paid for.
-use mathlib.Core.Path.{_∙_, _≡_, ap, refl, subst, sym}
-use mathlib.Core.Bool.{Bool, false, false≢true, true}
+use mathlib.Core.Path.{_∙_, _≡_, ap, subst, sym}
+use mathlib.Core.Bool.{true}
 use mathlib.Core.Logic.{_≢_, _⊎_}
 use mathlib.Core.List.{List}
 use Prim.Native.Nat.{_<_, _≤_, min, ℕ}
 use native.Mathlib.Omega.{arith}
 use lib.ListN.{getD, length}
-use borrow.Author.Tests.{eqb-true}
 use Rattle.rules.specs.declared.Complex.{Complex}
 use Rattle.rules.specs.declared.Legging.{Legging}
 use Rattle.rules.specs.declared.Regular.{Regular}
 use Rattle.rules.specs.declared.Venue.{Venue}
-use Rattle.rules.specs.Base.{held, if_then_else_, placeWhere}
+use Rattle.rules.specs.Base.{held, placeWhere}
 use Rattle.rules.specs.Words.{isComplexOf, leggingAt, noComplex, noLegging, noRegular, opposite, placeOf, regularAt}
 use Rattle.rules.specs.Effects.{repeat, report, turned}
-use Rattle.rules.specs.Prices.{bestRegular, bestSize, clearPrice, ownPrice, restsAt, sizeIn}
-use Rattle.rules.specs.Standing.{otherClear, otherLeg, parentOf}
+use Rattle.rules.specs.Prices.{bestRegular, bestSize, clearPrice, restsAt, sizeIn}
+use Rattle.rules.specs.Standing.{otherClear, otherLeg, otherSize, parentOf}
 use Rattle.rules.specs.Trading.{fillRegular, tradeWith}
-use Rattle.rules.specs.Order.{hit, isMet, leggingFirst, meet, meetTurn}
+use Rattle.rules.specs.Order.{hit, isMet, meet, meetTurn}
 use Rattle.rules.proofs.Cases.{meetTurn-by}
 use Rattle.rules.proofs.Filling.{cx, lg, reg}
 use Rattle.rules.proofs.Finding.{leg-series}
 use Rattle.rules.proofs.Generating.{place-series}
 use Rattle.rules.proofs.Hitting.{Hits, hit-removes, hit-stays, hit-venue, hitting, hitting-complex, hitting-legging, moves-hit}
 use Rattle.rules.proofs.Moving.{Meets, moves-meet, other-same}
+use Rattle.rules.proofs.Owning.{first-held}
 use Rattle.rules.proofs.Picking.{At}
 use Rattle.rules.proofs.Settling.{clear-best}
-use Rattle.rules.proofs.Sizes.{Elsewhere, elsewhere-trans, fill-elsewhere, rests-held, rests-series}
-use Rattle.rules.proofs.Tests.{and-l, and-r, held-pos, pos-held}
+use Rattle.rules.proofs.Sizes.{Elsewhere, elsewhere-trans, fill-elsewhere, rests-held, rests-series, rests-side}
+use Rattle.rules.proofs.Tests.{and-l}
 use Rattle.demands.proofs.Carrying.{Carries, TurnOk, opposite-not, repeat-carries}
-use Rattle.demands.proofs.Homes.{Fine, Home, Homes, found, homes-pairOff, homes-same, place-at}
+use Rattle.demands.proofs.Homes.{Fine, Home, Homes, home-held, homes-pairOff, homes-same, parent-found, place-at}
 
 -- The legging order that the order could hit --------------------------------------------------
 
 -- its other leg can be paid for
 pub record Pays (v : Venue) (s : ℕ) (l : Legging) : Type 0 where
   pub apart : s ≢ otherLeg (parentOf v l) s .series
-  pub clear : held (clearPrice v (otherLeg (parentOf v l) s .series) (opposite (otherLeg (parentOf v l) s .side))) ≡ true
-  pub size : l .quantity ≤ bestSize v (otherLeg (parentOf v l) s .series) (opposite (otherLeg (parentOf v l) s .side))
+  pub clear : held (otherClear v (parentOf v l) s) ≡ true
+  pub size : l .quantity ≤ otherSize v (parentOf v l) s
 
 module _ {s : ℕ} {v w : Venue} (x : Elsewhere s v w) where
-  clear-same : (t e : ℕ) → s ≢ t → clearPrice w t e ≡ clearPrice v t e
-  unfolding clearPrice leggingAt bestRegular
-  clear-same t e ne = rw (x .best t e ne, x .legging)
+  clear-same : (c : Complex) → s ≢ otherLeg c s .series → otherClear w c s ≡ otherClear v c s
+  unfolding otherClear clearPrice leggingAt bestRegular
+  clear-same c ne = rw (x .best _ _ ne, x .legging)
 
-  size-same : (t e : ℕ) → s ≢ t → bestSize w t e ≡ bestSize v t e
-  unfolding bestSize bestRegular
-  size-same t e ne = rw (x .best t e ne, x .size t e _ ne)
+  size-same : (c : Complex) → s ≢ otherLeg c s .series → otherSize w c s ≡ otherSize v c s
+  unfolding otherSize bestSize bestRegular
+  size-same c ne = rw (x .best _ _ ne, x .size _ _ _ ne)
 
   parent-same : (l : Legging) → parentOf w l ≡ parentOf v l
   unfolding parentOf
@@ -56,8 +56,8 @@ module _ {s : ℕ} {v w : Venue} (x : Elsewhere s v w) where
   pub pays-kept : (l : Legging) → Pays v s l → Pays w s l
   pays-kept l p = record {
     apart = rw parent-same (p .apart);
-    clear = rw (parent-same, clear-same _ _ (p .apart)) (p .clear);
-    size = rw (parent-same, size-same _ _ (p .apart)) (p .size);
+    clear = rw (parent-same, clear-same (parentOf v l) (p .apart)) (p .clear);
+    size = rw (parent-same, size-same (parentOf v l) (p .apart)) (p .size);
   }
 
   pub pays-there : (n : ℕ) → (held (lg v n .quantity) ≡ true → Pays v s (lg v n)) → held (lg w n .quantity) ≡ true → Pays w s (lg w n)
@@ -88,15 +88,11 @@ module _ (i s d : ℕ) (v : Venue) (f : Fine v) (r : Ready i s d v) where
       (a : At noRegular (isMet (o .series) (o .side) (o .price)) (v .regular) j m) where
     rests : restsAt (o .series) (opposite (o .side)) m ≡ true
     unfolding isMet
-    rests = let z = a .is in search (and-l, and-r, z)
-
-    side-of : m .side ≡ opposite (o .side)
-    unfolding restsAt
-    side-of = let z = rests in eqb-true (m .side) (opposite (o .side)) (search (and-l, and-r, z))
+    rests = and-l _ _ (a .is)
 
     meets : Meets v i j (min (o .quantity) (m .quantity))
     meets = record {
-      apart = λ e. opposite-not (o .side) (ap (λ (x : Regular). x .side) (ap (λ (n : ℕ). reg v n) e ∙ a .at) ∙ side-of);
+      apart = λ e. opposite-not (o .side) (ap (λ (x : Regular). x .side) (ap (λ (n : ℕ). reg v n) e ∙ a .at) ∙ rests-side _ _ m rests);
       fits1 = fits;
       fits2 = a .fits;
       held1 = h;
@@ -133,24 +129,23 @@ module _ (i s d : ℕ) (v : Venue) (f : Fine v) (r : Ready i s d v) where
     abbrev k : ℕ
     k = min (o .quantity) (l .quantity)
 
-    home : Home v (placeOf s (opposite d)) l
+    abbrev home : Home v (placeOf s (opposite d)) l
     home = f .homes .home (placeOf s (opposite d)) hl
 
     abbrev j : ℕ
     j = home .at
 
     holdsC : held (cx v j .quantity) ≡ true
-    holdsC = let z = held-pos (l .quantity) hl in let e = home .enough in pos-held (cx v j .quantity) (omega arith)
+    holdsC = home-held v f (placeOf s (opposite d)) hl
 
     parent-is : parentOf v l ≡ cx v j
-    unfolding parentOf
-    parent-is = rw (← home .id) (found v (f .good) j (home .fits) holdsC)
+    parent-is = parent-found v f (placeOf s (opposite d)) hl
 
     at-series : (o .series ≡ cx v j .series1) ⊎ (o .series ≡ cx v j .series2)
     at-series = rw (r .series) (rw (place-series s (opposite d) (r .small)) at (leg-series (cx v j) _ _ (home .leg)))
 
     paid : l .quantity ≤ sizeIn (otherLeg (parentOf v l) s .series) (opposite (otherLeg (parentOf v l) s .side)) (otherClear v (parentOf v l) s) (v .regular)
-    unfolding bestSize otherClear
+    unfolding bestSize otherClear otherSize
     paid = let p = r .pays hl in rw (clear-best v _ _ (p .clear)) (p .size)
 
     hits : Hits v i j k l
@@ -199,29 +194,15 @@ module _ (i s d : ℕ) (v : Venue) (f : Fine v) (r : Ready i s d v) where
         )
 
   -- a turn
-  own-held : held (ownPrice l) ≡ true → held (l .quantity) ≡ true
-  unfolding ownPrice
-  own-held = go (held (l .quantity))
-    where
-      go : (b : Bool) → held (if b then l .price else 0) ≡ true → b ≡ true
-      go true z = refl
-      go false z = absurd (false≢true z)
-
   legging-is : leggingAt v (o .series) (opposite (o .side)) ≡ l
   unfolding leggingAt
   legging-is = rw (r .series, r .side)
-
-  first-held : (p : ℕ) → leggingFirst o (leggingAt v (o .series) (opposite (o .side))) p ≡ true → held (l .quantity) ≡ true
-  unfolding leggingFirst
-  first-held p z =
-      let y : held (ownPrice (leggingAt v (o .series) (opposite (o .side)))) ≡ true = search (and-l, and-r, z) in
-      own-held (rw legging-is at y)
 
   pub meetTurn-ok : TurnOk (Ready i s d) v (meetTurn i v)
   unfolding regularAt
   meetTurn-ok =
       meetTurn-by (TurnOk (Ready i s d) v) i v (λ _. tt) (λ _ _ _. tt)
-      (λ h p e. subst (λ (x : Legging). TurnOk (Ready i s d) v (turned (hit i x (min (o .quantity) (x .quantity)) v))) (sym legging-is) (carries-hit h (first-held p e)))
+      (λ h p e. subst (λ (x : Legging). TurnOk (Ready i s d) v (turned (hit i x (min (o .quantity) (x .quantity)) v))) (sym legging-is) (carries-hit h (subst (λ (x : Legging). held (x .quantity) ≡ true) legging-is (first-held o _ p e))))
       (λ h j m a _. carries-meet j m h a)
 
 pub enter-carries : (i s d fuel : ℕ) (v : Venue) → Fine v → Ready i s d v → Carries v (repeat fuel (meetTurn i) v)

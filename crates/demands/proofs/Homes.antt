@@ -44,13 +44,18 @@ pub record InRange (c : Complex) : Type 0 where
   pub series2 : c .series2 < 8
   pub apart : c .series1 ≢ c .series2
 
+-- shapes, ranges and ids: 1 of regular orders, 2 of complex ones
 pub record Good (v : Venue) : Type 0 where
   pub len1 : length (v .regular) ≡ 128
   pub len2 : length (v .complex) ≡ 32
+  -- resting complex orders are in range
   pub ranges : (j : ℕ) → held (cx v j .quantity) ≡ true → InRange (cx v j)
+  -- ids rise by place
   pub rise1 : (i j : ℕ) → i < j → held (reg v i .quantity) ≡ true → held (reg v j .quantity) ≡ true → reg v i .id < reg v j .id
   pub rise2 : (i j : ℕ) → i < j → held (cx v i .quantity) ≡ true → held (cx v j .quantity) ≡ true → cx v i .id < cx v j .id
+  -- no id rests in both books
   pub rx : (i j : ℕ) → held (reg v i .quantity) ≡ true → held (cx v j .quantity) ≡ true → reg v i .id ≡ cx v j .id → ⊥
+  -- and none is above the last
   pub rlast : (i : ℕ) → held (reg v i .quantity) ≡ true → reg v i .id ≤ v .last
   pub xlast : (j : ℕ) → held (cx v j .quantity) ≡ true → cx v j .id ≤ v .last
 

@@ -27,7 +27,7 @@ use Rattle.rules.proofs.Better.{is-false}
 use Rattle.rules.proofs.Cases.{crossTurn-by, if-by, meetTurn-by, repeat-by}
 use Rattle.rules.proofs.Filling.{cx, fill-fewer, fill-fewerC, held-fits, held-fitsC, reg}
 use Rattle.rules.proofs.Keeping.{Lasts, cross-from, hit-from, keeps-crossing, keeps-touch, meet-from}
-use Rattle.rules.proofs.Owning.{Own, byLegging, byRegular, own-is}
+use Rattle.rules.proofs.Owning.{Own, byLegging, byRegular, first-held, own-is}
 use Rattle.rules.proofs.Pairing.{legIn-filled}
 use Rattle.rules.proofs.Picking.{At, Chosen}
 use Rattle.rules.proofs.Sizes.{best-some}
@@ -91,7 +91,7 @@ filled i k v h = rw (getD-set-same (v .regular) i _ noRegular (held-fits (v .reg
 
 meetTurn-less : (i : ℕ) (v : Venue) → Smaller (λ w. reg w i .quantity) v (meetTurn i v)
 unfolding regularAt
-meetTurn-less i v = meetTurn-by (Smaller (λ w. reg w i .quantity) v) i v (λ _. tt) (λ _ _ _. tt) (λ h p e. hitting h (own-pos p e)) meets
+meetTurn-less i v = meetTurn-by (Smaller (λ w. reg w i .quantity) v) i v (λ _. tt) (λ _ _ _. tt) (λ h p e. hitting h (held-pos (l .quantity) (first-held _ l p e))) meets
   where
     q : ℕ
     q = reg v i .quantity
@@ -101,13 +101,6 @@ meetTurn-less i v = meetTurn-by (Smaller (λ w. reg w i .quantity) v) i v (λ _.
 
     less : (m : ℕ) → held q ≡ true → 0 < m → q - min q m < q
     less m h p = let z = held-pos q h in omega arith
-
-    own-pos : (p : ℕ) → leggingFirst (reg v i) l p ≡ true → 0 < l .quantity
-    own-pos p z = held-pos (l .quantity) (go (held (l .quantity)) (unfold leggingFirst ownPrice in (search (and-l, and-r, z))))
-      where
-        go : (b : Bool) → held (if b then l .price else 0) ≡ true → b ≡ true
-        go true e = refl
-        go false e = absurd (false≢true e)
 
     hitting : held q ≡ true → 0 < l .quantity → reg (hit i l (min q (l .quantity)) v .venue) i .quantity < q
     hitting h p =
@@ -248,7 +241,7 @@ after-crossing i j v h = none-crosses i j _ (crossing-ends i (cx v i .quantity) 
 leg-less : (i a b k : ℕ) (v : Venue) → held (cx v i .quantity) ≡ true → cx (legIn i a b k v .venue) i .quantity ≡ cx v i .quantity - k
 leg-less i a b k v h = ap (λ (l : List Complex). getD l i noComplex .quantity) (legIn-filled v i a b k) ∙ filledC i k v h
 
-legs-facts : (v : Venue) (c : Complex) (a b : ℕ) → legsIn v c a b ≡ true → (held (c .quantity) ≡ true) × (held a ≡ true) × (held b ≡ true)
+pub legs-facts : (v : Venue) (c : Complex) (a b : ℕ) → legsIn v c a b ≡ true → (held (c .quantity) ≡ true) × (held a ≡ true) × (held b ≡ true)
 unfolding legsIn
 legs-facts v c a b e = (search (and-l, and-r, e) depth 8, search (and-l, and-r, e) depth 8, search (and-l, and-r, e) depth 8)
 

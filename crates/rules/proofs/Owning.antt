@@ -16,6 +16,7 @@ use Rattle.rules.specs.Words.{isPrice, isRegularPrice, leggingAt, noLegg
 use Rattle.rules.specs.Prices.{bestIn, bestOwn, bestRegular, better, betterOf, ownPrice, restsAt}
 use Rattle.rules.specs.Removal.{remove}
 use Rattle.rules.specs.Trading.{fillComplex, fillRegular}
+use Rattle.rules.specs.Order.{leggingFirst}
 use Rattle.rules.specs.Places.{closeGaps}
 use Rattle.rules.specs.Refusals.{regularInRange}
 use Rattle.rules.proofs.Better.{best-best, is-false, of-other, own-of}
@@ -35,6 +36,20 @@ pub data Own (v : Venue) (s d p : ℕ) : Type 0 where
 pub own-is : (l : Legging) (p : ℕ) → held (l .quantity) ≡ true → l .price ≡ p → ownPrice l ≡ p
 unfolding ownPrice
 own-is l p h e = rw h e
+
+-- where there is an own price, the legging order is there
+own-held : (l : Legging) → held (ownPrice l) ≡ true → held (l .quantity) ≡ true
+unfolding ownPrice
+own-held l = go (held (l .quantity))
+  where
+    go : (b : Bool) → held (if b then l .price else 0) ≡ true → b ≡ true
+    go true z = refl
+    go false z = absurd (false≢true z)
+
+-- so the legging order that is met first is there
+pub first-held : (o : Regular) (l : Legging) (p : ℕ) → leggingFirst o l p ≡ true → held (l .quantity) ≡ true
+unfolding leggingFirst
+first-held o l p z = own-held l (search (and-l, and-r, z))
 
 -- Fewer own prices ----------------------------------------------------------------------------
 
