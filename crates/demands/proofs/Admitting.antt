@@ -15,7 +15,6 @@ use Rattle.rules.specs.declared.Venue.{Venue}
 use Rattle.rules.specs.declared.Verdict.the-variants.{Stands}
 use Rattle.rules.specs.Base.{held, if_then_else_}
 use Rattle.rules.specs.Words.{noComplex, noRegular, opposite, placeOf, withComplex, withLast, withRegular}
-use Rattle.rules.specs.Bytes.{i32}
 use Rattle.rules.specs.Standing.{otherLeg, otherSize, pairs, parentOf, verdict, verdictOf}
 use Rattle.rules.specs.Sound.{apart}
 use Rattle.rules.specs.Sums.{openComplex, openRegular}
@@ -48,17 +47,24 @@ stands-pays v s d f st d2 h =
 
 -- A regular order -----------------------------------------------------------------------------
 
+-- o has a new id, and i is the free place after all held ones
+pub record Joins (v : Venue) (o : Regular) (i : ℕ) : Type 0 where
+  pub fine : Fine v
+  pub new : v .last < o .id
+  pub there : i < 128
+  pub free : held (reg v i .quantity) ≡ false
+  pub behind : (n : ℕ) → held (reg v n .quantity) ≡ true → n < i
+
 module _ (v : Venue) (o : Regular) (i : ℕ) where
   abbrev pub withOrder : Venue
   withOrder = withRegular (withLast v (o .id)) (set (v .regular) i o)
 
-  module _ (f : Fine v) (new : v .last < o .id) (i128 : i < 128) (free : held (reg v i .quantity) ≡ false)
-      (after : (n : ℕ) → held (reg v n .quantity) ≡ true → n < i) where
+  module _ (joins : Joins v o i) where
     fits : i < length (v .regular)
-    fits = rw (f .good .len1) i128
+    fits = rw (joins .fine .good .len1) (joins .there)
 
     lower : (n : ℕ) → held (reg v n .quantity) ≡ true → reg v n .id < o .id
-    lower n h = let z = f .good .rlast n h in omega arith
+    lower n h = let z = joins .fine .good .rlast n h in omega arith
 
     abbrev id-of : Regular → ℕ
     id-of x = x .id
@@ -70,24 +76,24 @@ module _ (v : Venue) (o : Regular) (i : ℕ) where
     unfolding withRegular withLast
     order-fine = record {
       good = record {
-        len1 = length-set (v .regular) i o ∙ f .good .len1;
-        len2 = f .good .len2;
-        ranges = f .good .ranges;
-        rise1 = put-rises noRegular id-of quantity-of (v .regular) i o fits lower after (f .good .rise1);
-        rise2 = f .good .rise2;
+        len1 = length-set (v .regular) i o ∙ joins .fine .good .len1;
+        len2 = joins .fine .good .len2;
+        ranges = joins .fine .good .ranges;
+        rise1 = put-rises noRegular id-of quantity-of (v .regular) i o fits lower (joins .behind) (joins .fine .good .rise1);
+        rise2 = joins .fine .good .rise2;
         rx = λ a j h k e.
-            (let z = f .good .xlast j k in
+            (let z = joins .fine .good .xlast j k in
             let x = put-old noRegular id-of quantity-of (v .regular) i o fits lower (cx v j .id) a (omega arith) h e in
-            f .good .rx a j (x .0) k (sym (ap id-of (x .1)) ∙ e));
+            joins .fine .good .rx a j (x .0) k (sym (ap id-of (x .1)) ∙ e));
         rlast = put-most noRegular id-of quantity-of (v .regular) i o fits lower;
-        xlast = λ j h. let z = f .good .xlast j h in omega arith;
+        xlast = λ j h. let z = joins .fine .good .xlast j h in omega arith;
       };
-      homes = homes-same refl refl (f .homes);
+      homes = homes-same refl refl (joins .fine .homes);
     }
 
     alone : (a b : ℕ) → held (reg withOrder a .quantity) ≡ true → held (reg withOrder b .quantity) ≡ true → reg withOrder a .id ≡ reg withOrder b .id → a ≡ b
     unfolding withRegular withLast
-    alone = put-alone noRegular id-of quantity-of (v .regular) i o fits lower (good-rr (f .good))
+    alone = put-alone noRegular id-of quantity-of (v .regular) i o fits lower (good-rr (joins .fine .good))
 
     -- its id is its own
     pub order-reg : Reg (o .id) (o .series) withOrder
@@ -95,7 +101,7 @@ module _ (v : Venue) (o : Regular) (i : ℕ) where
     order-reg = record {
       home = λ a h e. ap (λ (x : Regular). x .series) (put-new noRegular id-of quantity-of (v .regular) i o fits lower a h e);
       alone = λ a b h k p q. alone a b h k (p ∙ sym q);
-      none = λ j h e. let z = f .good .xlast j h in omega arith;
+      none = λ j h e. let z = joins .fine .good .xlast j h in omega arith;
     }
 
     -- and the others' are theirs
@@ -122,8 +128,8 @@ module _ (v : Venue) (o : Regular) (i : ℕ) where
     order-elsewhere : Elsewhere (o .series) v withOrder
     unfolding withRegular withLast
     order-elsewhere = record {
-      best = λ t e ne. best-set t e (v .regular) i o (free-shows t e _ free) (not-there t e o ne);
-      size = λ t e p ne. size-set t e p (v .regular) i o (free-shows t e _ free) (not-there t e o ne);
+      best = λ t e ne. best-set t e (v .regular) i o (free-shows t e _ (joins .free)) (not-there t e o ne);
+      size = λ t e p ne. size-set t e p (v .regular) i o (free-shows t e _ (joins .free)) (not-there t e o ne);
       complex = refl;
       legging = refl;
     }
@@ -138,30 +144,37 @@ module _ (v : Venue) (o : Regular) (i : ℕ) where
 
     pub order-ready : AllStand v → Ready i (o .series) (o .side) withOrder
     order-ready st = record {
-      fits = i128;
+      fits = joins .there;
       series = ap (λ (x : Regular). x .series) at-i;
       side = ap (λ (x : Regular). x .side) at-i;
       small = opposite-small (o .side);
-      pays = pays-there order-elsewhere (placeOf (o .series) (opposite (o .side))) (stands-pays v (o .series) (opposite (o .side)) f st (opposite-small (o .side)));
+      pays = pays-there order-elsewhere (placeOf (o .series) (opposite (o .side))) (stands-pays v (o .series) (opposite (o .side)) (joins .fine) st (opposite-small (o .side)));
     }
 
     pub order-open : (y : ℕ) → openRegular y (withOrder .regular) ≡ openRegular y (v .regular) + (if eqb (o .id) y then o .quantity else 0)
     unfolding withRegular withLast
-    order-open y = open-put noRegular id-of quantity-of y (v .regular) i o fits (free-none _ free)
+    order-open y = open-put noRegular id-of quantity-of y (v .regular) i o fits (free-none _ (joins .free))
 
 -- A complex order -----------------------------------------------------------------------------
+
+pub record JoinsC (v : Venue) (c : Complex) (i : ℕ) : Type 0 where
+  pub fine : Fine v
+  pub range : InRange c
+  pub new : v .last < c .id
+  pub there : i < 32
+  pub free : held (cx v i .quantity) ≡ false
+  pub behind : (n : ℕ) → held (cx v n .quantity) ≡ true → n < i
 
 module _ (v : Venue) (c : Complex) (i : ℕ) where
   abbrev pub withComplexOrder : Venue
   withComplexOrder = withComplex (withLast v (c .id)) (set (v .complex) i c)
 
-  module _ (f : Fine v) (range : InRange c) (new : v .last < c .id) (i32 : i < 32) (free : held (cx v i .quantity) ≡ false)
-      (after : (n : ℕ) → held (cx v n .quantity) ≡ true → n < i) where
+  module _ (joins : JoinsC v c i) where
     fitsC : i < length (v .complex)
-    fitsC = rw (f .good .len2) i32
+    fitsC = rw (joins .fine .good .len2) (joins .there)
 
     lowerC : (n : ℕ) → held (cx v n .quantity) ≡ true → cx v n .id < c .id
-    lowerC n h = let z = f .good .xlast n h in omega arith
+    lowerC n h = let z = joins .fine .good .xlast n h in omega arith
 
     abbrev id-ofC : Complex → ℕ
     id-ofC x = x .id
@@ -173,7 +186,7 @@ module _ (v : Venue) (c : Complex) (i : ℕ) where
     home-old : (n : ℕ) (l : Legging) → held (l .quantity) ≡ true → Home v n l → Home withComplexOrder n l
     unfolding withComplex withLast
     home-old n l h o =
-        let ne : o .at ≢ i = λ e. (let z = held-pos (l .quantity) h in let y = o .enough in let w = free-none (cx v i .quantity) free in
+        let ne : o .at ≢ i = λ e. (let z = held-pos (l .quantity) h in let y = o .enough in let w = free-none (cx v i .quantity) (joins .free) in
         let u : cx v (o .at) .quantity ≡ cx v i .quantity = ap (λ (m : ℕ). cx v m .quantity) e in omega arith) in
         let s = getD-set-other (v .complex) i (o .at) c noComplex ne in
         record { at = o .at; fits = rw length-set (o .fits); id = rw s (o .id); leg = rw s (o .leg); enough = rw s (o .enough) }
@@ -182,32 +195,32 @@ module _ (v : Venue) (c : Complex) (i : ℕ) where
     unfolding withComplex withLast
     complex-fine = record {
       good = record {
-        len1 = f .good .len1;
-        len2 = length-set (v .complex) i c ∙ f .good .len2;
-        ranges = put-each noComplex id-ofC quantity-ofC (v .complex) i c fitsC lowerC InRange range (f .good .ranges);
-        rise1 = f .good .rise1;
-        rise2 = put-rises noComplex id-ofC quantity-ofC (v .complex) i c fitsC lowerC after (f .good .rise2);
+        len1 = joins .fine .good .len1;
+        len2 = length-set (v .complex) i c ∙ joins .fine .good .len2;
+        ranges = put-each noComplex id-ofC quantity-ofC (v .complex) i c fitsC lowerC InRange (joins .range) (joins .fine .good .ranges);
+        rise1 = joins .fine .good .rise1;
+        rise2 = put-rises noComplex id-ofC quantity-ofC (v .complex) i c fitsC lowerC (joins .behind) (joins .fine .good .rise2);
         rx = λ a j h k e.
-            (let z = f .good .rlast a h in
+            (let z = joins .fine .good .rlast a h in
             let x = put-old noComplex id-ofC quantity-ofC (v .complex) i c fitsC lowerC (reg v a .id) j (omega arith) k (sym e) in
-            f .good .rx a j h (x .0) (e ∙ ap id-ofC (x .1)));
-        rlast = λ a h. let z = f .good .rlast a h in omega arith;
+            joins .fine .good .rx a j h (x .0) (e ∙ ap id-ofC (x .1)));
+        rlast = λ a h. let z = joins .fine .good .rlast a h in omega arith;
         xlast = put-most noComplex id-ofC quantity-ofC (v .complex) i c fitsC lowerC;
       };
-      homes = record { len = f .homes .len; home = λ n h. home-old n _ h (f .homes .home n h) };
+      homes = record { len = joins .fine .homes .len; home = λ n h. home-old n _ h (joins .fine .homes .home n h) };
     }
 
     aloneC : (a b : ℕ) → held (cx withComplexOrder a .quantity) ≡ true → held (cx withComplexOrder b .quantity) ≡ true →
         cx withComplexOrder a .id ≡ cx withComplexOrder b .id → a ≡ b
     unfolding withComplex withLast
-    aloneC = put-alone noComplex id-ofC quantity-ofC (v .complex) i c fitsC lowerC (good-xx (f .good))
+    aloneC = put-alone noComplex id-ofC quantity-ofC (v .complex) i c fitsC lowerC (good-xx (joins .fine .good))
 
     pub complex-cx : Cx c withComplexOrder
     unfolding withComplex withLast
     complex-cx = record {
       home = λ a h e. same-legs (put-new noComplex id-ofC quantity-ofC (v .complex) i c fitsC lowerC a h e);
       alone = λ a b h k p q. aloneC a b h k (p ∙ sym q);
-      none = λ a h e. let z = f .good .rlast a h in omega arith;
+      none = λ a h e. let z = joins .fine .good .rlast a h in omega arith;
     }
 
     oldC : (y a : ℕ) → y ≤ v .last → held (cx withComplexOrder a .quantity) ≡ true → cx withComplexOrder a .id ≡ y →
@@ -233,4 +246,4 @@ module _ (v : Venue) (c : Complex) (i : ℕ) where
 
     pub complex-open : (y : ℕ) → openComplex y (withComplexOrder .complex) ≡ openComplex y (v .complex) + (if eqb (c .id) y then c .quantity else 0)
     unfolding withComplex withLast
-    complex-open y = open-put noComplex id-ofC quantity-ofC y (v .complex) i c fitsC (free-none _ free)
+    complex-open y = open-put noComplex id-ofC quantity-ofC y (v .complex) i c fitsC (free-none _ (joins .free))

@@ -25,23 +25,23 @@ use Rattle.rules.specs.Refusals.{full, idTooLow, inRange, refusal, unknown}
 use Rattle.rules.specs.Step.{accept, answered, perform, setAway, setStatus, step}
 use Rattle.rules.specs.Sums.{cancelledOf, contracts, crossedFor, openComplex, openRegular, paired, total}
 use Rattle.rules.proofs.Adding.{open-none}
+use Rattle.rules.proofs.AllSettled.{settle-all, settled}
 use Rattle.rules.proofs.Answering.{told}
 use Rattle.rules.proofs.Calling.{left, step-by}
 use Rattle.rules.proofs.Cases.{if-by}
 use Rattle.rules.proofs.Filling.{cx, held-fits, held-fitsC, reg}
 use Rattle.rules.proofs.Finding.{where-passes}
-use Rattle.rules.proofs.Generating.{AllStand}
+use Rattle.rules.proofs.Generating.{AllStand, new}
 use Rattle.rules.proofs.Ledger.{Moved, moved-silent, moved-trans, silent-nil}
 use Rattle.rules.proofs.Moving.{moves-cancelComplex, moves-cancelRegular}
 use Rattle.rules.proofs.Refusing.{Passed, accepted}
-use Rattle.rules.proofs.AllSettled.{settle-all, settled}
 use Rattle.rules.proofs.Tests.{and-l, or-r}
 use Rattle.demands.proofs.Account.{NewComplex, NewOrder, Takes}
-use Rattle.demands.proofs.Admitting.{complex-cx, complex-fine, complex-keeps-cx, complex-keeps-reg, complex-open, order-fine, order-keeps-cx, order-keeps-reg, order-open, order-ready, order-reg, withComplexOrder, withOrder}
+use Rattle.demands.proofs.Admitting.{Joins, JoinsC, complex-cx, complex-fine, complex-keeps-cx, complex-keeps-reg, complex-open, order-fine, order-keeps-cx, order-keeps-reg, order-open, order-ready, order-reg, withComplexOrder, withOrder}
 use Rattle.demands.proofs.Carrying.{Carries, carries-then, fine-after, settle-carries, work-carries}
 use Rattle.demands.proofs.Closed.{Ends, ends-closed, ends-here}
 use Rattle.demands.proofs.Entering.{enter-carries}
-use Rattle.demands.proofs.Homes.{Fine, InRange, Invariant, Tidy, Uncrossed, after-complex, after-regular, good-kept, homes-fill, homes-same}
+use Rattle.demands.proofs.Homes.{Fine, Invariant, Tidy, Uncrossed, after-complex, after-regular, good-kept, homes-fill, homes-same}
 use Rattle.demands.proofs.Making.{Stood, generate-stood, stood-then, sweep-stood}
 use Rattle.demands.proofs.Soundness.{range-of}
 use Rattle.demands.proofs.Uncrossed.{uncrossed-closed, uncrossed-perform}
@@ -155,40 +155,32 @@ module _ (v : Venue) (f : Fine v) (st : AllStand v) (td : Tidy v) where
     abbrev i : ℕ
     i = freeRegular v
 
-    i128 : i < 128
-    unfolding full
-    i128 = leb-false 128 (freeRegular v) (p .room)
-
-    new : v .last < o .id
-    unfolding idTooLow
-    new = leb-false (o .id) (v .last) (p .fresh-id)
-
-    free : held (reg v i .quantity) ≡ false
-    free = free-is v i128 f
-
-    behind : (n : ℕ) → held (reg v n .quantity) ≡ true → n < i
-    behind = after-regular td i free
+    joins : Joins v o i
+    joins =
+        let there : i < 128 = unfold full in (leb-false 128 (freeRegular v) (p .room)) in
+        let free = free-is v there f in
+        record { fine = f; new = unfold idTooLow in (leb-false (o .id) (v .last) (p .fresh-id)); there = there; free = free; behind = after-regular td i free }
 
     abbrev w : Venue
     w = withOrder v o i
 
     fine-w : Fine w
-    fine-w = order-fine v o i f new i128 free behind
+    fine-w = order-fine v o i joins
 
     order-stood : Stood w (perform (Order o) v)
     unfolding perform order enterRegular putRegular freeRegular withLast
-    order-stood = end-settled _ fine-w (enter-carries i (o .series) (o .side) (o .quantity) w fine-w (order-ready v o i f new i128 free behind st))
+    order-stood = end-settled _ fine-w (enter-carries i (o .series) (o .side) (o .quantity) w fine-w (order-ready v o i joins st))
 
     none-yet : openRegular (o .id) (v .regular) ≡ 0
-    none-yet = open-none noRegular (λ o. o .id) (λ o. o .quantity) (o .id) (v .regular) (λ n h e. (let z = f .good .rlast n h in let y = new in omega arith))
+    none-yet = open-none noRegular (λ o. o .id) (λ o. o .quantity) (o .id) (v .regular) (λ n h e. (let z = f .good .rlast n h in let y = joins .new in omega arith))
 
     brings : NewOrder v w o
     unfolding withRegular withLast
     brings = record {
-      new = new;
+      new = joins .new;
       known = omega arith;
-      own = order-reg v o i f new i128 free behind;
-      whole = (let z = order-open v o i f new i128 free behind (o .id) in let y = none-yet in
+      own = order-reg v o i joins;
+      whole = (let z = order-open v o i joins (o .id) in let y = none-yet in
           omega (arith, rw (eq-eqb (o .id) (o .id) refl) at z));
     }
 
@@ -197,11 +189,11 @@ module _ (v : Venue) (f : Fine v) (st : AllStand v) (td : Tidy v) where
     order-takes = record {
       start = w;
       fine₀ = fine-w;
-      later = (let z = new in omega arith);
-      regs = λ y s le r. order-keeps-reg v o i f new i128 free behind y s le r;
-      cxs = λ m le r. order-keeps-cx v o i f new i128 free behind m le r;
-      openR = λ y le. (let z = order-open v o i f new i128 free behind y in
-          omega (arith, rw (ne-eqb (o .id) y (λ e. (let u = new in omega arith))) at z));
+      later = (let z = joins .new in omega arith);
+      regs = λ y s le r. order-keeps-reg v o i joins y s le r;
+      cxs = λ m le r. order-keeps-cx v o i joins m le r;
+      openR = λ y le. (let z = order-open v o i joins y in
+          omega (arith, rw (ne-eqb (o .id) y (λ e. (let u = joins .new in omega arith))) at z));
       openC = λ y le. refl;
       moved = order-stood .carries .moves;
       fine = fine-after fine-w (order-stood .carries);
@@ -214,46 +206,41 @@ module _ (v : Venue) (f : Fine v) (st : AllStand v) (td : Tidy v) where
     abbrev j : ℕ
     j = freeComplex v
 
-    j32 : j < 32
-    unfolding full
-    j32 = leb-false 32 (freeComplex v) (p .room)
-
-    newC : v .last < c .id
-    unfolding idTooLow
-    newC = leb-false (c .id) (v .last) (p .fresh-id)
-
-    freeC : held (cx v j .quantity) ≡ false
-    freeC = free-isC v j32 f
-
-    range : InRange c
-    unfolding inRange
-    range = range-of c (p .range)
-
-    behindC : (n : ℕ) → held (cx v n .quantity) ≡ true → n < j
-    behindC = after-complex td j freeC
+    joinsC : JoinsC v c j
+    joinsC =
+        let there : j < 32 = unfold full in (leb-false 32 (freeComplex v) (p .room)) in
+        let free = free-isC v there f in
+        record {
+          fine = f;
+          range = range-of c (unfold inRange in (p .range));
+          new = unfold idTooLow in (leb-false (c .id) (v .last) (p .fresh-id));
+          there = there;
+          free = free;
+          behind = after-complex td j free;
+        }
 
     abbrev u : Venue
     u = withComplexOrder v c j
 
     fine-u : Fine u
-    fine-u = complex-fine v c j f range newC j32 freeC behindC
+    fine-u = complex-fine v c j joinsC
 
     complex-stood : Stood u (perform (TwoLeg c) v)
     unfolding perform complex putComplex freeComplex withLast
     complex-stood =
-        let k = end-settled (work j u) fine-u (work-carries j j32 u fine-u) in
-        stood-then _ _ (k .carries) (generate-stood j j32 _ (fine-after fine-u (k .carries)) (k .stand))
+        let k = end-settled (work j u) fine-u (work-carries j (joinsC .there) u fine-u) in
+        stood-then _ _ (k .carries) (generate-stood j (joinsC .there) _ (fine-after fine-u (k .carries)) (k .stand))
 
     none-yetC : openComplex (c .id) (v .complex) ≡ 0
-    none-yetC = open-none noComplex (λ c. c .id) (λ c. c .quantity) (c .id) (v .complex) (λ n h e. (let z = f .good .xlast n h in let y = newC in omega arith))
+    none-yetC = open-none noComplex (λ c. c .id) (λ c. c .quantity) (c .id) (v .complex) (λ n h e. (let z = f .good .xlast n h in let y = joinsC .new in omega arith))
 
     bringsC : NewComplex v u c
     unfolding withComplex withLast
     bringsC = record {
-      new = newC;
+      new = joinsC .new;
       known = omega arith;
-      own = complex-cx v c j f range newC j32 freeC behindC;
-      whole = (let z = complex-open v c j f range newC j32 freeC behindC (c .id) in let y = none-yetC in
+      own = complex-cx v c j joinsC;
+      whole = (let z = complex-open v c j joinsC (c .id) in let y = none-yetC in
           omega (arith, rw (eq-eqb (c .id) (c .id) refl) at z));
     }
 
@@ -262,12 +249,12 @@ module _ (v : Venue) (f : Fine v) (st : AllStand v) (td : Tidy v) where
     complex-takes = record {
       start = u;
       fine₀ = fine-u;
-      later = (let z = newC in omega arith);
-      regs = λ y s le r. complex-keeps-reg v c j f range newC j32 freeC behindC y s le r;
-      cxs = λ m le r. complex-keeps-cx v c j f range newC j32 freeC behindC m le r;
+      later = (let z = joinsC .new in omega arith);
+      regs = λ y s le r. complex-keeps-reg v c j joinsC y s le r;
+      cxs = λ m le r. complex-keeps-cx v c j joinsC m le r;
       openR = λ y le. refl;
-      openC = λ y le. (let z = complex-open v c j f range newC j32 freeC behindC y in
-          omega (arith, rw (ne-eqb (c .id) y (λ e. (let u = newC in omega arith))) at z));
+      openC = λ y le. (let z = complex-open v c j joinsC y in
+          omega (arith, rw (ne-eqb (c .id) y (λ e. (let u = joinsC .new in omega arith))) at z));
       moved = complex-stood .carries .moves;
       fine = fine-after fine-u (complex-stood .carries);
       stand = complex-stood .stand;
