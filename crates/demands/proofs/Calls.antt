@@ -17,7 +17,7 @@ use Rattle.rules.specs.Prices.{ratio1, ratio2}
 use Rattle.rules.specs.Step.{answered, step}
 use Rattle.rules.specs.Sound.{sound}
 use Rattle.rules.specs.Calls.{Outcome, after, called, ends, one, oneFrom, run, runFrom}
-use Rattle.demands.specs.Kept.{FreshSound, Kept, NeverNine}
+use Rattle.demands.specs.Kept.{AlwaysSound, FreshSound, Kept, NeverNine}
 use Rattle.demands.specs.Demand.{ComplexAdds, Demand3, Given, Opening, Seen, alone, byRun, calls, extend, opening, parts, start}
 use Rattle.demands.specs.ReadsBack.{ReadsBack, StepFits, WholeMemory}
 use Rattle.rules.proofs.Answering.{told}
@@ -138,6 +138,9 @@ demand3 o gs =
       orders = λ o m. record { adds = a .orders o m .adds };
     }
 
+pub always-sound : AlwaysSound
+always-sound o gs = sound-in _ (all-account o gs .invariant)
+
 -- upon a sound venue the number is 10, or the message's own
 not-nine : (v : Venue) → sound v ≡ true → (n room : ℕ) (bs : List ℕ) → oneFrom v n room bs .number ≢ 9
 unfolding ends after step answered
@@ -149,7 +152,7 @@ pub never-nine : NeverNine
 unfolding one called
 never-nine o gs g =
     let s = calls (opening o) gs in
-    not-nine (s .venue) (sound-in (s .venue) (all-account o gs .invariant) .is) (s .done) (g .room) (g .bytes)
+    not-nine (s .venue) (always-sound o gs .is) (s .done) (g .room) (g .bytes)
 
 pub sheet-reads-back : ReadsBack
 sheet-reads-back = reads-back

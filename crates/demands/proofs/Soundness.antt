@@ -239,7 +239,7 @@ module _ (v : Venue) (sh : Shaped v) (t : Tests v) where
   apart-at s h = let z = t .apart in go s h z
     where
       go : (s : ℕ) → s < 8 → all (apart v) (0 ∷ 1 ∷ 2 ∷ 3 ∷ 4 ∷ 5 ∷ 6 ∷ 7 ∷ []) ≡ true → apart v s ≡ true
-      go zero h z = search (and-l, and-r, z) depth 12
+      go zero h z = search (and-l, z) depth 12
       go (suc zero) h z = search (and-l, and-r, z) depth 12
       go (suc (suc zero)) h z = search (and-l, and-r, z) depth 12
       go (suc (suc (suc zero))) h z = search (and-l, and-r, z) depth 12

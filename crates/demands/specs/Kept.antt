@@ -30,7 +30,11 @@ Kept = (v : Venue) → SoundVenue v → (number : ℕ) (message : List ℕ) → 
 abbrev pub FreshSound : Type 0
 FreshSound = SoundVenue freshVenue
 
--- so a one-message call upon a venue that came from the calls never answers 9
+-- so every venue that the calls return is sound
+abbrev pub AlwaysSound : Type 0
+AlwaysSound = (o : Opening) (gs : List Given) → SoundVenue (calls (opening o) gs .venue)
+
+-- and a one-message call upon a venue that came from the calls never answers 9
 abbrev pub NeverNine : Type 0
 NeverNine = (o : Opening) (gs : List Given) (g : Given) →
     let s = calls (opening o) gs in

@@ -131,66 +131,66 @@ pub record Hits (v : Venue) (i j k : ℕ) (l : Legging) : Type 0 where
       (otherClear v (parentOf v l) (reg v i .series)) (v .regular)
 
 module _ (v : Venue) (i j k : ℕ) (l : Legging) (m : Hits v i j k l) where
-  abbrev Q : Complex
-  Q = parentOf v l
+  abbrev c : Complex
+  c = parentOf v l
 
-  abbrev T : ℕ
-  T = otherLeg Q (reg v i .series) .series
+  abbrev u : ℕ
+  u = otherLeg c (reg v i .series) .series
 
   -- the other leg is in another series, and the two series are the parent's
-  other-series : ((reg v i .series ≡ Q .series1) × (T ≡ Q .series2)) ⊎ ((reg v i .series ≡ Q .series2) × (T ≡ Q .series1))
+  other-series : ((reg v i .series ≡ c .series1) × (u ≡ c .series2)) ⊎ ((reg v i .series ≡ c .series2) × (u ≡ c .series1))
   other-series = go (m .leg)
     where
-      go : (reg v i .series ≡ cx v j .series1) ⊎ (reg v i .series ≡ cx v j .series2) → ((reg v i .series ≡ Q .series1) × (T ≡ Q .series2)) ⊎ ((reg v i .series ≡ Q .series2) × (T ≡ Q .series1))
+      go : (reg v i .series ≡ cx v j .series1) ⊎ (reg v i .series ≡ cx v j .series2) → ((reg v i .series ≡ c .series1) × (u ≡ c .series2)) ⊎ ((reg v i .series ≡ c .series2) × (u ≡ c .series1))
       go (inl g) =
-          inl (subst (λ (c : Complex). (reg v i .series ≡ c .series1) × (otherLeg c (reg v i .series) .series ≡ c .series2)) (sym (m .parent))
+          inl (subst (λ (x : Complex). (reg v i .series ≡ x .series1) × (otherLeg x (reg v i .series) .series ≡ x .series2)) (sym (m .parent))
           (g, other-is₂ (cx v j) (reg v i .series) (sym g)))
       go (inr g) =
-          inr (subst (λ (c : Complex). (reg v i .series ≡ c .series2) × (otherLeg c (reg v i .series) .series ≡ c .series1)) (sym (m .parent))
+          inr (subst (λ (x : Complex). (reg v i .series ≡ x .series2) × (otherLeg x (reg v i .series) .series ≡ x .series1)) (sym (m .parent))
           (g, other-is₁ (cx v j) (reg v i .series) (λ h. m .apart (h ∙ g))))
 
-  series-apart : reg v i .series ≢ T
+  series-apart : reg v i .series ≢ u
   series-apart h = elim other-series [
     | inl g ↦ m .apart (rw (m .parent) at (sym (g .0) ∙ h ∙ g .1))
     | inr g ↦ m .apart (rw (m .parent) at (sym (g .1) ∙ sym h ∙ g .0))
   ]
 
-  size-then : k ≤ sizeIn T (opposite (otherLeg Q (reg v i .series) .side)) (otherClear v Q (reg v i .series)) (fillRegular i k v .regular)
-  size-then = rw (fill-elsewhere i k (reg v i .series) v refl .size T _ _ series-apart) (m .size)
+  size-then : k ≤ sizeIn u (opposite (otherLeg c (reg v i .series) .side)) (otherClear v c (reg v i .series)) (fillRegular i k v .regular)
+  size-then = rw (fill-elsewhere i k (reg v i .series) v refl .size u _ _ series-apart) (m .size)
 
   -- k contracts in its own series, and k in the other leg's
-  own-contracts : total (contracts (Q .id) (reg v i .series)) (hit i l k v .reports) ≡ k
+  own-contracts : total (contracts (c .id) (reg v i .series)) (hit i l k v .reports) ≡ k
   unfolding contracts
   own-contracts =
       omega (
         arith,
-        hit-total v i k l (contracts (Q .id) (reg v i .series)),
-        tells v i k l .contracts0 (Q .id) (reg v i .series),
-        chain-other (Q .id) (reg v i .series) (λ g. series-apart (sym g)) (chn v i k l),
-        count-own (Q .id) (reg v i .series) (reg v i .side) (l .price) k (reg v i .id),
+        hit-total v i k l (contracts (c .id) (reg v i .series)),
+        tells v i k l .contracts0 (c .id) (reg v i .series),
+        chain-other (c .id) (reg v i .series) (λ g. series-apart (sym g)) (chn v i k l),
+        count-own (c .id) (reg v i .series) (reg v i .side) (l .price) k (reg v i .id),
       )
 
-  other-contracts : total (contracts (Q .id) T) (hit i l k v .reports) ≡ k
+  other-contracts : total (contracts (c .id) u) (hit i l k v .reports) ≡ k
   unfolding contracts
   other-contracts =
       omega (
         arith,
-        hit-total v i k l (contracts (Q .id) T),
-        tells v i k l .contracts0 (Q .id) T,
-        take-total (Q .id) T _ _ k k (fillRegular i k v) (omega arith) size-then,
-        count-elsewhere (Q .id) T (reg v i .series) (reg v i .side) (l .price) k (reg v i .id) (Q .id) series-apart,
+        hit-total v i k l (contracts (c .id) u),
+        tells v i k l .contracts0 (c .id) u,
+        take-total (c .id) u _ _ k k (fillRegular i k v) (omega arith) size-then,
+        count-elsewhere (c .id) u (reg v i .series) (reg v i .side) (l .price) k (reg v i .id) (c .id) series-apart,
       )
 
-  both : (total (contracts (Q .id) (Q .series1)) (hit i l k v .reports) ≡ k) × (total (contracts (Q .id) (Q .series2)) (hit i l k v .reports) ≡ k)
+  both : (total (contracts (c .id) (c .series1)) (hit i l k v .reports) ≡ k) × (total (contracts (c .id) (c .series2)) (hit i l k v .reports) ≡ k)
   both = elim other-series [
     | inl h ↦ (rw (h .0) at own-contracts, rw (h .1) at other-contracts)
     | inr h ↦ (rw (h .1) at other-contracts, rw (h .0) at own-contracts)
   ]
 
   hit-filled : hit i l k v .venue .complex ≡ fillComplex j k v .complex
-  hit-filled = ap (λ (w : Venue). w .complex) (hit-venue v i k l) ∙ pair-complex _ (Q .id) _ k (hitting v i k l) ∙ refill
+  hit-filled = ap (λ (w : Venue). w .complex) (hit-venue v i k l) ∙ pair-complex _ (c .id) _ k (hitting v i k l) ∙ refill
     where
-      refill : fillComplex (placeWhere (isComplexOf (Q .id)) (hitting v i k l .complex)) k (hitting v i k l) .complex ≡ fillComplex j k v .complex
+      refill : fillComplex (placeWhere (isComplexOf (c .id)) (hitting v i k l .complex)) k (hitting v i k l) .complex ≡ fillComplex j k v .complex
       refill = unfold fillComplex withComplex complexAt in (rw (hitting-complex v i k l, m .parent, m .place))
 
   -- in a hit's records the contracts in each series are those paired
@@ -199,13 +199,13 @@ module _ (v : Venue) (i j k : ℕ) (l : Legging) (m : Hits v i j k l) where
   hit-pairs = record {
     first = rw (m .parent) at (both .0);
     second = rw (m .parent) at (both .1);
-    others = λ c ne r s.
+    others = λ d ne r s.
         omega (
           arith,
-          hit-total v i k l (contracts (c .id) s),
-          tells v i k l .contracts0 (c .id) s,
-          chain-cx (c .id) s (rw (m .parent) ne) (cx-fill i k v r .none) (chn v i k l),
-          count-neither (c .id) s (reg v i .series) (reg v i .side) (l .price) k (reg v i .id) (Q .id) (λ g. r .none i (m .holds) g) (rw (m .parent) ne),
+          hit-total v i k l (contracts (d .id) s),
+          tells v i k l .contracts0 (d .id) s,
+          chain-cx (d .id) s (rw (m .parent) ne) (cx-fill i k v r .none) (chn v i k l),
+          count-neither (d .id) s (reg v i .series) (reg v i .side) (l .price) k (reg v i .id) (c .id) (λ g. r .none i (m .holds) g) (rw (m .parent) ne),
         );
     pairs = λ y. rw (m .parent) at (hit-quiet v i k l (paired y) (λ _ _ _ _ _ _. refl) ∙ tells v i k l .pairs y);
     crosses = λ y. hit-quiet v i k l (crossedFor y) (λ _ _ _ _ _ _. refl) ∙ tells v i k l .crossed0 y;
@@ -214,18 +214,18 @@ module _ (v : Venue) (i j k : ℕ) (l : Legging) (m : Hits v i j k l) where
   }
 
   -- the incoming order's contracts, and those of the orders that the other leg takes
-  own-trade : (y s : ℕ) → Reg y s v → Q .id ≢ y →
-      contracts y s (trade (reg v i .series) (reg v i .side) (l .price) k (reg v i .id) (Q .id)) ≡ (if eqb (reg v i .id) y then k else 0)
+  own-trade : (y s : ℕ) → Reg y s v → c .id ≢ y →
+      contracts y s (trade (reg v i .series) (reg v i .side) (l .price) k (reg v i .id) (c .id)) ≡ (if eqb (reg v i .id) y then k else 0)
   own-trade y s r x≠y = go (eqb (reg v i .id) y) refl
     where
-      go : (b : Bool) → eqb (reg v i .id) y ≡ b → contracts y s (trade (reg v i .series) (reg v i .side) (l .price) k (reg v i .id) (Q .id)) ≡ (if b then k else 0)
+      go : (b : Bool) → eqb (reg v i .id) y ≡ b → contracts y s (trade (reg v i .series) (reg v i .side) (l .price) k (reg v i .id) (c .id)) ≡ (if b then k else 0)
       go true g = let i=y = eqb-true (reg v i .id) y g in count-taker y s _ _ _ k _ _ i=y (r .home i (m .holds) i=y)
       go false g = count-neither y s _ _ _ k _ _ (eqb-false (reg v i .id) y g) x≠y
 
   hit-orders : (y s : ℕ) → Reg y s v →
       openRegular y (v .regular) ≡ openRegular y (hitting v i k l .regular) + (total (contracts y s) (hit i l k v .reports) + total (cancelledOf y) (hit i l k v .reports))
   hit-orders y s r =
-      let x≠y : Q .id ≢ y = λ g. r .none j (m .holdsC) (rw (m .parent) at g) in
+      let x≠y : c .id ≢ y = λ g. r .none j (m .holdsC) (rw (m .parent) at g) in
       omega (
         arith,
         open-fill i k v y (m .fits) (m .enough),
@@ -237,13 +237,13 @@ module _ (v : Venue) (i j k : ℕ) (l : Legging) (m : Hits v i j k l) where
       )
 
   same-regular : hit i l k v .venue .regular ≡ hitting v i k l .regular
-  same-regular = ap (λ (w : Venue). w .regular) (hit-venue v i k l) ∙ pair-regular _ (Q .id) _ k (hitting v i k l)
+  same-regular = ap (λ (w : Venue). w .regular) (hit-venue v i k l) ∙ pair-regular _ (c .id) _ k (hitting v i k l)
 
   pub moves-hit : Moves v (hit i l k v)
   moves-hit = record {
     regular = rw same-regular (fewer-trans (chain-fewer (chn v i k l)) (fill-fewer i k v));
     complex = rw hit-filled (fill-fewerC j k v);
-    last = ap (λ (w : Venue). w .last) (hit-venue v i k l) ∙ pair-last _ (Q .id) _ k (hitting v i k l) ∙ chain-last (chn v i k l) ∙ fill-last i k v;
+    last = ap (λ (w : Venue). w .last) (hit-venue v i k l) ∙ pair-last _ (c .id) _ k (hitting v i k l) ∙ chain-last (chn v i k l) ∙ fill-last i k v;
     orders = λ y s r. rw same-regular (hit-orders y s r);
     complexes = pairs-settle j k (m .fitsC) (m .holdsC) (m .enoughC) hit-pairs;
   }

@@ -17,7 +17,6 @@ use Rattle.rules.specs.Words.{noRegular, opposite, regularAt, withRegula
 use Rattle.rules.specs.Prices.{bestIn, bestRegular, bestSize, better, betterOf, restsAt, shown, showsAt, showsFor, sizeIn}
 use Rattle.rules.specs.Standing.{otherClear, otherLeg, otherSize}
 use Rattle.rules.specs.Trading.{fillRegular, lessRegular}
-use Rattle.rules.specs.Complex.{complex}
 use Rattle.rules.proofs.Filling.{reg}
 use Rattle.rules.proofs.Settling.{clear-best}
 use Rattle.rules.proofs.Tests.{and-false, and-l, and-r, and-true, held-pos, if-held, pos-held}
@@ -119,9 +118,9 @@ pub size-less : (s d p q : ℕ) (os : List Regular) (i : ℕ) → i < length os 
     showsFor s d p (getD os i noRegular) ≡ true → q ≤ shown (getD os i noRegular) →
     sizeIn s d p os ≡ q + sizeIn s d p (set os i (lessRegular q (getD os i noRegular)))
 size-less s d p q [] i f h le = absurd (omega arith)
-size-less s d p q (o ∷ os) zero f h le = rw (size-cons, size-cons, part-less s d p q o h le) (add-assoc _ _ _)
+size-less s d p q (o ∷ os) zero f h le = rw (size-cons s d p o os, size-cons, part-less s d p q o h le) (add-assoc _ _ _)
 size-less s d p q (o ∷ os) (suc i) f h le =
-    rw (size-cons, size-cons, size-less s d p q os i (omega arith) h le) (omega arith)
+    rw (size-cons s d p o os, size-cons, size-less s d p q os i (omega arith) h le) (omega arith)
 
 -- where no order is at the price, there is no size
 pub size-none : (s d p : ℕ) (os : List Regular) →
