@@ -16,7 +16,7 @@ use Rattle.rules.specs.declared.Venue.{Venue}
 use Rattle.rules.specs.Base.{held}
 use Rattle.rules.specs.Words.{noComplex, noRegular}
 use Rattle.rules.specs.Messages.{messageOf}
-use Rattle.rules.specs.Records.{Each, Report, answer}
+use Rattle.rules.specs.Records.{Each, Report, U32, answer}
 use Rattle.rules.specs.Effects.{Effect}
 use Rattle.rules.specs.Prices.{ratio1, ratio2}
 use Rattle.rules.specs.Sums.{cancelledOf, contracts, crossedFor, openComplex, openRegular, paired, total}
@@ -54,6 +54,7 @@ pub record Unnamed (y : ℕ) (rs : List Report) : Type 0 where
 
 pub record Account (s : Seen) : Type 0 where
   pub invariant : Invariant (s .venue)
+  pub few : U32 (s .done)
   pub count : length (s .messages) ≡ s .done
   pub numbers : (j x m c : ℕ) → List·Memᴰ (answer j x m c) (s .reports) → j ≤ s .done
   pub orders : (o : Regular) → Accepted s (Order o) → OrderAccount s o
@@ -134,7 +135,7 @@ pub record Takes (v : Venue) (qs : List Report) (w : Venue) (ms : List Message) 
 -- the message bs, and its effect e: what it brings in, its records with its 64 first, and the venue that is returned
 module _ {s : Seen} {u : Venue} {ns : List Message} (bs : List ℕ) {e : Effect} (a : Account s) (t : Takes (s .venue) (e .reports) u ns) (z : Ends u (e .venue))
     (x k l : ℕ) (es : List Report) (is : e .reports ≡ answer (suc (s .done)) x k l ∷ es) (plain : Each Plain es)
-    (brings : x ≡ 0 → ns ≡ messageOf bs ∷ []) (invariant : Invariant (e .venue)) where
+    (brings : x ≡ 0 → ns ≡ messageOf bs ∷ []) (invariant : Invariant (e .venue)) (few : U32 (suc (s .done))) where
   abbrev qs : List Report
   qs = e .reports
 
@@ -247,6 +248,7 @@ module _ {s : Seen} {u : Venue} {ns : List Message} (bs : List ℕ) {e : Effect}
   pub advance : Account (onto s bs e)
   advance = record {
     invariant = unfold onto in invariant;
+    few = unfold onto in few;
     count = unfold onto in (simp length-append (let c = a .count in omega arith));
     numbers = unfold onto in told-by;
     orders = λ o m. ⊎-elim (λ x. old-order o (a .orders o x)) (λ x. new-order o (t .orders o x)) (cases (Order o) m);

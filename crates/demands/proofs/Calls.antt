@@ -11,13 +11,13 @@ use Rattle.rules.specs.declared.Complex.{Complex}
 use Rattle.rules.specs.declared.Venue.{Venue}
 use Rattle.rules.specs.Words.{freshVenue}
 use Rattle.rules.specs.Bytes.{lengthField}
-use Rattle.rules.specs.Records.{Each, Fits, encodeAll}
+use Rattle.rules.specs.Records.{Each, Fits, U32, encodeAll}
 use Rattle.rules.specs.Effects.{Effect}
 use Rattle.rules.specs.Prices.{ratio1, ratio2}
 use Rattle.rules.specs.Step.{answered, step}
 use Rattle.rules.specs.Sound.{sound}
 use Rattle.rules.specs.Calls.{Outcome, after, called, ends, one, oneFrom, run, runFrom}
-use Rattle.demands.specs.Kept.{AlwaysSound, FreshSound, Kept, NeverNine}
+use Rattle.demands.specs.Kept.{AlwaysSound, DoneFits, FreshSound, Kept, NeverNine}
 use Rattle.demands.specs.Demand.{ComplexAdds, Demand3, Given, Opening, Seen, alone, byRun, calls, extend, opening, parts, start}
 use Rattle.demands.specs.ReadsBack.{ReadsBack, StepFits, WholeMemory}
 use Rattle.rules.proofs.Answering.{told}
@@ -44,13 +44,13 @@ pub step-fits : StepFits
 step-fits v s n h bs = told v (sound-out v s .ranged) n bs .fits h
 
 -- and so is the account
-step-account : (s : Seen) (bs : List ℕ) → Account s → Account (onto s bs (step (s .venue) (suc (s .done)) bs .effect))
-step-account s bs a =
+step-account : (s : Seen) (bs : List ℕ) → Account s → U32 (suc (s .done)) → Account (onto s bs (step (s .venue) (suc (s .done)) bs .effect))
+step-account s bs a few =
     let i = a .invariant in
     let n = suc (s .done) in
     let t = step-takes (s .venue) (i .fine) (i .stand) (i .tidy) n bs in
     let y = told (s .venue) (i .ranged) n bs in
-    advance bs a (t .takes) (t .ends) (step (s .venue) n bs .refused) (y .mask) (y .count) (y .effects) (y .is) (y .plain) (t .brings) (step-invariant (s .venue) i n bs)
+    advance bs a (t .takes) (t .ends) (step (s .venue) n bs .refused) (y .mask) (y .count) (y .effects) (y .is) (y .plain) (t .brings) (step-invariant (s .venue) i n bs) few
 
 -- A call --------------------------------------------------------------------------------------
 
@@ -87,10 +87,9 @@ run-account (suc fuel) s room bs a =
     let v = s .venue in
     let e = step v (suc (s .done)) bs .effect in
     let f = told v (a .invariant .ranged) (suc (s .done)) bs .fits in
-    let b = step-account s bs a in
     runFrom-by (Onward s bs) v (s .done) room bs fuel (λ _. onward-ends s bs 0 a) (λ _. onward-ends s bs 10 a)
-    (λ d _. onward-after s e bs _ (f (d .0)) (onward-ends (onto s bs e) _ 1 b))
-    (λ d _. onward-after s e bs _ (f (d .0)) (run-account fuel (onto s bs e) _ _ b))
+    (λ d _. onward-after s e bs _ (f (d .0)) (onward-ends (onto s bs e) _ 1 (step-account s bs a (d .0))))
+    (λ d _. onward-after s e bs _ (f (d .0)) (run-account fuel (onto s bs e) _ _ (step-account s bs a (d .0))))
 
 one-account : (s : Seen) (room : ℕ) (bs : List ℕ) → Account s → Onward s bs (oneFrom (s .venue) (s .done) room bs)
 unfolding onto
@@ -98,7 +97,7 @@ one-account s room bs a =
     let v = s .venue in
     let e = step v (suc (s .done)) bs .effect in
     oneFrom-by (Onward s bs) v (s .done) room bs (λ _. onward-ends s bs 9 a) (λ _ _. onward-ends s bs 10 a)
-    (λ _ d. onward-after s e bs _ (told v (a .invariant .ranged) (suc (s .done)) bs .fits (d .0)) (onward-ends (onto s bs e) _ _ (step-account s bs a)))
+    (λ _ d. onward-after s e bs _ (told v (a .invariant .ranged) (suc (s .done)) bs .fits (d .0)) (onward-ends (onto s bs e) _ _ (step-account s bs a (d .0))))
 
 -- The calls -----------------------------------------------------------------------------------
 
@@ -153,6 +152,9 @@ unfolding one called
 never-nine o gs g =
     let s = calls (opening o) gs in
     not-nine (s .venue) (always-sound o gs .is) (s .done) (g .room) (g .bytes)
+
+pub done-fits : DoneFits
+done-fits o gs = all-account o gs .few
 
 pub sheet-reads-back : ReadsBack
 sheet-reads-back = reads-back

@@ -98,6 +98,7 @@ pub start-account : Account start
 unfolding start total
 start-account = record {
   invariant = fresh-invariant;
+  few = omega arith;
   count = refl;
   numbers = λ j x m c h. absurd (List·Memᴰ·not-nil h);
   orders = λ o m. absurd (List·Memᴰ·not-nil (m .told));

@@ -7,6 +7,7 @@ use Prim.Native.Nat.{ℕ}
 use lib.ListN.{length}
 use Rattle.rules.specs.declared.Venue.{Venue}
 use Rattle.rules.specs.Words.{freshVenue}
+use Rattle.rules.specs.Records.{U32}
 use Rattle.rules.specs.Step.{step}
 use Rattle.rules.specs.Sound.{sound}
 use Rattle.rules.specs.Calls.{one}
@@ -39,3 +40,7 @@ abbrev pub NeverNine : Type 0
 NeverNine = (o : Opening) (gs : List Given) (g : Given) →
     let s = calls (opening o) gs in
     one (s .venue) (s .done) (g .room) (g .bytes) .returned .number ≢ 9
+
+-- and the messages done so far, which the next call is given, are a u32
+abbrev pub DoneFits : Type 0
+DoneFits = (o : Opening) (gs : List Given) → U32 (calls (opening o) gs .done)
