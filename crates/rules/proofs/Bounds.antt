@@ -1,6 +1,7 @@
 -- Bounds on prices and nets: best, clear and away prices, the net of two prices, and the price of a new legging order.
 use mathlib.Core.Path.{_∙_, _≡_, refl, sym}
-use mathlib.Core.Bool.{Bool, _&&_, _||_, false, not, true, true≢false}
+use mathlib.Core.Bool.{_&&_, _||_, false, not, true, true≢false}
+use mathlib.Core.Logic.{_⊎_, inl, inr, ⊎-elim}
 use mathlib.Core.List.{List, [], _∷_}
 use Prim.Native.Nat.{_*_, _+_, _-_, _/_, _<_, _≤_, min, suc, zero, ℕ}
 use native.Mathlib.Nat.{div-add-mod', mod-lt}
@@ -10,10 +11,9 @@ use lib.IntN.{_+ℤ_, negsuc, negℤ, pos, ℤ}
 use lib.ListN.{getD}
 use borrow.Author.Tests.{le-leb, leb-false, leb-true, ltb-true, not-true}
 use Rattle.rules.specs.declared.Complex.{Complex}
-use Rattle.rules.specs.declared.Listed.{Listed}
 use Rattle.rules.specs.declared.Regular.{Regular}
 use Rattle.rules.specs.declared.Venue.{Venue}
-use Rattle.rules.specs.Base.{held, if_then_else_}
+use Rattle.rules.specs.Base.{held}
 use Rattle.rules.specs.Words.{buy, increment, isAway, isId, isPrice, isQuantity, leggingAt, noRegular, notListed, opposite, sell, signed, within}
 use Rattle.rules.specs.Records.{I32}
 use Rattle.rules.specs.Prices.{away, bestIn, bestOwn, bestRegular, better, betterOf, clearPrice, displayed, inBand, marketBest, ownPrice, reaches, showsAt, taken1, taken2}
@@ -33,12 +33,11 @@ use Rattle.rules.proofs.Widths.{CxFits, LgFits, Ranged, RegFits}
 best-small : (s d : ℕ) (os : List Regular) → ((i : ℕ) → RegFits (getD os i noRegular)) → bestIn s d os ≤ 100000
 unfolding bestIn betterOf
 best-small s d [] h = omega arith
-best-small s d (o ∷ os) h = go (showsAt s d o) (better d (o .price) (bestIn s d os)) (h 0 .price) (best-small s d os (λ i. h (suc i)))
-  where
-    go : (a b : Bool) → o .price ≤ 100000 → bestIn s d os ≤ 100000 → (if a then if b then o .price else bestIn s d os else bestIn s d os) ≤ 100000
-    go true true p q = p
-    go true false p q = q
-    go false b p q = q
+best-small s d (o ∷ os) h =
+    let rest = best-small s d os (λ i. h (suc i)) in
+    if-by (λ p. p ≤ 100000) (showsAt s d o)
+    (λ _. if-by (λ p. p ≤ 100000) (better d (o .price) (bestIn s d os)) (λ _. h 0 .price) (λ _. rest))
+    (λ _. rest)
 
 pub regular-small : (v : Venue) → Ranged v → (s d : ℕ) → bestRegular v s d ≤ 100000
 unfolding bestRegular
@@ -46,11 +45,7 @@ regular-small v r s d = best-small s d (v .regular) (r .regular)
 
 pub clear-small : (v : Venue) → Ranged v → (s d : ℕ) → clearPrice v s d ≤ 100000
 unfolding clearPrice
-clear-small v r s d = go (better d (ownPrice (leggingAt v s d)) (bestRegular v s d)) (regular-small v r s d)
-  where
-    go : (b : Bool) → bestRegular v s d ≤ 100000 → (if b then 0 else bestRegular v s d) ≤ 100000
-    go true h = omega arith
-    go false h = h
+clear-small v r s d = if-by (λ p. p ≤ 100000) (better d (ownPrice (leggingAt v s d)) (bestRegular v s d)) (λ _. omega arith) (λ _. regular-small v r s d)
 
 small-i32 : (z : ℤ) → plus z ≤ 1000000 → minus z ≤ 1000000 → I32 z
 unfolding plus minus
@@ -59,11 +54,9 @@ small-i32 (negsuc n) p m = omega arith
 
 signed-size : (d a : ℕ) → plus (signed d (pos a)) + minus (signed d (pos a)) ≡ a
 unfolding signed
-signed-size d a = go (eqb d buy)
-  where
-    go : (b : Bool) → plus (if b then pos a else negℤ (pos a)) + minus (if b then pos a else negℤ (pos a)) ≡ a
-    go true = unfold plus minus in (omega arith)
-    go false = rw (neg-plus (pos a), neg-minus (pos a)) (unfold plus minus in (omega arith))
+signed-size d a =
+    if-by (λ z. plus z + minus z ≡ a) (eqb d buy) (λ _. unfold plus minus in (omega arith))
+    (λ _. rw (neg-plus (pos a), neg-minus (pos a)) (unfold plus minus in (omega arith)))
 
 -- at least one part of an integer is 0
 one-part : (z : ℤ) (a b : ℕ) → plus z + b ≡ minus z + a → (plus z ≤ a) × (minus z ≤ b)
@@ -112,53 +105,51 @@ increment-some s = if-by (λ i. 0 < i) (ltb s 6) (λ _. omega arith) (λ _. omeg
 
 away-small : (v : Venue) → Ranged v → (s d : ℕ) → away v s d ≤ 100000
 unfolding away listedInRange isAway within
-away-small v r s d = go (eqb d buy)
-  where
-    x : Listed
-    x = getD (v .series) s notListed
+away-small v r s d =
+    let x = getD (v .series) s notListed in
+    let z = r .listed s in
+    if-by (λ p. p ≤ 100000) (eqb d buy)
+    (λ _. leb-true (x .bid) 100000 (search (and-l, and-r, z) depth 8))
+    (λ _. leb-true (x .offer) 100000 (search (and-l, and-r, z) depth 8))
 
-    go : (b : Bool) → (if b then x .bid else x .offer) ≤ 100000
-    go true = let z = r .listed s in leb-true (x .bid) 100000 (search (and-l, and-r, z) depth 8)
-    go false = let z = r .listed s in leb-true (x .offer) 100000 (search (and-l, and-r, z) depth 8)
+-- where the better of two prices is there, one of them is
+better-either : (d a x : ℕ) → held (betterOf d a x) ≡ true → (held a ≡ true) ⊎ (held x ≡ true)
+unfolding betterOf
+better-either d a x = if-by (λ q. held q ≡ true → (held a ≡ true) ⊎ (held x ≡ true)) (better d a x) (λ _ h. inl h) (λ _ h. inr h)
+
+-- of offers it is no higher than one that is there
+offer-lower : (y x : ℕ) → held x ≡ true → (held (betterOf sell y x) ≡ true) × (betterOf sell y x ≤ x)
+unfolding betterOf better
+offer-lower y x h =
+    if-by (λ q. (held q ≡ true) × (q ≤ x)) (held y && (not (held x) || ltb y x))
+    (λ e. (let z = ltb-true y x (rw h at (and-r (held y) (not (held x) || ltb y x) e)) in (and-l (held y) _ e, omega arith)))
+    (λ _. (h, omega arith))
+
+-- a bid that does not reach an offer is below it
+not-reached : (p q : ℕ) → held q ≡ true → q ≤ 100000 → not (reachesAny buy p q) ≡ true → p ≤ 100000
+unfolding reachesAny reaches
+not-reached p q h le n = let z = leb-false q p (rw h at (not-true (held q && leb q p) n)) in omega arith
 
 -- to buy: the own price reaches no offer, and there is one, by the band
 buy-small : (v : Venue) (s p : ℕ) → Ranged v → held (marketBest v s sell) ≡ true →
     not (reachesAny buy p (bestOwn v s sell)) ≡ true → not (reachesAny buy p (away v s sell)) ≡ true → p ≤ 100000
-unfolding marketBest bestOwn reachesAny reaches betterOf better
-buy-small v s p r m i o =
-    go (away v s sell) (bestRegular v s sell) (ownPrice (leggingAt v s sell)) (away-small v r s sell) (regular-small v r s sell) m i o
-  where
-    -- offers: x is no lower than the better of y and x
-    lower : (y x : ℕ) → held x ≡ true →
-        (held (if held y && (not (held x) || ltb y x) then y else x) ≡ true) × ((if held y && (not (held x) || ltb y x) then y else x) ≤ x)
-    lower y x h = cases (held y) refl (ltb y x) refl
-      where
-        cases : (a : Bool) → held y ≡ a → (b : Bool) → ltb y x ≡ b →
-            (held (if held y && (not (held x) || ltb y x) then y else x) ≡ true) × ((if held y && (not (held x) || ltb y x) then y else x) ≤ x)
-        cases true e true f = rw (e, h, f) (e, (let z = ltb-true y x f in omega arith))
-        cases true e false f = rw (e, h, f) (h, omega arith)
-        cases false e b f = rw e (h, omega arith)
-
-    below : (q : ℕ) → held q ≡ true → q ≤ 100000 → not (held q && leb q p) ≡ true → p ≤ 100000
-    below q h s n = let z = leb-false q p (rw h at (not-true (held q && leb q p) n)) in omega arith
-
-    go : (a x y : ℕ) → a ≤ 100000 → x ≤ 100000 → held (if held a && (not (held x) || ltb a x) then a else x) ≡ true →
-        not (held (if held y && (not (held x) || ltb y x) then y else x) && leb (if held y && (not (held x) || ltb y x) then y else x) p) ≡ true →
-        not (held a && leb a p) ≡ true → p ≤ 100000
-    go a x y s t m i o = cases (held x) refl
-      where
-        cases : (b : Bool) → held x ≡ b → p ≤ 100000
-        cases true e = let z = lower y x e in below (if held y && (not (held x) || ltb y x) then y else x) (z .0) (let l = z .1 in omega arith) i
-        cases false e = inner (held a) refl
-          where
-            inner : (b : Bool) → held a ≡ b → p ≤ 100000
-            inner true f = below a f s o
-            inner false f = absurd (true≢false (sym (rw (f, e) at m)))
+unfolding marketBest bestOwn
+buy-small v s p r m inside outside =
+    ⊎-elim (λ a. not-reached p (away v s sell) a (away-small v r s sell) outside)
+    (λ x.
+    let o = offer-lower (ownPrice (leggingAt v s sell)) (bestRegular v s sell) x in
+    let le = o .1 in
+    let q = regular-small v r s sell in
+    not-reached p _ (o .0) (omega arith) inside)
+    (better-either sell (away v s sell) (bestRegular v s sell) m)
 
 pub price-small : (v : Venue) (c : Complex) (s d : ℕ) → d < 2 → Makes v c s d → held (marketBest v s (opposite d)) ≡ true → Ranged v → legPrice v c s d ≤ 100000
 unfolding opposite
 price-small v c s zero d2 m t r = buy-small v s (legPrice v c s 0) r t (m .inside) (m .outside)
-price-small v c s (suc zero) d2 m t r = (let x = shown-small _ (increment s) 1 (legPrice v c s 1) (m .range) in let y = sell-shown (increment s) 1 (legPrice v c s 1) (increment-some s) refl in omega arith)
+price-small v c s (suc zero) d2 m t r =
+    let x = shown-small _ (increment s) 1 (legPrice v c s 1) (m .range) in
+    let y = sell-shown (increment s) 1 (legPrice v c s 1) (increment-some s) refl in
+    omega arith
 price-small v c s (suc (suc d)) d2 m t r = absurd (omega arith)
 
 -- the new order is in range
