@@ -17,5 +17,6 @@ pub mod Refusals
 pub mod Step
 pub mod Sound
 pub mod Calls
+pub mod Sums
 pub mod Opened
 pub mod Trials
