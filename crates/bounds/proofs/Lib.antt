@@ -1,0 +1,9 @@
+-- Proofs of the claims of specs/.
+pub mod Sums
+pub mod Worth
+pub mod Sizes
+pub mod Taking
+pub mod Costs
+pub mod Matching
+pub mod Calling
+pub mod Most

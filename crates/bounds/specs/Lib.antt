@@ -1,0 +1,2 @@
+-- Claims about one message and about the two calls, over the definitions of `rules`. Each is proved in proofs/.
+pub mod Most

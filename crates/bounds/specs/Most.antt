@@ -1,0 +1,66 @@
+-- The most bytes that one message writes, for whoever lends the memory of a one-message call.
+use mathlib.Core.Path.{_≡_}
+use mathlib.Core.Bool.{true}
+use mathlib.Core.List.{List}
+use Prim.Native.Nat.{ℕ, _+_, _*_, _≤_, _<_}
+use lib.ListN.{length}
+use Rattle.rules.specs.declared.Venue.{Venue}
+use Rattle.rules.specs.Records.{Report, answer, trade, pair, generated, removed, crossed, cancelled, encode, encodeAll}
+use Rattle.rules.specs.Step.{step}
+use Rattle.rules.specs.Sound.{sound}
+use Rattle.rules.specs.Calls.{one}
+
+-- The table's column "Length", of a record.
+unfoldable pub recordLength : Report → ℕ
+recordLength (answer number refusal mask count) = 12
+recordLength (trade series side price quantity taker maker) = 22
+recordLength (pair id n quantity) = 16
+recordLength (generated id series side price shown quantity) = 22
+recordLength (removed id series side cause) = 11
+recordLength (crossed taker maker n quantity) = 20
+recordLength (cancelled id quantity) = 12
+
+abbrev pub Lengths : Type 0
+Lengths = (r : Report) → length (encode r) ≡ recordLength r
+
+-- "At most 128 regular and 32 complex orders rest", "16 places": a venue of the declared type has so many places.
+pub record Shaped (v : Venue) : Type 0 where
+  pub regular : length (v .regular) ≡ 128
+  pub complex : length (v .complex) ≡ 32
+  pub legging : length (v .legging) ≡ 16
+
+pub record SoundVenue (v : Venue) : Type 0 where
+  pub shaped : Shaped v
+  pub is : sound v ≡ true
+
+-- What each order that can go pays for. A round of legging in or a hit writes, beside the trades that free their maker, one trade for each
+-- leg and the pair: 22 + 22 + 16. It frees the complex order, or all of a level of one leg. A legging order's going writes its 68.
+abbrev pub perRegular : ℕ
+perRegular = 60
+
+abbrev pub perComplex : ℕ
+perComplex = 60
+
+abbrev pub perLegging : ℕ
+perLegging = 11
+
+-- and a leg that is generated: its 67, and the 68 of the holder or, later, its own
+abbrev pub perLeg : ℕ
+perLeg = 33
+
+abbrev pub most : ℕ
+most = 11900
+
+-- The answer, all that can go, and both legs of each of 32 complex orders in a sweep.
+abbrev pub Parts : Type 0
+Parts = _≡_ {A = ℕ} most (12 + (perRegular * 128 + perComplex * 32 + perLegging * 16) + 32 * (2 * perLeg))
+
+-- No message upon a sound venue writes more.
+abbrev pub WritesAtMost : Type 0
+WritesAtMost = (v : Venue) → SoundVenue v → (number : ℕ) (message : List ℕ) →
+    length (encodeAll (step v number message .effect .reports)) ≤ most
+
+-- So a one-message call upon a sound venue that is lent as many is not ended by refusal 10, its number permitting: its message is done.
+abbrev pub RoomEnough : Type 0
+RoomEnough = (v : Venue) → SoundVenue v → (before room : ℕ) (message : List ℕ) → before < 4294967295 → most ≤ room →
+    one v before room message .returned .done ≡ 1
