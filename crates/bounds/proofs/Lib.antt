@@ -7,3 +7,5 @@ pub mod Costs
 pub mod Matching
 pub mod Calling
 pub mod Most
+pub mod Front
+pub mod Agree

@@ -1,2 +1,3 @@
 -- Claims about one message and about the two calls, over the definitions of `rules`. Each is proved in proofs/.
 pub mod Most
+pub mod Agree
