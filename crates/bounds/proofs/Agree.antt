@@ -14,15 +14,16 @@ use borrow.Author.Tests.{eqb-true, eqb-false}
 use Rattle.rules.specs.declared.Venue.{Venue}
 use Rattle.rules.specs.Words.{freshVenue}
 use Rattle.rules.specs.Bytes.{lengthField}
-use Rattle.rules.specs.Records.{Report, encode, encodeAll, sheet}
+use Rattle.rules.specs.Records.{Report, encodeAll, sheet}
 use Rattle.rules.specs.Effects.{Effect}
 use Rattle.rules.specs.Refusals.{torn, decoded, refusal}
 use Rattle.rules.specs.Step.{Answered, answered, step}
 use Rattle.rules.specs.Sound.{sound}
 use Rattle.rules.specs.Calls.{Outcome, called, exceeds, ends, after, runFrom, run, oneFrom, one}
-use Rattle.bounds.specs.Most.{SoundVenue, most}
-use Rattle.bounds.specs.Agree.{wrote, Progress, begun, onward, byCalls, Enough, Ended, atEnd, atTorn, atFull, Agree, NeverFills, Kept, FreshSound}
-use Rattle.bounds.proofs.Calling.{fits, number-fits, room-fits, oneFrom-done}
+use Rattle.bounds.specs.Most.{most}
+use Rattle.bounds.specs.Agree.{wrote, Progress, begun, onward, byCalls, Enough, Ended, atEnd, atTorn, atFull, Agree, NeverFills}
+use Rattle.bounds.specs.Asked.{SoundVenue, Kept, FreshSound}
+use Rattle.bounds.proofs.Calling.{encode-append, fits, number-fits, room-fits, oneFrom-done}
 use Rattle.bounds.proofs.Most.{writes-at-most}
 use Rattle.bounds.proofs.Front.{Whole, whole}
 
@@ -30,11 +31,6 @@ use Rattle.bounds.proofs.Front.{Whole, whole}
 pub wrote-is : (room : ℕ) (o : Outcome) → wrote (called room o) ≡ encodeAll (o .reports)
 unfolding wrote called sheet
 wrote-is room o = take-append-seam (encodeAll (o .reports)) _
-
-encode-append : (a b : List Report) → encodeAll (a ++ b) ≡ encodeAll a ++ encodeAll b
-unfolding encodeAll
-encode-append [] b = refl
-encode-append (r ∷ rs) b = rw (encode-append rs b) (sym (append-assoc (encode r) (encodeAll rs) (encodeAll b)))
 
 -- a message that is not refused with 1 is whole
 torn-refused : (v : Venue) (bs : List ℕ) → torn bs ≡ true → refusal v bs ≡ 1

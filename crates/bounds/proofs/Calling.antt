@@ -1,17 +1,22 @@
 -- A one-message call upon a sound venue whose message fits does that message.
-use mathlib.Core.Path.{_≡_}
+use mathlib.Core.Path.{_≡_, refl, sym}
 use mathlib.Core.Bool.{true, false}
-use mathlib.Core.List.{List}
+use mathlib.Core.List.{List, [], _∷_, _++_, append-assoc}
 use Prim.Native.Nat.{ℕ, suc, _≤_}
 use lib.Dec.{ltb}
 use lib.ListN.{length}
 use borrow.Author.Tests.{le-ltb, ltb-false}
 use Rattle.rules.specs.declared.Venue.{Venue}
-use Rattle.rules.specs.Records.{Report, encodeAll}
+use Rattle.rules.specs.Records.{Report, encode, encodeAll}
 use Rattle.rules.specs.Step.{step}
 use Rattle.rules.specs.Sound.{sound}
 use Rattle.rules.specs.Calls.{exceeds, ends, after, oneFrom}
 use Rattle.rules.proofs.Tests.{or-false-l, or-false-r}
+
+pub encode-append : (a b : List Report) → encodeAll (a ++ b) ≡ encodeAll a ++ encodeAll b
+unfolding encodeAll
+encode-append [] b = refl
+encode-append (r ∷ rs) b = rw (encode-append rs b) (sym (append-assoc (encode r) (encodeAll rs) (encodeAll b)))
 
 pub fits : (number room : ℕ) (rs : List Report) → number ≤ 4294967295 → length (encodeAll rs) ≤ room → exceeds number room rs ≡ false
 unfolding exceeds

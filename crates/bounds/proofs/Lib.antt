@@ -9,3 +9,5 @@ pub mod Calling
 pub mod Most
 pub mod Front
 pub mod Agree
+pub mod Quiet
+pub mod Truth

@@ -20,7 +20,8 @@ use Rattle.rules.specs.Effects.{Effect, nothing, report, _⟫_}
 use Rattle.rules.specs.Removal.{stay, goes, stayers, leavers, remove}
 use Rattle.rules.specs.Trading.{lessRegular, lessComplex, fillRegular, fillComplex, putRegular, putComplex}
 use Rattle.rules.specs.Generation.{placed}
-use Rattle.bounds.specs.Most.{recordLength, Lengths, Shaped, perRegular, perComplex, perLegging}
+use Rattle.bounds.specs.Most.{recordLength, Lengths, perRegular, perComplex, perLegging}
+use Rattle.bounds.specs.Asked.{Shaped}
 use Rattle.bounds.proofs.Sums.{sum, sum-append, due, worths-most, put-more, fill-less, fill-gone, fill-both}
 
 -- Bytes ---------------------------------------------------------------------------------------

@@ -9,9 +9,8 @@ use Rattle.rules.specs.declared.Venue.{Venue}
 use Rattle.rules.specs.Words.{freshVenue}
 use Rattle.rules.specs.Bytes.{lengthField}
 use Rattle.rules.specs.Refusals.{torn}
-use Rattle.rules.specs.Step.{step}
 use Rattle.rules.specs.Calls.{Call, run, one}
-use Rattle.bounds.specs.Most.{SoundVenue, most}
+use Rattle.bounds.specs.Most.{most}
 
 -- A call reads one message --------------------------------------------------------------------
 
@@ -85,12 +84,3 @@ Agree = (room : ℕ) (messages rooms : List ℕ) → Enough rooms → length roo
 -- "a run whose report memory never fills": lent so many bytes for each byte of the list, a run is not ended by 10
 abbrev pub NeverFills : Type 0
 NeverFills = (room : ℕ) (messages : List ℕ) → length messages ≤ 4294967295 → most * length messages ≤ room → run room messages .returned .number ≢ 10
-
--- What it needs -------------------------------------------------------------------------------
-
--- a sound venue stays sound under every message, and the fresh venue is sound
-abbrev pub Kept : Type 0
-Kept = (v : Venue) → SoundVenue v → (number : ℕ) (message : List ℕ) → SoundVenue (step v number message .effect .venue)
-
-abbrev pub FreshSound : Type 0
-FreshSound = SoundVenue freshVenue

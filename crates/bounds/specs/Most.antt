@@ -1,14 +1,13 @@
 -- The most bytes that one message writes, for whoever lends the memory of a one-message call.
 use mathlib.Core.Path.{_≡_}
-use mathlib.Core.Bool.{true}
 use mathlib.Core.List.{List}
 use Prim.Native.Nat.{ℕ, _+_, _*_, _≤_, _<_}
 use lib.ListN.{length}
 use Rattle.rules.specs.declared.Venue.{Venue}
 use Rattle.rules.specs.Records.{Report, answer, trade, pair, generated, removed, crossed, cancelled, encode, encodeAll}
 use Rattle.rules.specs.Step.{step}
-use Rattle.rules.specs.Sound.{sound}
 use Rattle.rules.specs.Calls.{one}
+use Rattle.bounds.specs.Asked.{SoundVenue}
 
 -- The table's column "Length", of a record.
 unfoldable pub recordLength : Report → ℕ
@@ -22,16 +21,6 @@ recordLength (cancelled id quantity) = 12
 
 abbrev pub Lengths : Type 0
 Lengths = (r : Report) → length (encode r) ≡ recordLength r
-
--- "At most 128 regular and 32 complex orders rest", "16 places": a venue of the declared type has so many places.
-pub record Shaped (v : Venue) : Type 0 where
-  pub regular : length (v .regular) ≡ 128
-  pub complex : length (v .complex) ≡ 32
-  pub legging : length (v .legging) ≡ 16
-
-pub record SoundVenue (v : Venue) : Type 0 where
-  pub shaped : Shaped v
-  pub is : sound v ≡ true
 
 -- What each order that can go pays for. A round of legging in or a hit writes, beside the trades that free their maker, one trade for each
 -- leg and the pair: 22 + 22 + 16. It frees the complex order, or all of a level of one leg. A legging order's going writes its 68.
