@@ -2,10 +2,9 @@
 use mathlib.Core.Path.{_≡_, refl, ap, _∙_}
 use mathlib.Core.Bool.{Bool, true, false, not}
 use mathlib.Core.List.{List}
-use Prim.Native.Nat.{ℕ, zero, suc, _+_, _*_, _≤_, _<_, min}
+use Prim.Native.Nat.{ℕ, zero, suc, _+_, _≤_, _<_, min}
 use native.Mathlib.Omega.{arith}
 use native.Mathlib.Decide.{decLe}
-use native.Mathlib.Nat.{suc-mul}
 use lib.IntN.{ℤ}
 use lib.ListN.{getD}
 use Rattle.rules.specs.declared.Complex.{Complex}
@@ -279,14 +278,12 @@ costs-work i v = go (complexAt v i .quantity) (anyClosed v (complexAt v i))
         costs-then 0 0 v _ _ (costs-then 0 0 v _ _ (repeat-free (crossTurn i) (crossTurn-free i) n v) (costs-touch i _)) (repeat-free (legInTurn i) (legInTurn-free i) n _)
 
 -- f for each resting order of a sweep
-pub costs-each : (c : ℕ) (f : ℕ → Venue → Effect) → ((i : ℕ) (v : Venue) → Costs c v (f i v)) → (fuel id : ℕ) (v : Venue) → Costs (fuel * c) v (each fuel f id v)
+pub costs-each : (f : ℕ → Venue → Effect) → ((i : ℕ) (v : Venue) → Costs 0 v (f i v)) → (fuel id : ℕ) (v : Venue) → Costs 0 v (each fuel f id v)
 unfolding each
-costs-each c f ok zero id v = costs-more 0 (0 * c) v (nothing v) (omega arith) (costs-nothing v)
-costs-each c f ok (suc fuel) id v = go (nextAbove id v) (costs-each c f ok fuel)
+costs-each f ok zero id v = costs-nothing v
+costs-each f ok (suc fuel) id v = go (nextAbove id v) (costs-each f ok fuel)
   where
-    go : (x : Picked Complex) → ((id : ℕ) (w : Venue) → Costs (fuel * c) w (each fuel f id w)) →
-        Costs (suc fuel * c) v (elim x as (λ _. Effect) [ nobody ↦ nothing v | picked i d ↦ f i v ⟫ each fuel f (d .id) ])
-    go nobody ih = costs-more 0 (suc fuel * c) v (nothing v) (omega arith) (costs-nothing v)
-    go (picked i d) ih =
-        let m = suc-mul fuel c in
-        costs-more (c + fuel * c) (suc fuel * c) v _ (omega arith) (costs-then c (fuel * c) v (f i v) (each fuel f (d .id)) (ok i v) (ih (d .id) _))
+    go : (x : Picked Complex) → ((id : ℕ) (w : Venue) → Costs 0 w (each fuel f id w)) →
+        Costs 0 v (elim x as (λ _. Effect) [ nobody ↦ nothing v | picked i d ↦ f i v ⟫ each fuel f (d .id) ])
+    go nobody ih = costs-nothing v
+    go (picked i d) ih = costs-then 0 0 v (f i v) (each fuel f (d .id)) (ok i v) (ih (d .id) _)

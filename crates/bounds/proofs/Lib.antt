@@ -5,6 +5,7 @@ pub mod Sizes
 pub mod Taking
 pub mod Costs
 pub mod Matching
+pub mod Generation
 pub mod Calling
 pub mod Most
 pub mod Front

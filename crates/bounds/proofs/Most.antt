@@ -1,58 +1,35 @@
 -- No message upon a sound venue writes more than `most` bytes.
 use mathlib.Core.Path.{refl}
-use mathlib.Core.Bool.{Bool, true, false, _&&_}
+use mathlib.Core.Bool.{Bool, true, false}
 use mathlib.Core.List.{List, []}
 use Prim.Native.Nat.{ℕ, suc, _+_, _*_, _≤_}
 use native.Mathlib.Omega.{arith}
 use lib.Dec.{eqb}
 use Rattle.rules.specs.declared.Complex.{Complex}
-use Rattle.rules.specs.declared.Legging.{Legging}
 use Rattle.rules.specs.declared.Venue.{Venue}
 use Rattle.rules.specs.declared.Message.{Message}
 use Rattle.rules.specs.declared.Message.the-variants.{Order, TwoLeg, Cancel, Away, Status, Sweep}
 use Rattle.rules.specs.declared.Cause.the-variants.{Withdrawn}
-use Rattle.rules.specs.Base.{if_then_else_, held}
-use Rattle.rules.specs.Words.{placeOf, withSeries, withLast}
+use Rattle.rules.specs.Base.{if_then_else_}
+use Rattle.rules.specs.Words.{withSeries, withLast}
 use Rattle.rules.specs.Messages.{messageOf}
-use Rattle.rules.specs.Records.{Report, generated, cancelled}
-use Rattle.rules.specs.Effects.{nothing, report, _⟫_}
+use Rattle.rules.specs.Records.{cancelled}
+use Rattle.rules.specs.Effects.{nothing, _⟫_}
 use Rattle.rules.specs.Standing.{parentOf, settle}
 use Rattle.rules.specs.Trading.{fillRegular, fillComplex, freeComplex, putComplex}
-use Rattle.rules.specs.Generation.{placed, makes, make, generateLeg, generate}
-use Rattle.rules.specs.Complex.{work, complex, sweep, cancelRegular, cancelComplex, regularPlace, complexPlace, restsRegular, cancel}
+use Rattle.rules.specs.Generation.{generate}
+use Rattle.rules.specs.Complex.{work, complex, each, sweep, cancelRegular, cancelComplex, regularPlace, complexPlace, restsRegular, cancel}
 use Rattle.rules.specs.Refusals.{refusal}
 use Rattle.rules.specs.Step.{setAway, setStatus, perform, accept, answered, step}
 use Rattle.rules.specs.Calls.{called, ends, after, one}
 use Rattle.bounds.proofs.Calling.{fits, oneFrom-done}
-use Rattle.bounds.specs.Most.{recordLength, perComplex, perLegging, perLeg, Parts, WritesAtMost, RoomEnough}
+use Rattle.bounds.specs.Most.{recordLength, perComplex, perLeg, Parts, WritesAtMost, RoomEnough}
 use Rattle.bounds.proofs.Sums.{sum, sum-append}
-use Rattle.bounds.proofs.Worth.{written, worth, worth-most, fill-le, putC-worth, placed-worth, spent, spent-report}
+use Rattle.bounds.proofs.Worth.{written, worth, worth-most, fill-le, putC-worth, spent}
 use Rattle.bounds.proofs.Worth.{fillC-le}
-use Rattle.bounds.proofs.Costs.{Costs, costs-then, costs-more, costs-nothing, costs-remove, costs-removeOf, costs-settle, costs-report, costs-work, costs-each}
+use Rattle.bounds.proofs.Costs.{Costs, costs-then, costs-removeOf, costs-settle, costs-report, costs-work, costs-each}
+use Rattle.bounds.proofs.Generation.{costs-generate, generation-writes}
 use Rattle.bounds.proofs.Matching.{Housed, costs-order, sound-housed}
-
--- Generation ----------------------------------------------------------------------------------
-
--- the record, and what the new legging order is worth
-costs-placed : (r : Report) (n : ℕ) (l : Legging) (v : Venue) → Costs (recordLength r + perLegging) v (report r (placed n l v))
-unfolding Costs
-costs-placed r n l v = let z = spent-report r (placed n l v) in let p = placed-worth n l v in omega arith
-
-costs-make : (c : Complex) (s d : ℕ) (v : Venue) → Costs perLeg v (make c s d v)
-unfolding make recordLength
-costs-make c s d v = costs-then 0 perLeg v _ _ (costs-remove _ v) (costs-placed (generated _ _ _ _ _ _) (placeOf s d) _ _)
-
-costs-leg : (c : Complex) (s d : ℕ) (v : Venue) → Costs perLeg v (generateLeg c s d v)
-unfolding generateLeg
-costs-leg c s d v = go (held (c .quantity) && makes v c s d)
-  where
-    go : (b : Bool) → Costs perLeg v (if b then make c s d v else nothing v)
-    go true = costs-make c s d v
-    go false = costs-more 0 perLeg v _ (omega arith) (costs-nothing v)
-
-costs-generate : (i : ℕ) (v : Venue) → Costs (2 * perLeg) v (generate i v)
-unfolding generate
-costs-generate i v = costs-then perLeg perLeg v _ _ (costs-leg _ _ _ v) (costs-leg _ _ _ _)
 
 -- Messages ------------------------------------------------------------------------------------
 
@@ -64,9 +41,14 @@ costs-complex c v =
     let z : Costs (2 * perLeg) w (complex c v) = costs-then 0 (2 * perLeg) w _ _ (costs-then 0 0 w _ _ (costs-work (freeComplex v) w) (costs-settle _)) (costs-generate (freeComplex v) _) in
     omega arith
 
-costs-sweep : (v : Venue) → Costs (32 * (2 * perLeg)) v (sweep v)
-unfolding sweep
-costs-sweep v = costs-then 0 (32 * (2 * perLeg)) v _ _ (costs-then 0 0 v _ _ (costs-each 0 work costs-work 32 0 v) (costs-settle _)) (costs-each (2 * perLeg) generate costs-generate 32 0 _)
+-- what a sweep generates, the orders that it is generated for pay
+sweep-writes : (v : Venue) → sum recordLength (sweep v .reports) ≤ worth v
+unfolding sweep _⟫_ Costs spent
+sweep-writes v =
+    let e = each 32 work 0 v ⟫ settle in
+    let w : Costs 0 v e = costs-then 0 0 v _ settle (costs-each work costs-work 32 0 v) (costs-settle _) in
+    let g = generation-writes 32 0 (e .venue) in
+    rw (sum-append recordLength (e .reports) (each 32 generate 0 (e .venue) .reports)) (omega arith)
 
 costs-cancelled : (id : ℕ) (v : Venue) → Costs 12 v (if restsRegular v id then cancelRegular (regularPlace v id) v else cancelComplex (complexPlace v id) v)
 unfolding cancelRegular cancelComplex recordLength
@@ -80,25 +62,25 @@ costs-cancel : (id : ℕ) (v : Venue) → Costs 12 v (cancel id v)
 unfolding cancel
 costs-cancel id v = costs-then 12 0 v _ settle (costs-cancelled id v) (costs-settle _)
 
--- the dearest is a sweep: what its legs can cost
-abbrev dearest : ℕ
-dearest = 32 * (2 * perLeg)
-
-perform-costs : (m : Message) (v : Venue) → ((n : ℕ) → Housed n v) → Costs dearest v (perform m v)
-unfolding perform withLast withSeries setAway setStatus Costs worth Housed parentOf
-perform-costs (Order o) v h = omega (arith, costs-order o (withLast v (o .id)) h)
-perform-costs (TwoLeg c) v h = omega (arith, costs-complex c (withLast v (c .id)))
-perform-costs (Cancel id) v h = omega (arith, costs-cancel id v)
-perform-costs (Away s bid offer) v h = omega (arith, costs-settle (setAway s bid offer v))
-perform-costs (Status s x) v h = omega (arith, costs-settle (setStatus s x v))
-perform-costs Sweep v h = costs-sweep v
-
 -- The step ------------------------------------------------------------------------------------
+
+-- the dearest is a complex order: its own worth, and both legs
+abbrev dearest : ℕ
+dearest = perComplex + 2 * perLeg
+
+perform-writes : (m : Message) (v : Venue) → ((n : ℕ) → Housed n v) → sum recordLength (perform m v .reports) ≤ worth v + dearest
+unfolding perform withLast withSeries setAway setStatus Costs spent worth Housed parentOf
+perform-writes (Order o) v h = omega (arith, costs-order o (withLast v (o .id)) h)
+perform-writes (TwoLeg c) v h = omega (arith, costs-complex c (withLast v (c .id)))
+perform-writes (Cancel id) v h = omega (arith, costs-cancel id v)
+perform-writes (Away s bid offer) v h = omega (arith, costs-settle (setAway s bid offer v))
+perform-writes (Status s x) v h = omega (arith, costs-settle (setStatus s x v))
+perform-writes Sweep v h = omega (arith, sweep-writes v)
 
 -- closing the gaps writes nothing
 accept-writes : (m : Message) (v : Venue) → ((n : ℕ) → Housed n v) → sum recordLength (accept m v .reports) ≤ worth v + dearest
-unfolding accept _⟫_ nothing sum Costs spent
-accept-writes m v h = rw (sum-append recordLength (perform m v .reports) []) (omega (arith, perform-costs m v h))
+unfolding accept _⟫_ nothing sum
+accept-writes m v h = rw (sum-append recordLength (perform m v .reports) []) (omega (arith, perform-writes m v h))
 
 step-writes : (v : Venue) → ((n : ℕ) → Housed n v) → (number : ℕ) (bs : List ℕ) → sum recordLength (step v number bs .effect .reports) ≤ 12 + (worth v + dearest)
 unfolding step answered sum recordLength nothing

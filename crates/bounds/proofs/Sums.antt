@@ -40,6 +40,19 @@ module _ {A : Type 0} (f : A → ℕ) where
   sum-most w h [] = omega arith
   sum-most w h (x ∷ l) = let z = sum-most w h l in let y = h x in rw (mul-suc w (length l)) (omega arith)
 
+-- of two measures: the lesser has the lesser sum, and by so much less as at one place
+module _ {A : Type 0} (f g : A → ℕ) (lesser : (x : A) → g x ≤ f x) where
+  pub sum-mono : (l : List A) → sum g l ≤ sum f l
+  unfolding sum
+  sum-mono [] = omega arith
+  sum-mono (x ∷ l) = let h = lesser x in let k = sum-mono l in omega arith
+
+  pub sum-drop : (none : A) (w : ℕ) (l : List A) (i : ℕ) → i < length l → g (getD l i none) + w ≤ f (getD l i none) → sum g l + w ≤ sum f l
+  unfolding sum
+  sum-drop none w [] i h d = absurd (omega arith)
+  sum-drop none w (x ∷ l) zero h d = let k = sum-mono l in omega arith
+  sum-drop none w (x ∷ l) (suc i) h d = let k = sum-drop none w l i (omega arith) d in let e = lesser x in omega arith
+
 -- w while there is a quantity
 unfoldable pub due : (w quantity : ℕ) → ℕ
 due w q = if held q then w else 0

@@ -22,27 +22,29 @@ recordLength (cancelled id quantity) = 12
 abbrev pub Lengths : Type 0
 Lengths = (r : Report) → length (encode r) ≡ recordLength r
 
--- What each order that can go pays for. A round of legging in or a hit writes, beside the trades that free their maker, one trade for each
--- leg and the pair: 22 + 22 + 16. It frees the complex order, or all of a level of one leg. A legging order's going writes its 68.
+-- What each order pays for when it goes, or in a sweep when its turn comes. A round of legging in writes, beside the trades that free their maker,
+-- a trade for each leg and the pair, 22 + 22 + 16; it frees all of a level of one leg, or the complex order. A cross writes 20 and frees a party.
 abbrev pub perRegular : ℕ
 perRegular = 60
 
+-- and a complex order that is left may have both legs generated
 abbrev pub perComplex : ℕ
-perComplex = 60
+perComplex = 66
 
+-- a legging order's going writes its 68
 abbrev pub perLegging : ℕ
 perLegging = 11
 
--- and a leg that is generated: its 67, and the 68 of the holder or, later, its own
+-- a leg that is generated: its 67, and the 68 of the holder or, later, its own
 abbrev pub perLeg : ℕ
 perLeg = 33
 
 abbrev pub most : ℕ
-most = 11900
+most = 10112
 
--- The answer, all that can go, and both legs of each of 32 complex orders in a sweep.
+-- the answer, all orders that can rest, and a complex order that arrives with both its legs
 abbrev pub Parts : Type 0
-Parts = _≡_ {A = ℕ} most (12 + (perRegular * 128 + perComplex * 32 + perLegging * 16) + 32 * (2 * perLeg))
+Parts = _≡_ {A = ℕ} most (12 + (perRegular * 128 + perComplex * 32 + perLegging * 16) + (perComplex + 2 * perLeg))
 
 -- No message upon a sound venue writes more.
 abbrev pub WritesAtMost : Type 0
