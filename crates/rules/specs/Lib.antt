@@ -17,3 +17,5 @@ pub mod Refusals
 pub mod Step
 pub mod Sound
 pub mod Calls
+pub mod Opened
+pub mod Trials

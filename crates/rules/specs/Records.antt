@@ -21,7 +21,7 @@ pub data Report : Type 0 where
   cancelled : (id quantity : ℕ) → Report
 
 -- 01's number of a cause; the filing's clause beside it
-unfoldable pub causeNumber : Cause → ℕ
+abbrev pub causeNumber : Cause → ℕ
 -- (C)(4)(i): no longer at the displayed best bid or offer
 causeNumber Worse = 1
 -- (C)(4)(ii): the net price is no longer achieved

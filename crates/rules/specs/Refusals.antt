@@ -50,6 +50,11 @@ inRange (Away s bid offer) = isSeries s && isAway bid && isAway offer
 inRange (Status s x) = isSeries s && isStatus x
 inRange Sweep = true
 
+-- the refusal's number that a decoding tells; 0 for a message
+abbrev pub decodedNumber : Decoded → ℕ
+decodedNumber (Taken m) = 0
+decodedNumber (Refused x) = x
+
 -- the message at the front of bs, or the first of 1 to 4 that it meets
 unfoldable pub decoded : List ℕ → Decoded
 decoded bs =

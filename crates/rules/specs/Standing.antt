@@ -15,6 +15,7 @@ use Rattle.rules.specs.declared.Verdict.the-variants.{Stands, Fails}
 use Rattle.rules.specs.Base.{if_then_else_, held}
 use Rattle.rules.specs.Words.{opposite, signed, increment, opened, statusOf, noComplex, isComplexOf}
 use Rattle.rules.specs.Prices.{better, bestRegular, bestSize, clearPrice, displayed, inBand}
+use Rattle.rules.specs.Records.{causeNumber}
 use Rattle.rules.specs.Effects.{Effect}
 use Rattle.rules.specs.Removal.{remove}
 
@@ -46,6 +47,10 @@ otherClear v c s = clearPrice v (otherLeg c s .series) (opposite (otherLeg c s .
 unfoldable pub otherSize : Venue → Complex → (series : ℕ) → ℕ
 otherSize v c s = bestSize v (otherLeg c s .series) (opposite (otherLeg c s .side))
 
+-- the net of price p at side d of series s, a leg of c, and price q at its other leg
+abbrev pub legNet : Complex → (series side p q : ℕ) → ℤ
+legNet c s d p q = signed d (pos p) +ℤ signed (otherLeg c s .side) (pos q)
+
 -- The test ------------------------------------------------------------------------------------
 
 -- "both its series are open (else cause 6)"; (C)(1), last part, and (C)(4)(vi)
@@ -61,7 +66,7 @@ shownWell v s d p = not (better d (bestRegular v s d) (displayed (increment s) d
 unfoldable pub pairs : Venue → Complex → (series side p k : ℕ) → Bool
 pairs v c s d p k =
     held (otherClear v c s)
-    && leZ (signed d (pos p) +ℤ signed (otherLeg c s .side) (pos (otherClear v c s))) (c .limit)
+    && leZ (legNet c s d p (otherClear v c s)) (c .limit)
     && leb k (otherSize v c s)
 
 -- The test of a legging order l of c at side d of series s: "with the lowest cause that applies". "N is in band (else 5)"; (C)(4)(v)
@@ -76,6 +81,11 @@ verdictOf v c s d l =
 -- the test of what stands at place n
 unfoldable pub verdict : Venue → (place : ℕ) → Legging → Verdict
 verdict v n l = if held (l .quantity) then verdictOf v (parentOf v l) (n / 2) (n % 2) l else Stands
+
+-- the number of a verdict: 0, or its cause's
+abbrev pub verdictNumber : Verdict → ℕ
+verdictNumber Stands = 0
+verdictNumber (Fails c) = causeNumber c
 
 unfoldable pub stands : Verdict → Bool
 stands Stands = true

@@ -1,5 +1,14 @@
-// The venue of document 01 and what rests in it, a message, and why a legging order goes.
+// The venue of document 01 and what rests in it, a message, and why a legging order goes; then the leaf functions on numbers.
 // The definitions (specs/) use these types as their records: an array is a list, an unsigned number a natural one, an i32 an integer.
+ghost use mathlib.Core.Path.{_≡_};
+ghost use Prim.Native.Nat.{ℕ, _+_, _≤_};
+ghost use lib.IntN.{ℤ, pos, natAbs, _+ℤ_};
+ghost use Rattle.rules.specs.Words.{opposite, signed, increment, placeOf, freshVenue};
+ghost use Rattle.rules.specs.Messages.{lengthOf};
+ghost use Rattle.rules.specs.Records.{causeNumber};
+ghost use Rattle.rules.specs.Prices.{displayed, weighed, percent, nearNet};
+ghost use Rattle.rules.specs.Standing.{verdictNumber};
+ghost use Rattle.rules.specs.Refusals.{decodedNumber};
 
 // A regular order. Its place is free when its quantity is 0.
 pub struct Regular {
@@ -90,4 +99,174 @@ pub enum Cause {
 pub enum Verdict {
     Stands,
     Fails(Cause),
+}
+
+// The venue with no orders, all series closed and no away prices.
+pub fn fresh() -> Venue
+    ensures { λ r. ⌜ r ≡ freshVenue ⌝ }
+{
+    let regular = Regular {
+        id: 0,
+        series: 0,
+        side: 0,
+        price: 0,
+        quantity: 0,
+    };
+    let complex = Complex {
+        id: 0,
+        series1: 0,
+        side1: 0,
+        series2: 0,
+        side2: 0,
+        class: 0,
+        limit: 0,
+        quantity: 0,
+    };
+    let legging = Legging {
+        parent: 0,
+        price: 0,
+        quantity: 0,
+    };
+    let listed = Listed {
+        status: 0,
+        bid: 0,
+        offer: 0,
+    };
+    Venue {
+        regular: [regular; 128],
+        complex: [complex; 32],
+        legging: [legging; 16],
+        series: [listed; 8],
+        last: 0,
+    }
+}
+
+// The side that a leg or an order of this side takes.
+pub fn opposite_of(side: u8) -> u8
+    ensures { λ r. ⌜ r ≡ opposite side ⌝ }
+{
+    if side == 0 {
+        return 1;
+    }
+    0
+}
+
+// A series' increment.
+pub fn increment_of(series: u8) -> u32
+    ensures { λ r. ⌜ r ≡ increment series ⌝ }
+{
+    if series < 6 {
+        return 5;
+    }
+    10
+}
+
+// A legging order's displayed price: its own, down (buy) or up (sell) to the increment of its series.
+pub fn displayed_price(series: u8, side: u8, price: u32) -> u64
+    ensures { λ r. ⌜ r ≡ displayed (increment series) side price ⌝ }
+{
+    let i = increment_of(series) as u64;
+    let p = price as u64;
+    if side == 0 {
+        return p / i * i;
+    }
+    (p + (i - 1)) / i * i
+}
+
+// The place of a legging order.
+pub fn place_of(series: u8, side: u8) -> usize
+    ensures { λ r. ⌜ r ≡ placeOf series side ⌝ }
+{
+    2 * (series as usize) + (side as usize)
+}
+
+// Sign × price of a leg.
+pub fn signed_price(side: u8, price: u32) -> i64
+    ensures { λ r. ⌜ (r ≡ signed side (pos price)) × (natAbs r ≤ 4294967295) ⌝ }
+{
+    if side == 0 {
+        return price as i64;
+    }
+    0 - (price as i64)
+}
+
+// The net of prices a and b at two legs of these sides, one to one.
+pub fn net_of(side1: u8, a: u32, side2: u8, b: u32) -> i64
+    ensures { λ r. ⌜ (r ≡ weighed 1 side1 a +ℤ weighed 1 side2 b) × (natAbs r ≤ 8589934590) ⌝ }
+{
+    let x = signed_price(side1, a);
+    let y = signed_price(side2, b);
+    x + y
+}
+
+// The net t is within 5 percent of the net o of the market bests: 100 t ≤ 100 o + 5 |o|.
+pub fn near_net(o: i64, t: i64) -> bool
+    requires { ⌜ (natAbs o ≤ 8589934590) × (natAbs t ≤ 8589934590) ⌝ }
+    ensures { λ r. ⌜ r ≡ nearNet percent o t ⌝ }
+{
+    if o < 0 {
+        return 100 * t <= 95 * o;
+    }
+    100 * t <= 105 * o
+}
+
+// A message's length by its kind, 0 for what is no kind of message.
+pub fn length_of(kind: u16) -> u16
+    ensures { λ r. ⌜ r ≡ lengthOf kind ⌝ }
+{
+    if kind == 1 {
+        return 18;
+    }
+    if kind == 2 {
+        return 21;
+    }
+    if kind == 3 {
+        return 8;
+    }
+    if kind == 4 {
+        return 13;
+    }
+    if kind == 5 {
+        return 6;
+    }
+    if kind == 6 {
+        return 4;
+    }
+    0
+}
+
+// A cause's number.
+pub fn cause_number(cause: Cause) -> u8
+    ensures { λ r. ⌜ r ≡ causeNumber cause ⌝ }
+{
+    match cause {
+        Cause::Worse => 1,
+        Cause::Unpaired => 2,
+        Cause::Executed => 3,
+        Cause::Withdrawn => 4,
+        Cause::OutOfBand => 5,
+        Cause::NotOpen => 6,
+        Cause::Replaced => 7,
+        Cause::Touched => 8,
+    }
+}
+
+// A verdict's number: 0, or its cause's.
+pub fn verdict_number(verdict: Verdict) -> u8
+    ensures { λ r. ⌜ r ≡ verdictNumber verdict ⌝ }
+{
+    match verdict {
+        Verdict::Stands => 0,
+        Verdict::Fails(cause) => cause_number(cause),
+    }
+}
+
+// The refusal, 1 to 4, that a message's bytes meet; 0 if none.
+pub fn decoded_number(decoded: Decoded) -> u8
+    ensures { λ r. ⌜ r ≡ decodedNumber decoded ⌝ }
+{
+    match decoded {
+        Decoded::Taken(_) => 0,
+        Decoded::Refused(number) => number,
+    }
 }
