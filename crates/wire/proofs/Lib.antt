@@ -1,0 +1,3 @@
+pub mod Twos
+pub mod Fields
+pub mod Writes
