@@ -1,3 +1,4 @@
 pub mod Twos
 pub mod Fields
 pub mod Writes
+pub mod Stages
