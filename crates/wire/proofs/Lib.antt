@@ -1,4 +1,6 @@
 pub mod Twos
 pub mod Fields
+pub mod Numbers
+pub mod Decoding
 pub mod Writes
 pub mod Stages

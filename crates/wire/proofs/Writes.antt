@@ -2,14 +2,13 @@
 use mathlib.Core.Path.{_≡_, refl, sym, ap, ap₂, _∙_}
 use mathlib.Core.Bool.{Bool, true, false}
 use mathlib.Core.List.{List, [], _∷_, _++_, append-assoc, append-nil}
-use Prim.Native.Nat.{ℕ, zero, suc, _+_, _-_, _≤_, _<_}
+use Prim.Native.Nat.{ℕ, suc, _+_, _-_, _≤_, _<_}
 use native.Mathlib.Omega.{arith}
 use lib.Dec.{leb}
 use lib.ListN.{length, take, drop, replicate, length-append, length-drop, length-replicate, drop-of-length-le, take-append-drop}
 use lib.Seq.{paste, take-length, take-all, length-take-le, take-at, drop-at, drop-drop, take-append-add, drop-append-add}
 use borrow.Author.Tests.{le-leb, lt-leb, leb-true, leb-false}
 use borrow.Rule.Slice.PartMut.{putMid}
-use Rattle.rules.specs.Base.{if_then_else_}
 use Rattle.rules.specs.Bytes.{framed, bytes}
 use Rattle.rules.specs.Records.{Report, answer, encode, encodeAll, sheet}
 use Rattle.wire.specs.Seen.{Seen, seen, pasted, _plus_, _writes_}

@@ -1,12 +1,301 @@
 // Bytes in, records out: little-endian numbers, messages decoded, records written into a lent slice, the sheet read back.
 use rules::Cause;
+use rules::Complex;
+use rules::Decoded;
+use rules::Message;
+use rules::Regular;
 ghost use mathlib.Core.Path.{_≡_};
 ghost use mathlib.Core.List.{List, [], _∷_, _++_};
 ghost use Prim.Native.Nat.{_+_, _-_, _≤_, _<_};
 ghost use lib.ListN.{length, take, drop, replicate};
-ghost use Rattle.rules.specs.Bytes.{bytes, asUnsigned};
+ghost use Rattle.rules.specs.declared.Message.the-variants.{Away, Status};
+ghost use Rattle.rules.specs.Words.{increment, isRegularPrice, isQuantity, isLimit};
+ghost use Rattle.rules.specs.Bytes.{u8At, u16At, u32At, asSigned, bytes, asUnsigned};
+ghost use Rattle.rules.specs.Messages.{lengthOf, orderAt, twoLegAt, messageOf};
+ghost use Rattle.rules.specs.Refusals.{regularInRange, complexInRange, inRange, decoded};
 ghost use Rattle.rules.specs.Records.{answer, trade, pair, generated, removed, crossed, cancelled, causeNumber};
 ghost use Rattle.wire.specs.Seen.{seen, _plus_, _writes_};
+
+// Reading -------------------------------------------------------------------------------------
+
+fn wide16(x: u8) -> u16
+    ensures { λ r. ⌜ (r ≡ x) × (r < 256) ⌝ }
+{
+    x as u16
+}
+
+fn wide32(x: u16) -> u32
+    ensures { λ r. ⌜ (r ≡ x) × (r < 65536) ⌝ }
+{
+    x as u32
+}
+
+// The number at a position, little-endian. A byte past the end of `s` is read as 0.
+pub fn u8_at(s: &[u8], at: usize) -> u8
+    ensures { λ r. ⌜ r ≡ u8At (now (s .entry)) at ⌝ }
+{
+    if at < s.len() { s[at] } else { 0 }
+}
+
+pub fn u16_at(s: &[u8], at: usize) -> u16
+    ensures { λ r. ⌜ r ≡ u16At (now (s .entry)) at ⌝ }
+{
+    if s.len() <= at {
+        return 0;
+    }
+    let low = wide16(u8_at(s, at));
+    let high = wide16(u8_at(s, at + 1));
+    low + 256 * high
+}
+
+pub fn u32_at(s: &[u8], at: usize) -> u32
+    ensures { λ r. ⌜ r ≡ u32At (now (s .entry)) at ⌝ }
+{
+    if s.len() <= at {
+        return 0;
+    }
+    let low = wide32(u16_at(s, at));
+    let high = wide32(u16_at(s, at + 2));
+    low + 65536 * high
+}
+
+// The signed number whose 32 bits, in two's complement, are `x`.
+fn signed(x: u32) -> i32
+    ensures { λ r. ⌜ r ≡ asSigned x ⌝ }
+{
+    if x < 2147483648 {
+        return x as i32;
+    }
+    let back = (4294967295 - x) as i32;
+    -1 - back
+}
+
+pub fn i32_at(s: &[u8], at: usize) -> i32
+    ensures { λ r. ⌜ r ≡ asSigned (u32At (now (s .entry)) at) ⌝ }
+{
+    signed(u32_at(s, at))
+}
+
+// A message -----------------------------------------------------------------------------------
+
+// The length of a kind of message; 0 for what is no kind.
+fn length_of(kind: u16) -> u16
+    ensures { λ r. ⌜ r ≡ lengthOf kind ⌝ }
+{
+    match kind {
+        1 => 18,
+        2 => 21,
+        3 => 8,
+        4 => 13,
+        5 => 6,
+        6 => 4,
+        _ => 0,
+    }
+}
+
+// The increment of a series.
+fn increment_of(series: u8) -> u32
+    ensures { λ r. ⌜ r ≡ increment series ⌝ }
+{
+    if series < 6 { 5 } else { 10 }
+}
+
+fn is_regular_price(step: u32, price: u32) -> bool
+    requires { ⌜ 0 < step ⌝ }
+    ensures { λ r. ⌜ r ≡ isRegularPrice step price ⌝ }
+{
+    if price == 0 {
+        return false;
+    }
+    if 100000 < price {
+        return false;
+    }
+    price % step == 0
+}
+
+fn is_quantity(n: u32) -> bool
+    ensures { λ r. ⌜ r ≡ isQuantity n ⌝ }
+{
+    if n == 0 {
+        return false;
+    }
+    n <= 10000
+}
+
+fn is_limit(n: i32) -> bool
+    ensures { λ r. ⌜ r ≡ isLimit n ⌝ }
+{
+    if n < -200000 {
+        return false;
+    }
+    n <= 200000
+}
+
+// An order's fields are in their ranges, its price a multiple of the increment.
+pub fn regular_in_range(o: Regular) -> bool
+    ensures { λ r. ⌜ r ≡ regularInRange o ⌝ }
+{
+    if o.id == 0 {
+        return false;
+    }
+    if 7 < o.series {
+        return false;
+    }
+    if 1 < o.side {
+        return false;
+    }
+    if !is_regular_price(increment_of(o.series), o.price) {
+        return false;
+    }
+    is_quantity(o.quantity)
+}
+
+// A complex order's fields are in their ranges, its legs in two series.
+pub fn complex_in_range(c: Complex) -> bool
+    ensures { λ r. ⌜ r ≡ complexInRange c ⌝ }
+{
+    if c.id == 0 {
+        return false;
+    }
+    if 7 < c.series1 {
+        return false;
+    }
+    if 1 < c.side1 {
+        return false;
+    }
+    if 7 < c.series2 {
+        return false;
+    }
+    if 1 < c.side2 {
+        return false;
+    }
+    if c.series1 == c.series2 {
+        return false;
+    }
+    if 1 < c.class {
+        return false;
+    }
+    if !is_limit(c.limit) {
+        return false;
+    }
+    is_quantity(c.quantity)
+}
+
+fn away_in_range(series: u8, bid: u32, offer: u32) -> bool
+    ensures { λ r. ⌜ r ≡ inRange (Away series bid offer) ⌝ }
+{
+    if 7 < series {
+        return false;
+    }
+    if 100000 < bid {
+        return false;
+    }
+    offer <= 100000
+}
+
+fn status_in_range(series: u8, status: u8) -> bool
+    ensures { λ r. ⌜ r ≡ inRange (Status series status) ⌝ }
+{
+    if 7 < series {
+        return false;
+    }
+    status <= 2
+}
+
+// Every field of a message is in its range.
+fn in_range(m: Message) -> bool
+    ensures { λ r. ⌜ r ≡ inRange m ⌝ }
+{
+    match m {
+        Message::Order(o) => regular_in_range(o),
+        Message::TwoLeg(c) => complex_in_range(c),
+        Message::Cancel(id) => id != 0,
+        Message::Away(series, bid, offer) => away_in_range(series, bid, offer),
+        Message::Status(series, status) => status_in_range(series, status),
+        Message::Sweep => true,
+    }
+}
+
+fn order_at(s: &[u8]) -> Regular
+    ensures { λ r. ⌜ r ≡ orderAt (now (s .entry)) ⌝ }
+{
+    Regular {
+        id: u32_at(s, 4),
+        series: u8_at(s, 8),
+        side: u8_at(s, 9),
+        price: u32_at(s, 10),
+        quantity: u32_at(s, 14),
+    }
+}
+
+fn two_leg_at(s: &[u8]) -> Complex
+    ensures { λ r. ⌜ r ≡ twoLegAt (now (s .entry)) ⌝ }
+{
+    Complex {
+        id: u32_at(s, 4),
+        series1: u8_at(s, 8),
+        side1: u8_at(s, 9),
+        series2: u8_at(s, 10),
+        side2: u8_at(s, 11),
+        class: u8_at(s, 12),
+        limit: i32_at(s, 13),
+        quantity: u32_at(s, 17),
+    }
+}
+
+// The message at the front of `s`, by its kind.
+fn message_of(s: &[u8]) -> Message
+    ensures { λ r. ⌜ r ≡ messageOf (now (s .entry)) ⌝ }
+{
+    let kind = u16_at(s, 2);
+    if kind == 1 {
+        return Message::Order(order_at(s));
+    }
+    if kind == 2 {
+        return Message::TwoLeg(two_leg_at(s));
+    }
+    if kind == 3 {
+        return Message::Cancel(u32_at(s, 4));
+    }
+    if kind == 4 {
+        return Message::Away(u8_at(s, 4), u32_at(s, 5), u32_at(s, 9));
+    }
+    if kind == 5 {
+        return Message::Status(u8_at(s, 4), u8_at(s, 5));
+    }
+    Message::Sweep
+}
+
+// The message at the front of `s`, or the first of the refusals 1 to 4 that it meets.
+pub fn decode(s: &[u8]) -> Decoded
+    ensures { λ r. ⌜ r ≡ decoded (now (s .entry)) ⌝ }
+{
+    if s.len() < 4 {
+        return Decoded::Refused(1);
+    }
+    let size = u16_at(s, 0);
+    if size < 4 {
+        return Decoded::Refused(1);
+    }
+    if s.len() < size as usize {
+        return Decoded::Refused(1);
+    }
+    let kind = u16_at(s, 2);
+    if kind == 0 {
+        return Decoded::Refused(2);
+    }
+    if 6 < kind {
+        return Decoded::Refused(2);
+    }
+    if size != length_of(kind) {
+        return Decoded::Refused(3);
+    }
+    let m = message_of(s);
+    if !in_range(m) {
+        return Decoded::Refused(4);
+    }
+    Decoded::Taken(m)
+}
 
 // Writing -------------------------------------------------------------------------------------
 

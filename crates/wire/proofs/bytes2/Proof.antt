@@ -3,18 +3,13 @@ use Rattle.rules.specs.Bytes.{bytes}
 use borrow.Author.Needs.{needs}
 use Rattle.wire.proofs.bytes2.Statement.{statement}
 use Rattle.wire.proofs.bytes2.Tie as tie
-use Rattle.wire.proofs.bytes2.Reads as reads
-use Rattle.wire.proofs.bytes2.Lts as lts
 
--- src/lib.rt:35:6
 cast-t3 : tie.Need-cast-t3
 cast-t3 c = search needs
 
--- src/lib.rt:35:23
 cast-t6 : tie.Need-cast-t6
 cast-t6 c = search needs
 
--- src/lib.rt:32:1
 returns : tie.Need-returns
 unfolding bytes
 returns c = refl

@@ -3,26 +3,19 @@ use Rattle.rules.specs.Bytes.{bytes}
 use borrow.Author.Needs.{needs}
 use Rattle.wire.proofs.bytes4.Statement.{statement}
 use Rattle.wire.proofs.bytes4.Tie as tie
-use Rattle.wire.proofs.bytes4.Reads as reads
-use Rattle.wire.proofs.bytes4.Lts as lts
 
--- src/lib.rt:42:6
 cast-t3 : tie.Need-cast-t3
 cast-t3 c = search needs
 
--- src/lib.rt:42:23
 cast-t6 : tie.Need-cast-t6
 cast-t6 c = search needs
 
--- src/lib.rt:42:46
 cast-t10 : tie.Need-cast-t10
 cast-t10 c = search needs
 
--- src/lib.rt:42:75
 cast-t15 : tie.Need-cast-t15
 cast-t15 c = search needs
 
--- src/lib.rt:39:1
 returns : tie.Need-returns
 unfolding bytes
 returns c = refl

@@ -5,57 +5,40 @@ use Rattle.wire.proofs.Writes.{emitted}
 use borrow.Author.Needs.{needs}
 use Rattle.wire.proofs.emit_answer.Statement.{statement}
 use Rattle.wire.proofs.emit_answer.Tie as tie
-use Rattle.wire.proofs.emit_answer.Reads as reads
-use Rattle.wire.proofs.emit_answer.Lts as lts
-use Rattle.wire.proofs.bytes2.Reads as bytes2-reads
-use Rattle.wire.proofs.bytes4.Reads as bytes4-reads
-use Rattle.wire.proofs.put.Reads as put-reads
 
--- src/lib.rt:79:13
 bytes4-requires : tie.Need-bytes4-requires
 bytes4-requires c κs = search needs
 
--- src/lib.rt:80:13
 bytes2-requires : tie.Need-bytes2-requires
 bytes2-requires c κs = search needs
 
--- src/lib.rt:81:35
 array-read-t15 : tie.Need-array-read-t15
 array-read-t15 c = search needs
 
--- src/lib.rt:81:41
 array-read-t18 : tie.Need-array-read-t18
 array-read-t18 c = search needs
 
--- src/lib.rt:81:47
 array-read-t21 : tie.Need-array-read-t21
 array-read-t21 c = search needs
 
--- src/lib.rt:81:53
 array-read-t24 : tie.Need-array-read-t24
 array-read-t24 c = search needs
 
--- src/lib.rt:81:68
 array-read-t27 : tie.Need-array-read-t27
 array-read-t27 c = search needs
 
--- src/lib.rt:81:74
 array-read-t30 : tie.Need-array-read-t30
 array-read-t30 c = search needs
 
--- src/lib.rt:82:18
 slice-aggregate-put : tie.Need-slice-aggregate-put
 slice-aggregate-put c = search needs
 
--- src/lib.rt:82:5
 put-requires : tie.Need-put-requires
 put-requires c κs = search needs
 
--- src/lib.rt:76:1
 same-length : tie.Need-same-length
 same-length c = search needs
 
--- src/lib.rt:76:1
 returns : tie.Need-returns
 unfolding encode framed bytes
 returns c =

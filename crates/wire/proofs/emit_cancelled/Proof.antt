@@ -4,64 +4,46 @@ use Rattle.wire.proofs.Writes.{emitted}
 use borrow.Author.Needs.{needs}
 use Rattle.wire.proofs.emit_cancelled.Statement.{statement}
 use Rattle.wire.proofs.emit_cancelled.Tie as tie
-use Rattle.wire.proofs.emit_cancelled.Reads as reads
-use Rattle.wire.proofs.emit_cancelled.Lts as lts
-use Rattle.wire.proofs.bytes4.Reads as bytes4-reads
-use Rattle.wire.proofs.put.Reads as put-reads
 
--- src/lib.rt:157:13
 bytes4-requires : tie.Need-bytes4-requires
 bytes4-requires c κs = search needs
 
--- src/lib.rt:158:13
 bytes4-requires-2 : tie.Need-bytes4-requires-2
 bytes4-requires-2 c κs = search needs
 
--- src/lib.rt:159:35
 array-read-t12 : tie.Need-array-read-t12
 array-read-t12 c = search needs
 
--- src/lib.rt:159:41
 array-read-t15 : tie.Need-array-read-t15
 array-read-t15 c = search needs
 
--- src/lib.rt:159:47
 array-read-t18 : tie.Need-array-read-t18
 array-read-t18 c = search needs
 
--- src/lib.rt:159:53
 array-read-t21 : tie.Need-array-read-t21
 array-read-t21 c = search needs
 
--- src/lib.rt:159:59
 array-read-t24 : tie.Need-array-read-t24
 array-read-t24 c = search needs
 
--- src/lib.rt:159:65
 array-read-t27 : tie.Need-array-read-t27
 array-read-t27 c = search needs
 
--- src/lib.rt:159:71
 array-read-t30 : tie.Need-array-read-t30
 array-read-t30 c = search needs
 
--- src/lib.rt:159:77
 array-read-t33 : tie.Need-array-read-t33
 array-read-t33 c = search needs
 
--- src/lib.rt:160:18
 slice-aggregate-put : tie.Need-slice-aggregate-put
 slice-aggregate-put c = search needs
 
--- src/lib.rt:160:5
 put-requires : tie.Need-put-requires
 put-requires c κs = search needs
 
--- src/lib.rt:154:1
 same-length : tie.Need-same-length
 same-length c = search needs
 
--- src/lib.rt:154:1
 returns : tie.Need-returns
 unfolding encode framed bytes
 returns c =

@@ -6,109 +6,79 @@ use Rattle.wire.proofs.Writes.{emitted}
 use borrow.Author.Needs.{needs}
 use Rattle.wire.proofs.emit_crossed.Statement.{statement}
 use Rattle.wire.proofs.emit_crossed.Tie as tie
-use Rattle.wire.proofs.emit_crossed.Reads as reads
-use Rattle.wire.proofs.emit_crossed.Lts as lts
-use Rattle.wire.proofs.bytes4.Reads as bytes4-reads
-use Rattle.wire.proofs.put.Reads as put-reads
-use Rattle.wire.proofs.unsigned.Reads as unsigned-reads
 
--- src/lib.rt:145:13
 bytes4-requires : tie.Need-bytes4-requires
 bytes4-requires c κs = search needs
 
--- src/lib.rt:146:13
 bytes4-requires-2 : tie.Need-bytes4-requires-2
 bytes4-requires-2 c κs = search needs
 
--- src/lib.rt:147:20
 unsigned-requires : tie.Need-unsigned-requires
 unsigned-requires c κs = search needs
 
--- src/lib.rt:147:13
 bytes4-requires-3 : tie.Need-bytes4-requires-3
 bytes4-requires-3 c κs = search needs
 
--- src/lib.rt:148:13
 bytes4-requires-4 : tie.Need-bytes4-requires-4
 bytes4-requires-4 c κs = search needs
 
--- src/lib.rt:149:35
 array-read-t16 : tie.Need-array-read-t16
 array-read-t16 c = search needs
 
--- src/lib.rt:149:41
 array-read-t19 : tie.Need-array-read-t19
 array-read-t19 c = search needs
 
--- src/lib.rt:149:47
 array-read-t22 : tie.Need-array-read-t22
 array-read-t22 c = search needs
 
--- src/lib.rt:149:53
 array-read-t25 : tie.Need-array-read-t25
 array-read-t25 c = search needs
 
--- src/lib.rt:149:59
 array-read-t28 : tie.Need-array-read-t28
 array-read-t28 c = search needs
 
--- src/lib.rt:149:65
 array-read-t31 : tie.Need-array-read-t31
 array-read-t31 c = search needs
 
--- src/lib.rt:149:71
 array-read-t34 : tie.Need-array-read-t34
 array-read-t34 c = search needs
 
--- src/lib.rt:149:77
 array-read-t37 : tie.Need-array-read-t37
 array-read-t37 c = search needs
 
--- src/lib.rt:149:83
 array-read-t40 : tie.Need-array-read-t40
 array-read-t40 c = search needs
 
--- src/lib.rt:149:89
 array-read-t43 : tie.Need-array-read-t43
 array-read-t43 c = search needs
 
--- src/lib.rt:149:95
 array-read-t46 : tie.Need-array-read-t46
 array-read-t46 c = search needs
 
--- src/lib.rt:149:101
 array-read-t49 : tie.Need-array-read-t49
 array-read-t49 c = search needs
 
--- src/lib.rt:149:107
 array-read-t52 : tie.Need-array-read-t52
 array-read-t52 c = search needs
 
--- src/lib.rt:149:113
 array-read-t55 : tie.Need-array-read-t55
 array-read-t55 c = search needs
 
--- src/lib.rt:149:119
 array-read-t58 : tie.Need-array-read-t58
 array-read-t58 c = search needs
 
--- src/lib.rt:149:125
 array-read-t61 : tie.Need-array-read-t61
 array-read-t61 c = search needs
 
--- src/lib.rt:150:18
 slice-aggregate-put : tie.Need-slice-aggregate-put
 slice-aggregate-put c = search needs
 
--- src/lib.rt:150:5
 put-requires : tie.Need-put-requires
 put-requires c κs = search needs
 
--- src/lib.rt:142:1
 same-length : tie.Need-same-length
 same-length c = search needs
 
--- src/lib.rt:142:1
 returns : tie.Need-returns
 unfolding encode framed bytes
 returns c =

@@ -5,104 +5,76 @@ use Rattle.wire.proofs.Writes.{emitted}
 use borrow.Author.Needs.{needs}
 use Rattle.wire.proofs.emit_generated.Statement.{statement}
 use Rattle.wire.proofs.emit_generated.Tie as tie
-use Rattle.wire.proofs.emit_generated.Reads as reads
-use Rattle.wire.proofs.emit_generated.Lts as lts
-use Rattle.wire.proofs.bytes4.Reads as bytes4-reads
-use Rattle.wire.proofs.put.Reads as put-reads
 
--- src/lib.rt:121:13
 bytes4-requires : tie.Need-bytes4-requires
 bytes4-requires c κs = search needs
 
--- src/lib.rt:122:13
 bytes4-requires-2 : tie.Need-bytes4-requires-2
 bytes4-requires-2 c κs = search needs
 
--- src/lib.rt:123:13
 bytes4-requires-3 : tie.Need-bytes4-requires-3
 bytes4-requires-3 c κs = search needs
 
--- src/lib.rt:124:13
 bytes4-requires-4 : tie.Need-bytes4-requires-4
 bytes4-requires-4 c κs = search needs
 
--- src/lib.rt:126:25
 array-read-t18 : tie.Need-array-read-t18
 array-read-t18 c = search needs
 
--- src/lib.rt:126:31
 array-read-t21 : tie.Need-array-read-t21
 array-read-t21 c = search needs
 
--- src/lib.rt:126:37
 array-read-t24 : tie.Need-array-read-t24
 array-read-t24 c = search needs
 
--- src/lib.rt:126:43
 array-read-t27 : tie.Need-array-read-t27
 array-read-t27 c = search needs
 
--- src/lib.rt:126:63
 array-read-t30 : tie.Need-array-read-t30
 array-read-t30 c = search needs
 
--- src/lib.rt:126:69
 array-read-t33 : tie.Need-array-read-t33
 array-read-t33 c = search needs
 
--- src/lib.rt:126:75
 array-read-t36 : tie.Need-array-read-t36
 array-read-t36 c = search needs
 
--- src/lib.rt:126:81
 array-read-t39 : tie.Need-array-read-t39
 array-read-t39 c = search needs
 
--- src/lib.rt:126:87
 array-read-t42 : tie.Need-array-read-t42
 array-read-t42 c = search needs
 
--- src/lib.rt:126:93
 array-read-t45 : tie.Need-array-read-t45
 array-read-t45 c = search needs
 
--- src/lib.rt:126:99
 array-read-t48 : tie.Need-array-read-t48
 array-read-t48 c = search needs
 
--- src/lib.rt:126:105
 array-read-t51 : tie.Need-array-read-t51
 array-read-t51 c = search needs
 
--- src/lib.rt:126:111
 array-read-t54 : tie.Need-array-read-t54
 array-read-t54 c = search needs
 
--- src/lib.rt:126:117
 array-read-t57 : tie.Need-array-read-t57
 array-read-t57 c = search needs
 
--- src/lib.rt:126:123
 array-read-t60 : tie.Need-array-read-t60
 array-read-t60 c = search needs
 
--- src/lib.rt:126:129
 array-read-t63 : tie.Need-array-read-t63
 array-read-t63 c = search needs
 
--- src/lib.rt:128:18
 slice-aggregate-put : tie.Need-slice-aggregate-put
 slice-aggregate-put c = search needs
 
--- src/lib.rt:128:5
 put-requires : tie.Need-put-requires
 put-requires c κs = search needs
 
--- src/lib.rt:118:1
 same-length : tie.Need-same-length
 same-length c = search needs
 
--- src/lib.rt:118:1
 returns : tie.Need-returns
 unfolding encode framed bytes
 returns c =

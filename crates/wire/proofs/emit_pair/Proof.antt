@@ -6,89 +6,64 @@ use Rattle.wire.proofs.Writes.{emitted}
 use borrow.Author.Needs.{needs}
 use Rattle.wire.proofs.emit_pair.Statement.{statement}
 use Rattle.wire.proofs.emit_pair.Tie as tie
-use Rattle.wire.proofs.emit_pair.Reads as reads
-use Rattle.wire.proofs.emit_pair.Lts as lts
-use Rattle.wire.proofs.bytes4.Reads as bytes4-reads
-use Rattle.wire.proofs.put.Reads as put-reads
-use Rattle.wire.proofs.unsigned.Reads as unsigned-reads
 
--- src/lib.rt:110:13
 bytes4-requires : tie.Need-bytes4-requires
 bytes4-requires c κs = search needs
 
--- src/lib.rt:111:20
 unsigned-requires : tie.Need-unsigned-requires
 unsigned-requires c κs = search needs
 
--- src/lib.rt:111:13
 bytes4-requires-2 : tie.Need-bytes4-requires-2
 bytes4-requires-2 c κs = search needs
 
--- src/lib.rt:112:13
 bytes4-requires-3 : tie.Need-bytes4-requires-3
 bytes4-requires-3 c κs = search needs
 
--- src/lib.rt:113:35
 array-read-t14 : tie.Need-array-read-t14
 array-read-t14 c = search needs
 
--- src/lib.rt:113:41
 array-read-t17 : tie.Need-array-read-t17
 array-read-t17 c = search needs
 
--- src/lib.rt:113:47
 array-read-t20 : tie.Need-array-read-t20
 array-read-t20 c = search needs
 
--- src/lib.rt:113:53
 array-read-t23 : tie.Need-array-read-t23
 array-read-t23 c = search needs
 
--- src/lib.rt:113:59
 array-read-t26 : tie.Need-array-read-t26
 array-read-t26 c = search needs
 
--- src/lib.rt:113:65
 array-read-t29 : tie.Need-array-read-t29
 array-read-t29 c = search needs
 
--- src/lib.rt:113:71
 array-read-t32 : tie.Need-array-read-t32
 array-read-t32 c = search needs
 
--- src/lib.rt:113:77
 array-read-t35 : tie.Need-array-read-t35
 array-read-t35 c = search needs
 
--- src/lib.rt:113:83
 array-read-t38 : tie.Need-array-read-t38
 array-read-t38 c = search needs
 
--- src/lib.rt:113:89
 array-read-t41 : tie.Need-array-read-t41
 array-read-t41 c = search needs
 
--- src/lib.rt:113:95
 array-read-t44 : tie.Need-array-read-t44
 array-read-t44 c = search needs
 
--- src/lib.rt:113:101
 array-read-t47 : tie.Need-array-read-t47
 array-read-t47 c = search needs
 
--- src/lib.rt:114:18
 slice-aggregate-put : tie.Need-slice-aggregate-put
 slice-aggregate-put c = search needs
 
--- src/lib.rt:114:5
 put-requires : tie.Need-put-requires
 put-requires c κs = search needs
 
--- src/lib.rt:107:1
 same-length : tie.Need-same-length
 same-length c = search needs
 
--- src/lib.rt:107:1
 returns : tie.Need-returns
 unfolding encode framed bytes
 returns c =

@@ -5,49 +5,34 @@ use Rattle.wire.proofs.Writes.{emitted}
 use borrow.Author.Needs.{needs}
 use Rattle.wire.proofs.emit_removed.Statement.{statement}
 use Rattle.wire.proofs.emit_removed.Tie as tie
-use Rattle.wire.proofs.emit_removed.Reads as reads
-use Rattle.wire.proofs.emit_removed.Lts as lts
-use Rattle.wire.proofs.bytes4.Reads as bytes4-reads
-use Rattle.wire.proofs.cause_number.Reads as cause-number-reads
-use Rattle.wire.proofs.put.Reads as put-reads
 
--- src/lib.rt:135:13
 bytes4-requires : tie.Need-bytes4-requires
 bytes4-requires c κs = search needs
 
--- src/lib.rt:136:9
 cause-number-requires : tie.Need-cause-number-requires
 cause-number-requires c κs = search needs
 
--- src/lib.rt:137:35
 array-read-t14 : tie.Need-array-read-t14
 array-read-t14 c = search needs
 
--- src/lib.rt:137:41
 array-read-t17 : tie.Need-array-read-t17
 array-read-t17 c = search needs
 
--- src/lib.rt:137:47
 array-read-t20 : tie.Need-array-read-t20
 array-read-t20 c = search needs
 
--- src/lib.rt:137:53
 array-read-t23 : tie.Need-array-read-t23
 array-read-t23 c = search needs
 
--- src/lib.rt:138:18
 slice-aggregate-put : tie.Need-slice-aggregate-put
 slice-aggregate-put c = search needs
 
--- src/lib.rt:138:5
 put-requires : tie.Need-put-requires
 put-requires c κs = search needs
 
--- src/lib.rt:132:1
 same-length : tie.Need-same-length
 same-length c = search needs
 
--- src/lib.rt:132:1
 returns : tie.Need-returns
 unfolding encode framed bytes
 returns c =

@@ -1,4 +1,4 @@
-use Prim.Native.Nat.{ℕ, _-_, _<_, _≤_}
+use Prim.Native.Nat.{_-_, _<_}
 use mathlib.Core.Path.{_≡_, _∙_, ap, sym}
 use lib.IntN.{ℤ, natAbs}
 use Rattle.rules.specs.Bytes.{asUnsigned}
@@ -8,42 +8,34 @@ use mir.ValLaws.{toZ-ofZ}
 use Rattle.wire.proofs.Twos.{negative, positive, back, back-read}
 use Rattle.wire.proofs.unsigned.Statement.{statement}
 use Rattle.wire.proofs.unsigned.Tie as tie
-use Rattle.wire.proofs.unsigned.Reads as reads
-use Rattle.wire.proofs.unsigned.Lts as lts
 
--- src/lib.rt:59:21
 sub-back : tie.Need-sub-back
 sub-back c =
     let x = c .before .args .x in let f = c .before .fits .x in let (n, e, h) = negative x f (c .if1 .taken) in
     rw (back x n f e) (record { sfits = h })
 
--- src/lib.rt:59:20
 cast-back : tie.Need-cast-back
 cast-back c =
     let x = c .before .args .x in let f = c .before .fits .x in let (n, e, h) = negative x f (c .if1 .taken) in
     rw (back-read x n f e h) (tt, record { fits = omega arith })
 
--- src/lib.rt:61:13
 returns : tie.Need-returns
 unfolding asUnsigned
 returns c =
     let x = c .before .before .args .x in let f = c .before .before .fits .x in let (n, e, h) = negative x f (c .before .if1 .taken) in
     let z = ap natAbs (back-read x n f e h) in let q : 4294967295 < n = omega (arith, z, c .if2 .taken) in let y : 0 ≡ 4294967295 - n = omega arith in y ∙ sym (ap asUnsigned e)
 
--- src/lib.rt:63:9
 returns-2 : tie.Need-returns-2
 unfolding asUnsigned
 returns-2 c =
     let x = c .before .before .args .x in let f = c .before .before .fits .x in let (n, e, h) = negative x f (c .before .if1 .taken) in
     ap (λ (z : ℤ). 4294967295 - natAbs z) (back-read x n f e h) ∙ sym (ap asUnsigned e)
 
--- src/lib.rt:65:5
 cast-result : tie.Need-cast-result
 cast-result c =
     let x = c .before .args .x in let f = c .before .fits .x in let (n, e, h) = positive x f (c .if1 .left) in
     rw (toZ-ofZ w64 x f, e) (tt, record { fits = omega arith })
 
--- src/lib.rt:55:1
 returns-3 : tie.Need-returns-3
 unfolding asUnsigned
 returns-3 c =

@@ -1,16 +1,12 @@
-use Prim.Native.Nat.{ℕ, zero, suc, _+_, _-_, _≤_, _<_, zero-le}
+use Prim.Native.Nat.{ℕ, _+_, _-_, _≤_, zero-le}
 use mathlib.Core.Path.{_≡_, refl, sym, ap, _∙_}
-use mathlib.Core.List.{List, _++_}
 use native.Mathlib.Omega.{arith}
 use native.Mathlib.Numerals.{add-one}
-use borrow.Author.Needs.{needs}
-use lib.ListN.{length, take, drop, replicate, getD, length-set, set, length-replicate, getD-replicate}
+use lib.ListN.{length, replicate, getD, length-set, set, length-replicate, getD-replicate}
 use lib.Seq.{paste, paste-zero, paste-suc}
 use Rattle.wire.proofs.Writes.{zeroed, zeroed-none}
 use Rattle.wire.proofs.zero_from.Statement.{statement}
 use Rattle.wire.proofs.zero_from.Tie as tie
-use Rattle.wire.proofs.zero_from.Reads as reads
-use Rattle.wire.proofs.zero_from.Lts as lts
 
 abbrev Inv-loop : tie.InvT-loop
 Inv-loop out₀ at n i₀ out i = (i ≤ length out₀ - at) × ((out ≡ paste out₀ at (replicate (length out₀ - at) 0) i) × (length out ≡ length out₀))
@@ -18,31 +14,24 @@ Inv-loop out₀ at n i₀ out i = (i ≤ length out₀ - at) × ((out ≡ paste 
 abbrev μ-loop : tie.MeasureT-loop
 μ-loop out₀ at n i₀ out i = length out₀ - at - i
 
--- src/lib.rt:87:17
 sub-n : tie.Need-sub-n Inv-loop μ-loop
 sub-n c = omega arith
 
--- src/lib.rt:89:9
 loop-holds : tie.Need-loop-holds Inv-loop μ-loop
 loop-holds c = let a = c .before .args in (zero-le, (paste-zero _ (a .at) (replicate (length (a .out .now) - a .at) 0), refl))
 
--- src/lib.rt:90:17
 add-out : tie.Need-add-out Inv-loop μ-loop
 add-out c = omega arith
 
--- src/lib.rt:90:13
 slice-write-out : tie.Need-slice-write-out Inv-loop μ-loop
 slice-write-out c = omega arith
 
--- src/lib.rt:91:13
 add-i : tie.Need-add-i Inv-loop μ-loop
 add-i c = omega arith
 
--- src/lib.rt:89:9
 loop-less : tie.Need-loop-less Inv-loop μ-loop
 loop-less c = omega arith
 
--- src/lib.rt:89:9
 loop-again : tie.Need-loop-again Inv-loop μ-loop
 loop-again c =
     let head = c .before in
@@ -60,11 +49,9 @@ loop-again c =
       ),
     )
 
--- src/lib.rt:83:1
 same-length : tie.Need-same-length Inv-loop μ-loop
 same-length c = c .before .loop .inv .1 .1
 
--- src/lib.rt:83:1
 returns : tie.Need-returns Inv-loop μ-loop
 returns c =
     let head = c .before in
@@ -72,7 +59,6 @@ returns c =
     let i-is : head .loop .i ≡ length (start .args .out .now) - start .args .at = omega arith in
     rw (head .loop .inv .1 .0, i-is) (zeroed (start .args .out .now) (start .args .at) (omega arith))
 
--- src/lib.rt:83:1
 returns-2 : tie.Need-returns-2 Inv-loop μ-loop
 returns-2 c = zeroed-none _ _ (c .if1 .left)
 
