@@ -4,3 +4,4 @@ pub mod Numbers
 pub mod Decoding
 pub mod Writes
 pub mod Stages
+pub mod Reading

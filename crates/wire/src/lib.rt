@@ -15,6 +15,7 @@ ghost use Rattle.rules.specs.Messages.{lengthOf, orderAt, twoLegAt, messageOf};
 ghost use Rattle.rules.specs.Refusals.{regularInRange, complexInRange, inRange, decoded};
 ghost use Rattle.rules.specs.Records.{answer, trade, pair, generated, removed, crossed, cancelled, causeNumber};
 ghost use Rattle.wire.specs.Seen.{seen, _plus_, _writes_};
+ghost use Rattle.wire.specs.Next.{nextRecord};
 
 // Reading -------------------------------------------------------------------------------------
 
@@ -604,4 +605,32 @@ pub fn zero_from(out: &mut [u8], at: usize)
             i += 1;
         }
     }
+}
+
+// The sheet read back -------------------------------------------------------------------------
+
+// What stands at a position of a report memory: a record, by its kind and the position after it, or the end of the sheet.
+pub enum Next {
+    Found(u16, usize),
+    End,
+}
+
+pub fn next_record(memory: &[u8], at: usize) -> Next
+    ensures { λ r. ⌜ r ≡ nextRecord (now (memory .entry)) at ⌝ }
+{
+    let n = memory.len();
+    if n <= at {
+        return Next::End;
+    }
+    let size = u16_at(memory, at);
+    if size == 0 {
+        return Next::End;
+    }
+    let kind = u16_at(memory, at + 2);
+    let room = n - at;
+    let bytes = size as usize;
+    if room < bytes {
+        return Next::Found(kind, n);
+    }
+    Next::Found(kind, at + bytes)
 }
