@@ -6,7 +6,7 @@ use Prim.Native.Nat.{ℕ, suc, _+_, _-_, _≤_, _<_}
 use native.Mathlib.Omega.{arith}
 use lib.Dec.{leb}
 use lib.ListN.{length, take, drop, replicate, length-append, length-drop, length-replicate, drop-of-length-le, take-append-drop}
-use lib.Seq.{paste, take-length, take-all, length-take-le, take-at, drop-at, drop-drop, take-append-add, drop-append-add}
+use lib.Seq.{paste, take-length, take-all, length-take-le, take-take, take-at, drop-at, drop-drop, take-append-add, drop-append-add}
 use borrow.Author.Tests.{le-leb, lt-leb, leb-true, leb-false}
 use borrow.Rule.Slice.PartMut.{putMid}
 use Rattle.rules.specs.Bytes.{framed, bytes}
@@ -176,6 +176,32 @@ writes-out l at (r ∷ rs) h = go (leb (at + length a) (length l)) refl (λ k. w
         let z : ((seen l at plus a) writes rs) .at ≡ suc (length l) =
         ap (λ (w : Seen). (w writes rs) .at) (plus-out l a at (leb-false _ _ e)) ∙ ap (λ (w : Seen). w .at) (stuck l rs) in
         omega arith
+
+-- the bytes before the position are kept, whether the records fit or not
+pub writes-below : (l : List ℕ) (at : ℕ) (rs : List Report) (k : ℕ) → k ≤ at → k ≤ length l → take k ((seen l at writes rs) .memory) ≡ take k l
+unfolding seen _writes_
+writes-below l at [] k h i = refl
+writes-below l at (r ∷ rs) k h i =
+    go (leb (at + length a) (length l)) refl
+    (λ f. writes-below (pasted l at a) (at + length a) rs k (omega arith) (rw (pasted-length l a at f) i))
+  where
+    a : List ℕ
+    a = encode r
+
+    -- by one record that fits
+    one : at + length a ≤ length l → take k (pasted l at a) ≡ take k l
+    one f =
+        let j : at ≤ length l = omega arith in
+        sym (take-take k at (pasted l at a) h) ∙ ap (take k) (pasted-below l a at j) ∙ take-take k at l h
+
+    go : (t : Bool) → leb (at + length a) (length l) ≡ t →
+        (at + length a ≤ length l → take k ((seen (pasted l at a) (at + length a) writes rs) .memory) ≡ take k (pasted l at a)) →
+        take k (((seen l at plus a) writes rs) .memory) ≡ take k l
+    go true e rest =
+        let f : at + length a ≤ length l = leb-true _ _ e in
+        ap (λ (w : Seen). take k ((w writes rs) .memory)) (plus-in l a at f) ∙ rest f ∙ one f
+    go false e rest =
+        ap (λ (w : Seen). take k ((w writes rs) .memory)) (plus-out l a at (leb-false _ _ e)) ∙ ap (λ (w : Seen). take k (w .memory)) (stuck l rs)
 
 -- What an equation of writers says of the bytes -----------------------------------------------
 
