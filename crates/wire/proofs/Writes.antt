@@ -177,6 +177,29 @@ writes-out l at (r ∷ rs) h = go (leb (at + length a) (length l)) refl (λ k. w
         ap (λ (w : Seen). (w writes rs) .at) (plus-out l a at (leb-false _ _ e)) ∙ ap (λ (w : Seen). w .at) (stuck l rs) in
         omega arith
 
+-- a position is never more than one past the end, if it was not at first; so one that is past the end is known
+plus-most : (w : Seen) (bs : List ℕ) → (w plus bs) .at ≤ suc (length (w .memory))
+unfolding seen
+plus-most w bs = go (leb (w .at + length bs) (length (w .memory))) refl
+  where
+    go : (t : Bool) → leb (w .at + length bs) (length (w .memory)) ≡ t → (w plus bs) .at ≤ suc (length (w .memory))
+    go true e =
+        let h = leb-true (w .at + length bs) (length (w .memory)) e in
+        let z : (w plus bs) .at ≡ w .at + length bs = ap (λ (x : Seen). x .at) (plus-in (w .memory) bs (w .at) h) in
+        omega arith
+    go false e =
+        let z : (w plus bs) .at ≡ suc (length (w .memory)) = ap (λ (x : Seen). x .at) (plus-out (w .memory) bs (w .at) (leb-false _ _ e)) in
+        omega arith
+
+pub writes-most : (w : Seen) (rs : List Report) → w .at ≤ suc (length (w .memory)) → (w writes rs) .at ≤ suc (length (w .memory))
+unfolding _writes_
+writes-most w [] h = h
+writes-most w (r ∷ rs) h =
+    let e = plus-room w (encode r) in
+    let p = plus-most w (encode r) in
+    let i = writes-most (w plus encode r) rs (omega arith) in
+    omega arith
+
 -- the bytes before the position are kept, whether the records fit or not
 pub writes-below : (l : List ℕ) (at : ℕ) (rs : List Report) (k : ℕ) → k ≤ at → k ≤ length l → take k ((seen l at writes rs) .memory) ≡ take k l
 unfolding seen _writes_
@@ -223,6 +246,10 @@ module _ (l m : List ℕ) (at end : ℕ) (rs : List Report) (e : seen m end ≡ 
   pub seen-room : length m ≡ length l
   unfolding seen
   seen-room = ap length same-memory ∙ writes-room (seen l at) rs
+
+  pub end-most : at ≤ suc (length l) → end ≤ suc (length l)
+  unfolding seen
+  end-most h = let i = writes-most (seen l at) rs h in let z = same-at in omega arith
 
   pub wrote : end ≤ length l → Wrote l at rs m end
   unfolding seen
@@ -383,13 +410,14 @@ pub answer-length : (a b c d : ℕ) → length (encode (answer a b c d)) ≡ 12
 unfolding encode framed bytes
 answer-length a b c d = refl
 
--- an answer and records after it, and then the answer set anew (o is what `set_answer` leaves of m)
-pub answer-last : (l m o : List ℕ) (at end a b c d x y z u : ℕ) (rs : List Report) → seen m end ≡ seen l at writes (answer a b c d ∷ rs) →
-    o ≡ (seen m at writes (answer x y z u ∷ [])) .memory → seen o end ≡ seen l at writes (answer x y z u ∷ rs)
+-- an answer written first, records after it, and then the answer set anew: the hypotheses are what these three ensure
+pub answer-last : (l k m o : List ℕ) (at i end a b c d x y z u : ℕ) (rs : List Report) → seen k i ≡ seen l at writes (answer a b c d ∷ []) →
+    seen m end ≡ seen k i writes rs → o ≡ (seen m at writes (answer x y z u ∷ [])) .memory → seen o end ≡ seen l at writes (answer x y z u ∷ rs)
 unfolding _writes_
-answer-last l m o at end a b c d x y z u rs e q =
-    ap (λ (k : List ℕ). seen k end) q
-    ∙ reset l m (encode (answer a b c d)) (encode (answer x y z u)) at end rs (answer-length a b c d ∙ sym (answer-length x y z u)) e
+answer-last l k m o at i end a b c d x y z u rs p e q =
+    ap (λ (n : List ℕ). seen n end) q
+    ∙ reset l m (encode (answer a b c d)) (encode (answer x y z u)) at end rs (answer-length a b c d ∙ sym (answer-length x y z u))
+    (e ∙ ap (λ (w : Seen). w writes rs) p)
 
 -- Zeros ---------------------------------------------------------------------------------------
 
