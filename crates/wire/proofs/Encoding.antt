@@ -1,8 +1,8 @@
 -- A message is decoded from its bytes.
 use mathlib.Core.Path.{_≡_, refl, sym, ap, _∙_}
-use mathlib.Core.Bool.{Bool, true, false}
+use mathlib.Core.Bool.{true}
 use mathlib.Core.List.{List, [], _++_, append-nil}
-use Prim.Native.Nat.{ℕ, _+_, _≤_, _<_}
+use Prim.Native.Nat.{ℕ, _≤_}
 use native.Mathlib.Omega.{arith}
 use lib.Dec.{leb}
 use lib.ListN.{length, length-append}
@@ -11,13 +11,12 @@ use lib.Signed.{leZ}
 use borrow.Author.Tests.{leb-true}
 use Rattle.rules.specs.declared.Message.{Message}
 use Rattle.rules.specs.declared.Message.the-variants.{Order, TwoLeg, Cancel, Away, Status, Sweep}
-use Rattle.rules.specs.declared.Decoded.{Decoded}
 use Rattle.rules.specs.declared.Decoded.the-variants.{Taken}
 use Rattle.rules.specs.Words.{within, isId, isSeries, isSide, isClass, isStatus, isQuantity, isAway, isPrice, isRegularPrice, isLimit, increment}
 use Rattle.rules.specs.Bytes.{u8At, u16At, u32At, asUnsigned, lengthField, kindField, bytes, framed}
 use Rattle.rules.specs.Messages.{lengthOf, orderAt, twoLegAt, messageOf, encodeMessage}
 use Rattle.rules.specs.Records.{U8, U32, I32}
-use Rattle.rules.specs.Refusals.{torn, isKind, regularInRange, complexInRange, inRange, decoded}
+use Rattle.rules.specs.Refusals.{isKind, regularInRange, complexInRange, inRange, decoded}
 use Rattle.rules.proofs.Tests.{and-l, and-r}
 use Rattle.wire.proofs.Fields.{byte, word, signed-back, signed-small}
 use Rattle.wire.proofs.Decoding.{whole, taken}

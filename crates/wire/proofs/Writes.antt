@@ -2,16 +2,17 @@
 use mathlib.Core.Path.{_≡_, refl, sym, ap, ap₂, _∙_}
 use mathlib.Core.Bool.{Bool, true, false}
 use mathlib.Core.List.{List, [], _∷_, _++_, append-assoc, append-nil}
-use Prim.Native.Nat.{ℕ, suc, _+_, _-_, _≤_, _<_}
+use Prim.Native.Nat.{ℕ, suc, _+_, _-_, _*_, _≤_, _<_}
 use native.Mathlib.Omega.{arith}
+use native.Mathlib.Numerals.{add-one}
 use lib.Dec.{leb}
-use lib.ListN.{length, take, drop, replicate, length-append, length-drop, length-replicate, drop-of-length-le, take-append-drop}
-use lib.Seq.{paste, take-length, take-all, length-take-le, take-take, take-at, drop-at, drop-drop, take-append-add, drop-append-add}
+use lib.ListN.{length, getD, take, drop, replicate, length-append, length-drop, length-replicate, drop-of-length-le, take-append-drop}
+use lib.Seq.{paste, take-suc, take-length, take-all, length-take-le, take-take, take-at, drop-at, drop-drop, take-append-add, drop-append-add}
 use borrow.Author.Tests.{le-leb, lt-leb, leb-true, leb-false}
 use borrow.Rule.Slice.PartMut.{putMid}
-use Rattle.rules.specs.Bytes.{framed, bytes}
+use Rattle.rules.specs.Bytes.{u32, framed, bytes}
 use Rattle.rules.specs.Records.{Report, answer, encode, encodeAll, sheet}
-use Rattle.wire.specs.Seen.{Seen, seen, pasted, _plus_, _writes_}
+use Rattle.wire.specs.Seen.{Seen, seen, pasted, wordBytes, _plus_, _writes_}
 
 -- One write -----------------------------------------------------------------------------------
 
@@ -95,6 +96,88 @@ pasted-pasted l a b at h =
         sym (drop-drop (length b) (at + length a) (pasted l at a)) ∙ ap (drop (length b)) (pasted-above l a at inside)
         ∙ drop-drop (length b) (at + length a) l
         ∙ ap (λ (n : ℕ). drop n l) ends
+
+-- Bytes and then numbers of four bytes, as one write ------------------------------------------
+
+words-length : (ws : List ℕ) → length (wordBytes ws) ≡ 4 * length ws
+unfolding wordBytes bytes
+words-length [] = refl
+words-length (x ∷ ws) = let e = words-length ws in omega arith
+
+words-append : (a b : List ℕ) → wordBytes (a ++ b) ≡ wordBytes a ++ wordBytes b
+unfolding wordBytes
+words-append [] b = refl
+words-append (x ∷ a) b = ap (λ (y : List ℕ). u32 x ++ y) (words-append a b) ∙ sym (append-assoc (u32 x) (wordBytes a) (wordBytes b))
+
+-- i of the words stand from `at` on
+pub record Laid (l : List ℕ) (at : ℕ) (words out : List ℕ) (i : ℕ) : Type 0 where
+  pub some-words : i ≤ length words
+  pub memory-is : out ≡ pasted l at (wordBytes (take i words))
+
+pub laid-start : (l words : List ℕ) (at : ℕ) → Laid l at words l 0
+unfolding wordBytes
+laid-start l words at = record { some-words = omega arith; memory-is = sym (pasted-nil l at) }
+
+module _ (l words : List ℕ) (at : ℕ) (fits : at + 4 * length words ≤ length l) (out : List ℕ) (i : ℕ) (laid : Laid l at words out i) where
+  laid-length : length (wordBytes (take i words)) ≡ 4 * i
+  laid-length = words-length (take i words) ∙ ap (λ (k : ℕ). 4 * k) (length-take-le i words (laid .some-words))
+
+  pub laid-room : length out ≡ length l
+  laid-room =
+      let h = laid .some-words in
+      ap length (laid .memory-is) ∙ pasted-length l (wordBytes (take i words)) at (omega (arith, fits, laid-length))
+
+  -- one more
+  pub laid-next : (m : List ℕ) → i < length words → m ≡ pasted out (at + 4 * i) (u32 (getD words i 0)) → Laid l at words m (i + 1)
+  unfolding wordBytes
+  laid-next m h e =
+      let a : List ℕ = wordBytes (take i words) in
+      let b : List ℕ = u32 (getD words i 0) in
+      let n : length a ≡ 4 * i = laid-length in
+      let p : at + 4 * i ≡ at + length a = omega arith in
+      let t : take (i + 1) words ≡ take i words ++ (getD words i 0 ∷ []) = rw add-one (take-suc words i 0 h) in
+      let w : wordBytes (take (i + 1) words) ≡ a ++ b =
+      ap wordBytes t ∙ words-append (take i words) (getD words i 0 ∷ []) ∙ ap (λ (y : List ℕ). a ++ y) (append-nil b) in
+      record {
+        some-words = omega arith;
+        memory-is =
+            e ∙ ap₂ (λ (x : List ℕ) (k : ℕ). pasted x k b) (laid .memory-is) p ∙ pasted-pasted l a b at (omega (arith, fits))
+            ∙ ap (pasted l at) (sym w);
+      }
+
+  -- all of them
+  pub laid-end : length words ≤ i → out ≡ pasted l at (wordBytes words)
+  laid-end h = laid .memory-is ∙ ap (λ (x : List ℕ). pasted l at (wordBytes x)) (take-all i words h)
+
+module _ (l head words : List ℕ) (at : ℕ) where
+  both-length : length (head ++ wordBytes words) ≡ length head + 4 * length words
+  both-length = length-append head (wordBytes words) ∙ ap (λ (k : ℕ). length head + k) (words-length words)
+
+  -- a head and words after it
+  pub head-words : (m o : List ℕ) (pos : ℕ) → at + length head + 4 * length words ≤ length l → seen m pos ≡ seen l at plus head →
+      o ≡ pasted m pos (wordBytes words) → seen o (pos + 4 * length words) ≡ seen l at plus (head ++ wordBytes words)
+  unfolding seen
+  head-words m o pos fits e q =
+      let s : seen m pos ≡ seen (pasted l at head) (at + length head) = e ∙ plus-in l head at (omega arith) in
+      let z : pos ≡ at + length head = ap (λ (w : Seen). w .at) s in
+      let n : pos + 4 * length words ≡ at + length (head ++ wordBytes words) = omega (arith, both-length) in
+      ap₂ seen (q ∙ ap₂ (λ (x : List ℕ) (k : ℕ). pasted x k (wordBytes words)) (ap (λ (w : Seen). w .memory) s) z
+      ∙ pasted-pasted l head (wordBytes words) at (omega arith)) n
+      ∙ sym (plus-in l (head ++ wordBytes words) at (omega (arith, both-length)))
+
+  -- there is room for the words after the head
+  pub head-room : (m : List ℕ) (pos : ℕ) → at + length head + 4 * length words ≤ length l → seen m pos ≡ seen l at plus head →
+      pos + 4 * length words ≤ length m
+  unfolding seen
+  head-room m pos fits e =
+      let s : seen m pos ≡ seen (pasted l at head) (at + length head) = e ∙ plus-in l head at (omega arith) in
+      let z : pos ≡ at + length head = ap (λ (w : Seen). w .at) s in
+      let y : length m ≡ length l = ap (λ (w : Seen). length (w .memory)) s ∙ pasted-length l head at (omega arith) in
+      omega arith
+
+  -- they do not fit
+  pub words-out : length l < at + length head + 4 * length words → seen l (suc (length l)) ≡ seen l at plus (head ++ wordBytes words)
+  words-out h = sym (plus-out l (head ++ wordBytes words) at (omega (arith, both-length)))
 
 -- Any number of writes ------------------------------------------------------------------------
 
