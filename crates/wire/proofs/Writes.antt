@@ -360,16 +360,17 @@ module _ (l m : List ℕ) (at end : ℕ) (rs : List Report) (e : seen m end ≡ 
           absurd (omega arith)
       go false b = leb-false _ _ b
 
--- records written from the start of a slice, and zeros after them, are its sheet
-pub sheet-left : (l m : List ℕ) (end : ℕ) (rs : List Report) → seen m end ≡ seen l 0 writes rs → end ≤ length l →
-    take end m ++ replicate (length m - end) 0 ≡ sheet (length l) rs
+-- Records written from the start of a slice, and zeros after them, are its sheet; also if what stands after them (in o) has changed since,
+-- as where a later message's records did not fit.
+pub sheet-left : (l m o : List ℕ) (end : ℕ) (rs : List Report) → seen m end ≡ seen l 0 writes rs → end ≤ length l →
+    length o ≡ length m → take end o ≡ take end m → take end o ++ replicate (length o - end) 0 ≡ sheet (length l) rs
 unfolding sheet
-sheet-left l m end rs e h =
+sheet-left l m o end rs e h k t =
     let w = wrote l m 0 end rs e h in
     let bs : List ℕ = encodeAll rs in
-    let f : take end m ≡ bs = ap₂ take (w .end-is) (w .memory-is) ∙ pasted-to l bs 0 (omega arith) in
-    let n : length m - end ≡ length l - length bs = (let r = seen-room l m 0 end rs e in let k = w .end-is in omega arith) in
-    ap₂ (λ (x : List ℕ) (k : ℕ). x ++ replicate k 0) f n
+    let f : take end o ≡ bs = t ∙ ap₂ take (w .end-is) (w .memory-is) ∙ pasted-to l bs 0 (omega arith) in
+    let n : length o - end ≡ length l - length bs = (let r = seen-room l m 0 end rs e in let q = w .end-is in omega arith) in
+    ap₂ (λ (x : List ℕ) (j : ℕ). x ++ replicate j 0) f n
 
 -- A part of a slice ---------------------------------------------------------------------------
 
@@ -427,6 +428,16 @@ pub tail-back : (l ys : List ℕ) (a : ℕ) → putMid a (length l - a) l ys ≡
 tail-back l ys a =
     ap (λ (x : List ℕ). take a l ++ (ys ++ x)) (drop-of-length-le (drop a l) {i = length l - a} (rw length-drop (omega arith)))
     ∙ ap (λ (x : List ℕ). take a l ++ x) (append-nil ys)
+
+-- what stands before it is as it was, and then comes what was written to it
+pub tail-front : (l ys : List ℕ) (a : ℕ) → a ≤ length l → take a (putMid a (length l - a) l ys) ≡ take a l
+tail-front l ys a h = ap (take a) (tail-back l ys a) ∙ take-at (take a l) ys a (length-take-le a l h)
+
+pub tail-more : (l ys : List ℕ) (a w : ℕ) → a ≤ length l → take (a + w) (putMid a (length l - a) l ys) ≡ take a l ++ take w ys
+tail-more l ys a w h =
+    ap (take (a + w)) (tail-back l ys a)
+    ∙ ap (λ (k : ℕ). take (k + w) (take a l ++ ys)) (sym (length-take-le a l h))
+    ∙ take-append-add (take a l) ys w
 
 -- records written from the start of the tail are records written to the whole from a on
 pub tail-writes : (l ys : List ℕ) (a w : ℕ) (rs : List Report) → a ≤ length l →

@@ -1,4 +1,4 @@
-use Prim.Native.Nat.{ℕ, _+_, _-_, _≤_, zero-le}
+use Prim.Native.Nat.{ℕ, _+_, _-_, _≤_}
 use mathlib.Core.Path.{_≡_, refl, sym, ap, _∙_}
 use native.Mathlib.Omega.{arith}
 use native.Mathlib.Numerals.{add-one}
@@ -18,7 +18,7 @@ sub-n : tie.Need-sub-n Inv-loop μ-loop
 sub-n c = omega arith
 
 loop-holds : tie.Need-loop-holds Inv-loop μ-loop
-loop-holds c = let a = c .before .args in (zero-le, (paste-zero _ (a .at) (replicate (length (a .out .now) - a .at) 0), refl))
+loop-holds c = let a = c .before .args in (omega arith, (paste-zero _ (a .at) (replicate (length (a .out .now) - a .at) 0), refl))
 
 add-out : tie.Need-add-out Inv-loop μ-loop
 add-out c = omega arith
