@@ -24,7 +24,7 @@ use Rattle.demands.specs.Demand.{Accepted, Seen, start}
 use Rattle.rules.proofs.Adding.{open-none, total-append}
 use Rattle.rules.proofs.Filling.{cx, reg}
 use Rattle.rules.proofs.Generating.{AllStand}
-use Rattle.rules.proofs.Ledger.{Cx, Moved, Reg, cx-kept, ratio-none, ratio-then, reg-kept}
+use Rattle.rules.proofs.Ledger.{ComplexId, Moved, RegularId, cx-kept, ratio-none, ratio-then, reg-kept}
 use Rattle.rules.proofs.Widths.{Plain}
 use Rattle.demands.proofs.Closed.{Ends}
 use Rattle.demands.proofs.Homes.{Fine, Good, Invariant}
@@ -34,13 +34,13 @@ use Rattle.demands.proofs.Homes.{Fine, Good, Invariant}
 -- of an accepted regular order
 pub record OrderAccount (s : Seen) (o : Regular) : Type 0 where
   pub known : o .id ≤ s .venue .last
-  pub own : Reg (o .id) (o .series) (s .venue)
+  pub own : RegularId (o .id) (o .series) (s .venue)
   pub adds : o .quantity ≡ total (contracts (o .id) (o .series)) (s .reports) + total (cancelledOf (o .id)) (s .reports) + openRegular (o .id) (s .venue .regular)
 
 -- of an accepted complex order: its contracts in each series are its pairs by the leg's ratio
 pub record ComplexAccount (s : Seen) (c : Complex) : Type 0 where
   pub known : c .id ≤ s .venue .last
-  pub own : Cx c (s .venue)
+  pub own : ComplexId c (s .venue)
   pub first : total (contracts (c .id) (c .series1)) (s .reports) ≡ ratio1 c * total (paired (c .id)) (s .reports)
   pub second : total (contracts (c .id) (c .series2)) (s .reports) ≡ ratio2 c * total (paired (c .id)) (s .reports)
   pub adds : c .quantity ≡ total (paired (c .id)) (s .reports) + total (crossedFor (c .id)) (s .reports) + total (cancelledOf (c .id)) (s .reports) + openComplex (c .id) (s .venue .complex)
@@ -66,8 +66,8 @@ moved-above : {v w : Venue} {qs : List Report} → Good v → Moved v qs w → (
 moved-above {v} {w} {qs} g m y lt =
     let nr : (i : ℕ) → held (reg v i .quantity) ≡ true → reg v i .id ≡ y → ⊥ = λ i h e. (let z = g .rlast i h in omega arith) in
     let nx : (i : ℕ) → held (cx v i .quantity) ≡ true → cx v i .id ≡ y → ⊥ = λ i h e. (let z = g .xlast i h in omega arith) in
-    let r : (s : ℕ) → Reg y s v = λ s. record { home = λ i h e. absurd (nr i h e); alone = λ i j h k e q. absurd (nr i h e); none = nx } in
-    let x : Cx (named y) v = record { home = λ i h e. absurd (nx i h e); alone = λ i j h k e q. absurd (nx i h e); none = nr } in
+    let r : (s : ℕ) → RegularId y s v = λ s. record { home = λ i h e. absurd (nr i h e); alone = λ i j h k e q. absurd (nr i h e); none = nx } in
+    let x : ComplexId (named y) v = record { home = λ i h e. absurd (nx i h e); alone = λ i j h k e q. absurd (nx i h e); none = nr } in
     let a = open-none noRegular (λ o. o .id) (λ o. o .quantity) y (v .regular) nr in
     let b = open-none noComplex (λ c. c .id) (λ c. c .quantity) y (v .complex) nx in
     let p = m .complexes (named y) x .falls in
@@ -108,13 +108,13 @@ same-number e = (cc, cc)
 pub record NewOrder (v v₀ : Venue) (o : Regular) : Type 0 where
   pub new : v .last < o .id
   pub known : o .id ≤ v₀ .last
-  pub own : Reg (o .id) (o .series) v₀
+  pub own : RegularId (o .id) (o .series) v₀
   pub whole : openRegular (o .id) (v₀ .regular) ≡ o .quantity
 
 pub record NewComplex (v v₀ : Venue) (c : Complex) : Type 0 where
   pub new : v .last < c .id
   pub known : c .id ≤ v₀ .last
-  pub own : Cx c v₀
+  pub own : ComplexId c v₀
   pub whole : openComplex (c .id) (v₀ .complex) ≡ c .quantity
 
 -- v becomes v₀ when the message's order is given its place, and then w by the records qs, its gaps not yet closed
@@ -122,8 +122,8 @@ pub record Takes (v : Venue) (qs : List Report) (w : Venue) (ms : List Message) 
   pub start : Venue
   pub fine₀ : Fine start
   pub later : v .last ≤ start .last
-  pub regs : (y s : ℕ) → y ≤ v .last → Reg y s v → Reg y s start
-  pub cxs : (m : Complex) → m .id ≤ v .last → Cx m v → Cx m start
+  pub regs : (y s : ℕ) → y ≤ v .last → RegularId y s v → RegularId y s start
+  pub cxs : (m : Complex) → m .id ≤ v .last → ComplexId m v → ComplexId m start
   pub openR : (y : ℕ) → y ≤ v .last → openRegular y (start .regular) ≡ openRegular y (v .regular)
   pub openC : (y : ℕ) → y ≤ v .last → openComplex y (start .complex) ≡ openComplex y (v .complex)
   pub moved : Moved start qs w

@@ -21,7 +21,7 @@ use Rattle.rules.specs.Sums.{openComplex, openRegular}
 use Rattle.rules.proofs.Adding.{open-put}
 use Rattle.rules.proofs.Filling.{cx, lg, reg}
 use Rattle.rules.proofs.Generating.{AllStand, place-series}
-use Rattle.rules.proofs.Ledger.{Cx, Reg, SameLegs, same-legs}
+use Rattle.rules.proofs.Ledger.{ComplexId, RegularId, SameLegs, same-legs}
 use Rattle.rules.proofs.Putting.{put-alone, put-each, put-most, put-new, put-old, put-rises}
 use Rattle.rules.proofs.Sizes.{Elsewhere, best-set, free-shows, not-there, size-set}
 use Rattle.rules.proofs.Tests.{and-l, and-r, free-none, held-pos}
@@ -96,7 +96,7 @@ module _ (v : Venue) (o : Regular) (i : ℕ) where
     alone = put-alone noRegular id-of quantity-of (v .regular) i o fits lower (good-rr (joins .fine .good))
 
     -- its id is its own
-    pub order-reg : Reg (o .id) (o .series) withOrder
+    pub order-reg : RegularId (o .id) (o .series) withOrder
     unfolding withRegular withLast
     order-reg = record {
       home = λ a h e. ap (λ (x : Regular). x .series) (put-new noRegular id-of quantity-of (v .regular) i o fits lower a h e);
@@ -109,7 +109,7 @@ module _ (v : Venue) (o : Regular) (i : ℕ) where
     unfolding withRegular withLast
     old y a le h e = put-old noRegular id-of quantity-of (v .regular) i o fits lower y a (omega arith) h e
 
-    pub order-keeps-reg : (y s : ℕ) → y ≤ v .last → Reg y s v → Reg y s withOrder
+    pub order-keeps-reg : (y s : ℕ) → y ≤ v .last → RegularId y s v → RegularId y s withOrder
     unfolding withRegular withLast
     order-keeps-reg y s le r = record {
       home = λ a h e. (let x = old y a le h e in ap (λ (z : Regular). z .series) (x .1) ∙ r .home a (x .0) (sym (ap id-of (x .1)) ∙ e));
@@ -117,7 +117,7 @@ module _ (v : Venue) (o : Regular) (i : ℕ) where
       none = r .none;
     }
 
-    pub order-keeps-cx : (m : Complex) → m .id ≤ v .last → Cx m v → Cx m withOrder
+    pub order-keeps-cx : (m : Complex) → m .id ≤ v .last → ComplexId m v → ComplexId m withOrder
     unfolding withRegular withLast
     order-keeps-cx m le r = record {
       home = r .home;
@@ -215,7 +215,7 @@ module _ (v : Venue) (c : Complex) (i : ℕ) where
     unfolding withComplex withLast
     aloneC = put-alone noComplex id-ofC quantity-ofC (v .complex) i c fitsC lowerC (good-xx (joins .fine .good))
 
-    pub complex-cx : Cx c withComplexOrder
+    pub complex-cx : ComplexId c withComplexOrder
     unfolding withComplex withLast
     complex-cx = record {
       home = λ a h e. same-legs (put-new noComplex id-ofC quantity-ofC (v .complex) i c fitsC lowerC a h e);
@@ -228,7 +228,7 @@ module _ (v : Venue) (c : Complex) (i : ℕ) where
     unfolding withComplex withLast
     oldC y a le h e = put-old noComplex id-ofC quantity-ofC (v .complex) i c fitsC lowerC y a (omega arith) h e
 
-    pub complex-keeps-cx : (m : Complex) → m .id ≤ v .last → Cx m v → Cx m withComplexOrder
+    pub complex-keeps-cx : (m : Complex) → m .id ≤ v .last → ComplexId m v → ComplexId m withComplexOrder
     unfolding withComplex withLast
     complex-keeps-cx m le r = record {
       home = λ a h e. (let x = oldC (m .id) a le h e in subst (λ (z : Complex). SameLegs z m) (sym (x .1)) (r .home a (x .0) (sym (ap id-ofC (x .1)) ∙ e)));
@@ -236,7 +236,7 @@ module _ (v : Venue) (c : Complex) (i : ℕ) where
       none = r .none;
     }
 
-    pub complex-keeps-reg : (y s : ℕ) → y ≤ v .last → Reg y s v → Reg y s withComplexOrder
+    pub complex-keeps-reg : (y s : ℕ) → y ≤ v .last → RegularId y s v → RegularId y s withComplexOrder
     unfolding withComplex withLast
     complex-keeps-reg y s le r = record {
       home = r .home;
