@@ -19,9 +19,9 @@ use Rattle.rules.specs.Standing.{otherLeg, otherSize, pairs, parentOf, verdict,
 use Rattle.rules.specs.Sound.{apart}
 use Rattle.rules.specs.Sums.{openComplex, openRegular}
 use Rattle.rules.proofs.Adding.{open-none, open-put}
-use Rattle.rules.proofs.Filling.{cx, lg, reg}
+use Rattle.rules.proofs.Filling.{SameLegs, cx, lg, reg, same-legs}
 use Rattle.rules.proofs.Generating.{AllStand, place-series}
-use Rattle.rules.proofs.Ledger.{ComplexId, RegularId, SameLegs, same-legs}
+use Rattle.rules.proofs.Ledger.{ComplexId, RegularId}
 use Rattle.rules.proofs.Putting.{put-alone, put-each, put-most, put-new, put-old, put-rises}
 use Rattle.rules.proofs.Sizes.{Elsewhere, best-set, free-shows, not-there, size-set}
 use Rattle.rules.proofs.Tests.{and-l, and-r, free-none, held-pos}
