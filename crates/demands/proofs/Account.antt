@@ -24,8 +24,9 @@ use Rattle.demands.specs.Demand.{Accepted, Seen, start}
 use Rattle.rules.proofs.Adding.{open-none, total-append}
 use Rattle.rules.proofs.Filling.{cx, reg}
 use Rattle.rules.proofs.Generating.{AllStand}
-use Rattle.rules.proofs.Ledger.{Cx, Moved, Reg, cx-kept, ratio-none, ratio-then, reg-kept}
+use Rattle.rules.proofs.Ledger.{ComplexId, Moved, RegularId, cx-kept, ratio-none, ratio-then, reg-kept}
 use Rattle.rules.proofs.Widths.{Plain}
+use Rattle.demands.proofs.Admitting.{Admitted, NewComplex, NewOrder}
 use Rattle.demands.proofs.Closed.{Ends}
 use Rattle.demands.proofs.Homes.{Fine, Good, Invariant}
 
@@ -34,13 +35,13 @@ use Rattle.demands.proofs.Homes.{Fine, Good, Invariant}
 -- of an accepted regular order
 pub record OrderAccount (s : Seen) (o : Regular) : Type 0 where
   pub known : o .id ≤ s .venue .last
-  pub own : Reg (o .id) (o .series) (s .venue)
+  pub own : RegularId (o .id) (o .series) (s .venue)
   pub adds : o .quantity ≡ total (contracts (o .id) (o .series)) (s .reports) + total (cancelledOf (o .id)) (s .reports) + openRegular (o .id) (s .venue .regular)
 
 -- of an accepted complex order: its contracts in each series are its pairs by the leg's ratio
 pub record ComplexAccount (s : Seen) (c : Complex) : Type 0 where
   pub known : c .id ≤ s .venue .last
-  pub own : Cx c (s .venue)
+  pub own : ComplexId c (s .venue)
   pub first : total (contracts (c .id) (c .series1)) (s .reports) ≡ ratio1 c * total (paired (c .id)) (s .reports)
   pub second : total (contracts (c .id) (c .series2)) (s .reports) ≡ ratio2 c * total (paired (c .id)) (s .reports)
   pub adds : c .quantity ≡ total (paired (c .id)) (s .reports) + total (crossedFor (c .id)) (s .reports) + total (cancelledOf (c .id)) (s .reports) + openComplex (c .id) (s .venue .complex)
@@ -66,8 +67,8 @@ moved-above : {v w : Venue} {qs : List Report} → Good v → Moved v qs w → (
 moved-above {v} {w} {qs} g m y lt =
     let nr : (i : ℕ) → held (reg v i .quantity) ≡ true → reg v i .id ≡ y → ⊥ = λ i h e. (let z = g .rlast i h in omega arith) in
     let nx : (i : ℕ) → held (cx v i .quantity) ≡ true → cx v i .id ≡ y → ⊥ = λ i h e. (let z = g .xlast i h in omega arith) in
-    let r : (s : ℕ) → Reg y s v = λ s. record { home = λ i h e. absurd (nr i h e); alone = λ i j h k e q. absurd (nr i h e); none = nx } in
-    let x : Cx (named y) v = record { home = λ i h e. absurd (nx i h e); alone = λ i j h k e q. absurd (nx i h e); none = nr } in
+    let r : (s : ℕ) → RegularId y s v = λ s. record { home = λ i h e. absurd (nr i h e); alone = λ i j h k e q. absurd (nr i h e); none = nx } in
+    let x : ComplexId (named y) v = record { home = λ i h e. absurd (nx i h e); alone = λ i j h k e q. absurd (nx i h e); none = nr } in
     let a = open-none noRegular (λ o. o .id) (λ o. o .quantity) y (v .regular) nr in
     let b = open-none noComplex (λ c. c .id) (λ c. c .quantity) y (v .complex) nx in
     let p = m .complexes (named y) x .falls in
@@ -104,28 +105,10 @@ no-answer j x m c (q ∷ qs) h k = elim (List·Memᴰ·cases-cons k) [
 same-number : {j x m c n y k l : ℕ} → answer j x m c ≡ answer n y k l → (j ≡ n) × (x ≡ y)
 same-number e = (cc, cc)
 
--- what a message brings in: nothing, or an order of a new id, all of it open
-pub record NewOrder (v v₀ : Venue) (o : Regular) : Type 0 where
-  pub new : v .last < o .id
-  pub known : o .id ≤ v₀ .last
-  pub own : Reg (o .id) (o .series) v₀
-  pub whole : openRegular (o .id) (v₀ .regular) ≡ o .quantity
-
-pub record NewComplex (v v₀ : Venue) (c : Complex) : Type 0 where
-  pub new : v .last < c .id
-  pub known : c .id ≤ v₀ .last
-  pub own : Cx c v₀
-  pub whole : openComplex (c .id) (v₀ .complex) ≡ c .quantity
-
--- v becomes v₀ when the message's order is given its place, and then w by the records qs, its gaps not yet closed
+-- a message upon v brings in the orders of ms, which gives `start`, and its records qs lead from there to w, whose gaps are not yet closed
 pub record Takes (v : Venue) (qs : List Report) (w : Venue) (ms : List Message) : Type 0 where
   pub start : Venue
-  pub fine₀ : Fine start
-  pub later : v .last ≤ start .last
-  pub regs : (y s : ℕ) → y ≤ v .last → Reg y s v → Reg y s start
-  pub cxs : (m : Complex) → m .id ≤ v .last → Cx m v → Cx m start
-  pub openR : (y : ℕ) → y ≤ v .last → openRegular y (start .regular) ≡ openRegular y (v .regular)
-  pub openC : (y : ℕ) → y ≤ v .last → openComplex y (start .complex) ≡ openComplex y (v .complex)
+  pub admitted : Admitted v start
   pub moved : Moved start qs w
   pub fine : Fine w
   pub stand : AllStand w
@@ -145,11 +128,11 @@ module _ {s : Seen} {u : Venue} {ns : List Message} (bs : List ℕ) {e : Effect}
   old-order : (o : Regular) → OrderAccount s o → OrderAccount (onto s bs e) o
   unfolding onto
   old-order o x =
-      let r = t .regs _ _ (x .known) (x .own) in
+      let r = t .admitted .regs _ _ (x .known) (x .own) in
       let p = t .moved .orders _ _ r in
-      let q = t .openR _ (x .known) in
+      let q = t .admitted .openR _ (x .known) in
       record {
-        known = let l = t .later in let e = last-is in let k = x .known in omega arith;
+        known = let l = t .admitted .later in let e = last-is in let k = x .known in omega arith;
         own = z .regs _ _ (reg-kept (t .moved .regular) (t .moved .complex) r);
         adds = rw (total-append (contracts (o .id) (o .series)) (s .reports) qs, total-append (cancelledOf (o .id)) (s .reports) qs)
             (let y = x .adds in let g = z .openR (o .id) in omega arith);
@@ -170,11 +153,11 @@ module _ {s : Seen} {u : Venue} {ns : List Message} (bs : List ℕ) {e : Effect}
   old-complex : (c : Complex) → ComplexAccount s c → ComplexAccount (onto s bs e) c
   unfolding onto
   old-complex c x =
-      let r = t .cxs _ (x .known) (x .own) in
+      let r = t .admitted .cxs _ (x .known) (x .own) in
       let p = t .moved .complexes _ r in
-      let q = t .openC _ (x .known) in
+      let q = t .admitted .openC _ (x .known) in
       record {
-        known = let l = t .later in let e = last-is in let k = x .known in omega arith;
+        known = let l = t .admitted .later in let e = last-is in let k = x .known in omega arith;
         own = z .cxs _ (cx-kept (t .moved .regular) (t .moved .complex) r);
         first = rw (total-append (contracts (c .id) (c .series1)) (s .reports) qs, total-append (paired (c .id)) (s .reports) qs) (ratio-then (ratio1 c) _ _ _ _ (x .first) (p .first));
         second = rw (total-append (contracts (c .id) (c .series2)) (s .reports) qs, total-append (paired (c .id)) (s .reports) qs) (ratio-then (ratio2 c) _ _ _ _ (x .second) (p .second));
@@ -234,10 +217,10 @@ module _ {s : Seen} {u : Venue} {ns : List Message} (bs : List ℕ) {e : Effect}
 
   unnamed : (y : ℕ) → e .venue .last < y → Unnamed y (s .reports ++ qs)
   unnamed y lt =
-      let l = t .later in
+      let l = t .admitted .later in
       let i = last-is in
       let b = a .above y (omega arith) in
-      let n = moved-above (t .fine₀ .good) (t .moved) y (omega arith) in
+      let n = moved-above (t .admitted .fine .good) (t .moved) y (omega arith) in
       record {
         contracts0 = λ r. rw (total-append (contracts y r) (s .reports) qs, b .contracts0 r, n .contracts0 r);
         paired0 = rw (total-append (paired y) (s .reports) qs, b .paired0, n .paired0);

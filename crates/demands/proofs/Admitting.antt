@@ -7,7 +7,7 @@ use native.Mathlib.Omega.{arith}
 use lib.Dec.{eqb, leb}
 use lib.ListN.{length, length-set, set}
 use lib.Seq.{getD-set-other, getD-set-same}
-use borrow.Author.Tests.{leb-true}
+use borrow.Author.Tests.{eq-eqb, leb-true, ne-eqb}
 use Rattle.rules.specs.declared.Complex.{Complex}
 use Rattle.rules.specs.declared.Legging.{Legging}
 use Rattle.rules.specs.declared.Regular.{Regular}
@@ -18,16 +18,51 @@ use Rattle.rules.specs.Words.{noComplex, noRegular, opposite, placeOf, withComp
 use Rattle.rules.specs.Standing.{otherLeg, otherSize, pairs, parentOf, verdict, verdictOf}
 use Rattle.rules.specs.Sound.{apart}
 use Rattle.rules.specs.Sums.{openComplex, openRegular}
-use Rattle.rules.proofs.Adding.{open-put}
-use Rattle.rules.proofs.Filling.{cx, lg, reg}
+use Rattle.rules.proofs.Adding.{open-none, open-put}
+use Rattle.rules.proofs.Filling.{SameLegs, cx, lg, reg, same-legs}
 use Rattle.rules.proofs.Generating.{AllStand, place-series}
-use Rattle.rules.proofs.Ledger.{Cx, Reg, SameLegs, same-legs}
+use Rattle.rules.proofs.Ledger.{ComplexId, RegularId}
 use Rattle.rules.proofs.Putting.{put-alone, put-each, put-most, put-new, put-old, put-rises}
 use Rattle.rules.proofs.Sizes.{Elsewhere, best-set, free-shows, not-there, size-set}
 use Rattle.rules.proofs.Tests.{and-l, and-r, free-none, held-pos}
 use Rattle.rules.proofs.Verdicts.{passed}
 use Rattle.demands.proofs.Entering.{Pays, Ready, pays-there}
 use Rattle.demands.proofs.Homes.{Fine, Home, InRange, good-rr, good-xx, homes-same, other-apart, parent-found}
+
+-- What is asked of it ---------------------------------------------------------------------------
+
+-- from v to w by what a message brings in: the invariant holds, and the ids so far are as they were
+pub record Admitted (v w : Venue) : Type 0 where
+  pub fine : Fine w
+  pub later : v .last ≤ w .last
+  pub regs : (y s : ℕ) → y ≤ v .last → RegularId y s v → RegularId y s w
+  pub cxs : (m : Complex) → m .id ≤ v .last → ComplexId m v → ComplexId m w
+  pub openR : (y : ℕ) → y ≤ v .last → openRegular y (w .regular) ≡ openRegular y (v .regular)
+  pub openC : (y : ℕ) → y ≤ v .last → openComplex y (w .complex) ≡ openComplex y (v .complex)
+
+-- nothing is brought in
+pub admitted-none : {v : Venue} → Fine v → Admitted v v
+admitted-none f = record {
+  fine = f;
+  later = omega arith;
+  regs = λ y s le r. r;
+  cxs = λ m le r. r;
+  openR = λ y le. refl;
+  openC = λ y le. refl;
+}
+
+-- an order of a new id is brought in, all of it open
+pub record NewOrder (v v₀ : Venue) (o : Regular) : Type 0 where
+  pub new : v .last < o .id
+  pub known : o .id ≤ v₀ .last
+  pub own : RegularId (o .id) (o .series) v₀
+  pub whole : openRegular (o .id) (v₀ .regular) ≡ o .quantity
+
+pub record NewComplex (v v₀ : Venue) (c : Complex) : Type 0 where
+  pub new : v .last < c .id
+  pub known : c .id ≤ v₀ .last
+  pub own : ComplexId c v₀
+  pub whole : openComplex (c .id) (v₀ .complex) ≡ c .quantity
 
 -- what stands can be paid for
 stands-pays : (v : Venue) (s d : ℕ) → Fine v → AllStand v → d < 2 → held (lg v (placeOf s d) .quantity) ≡ true → Pays v s (lg v (placeOf s d))
@@ -72,7 +107,7 @@ module _ (v : Venue) (o : Regular) (i : ℕ) where
     abbrev quantity-of : Regular → ℕ
     quantity-of x = x .quantity
 
-    pub order-fine : Fine withOrder
+    order-fine : Fine withOrder
     unfolding withRegular withLast
     order-fine = record {
       good = record {
@@ -96,7 +131,7 @@ module _ (v : Venue) (o : Regular) (i : ℕ) where
     alone = put-alone noRegular id-of quantity-of (v .regular) i o fits lower (good-rr (joins .fine .good))
 
     -- its id is its own
-    pub order-reg : Reg (o .id) (o .series) withOrder
+    order-reg : RegularId (o .id) (o .series) withOrder
     unfolding withRegular withLast
     order-reg = record {
       home = λ a h e. ap (λ (x : Regular). x .series) (put-new noRegular id-of quantity-of (v .regular) i o fits lower a h e);
@@ -109,7 +144,7 @@ module _ (v : Venue) (o : Regular) (i : ℕ) where
     unfolding withRegular withLast
     old y a le h e = put-old noRegular id-of quantity-of (v .regular) i o fits lower y a (omega arith) h e
 
-    pub order-keeps-reg : (y s : ℕ) → y ≤ v .last → Reg y s v → Reg y s withOrder
+    order-keeps-reg : (y s : ℕ) → y ≤ v .last → RegularId y s v → RegularId y s withOrder
     unfolding withRegular withLast
     order-keeps-reg y s le r = record {
       home = λ a h e. (let x = old y a le h e in ap (λ (z : Regular). z .series) (x .1) ∙ r .home a (x .0) (sym (ap id-of (x .1)) ∙ e));
@@ -117,7 +152,7 @@ module _ (v : Venue) (o : Regular) (i : ℕ) where
       none = r .none;
     }
 
-    pub order-keeps-cx : (m : Complex) → m .id ≤ v .last → Cx m v → Cx m withOrder
+    order-keeps-cx : (m : Complex) → m .id ≤ v .last → ComplexId m v → ComplexId m withOrder
     unfolding withRegular withLast
     order-keeps-cx m le r = record {
       home = r .home;
@@ -151,9 +186,32 @@ module _ (v : Venue) (o : Regular) (i : ℕ) where
       pays = pays-there order-elsewhere (placeOf (o .series) (opposite (o .side))) (stands-pays v (o .series) (opposite (o .side)) (joins .fine) st (opposite-small (o .side)));
     }
 
-    pub order-open : (y : ℕ) → openRegular y (withOrder .regular) ≡ openRegular y (v .regular) + (if eqb (o .id) y then o .quantity else 0)
+    order-open : (y : ℕ) → openRegular y (withOrder .regular) ≡ openRegular y (v .regular) + (if eqb (o .id) y then o .quantity else 0)
     unfolding withRegular withLast
     order-open y = open-put noRegular id-of quantity-of y (v .regular) i o fits (free-none _ (joins .free))
+
+    pub order-admitted : Admitted v withOrder
+    unfolding withRegular withLast
+    order-admitted = record {
+      fine = order-fine;
+      later = (let z = joins .new in omega arith);
+      regs = order-keeps-reg;
+      cxs = order-keeps-cx;
+      openR = λ y le. (let z = order-open y in omega (arith, rw (ne-eqb (o .id) y (λ e. (let u = joins .new in omega arith))) at z));
+      openC = λ y le. refl;
+    }
+
+    none-yet : openRegular (o .id) (v .regular) ≡ 0
+    none-yet = open-none noRegular id-of quantity-of (o .id) (v .regular) (λ n h e. (let z = lower n h in omega arith))
+
+    pub order-new : NewOrder v withOrder o
+    unfolding withRegular withLast
+    order-new = record {
+      new = joins .new;
+      known = omega arith;
+      own = order-reg;
+      whole = (let z = order-open (o .id) in let y = none-yet in omega (arith, rw (eq-eqb (o .id) (o .id) refl) at z));
+    }
 
 -- A complex order -----------------------------------------------------------------------------
 
@@ -191,7 +249,7 @@ module _ (v : Venue) (c : Complex) (i : ℕ) where
         let s = getD-set-other (v .complex) i (o .at) c noComplex ne in
         record { at = o .at; fits = rw length-set (o .fits); id = rw s (o .id); leg = rw s (o .leg); enough = rw s (o .enough) }
 
-    pub complex-fine : Fine withComplexOrder
+    complex-fine : Fine withComplexOrder
     unfolding withComplex withLast
     complex-fine = record {
       good = record {
@@ -215,7 +273,7 @@ module _ (v : Venue) (c : Complex) (i : ℕ) where
     unfolding withComplex withLast
     aloneC = put-alone noComplex id-ofC quantity-ofC (v .complex) i c fitsC lowerC (good-xx (joins .fine .good))
 
-    pub complex-cx : Cx c withComplexOrder
+    complex-cx : ComplexId c withComplexOrder
     unfolding withComplex withLast
     complex-cx = record {
       home = λ a h e. same-legs (put-new noComplex id-ofC quantity-ofC (v .complex) i c fitsC lowerC a h e);
@@ -228,7 +286,7 @@ module _ (v : Venue) (c : Complex) (i : ℕ) where
     unfolding withComplex withLast
     oldC y a le h e = put-old noComplex id-ofC quantity-ofC (v .complex) i c fitsC lowerC y a (omega arith) h e
 
-    pub complex-keeps-cx : (m : Complex) → m .id ≤ v .last → Cx m v → Cx m withComplexOrder
+    complex-keeps-cx : (m : Complex) → m .id ≤ v .last → ComplexId m v → ComplexId m withComplexOrder
     unfolding withComplex withLast
     complex-keeps-cx m le r = record {
       home = λ a h e. (let x = oldC (m .id) a le h e in subst (λ (z : Complex). SameLegs z m) (sym (x .1)) (r .home a (x .0) (sym (ap id-ofC (x .1)) ∙ e)));
@@ -236,7 +294,7 @@ module _ (v : Venue) (c : Complex) (i : ℕ) where
       none = r .none;
     }
 
-    pub complex-keeps-reg : (y s : ℕ) → y ≤ v .last → Reg y s v → Reg y s withComplexOrder
+    complex-keeps-reg : (y s : ℕ) → y ≤ v .last → RegularId y s v → RegularId y s withComplexOrder
     unfolding withComplex withLast
     complex-keeps-reg y s le r = record {
       home = r .home;
@@ -244,6 +302,29 @@ module _ (v : Venue) (c : Complex) (i : ℕ) where
       none = λ j h e. (let x = oldC y j le h e in r .none j (x .0) (sym (ap id-ofC (x .1)) ∙ e));
     }
 
-    pub complex-open : (y : ℕ) → openComplex y (withComplexOrder .complex) ≡ openComplex y (v .complex) + (if eqb (c .id) y then c .quantity else 0)
+    complex-open : (y : ℕ) → openComplex y (withComplexOrder .complex) ≡ openComplex y (v .complex) + (if eqb (c .id) y then c .quantity else 0)
     unfolding withComplex withLast
     complex-open y = open-put noComplex id-ofC quantity-ofC y (v .complex) i c fitsC (free-none _ (joins .free))
+
+    pub complex-admitted : Admitted v withComplexOrder
+    unfolding withComplex withLast
+    complex-admitted = record {
+      fine = complex-fine;
+      later = (let z = joins .new in omega arith);
+      regs = complex-keeps-reg;
+      cxs = complex-keeps-cx;
+      openR = λ y le. refl;
+      openC = λ y le. (let z = complex-open y in omega (arith, rw (ne-eqb (c .id) y (λ e. (let u = joins .new in omega arith))) at z));
+    }
+
+    none-yetC : openComplex (c .id) (v .complex) ≡ 0
+    none-yetC = open-none noComplex id-ofC quantity-ofC (c .id) (v .complex) (λ n h e. (let z = lowerC n h in omega arith))
+
+    pub complex-new : NewComplex v withComplexOrder c
+    unfolding withComplex withLast
+    complex-new = record {
+      new = joins .new;
+      known = omega arith;
+      own = complex-cx;
+      whole = (let z = complex-open (c .id) in let y = none-yetC in omega (arith, rw (eq-eqb (c .id) (c .id) refl) at z));
+    }

@@ -15,7 +15,7 @@ use Rattle.rules.proofs.Closing.{from-rises, length-packed, packed-dense, packe
 use Rattle.rules.proofs.Filling.{cx, held-fitsC, lg}
 use Rattle.rules.proofs.Gaps.{closed-open, closed-openC, fc, fr, goes-to, was, wasC}
 use Rattle.rules.proofs.Generating.{AllStand}
-use Rattle.rules.proofs.Ledger.{Cx, Reg}
+use Rattle.rules.proofs.Ledger.{ComplexId, RegularId}
 use Rattle.rules.proofs.Tests.{held-pos, pos-held}
 use Rattle.demands.proofs.Homes.{Fine, Good, Home, Homes, Tidy}
 
@@ -83,14 +83,14 @@ module _ (v : Venue) where
   unfolding AllStand
   closed-stand a i = verdict-closed v i _ ∙ (unfold closeGaps withRegular withComplex in a i)
 
-  pub closed-reg : {y s : ℕ} → Reg y s v → Reg y s w
+  pub closed-reg : {y s : ℕ} → RegularId y s v → RegularId y s w
   closed-reg r = record {
     home = λ i h e. rw (was v i) (r .home (fr v i) (rw (was v) at h) (rw (was v i) at e));
     alone = λ i j h k e q. one i j (r .alone (fr v i) (fr v j) (rw (was v) at h) (rw (was v) at k) (rw (was v i) at e) (rw (was v j) at q));
     none = λ j h e. r .none (fc v j) (rw (wasC v) at h) (rw (wasC v j) at e);
   }
 
-  pub closed-cx : {m : Complex} → Cx m v → Cx m w
+  pub closed-cx : {m : Complex} → ComplexId m v → ComplexId m w
   closed-cx r = record {
     home = λ j h e. rw (wasC v j) (r .home (fc v j) (rw (wasC v) at h) (rw (wasC v j) at e));
     alone = λ i j h k e q. oneC i j (r .alone (fc v i) (fc v j) (rw (wasC v) at h) (rw (wasC v) at k) (rw (wasC v i) at e) (rw (wasC v j) at q));
@@ -103,8 +103,8 @@ pub record Ends (v w : Venue) : Type 0 where
   pub last : w .last ≡ v .last
   pub openR : (y : ℕ) → openRegular y (w .regular) ≡ openRegular y (v .regular)
   pub openC : (y : ℕ) → openComplex y (w .complex) ≡ openComplex y (v .complex)
-  pub regs : (y s : ℕ) → Reg y s v → Reg y s w
-  pub cxs : (m : Complex) → Cx m v → Cx m w
+  pub regs : (y s : ℕ) → RegularId y s v → RegularId y s w
+  pub cxs : (m : Complex) → ComplexId m v → ComplexId m w
   pub fine : Fine w
   pub stand : AllStand w
   pub tidy : Tidy w

@@ -74,13 +74,15 @@ pub good-xx : {v : Venue} → Good v → (i j : ℕ) → held (cx v i .quantity)
 good-xx {v} g = apart-rise (λ i. held (cx v i .quantity)) (λ i. cx v i .id) (g .rise2)
 
 range-kept : {a b : Complex} → LesserC a b → InRange b → InRange a
-range-kept h r = record {
-  side1 = rw (h .side1) (r .side1);
-  side2 = rw (h .side2) (r .side2);
-  series1 = rw (h .series1) (r .series1);
-  series2 = rw (h .series2) (r .series2);
-  apart = λ e. r .apart (sym (h .series1) ∙ e ∙ h .series2);
-}
+range-kept h r =
+    let l = h .legs in
+    record {
+      side1 = rw (l .side1) (r .side1);
+      side2 = rw (l .side2) (r .side2);
+      series1 = rw (l .series1) (r .series1);
+      series2 = rw (l .series2) (r .series2);
+      apart = λ e. r .apart (sym (l .series1) ∙ e ∙ l .series2);
+    }
 
 -- whatever moves the ledger keeps it
 pub good-kept : {v w : Venue} {rs : List Report} → Moved v rs w → Good v → Good w

@@ -5,7 +5,7 @@ use mathlib.Core.List.{List, List·Memᴰ, List·Memᴰ·eq-of-singleton, List·
 use Prim.Native.Nat.{_<_, ℕ}
 use native.Mathlib.Omega.{arith}
 use lib.Dec.{eqb}
-use borrow.Author.Tests.{eq-eqb, leb-false, ne-eqb, not-false, not-true}
+use borrow.Author.Tests.{leb-false, not-false, not-true}
 use Rattle.rules.specs.declared.Cause.the-variants.{Withdrawn}
 use Rattle.rules.specs.declared.Complex.{Complex}
 use Rattle.rules.specs.declared.Message.{Message}
@@ -13,7 +13,7 @@ use Rattle.rules.specs.declared.Message.the-variants.{Away, Cancel, Order, Stat
 use Rattle.rules.specs.declared.Regular.{Regular}
 use Rattle.rules.specs.declared.Venue.{Venue}
 use Rattle.rules.specs.Base.{held}
-use Rattle.rules.specs.Words.{complexAt, isComplexOf, isRegularOf, noComplex, noRegular, regularAt, withComplex, withLast, withRegular, withSeries}
+use Rattle.rules.specs.Words.{complexAt, isComplexOf, isRegularOf, noComplex, noRegular, regularAt, withLast, withRegular, withSeries}
 use Rattle.rules.specs.Messages.{messageOf}
 use Rattle.rules.specs.Records.{Report, answer}
 use Rattle.rules.specs.Effects.{Effect, _⟫_, nothing, report}
@@ -23,8 +23,7 @@ use Rattle.rules.specs.Order.{enterRegular, order}
 use Rattle.rules.specs.Complex.{cancel, cancelComplex, cancelRegular, complex, complexPlace, regularPlace, restsComplex, restsRegular, work}
 use Rattle.rules.specs.Refusals.{full, idTooLow, inRange, refusal, unknown}
 use Rattle.rules.specs.Step.{accept, answered, perform, setAway, setStatus, step}
-use Rattle.rules.specs.Sums.{cancelledOf, contracts, crossedFor, openComplex, openRegular, paired, total}
-use Rattle.rules.proofs.Adding.{open-none}
+use Rattle.rules.specs.Sums.{cancelledOf, contracts, crossedFor, paired, total}
 use Rattle.rules.proofs.AllSettled.{settle-all, settled}
 use Rattle.rules.proofs.Answering.{told}
 use Rattle.rules.proofs.Calling.{left, step-by}
@@ -36,8 +35,8 @@ use Rattle.rules.proofs.Ledger.{Moved, moved-silent, moved-trans, silent-nil}
 use Rattle.rules.proofs.Moving.{moves-cancelComplex, moves-cancelRegular}
 use Rattle.rules.proofs.Refusing.{Passed, accepted}
 use Rattle.rules.proofs.Tests.{and-l, or-r}
-use Rattle.demands.proofs.Account.{NewComplex, NewOrder, Takes}
-use Rattle.demands.proofs.Admitting.{Joins, JoinsC, complex-cx, complex-fine, complex-keeps-cx, complex-keeps-reg, complex-open, order-fine, order-keeps-cx, order-keeps-reg, order-open, order-ready, order-reg, withComplexOrder, withOrder}
+use Rattle.demands.proofs.Account.{Takes}
+use Rattle.demands.proofs.Admitting.{Admitted, Joins, JoinsC, NewComplex, NewOrder, admitted-none, complex-admitted, complex-new, order-admitted, order-new, order-ready, withComplexOrder, withOrder}
 use Rattle.demands.proofs.Carrying.{Carries, carries-then, fine-after, settle-carries, work-carries}
 use Rattle.demands.proofs.Closed.{Ends, ends-closed, ends-here}
 use Rattle.demands.proofs.Entering.{enter-carries}
@@ -55,12 +54,7 @@ record NoOrder (ns : List Message) : Type 0 where
 takes-here : {v w : Venue} {qs : List Report} {ns : List Message} → NoOrder ns → Fine v → Moved v qs w → Fine w → AllStand w → Takes v qs w ns
 takes-here {v} n f m g st = record {
   start = v;
-  fine₀ = f;
-  later = omega arith;
-  regs = λ y s le r. r;
-  cxs = λ m le r. r;
-  openR = λ y le. refl;
-  openC = λ y le. refl;
+  admitted = admitted-none f;
   moved = m;
   fine = g;
   stand = st;
@@ -164,41 +158,21 @@ module _ (v : Venue) (f : Fine v) (st : AllStand v) (td : Tidy v) where
     abbrev w : Venue
     w = withOrder v o i
 
-    fine-w : Fine w
-    fine-w = order-fine v o i joins
+    admitted : Admitted v w
+    admitted = order-admitted v o i joins
 
     order-stood : Stood w (perform (Order o) v)
     unfolding perform order enterRegular putRegular freeRegular withLast
-    order-stood = end-settled _ fine-w (enter-carries i (o .series) (o .side) (o .quantity) w fine-w (order-ready v o i joins st))
-
-    none-yet : openRegular (o .id) (v .regular) ≡ 0
-    none-yet = open-none noRegular (λ o. o .id) (λ o. o .quantity) (o .id) (v .regular) (λ n h e. (let z = f .good .rlast n h in let y = joins .new in omega arith))
-
-    brings : NewOrder v w o
-    unfolding withRegular withLast
-    brings = record {
-      new = joins .new;
-      known = omega arith;
-      own = order-reg v o i joins;
-      whole = (let z = order-open v o i joins (o .id) in let y = none-yet in
-          omega (arith, rw (eq-eqb (o .id) (o .id) refl) at z));
-    }
+    order-stood = end-settled _ (admitted .fine) (enter-carries i (o .series) (o .side) (o .quantity) w (admitted .fine) (order-ready v o i joins st))
 
     order-takes : Takes v (perform (Order o) v .reports) (perform (Order o) v .venue) (Order o ∷ [])
-    unfolding withRegular withLast
     order-takes = record {
       start = w;
-      fine₀ = fine-w;
-      later = (let z = joins .new in omega arith);
-      regs = λ y s le r. order-keeps-reg v o i joins y s le r;
-      cxs = λ m le r. order-keeps-cx v o i joins m le r;
-      openR = λ y le. (let z = order-open v o i joins y in
-          omega (arith, rw (ne-eqb (o .id) y (λ e. (let u = joins .new in omega arith))) at z));
-      openC = λ y le. refl;
+      admitted = admitted;
       moved = order-stood .carries .moves;
-      fine = fine-after fine-w (order-stood .carries);
+      fine = fine-after (admitted .fine) (order-stood .carries);
       stand = order-stood .stand;
-      orders = λ o′ m. subst (λ (x : Regular). NewOrder v w x) (sym (order-injective (List·Memᴰ·eq-of-singleton m))) brings;
+      orders = λ o′ m. subst (λ (x : Regular). NewOrder v w x) (sym (order-injective (List·Memᴰ·eq-of-singleton m))) (order-new v o i joins);
       complexes = λ c m. absurd (kinds-apart o c (sym (List·Memᴰ·eq-of-singleton m)));
     }
 
@@ -222,44 +196,25 @@ module _ (v : Venue) (f : Fine v) (st : AllStand v) (td : Tidy v) where
     abbrev u : Venue
     u = withComplexOrder v c j
 
-    fine-u : Fine u
-    fine-u = complex-fine v c j joinsC
+    admittedC : Admitted v u
+    admittedC = complex-admitted v c j joinsC
 
     complex-stood : Stood u (perform (TwoLeg c) v)
     unfolding perform complex putComplex freeComplex withLast
     complex-stood =
-        let k = end-settled (work j u) fine-u (work-carries j (joinsC .there) u fine-u) in
-        stood-then _ _ (k .carries) (generate-stood j (joinsC .there) _ (fine-after fine-u (k .carries)) (k .stand))
-
-    none-yetC : openComplex (c .id) (v .complex) ≡ 0
-    none-yetC = open-none noComplex (λ c. c .id) (λ c. c .quantity) (c .id) (v .complex) (λ n h e. (let z = f .good .xlast n h in let y = joinsC .new in omega arith))
-
-    bringsC : NewComplex v u c
-    unfolding withComplex withLast
-    bringsC = record {
-      new = joinsC .new;
-      known = omega arith;
-      own = complex-cx v c j joinsC;
-      whole = (let z = complex-open v c j joinsC (c .id) in let y = none-yetC in
-          omega (arith, rw (eq-eqb (c .id) (c .id) refl) at z));
-    }
+        let f₀ = admittedC .fine in
+        let k = end-settled (work j u) f₀ (work-carries j (joinsC .there) u f₀) in
+        stood-then _ _ (k .carries) (generate-stood j (joinsC .there) _ (fine-after f₀ (k .carries)) (k .stand))
 
     complex-takes : Takes v (perform (TwoLeg c) v .reports) (perform (TwoLeg c) v .venue) (TwoLeg c ∷ [])
-    unfolding withComplex withLast
     complex-takes = record {
       start = u;
-      fine₀ = fine-u;
-      later = (let z = joinsC .new in omega arith);
-      regs = λ y s le r. complex-keeps-reg v c j joinsC y s le r;
-      cxs = λ m le r. complex-keeps-cx v c j joinsC m le r;
-      openR = λ y le. refl;
-      openC = λ y le. (let z = complex-open v c j joinsC y in
-          omega (arith, rw (ne-eqb (c .id) y (λ e. (let u = joinsC .new in omega arith))) at z));
+      admitted = admittedC;
       moved = complex-stood .carries .moves;
-      fine = fine-after fine-u (complex-stood .carries);
+      fine = fine-after (admittedC .fine) (complex-stood .carries);
       stand = complex-stood .stand;
       orders = λ o m. absurd (kinds-apart o c (List·Memᴰ·eq-of-singleton m));
-      complexes = λ c′ m. subst (λ (x : Complex). NewComplex v u x) (sym (complex-injective (List·Memᴰ·eq-of-singleton m))) bringsC;
+      complexes = λ c′ m. subst (λ (x : Complex). NewComplex v u x) (sym (complex-injective (List·Memᴰ·eq-of-singleton m))) (complex-new v c j joinsC);
     }
 
   -- Every message
@@ -281,12 +236,7 @@ with-answer {v} {w} {qs} n x m k t =
     moved-silent refl refl refl (record { contracts0 = λ y s. refl; paired0 = λ y. refl; crossed0 = λ y. refl; cancelled0 = λ y. refl }) in
     record {
       start = t .start;
-      fine₀ = t .fine₀;
-      later = t .later;
-      regs = t .regs;
-      cxs = t .cxs;
-      openR = t .openR;
-      openC = t .openC;
+      admitted = t .admitted;
       moved = moved-trans a (t .moved);
       fine = t .fine;
       stand = t .stand;

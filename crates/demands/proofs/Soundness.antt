@@ -75,7 +75,7 @@ blank-fitsL l z =
 -- From the tests ------------------------------------------------------------------------------
 
 -- the tests, by name
-record Tests (v : Venue) : Type 0 where
+record Asked (v : Venue) : Type 0 where
   regulars : regularsSound v ≡ true
   complexes : complexesSound v ≡ true
   listed : all listedInRange (v .series) ≡ true
@@ -84,9 +84,9 @@ record Tests (v : Venue) : Type 0 where
   apart : all (apart v) (0 ∷ 1 ∷ 2 ∷ 3 ∷ 4 ∷ 5 ∷ 6 ∷ 7 ∷ []) ≡ true
   leggings : leggingsSound v 0 (v .legging) ≡ true
 
-tests : (v : Venue) → sound v ≡ true → Tests v
+asked : (v : Venue) → sound v ≡ true → Asked v
 unfolding sound
-tests v z = search (and-l, and-r, z) depth 12
+asked v z = search (and-l, and-r, z) depth 12
 
 blank-none : blankRegular noRegular ≡ true
 unfolding blankRegular
@@ -156,7 +156,7 @@ legging-fits l z h = record {
   zero = λ e. absurd (true≢false (sym h ∙ e));
 }
 
-module _ (v : Venue) (sh : Shaped v) (t : Tests v) where
+module _ (v : Venue) (sh : Shaped v) (t : Asked v) where
   abbrev askR : Regular → Bool
   askR o = regularInRange o && leb (o .id) (v .last)
 
@@ -271,7 +271,7 @@ module _ (v : Venue) (sh : Shaped v) (t : Tests v) where
   }
 
 pub sound-out : (v : Venue) → SoundVenue v → Invariant v
-sound-out v s = invariant-out v (s .shaped) (tests v (s .is))
+sound-out v s = invariant-out v (s .shaped) (asked v (s .is))
 
 -- To the tests --------------------------------------------------------------------------------
 

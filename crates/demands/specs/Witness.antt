@@ -67,8 +67,8 @@ later =
     ∷ record { room = 100; bytes = encodeMessage Sweep }
     ∷ []
 
-unfoldable pub seen : Seen
-seen = calls (opening (byRun (record { room = 2000; bytes = bytesOf session }))) later
+unfoldable pub atEnd : Seen
+atEnd = calls (opening (byRun (record { room = 2000; bytes = bytesOf session }))) later
 
 -- What is read off it -------------------------------------------------------------------------
 
@@ -105,19 +105,19 @@ sums s =
 
 pub record Witness : Type 0 where
   -- 22 messages of the run and 9 later ones; the call with 11 bytes did none
-  pub done : seen .done ≡ 31
+  pub done : atEnd .done ≡ 31
   -- two legging orders stand at the end, for 2 contracts at 115 and 75
-  pub standing : leggingAt (seen .venue) 0 0 ≡ record { parent = 3; price = 115; quantity = 2 }
-  pub standing′ : leggingAt (seen .venue) 1 0 ≡ record { parent = 3; price = 75; quantity = 2 }
+  pub standing : leggingAt (atEnd .venue) 0 0 ≡ record { parent = 3; price = 115; quantity = 2 }
+  pub standing′ : leggingAt (atEnd .venue) 1 0 ≡ record { parent = 3; price = 75; quantity = 2 }
   -- a hit in part: 5 contracts of a legging order for 8, and 5 of the other leg
-  pub made : getD (ofKind 67 (seen .reports)) 0 (cancelled 0 0) ≡ generated 3 0 0 115 115 8
-  pub trades : ofKind 65 (seen .reports) ≡ trade 0 1 115 5 4 3 ∷ trade 1 0 90 5 3 2 ∷ []
-  pub pairs : ofKind 66 (seen .reports) ≡ pair 3 (pos 205) 5 ∷ []
-  pub crosses : ofKind 70 (seen .reports) ≡ crossed 8 3 (negsuc 204) 1 ∷ []
-  pub cancels : ofKind 71 (seen .reports) ≡ cancelled 5 1 ∷ cancelled 6 1 ∷ cancelled 7 2 ∷ cancelled 2 7 ∷ []
+  pub made : getD (ofKind 67 (atEnd .reports)) 0 (cancelled 0 0) ≡ generated 3 0 0 115 115 8
+  pub trades : ofKind 65 (atEnd .reports) ≡ trade 0 1 115 5 4 3 ∷ trade 1 0 90 5 3 2 ∷ []
+  pub pairs : ofKind 66 (atEnd .reports) ≡ pair 3 (pos 205) 5 ∷ []
+  pub crosses : ofKind 70 (atEnd .reports) ≡ crossed 8 3 (negsuc 204) 1 ∷ []
+  pub cancels : ofKind 71 (atEnd .reports) ≡ cancelled 5 1 ∷ cancelled 6 1 ∷ cancelled 7 2 ∷ cancelled 2 7 ∷ []
   -- each removal cause 1 to 8
-  pub removals : causes (seen .reports) ≡ 3 ∷ 3 ∷ 1 ∷ 6 ∷ 6 ∷ 5 ∷ 5 ∷ 8 ∷ 8 ∷ 7 ∷ 7 ∷ 4 ∷ 4 ∷ 3 ∷ 3 ∷ 2 ∷ 5 ∷ []
+  pub removals : causes (atEnd .reports) ≡ 3 ∷ 3 ∷ 1 ∷ 6 ∷ 6 ∷ 5 ∷ 5 ∷ 8 ∷ 8 ∷ 7 ∷ 7 ∷ 4 ∷ 4 ∷ 3 ∷ 3 ∷ 2 ∷ 5 ∷ []
   -- complex order 3 was accepted, by what Demand 3 reads off the answers
-  pub accepted : Accepted seen (both 3 0 1 (pos 205) 8)
+  pub accepted : Accepted atEnd (both 3 0 1 (pos 205) 8)
   -- 8 entered = 5 paired + 1 crossed + 0 cancelled + 2 still open
-  pub account : sums seen ≡ 5 ∷ 5 ∷ 5 ∷ 1 ∷ 0 ∷ 2 ∷ []
+  pub account : sums atEnd ≡ 5 ∷ 5 ∷ 5 ∷ 1 ∷ 0 ∷ 2 ∷ []

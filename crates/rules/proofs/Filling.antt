@@ -1,5 +1,5 @@
 -- Orders with less open than they had: each place of a book has what it had, or less of it.
-use mathlib.Core.Path.{_∙_, _≡_, refl, sym}
+use mathlib.Core.Path.{_∙_, _≡_, ap, refl, sym}
 use mathlib.Core.Bool.{false, true, true≢false}
 use mathlib.Core.List.{List, [], _∷_}
 use Prim.Native.Nat.{_<_, _≤_, suc, zero, ℕ}
@@ -98,30 +98,45 @@ held-fits = held-there noRegular (λ o. o .quantity) refl
 abbrev pub cx : Venue → ℕ → Complex
 cx v i = getD (v .complex) i noComplex
 
-pub record LesserC (a b : Complex) : Type 0 where
-  pub id : a .id ≡ b .id
+-- two complex orders have the same legs
+pub record SameLegs (a b : Complex) : Type 0 where
   pub series1 : a .series1 ≡ b .series1
   pub side1 : a .side1 ≡ b .side1
   pub series2 : a .series2 ≡ b .series2
   pub side2 : a .side2 ≡ b .side2
   pub ratio1 : ratio1 a ≡ ratio1 b
   pub ratio2 : ratio2 a ≡ ratio2 b
-  pub quantity : a .quantity ≤ b .quantity
 
-lesserC-refl : (o : Complex) → LesserC o o
-lesserC-refl o = record { id = refl; series1 = refl; side1 = refl; series2 = refl; side2 = refl; ratio1 = refl; ratio2 = refl; quantity = omega arith }
+pub same-legs : {a b : Complex} → a ≡ b → SameLegs a b
+same-legs e = record {
+  series1 = ap (λ (c : Complex). c .series1) e;
+  side1 = ap (λ (c : Complex). c .side1) e;
+  series2 = ap (λ (c : Complex). c .series2) e;
+  side2 = ap (λ (c : Complex). c .side2) e;
+  ratio1 = ap ratio1 e;
+  ratio2 = ap ratio2 e;
+}
 
-lesserC-trans : {a b c : Complex} → LesserC a b → LesserC b c → LesserC a c
-lesserC-trans h k = record {
-  id = h .id ∙ k .id;
+pub legs-trans : {a b c : Complex} → SameLegs a b → SameLegs b c → SameLegs a c
+legs-trans h k = record {
   series1 = h .series1 ∙ k .series1;
   side1 = h .side1 ∙ k .side1;
   series2 = h .series2 ∙ k .series2;
   side2 = h .side2 ∙ k .side2;
   ratio1 = h .ratio1 ∙ k .ratio1;
   ratio2 = h .ratio2 ∙ k .ratio2;
-  quantity = omega arith;
 }
+
+pub record LesserC (a b : Complex) : Type 0 where
+  pub id : a .id ≡ b .id
+  pub legs : SameLegs a b
+  pub quantity : a .quantity ≤ b .quantity
+
+lesserC-refl : (c : Complex) → LesserC c c
+lesserC-refl c = record { id = refl; legs = same-legs refl; quantity = omega arith }
+
+lesserC-trans : {a b c : Complex} → LesserC a b → LesserC b c → LesserC a c
+lesserC-trans h k = record { id = h .id ∙ k .id; legs = legs-trans (h .legs) (k .legs); quantity = omega arith }
 
 abbrev pub FewerC : List Complex → List Complex → Type 0
 FewerC = Placewise noComplex LesserC
@@ -134,7 +149,11 @@ fewerC-trans = placewise-trans noComplex LesserC (λ _ _ _. lesserC-trans)
 
 pub less-lesserC : (k : ℕ) (c : Complex) → LesserC (lessComplex k c) c
 unfolding lessComplex ratio1 ratio2
-less-lesserC k c = record { id = refl; series1 = refl; side1 = refl; series2 = refl; side2 = refl; ratio1 = refl; ratio2 = refl; quantity = omega arith }
+less-lesserC k c = record {
+  id = refl;
+  legs = record { series1 = refl; side1 = refl; series2 = refl; side2 = refl; ratio1 = refl; ratio2 = refl };
+  quantity = omega arith;
+}
 
 pub fill-fewerC : (i k : ℕ) (v : Venue) → FewerC (fillComplex i k v .complex) (v .complex)
 unfolding fillComplex withComplex complexAt

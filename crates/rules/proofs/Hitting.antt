@@ -24,7 +24,7 @@ use Rattle.rules.specs.Order.{hit}
 use Rattle.rules.specs.Sums.{cancelledOf, contracts, crossedFor, openRegular, paired, total}
 use Rattle.rules.proofs.Adding.{count-elsewhere, count-neither, count-taker, open-fill, total-append}
 use Rattle.rules.proofs.Filling.{cx, fewer-trans, fill-complex, fill-fewer, fill-fewerC, fill-last, fill-legging, lg, reg}
-use Rattle.rules.proofs.Ledger.{Moves, Reg}
+use Rattle.rules.proofs.Ledger.{Moves, RegularId}
 use Rattle.rules.proofs.Moving.{chain-cx, chain-reg, cx-fill, reg-fill}
 use Rattle.rules.proofs.Pairing.{Pairs, Tells, pair-complex, pair-last, pair-regular, pair-removes, pair-tells, pairs-settle}
 use Rattle.rules.proofs.Sizes.{fill-elsewhere}
@@ -214,7 +214,7 @@ module _ (v : Venue) (i j k : ℕ) (l : Legging) (m : Hits v i j k l) where
   }
 
   -- the incoming order's contracts, and those of the orders that the other leg takes
-  own-trade : (y s : ℕ) → Reg y s v → c .id ≢ y →
+  own-trade : (y s : ℕ) → RegularId y s v → c .id ≢ y →
       contracts y s (trade (reg v i .series) (reg v i .side) (l .price) k (reg v i .id) (c .id)) ≡ (if eqb (reg v i .id) y then k else 0)
   own-trade y s r x≠y = go (eqb (reg v i .id) y) refl
     where
@@ -222,7 +222,7 @@ module _ (v : Venue) (i j k : ℕ) (l : Legging) (m : Hits v i j k l) where
       go true g = let i=y = eqb-true (reg v i .id) y g in count-taker y s _ _ _ k _ _ i=y (r .home i (m .holds) i=y)
       go false g = count-neither y s _ _ _ k _ _ (eqb-false (reg v i .id) y g) x≠y
 
-  hit-orders : (y s : ℕ) → Reg y s v →
+  hit-orders : (y s : ℕ) → RegularId y s v →
       openRegular y (v .regular) ≡ openRegular y (hitting v i k l .regular) + (total (contracts y s) (hit i l k v .reports) + total (cancelledOf y) (hit i l k v .reports))
   hit-orders y s r =
       let x≠y : c .id ≢ y = λ g. r .none j (m .holdsC) (rw (m .parent) at g) in

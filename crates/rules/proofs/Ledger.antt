@@ -10,66 +10,42 @@ use Rattle.rules.specs.declared.Complex.{Complex}
 use Rattle.rules.specs.declared.Legging.{Legging}
 use Rattle.rules.specs.declared.Venue.{Venue}
 use Rattle.rules.specs.declared.Verdict.{Verdict}
-use Rattle.rules.specs.Base.{first, held}
+use Rattle.rules.specs.Base.{held}
 use Rattle.rules.specs.Words.{withLegging}
 use Rattle.rules.specs.Records.{Report, generated}
 use Rattle.rules.specs.Effects.{Effect, _⟫_, nothing, report}
 use Rattle.rules.specs.Prices.{ratio1, ratio2}
 use Rattle.rules.specs.Removal.{remove, removeOf}
 use Rattle.rules.specs.Generation.{placed}
-use Rattle.rules.specs.Complex.{complex}
 use Rattle.rules.specs.Sums.{cancelledOf, contracts, crossedFor, openComplex, openRegular, paired, total}
 use Rattle.rules.proofs.Adding.{leavers-silent, total-append}
-use Rattle.rules.proofs.Filling.{Fewer, FewerC, LesserC, cx, fewer-refl, fewer-trans, fewerC-refl, fewerC-trans, reg, still-held, still-heldC}
+use Rattle.rules.proofs.Filling.{Fewer, FewerC, SameLegs, cx, fewer-refl, fewer-trans, fewerC-refl, fewerC-trans, legs-trans, reg, still-held, still-heldC}
 
 -- Whose id it is ------------------------------------------------------------------------------
 
 -- y is the id of a regular order of series s, and of no other order
-pub record Reg (y s : ℕ) (v : Venue) : Type 0 where
+pub record RegularId (y s : ℕ) (v : Venue) : Type 0 where
   pub home : (i : ℕ) → held (reg v i .quantity) ≡ true → reg v i .id ≡ y → reg v i .series ≡ s
   pub alone : (i j : ℕ) → held (reg v i .quantity) ≡ true → held (reg v j .quantity) ≡ true → reg v i .id ≡ y → reg v j .id ≡ y → i ≡ j
   pub none : (j : ℕ) → held (cx v j .quantity) ≡ true → cx v j .id ≡ y → ⊥
 
--- two complex orders have the same legs
-pub record SameLegs (a b : Complex) : Type 0 where
-  pub series1 : a .series1 ≡ b .series1
-  pub series2 : a .series2 ≡ b .series2
-  pub ratio1 : ratio1 a ≡ ratio1 b
-  pub ratio2 : ratio2 a ≡ ratio2 b
-
-pub same-legs : {a b : Complex} → a ≡ b → SameLegs a b
-same-legs e = record {
-  series1 = ap (λ (c : Complex). c .series1) e;
-  series2 = ap (λ (c : Complex). c .series2) e;
-  ratio1 = ap ratio1 e;
-  ratio2 = ap ratio2 e;
-}
-
 -- the id of m is that of a complex order with its legs, and of no other order
-pub record Cx (m : Complex) (v : Venue) : Type 0 where
+pub record ComplexId (m : Complex) (v : Venue) : Type 0 where
   pub home : (j : ℕ) → held (cx v j .quantity) ≡ true → cx v j .id ≡ m .id → SameLegs (cx v j) m
   pub alone : (i j : ℕ) → held (cx v i .quantity) ≡ true → held (cx v j .quantity) ≡ true → cx v i .id ≡ m .id → cx v j .id ≡ m .id → i ≡ j
   pub none : (i : ℕ) → held (reg v i .quantity) ≡ true → reg v i .id ≡ m .id → ⊥
 
 -- both are kept where there are fewer
-pub reg-kept : {y s : ℕ} {v w : Venue} → Fewer (w .regular) (v .regular) → FewerC (w .complex) (v .complex) → Reg y s v → Reg y s w
+pub reg-kept : {y s : ℕ} {v w : Venue} → Fewer (w .regular) (v .regular) → FewerC (w .complex) (v .complex) → RegularId y s v → RegularId y s w
 reg-kept f g r = record {
   home = λ i h e. f .lesser i .series ∙ r .home i (still-held (f .lesser i) h) (sym (f .lesser i .id) ∙ e);
   alone = λ i j h k e q. r .alone i j (still-held (f .lesser i) h) (still-held (f .lesser j) k) (sym (f .lesser i .id) ∙ e) (sym (f .lesser j .id) ∙ q);
   none = λ j h e. r .none j (still-heldC (g .lesser j) h) (sym (g .lesser j .id) ∙ e);
 }
 
-lesser-legs : {a b c : Complex} → LesserC a b → SameLegs b c → SameLegs a c
-lesser-legs l s = record {
-  series1 = l .series1 ∙ s .series1;
-  series2 = l .series2 ∙ s .series2;
-  ratio1 = l .ratio1 ∙ s .ratio1;
-  ratio2 = l .ratio2 ∙ s .ratio2;
-}
-
-pub cx-kept : {m : Complex} {v w : Venue} → Fewer (w .regular) (v .regular) → FewerC (w .complex) (v .complex) → Cx m v → Cx m w
+pub cx-kept : {m : Complex} {v w : Venue} → Fewer (w .regular) (v .regular) → FewerC (w .complex) (v .complex) → ComplexId m v → ComplexId m w
 cx-kept f g r = record {
-  home = λ j h e. lesser-legs (g .lesser j) (r .home j (still-heldC (g .lesser j) h) (sym (g .lesser j .id) ∙ e));
+  home = λ j h e. legs-trans (g .lesser j .legs) (r .home j (still-heldC (g .lesser j) h) (sym (g .lesser j .id) ∙ e));
   alone = λ i j h k e q. r .alone i j (still-heldC (g .lesser i) h) (still-heldC (g .lesser j) k) (sym (g .lesser i .id) ∙ e) (sym (g .lesser j .id) ∙ q);
   none = λ i h e. r .none i (still-held (f .lesser i) h) (sym (f .lesser i .id) ∙ e);
 }
@@ -89,8 +65,8 @@ pub record Moved (v : Venue) (rs : List Report) (w : Venue) : Type 0 where
   pub regular : Fewer (w .regular) (v .regular)
   pub complex : FewerC (w .complex) (v .complex)
   pub last : w .last ≡ v .last
-  pub orders : (y s : ℕ) → Reg y s v → openRegular y (v .regular) ≡ openRegular y (w .regular) + (total (contracts y s) rs + total (cancelledOf y) rs)
-  pub complexes : (m : Complex) → Cx m v → Settles m v rs w
+  pub orders : (y s : ℕ) → RegularId y s v → openRegular y (v .regular) ≡ openRegular y (w .regular) + (total (contracts y s) rs + total (cancelledOf y) rs)
+  pub complexes : (m : Complex) → ComplexId m v → Settles m v rs w
 
 -- one sum after another, each by the ratio
 pub ratio-then : (r a b p q : ℕ) → a ≡ r * p → b ≡ r * q → a + b ≡ r * (p + q)

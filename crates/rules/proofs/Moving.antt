@@ -13,34 +13,33 @@ use lib.Seq.{getD-set-other}
 use borrow.Author.Tests.{eqb-false, eqb-true, ne-eqb}
 use Rattle.rules.specs.declared.Complex.{Complex}
 use Rattle.rules.specs.declared.Venue.{Venue}
-use Rattle.rules.specs.Base.{first, held, if_then_else_}
+use Rattle.rules.specs.Base.{held, if_then_else_}
 use Rattle.rules.specs.Words.{complexAt, noComplex, noRegular, opposite, regularAt, withComplex, withRegular}
 use Rattle.rules.specs.Records.{Report, cancelled, crossed, trade}
 use Rattle.rules.specs.Effects.{report}
 use Rattle.rules.specs.Prices.{ratio1, ratio2}
 use Rattle.rules.specs.Trading.{fillComplex, fillRegular, tradeWith}
 use Rattle.rules.specs.Order.{meet}
-use Rattle.rules.specs.Complex.{cancelComplex, cancelRegular, complex, cross}
-use Rattle.rules.specs.Sound.{apart}
+use Rattle.rules.specs.Complex.{cancelComplex, cancelRegular, cross}
 use Rattle.rules.specs.Sums.{cancelledOf, contracts, crossedFor, openComplex, openRegular, paired, total}
 use Rattle.rules.proofs.Adding.{count-maker, count-neither, count-taker, open-fill, open-fillC}
 use Rattle.rules.proofs.Filling.{cx, fewer-refl, fewer-trans, fewerC-refl, fewerC-trans, fill-complex, fill-fewer, fill-fewerC, fill-last, fillC-last, fillC-regular, reg, still-held}
-use Rattle.rules.proofs.Ledger.{Cx, Moves, Reg, cx-kept, moves-removeOf, moves-then, reg-kept}
+use Rattle.rules.proofs.Ledger.{ComplexId, Moves, RegularId, cx-kept, moves-removeOf, moves-then, reg-kept}
 use Rattle.rules.proofs.Sizes.{shows-held}
 use Rattle.rules.proofs.Taking.{Chain, no-more, traded}
 
 -- Chains of trades ----------------------------------------------------------------------------
 
 module _ (i q : ℕ) (v : Venue) where
-  pub reg-fill : {y s : ℕ} → Reg y s v → Reg y s (fillRegular i q v)
+  pub reg-fill : {y s : ℕ} → RegularId y s v → RegularId y s (fillRegular i q v)
   reg-fill r = reg-kept (fill-fewer i q v) (rw fill-complex (fewerC-refl _)) r
 
-  pub cx-fill : {m : Complex} → Cx m v → Cx m (fillRegular i q v)
+  pub cx-fill : {m : Complex} → ComplexId m v → ComplexId m (fillRegular i q v)
   cx-fill r = cx-kept (fill-fewer i q v) (rw fill-complex (fewerC-refl _)) r
 
 module _ {x t d p : ℕ} where
   -- a chain of trades by another taker
-  pub chain-reg : (y s : ℕ) {v w : Venue} {rs : List Report} → x ≢ y → Reg y s v → Chain x t d p v rs w →
+  pub chain-reg : (y s : ℕ) {v w : Venue} {rs : List Report} → x ≢ y → RegularId y s v → Chain x t d p v rs w →
       openRegular y (v .regular) ≡ openRegular y (w .regular) + total (contracts y s) rs
   unfolding total regularAt
   chain-reg y s ne r no-more = omega arith
@@ -83,7 +82,7 @@ module _ (i j k : ℕ) (v : Venue) (m : Meets v i j k) where
   unfolding fillRegular withRegular
   fits2′ = rw length-set (m .fits2)
 
-  meet-orders : (y s : ℕ) → Reg y s v →
+  meet-orders : (y s : ℕ) → RegularId y s v →
       openRegular y (v .regular) ≡ openRegular y (fillRegular j k (fillRegular i k v) .regular)
       + contracts y s (trade (reg v j .series) (reg v i .side) (reg v j .price) k (reg v i .id) (reg v j .id))
   meet-orders y s r =
@@ -103,7 +102,7 @@ module _ (i j k : ℕ) (v : Venue) (m : Meets v i j k) where
       go false e a b =
           rw (count-maker y s _ _ _ k _ _ (eqb-false (reg v i .id) y e) (λ g. r .home j (m .held2) g)) (omega (arith, rw e at a))
 
-  meet-none : (c : Complex) (s : ℕ) → Cx c v →
+  meet-none : (c : Complex) (s : ℕ) → ComplexId c v →
       contracts (c .id) s (trade (reg v j .series) (reg v i .side) (reg v j .price) k (reg v i .id) (reg v j .id)) ≡ 0
   meet-none c s r = count-neither (c .id) s _ _ _ k _ _ (λ g. r .none i (m .held1) g) (λ g. r .none j (m .held2) g)
 
@@ -178,7 +177,7 @@ module _ (i j k : ℕ) (v : Venue) (m : Crosses v i j k) where
   fitsC′ = rw length-set (m .fits2)
 
   -- of either party, what is open falls by what was crossed
-  cross-falls : (c : Complex) → Cx c v →
+  cross-falls : (c : Complex) → ComplexId c v →
       openComplex (c .id) (v .complex) ≡ openComplex (c .id) (fillComplex j k (fillComplex i k v) .complex)
       + (if eqb (cx v i .id) (c .id) || eqb (cx v j .id) (c .id) then k else 0)
   cross-falls c r =

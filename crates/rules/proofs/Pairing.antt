@@ -23,7 +23,7 @@ use Rattle.rules.specs.Complex.{legIn}
 use Rattle.rules.specs.Sums.{cancelledOf, contracts, crossedFor, openComplex, openRegular, paired, total}
 use Rattle.rules.proofs.Adding.{open-fillC, remove-silent, total-append, total-then}
 use Rattle.rules.proofs.Filling.{Fewer, cx, fewer-trans, fewerC-refl, fill-fewerC, lg}
-use Rattle.rules.proofs.Ledger.{Cx, Moves, Reg, Settles, cx-kept, ratio-none, reg-kept}
+use Rattle.rules.proofs.Ledger.{ComplexId, Moves, RegularId, Settles, cx-kept, ratio-none, reg-kept}
 use Rattle.rules.proofs.Moving.{chain-cx, chain-reg}
 use Rattle.rules.proofs.Removing.{stay-of}
 use Rattle.rules.proofs.Taking.{Chain, chain-elsewhere, chain-fewer, chain-last, chain-other, chain-silent, take-chain, take-total}
@@ -72,7 +72,7 @@ module _ (i id : ℕ) (n : ℤ) (k : ℕ) (v : Venue) where
 pub record Pairs (v : Venue) (j k : ℕ) (rs : List Report) (w : Venue) : Type 0 where
   pub first : total (contracts (cx v j .id) (cx v j .series1)) rs ≡ k
   pub second : total (contracts (cx v j .id) (cx v j .series2)) rs ≡ k
-  pub others : (m : Complex) → cx v j .id ≢ m .id → Cx m v → (s : ℕ) → total (contracts (m .id) s) rs ≡ 0
+  pub others : (m : Complex) → cx v j .id ≢ m .id → ComplexId m v → (s : ℕ) → total (contracts (m .id) s) rs ≡ 0
   pub pairs : (y : ℕ) → total (paired y) rs ≡ (if eqb (cx v j .id) y then k else 0)
   pub crosses : (y : ℕ) → total (crossedFor y) rs ≡ 0
   pub cancels : (y : ℕ) → total (cancelledOf y) rs ≡ 0
@@ -89,7 +89,7 @@ by-ratio2 m k a b h p = omega arith
 
 -- so they settle the account of every complex order
 pub pairs-settle : {v : Venue} (j k : ℕ) {rs : List Report} {w : Venue} → j < length (v .complex) → held (cx v j .quantity) ≡ true → k ≤ cx v j .quantity →
-    Pairs v j k rs w → (m : Complex) → Cx m v → Settles m v rs w
+    Pairs v j k rs w → (m : Complex) → ComplexId m v → Settles m v rs w
 pairs-settle {v} j k {rs} {w} fits h enough p m r = go (eqb (cx v j .id) (m .id)) refl
   where
     fall : openComplex (m .id) (v .complex) ≡ openComplex (m .id) (w .complex) + (total (paired (m .id)) rs + total (crossedFor (m .id)) rs + total (cancelledOf (m .id)) rs)
@@ -219,7 +219,7 @@ module _ (v : Venue) (i a b k : ℕ) where
       filled = legIn-filled;
     }
 
-    leg-orders : (y s : ℕ) → Reg y s v →
+    leg-orders : (y s : ℕ) → RegularId y s v →
         openRegular y (v .regular) ≡ openRegular y (legged .regular) + (total (contracts y s) (legIn i a b k v .reports) + total (cancelledOf y) (legIn i a b k v .reports))
     leg-orders y s r =
         let x≠y : c .id ≢ y = λ g. r .none i (m .holds) g in

@@ -21,7 +21,6 @@ use Rattle.rules.specs.Words.{complexAt, increment, isAway, isClass, isI
 use Rattle.rules.specs.Records.{Each, Fits, Report, U32, answer, cancelled, crossed, generated, pair, removed, trade}
 use Rattle.rules.specs.Trading.{fillComplex, fillRegular, lessComplex, lessRegular}
 use Rattle.rules.specs.Generation.{placed}
-use Rattle.rules.specs.Complex.{complex}
 use Rattle.rules.specs.Places.{blankLegging, closeGaps}
 use Rattle.rules.specs.Refusals.{complexInRange, inRange, regularInRange}
 use Rattle.rules.specs.Step.{setAway, setStatus}
@@ -164,34 +163,34 @@ lessC-fits k c f = record {
     last-conjunct : (a b b′ : Bool) → (a && b) ≡ true → (b ≡ true → b′ ≡ true) → (a && b′) ≡ true
     last-conjunct a b b′ h k = and-in a b′ (and-l a b h) (k (and-r a b h))
 
+-- one part of the venue anew
+module _ {v : Venue} (r : Ranged v) where
+  with-regular : (l : List Regular) → ((i : ℕ) → RegFits (getD l i noRegular)) → Ranged (withRegular v l)
+  unfolding withRegular
+  with-regular l h = record { regular = h; complex = r .complex; legging = r .legging; listed = r .listed; last = r .last; len = r .len; eight = r .eight }
+
+  with-complex : (l : List Complex) → ((i : ℕ) → CxFits (getD l i noComplex)) → Ranged (withComplex v l)
+  unfolding withComplex
+  with-complex l h = record { regular = r .regular; complex = h; legging = r .legging; listed = r .listed; last = r .last; len = r .len; eight = r .eight }
+
+  pub with-legging : (l : List Legging) → ((i : ℕ) → LgFits (getD l i noLegging)) → length l ≡ length (v .legging) → Ranged (withLegging v l)
+  unfolding withLegging
+  with-legging l h e = record { regular = r .regular; complex = r .complex; legging = h; listed = r .listed; last = r .last; len = e ∙ r .len; eight = r .eight }
+
+  with-series : (l : List Listed) → ((i : ℕ) → listedInRange (getD l i notListed) ≡ true) → length l ≡ length (v .series) → Ranged (withSeries v l)
+  unfolding withSeries
+  with-series l h e = record { regular = r .regular; complex = r .complex; legging = r .legging; listed = h; last = r .last; len = r .len; eight = e ∙ r .eight }
+
 pub last-ranged : (n : ℕ) (v : Venue) → U32 n → Ranged v → Ranged (withLast v n)
 unfolding withLast
 last-ranged n v h r = record { regular = r .regular; complex = r .complex; legging = r .legging; listed = r .listed; last = omega arith; len = r .len; eight = r .eight }
 
 -- an order put, or with less open
 pub put-ranged : (i : ℕ) (o : Regular) (v : Venue) → RegFits o → Ranged v → Ranged (withRegular v (set (v .regular) i o))
-unfolding withRegular
-put-ranged i o v f r = record {
-  regular = set-each RegFits noRegular (v .regular) i o f (r .regular);
-  complex = r .complex;
-  legging = r .legging;
-  listed = r .listed;
-  last = r .last;
-  len = r .len;
-  eight = r .eight;
-}
+put-ranged i o v f r = with-regular r _ (set-each RegFits noRegular (v .regular) i o f (r .regular))
 
 pub putC-ranged : (i : ℕ) (c : Complex) (v : Venue) → CxFits c → Ranged v → Ranged (withComplex v (set (v .complex) i c))
-unfolding withComplex
-putC-ranged i c v f r = record {
-  regular = r .regular;
-  complex = set-each CxFits noComplex (v .complex) i c f (r .complex);
-  legging = r .legging;
-  listed = r .listed;
-  last = r .last;
-  len = r .len;
-  eight = r .eight;
-}
+putC-ranged i c v f r = with-complex r _ (set-each CxFits noComplex (v .complex) i c f (r .complex))
 
 pub fill-ranged : (i k : ℕ) (v : Venue) → Ranged v → Ranged (fillRegular i k v)
 unfolding fillRegular regularAt
@@ -202,29 +201,12 @@ unfolding fillComplex complexAt
 fillC-ranged i k v r = putC-ranged i _ v (lessC-fits k (cx v i) (r .complex i)) r
 
 pub placed-ranged : (n : ℕ) (l : Legging) (v : Venue) → LgFits l → Ranged v → Ranged (placed n l v)
-unfolding placed withLegging
-placed-ranged n l v f r = record {
-  regular = r .regular;
-  complex = r .complex;
-  legging = set-each LgFits noLegging (v .legging) n l f (r .legging);
-  listed = r .listed;
-  last = r .last;
-  len = length-set (v .legging) n l ∙ r .len;
-  eight = r .eight;
-}
+unfolding placed
+placed-ranged n l v f r = with-legging r _ (set-each LgFits noLegging (v .legging) n l f (r .legging)) (length-set (v .legging) n l)
 
 -- one series written
 series-ranged : (s : ℕ) (x : Listed) (v : Venue) → listedInRange x ≡ true → Ranged v → Ranged (withSeries v (set (v .series) s x))
-unfolding withSeries
-series-ranged s x v h r = record {
-  regular = r .regular;
-  complex = r .complex;
-  legging = r .legging;
-  listed = set-each (λ y. listedInRange y ≡ true) notListed (v .series) s x h (r .listed);
-  last = r .last;
-  len = r .len;
-  eight = length-set (v .series) s x ∙ r .eight;
-}
+series-ranged s x v h r = with-series r _ (set-each (λ y. listedInRange y ≡ true) notListed (v .series) s x h (r .listed)) (length-set (v .series) s x)
 
 pub away-ranged : (s b o : ℕ) (v : Venue) → inRange (Away s b o) ≡ true → Ranged v → Ranged (setAway s b o v)
 unfolding setAway inRange statusOf
@@ -245,15 +227,9 @@ status-ranged s x v z r =
     rw (a, p, q))) r
 
 pub closed-ranged : (v : Venue) → Ranged v → Ranged (closeGaps v)
-closed-ranged v r = record {
-  regular = λ i. subst RegFits (sym (was v i)) (r .regular _);
-  complex = λ i. subst CxFits (sym (wasC v i)) (r .complex _);
-  legging = unfold closeGaps withRegular withComplex in (r .legging);
-  listed = unfold closeGaps withRegular withComplex in (r .listed);
-  last = unfold closeGaps withRegular withComplex in (r .last);
-  len = unfold closeGaps withRegular withComplex in (r .len);
-  eight = unfold closeGaps withRegular withComplex in (r .eight);
-}
+unfolding closeGaps withRegular withComplex
+closed-ranged v r =
+    with-complex (with-regular r _ (λ i. subst RegFits (sym (was v i)) (r .regular _))) _ (λ i. subst CxFits (sym (wasC v i)) (r .complex _))
 
 -- Orders in range -----------------------------------------------------------------------------
 

@@ -1,5 +1,5 @@
 -- What each effect writes: records that fit their widths and are no answers, and the fields stay in range. Nothing is asked of the venue but that.
-use mathlib.Core.Path.{_∙_, _≡_, subst, sym}
+use mathlib.Core.Path.{_≡_, subst, sym}
 use mathlib.Core.Bool.{Bool, _&&_, false, true}
 use mathlib.Core.Logic.{_⊎_, inl, inr}
 use mathlib.Core.List.{List, [], _∷_}
@@ -38,7 +38,7 @@ use Rattle.rules.proofs.Generating.{Makes, made}
 use Rattle.rules.proofs.Removing.{length-stayers}
 use Rattle.rules.proofs.Settling.{Kept, stayers-kept}
 use Rattle.rules.proofs.Tests.{and-l, and-r}
-use Rattle.rules.proofs.Widths.{CxFits, LgFits, Plain, Ranged, away-ranged, closed-ranged, complex-fits, each-append, fill-ranged, fillC-ranged, last-ranged, no-cx, no-lg, order-fits, placed-ranged, put-ranged, putC-ranged, status-ranged}
+use Rattle.rules.proofs.Widths.{CxFits, LgFits, Plain, Ranged, away-ranged, closed-ranged, complex-fits, each-append, fill-ranged, fillC-ranged, last-ranged, no-cx, no-lg, order-fits, placed-ranged, put-ranged, putC-ranged, status-ranged, with-legging}
 
 -- an effect that writes plain records and leaves the fields in range
 pub record Writes (e : Effect) : Type 0 where
@@ -81,15 +81,7 @@ pub writes-remove : (f : ℕ → Legging → Verdict) (v : Venue) → Ranged v �
 unfolding remove withLegging Kept
 writes-remove f v r = record {
   plain = leavers-plain f 0 (v .legging) (let z = r .len in omega arith) (r .legging);
-  ranged = record {
-    regular = r .regular;
-    complex = r .complex;
-    legging = λ i. go i (stayers-kept f 0 (v .legging) i);
-    listed = r .listed;
-    last = r .last;
-    len = length-stayers f 0 (v .legging) ∙ r .len;
-    eight = r .eight;
-  };
+  ranged = with-legging r _ (λ i. go i (stayers-kept f 0 (v .legging) i)) (length-stayers f 0 (v .legging));
 }
   where
     go : (i : ℕ) → (getD (stayers f 0 (v .legging)) i noLegging ≡ lg v i) ⊎ (getD (stayers f 0 (v .legging)) i noLegging ≡ noLegging) → LgFits (getD (stayers f 0 (v .legging)) i noLegging)
