@@ -114,11 +114,11 @@ unfolding complexAt venueOf
 complex-past b i h = used-free (complexIn b) noComplex (complexesUsed b) 32 i h
 
 module _ {low high : ℕ} {a b : List ℕ} (o : Outside low high a b) where
-  count-kept : (776 < low) ⊎ (high ≤ 776) → regularsUsed b ≡ regularsUsed a
+  pub count-kept : (776 < low) ⊎ (high ≤ 776) → regularsUsed b ≡ regularsUsed a
   unfolding regularsUsed
   count-kept h = ap (λ (x : ℕ). min x 128) (o .same 776 h)
 
-  count-kept2 : (777 < low) ⊎ (high ≤ 777) → complexesUsed b ≡ complexesUsed a
+  pub count-kept2 : (777 < low) ⊎ (high ≤ 777) → complexesUsed b ≡ complexesUsed a
   unfolding complexesUsed
   count-kept2 h = ap (λ (x : ℕ). min x 32) (o .same 777 h)
 

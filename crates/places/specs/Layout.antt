@@ -17,7 +17,7 @@ use Rattle.rules.specs.declared.Complex.{Complex}
 use Rattle.rules.specs.declared.Legging.{Legging}
 use Rattle.rules.specs.declared.Listed.{Listed}
 use Rattle.rules.specs.declared.Venue.{Venue}
-use Rattle.rules.specs.Words.{noRegular, noComplex}
+use Rattle.rules.specs.Words.{placeOf, noRegular, noComplex}
 
 -- the slice's length
 abbrev pub size : ℕ
@@ -76,3 +76,9 @@ venueOf b = record {
   series = upto (listedIn b) 0 8;
   last = getD b 778 0;
 }
+
+-- The numbers of a place ----------------------------------------------------------------------
+
+-- an order's
+unfoldable pub regularRow : Regular → List ℕ
+regularRow o = o .id ∷ placeOf (o .series) (o .side) ∷ o .price ∷ o .quantity ∷ []

@@ -1,13 +1,14 @@
 // The venue inside a call: numbers in one lent slice (specs/Layout.antt). Only this crate knows the layout: the others read and write places, and
 // speak of the venue that the numbers stand for.
 ghost use mathlib.Core.Path.{_≡_};
-ghost use Prim.Native.Nat.{ℕ, suc, min, _+_, _≤_, _<_};
+ghost use Prim.Native.Nat.{ℕ, suc, min, _+_, _-_, _*_, _≤_, _<_};
 ghost use lib.IntN.{pos, _-ℤ_};
 ghost use lib.ListN.{length, set};
-ghost use Rattle.rules.specs.Words.{withSeries, withLast};
+ghost use lib.Seq.{sets};
+ghost use Rattle.rules.specs.Words.{placeOf, withSeries, withLast};
 ghost use Rattle.rules.specs.Trading.{fillRegular, fillComplex, putRegular, putComplex};
 ghost use Rattle.rules.specs.Generation.{placed};
-ghost use Rattle.places.specs.Layout.{size, regularsUsed, complexesUsed, regularIn, complexIn, leggingIn, listedIn, venueOf};
+ghost use Rattle.places.specs.Layout.{size, regularsUsed, complexesUsed, regularIn, complexIn, leggingIn, listedIn, venueOf, regularRow};
 use rules::Complex;
 use rules::Legging;
 use rules::Listed;
@@ -119,4 +120,88 @@ pub fn last_id(b: &[u32]) -> u32
     ensures { λ r. ⌜ r ≡ venueOf (now (b .entry)) .last ⌝ }
 {
     b[778]
+}
+
+// q less k, and no less than 0.
+fn less(q: u32, k: u32) -> u32
+    ensures { λ r. ⌜ r ≡ q - k ⌝ }
+{
+    if q < k {
+        return 0;
+    }
+    q - k
+}
+
+// The order at place i is filled for k contracts.
+pub fn fill_regular(b: &mut [u32], i: usize, k: u32)
+    requires { ⌜ (length (now b) ≡ size) × (i < regularsUsed (now b)) ⌝ }
+    ensures { λ _. ⌜ venueOf (now (b .exit)) ≡ fillRegular i k (venueOf (now (b .entry))) ⌝ }
+{
+    let q = b[4 * i + 3];
+    b[4 * i + 3] = less(q, k);
+}
+
+pub fn fill_complex(b: &mut [u32], i: usize, k: u32)
+    requires { ⌜ (length (now b) ≡ size) × (i < complexesUsed (now b)) ⌝ }
+    ensures { λ _. ⌜ venueOf (now (b .exit)) ≡ fillComplex i k (venueOf (now (b .entry))) ⌝ }
+{
+    let q = b[6 * i + 517];
+    b[6 * i + 517] = less(q, k);
+}
+
+// The number of a series and side: its legging place.
+fn place_number(series: u8, side: u8) -> u32
+    ensures { λ r. ⌜ r ≡ placeOf series side ⌝ }
+{
+    2 * (series as u32) + (side as u32)
+}
+
+// An order's numbers at place i.
+fn write_regular(b: &mut [u32], i: usize, o: Regular)
+    requires { ⌜ (length (now b) ≡ size) × (i < 128) ⌝ }
+    ensures { λ _. ⌜ now (b .exit) ≡ sets (now (b .entry)) (4 * i) (regularRow o) ⌝ }
+{
+    let place = place_number(o.series, o.side);
+    b[4 * i] = o.id;
+    b[4 * i + 1] = place;
+    b[4 * i + 2] = o.price;
+    b[4 * i + 3] = o.quantity;
+}
+
+// An order is given the place after those in use.
+pub fn add_regular(b: &mut [u32], o: Regular)
+    requires { ⌜ (length (now b) ≡ size) × (regularsUsed (now b) < 128) × (o .series < 8) × (o .side < 2) ⌝ }
+    ensures { λ _. ⌜ venueOf (now (b .exit)) ≡ putRegular (regularsUsed (now (b .entry))) o (venueOf (now (b .entry))) ⌝ }
+{
+    let n = regulars_used(b);
+    write_regular(b, n, o);
+    b[776] = (n + 1) as u32;
+}
+
+// A legging order at a place.
+pub fn put_legging(b: &mut [u32], n: usize, l: Legging)
+    requires { ⌜ (length (now b) ≡ size) × (n < 16) ⌝ }
+    ensures { λ _. ⌜ venueOf (now (b .exit)) ≡ placed n l (venueOf (now (b .entry))) ⌝ }
+{
+    b[3 * n + 704] = l.parent;
+    b[3 * n + 705] = l.price;
+    b[3 * n + 706] = l.quantity;
+}
+
+// A series' status and away prices anew.
+pub fn put_listed(b: &mut [u32], s: usize, x: Listed)
+    requires { ⌜ (length (now b) ≡ size) × (s < 8) ⌝ }
+    ensures { λ _. ⌜ venueOf (now (b .exit)) ≡ withSeries (venueOf (now (b .entry))) (set (venueOf (now (b .entry)) .series) s x) ⌝ }
+{
+    b[3 * s + 752] = x.status as u32;
+    b[3 * s + 753] = x.bid;
+    b[3 * s + 754] = x.offer;
+}
+
+// The last id accepted.
+pub fn put_last(b: &mut [u32], id: u32)
+    requires { ⌜ length (now b) ≡ size ⌝ }
+    ensures { λ _. ⌜ venueOf (now (b .exit)) ≡ withLast (venueOf (now (b .entry))) id ⌝ }
+{
+    b[778] = id;
 }

@@ -1,0 +1,189 @@
+-- Each store of the code, as what it does to the venue.
+use mathlib.Core.Path.{_≡_, refl, sym, ap, ap₂, _∙_}
+use mathlib.Core.List.{List, [], _∷_}
+use Prim.Native.Nat.{ℕ, zero, suc, _+_, _-_, _*_, _≤_, _<_, _/_, _%_, min}
+use native.Mathlib.Omega.{arith}
+use native.Mathlib.Nat.{add-zero}
+use mathlib.Core.Logic.{inl, inr}
+use lib.ListN.{length, getD, set, length-set}
+use lib.Seq.{sets, getD-set-same, getD-set-other}
+use Rattle.rules.specs.declared.Regular.{Regular}
+use Rattle.rules.specs.declared.Complex.{Complex}
+use Rattle.rules.specs.declared.Legging.{Legging}
+use Rattle.rules.specs.declared.Listed.{Listed}
+use Rattle.rules.specs.declared.Venue.{Venue}
+use Rattle.rules.specs.Words.{placeOf, noRegular, noComplex, regularAt, complexAt, withRegular, withComplex, withLegging, withSeries, withLast}
+use Rattle.rules.specs.Trading.{lessRegular, lessComplex, fillRegular, fillComplex, putRegular, putComplex}
+use Rattle.rules.specs.Generation.{placed}
+use Rattle.places.specs.Layout.{size, inUse, regularsUsed, complexesUsed, regularIn, complexIn, leggingIn, listedIn, venueOf, regularRow}
+use Rattle.places.proofs.Tables.{used-more}
+use Rattle.places.proofs.Parts.{Outside, stored, wider, joined, regulars-few, complexes-few, regular-at, complex-at, regular-set, complex-set, legging-set, listed-set, last-set, regular-unused, regulars-counted, count-kept}
+
+-- A fill --------------------------------------------------------------------------------------
+
+less-in : (a : List ℕ) (i k : ℕ) → 4 * i + 3 < length a → regularIn (set a (4 * i + 3) (getD a (4 * i + 3) 0 - k)) i ≡ lessRegular k (regularIn a i)
+unfolding regularIn lessRegular
+less-in a i k h =
+    rw (
+      getD-set-same a (4 * i + 3) (getD a (4 * i + 3) 0 - k) 0 h,
+      getD-set-other a (4 * i + 3) (4 * i) (getD a (4 * i + 3) 0 - k) 0 (λ e. omega arith),
+      getD-set-other a (4 * i + 3) (4 * i + 1) (getD a (4 * i + 3) 0 - k) 0 (λ e. omega arith),
+      getD-set-other a (4 * i + 3) (4 * i + 2) (getD a (4 * i + 3) 0 - k) 0 (λ e. omega arith),
+    ) refl
+
+pub filled-regular : (a : List ℕ) (i k : ℕ) → length a ≡ size → i < regularsUsed a →
+    venueOf (set a (4 * i + 3) (getD a (4 * i + 3) 0 - k)) ≡ fillRegular i k (venueOf a)
+unfolding fillRegular
+filled-regular a i k n h =
+    let z = regulars-few a in
+    regular-set (wider (omega arith) (omega arith) (stored a (4 * i + 3) (getD a (4 * i + 3) 0 - k))) h
+    ∙ ap (λ (o : Regular). withRegular (venueOf a) (set (venueOf a .regular) i o)) (less-in a i k (omega arith) ∙ ap (lessRegular k) (sym (regular-at a i h)))
+
+less-inC : (a : List ℕ) (i k : ℕ) → 6 * i + 517 < length a → complexIn (set a (6 * i + 517) (getD a (6 * i + 517) 0 - k)) i ≡ lessComplex k (complexIn a i)
+unfolding complexIn lessComplex
+less-inC a i k h =
+    rw (
+      getD-set-same a (6 * i + 517) (getD a (6 * i + 517) 0 - k) 0 h,
+      getD-set-other a (6 * i + 517) (6 * i + 512) (getD a (6 * i + 517) 0 - k) 0 (λ e. omega arith),
+      getD-set-other a (6 * i + 517) (6 * i + 513) (getD a (6 * i + 517) 0 - k) 0 (λ e. omega arith),
+      getD-set-other a (6 * i + 517) (6 * i + 514) (getD a (6 * i + 517) 0 - k) 0 (λ e. omega arith),
+      getD-set-other a (6 * i + 517) (6 * i + 515) (getD a (6 * i + 517) 0 - k) 0 (λ e. omega arith),
+      getD-set-other a (6 * i + 517) (6 * i + 516) (getD a (6 * i + 517) 0 - k) 0 (λ e. omega arith),
+    ) refl
+
+pub filled-complex : (a : List ℕ) (i k : ℕ) → length a ≡ size → i < complexesUsed a →
+    venueOf (set a (6 * i + 517) (getD a (6 * i + 517) 0 - k)) ≡ fillComplex i k (venueOf a)
+unfolding fillComplex
+filled-complex a i k n h =
+    let z = complexes-few a in
+    complex-set (wider (omega arith) (omega arith) (stored a (6 * i + 517) (getD a (6 * i + 517) 0 - k))) h
+    ∙ ap (λ (o : Complex). withComplex (venueOf a) (set (venueOf a .complex) i o)) (less-inC a i k (omega arith) ∙ ap (lessComplex k) (sym (complex-at a i h)))
+
+-- Several numbers in a row --------------------------------------------------------------------
+
+pub sets-outside : (l : List ℕ) (i : ℕ) (xs : List ℕ) → Outside i (i + length xs) l (sets l i xs)
+sets-outside l i [] = record { same = λ k h. refl }
+sets-outside l i (x ∷ xs) =
+    joined (wider (omega arith) (omega arith) (stored l i x)) (wider (omega arith) (omega arith) (sets-outside (set l i x) (suc i) xs))
+
+pub sets-length : (l : List ℕ) (i : ℕ) (xs : List ℕ) → length (sets l i xs) ≡ length l
+sets-length l i [] = refl
+sets-length l i (x ∷ xs) = sets-length (set l i x) (suc i) xs ∙ length-set l i x
+
+pub sets-at : (l : List ℕ) (i : ℕ) (xs : List ℕ) (j : ℕ) → j < length xs → i + length xs ≤ length l → getD (sets l i xs) (i + j) 0 ≡ getD xs j 0
+sets-at l i [] j h m = absurd (omega arith)
+sets-at l i (x ∷ xs) zero h m =
+    sets-outside (set l i x) (suc i) xs .same (i + 0) (inl (omega arith)) ∙ ap (λ (k : ℕ). getD (set l i x) k 0) (add-zero i) ∙ getD-set-same l i x 0 (omega arith)
+sets-at l i (x ∷ xs) (suc j) h m =
+    let e : i + suc j ≡ suc i + j = omega arith in
+    ap (λ (k : ℕ). getD (sets (set l i x) (suc i) xs) k 0) e ∙ sets-at (set l i x) (suc i) xs j (omega arith) (omega (arith, length-set l i x))
+
+-- the j-th of a row
+row-at : (l : List ℕ) (i k : ℕ) (xs : List ℕ) (j : ℕ) → k ≡ i + j → j < length xs → i + length xs ≤ length l → getD (sets l i xs) k 0 ≡ getD xs j 0
+row-at l i k xs j e h m = ap (λ (n : ℕ). getD (sets l i xs) n 0) e ∙ sets-at l i xs j h m
+
+-- a row written at a regular place reads back as the order
+pub regular-back : (a : List ℕ) (i : ℕ) (o : Regular) → length a ≡ size → i < 128 → o .series < 8 → o .side < 2 → regularIn (sets a (4 * i) (regularRow o)) i ≡ o
+unfolding regularIn regularRow placeOf
+regular-back a i o n h s d =
+    let xs : List ℕ = o .id ∷ (2 * o .series + o .side) ∷ o .price ∷ o .quantity ∷ [] in
+    let e0 : getD (sets a (4 * i) xs) (4 * i) 0 ≡ o .id = row-at a (4 * i) (4 * i) xs 0 (omega arith) (omega arith) (omega arith) in
+    let e1 : getD (sets a (4 * i) xs) (4 * i + 1) 0 ≡ 2 * o .series + o .side = row-at a (4 * i) (4 * i + 1) xs 1 refl (omega arith) (omega arith) in
+    let e2 : getD (sets a (4 * i) xs) (4 * i + 2) 0 ≡ o .price = row-at a (4 * i) (4 * i + 2) xs 2 refl (omega arith) (omega arith) in
+    let e3 : getD (sets a (4 * i) xs) (4 * i + 3) 0 ≡ o .quantity = row-at a (4 * i) (4 * i + 3) xs 3 refl (omega arith) (omega arith) in
+    let f : (2 * o .series + o .side) % 16 / 2 ≡ o .series = omega arith in
+    let g : (2 * o .series + o .side) % 2 ≡ o .side = omega arith in
+    rw (e0, e1, e2, e3, f, g) refl
+
+-- the count, read
+counted : (b : List ℕ) (k : ℕ) → getD b 776 0 ≡ k → k ≤ 128 → regularsUsed b ≡ k
+unfolding regularsUsed
+counted b k e h = rw e (omega arith)
+
+whole-part : (b : List ℕ) → inUse (regularIn b) noRegular (regularsUsed b) 128 ≡ venueOf b .regular
+unfolding venueOf
+whole-part b = refl
+
+wide-row : (a : List ℕ) (i : ℕ) (o : Regular) → Outside (4 * i) (4 * i + 4) a (sets a (4 * i) (regularRow o))
+unfolding regularRow
+wide-row a i o = sets-outside a (4 * i) (o .id ∷ placeOf (o .series) (o .side) ∷ o .price ∷ o .quantity ∷ [])
+
+used-kept : (a b : List ℕ) → regularsUsed a < 128 → Outside (4 * regularsUsed a) (4 * regularsUsed a + 4) a b → regularsUsed b ≡ regularsUsed a
+used-kept a b h o = count-kept o (inr (omega arith))
+
+count-is : (a b : List ℕ) → length a ≡ size → length b ≡ size → regularsUsed a < 128 → regularsUsed (set b 776 (regularsUsed a + 1)) ≡ suc (regularsUsed a)
+count-is a b n m h =
+    counted (set b 776 (regularsUsed a + 1)) (regularsUsed a + 1) (getD-set-same b 776 (regularsUsed a + 1) 0 (omega arith)) (omega arith) ∙ omega arith
+
+-- the venue's regular orders, where the places in use are as many
+part : (a b : List ℕ) → regularsUsed b ≡ regularsUsed a → venueOf b ≡ venueOf a → inUse (regularIn b) noRegular (regularsUsed a) 128 ≡ venueOf a .regular
+part a b e f = ap (λ (k : ℕ). inUse (regularIn b) noRegular k 128) (sym e) ∙ whole-part b ∙ ap (λ (v : Venue). v .regular) f
+
+pub added-regular : (a : List ℕ) (o : Regular) → length a ≡ size → regularsUsed a < 128 → o .series < 8 → o .side < 2 →
+    venueOf (set (sets a (4 * regularsUsed a) (regularRow o)) 776 (regularsUsed a + 1)) ≡ putRegular (regularsUsed a) o (venueOf a)
+unfolding putRegular
+added-regular a o n h s d =
+    regulars-counted (stored b 776 (regularsUsed a + 1))
+    ∙ ap (λ (v : Venue). withRegular v (inUse (regularIn b) noRegular (regularsUsed c) 128)) same
+    ∙ ap (λ (l : List Regular). withRegular (venueOf a) l) more
+  where
+    b : List ℕ
+    b = sets a (4 * regularsUsed a) (regularRow o)
+
+    c : List ℕ
+    c = set b 776 (regularsUsed a + 1)
+
+    row : Outside (4 * regularsUsed a) (4 * regularsUsed a + 4) a b
+    row = wide-row a (regularsUsed a) o
+
+    same : venueOf b ≡ venueOf a
+    same = regular-unused (regularsUsed a) row h (omega arith)
+
+    more-used : regularsUsed c ≡ suc (regularsUsed a)
+    more-used = count-is a b n (sets-length a (4 * regularsUsed a) (regularRow o) ∙ n) h
+
+    used-b : regularsUsed b ≡ regularsUsed a
+    used-b = used-kept a b h row
+
+    more : inUse (regularIn b) noRegular (regularsUsed c) 128 ≡ set (venueOf a .regular) (regularsUsed a) o
+    more =
+        ap (λ (k : ℕ). inUse (regularIn b) noRegular k 128) more-used
+        ∙ used-more (regularIn b) noRegular (regularsUsed a) 128 h
+        ∙ ap₂ (λ (l : List Regular) (x : Regular). set l (regularsUsed a) x) (part a b used-b same) (regular-back a (regularsUsed a) o n h s d)
+
+-- Legging places, series and the last id ------------------------------------------------------
+
+legging-back : (a : List ℕ) (n : ℕ) (l : Legging) → length a ≡ size → n < 16 → leggingIn (sets a (3 * n + 704) (l .parent ∷ l .price ∷ l .quantity ∷ [])) n ≡ l
+unfolding leggingIn
+legging-back a n l m h =
+    let xs : List ℕ = l .parent ∷ l .price ∷ l .quantity ∷ [] in
+    let e0 : getD (sets a (3 * n + 704) xs) (3 * n + 704) 0 ≡ l .parent = row-at a (3 * n + 704) (3 * n + 704) xs 0 (omega arith) (omega arith) (omega arith) in
+    let e1 : getD (sets a (3 * n + 704) xs) (3 * n + 705) 0 ≡ l .price = row-at a (3 * n + 704) (3 * n + 705) xs 1 (omega arith) (omega arith) (omega arith) in
+    let e2 : getD (sets a (3 * n + 704) xs) (3 * n + 706) 0 ≡ l .quantity = row-at a (3 * n + 704) (3 * n + 706) xs 2 (omega arith) (omega arith) (omega arith) in
+    rw (e0, e1, e2) refl
+
+pub put-legging : (a : List ℕ) (n : ℕ) (l : Legging) → length a ≡ size → n < 16 →
+    venueOf (sets a (3 * n + 704) (l .parent ∷ l .price ∷ l .quantity ∷ [])) ≡ placed n l (venueOf a)
+unfolding placed
+put-legging a n l m h =
+    legging-set {a = a} {b = sets a (3 * n + 704) (l .parent ∷ l .price ∷ l .quantity ∷ [])} (wider (omega arith) (omega arith) (sets-outside a (3 * n + 704) (l .parent ∷ l .price ∷ l .quantity ∷ []))) h
+    ∙ ap (λ (x : Legging). withLegging (venueOf a) (set (venueOf a .legging) n x)) (legging-back a n l m h)
+
+listed-back : (a : List ℕ) (s : ℕ) (x : Listed) → length a ≡ size → s < 8 → x .status < 256 → listedIn (sets a (3 * s + 752) (x .status ∷ x .bid ∷ x .offer ∷ [])) s ≡ x
+unfolding listedIn
+listed-back a s x m h w =
+    let xs : List ℕ = x .status ∷ x .bid ∷ x .offer ∷ [] in
+    let e0 : getD (sets a (3 * s + 752) xs) (3 * s + 752) 0 ≡ x .status = row-at a (3 * s + 752) (3 * s + 752) xs 0 (omega arith) (omega arith) (omega arith) in
+    let e1 : getD (sets a (3 * s + 752) xs) (3 * s + 753) 0 ≡ x .bid = row-at a (3 * s + 752) (3 * s + 753) xs 1 (omega arith) (omega arith) (omega arith) in
+    let e2 : getD (sets a (3 * s + 752) xs) (3 * s + 754) 0 ≡ x .offer = row-at a (3 * s + 752) (3 * s + 754) xs 2 (omega arith) (omega arith) (omega arith) in
+    let f : x .status % 256 ≡ x .status = omega arith in
+    rw (e0, e1, e2, f) refl
+
+pub put-listed : (a : List ℕ) (s : ℕ) (x : Listed) → length a ≡ size → s < 8 → x .status < 256 →
+    venueOf (sets a (3 * s + 752) (x .status ∷ x .bid ∷ x .offer ∷ [])) ≡ withSeries (venueOf a) (set (venueOf a .series) s x)
+put-listed a s x m h w =
+    listed-set {a = a} {b = sets a (3 * s + 752) (x .status ∷ x .bid ∷ x .offer ∷ [])} (wider (omega arith) (omega arith) (sets-outside a (3 * s + 752) (x .status ∷ x .bid ∷ x .offer ∷ []))) h
+    ∙ ap (λ (y : Listed). withSeries (venueOf a) (set (venueOf a .series) s y)) (listed-back a s x m h w)
+
+pub put-last : (a : List ℕ) (id : ℕ) → length a ≡ size → venueOf (set a 778 id) ≡ withLast (venueOf a) id
+put-last a id n = last-set (stored a 778 id) ∙ ap (λ (k : ℕ). withLast (venueOf a) k) (getD-set-same a 778 id 0 (omega arith))
