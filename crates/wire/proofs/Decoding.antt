@@ -1,0 +1,169 @@
+-- The refusals 1 to 4 and the message, each from what the code has found of the bytes.
+use mathlib.Core.Path.{_≡_, refl}
+use mathlib.Core.Bool.{Bool, true, false, not, _||_}
+use mathlib.Core.List.{List}
+use Prim.Native.Nat.{ℕ, _<_, _≤_}
+use native.Mathlib.Omega.{arith}
+use lib.Dec.{leb, ltb, eqb}
+use lib.ListN.{length}
+use lib.IntN.{ℤ, pos, negsuc}
+use lib.Signed.{leZ, ltZ}
+use borrow.Author.Tests.{le-leb, lt-leb, lt-ltb, le-ltb, eq-eqb, ne-eqb, leb-true, leb-false, eqb-true, eqb-false}
+use Rattle.rules.specs.declared.Regular.{Regular}
+use Rattle.rules.specs.declared.Complex.{Complex}
+use Rattle.rules.specs.declared.Message.{Message}
+use Rattle.rules.specs.declared.Message.the-variants.{Order, TwoLeg, Cancel, Away, Status, Sweep}
+use Rattle.rules.specs.declared.Decoded.the-variants.{Taken, Refused}
+use Rattle.rules.specs.Base.{if_then_else_}
+use Rattle.rules.specs.Words.{within, isId, isSeries, isSide, isClass, isQuantity, isRegularPrice, isLimit, increment}
+use Rattle.rules.specs.Bytes.{u8At, u16At, u32At, lengthField, kindField}
+use Rattle.rules.specs.Messages.{lengthOf, orderAt, twoLegAt, messageOf}
+use Rattle.rules.specs.Refusals.{torn, isKind, isLength, regularInRange, complexInRange, inRange, decoded}
+use Rattle.rules.proofs.Tests.{and-false}
+
+-- Ranges --------------------------------------------------------------------------------------
+
+pub below : (low high x : ℕ) → x < low → within low high x ≡ false
+unfolding within
+below low high x h = rw (lt-leb low x h)
+
+pub above : (low high x : ℕ) → high < x → within low high x ≡ false
+unfolding within
+above low high x h = rw (lt-leb x high h) (and-false (leb low x))
+
+pub inside : (low high x : ℕ) → low ≤ x → x ≤ high → within low high x ≡ true
+unfolding within
+inside low high x a b = rw (le-leb low x a, le-leb x high b)
+
+-- the upper bound alone decides
+pub within-top : (low high x : ℕ) → low ≤ x → leb x high ≡ within low high x
+unfolding within
+within-top low high x a = rw (le-leb low x a)
+
+-- at most is not above
+leb-not : (a b : ℕ) → leb a b ≡ not (ltb b a)
+leb-not a b = go (leb a b) refl
+  where
+    go : (t : Bool) → leb a b ≡ t → leb a b ≡ not (ltb b a)
+    go true e = rw (e, le-ltb b a (leb-true _ _ e))
+    go false e = rw (e, lt-ltb b a (leb-false _ _ e))
+
+pub leZ-not : (a b : ℤ) → leZ a b ≡ not (ltZ b a)
+leZ-not (pos a) (pos b) = leb-not a b
+leZ-not (pos a) (negsuc b) = refl
+leZ-not (negsuc a) (pos b) = refl
+leZ-not (negsuc a) (negsuc b) = leb-not b a
+
+-- an id is any number of 32 bits but 0
+pub id-is : (x : ℕ) → x < 4294967296 → not (eqb x 0) ≡ isId x
+unfolding isId
+id-is x h = go (eqb x 0) refl
+  where
+    go : (t : Bool) → eqb x 0 ≡ t → not (eqb x 0) ≡ within 1 4294967295 x
+    go true e = let z = eqb-true x 0 e in rw (e, below 1 4294967295 x (omega arith))
+    go false e = let z = eqb-false x 0 e in rw (e, inside 1 4294967295 x (omega arith) (omega arith))
+
+-- an increment is not 0
+pub some-increment : (s : ℕ) → 0 < increment s
+unfolding increment
+some-increment s = go (ltb s 6)
+  where
+    go : (t : Bool) → 0 < (if t then 5 else 10)
+    go true = omega arith
+    go false = omega arith
+
+-- a regular order whose other fields are in range
+pub regular-quantity : (o : Regular) → 0 < o .id → o .id ≤ 4294967295 → o .series ≤ 7 → o .side ≤ 1 →
+    isRegularPrice (increment (o .series)) (o .price) ≡ true → isQuantity (o .quantity) ≡ regularInRange o
+unfolding regularInRange isId isSeries isSide
+regular-quantity o a b s d p =
+    rw (inside 1 4294967295 (o .id) a b, inside 0 7 (o .series) (omega arith) s, inside 0 1 (o .side) (omega arith) d, p)
+
+-- a complex order whose other fields are in range
+pub complex-quantity : (c : Complex) → 0 < c .id → c .id ≤ 4294967295 → c .series1 ≤ 7 → c .side1 ≤ 1 → c .series2 ≤ 7 → c .side2 ≤ 1 →
+    (c .series1 ≡ c .series2 → ⊥) → c .class ≤ 1 → isLimit (c .limit) ≡ true → isQuantity (c .quantity) ≡ complexInRange c
+unfolding complexInRange isId isSeries isSide isClass
+complex-quantity c a b s d t e n k l =
+    rw (
+      inside 1 4294967295 (c .id) a b,
+      inside 0 7 (c .series1) (omega arith) s,
+      inside 0 1 (c .side1) (omega arith) d,
+      inside 0 7 (c .series2) (omega arith) t,
+      inside 0 1 (c .side2) (omega arith) e,
+      ne-eqb (c .series1) (c .series2) n,
+      inside 0 1 (c .class) (omega arith) k,
+      l,
+    )
+
+-- Kinds ---------------------------------------------------------------------------------------
+
+pub length-none : (k : ℕ) → (k ≡ 1 → ⊥) → (k ≡ 2 → ⊥) → (k ≡ 3 → ⊥) → (k ≡ 4 → ⊥) → (k ≡ 5 → ⊥) → (k ≡ 6 → ⊥) → lengthOf k ≡ 0
+unfolding lengthOf
+length-none k a b c d e f = rw (ne-eqb k 1 a, ne-eqb k 2 b, ne-eqb k 3 c, ne-eqb k 4 d, ne-eqb k 5 e, ne-eqb k 6 f)
+
+module _ (s : List ℕ) where
+  pub message-order : u16At s 2 ≡ 1 → messageOf s ≡ Order (orderAt s)
+  unfolding messageOf kindField
+  message-order e = rw e
+
+  pub message-two-leg : u16At s 2 ≡ 2 → messageOf s ≡ TwoLeg (twoLegAt s)
+  unfolding messageOf kindField
+  message-two-leg e = rw e
+
+  pub message-cancel : u16At s 2 ≡ 3 → messageOf s ≡ Cancel (u32At s 4)
+  unfolding messageOf kindField
+  message-cancel e = rw e
+
+  pub message-away : u16At s 2 ≡ 4 → messageOf s ≡ Away (u8At s 4) (u32At s 5) (u32At s 9)
+  unfolding messageOf kindField
+  message-away e = rw e
+
+  pub message-status : u16At s 2 ≡ 5 → messageOf s ≡ Status (u8At s 4) (u8At s 5)
+  unfolding messageOf kindField
+  message-status e = rw e
+
+  pub message-sweep : (u16At s 2 ≡ 1 → ⊥) → (u16At s 2 ≡ 2 → ⊥) → (u16At s 2 ≡ 3 → ⊥) → (u16At s 2 ≡ 4 → ⊥) → (u16At s 2 ≡ 5 → ⊥) →
+      messageOf s ≡ Sweep
+  unfolding messageOf kindField
+  message-sweep a b c d e = rw (ne-eqb _ 1 a, ne-eqb _ 2 b, ne-eqb _ 3 c, ne-eqb _ 4 d, ne-eqb _ 5 e)
+
+-- Refusals ------------------------------------------------------------------------------------
+
+or-true : (a : Bool) → (a || true) ≡ true
+or-true true = refl
+or-true false = refl
+
+module _ (s : List ℕ) where
+  pub torn-short : length s < 4 → Refused 1 ≡ decoded s
+  unfolding decoded torn
+  torn-short h = rw (lt-ltb _ _ h)
+
+  pub torn-low : u16At s 0 < 4 → Refused 1 ≡ decoded s
+  unfolding decoded torn lengthField
+  torn-low h = simp (lt-ltb _ _ h, or-true)
+
+  pub torn-high : length s < u16At s 0 → Refused 1 ≡ decoded s
+  unfolding decoded torn lengthField
+  torn-high h = simp (lt-ltb _ _ h, or-true)
+
+  -- the message is whole
+  pub whole : 4 ≤ length s → 4 ≤ u16At s 0 → u16At s 0 ≤ length s → torn s ≡ false
+  unfolding torn lengthField
+  whole a b c = rw (le-ltb _ _ a, le-ltb _ _ b, le-ltb _ _ c)
+
+  pub no-kind : torn s ≡ false → isKind (u16At s 2) ≡ false → Refused 2 ≡ decoded s
+  unfolding decoded kindField
+  no-kind t k = rw (t, k)
+
+  pub no-length : torn s ≡ false → isKind (u16At s 2) ≡ true → (u16At s 0 ≡ lengthOf (u16At s 2) → ⊥) → Refused 3 ≡ decoded s
+  unfolding decoded kindField lengthField isLength
+  no-length t k n = rw (t, k, ne-eqb _ _ n)
+
+  module _ (m : Message) (e : m ≡ messageOf s) (t : torn s ≡ false) (k : isKind (u16At s 2) ≡ true) (n : u16At s 0 ≡ lengthOf (u16At s 2)) where
+    pub no-range : inRange m ≡ false → Refused 4 ≡ decoded s
+    unfolding decoded kindField lengthField isLength
+    no-range h = rw (t, k, eq-eqb _ _ n, ← e, h)
+
+    pub taken : inRange m ≡ true → Taken m ≡ decoded s
+    unfolding decoded kindField lengthField isLength
+    taken h = rw (t, k, eq-eqb _ _ n, ← e, h)

@@ -1,0 +1,7 @@
+pub mod Twos
+pub mod Fields
+pub mod Numbers
+pub mod Decoding
+pub mod Writes
+pub mod Stages
+pub mod Reading

@@ -1,0 +1,62 @@
+use Rattle.rules.specs.Bytes.{framed, bytes}
+use Rattle.rules.specs.Records.{removed, causeNumber, encode}
+use Rattle.wire.proofs.Fields.{byte, cause-small}
+use Rattle.wire.proofs.Writes.{emitted}
+use borrow.Author.Needs.{needs}
+use Rattle.wire.proofs.emit_removed.Statement.{statement}
+use Rattle.wire.proofs.emit_removed.Tie as tie
+
+bytes4-requires : tie.Need-bytes4-requires
+bytes4-requires c κs = search needs
+
+cause-number-requires : tie.Need-cause-number-requires
+cause-number-requires c κs = search needs
+
+array-read-t14 : tie.Need-array-read-t14
+array-read-t14 c = search needs
+
+array-read-t17 : tie.Need-array-read-t17
+array-read-t17 c = search needs
+
+array-read-t20 : tie.Need-array-read-t20
+array-read-t20 c = search needs
+
+array-read-t23 : tie.Need-array-read-t23
+array-read-t23 c = search needs
+
+slice-aggregate-put : tie.Need-slice-aggregate-put
+slice-aggregate-put c = search needs
+
+put-requires : tie.Need-put-requires
+put-requires c κs = search needs
+
+same-length : tie.Need-same-length
+same-length c = search needs
+
+returns : tie.Need-returns
+unfolding encode framed bytes
+returns c =
+    let s = c .before .before .before .before .before .before .before .before in
+    emitted _ _ _ (removed (s .args .id) (s .args .series) (s .args .side) (s .args .cause)) (c .before .before .put .ensures)
+    (rw (
+      c .before .before .before .before .before .cause-number .ensures,
+      c .before .before .before .before .before .before .bytes4 .ensures,
+      byte (s .args .series) (s .fits .series .fits),
+      byte (s .args .side) (s .fits .side .fits),
+      byte (causeNumber (s .args .cause)) (cause-small (s .args .cause)),
+    ))
+
+pub emit-removed-spec : {M : Type 1} → statement M
+emit-removed-spec =
+    tie.close
+    (tie.spec
+    bytes4-requires
+    cause-number-requires
+    array-read-t14
+    array-read-t17
+    array-read-t20
+    array-read-t23
+    slice-aggregate-put
+    put-requires
+    same-length
+    returns)

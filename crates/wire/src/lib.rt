@@ -1,0 +1,636 @@
+// Bytes in, records out: little-endian numbers, messages decoded, records written into a lent slice, the sheet read back.
+use rules::Cause;
+use rules::Complex;
+use rules::Decoded;
+use rules::Message;
+use rules::Regular;
+ghost use mathlib.Core.Path.{_≡_};
+ghost use mathlib.Core.List.{List, [], _∷_, _++_};
+ghost use Prim.Native.Nat.{_+_, _-_, _≤_, _<_};
+ghost use lib.ListN.{length, take, drop, replicate};
+ghost use Rattle.rules.specs.declared.Message.the-variants.{Away, Status};
+ghost use Rattle.rules.specs.Words.{increment, isRegularPrice, isQuantity, isLimit};
+ghost use Rattle.rules.specs.Bytes.{u8At, u16At, u32At, asSigned, bytes, asUnsigned};
+ghost use Rattle.rules.specs.Messages.{lengthOf, orderAt, twoLegAt, messageOf};
+ghost use Rattle.rules.specs.Refusals.{regularInRange, complexInRange, inRange, decoded};
+ghost use Rattle.rules.specs.Records.{answer, trade, pair, generated, removed, crossed, cancelled, causeNumber};
+ghost use Rattle.wire.specs.Seen.{seen, _plus_, _writes_};
+ghost use Rattle.wire.specs.Next.{nextRecord};
+
+// Reading -------------------------------------------------------------------------------------
+
+fn wide16(x: u8) -> u16
+    ensures { λ r. ⌜ (r ≡ x) × (r < 256) ⌝ }
+{
+    x as u16
+}
+
+fn wide32(x: u16) -> u32
+    ensures { λ r. ⌜ (r ≡ x) × (r < 65536) ⌝ }
+{
+    x as u32
+}
+
+// The number at a position, little-endian. A byte past the end of `s` is read as 0.
+pub fn u8_at(s: &[u8], at: usize) -> u8
+    ensures { λ r. ⌜ r ≡ u8At (now (s .entry)) at ⌝ }
+{
+    if at < s.len() { s[at] } else { 0 }
+}
+
+pub fn u16_at(s: &[u8], at: usize) -> u16
+    ensures { λ r. ⌜ r ≡ u16At (now (s .entry)) at ⌝ }
+{
+    if s.len() <= at {
+        return 0;
+    }
+    let low = wide16(u8_at(s, at));
+    let high = wide16(u8_at(s, at + 1));
+    low + 256 * high
+}
+
+pub fn u32_at(s: &[u8], at: usize) -> u32
+    ensures { λ r. ⌜ r ≡ u32At (now (s .entry)) at ⌝ }
+{
+    if s.len() <= at {
+        return 0;
+    }
+    let low = wide32(u16_at(s, at));
+    let high = wide32(u16_at(s, at + 2));
+    low + 65536 * high
+}
+
+// The signed number whose 32 bits, in two's complement, are `x`.
+fn signed(x: u32) -> i32
+    ensures { λ r. ⌜ r ≡ asSigned x ⌝ }
+{
+    if x < 2147483648 {
+        return x as i32;
+    }
+    let back = (4294967295 - x) as i32;
+    -1 - back
+}
+
+pub fn i32_at(s: &[u8], at: usize) -> i32
+    ensures { λ r. ⌜ r ≡ asSigned (u32At (now (s .entry)) at) ⌝ }
+{
+    signed(u32_at(s, at))
+}
+
+// A message -----------------------------------------------------------------------------------
+
+// The length of a kind of message; 0 for what is no kind.
+fn length_of(kind: u16) -> u16
+    ensures { λ r. ⌜ r ≡ lengthOf kind ⌝ }
+{
+    match kind {
+        1 => 18,
+        2 => 21,
+        3 => 8,
+        4 => 13,
+        5 => 6,
+        6 => 4,
+        _ => 0,
+    }
+}
+
+// The increment of a series.
+fn increment_of(series: u8) -> u32
+    ensures { λ r. ⌜ r ≡ increment series ⌝ }
+{
+    if series < 6 { 5 } else { 10 }
+}
+
+fn is_regular_price(step: u32, price: u32) -> bool
+    requires { ⌜ 0 < step ⌝ }
+    ensures { λ r. ⌜ r ≡ isRegularPrice step price ⌝ }
+{
+    if price == 0 {
+        return false;
+    }
+    if 100000 < price {
+        return false;
+    }
+    price % step == 0
+}
+
+fn is_quantity(n: u32) -> bool
+    ensures { λ r. ⌜ r ≡ isQuantity n ⌝ }
+{
+    if n == 0 {
+        return false;
+    }
+    n <= 10000
+}
+
+fn is_limit(n: i32) -> bool
+    ensures { λ r. ⌜ r ≡ isLimit n ⌝ }
+{
+    if n < -200000 {
+        return false;
+    }
+    n <= 200000
+}
+
+// An order's fields are in their ranges, its price a multiple of the increment.
+pub fn regular_in_range(o: Regular) -> bool
+    ensures { λ r. ⌜ r ≡ regularInRange o ⌝ }
+{
+    if o.id == 0 {
+        return false;
+    }
+    if 7 < o.series {
+        return false;
+    }
+    if 1 < o.side {
+        return false;
+    }
+    if !is_regular_price(increment_of(o.series), o.price) {
+        return false;
+    }
+    is_quantity(o.quantity)
+}
+
+// A complex order's fields are in their ranges, its legs in two series.
+pub fn complex_in_range(c: Complex) -> bool
+    ensures { λ r. ⌜ r ≡ complexInRange c ⌝ }
+{
+    if c.id == 0 {
+        return false;
+    }
+    if 7 < c.series1 {
+        return false;
+    }
+    if 1 < c.side1 {
+        return false;
+    }
+    if 7 < c.series2 {
+        return false;
+    }
+    if 1 < c.side2 {
+        return false;
+    }
+    if c.series1 == c.series2 {
+        return false;
+    }
+    if 1 < c.class {
+        return false;
+    }
+    if !is_limit(c.limit) {
+        return false;
+    }
+    is_quantity(c.quantity)
+}
+
+fn away_in_range(series: u8, bid: u32, offer: u32) -> bool
+    ensures { λ r. ⌜ r ≡ inRange (Away series bid offer) ⌝ }
+{
+    if 7 < series {
+        return false;
+    }
+    if 100000 < bid {
+        return false;
+    }
+    offer <= 100000
+}
+
+fn status_in_range(series: u8, status: u8) -> bool
+    ensures { λ r. ⌜ r ≡ inRange (Status series status) ⌝ }
+{
+    if 7 < series {
+        return false;
+    }
+    status <= 2
+}
+
+// Every field of a message is in its range.
+fn in_range(m: Message) -> bool
+    ensures { λ r. ⌜ r ≡ inRange m ⌝ }
+{
+    match m {
+        Message::Order(o) => regular_in_range(o),
+        Message::TwoLeg(c) => complex_in_range(c),
+        Message::Cancel(id) => id != 0,
+        Message::Away(series, bid, offer) => away_in_range(series, bid, offer),
+        Message::Status(series, status) => status_in_range(series, status),
+        Message::Sweep => true,
+    }
+}
+
+fn order_at(s: &[u8]) -> Regular
+    ensures { λ r. ⌜ r ≡ orderAt (now (s .entry)) ⌝ }
+{
+    Regular {
+        id: u32_at(s, 4),
+        series: u8_at(s, 8),
+        side: u8_at(s, 9),
+        price: u32_at(s, 10),
+        quantity: u32_at(s, 14),
+    }
+}
+
+fn two_leg_at(s: &[u8]) -> Complex
+    ensures { λ r. ⌜ r ≡ twoLegAt (now (s .entry)) ⌝ }
+{
+    Complex {
+        id: u32_at(s, 4),
+        series1: u8_at(s, 8),
+        side1: u8_at(s, 9),
+        series2: u8_at(s, 10),
+        side2: u8_at(s, 11),
+        class: u8_at(s, 12),
+        limit: i32_at(s, 13),
+        quantity: u32_at(s, 17),
+    }
+}
+
+// The message at the front of `s`, by its kind.
+fn message_of(s: &[u8]) -> Message
+    ensures { λ r. ⌜ r ≡ messageOf (now (s .entry)) ⌝ }
+{
+    let kind = u16_at(s, 2);
+    if kind == 1 {
+        return Message::Order(order_at(s));
+    }
+    if kind == 2 {
+        return Message::TwoLeg(two_leg_at(s));
+    }
+    if kind == 3 {
+        return Message::Cancel(u32_at(s, 4));
+    }
+    if kind == 4 {
+        return Message::Away(u8_at(s, 4), u32_at(s, 5), u32_at(s, 9));
+    }
+    if kind == 5 {
+        return Message::Status(u8_at(s, 4), u8_at(s, 5));
+    }
+    Message::Sweep
+}
+
+// The message at the front of `s`, or the first of the refusals 1 to 4 that it meets.
+pub fn decode(s: &[u8]) -> Decoded
+    ensures { λ r. ⌜ r ≡ decoded (now (s .entry)) ⌝ }
+{
+    if s.len() < 4 {
+        return Decoded::Refused(1);
+    }
+    let size = u16_at(s, 0);
+    if size < 4 {
+        return Decoded::Refused(1);
+    }
+    if s.len() < size as usize {
+        return Decoded::Refused(1);
+    }
+    let kind = u16_at(s, 2);
+    if kind == 0 {
+        return Decoded::Refused(2);
+    }
+    if 6 < kind {
+        return Decoded::Refused(2);
+    }
+    if size != length_of(kind) {
+        return Decoded::Refused(3);
+    }
+    let m = message_of(s);
+    if !in_range(m) {
+        return Decoded::Refused(4);
+    }
+    Decoded::Taken(m)
+}
+
+// Writing -------------------------------------------------------------------------------------
+
+// The bytes of `src` at `at`, and the position after them. Where they do not fit nothing is written, and the position is past the end.
+pub fn put(out: &mut [u8], at: usize, src: &[u8]) -> usize
+    ensures { λ r. ⌜ seen (now (out .exit)) r ≡ seen (now (out .entry)) at plus now (src .entry) ⌝ }
+{
+    let n = out.len();
+    if n < at {
+        return n + 1;
+    }
+    if n - at < src.len() {
+        return n + 1;
+    }
+    let mut i = 0;
+    while i < src.len() {
+        out[at + i] = src[i];
+        i += 1;
+    }
+    at + src.len()
+}
+
+// The low bytes of a number, lowest first.
+fn bytes2(x: u16) -> [u8; 2]
+    ensures { λ r. ⌜ r ≡ bytes 2 x ⌝ }
+{
+    [(x % 256) as u8, (x / 256 % 256) as u8]
+}
+
+fn bytes4(x: u64) -> [u8; 4]
+    ensures { λ r. ⌜ r ≡ bytes 4 x ⌝ }
+{
+    [
+        (x % 256) as u8,
+        (x / 256 % 256) as u8,
+        (x / 256 / 256 % 256) as u8,
+        (x / 256 / 256 / 256 % 256) as u8,
+    ]
+}
+
+// The number whose low 32 bits are those of `x` in two's complement (0 below -2^32, as the definition has it).
+fn unsigned(x: i64) -> u64
+    ensures { λ r. ⌜ r ≡ asUnsigned x ⌝ }
+{
+    if x < 0 {
+        let back = (-1 - x) as u64;
+        if 4294967295 < back {
+            return 0;
+        }
+        return 4294967295 - back;
+    }
+    x as u64
+}
+
+// The number of a cause.
+pub fn cause_number(c: Cause) -> u8
+    ensures { λ r. ⌜ r ≡ causeNumber c ⌝ }
+{
+    match c {
+        Cause::Worse => 1,
+        Cause::Unpaired => 2,
+        Cause::Executed => 3,
+        Cause::Withdrawn => 4,
+        Cause::OutOfBand => 5,
+        Cause::NotOpen => 6,
+        Cause::Replaced => 7,
+        Cause::Touched => 8,
+    }
+}
+
+// 64: a message's number, its refusal or 0, the legging places filled after it and how many they are.
+pub fn emit_answer(
+    out: &mut [u8],
+    at: usize,
+    number: u32,
+    refusal: u8,
+    mask: u16,
+    count: u8,
+) -> usize
+    ensures { λ r. ⌜ seen (now (out .exit)) r ≡ seen (now (out .entry)) at writes (answer number refusal mask count ∷ []) ⌝ }
+{
+    let n = bytes4(number as u64);
+    let m = bytes2(mask);
+    let record = [
+        12u8,
+        0,
+        64,
+        0,
+        n[0],
+        n[1],
+        n[2],
+        n[3],
+        refusal,
+        m[0],
+        m[1],
+        count,
+    ];
+    put(out, at, &record)
+}
+
+// The answer at `at` set anew, the bytes after its 12 as they were.
+pub fn set_answer(out: &mut [u8], at: usize, number: u32, refusal: u8, mask: u16, count: u8)
+    ensures { λ _. ⌜ now (out .exit) ≡ (seen (now (out .entry)) at writes (answer number refusal mask count ∷ [])) .memory ⌝ }
+{
+    emit_answer(out, at, number, refusal, mask, count);
+}
+
+// 65: a trade, by the taker's side.
+pub fn emit_trade(
+    out: &mut [u8],
+    at: usize,
+    series: u8,
+    side: u8,
+    price: u32,
+    quantity: u32,
+    taker: u32,
+    maker: u32,
+) -> usize
+    ensures { λ r. ⌜ seen (now (out .exit)) r ≡ seen (now (out .entry)) at writes (trade series side price quantity taker maker ∷ []) ⌝ }
+{
+    let p = bytes4(price as u64);
+    let q = bytes4(quantity as u64);
+    let t = bytes4(taker as u64);
+    let m = bytes4(maker as u64);
+    let record = [
+        22u8,
+        0,
+        65,
+        0,
+        series,
+        side,
+        p[0],
+        p[1],
+        p[2],
+        p[3],
+        q[0],
+        q[1],
+        q[2],
+        q[3],
+        t[0],
+        t[1],
+        t[2],
+        t[3],
+        m[0],
+        m[1],
+        m[2],
+        m[3],
+    ];
+    put(out, at, &record)
+}
+
+// 66: pairs of both legs traded, and their net.
+pub fn emit_pair(out: &mut [u8], at: usize, id: u32, net: i64, quantity: u32) -> usize
+    ensures { λ r. ⌜ seen (now (out .exit)) r ≡ seen (now (out .entry)) at writes (pair id net quantity ∷ []) ⌝ }
+{
+    let i = bytes4(id as u64);
+    let n = bytes4(unsigned(net));
+    let q = bytes4(quantity as u64);
+    let record = [
+        16u8,
+        0,
+        66,
+        0,
+        i[0],
+        i[1],
+        i[2],
+        i[3],
+        n[0],
+        n[1],
+        n[2],
+        n[3],
+        q[0],
+        q[1],
+        q[2],
+        q[3],
+    ];
+    put(out, at, &record)
+}
+
+// 67: a legging order made, with its own price and the displayed one.
+pub fn emit_generated(
+    out: &mut [u8],
+    at: usize,
+    id: u32,
+    series: u8,
+    side: u8,
+    price: u32,
+    shown: u32,
+    quantity: u32,
+) -> usize
+    ensures { λ r. ⌜ seen (now (out .exit)) r ≡ seen (now (out .entry)) at writes (generated id series side price shown quantity ∷ []) ⌝ }
+{
+    let i = bytes4(id as u64);
+    let p = bytes4(price as u64);
+    let d = bytes4(shown as u64);
+    let q = bytes4(quantity as u64);
+    let record = [
+        22u8,
+        0,
+        67,
+        0,
+        i[0],
+        i[1],
+        i[2],
+        i[3],
+        series,
+        side,
+        p[0],
+        p[1],
+        p[2],
+        p[3],
+        d[0],
+        d[1],
+        d[2],
+        d[3],
+        q[0],
+        q[1],
+        q[2],
+        q[3],
+    ];
+    put(out, at, &record)
+}
+
+// 68: a legging order gone, and why.
+pub fn emit_removed(out: &mut [u8], at: usize, id: u32, series: u8, side: u8, cause: Cause) -> usize
+    ensures { λ r. ⌜ seen (now (out .exit)) r ≡ seen (now (out .entry)) at writes (removed id series side cause ∷ []) ⌝ }
+{
+    let i = bytes4(id as u64);
+    let why = cause_number(cause);
+    let record = [11u8, 0, 68, 0, i[0], i[1], i[2], i[3], series, side, why];
+    put(out, at, &record)
+}
+
+// 70: two complex orders crossed, at the taker's net.
+pub fn emit_crossed(
+    out: &mut [u8],
+    at: usize,
+    taker: u32,
+    maker: u32,
+    net: i64,
+    quantity: u32,
+) -> usize
+    ensures { λ r. ⌜ seen (now (out .exit)) r ≡ seen (now (out .entry)) at writes (crossed taker maker net quantity ∷ []) ⌝ }
+{
+    let t = bytes4(taker as u64);
+    let m = bytes4(maker as u64);
+    let n = bytes4(unsigned(net));
+    let q = bytes4(quantity as u64);
+    let record = [
+        20u8,
+        0,
+        70,
+        0,
+        t[0],
+        t[1],
+        t[2],
+        t[3],
+        m[0],
+        m[1],
+        m[2],
+        m[3],
+        n[0],
+        n[1],
+        n[2],
+        n[3],
+        q[0],
+        q[1],
+        q[2],
+        q[3],
+    ];
+    put(out, at, &record)
+}
+
+// 71: an order cancelled, and what was open of it.
+pub fn emit_cancelled(out: &mut [u8], at: usize, id: u32, quantity: u32) -> usize
+    ensures { λ r. ⌜ seen (now (out .exit)) r ≡ seen (now (out .entry)) at writes (cancelled id quantity ∷ []) ⌝ }
+{
+    let i = bytes4(id as u64);
+    let q = bytes4(quantity as u64);
+    let record = [
+        12u8,
+        0,
+        71,
+        0,
+        i[0],
+        i[1],
+        i[2],
+        i[3],
+        q[0],
+        q[1],
+        q[2],
+        q[3],
+    ];
+    put(out, at, &record)
+}
+
+// Zeros from `at` on.
+pub fn zero_from(out: &mut [u8], at: usize)
+    ensures { λ _. ⌜ now (out .exit) ≡ take at (now (out .entry)) ++ replicate (length (now (out .entry)) - at) 0 ⌝ }
+{
+    if at < out.len() {
+        let n = out.len() - at;
+        let mut i = 0;
+        while i < n {
+            out[at + i] = 0;
+            i += 1;
+        }
+    }
+}
+
+// The sheet read back -------------------------------------------------------------------------
+
+// What stands at a position of a report memory: a record, by its kind and the position after it, or the end of the sheet.
+pub enum Next {
+    Found(u16, usize),
+    End,
+}
+
+pub fn next_record(memory: &[u8], at: usize) -> Next
+    ensures { λ r. ⌜ r ≡ nextRecord (now (memory .entry)) at ⌝ }
+{
+    let n = memory.len();
+    if n <= at {
+        return Next::End;
+    }
+    let size = u16_at(memory, at);
+    if size == 0 {
+        return Next::End;
+    }
+    let kind = u16_at(memory, at + 2);
+    let room = n - at;
+    let bytes = size as usize;
+    if room < bytes {
+        return Next::Found(kind, n);
+    }
+    Next::Found(kind, at + bytes)
+}
