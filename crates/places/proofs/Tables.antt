@@ -29,6 +29,17 @@ module _ {A : Type 0} where
   upto-same f g i zero h = refl
   upto-same f g i (suc k) h = ap₂ (λ (x : A) (l : List A). x ∷ l) (h i (omega arith) (omega arith)) (upto-same f g (suc i) k (λ j p q. h j (omega arith) (omega arith)))
 
+  -- one more
+  upto-from : (f : ℕ → A) (i k : ℕ) → upto f i (suc k) ≡ upto f i k ++ (f (i + k) ∷ [])
+  unfolding upto
+  upto-from f i zero = let e : i ≡ i + 0 = omega arith in ap (λ (j : ℕ). f j ∷ []) e
+  upto-from f i (suc k) =
+      let e : suc i + k ≡ i + suc k = omega arith in
+      ap (λ (l : List A). f i ∷ l) (upto-from f (suc i) k ∙ ap (λ (j : ℕ). upto f (suc i) k ++ (f j ∷ [])) e)
+
+  pub upto-more : (f : ℕ → A) (k : ℕ) → upto f 0 (suc k) ≡ upto f 0 k ++ (f k ∷ [])
+  upto-more f k = let e : 0 + k ≡ k = omega arith in upto-from f 0 k ∙ ap (λ (j : ℕ). upto f 0 k ++ (f j ∷ [])) e
+
   pub used-length : (f : ℕ → A) (d : A) (n all : ℕ) → n ≤ all → length (inUse f d n all) ≡ all
   unfolding inUse
   used-length f d n all h = length-append (upto f 0 n) (replicate (all - n) d) ∙ omega (arith, upto-length f 0 n, length-replicate (all - n) d)

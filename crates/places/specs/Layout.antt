@@ -9,16 +9,18 @@
 --
 -- What stands in regular and complex places that are not in use means nothing.
 use mathlib.Core.Path.{_≡_}
+use mathlib.Core.Bool.{Bool, true}
 use mathlib.Core.List.{List, [], _∷_, _++_}
 use Prim.Native.Nat.{ℕ, zero, suc, _+_, _-_, _*_, _/_, _%_, _<_, min}
 use lib.IntN.{ℤ, pos, natAbs, _+ℤ_, _-ℤ_}
-use lib.ListN.{getD, replicate}
+use lib.ListN.{length, getD, replicate}
 use Rattle.rules.specs.declared.Regular.{Regular}
 use Rattle.rules.specs.declared.Complex.{Complex}
 use Rattle.rules.specs.declared.Legging.{Legging}
 use Rattle.rules.specs.declared.Listed.{Listed}
 use Rattle.rules.specs.declared.Venue.{Venue}
-use Rattle.rules.specs.Words.{placeOf, noRegular, noComplex}
+use Rattle.rules.specs.Words.{placeOf, noRegular, noComplex, withRegular, withComplex}
+use Rattle.rules.specs.Places.{holdsRegular, holdsComplex, keep, packed, closeGaps}
 
 -- the slice's length
 abbrev pub size : ℕ
@@ -107,3 +109,44 @@ pub record Counts (r c : ℕ) (b : List ℕ) : Type 0 where
 -- as many as before
 abbrev pub SameCounts : (a b : List ℕ) → Type 0
 SameCounts a b = Counts (regularsUsed a) (complexesUsed a) b
+
+-- Gaps ----------------------------------------------------------------------------------------
+
+-- each of the first n places is held
+abbrev pub Filled : {A : Type 0} → (A → Bool) → (ℕ → A) → ℕ → Type 0
+Filled holds f n = (k : ℕ) → k < n → holds (f k) ≡ true
+
+-- every place in use is held
+pub record Dense (b : List ℕ) : Type 0 where
+  pub regulars : Filled holdsRegular (regularIn b) (regularsUsed b)
+  pub complexes : Filled holdsComplex (complexIn b) (complexesUsed b)
+
+-- one book's gaps closed
+unfoldable pub closeRegulars : Venue → Venue
+closeRegulars v = withRegular v (packed holdsRegular noRegular (v .regular))
+
+unfoldable pub closeComplexes : Venue → Venue
+closeComplexes v = withComplex v (packed holdsComplex noComplex (v .complex))
+
+-- the places that a book's closing leaves in use
+abbrev pub regularsHeld : List ℕ → ℕ
+regularsHeld b = length (keep holdsRegular (venueOf b .regular))
+
+abbrev pub complexesHeld : List ℕ → ℕ
+complexesHeld b = length (keep holdsComplex (venueOf b .complex))
+
+-- from a to b the gaps of one book, or of both, are closed
+pub record RegularsClosed (a b : List ℕ) : Type 0 where
+  pub venue : venueOf b ≡ closeRegulars (venueOf a)
+  pub counts : Counts (regularsHeld a) (complexesUsed a) b
+  pub filled : Filled holdsRegular (regularIn b) (regularsUsed b)
+
+pub record ComplexesClosed (a b : List ℕ) : Type 0 where
+  pub venue : venueOf b ≡ closeComplexes (venueOf a)
+  pub counts : Counts (regularsUsed a) (complexesHeld a) b
+  pub filled : Filled holdsComplex (complexIn b) (complexesUsed b)
+
+pub record GapsClosed (a b : List ℕ) : Type 0 where
+  pub venue : venueOf b ≡ closeGaps (venueOf a)
+  pub counts : Counts (regularsHeld a) (complexesHeld a) b
+  pub dense : Dense b

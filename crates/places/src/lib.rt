@@ -8,7 +8,9 @@ ghost use lib.Seq.{sets};
 ghost use Rattle.rules.specs.Words.{placeOf, withSeries, withLast};
 ghost use Rattle.rules.specs.Trading.{fillRegular, fillComplex, putRegular, putComplex};
 ghost use Rattle.rules.specs.Generation.{placed};
+ghost use Rattle.rules.specs.Places.{holdsRegular, holdsComplex};
 ghost use Rattle.places.specs.Layout.{size, regularsUsed, complexesUsed, regularIn, complexIn, leggingIn, listedIn, venueOf, regularRow, limitNumber, complexRow, Kept, Counts, SameCounts};
+ghost use Rattle.places.specs.Layout.{Filled, RegularsClosed, ComplexesClosed, GapsClosed};
 use rules::Complex;
 use rules::Legging;
 use rules::Listed;
@@ -244,4 +246,89 @@ pub fn put_last(b: &mut [u32], id: u32)
     ensures counts { λ _. ⌜ SameCounts (now (b .entry)) (now (b .exit)) ⌝ }
 {
     b[778] = id;
+}
+
+// The regular places before the first free one of n.
+fn held_regulars(b: &[u32], n: usize) -> usize
+    requires { ⌜ (length (now b) ≡ size) × (n ≤ 128) ⌝ }
+    ensures { λ r. ⌜ (r ≤ n) × Filled holdsRegular (regularIn (now (b .entry))) r ⌝ }
+{
+    let mut i: usize = 0;
+    while i < n {
+        if b[4 * i + 3] == 0 {
+            return i;
+        }
+        i += 1;
+    }
+    n
+}
+
+// The regular places' gaps are closed. Where there are none, nothing is stored.
+pub fn close_regulars(b: &mut [u32])
+    requires { ⌜ length (now b) ≡ size ⌝ }
+    ensures { λ _. ⌜ RegularsClosed (now (b .entry)) (now (b .exit)) ⌝ }
+{
+    let n = regulars_used(b);
+    let mut j = held_regulars(b, n);
+    if j == n {
+        return;
+    }
+    let mut i = j;
+    while i < n {
+        let o = regular_at(b, i);
+        i += 1;
+        if o.quantity == 0 {
+            continue;
+        }
+        write_regular(b, j, o);
+        j += 1;
+    }
+    b[776] = j as u32;
+}
+
+// The complex places before the first free one of n.
+fn held_complexes(b: &[u32], n: usize) -> usize
+    requires { ⌜ (length (now b) ≡ size) × (n ≤ 32) ⌝ }
+    ensures { λ r. ⌜ (r ≤ n) × Filled holdsComplex (complexIn (now (b .entry))) r ⌝ }
+{
+    let mut i: usize = 0;
+    while i < n {
+        if b[6 * i + 517] == 0 {
+            return i;
+        }
+        i += 1;
+    }
+    n
+}
+
+// The complex places' gaps are closed. Where there are none, nothing is stored.
+pub fn close_complexes(b: &mut [u32])
+    requires { ⌜ length (now b) ≡ size ⌝ }
+    ensures { λ _. ⌜ ComplexesClosed (now (b .entry)) (now (b .exit)) ⌝ }
+{
+    let n = complexes_used(b);
+    let mut j = held_complexes(b, n);
+    if j == n {
+        return;
+    }
+    let mut i = j;
+    while i < n {
+        let o = complex_at(b, i);
+        i += 1;
+        if o.quantity == 0 {
+            continue;
+        }
+        write_complex(b, j, o);
+        j += 1;
+    }
+    b[777] = j as u32;
+}
+
+// All gaps are closed.
+pub fn close_gaps(b: &mut [u32])
+    requires { ⌜ length (now b) ≡ size ⌝ }
+    ensures { λ _. ⌜ GapsClosed (now (b .entry)) (now (b .exit)) ⌝ }
+{
+    close_regulars(b);
+    close_complexes(b);
 }

@@ -1,0 +1,236 @@
+-- What closing the gaps does to the venue, and that a dense book's first free place is the one after those in use.
+use mathlib.Core.Path.{_≡_, refl, sym, ap, ap₂, _∙_}
+use mathlib.Core.Bool.{Bool, true, false}
+use mathlib.Core.Logic.{_⊎_, inl, inr}
+use mathlib.Core.List.{List}
+use Prim.Native.Nat.{ℕ, _+_, _-_, _*_, _≤_, _<_, _/_, _%_}
+use native.Mathlib.Omega.{arith}
+use lib.IntN.{ℤ, pos, natAbs, _+ℤ_, _-ℤ_, -ℤ-+ℤ-cancel}
+use lib.ListN.{length, set, getD}
+use lib.Seq.{sets, getD-set-same}
+use Rattle.rules.specs.declared.Regular.{Regular}
+use Rattle.rules.specs.declared.Complex.{Complex}
+use Rattle.rules.specs.declared.Venue.{Venue}
+use Rattle.rules.specs.Words.{placeOf, noRegular, noComplex, regularAt, complexAt, withRegular, withComplex}
+use Rattle.rules.specs.Trading.{freeRegular, freeComplex}
+use Rattle.rules.specs.Places.{holdsRegular, holdsComplex, keep, packed, closeGaps}
+use Rattle.places.specs.Layout.{size, inUse, regularsUsed, complexesUsed, regularIn, complexIn, venueOf, regularRow, complexRow, limitNumber, Kept, Counts, Filled, Dense, closeRegulars, closeComplexes, regularsHeld, complexesHeld, RegularsClosed, ComplexesClosed, GapsClosed}
+use Rattle.places.proofs.Parts.{Outside, stored, wider, regulars-few, complexes-few, regular-at, complex-at, regular-kept, complex-kept, count-kept, count-kept2, regulars-kept, complexes-kept, leggings-kept, series-kept, last-kept, venue-is, regulars-counted, complexes-counted}
+use Rattle.places.proofs.Stores.{regular-back, complex-back, counted, counted2}
+use Rattle.places.proofs.Gaps.{Closing, closing-start, closed-count, closed-part, free-place, Moving, moving-start, moving-skip, moving-keep}
+
+-- Rows ----------------------------------------------------------------------------------------
+
+abbrev pub lowRegular : ℕ → ℕ
+lowRegular i = 4 * i
+
+abbrev pub lowComplex : ℕ → ℕ
+lowComplex i = 6 * i + 512
+
+regular-wide : (i : ℕ) (o : Regular) → 4 * i + length (regularRow o) ≡ 4 * (i + 1)
+unfolding regularRow
+regular-wide i o = omega arith
+
+complex-wide : (i : ℕ) (c : Complex) → 6 * i + 512 + length (complexRow c) ≡ 6 * (i + 1) + 512
+unfolding complexRow
+complex-wide i c = omega arith
+
+regular-agree : (a b : List ℕ) (l h i : ℕ) → Outside l h a b → (4 * (i + 1) ≤ l) ⊎ (h ≤ 4 * i) → regularIn a i ≡ regularIn b i
+regular-agree a b l h i o (inl w) = regular-kept o i (inl (omega arith))
+regular-agree a b l h i o (inr w) = regular-kept o i (inr w)
+
+complex-agree : (a b : List ℕ) (l h i : ℕ) → Outside l h a b → (6 * (i + 1) + 512 ≤ l) ⊎ (h ≤ 6 * i + 512) → complexIn a i ≡ complexIn b i
+complex-agree a b l h i o (inl w) = complex-kept o i (inl (omega arith))
+complex-agree a b l h i o (inr w) = complex-kept o i (inr w)
+
+-- what is read may be written
+regular-again : (a c : List ℕ) (i k : ℕ) → length a ≡ size → i < 128 → regularIn (sets a (4 * i) (regularRow (regularIn c k))) i ≡ regularIn c k
+regular-again a c i k e h = regular-back a i (regularIn c k) e h (unfold regularIn in omega arith) (unfold regularIn in omega arith)
+
+complex-keeps : (c : List ℕ) (k : ℕ) → Kept (complexIn c k)
+unfolding complexIn limitNumber
+complex-keeps c k = record {
+  class = omega arith;
+  limit = ap (λ (z : ℤ). pos (natAbs z) -ℤ pos 2147483648) (-ℤ-+ℤ-cancel (pos (getD c (6 * k + 516) 0)) (pos 2147483648));
+}
+
+complex-again : (a c : List ℕ) (i k : ℕ) → length a ≡ size → i < 32 → complexIn (sets a (6 * i + 512) (complexRow (complexIn c k))) i ≡ complexIn c k
+complex-again a c i k e h =
+    complex-back a i (complexIn c k) e h (unfold complexIn in omega arith) (unfold complexIn in omega arith) (unfold complexIn in omega arith) (unfold complexIn in omega arith) (complex-keeps c k)
+
+-- The loops -----------------------------------------------------------------------------------
+
+abbrev pub MovingRegulars : (a b : List ℕ) (n i j : ℕ) → Type 0
+MovingRegulars = Moving holdsRegular lowRegular regularIn
+
+abbrev pub MovingComplexes : (a b : List ℕ) (n i j : ℕ) → Type 0
+MovingComplexes = Moving holdsComplex lowComplex complexIn
+
+pub regulars-start : (a : List ℕ) (n r : ℕ) → length a ≡ size → r ≤ n → Filled holdsRegular (regularIn a) r → MovingRegulars a a n r r
+regulars-start = moving-start holdsRegular 128 lowRegular regularIn regularRow (λ i j h. omega arith) regular-wide regular-agree regular-again
+
+pub complexes-start : (a : List ℕ) (n r : ℕ) → length a ≡ size → r ≤ n → Filled holdsComplex (complexIn a) r → MovingComplexes a a n r r
+complexes-start = moving-start holdsComplex 32 lowComplex complexIn complexRow (λ i j h. omega arith) complex-wide complex-agree complex-again
+
+pub regulars-skip : (a b : List ℕ) (n i j : ℕ) → MovingRegulars a b n i j → i < n → (o : Regular) → o ≡ regularIn b i → holdsRegular o ≡ false → MovingRegulars a b n (i + 1) j
+regulars-skip = moving-skip holdsRegular 128 lowRegular regularIn regularRow (λ i j h. omega arith) regular-wide regular-agree regular-again
+
+pub complexes-skip : (a b : List ℕ) (n i j : ℕ) → MovingComplexes a b n i j → i < n → (o : Complex) → o ≡ complexIn b i → holdsComplex o ≡ false → MovingComplexes a b n (i + 1) j
+complexes-skip = moving-skip holdsComplex 32 lowComplex complexIn complexRow (λ i j h. omega arith) complex-wide complex-agree complex-again
+
+pub regulars-keep : (a b : List ℕ) (n i j : ℕ) → MovingRegulars a b n i j → i < n → (o : Regular) → o ≡ regularIn b i →
+    (b′ : List ℕ) → n ≤ 128 → holdsRegular o ≡ true → b′ ≡ sets b (4 * j) (regularRow o) → MovingRegulars a b′ n (i + 1) (j + 1)
+regulars-keep = moving-keep holdsRegular 128 lowRegular regularIn regularRow (λ i j h. omega arith) regular-wide regular-agree regular-again
+
+pub complexes-keep : (a b : List ℕ) (n i j : ℕ) → MovingComplexes a b n i j → i < n → (o : Complex) → o ≡ complexIn b i →
+    (b′ : List ℕ) → n ≤ 32 → holdsComplex o ≡ true → b′ ≡ sets b (6 * j + 512) (complexRow o) → MovingComplexes a b′ n (i + 1) (j + 1)
+complexes-keep = moving-keep holdsComplex 32 lowComplex complexIn complexRow (λ i j h. omega arith) complex-wide complex-agree complex-again
+
+-- The venue -----------------------------------------------------------------------------------
+
+others-regular : (a b : List ℕ) (l : List Regular) → Outside 0 512 a b → withRegular (venueOf b) l ≡ withRegular (venueOf a) l
+unfolding withRegular
+others-regular a b l o =
+    venue-is (withRegular (venueOf b) l) (withRegular (venueOf a) l) refl (complexes-kept o (inl (omega arith)) (inr (omega arith)))
+    (leggings-kept o (inl (omega arith))) (series-kept o (inl (omega arith))) (last-kept o (inr (omega arith)))
+
+others-complex : (a b : List ℕ) (l : List Complex) → Outside 512 704 a b → withComplex (venueOf b) l ≡ withComplex (venueOf a) l
+unfolding withComplex
+others-complex a b l o =
+    venue-is (withComplex (venueOf b) l) (withComplex (venueOf a) l) (regulars-kept o (omega arith) (inr (omega arith))) refl
+    (leggings-kept o (inl (omega arith))) (series-kept o (inl (omega arith))) (last-kept o (inr (omega arith)))
+
+-- no gap
+regulars-same : (a : List ℕ) → Filled holdsRegular (regularIn a) (regularsUsed a) → RegularsClosed a a
+unfolding closeRegulars withRegular venueOf
+regulars-same a full =
+    let n = regularsUsed a in
+    let p = closing-start holdsRegular n (regularIn a) n (omega arith) full in
+    record {
+      venue = venue-is (venueOf a) (closeRegulars (venueOf a)) (closed-part holdsRegular noRegular refl n 128 (regularIn a) (regularIn a) n p (regulars-few a)) refl refl refl refl;
+      counts = record { regulars = sym (closed-count holdsRegular noRegular refl n 128 (regularIn a) (regularIn a) n p (regulars-few a)); complexes = refl };
+      filled = full;
+    }
+
+complexes-same : (a : List ℕ) → Filled holdsComplex (complexIn a) (complexesUsed a) → ComplexesClosed a a
+unfolding closeComplexes withComplex venueOf
+complexes-same a full =
+    let n = complexesUsed a in
+    let p = closing-start holdsComplex n (complexIn a) n (omega arith) full in
+    record {
+      venue = venue-is (venueOf a) (closeComplexes (venueOf a)) refl (closed-part holdsComplex noComplex refl n 32 (complexIn a) (complexIn a) n p (complexes-few a)) refl refl refl;
+      counts = record { regulars = refl; complexes = sym (closed-count holdsComplex noComplex refl n 32 (complexIn a) (complexIn a) n p (complexes-few a)) };
+      filled = full;
+    }
+
+module _ (a b : List ℕ) (j : ℕ) where
+  -- the loop is done, and the count is set
+  regulars-closed : MovingRegulars a b (regularsUsed a) (regularsUsed a) j → RegularsClosed a (set b 776 j)
+  regulars-closed m = record {
+    venue = regulars-counted (stored b 776 j)
+        ∙ ap (λ (k : ℕ). withRegular (venueOf b) (inUse (regularIn b) noRegular k 128)) used
+        ∙ ap (λ (l : List Regular). withRegular (venueOf b) l) part
+        ∙ others-regular a b _ near
+        ∙ (unfold closeRegulars in refl);
+    counts = record {
+      regulars = used ∙ sym count;
+      complexes = count-kept2 (stored b 776 j) (inr (omega arith)) ∙ count-kept2 near (inr (omega arith));
+    };
+    filled = λ k w. ap holdsRegular (sym (regular-kept (stored b 776 j) k (inl (let z = regulars-few (set b 776 j) in omega arith)))) ∙ m .places .full k (let e = used in omega arith);
+  }
+    where
+      few : regularsUsed a ≤ 128
+      few = regulars-few a
+
+      near : Outside 0 512 a b
+      near = wider (omega arith) (let z = few in omega arith) (m .outside)
+
+      used : regularsUsed (set b 776 j) ≡ j
+      used = counted (set b 776 j) j (getD-set-same b 776 j 0 (let z = m .long in omega arith)) (let z = few in let y = m .places .fewer in omega arith)
+
+      part : inUse (regularIn b) noRegular j 128 ≡ packed holdsRegular noRegular (venueOf a .regular)
+      part = unfold venueOf in closed-part holdsRegular noRegular refl (regularsUsed a) 128 (regularIn a) (regularIn b) j (m .places) few
+
+      count : regularsHeld a ≡ j
+      count = unfold venueOf in closed-count holdsRegular noRegular refl (regularsUsed a) 128 (regularIn a) (regularIn b) j (m .places) few
+
+  complexes-closed : MovingComplexes a b (complexesUsed a) (complexesUsed a) j → ComplexesClosed a (set b 777 j)
+  complexes-closed m = record {
+    venue = complexes-counted (stored b 777 j)
+        ∙ ap (λ (k : ℕ). withComplex (venueOf b) (inUse (complexIn b) noComplex k 32)) used
+        ∙ ap (λ (l : List Complex). withComplex (venueOf b) l) part
+        ∙ others-complex a b _ near
+        ∙ (unfold closeComplexes in refl);
+    counts = record {
+      regulars = count-kept (stored b 777 j) (inl (omega arith)) ∙ count-kept near (inr (omega arith));
+      complexes = used ∙ sym count;
+    };
+    filled = λ k w. ap holdsComplex (sym (complex-kept (stored b 777 j) k (inl (let z = complexes-few (set b 777 j) in omega arith)))) ∙ m .places .full k (let e = used in omega arith);
+  }
+    where
+      few : complexesUsed a ≤ 32
+      few = complexes-few a
+
+      near : Outside 512 704 a b
+      near = wider (omega arith) (let z = few in omega arith) (m .outside)
+
+      used : complexesUsed (set b 777 j) ≡ j
+      used = counted2 (set b 777 j) j (getD-set-same b 777 j 0 (let z = m .long in omega arith)) (let z = few in let y = m .places .fewer in omega arith)
+
+      part : inUse (complexIn b) noComplex j 32 ≡ packed holdsComplex noComplex (venueOf a .complex)
+      part = unfold venueOf in closed-part holdsComplex noComplex refl (complexesUsed a) 32 (complexIn a) (complexIn b) j (m .places) few
+
+      count : complexesHeld a ≡ j
+      count = unfold venueOf in closed-count holdsComplex noComplex refl (complexesUsed a) 32 (complexIn a) (complexIn b) j (m .places) few
+
+pub regulars-whole : (a : List ℕ) (n r : ℕ) → n ≡ regularsUsed a → r ≡ n → Filled holdsRegular (regularIn a) r → RegularsClosed a a
+regulars-whole a n r e h full = regulars-same a (λ k w. full k (omega arith))
+
+pub regulars-end : (a b : List ℕ) (n i j : ℕ) → n ≡ regularsUsed a → n ≤ i → MovingRegulars a b n i j → RegularsClosed a (set b 776 j)
+regulars-end a b n i j e h m =
+    let q = m .places .read in
+    let z : i ≡ n = omega arith in
+    regulars-closed a b j (rw (z, e) at m)
+
+pub complexes-whole : (a : List ℕ) (n r : ℕ) → n ≡ complexesUsed a → r ≡ n → Filled holdsComplex (complexIn a) r → ComplexesClosed a a
+complexes-whole a n r e h full = complexes-same a (λ k w. full k (omega arith))
+
+pub complexes-end : (a b : List ℕ) (n i j : ℕ) → n ≡ complexesUsed a → n ≤ i → MovingComplexes a b n i j → ComplexesClosed a (set b 777 j)
+complexes-end a b n i j e h m =
+    let q = m .places .read in
+    let z : i ≡ n = omega arith in
+    complexes-closed a b j (rw (z, e) at m)
+
+-- Both books ----------------------------------------------------------------------------------
+
+same-at : (a b : List ℕ) → venueOf b .regular ≡ venueOf a .regular → (k : ℕ) → regularAt (venueOf b) k ≡ regularAt (venueOf a) k
+unfolding regularAt
+same-at a b p k = ap (λ (l : List Regular). getD l k noRegular) p
+
+-- held places stay held where the book is the same
+regulars-filled : (a b : List ℕ) → venueOf b .regular ≡ venueOf a .regular → regularsUsed b ≡ regularsUsed a →
+    Filled holdsRegular (regularIn a) (regularsUsed a) → Filled holdsRegular (regularIn b) (regularsUsed b)
+regulars-filled a b p e full = λ k w. ap holdsRegular (sym (regular-at b k w) ∙ same-at a b p k ∙ regular-at a k (omega arith)) ∙ full k (omega arith)
+
+pub both-closed : (a b c : List ℕ) → RegularsClosed a b → ComplexesClosed b c → GapsClosed a c
+unfolding closeGaps closeRegulars closeComplexes withRegular withComplex
+both-closed a b c r s = record {
+  venue = s .venue ∙ ap closeComplexes (r .venue);
+  counts = record {
+    regulars = s .counts .regulars ∙ r .counts .regulars;
+    complexes = s .counts .complexes ∙ ap (λ (v : Venue). length (keep holdsComplex (v .complex))) (r .venue);
+  };
+  dense = record {
+    regulars = regulars-filled b c (ap (λ (v : Venue). v .regular) (s .venue)) (s .counts .regulars) (r .filled);
+    complexes = s .filled;
+  };
+}
+
+-- a dense book's first free place
+pub dense-regular : (b : List ℕ) → Dense b → freeRegular (venueOf b) ≡ regularsUsed b
+unfolding freeRegular venueOf
+dense-regular b d = free-place holdsRegular noRegular refl (regularIn b) (regularsUsed b) 128 (d .regulars)
+
+pub dense-complex : (b : List ℕ) → Dense b → freeComplex (venueOf b) ≡ complexesUsed b
+unfolding freeComplex venueOf
+dense-complex b d = free-place holdsComplex noComplex refl (complexIn b) (complexesUsed b) 32 (d .complexes)
