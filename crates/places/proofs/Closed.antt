@@ -1,23 +1,23 @@
 -- What closing the gaps does to the venue, and that a dense book's first free place is the one after those in use.
-use mathlib.Core.Path.{_≡_, refl, sym, ap, ap₂, _∙_}
-use mathlib.Core.Bool.{Bool, true, false}
+use mathlib.Core.Path.{_≡_, refl, sym, ap, _∙_}
+use mathlib.Core.Bool.{true, false}
 use mathlib.Core.Logic.{_⊎_, inl, inr}
 use mathlib.Core.List.{List}
-use Prim.Native.Nat.{ℕ, _+_, _-_, _*_, _≤_, _<_, _/_, _%_}
+use Prim.Native.Nat.{ℕ, _+_, _*_, _≤_, _<_}
 use native.Mathlib.Omega.{arith}
-use lib.IntN.{ℤ, pos, natAbs, _+ℤ_, _-ℤ_, -ℤ-+ℤ-cancel}
+use lib.IntN.{ℤ, pos, natAbs, _-ℤ_, -ℤ-+ℤ-cancel}
 use lib.ListN.{length, set, getD}
 use lib.Seq.{sets, getD-set-same}
 use Rattle.rules.specs.declared.Regular.{Regular}
 use Rattle.rules.specs.declared.Complex.{Complex}
 use Rattle.rules.specs.declared.Venue.{Venue}
-use Rattle.rules.specs.Words.{placeOf, noRegular, noComplex, regularAt, complexAt, withRegular, withComplex}
+use Rattle.rules.specs.Words.{noRegular, noComplex, regularAt, complexAt, withRegular, withComplex}
 use Rattle.rules.specs.Trading.{freeRegular, freeComplex}
-use Rattle.rules.specs.Places.{holdsRegular, holdsComplex, keep, packed, closeGaps}
-use Rattle.places.specs.Layout.{size, inUse, regularsUsed, complexesUsed, regularIn, complexIn, venueOf, regularRow, complexRow, limitNumber, Kept, Counts, Filled, Dense, closeRegulars, closeComplexes, regularsHeld, complexesHeld, RegularsClosed, ComplexesClosed, GapsClosed}
+use Rattle.rules.specs.Places.{holdsRegular, holdsComplex, keep, closeGaps}
+use Rattle.places.specs.Layout.{size, inUse, regularsUsed, complexesUsed, regularIn, complexIn, venueOf, regularRow, complexRow, limitNumber, Kept, Counts, SameCounts, Filled, Dense, closeRegulars, closeComplexes, RegularsClosed, ComplexesClosed, GapsClosed}
 use Rattle.places.proofs.Parts.{Outside, stored, wider, regulars-few, complexes-few, regular-at, complex-at, regular-kept, complex-kept, count-kept, count-kept2, regulars-kept, complexes-kept, leggings-kept, series-kept, last-kept, venue-is, regulars-counted, complexes-counted}
 use Rattle.places.proofs.Stores.{regular-back, complex-back, counted, counted2}
-use Rattle.places.proofs.Gaps.{Closing, closing-start, closed-count, closed-part, free-place, Moving, moving-start, moving-skip, moving-keep}
+use Rattle.places.proofs.Gaps.{closing-start, closed-count, closed-part, free-place, Moving, moving-start, moving-skip, moving-keep}
 
 -- Rows ----------------------------------------------------------------------------------------
 
@@ -27,19 +27,19 @@ lowRegular i = 4 * i
 abbrev pub lowComplex : ℕ → ℕ
 lowComplex i = 6 * i + 512
 
-regular-wide : (i : ℕ) (o : Regular) → 4 * i + length (regularRow o) ≡ 4 * (i + 1)
+pub regular-wide : (i : ℕ) (o : Regular) → 4 * i + length (regularRow o) ≡ 4 * (i + 1)
 unfolding regularRow
 regular-wide i o = omega arith
 
-complex-wide : (i : ℕ) (c : Complex) → 6 * i + 512 + length (complexRow c) ≡ 6 * (i + 1) + 512
+pub complex-wide : (i : ℕ) (c : Complex) → 6 * i + 512 + length (complexRow c) ≡ 6 * (i + 1) + 512
 unfolding complexRow
 complex-wide i c = omega arith
 
-regular-agree : (a b : List ℕ) (l h i : ℕ) → Outside l h a b → (4 * (i + 1) ≤ l) ⊎ (h ≤ 4 * i) → regularIn a i ≡ regularIn b i
+pub regular-agree : (a b : List ℕ) (l h i : ℕ) → Outside l h a b → (4 * (i + 1) ≤ l) ⊎ (h ≤ 4 * i) → regularIn a i ≡ regularIn b i
 regular-agree a b l h i o (inl w) = regular-kept o i (inl (omega arith))
 regular-agree a b l h i o (inr w) = regular-kept o i (inr w)
 
-complex-agree : (a b : List ℕ) (l h i : ℕ) → Outside l h a b → (6 * (i + 1) + 512 ≤ l) ⊎ (h ≤ 6 * i + 512) → complexIn a i ≡ complexIn b i
+pub complex-agree : (a b : List ℕ) (l h i : ℕ) → Outside l h a b → (6 * (i + 1) + 512 ≤ l) ⊎ (h ≤ 6 * i + 512) → complexIn a i ≡ complexIn b i
 complex-agree a b l h i o (inl w) = complex-kept o i (inl (omega arith))
 complex-agree a b l h i o (inr w) = complex-kept o i (inr w)
 
@@ -123,65 +123,83 @@ complexes-same a full =
       filled = full;
     }
 
-module _ (a b : List ℕ) (j : ℕ) where
-  -- the loop is done, and the count is set
-  regulars-closed : MovingRegulars a b (regularsUsed a) (regularsUsed a) j → RegularsClosed a (set b 776 j)
-  regulars-closed m = record {
-    venue = regulars-counted (stored b 776 j)
-        ∙ ap (λ (k : ℕ). withRegular (venueOf b) (inUse (regularIn b) noRegular k 128)) used
-        ∙ ap (λ (l : List Regular). withRegular (venueOf b) l) part
-        ∙ others-regular a b _ near
-        ∙ (unfold closeRegulars in refl);
-    counts = record {
-      regulars = used ∙ sym count;
-      complexes = count-kept2 (stored b 776 j) (inr (omega arith)) ∙ count-kept2 near (inr (omega arith));
-    };
-    filled = λ k w. ap holdsRegular (sym (regular-kept (stored b 776 j) k (inl (let z = regulars-few (set b 776 j) in omega arith)))) ∙ m .places .full k (let e = used in omega arith);
-  }
-    where
-      few : regularsUsed a ≤ 128
-      few = regulars-few a
+-- the book becomes l, of which j places are in use
+pub record RegularsSet (a : List ℕ) (l : List Regular) (j : ℕ) (c : List ℕ) : Type 0 where
+  pub venue : venueOf c ≡ withRegular (venueOf a) l
+  pub counts : Counts j (complexesUsed a) c
+  pub filled : Filled holdsRegular (regularIn c) (regularsUsed c)
 
-      near : Outside 0 512 a b
-      near = wider (omega arith) (let z = few in omega arith) (m .outside)
+pub regulars-set : (a b : List ℕ) (l : List Regular) (j : ℕ) → length b ≡ size → j ≤ 128 → Outside 0 512 a b →
+    inUse (regularIn b) noRegular j 128 ≡ l → Filled holdsRegular (regularIn b) j → RegularsSet a l j (set b 776 j)
+regulars-set a b l j long few near part full = record {
+  venue = regulars-counted (stored b 776 j)
+      ∙ ap (λ (k : ℕ). withRegular (venueOf b) (inUse (regularIn b) noRegular k 128)) used
+      ∙ ap (λ (x : List Regular). withRegular (venueOf b) x) part
+      ∙ others-regular a b l near;
+  counts = record {
+    regulars = used;
+    complexes = count-kept2 (stored b 776 j) (inr (omega arith)) ∙ count-kept2 near (inr (omega arith));
+  };
+  filled = λ k w. ap holdsRegular (sym (regular-kept (stored b 776 j) k (inl (let z = regulars-few (set b 776 j) in omega arith)))) ∙ full k (let e = used in omega arith);
+}
+  where
+    used : regularsUsed (set b 776 j) ≡ j
+    used = counted (set b 776 j) j (getD-set-same b 776 j 0 (omega arith)) few
 
-      used : regularsUsed (set b 776 j) ≡ j
-      used = counted (set b 776 j) j (getD-set-same b 776 j 0 (let z = m .long in omega arith)) (let z = few in let y = m .places .fewer in omega arith)
+regulars-closed : (a b : List ℕ) (j : ℕ) → MovingRegulars a b (regularsUsed a) (regularsUsed a) j → RegularsClosed a (set b 776 j)
+unfolding closeRegulars venueOf
+regulars-closed a b j m =
+    let few = regulars-few a in
+    let fewer = m .places .fewer in
+    let s = regulars-set a b _ j (m .long) (omega arith) (wider (omega arith) (omega arith) (m .outside))
+    (closed-part holdsRegular noRegular refl (regularsUsed a) 128 (regularIn a) (regularIn b) j (m .places) few) (m .places .full) in
+    record {
+      venue = s .venue;
+      counts = record {
+        regulars = s .counts .regulars ∙ sym (closed-count holdsRegular noRegular refl (regularsUsed a) 128 (regularIn a) (regularIn b) j (m .places) few);
+        complexes = s .counts .complexes;
+      };
+      filled = s .filled;
+    }
 
-      part : inUse (regularIn b) noRegular j 128 ≡ packed holdsRegular noRegular (venueOf a .regular)
-      part = unfold venueOf in closed-part holdsRegular noRegular refl (regularsUsed a) 128 (regularIn a) (regularIn b) j (m .places) few
+-- the book becomes l, of which j places are in use
+pub record ComplexesSet (a : List ℕ) (l : List Complex) (j : ℕ) (c : List ℕ) : Type 0 where
+  pub venue : venueOf c ≡ withComplex (venueOf a) l
+  pub counts : Counts (regularsUsed a) j c
+  pub filled : Filled holdsComplex (complexIn c) (complexesUsed c)
 
-      count : regularsHeld a ≡ j
-      count = unfold venueOf in closed-count holdsRegular noRegular refl (regularsUsed a) 128 (regularIn a) (regularIn b) j (m .places) few
+pub complexes-set : (a b : List ℕ) (l : List Complex) (j : ℕ) → length b ≡ size → j ≤ 32 → Outside 512 704 a b →
+    inUse (complexIn b) noComplex j 32 ≡ l → Filled holdsComplex (complexIn b) j → ComplexesSet a l j (set b 777 j)
+complexes-set a b l j long few near part full = record {
+  venue = complexes-counted (stored b 777 j)
+      ∙ ap (λ (k : ℕ). withComplex (venueOf b) (inUse (complexIn b) noComplex k 32)) used
+      ∙ ap (λ (x : List Complex). withComplex (venueOf b) x) part
+      ∙ others-complex a b l near;
+  counts = record {
+    complexes = used;
+    regulars = count-kept (stored b 777 j) (inl (omega arith)) ∙ count-kept near (inr (omega arith));
+  };
+  filled = λ k w. ap holdsComplex (sym (complex-kept (stored b 777 j) k (inl (let z = complexes-few (set b 777 j) in omega arith)))) ∙ full k (let e = used in omega arith);
+}
+  where
+    used : complexesUsed (set b 777 j) ≡ j
+    used = counted2 (set b 777 j) j (getD-set-same b 777 j 0 (omega arith)) few
 
-  complexes-closed : MovingComplexes a b (complexesUsed a) (complexesUsed a) j → ComplexesClosed a (set b 777 j)
-  complexes-closed m = record {
-    venue = complexes-counted (stored b 777 j)
-        ∙ ap (λ (k : ℕ). withComplex (venueOf b) (inUse (complexIn b) noComplex k 32)) used
-        ∙ ap (λ (l : List Complex). withComplex (venueOf b) l) part
-        ∙ others-complex a b _ near
-        ∙ (unfold closeComplexes in refl);
-    counts = record {
-      regulars = count-kept (stored b 777 j) (inl (omega arith)) ∙ count-kept near (inr (omega arith));
-      complexes = used ∙ sym count;
-    };
-    filled = λ k w. ap holdsComplex (sym (complex-kept (stored b 777 j) k (inl (let z = complexes-few (set b 777 j) in omega arith)))) ∙ m .places .full k (let e = used in omega arith);
-  }
-    where
-      few : complexesUsed a ≤ 32
-      few = complexes-few a
-
-      near : Outside 512 704 a b
-      near = wider (omega arith) (let z = few in omega arith) (m .outside)
-
-      used : complexesUsed (set b 777 j) ≡ j
-      used = counted2 (set b 777 j) j (getD-set-same b 777 j 0 (let z = m .long in omega arith)) (let z = few in let y = m .places .fewer in omega arith)
-
-      part : inUse (complexIn b) noComplex j 32 ≡ packed holdsComplex noComplex (venueOf a .complex)
-      part = unfold venueOf in closed-part holdsComplex noComplex refl (complexesUsed a) 32 (complexIn a) (complexIn b) j (m .places) few
-
-      count : complexesHeld a ≡ j
-      count = unfold venueOf in closed-count holdsComplex noComplex refl (complexesUsed a) 32 (complexIn a) (complexIn b) j (m .places) few
+complexes-closed : (a b : List ℕ) (j : ℕ) → MovingComplexes a b (complexesUsed a) (complexesUsed a) j → ComplexesClosed a (set b 777 j)
+unfolding closeComplexes venueOf
+complexes-closed a b j m =
+    let few = complexes-few a in
+    let fewer = m .places .fewer in
+    let s = complexes-set a b _ j (m .long) (omega arith) (wider (omega arith) (omega arith) (m .outside))
+    (closed-part holdsComplex noComplex refl (complexesUsed a) 32 (complexIn a) (complexIn b) j (m .places) few) (m .places .full) in
+    record {
+      venue = s .venue;
+      counts = record {
+        complexes = s .counts .complexes ∙ sym (closed-count holdsComplex noComplex refl (complexesUsed a) 32 (complexIn a) (complexIn b) j (m .places) few);
+        regulars = s .counts .regulars;
+      };
+      filled = s .filled;
+    }
 
 pub regulars-whole : (a : List ℕ) (n r : ℕ) → n ≡ regularsUsed a → r ≡ n → Filled holdsRegular (regularIn a) r → RegularsClosed a a
 regulars-whole a n r e h full = regulars-same a (λ k w. full k (omega arith))
@@ -208,9 +226,24 @@ unfolding regularAt
 same-at a b p k = ap (λ (l : List Regular). getD l k noRegular) p
 
 -- held places stay held where the book is the same
-regulars-filled : (a b : List ℕ) → venueOf b .regular ≡ venueOf a .regular → regularsUsed b ≡ regularsUsed a →
+pub regulars-filled : (a b : List ℕ) → venueOf b .regular ≡ venueOf a .regular → regularsUsed b ≡ regularsUsed a →
     Filled holdsRegular (regularIn a) (regularsUsed a) → Filled holdsRegular (regularIn b) (regularsUsed b)
 regulars-filled a b p e full = λ k w. ap holdsRegular (sym (regular-at b k w) ∙ same-at a b p k ∙ regular-at a k (omega arith)) ∙ full k (omega arith)
+
+complex-same : (a b : List ℕ) → venueOf b .complex ≡ venueOf a .complex → (k : ℕ) → complexAt (venueOf b) k ≡ complexAt (venueOf a) k
+unfolding complexAt
+complex-same a b p k = ap (λ (l : List Complex). getD l k noComplex) p
+
+complexes-filled : (a b : List ℕ) → venueOf b .complex ≡ venueOf a .complex → complexesUsed b ≡ complexesUsed a →
+    Filled holdsComplex (complexIn a) (complexesUsed a) → Filled holdsComplex (complexIn b) (complexesUsed b)
+complexes-filled a b p e full = λ k w. ap holdsComplex (sym (complex-at b k w) ∙ complex-same a b p k ∙ complex-at a k (omega arith)) ∙ full k (omega arith)
+
+-- what changes neither book leaves it dense
+pub dense-kept : (a b : List ℕ) → venueOf b .regular ≡ venueOf a .regular → venueOf b .complex ≡ venueOf a .complex → SameCounts a b → Dense a → Dense b
+dense-kept a b p q n d = record {
+  regulars = regulars-filled a b p (n .regulars) (d .regulars);
+  complexes = complexes-filled a b q (n .complexes) (d .complexes);
+}
 
 pub both-closed : (a b c : List ℕ) → RegularsClosed a b → ComplexesClosed b c → GapsClosed a c
 unfolding closeGaps closeRegulars closeComplexes withRegular withComplex

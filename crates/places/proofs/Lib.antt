@@ -4,3 +4,4 @@ pub mod Limits
 pub mod Stores
 pub mod Gaps
 pub mod Closed
+pub mod Loaded

@@ -1,11 +1,10 @@
 -- Each store of the code, as what it does to the venue.
 use mathlib.Core.Path.{_≡_, refl, sym, ap, ap₂, _∙_}
 use mathlib.Core.List.{List, [], _∷_}
-use Prim.Native.Nat.{ℕ, zero, suc, _+_, _-_, _*_, _≤_, _<_, _/_, _%_, min}
+use Prim.Native.Nat.{ℕ, zero, suc, _+_, _-_, _*_, _≤_, _<_, _/_, _%_}
 use native.Mathlib.Omega.{arith}
 use native.Mathlib.Nat.{add-zero}
 use mathlib.Core.Logic.{inl, inr}
-use lib.IntN.{pos, _-ℤ_}
 use lib.ListN.{length, getD, set, length-set}
 use lib.Seq.{sets, getD-set-same, getD-set-other}
 use Rattle.rules.specs.declared.Regular.{Regular}
@@ -13,7 +12,7 @@ use Rattle.rules.specs.declared.Complex.{Complex}
 use Rattle.rules.specs.declared.Legging.{Legging}
 use Rattle.rules.specs.declared.Listed.{Listed}
 use Rattle.rules.specs.declared.Venue.{Venue}
-use Rattle.rules.specs.Words.{placeOf, noRegular, noComplex, regularAt, complexAt, withRegular, withComplex, withLegging, withSeries, withLast}
+use Rattle.rules.specs.Words.{placeOf, noRegular, noComplex, withRegular, withComplex, withLegging, withSeries, withLast}
 use Rattle.rules.specs.Trading.{lessRegular, lessComplex, fillRegular, fillComplex, putRegular, putComplex}
 use Rattle.rules.specs.Generation.{placed}
 use Rattle.places.specs.Layout.{size, inUse, regularsUsed, complexesUsed, regularIn, complexIn, leggingIn, listedIn, venueOf, regularRow, limitNumber, complexRow, Kept, Counts}

@@ -9,7 +9,7 @@
 --
 -- What stands in regular and complex places that are not in use means nothing.
 use mathlib.Core.Path.{_≡_}
-use mathlib.Core.Bool.{Bool, true}
+use mathlib.Core.Bool.{Bool, true, false}
 use mathlib.Core.List.{List, [], _∷_, _++_}
 use Prim.Native.Nat.{ℕ, zero, suc, _+_, _-_, _*_, _/_, _%_, _<_, min}
 use lib.IntN.{ℤ, pos, natAbs, _+ℤ_, _-ℤ_}
@@ -149,4 +149,44 @@ pub record ComplexesClosed (a b : List ℕ) : Type 0 where
 pub record GapsClosed (a b : List ℕ) : Type 0 where
   pub venue : venueOf b ≡ closeGaps (venueOf a)
   pub counts : Counts (regularsHeld a) (complexesHeld a) b
+  pub dense : Dense b
+
+-- A venue's places, loaded --------------------------------------------------------------------
+
+-- held places first, each as asked, and free places as none
+pub record Placed {A : Type 0} (holds : A → Bool) (none : A) (Asked : A → Type 0) (l : List A) : Type 0 where
+  pub dense : (i j : ℕ) → i < j → holds (getD l j none) ≡ true → holds (getD l i none) ≡ true
+  pub blank : (i : ℕ) → holds (getD l i none) ≡ false → getD l i none ≡ none
+  pub asked : (i : ℕ) → holds (getD l i none) ≡ true → Asked (getD l i none)
+
+-- a series and a side
+pub record OnSide (s d : ℕ) : Type 0 where
+  pub series : s < 8
+  pub side : d < 2
+
+abbrev pub RegularsPlaced : List Regular → Type 0
+RegularsPlaced = Placed holdsRegular noRegular (λ o. OnSide (o .series) (o .side))
+
+abbrev pub ComplexesPlaced : List Complex → Type 0
+ComplexesPlaced = Placed holdsComplex noComplex (λ c. OnSide (c .series1) (c .side1) × OnSide (c .series2) (c .side2))
+
+-- what a load asks of a venue; a sound one has it (proofs/Loaded.antt)
+pub record Loadable (v : Venue) : Type 0 where
+  pub regulars : RegularsPlaced (v .regular)
+  pub complexes : ComplexesPlaced (v .complex)
+
+-- from a to b one book becomes l, and is dense
+pub record RegularsLoaded (a : List ℕ) (l : List Regular) (b : List ℕ) : Type 0 where
+  pub venue : venueOf b ≡ withRegular (venueOf a) l
+  pub complexes : complexesUsed b ≡ complexesUsed a
+  pub filled : Filled holdsRegular (regularIn b) (regularsUsed b)
+
+pub record ComplexesLoaded (a : List ℕ) (l : List Complex) (b : List ℕ) : Type 0 where
+  pub venue : venueOf b ≡ withComplex (venueOf a) l
+  pub regulars : regularsUsed b ≡ regularsUsed a
+  pub filled : Filled holdsComplex (complexIn b) (complexesUsed b)
+
+-- b stands for v, and is dense
+pub record Loaded (v : Venue) (b : List ℕ) : Type 0 where
+  pub venue : venueOf b ≡ v
   pub dense : Dense b
