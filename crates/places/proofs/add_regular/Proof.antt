@@ -1,0 +1,40 @@
+-- `places::add_regular` meets its contract.
+use Rattle.places.proofs.Stores.{added-regular}
+use borrow.Author.Needs.{needs}
+use Rattle.places.proofs.add_regular.Statement.{statement}
+use Rattle.places.proofs.add_regular.Tie as tie
+
+regulars-used-requires : tie.Need-regulars-used-requires
+regulars-used-requires c κs = search needs
+
+write-regular-requires : tie.Need-write-regular-requires
+write-regular-requires c κs = search needs
+
+add-b : tie.Need-add-b
+add-b c = search needs
+
+cast-b : tie.Need-cast-b
+cast-b c = search needs
+
+slice-write-b : tie.Need-slice-write-b
+slice-write-b c = search needs
+
+same-length : tie.Need-same-length
+same-length c = search needs
+
+returns : tie.Need-returns
+returns c = let s = c .before .before .before .before .before .before .before in
+    added-regular (s .args .b .now) _ _ (s .args .o) (s .pre .0) (s .pre .1) (s .pre .2) (s .pre .3)
+    (c .before .before .before .before .regulars-used .ensures .0) (c .before .before .write-regular .ensures)
+
+pub add-regular-spec : {M : Type 1} → statement M
+add-regular-spec =
+    tie.close
+    (tie.spec
+    regulars-used-requires
+    write-regular-requires
+    add-b
+    cast-b
+    slice-write-b
+    same-length
+    returns)

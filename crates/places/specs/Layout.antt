@@ -1,0 +1,192 @@
+-- The venue as numbers in one lent slice, and the venue that they stand for.
+--
+--   from   numbers                                                             places
+--      0   id, legging place of its series and side, price, quantity           128 regular
+--    512   id, legging place of each leg, class, limit + 2^31, quantity        32 complex
+--    704   parent, price, quantity                                             16 legging
+--    752   status, bid, offer                                                  8 series
+--    776   regular places in use, complex places in use, last id
+--
+-- What stands in regular and complex places that are not in use means nothing.
+use mathlib.Core.Path.{_≡_}
+use mathlib.Core.Bool.{Bool, true, false}
+use mathlib.Core.List.{List, [], _∷_, _++_}
+use Prim.Native.Nat.{ℕ, zero, suc, _+_, _-_, _*_, _/_, _%_, _<_, min}
+use lib.IntN.{ℤ, pos, natAbs, _+ℤ_, _-ℤ_}
+use lib.ListN.{length, getD, replicate}
+use Rattle.rules.specs.declared.Regular.{Regular}
+use Rattle.rules.specs.declared.Complex.{Complex}
+use Rattle.rules.specs.declared.Legging.{Legging}
+use Rattle.rules.specs.declared.Listed.{Listed}
+use Rattle.rules.specs.declared.Venue.{Venue}
+use Rattle.rules.specs.Words.{placeOf, noRegular, noComplex, withRegular, withComplex}
+use Rattle.rules.specs.Places.{holdsRegular, holdsComplex, keep, packed, closeGaps}
+
+-- the slice's length
+abbrev pub size : ℕ
+size = 779
+
+-- f of each number from i on, k of them
+unfoldable pub upto : {A : Type 0} → (ℕ → A) → (i k : ℕ) → List A
+upto f i zero = []
+upto f i (suc k) = f i ∷ upto f (suc i) k
+
+-- the first `used` of `all` places, and free ones after them
+unfoldable pub inUse : {A : Type 0} → (ℕ → A) → A → (used all : ℕ) → List A
+inUse f none used all = upto f 0 used ++ replicate (all - used) none
+
+-- the places in use
+unfoldable pub regularsUsed : List ℕ → ℕ
+regularsUsed b = min (getD b 776 0) 128
+
+unfoldable pub complexesUsed : List ℕ → ℕ
+complexesUsed b = min (getD b 777 0) 32
+
+-- what stands at a place
+unfoldable pub regularIn : List ℕ → ℕ → Regular
+regularIn b i = record {
+  id = getD b (4 * i) 0;
+  series = getD b (4 * i + 1) 0 % 16 / 2;
+  side = getD b (4 * i + 1) 0 % 2;
+  price = getD b (4 * i + 2) 0;
+  quantity = getD b (4 * i + 3) 0;
+}
+
+unfoldable pub complexIn : List ℕ → ℕ → Complex
+complexIn b i = record {
+  id = getD b (6 * i + 512) 0;
+  series1 = getD b (6 * i + 513) 0 % 16 / 2;
+  side1 = getD b (6 * i + 513) 0 % 2;
+  series2 = getD b (6 * i + 514) 0 % 16 / 2;
+  side2 = getD b (6 * i + 514) 0 % 2;
+  class = getD b (6 * i + 515) 0 % 256;
+  limit = pos (getD b (6 * i + 516) 0) -ℤ pos 2147483648;
+  quantity = getD b (6 * i + 517) 0;
+}
+
+unfoldable pub leggingIn : List ℕ → ℕ → Legging
+leggingIn b n = record { parent = getD b (3 * n + 704) 0; price = getD b (3 * n + 705) 0; quantity = getD b (3 * n + 706) 0 }
+
+unfoldable pub listedIn : List ℕ → ℕ → Listed
+listedIn b s = record { status = getD b (3 * s + 752) 0 % 256; bid = getD b (3 * s + 753) 0; offer = getD b (3 * s + 754) 0 }
+
+-- the venue that the numbers stand for
+unfoldable pub venueOf : List ℕ → Venue
+venueOf b = record {
+  regular = inUse (regularIn b) noRegular (regularsUsed b) 128;
+  complex = inUse (complexIn b) noComplex (complexesUsed b) 32;
+  legging = upto (leggingIn b) 0 16;
+  series = upto (listedIn b) 0 8;
+  last = getD b 778 0;
+}
+
+-- The numbers of a place ----------------------------------------------------------------------
+
+-- an order's
+unfoldable pub regularRow : Regular → List ℕ
+regularRow o = o .id ∷ placeOf (o .series) (o .side) ∷ o .price ∷ o .quantity ∷ []
+
+-- a limit's number: 2^31 above its value
+unfoldable pub limitNumber : ℤ → ℕ
+limitNumber z = natAbs (z +ℤ pos 2147483648)
+
+unfoldable pub complexRow : Complex → List ℕ
+complexRow c =
+    c .id ∷ placeOf (c .series1) (c .side1) ∷ placeOf (c .series2) (c .side2) ∷ c .class ∷ limitNumber (c .limit) ∷ c .quantity ∷ []
+
+-- a class and a limit that are kept whole
+pub record Kept (c : Complex) : Type 0 where
+  pub class : c .class < 256
+  pub limit : pos (limitNumber (c .limit)) -ℤ pos 2147483648 ≡ c .limit
+
+-- Counts --------------------------------------------------------------------------------------
+
+-- the places in use are r regular and c complex ones
+pub record Counts (r c : ℕ) (b : List ℕ) : Type 0 where
+  pub regulars : regularsUsed b ≡ r
+  pub complexes : complexesUsed b ≡ c
+
+-- as many as before
+abbrev pub SameCounts : (a b : List ℕ) → Type 0
+SameCounts a b = Counts (regularsUsed a) (complexesUsed a) b
+
+-- Gaps ----------------------------------------------------------------------------------------
+
+-- each of the first n places is held
+abbrev pub Filled : {A : Type 0} → (A → Bool) → (ℕ → A) → ℕ → Type 0
+Filled holds f n = (k : ℕ) → k < n → holds (f k) ≡ true
+
+-- every place in use is held
+pub record Dense (b : List ℕ) : Type 0 where
+  pub regulars : Filled holdsRegular (regularIn b) (regularsUsed b)
+  pub complexes : Filled holdsComplex (complexIn b) (complexesUsed b)
+
+-- one book's gaps closed
+unfoldable pub closeRegulars : Venue → Venue
+closeRegulars v = withRegular v (packed holdsRegular noRegular (v .regular))
+
+unfoldable pub closeComplexes : Venue → Venue
+closeComplexes v = withComplex v (packed holdsComplex noComplex (v .complex))
+
+-- the places that a book's closing leaves in use
+abbrev pub regularsHeld : List ℕ → ℕ
+regularsHeld b = length (keep holdsRegular (venueOf b .regular))
+
+abbrev pub complexesHeld : List ℕ → ℕ
+complexesHeld b = length (keep holdsComplex (venueOf b .complex))
+
+-- from a to b the gaps of one book, or of both, are closed
+pub record RegularsClosed (a b : List ℕ) : Type 0 where
+  pub venue : venueOf b ≡ closeRegulars (venueOf a)
+  pub counts : Counts (regularsHeld a) (complexesUsed a) b
+  pub filled : Filled holdsRegular (regularIn b) (regularsUsed b)
+
+pub record ComplexesClosed (a b : List ℕ) : Type 0 where
+  pub venue : venueOf b ≡ closeComplexes (venueOf a)
+  pub counts : Counts (regularsUsed a) (complexesHeld a) b
+  pub filled : Filled holdsComplex (complexIn b) (complexesUsed b)
+
+pub record GapsClosed (a b : List ℕ) : Type 0 where
+  pub venue : venueOf b ≡ closeGaps (venueOf a)
+  pub counts : Counts (regularsHeld a) (complexesHeld a) b
+  pub dense : Dense b
+
+-- A venue's places, loaded --------------------------------------------------------------------
+
+-- held places first, each as asked, and free places as none
+pub record Placed {A : Type 0} (holds : A → Bool) (none : A) (Asked : A → Type 0) (l : List A) : Type 0 where
+  pub dense : (i j : ℕ) → i < j → holds (getD l j none) ≡ true → holds (getD l i none) ≡ true
+  pub blank : (i : ℕ) → holds (getD l i none) ≡ false → getD l i none ≡ none
+  pub asked : (i : ℕ) → holds (getD l i none) ≡ true → Asked (getD l i none)
+
+-- a series and a side
+pub record OnSide (s d : ℕ) : Type 0 where
+  pub series : s < 8
+  pub side : d < 2
+
+abbrev pub RegularsPlaced : List Regular → Type 0
+RegularsPlaced = Placed holdsRegular noRegular (λ o. OnSide (o .series) (o .side))
+
+abbrev pub ComplexesPlaced : List Complex → Type 0
+ComplexesPlaced = Placed holdsComplex noComplex (λ c. OnSide (c .series1) (c .side1) × OnSide (c .series2) (c .side2))
+
+-- what a load asks of a venue; a sound one has it (proofs/Loaded.antt)
+pub record Loadable (v : Venue) : Type 0 where
+  pub regulars : RegularsPlaced (v .regular)
+  pub complexes : ComplexesPlaced (v .complex)
+
+-- from a to b one book becomes l, and is dense
+pub record RegularsLoaded (a : List ℕ) (l : List Regular) (b : List ℕ) : Type 0 where
+  pub venue : venueOf b ≡ withRegular (venueOf a) l
+  pub complexes : complexesUsed b ≡ complexesUsed a
+  pub filled : Filled holdsRegular (regularIn b) (regularsUsed b)
+
+pub record ComplexesLoaded (a : List ℕ) (l : List Complex) (b : List ℕ) : Type 0 where
+  pub venue : venueOf b ≡ withComplex (venueOf a) l
+  pub regulars : regularsUsed b ≡ regularsUsed a
+  pub filled : Filled holdsComplex (complexIn b) (complexesUsed b)
+
+-- b stands for v, and is dense
+pub record Loaded (v : Venue) (b : List ℕ) : Type 0 where
+  pub venue : venueOf b ≡ v
+  pub dense : Dense b

@@ -1,0 +1,522 @@
+// The venue inside a call: numbers in one lent slice (specs/Layout.antt). Only this crate knows the layout: the others read and write places, and
+// speak of the venue that the numbers stand for.
+ghost use mathlib.Core.Path.{_≡_};
+ghost use Prim.Native.Nat.{ℕ, suc, min, _+_, _-_, _*_, _≤_, _<_};
+ghost use lib.IntN.{pos, _-ℤ_};
+ghost use lib.ListN.{length, set};
+ghost use lib.Seq.{sets};
+ghost use Rattle.rules.specs.Words.{placeOf, withLegging, withSeries, withLast};
+ghost use Rattle.rules.specs.Trading.{fillRegular, fillComplex, putRegular, putComplex};
+ghost use Rattle.rules.specs.Generation.{placed};
+ghost use Rattle.rules.specs.Places.{holdsRegular, holdsComplex};
+ghost use Rattle.places.specs.Layout.{size, regularsUsed, complexesUsed, regularIn, complexIn, leggingIn, listedIn, venueOf, regularRow, limitNumber, complexRow, Kept, Counts, SameCounts};
+ghost use Rattle.places.specs.Layout.{Filled, RegularsClosed, ComplexesClosed, GapsClosed};
+ghost use Rattle.places.specs.Layout.{RegularsPlaced, ComplexesPlaced, Loadable, RegularsLoaded, ComplexesLoaded, Loaded};
+use rules::Complex;
+use rules::Legging;
+use rules::Listed;
+use rules::Regular;
+use rules::Venue;
+
+fn wide(x: u32) -> usize
+    ensures { λ r. ⌜ r ≡ x ⌝ }
+{
+    x as usize
+}
+
+// x, but at most n.
+fn at_most(x: usize, n: usize) -> usize
+    ensures { λ r. ⌜ r ≡ min x n ⌝ }
+{
+    if x < n {
+        return x;
+    }
+    n
+}
+
+// The regular places in use.
+pub fn regulars_used(b: &[u32]) -> usize
+    requires { ⌜ length (now b) ≡ size ⌝ }
+    ensures { λ r. ⌜ (r ≡ regularsUsed (now (b .entry))) × (r ≤ 128) ⌝ }
+{
+    at_most(wide(b[776]), 128)
+}
+
+// The complex places in use.
+pub fn complexes_used(b: &[u32]) -> usize
+    requires { ⌜ length (now b) ≡ size ⌝ }
+    ensures { λ r. ⌜ (r ≡ complexesUsed (now (b .entry))) × (r ≤ 32) ⌝ }
+{
+    at_most(wide(b[777]), 32)
+}
+
+// What stands at a regular place.
+pub fn regular_at(b: &[u32], i: usize) -> Regular
+    requires { ⌜ (length (now b) ≡ size) × (i < 128) ⌝ }
+    ensures { λ r. ⌜ r ≡ regularIn (now (b .entry)) i ⌝ }
+{
+    let place = b[4 * i + 1];
+    Regular {
+        id: b[4 * i],
+        series: (place % 16 / 2) as u8,
+        side: (place % 2) as u8,
+        price: b[4 * i + 2],
+        quantity: b[4 * i + 3],
+    }
+}
+
+// What stands at a legging place.
+pub fn legging_at(b: &[u32], n: usize) -> Legging
+    requires { ⌜ (length (now b) ≡ size) × (n < 16) ⌝ }
+    ensures { λ r. ⌜ r ≡ leggingIn (now (b .entry)) n ⌝ }
+{
+    Legging {
+        parent: b[3 * n + 704],
+        price: b[3 * n + 705],
+        quantity: b[3 * n + 706],
+    }
+}
+
+// A series' status and away prices.
+pub fn listed_at(b: &[u32], s: usize) -> Listed
+    requires { ⌜ (length (now b) ≡ size) × (s < 8) ⌝ }
+    ensures { λ r. ⌜ r ≡ listedIn (now (b .entry)) s ⌝ }
+{
+    let status = b[3 * s + 752];
+    Listed {
+        status: (status % 256) as u8,
+        bid: b[3 * s + 753],
+        offer: b[3 * s + 754],
+    }
+}
+
+// A limit, as it is kept: 2^31 above its value.
+fn limit_of(x: u32) -> i32
+    ensures { λ r. ⌜ r ≡ pos x -ℤ pos 2147483648 ⌝ }
+{
+    ((x as i64) - 2147483648) as i32
+}
+
+// What stands at a complex place.
+pub fn complex_at(b: &[u32], i: usize) -> Complex
+    requires { ⌜ (length (now b) ≡ size) × (i < 32) ⌝ }
+    ensures { λ r. ⌜ r ≡ complexIn (now (b .entry)) i ⌝ }
+{
+    let one = b[6 * i + 513];
+    let two = b[6 * i + 514];
+    let class = b[6 * i + 515];
+    let limit = limit_of(b[6 * i + 516]);
+    Complex {
+        id: b[6 * i + 512],
+        series1: (one % 16 / 2) as u8,
+        side1: (one % 2) as u8,
+        series2: (two % 16 / 2) as u8,
+        side2: (two % 2) as u8,
+        class: (class % 256) as u8,
+        limit,
+        quantity: b[6 * i + 517],
+    }
+}
+
+// The last id accepted.
+pub fn last_id(b: &[u32]) -> u32
+    requires { ⌜ length (now b) ≡ size ⌝ }
+    ensures { λ r. ⌜ r ≡ venueOf (now (b .entry)) .last ⌝ }
+{
+    b[778]
+}
+
+// q less k, and no less than 0.
+fn less(q: u32, k: u32) -> u32
+    ensures { λ r. ⌜ r ≡ q - k ⌝ }
+{
+    if q < k {
+        return 0;
+    }
+    q - k
+}
+
+// The order at place i is filled for k contracts.
+pub fn fill_regular(b: &mut [u32], i: usize, k: u32)
+    requires { ⌜ (length (now b) ≡ size) × (i < regularsUsed (now b)) ⌝ }
+    ensures { λ _. ⌜ venueOf (now (b .exit)) ≡ fillRegular i k (venueOf (now (b .entry))) ⌝ }
+    ensures counts { λ _. ⌜ SameCounts (now (b .entry)) (now (b .exit)) ⌝ }
+{
+    let q = b[4 * i + 3];
+    b[4 * i + 3] = less(q, k);
+}
+
+pub fn fill_complex(b: &mut [u32], i: usize, k: u32)
+    requires { ⌜ (length (now b) ≡ size) × (i < complexesUsed (now b)) ⌝ }
+    ensures { λ _. ⌜ venueOf (now (b .exit)) ≡ fillComplex i k (venueOf (now (b .entry))) ⌝ }
+    ensures counts { λ _. ⌜ SameCounts (now (b .entry)) (now (b .exit)) ⌝ }
+{
+    let q = b[6 * i + 517];
+    b[6 * i + 517] = less(q, k);
+}
+
+// The number of a series and side: its legging place.
+fn place_number(series: u8, side: u8) -> u32
+    ensures { λ r. ⌜ r ≡ placeOf series side ⌝ }
+{
+    2 * (series as u32) + (side as u32)
+}
+
+// An order's numbers at place i.
+fn write_regular(b: &mut [u32], i: usize, o: Regular)
+    requires { ⌜ (length (now b) ≡ size) × (i < 128) ⌝ }
+    ensures { λ _. ⌜ now (b .exit) ≡ sets (now (b .entry)) (4 * i) (regularRow o) ⌝ }
+{
+    let place = place_number(o.series, o.side);
+    b[4 * i] = o.id;
+    b[4 * i + 1] = place;
+    b[4 * i + 2] = o.price;
+    b[4 * i + 3] = o.quantity;
+}
+
+// An order is given the place after those in use.
+pub fn add_regular(b: &mut [u32], o: Regular)
+    requires { ⌜ (length (now b) ≡ size) × (regularsUsed (now b) < 128) × (o .series < 8) × (o .side < 2) ⌝ }
+    ensures { λ _. ⌜ venueOf (now (b .exit)) ≡ putRegular (regularsUsed (now (b .entry))) o (venueOf (now (b .entry))) ⌝ }
+    ensures counts { λ _. ⌜ Counts (suc (regularsUsed (now (b .entry)))) (complexesUsed (now (b .entry))) (now (b .exit)) ⌝ }
+{
+    let n = regulars_used(b);
+    write_regular(b, n, o);
+    b[776] = (n + 1) as u32;
+}
+
+// A limit's number, as it is kept.
+fn limit_number(x: i32) -> u32
+    ensures { λ r. ⌜ r ≡ limitNumber x ⌝ }
+{
+    ((x as i64) + 2147483648) as u32
+}
+
+// A complex order's numbers at place i.
+fn write_complex(b: &mut [u32], i: usize, c: Complex)
+    requires { ⌜ (length (now b) ≡ size) × (i < 32) ⌝ }
+    ensures { λ _. ⌜ (now (b .exit) ≡ sets (now (b .entry)) (6 * i + 512) (complexRow c)) × Kept c ⌝ }
+{
+    let one = place_number(c.series1, c.side1);
+    let two = place_number(c.series2, c.side2);
+    let limit = limit_number(c.limit);
+    b[6 * i + 512] = c.id;
+    b[6 * i + 513] = one;
+    b[6 * i + 514] = two;
+    b[6 * i + 515] = c.class as u32;
+    b[6 * i + 516] = limit;
+    b[6 * i + 517] = c.quantity;
+}
+
+// A complex order is given the place after those in use.
+pub fn add_complex(b: &mut [u32], c: Complex)
+    requires { ⌜ (length (now b) ≡ size) × (complexesUsed (now b) < 32) × (c .series1 < 8) × (c .side1 < 2) × (c .series2 < 8) × (c .side2 < 2) ⌝ }
+    ensures { λ _. ⌜ venueOf (now (b .exit)) ≡ putComplex (complexesUsed (now (b .entry))) c (venueOf (now (b .entry))) ⌝ }
+    ensures counts { λ _. ⌜ Counts (regularsUsed (now (b .entry))) (suc (complexesUsed (now (b .entry)))) (now (b .exit)) ⌝ }
+{
+    let n = complexes_used(b);
+    write_complex(b, n, c);
+    b[777] = (n + 1) as u32;
+}
+
+// A legging order at a place.
+pub fn put_legging(b: &mut [u32], n: usize, l: Legging)
+    requires { ⌜ (length (now b) ≡ size) × (n < 16) ⌝ }
+    ensures { λ _. ⌜ venueOf (now (b .exit)) ≡ placed n l (venueOf (now (b .entry))) ⌝ }
+    ensures counts { λ _. ⌜ SameCounts (now (b .entry)) (now (b .exit)) ⌝ }
+{
+    b[3 * n + 704] = l.parent;
+    b[3 * n + 705] = l.price;
+    b[3 * n + 706] = l.quantity;
+}
+
+// A series' status and away prices anew.
+pub fn put_listed(b: &mut [u32], s: usize, x: Listed)
+    requires { ⌜ (length (now b) ≡ size) × (s < 8) ⌝ }
+    ensures { λ _. ⌜ venueOf (now (b .exit)) ≡ withSeries (venueOf (now (b .entry))) (set (venueOf (now (b .entry)) .series) s x) ⌝ }
+    ensures counts { λ _. ⌜ SameCounts (now (b .entry)) (now (b .exit)) ⌝ }
+{
+    b[3 * s + 752] = x.status as u32;
+    b[3 * s + 753] = x.bid;
+    b[3 * s + 754] = x.offer;
+}
+
+// The last id accepted.
+pub fn put_last(b: &mut [u32], id: u32)
+    requires { ⌜ length (now b) ≡ size ⌝ }
+    ensures { λ _. ⌜ venueOf (now (b .exit)) ≡ withLast (venueOf (now (b .entry))) id ⌝ }
+    ensures counts { λ _. ⌜ SameCounts (now (b .entry)) (now (b .exit)) ⌝ }
+{
+    b[778] = id;
+}
+
+// The regular places before the first free one of n.
+fn held_regulars(b: &[u32], n: usize) -> usize
+    requires { ⌜ (length (now b) ≡ size) × (n ≤ 128) ⌝ }
+    ensures { λ r. ⌜ (r ≤ n) × Filled holdsRegular (regularIn (now (b .entry))) r ⌝ }
+{
+    let mut i: usize = 0;
+    while i < n {
+        if b[4 * i + 3] == 0 {
+            return i;
+        }
+        i += 1;
+    }
+    n
+}
+
+// The regular places' gaps are closed. Where there are none, nothing is stored.
+pub fn close_regulars(b: &mut [u32])
+    requires { ⌜ length (now b) ≡ size ⌝ }
+    ensures { λ _. ⌜ RegularsClosed (now (b .entry)) (now (b .exit)) ⌝ }
+{
+    let n = regulars_used(b);
+    let mut j = held_regulars(b, n);
+    if j == n {
+        return;
+    }
+    let mut i = j;
+    while i < n {
+        let o = regular_at(b, i);
+        i += 1;
+        if o.quantity == 0 {
+            continue;
+        }
+        write_regular(b, j, o);
+        j += 1;
+    }
+    b[776] = j as u32;
+}
+
+// The complex places before the first free one of n.
+fn held_complexes(b: &[u32], n: usize) -> usize
+    requires { ⌜ (length (now b) ≡ size) × (n ≤ 32) ⌝ }
+    ensures { λ r. ⌜ (r ≤ n) × Filled holdsComplex (complexIn (now (b .entry))) r ⌝ }
+{
+    let mut i: usize = 0;
+    while i < n {
+        if b[6 * i + 517] == 0 {
+            return i;
+        }
+        i += 1;
+    }
+    n
+}
+
+// The complex places' gaps are closed. Where there are none, nothing is stored.
+pub fn close_complexes(b: &mut [u32])
+    requires { ⌜ length (now b) ≡ size ⌝ }
+    ensures { λ _. ⌜ ComplexesClosed (now (b .entry)) (now (b .exit)) ⌝ }
+{
+    let n = complexes_used(b);
+    let mut j = held_complexes(b, n);
+    if j == n {
+        return;
+    }
+    let mut i = j;
+    while i < n {
+        let o = complex_at(b, i);
+        i += 1;
+        if o.quantity == 0 {
+            continue;
+        }
+        write_complex(b, j, o);
+        j += 1;
+    }
+    b[777] = j as u32;
+}
+
+// All gaps are closed.
+pub fn close_gaps(b: &mut [u32])
+    requires { ⌜ length (now b) ≡ size ⌝ }
+    ensures { λ _. ⌜ GapsClosed (now (b .entry)) (now (b .exit)) ⌝ }
+{
+    close_regulars(b);
+    close_complexes(b);
+}
+
+// The venue anew, part by part ----------------------------------------------------------------
+
+fn regulars_of(b: &[u32]) -> [Regular; 128]
+    requires { ⌜ length (now b) ≡ size ⌝ }
+    ensures { λ r. ⌜ r ≡ venueOf (now (b .entry)) .regular ⌝ }
+{
+    let free = Regular {
+        id: 0,
+        series: 0,
+        side: 0,
+        price: 0,
+        quantity: 0,
+    };
+    let mut r = [free; 128];
+    let n = regulars_used(b);
+    let mut i: usize = 0;
+    while i < n {
+        let x = regular_at(b, i);
+        r[i] = x;
+        i += 1;
+    }
+    r
+}
+
+fn complexes_of(b: &[u32]) -> [Complex; 32]
+    requires { ⌜ length (now b) ≡ size ⌝ }
+    ensures { λ r. ⌜ r ≡ venueOf (now (b .entry)) .complex ⌝ }
+{
+    let free = Complex {
+        id: 0,
+        series1: 0,
+        side1: 0,
+        series2: 0,
+        side2: 0,
+        class: 0,
+        limit: 0,
+        quantity: 0,
+    };
+    let mut r = [free; 32];
+    let n = complexes_used(b);
+    let mut i: usize = 0;
+    while i < n {
+        let x = complex_at(b, i);
+        r[i] = x;
+        i += 1;
+    }
+    r
+}
+
+fn leggings_of(b: &[u32]) -> [Legging; 16]
+    requires { ⌜ length (now b) ≡ size ⌝ }
+    ensures { λ r. ⌜ r ≡ venueOf (now (b .entry)) .legging ⌝ }
+{
+    let free = Legging {
+        parent: 0,
+        price: 0,
+        quantity: 0,
+    };
+    let mut r = [free; 16];
+    let mut i: usize = 0;
+    while i < 16 {
+        let x = legging_at(b, i);
+        r[i] = x;
+        i += 1;
+    }
+    r
+}
+
+fn series_of(b: &[u32]) -> [Listed; 8]
+    requires { ⌜ length (now b) ≡ size ⌝ }
+    ensures { λ r. ⌜ r ≡ venueOf (now (b .entry)) .series ⌝ }
+{
+    let free = Listed {
+        status: 0,
+        bid: 0,
+        offer: 0,
+    };
+    let mut r = [free; 8];
+    let mut i: usize = 0;
+    while i < 8 {
+        let x = listed_at(b, i);
+        r[i] = x;
+        i += 1;
+    }
+    r
+}
+
+// The venue that the numbers stand for.
+pub fn venue_of(b: &[u32]) -> Venue
+    requires { ⌜ length (now b) ≡ size ⌝ }
+    ensures { λ r. ⌜ r ≡ venueOf (now (b .entry)) ⌝ }
+{
+    let regular = regulars_of(b);
+    let complex = complexes_of(b);
+    let legging = leggings_of(b);
+    let series = series_of(b);
+    let last = last_id(b);
+    Venue {
+        regular,
+        complex,
+        legging,
+        series,
+        last,
+    }
+}
+
+// A venue's numbers, part by part -------------------------------------------------------------
+
+// Places are read until the first free one.
+fn load_regulars(b: &mut [u32], l: [Regular; 128])
+    requires { ⌜ (length (now b) ≡ size) × RegularsPlaced l ⌝ }
+    ensures { λ _. ⌜ RegularsLoaded (now (b .entry)) l (now (b .exit)) ⌝ }
+{
+    let mut i: usize = 0;
+    while i < 128 {
+        let o = l[i];
+        if o.quantity == 0 {
+            b[776] = i as u32;
+            return;
+        }
+        write_regular(b, i, o);
+        i += 1;
+    }
+    b[776] = 128;
+}
+
+// Places are read until the first free one.
+fn load_complexes(b: &mut [u32], l: [Complex; 32])
+    requires { ⌜ (length (now b) ≡ size) × ComplexesPlaced l ⌝ }
+    ensures { λ _. ⌜ ComplexesLoaded (now (b .entry)) l (now (b .exit)) ⌝ }
+{
+    let mut i: usize = 0;
+    while i < 32 {
+        let o = l[i];
+        if o.quantity == 0 {
+            b[777] = i as u32;
+            return;
+        }
+        write_complex(b, i, o);
+        i += 1;
+    }
+    b[777] = 32;
+}
+
+fn load_leggings(b: &mut [u32], l: [Legging; 16])
+    requires { ⌜ length (now b) ≡ size ⌝ }
+    ensures { λ _. ⌜ venueOf (now (b .exit)) ≡ withLegging (venueOf (now (b .entry))) l ⌝ }
+    ensures counts { λ _. ⌜ SameCounts (now (b .entry)) (now (b .exit)) ⌝ }
+{
+    let mut i: usize = 0;
+    while i < 16 {
+        let x = l[i];
+        put_legging(b, i, x);
+        i += 1;
+    }
+}
+
+fn load_series(b: &mut [u32], l: [Listed; 8])
+    requires { ⌜ length (now b) ≡ size ⌝ }
+    ensures { λ _. ⌜ venueOf (now (b .exit)) ≡ withSeries (venueOf (now (b .entry))) l ⌝ }
+    ensures counts { λ _. ⌜ SameCounts (now (b .entry)) (now (b .exit)) ⌝ }
+{
+    let mut i: usize = 0;
+    while i < 8 {
+        let x = l[i];
+        put_listed(b, i, x);
+        i += 1;
+    }
+}
+
+// A venue's numbers.
+pub fn load(b: &mut [u32], v: Venue)
+    requires { ⌜ (length (now b) ≡ size) × Loadable v ⌝ }
+    ensures { λ _. ⌜ Loaded v (now (b .exit)) ⌝ }
+{
+    let regular = v.regular;
+    load_regulars(b, regular);
+    let complex = v.complex;
+    load_complexes(b, complex);
+    let legging = v.legging;
+    load_leggings(b, legging);
+    let series = v.series;
+    load_series(b, series);
+    put_last(b, v.last);
+}
