@@ -1,19 +1,19 @@
 -- One message and the two calls, by their cases; a call's records fit the report memory, whatever the venue and the bytes.
-use mathlib.Core.Path.{_≡_, refl}
+use mathlib.Core.Path.{_≡_, refl, sym}
 use mathlib.Core.Bool.{Bool, false, not, true}
 use mathlib.Core.Logic.{_≢_}
-use mathlib.Core.List.{List, [], _++_, _∷_}
+use mathlib.Core.List.{List, [], _++_, _∷_, append-assoc}
 use Prim.Native.Nat.{_+_, _-_, _<_, _≤_, suc, zero, ℕ}
 use native.Mathlib.Omega.{arith}
 use lib.Dec.{eqb, ltb}
 use lib.ListN.{drop, length, length-append, length-drop, length-replicate}
-use borrow.Author.Tests.{eqb-false, eqb-true, ltb-false, ne-eqb}
+use borrow.Author.Tests.{eqb-false, eqb-true, le-ltb, ltb-false, ne-eqb}
 use Rattle.rules.specs.declared.Venue.{Venue}
 use Rattle.rules.specs.Base.{if_then_else_}
 use Rattle.rules.specs.Words.{freshVenue}
 use Rattle.rules.specs.Bytes.{lengthField}
 use Rattle.rules.specs.Messages.{messageOf}
-use Rattle.rules.specs.Records.{Report, encodeAll, sheet}
+use Rattle.rules.specs.Records.{Report, encode, encodeAll, sheet}
 use Rattle.rules.specs.Effects.{Effect, nothing}
 use Rattle.rules.specs.Refusals.{full, refusal, torn}
 use Rattle.rules.specs.Step.{Answered, accept, answered, step}
@@ -36,6 +36,11 @@ within-room number room rs h =
     let a = ltb-false 4294967295 number (or-false-l (ltb 4294967295 number) (ltb room (length (encodeAll rs))) h) in
     let b = ltb-false room (length (encodeAll rs)) (or-false-r (ltb 4294967295 number) (ltb room (length (encodeAll rs))) h) in
     (omega arith, b)
+
+-- and one whose number and records fit does not exceed
+pub not-exceeds : (number room : ℕ) (rs : List Report) → number ≤ 4294967295 → length (encodeAll rs) ≤ room → exceeds number room rs ≡ false
+unfolding exceeds
+not-exceeds number room rs few enough = rw (le-ltb 4294967295 number few, le-ltb room (length (encodeAll rs)) enough)
 
 module _ {ℓ} (Q : Outcome → Type ℓ) (v : Venue) (n room : ℕ) (bs : List ℕ) where
   abbrev x : Answered
@@ -85,17 +90,23 @@ module _ {ℓ} (Q : Outcome → Type ℓ) (v : Venue) (n room : ℕ) (bs : List 
       go true a true b = full a b
       go true a false b = done a (within-room (suc n) room (e .reports) b)
 
+-- upon a sound venue, a message that does not exceed is done
+pub oneFrom-done : (v : Venue) (n room : ℕ) (bs : List ℕ) → sound v ≡ true → exceeds (suc n) room (step v (suc n) bs .effect .reports) ≡ false →
+    oneFrom v n room bs ≡ after (step v (suc n) bs .effect) (ends (step v (suc n) bs .refused) (step v (suc n) bs .effect .venue))
+unfolding oneFrom
+oneFrom-done v n room bs s e = rw (s, e)
+
 -- The report memory ---------------------------------------------------------------------------
 
-pub encodeAll-append : (a b : List Report) → length (encodeAll (a ++ b)) ≡ length (encodeAll a) + length (encodeAll b)
+pub encode-append : (a b : List Report) → encodeAll (a ++ b) ≡ encodeAll a ++ encodeAll b
 unfolding encodeAll
-encodeAll-append [] b = omega arith
-encodeAll-append (r ∷ a) b = simp length-append (omega (arith, encodeAll-append a b))
+encode-append [] b = refl
+encode-append (r ∷ a) b = rw (encode-append a b) (sym (append-assoc (encode r) (encodeAll a) (encodeAll b)))
 
 after-room : (e : Effect) (r : Outcome) (room : ℕ) → length (encodeAll (e .reports)) ≤ room → length (encodeAll (r .reports)) ≤ room - length (encodeAll (e .reports)) →
     length (encodeAll (after e r .reports)) ≤ room
 unfolding after
-after-room e r room h k = rw (encodeAll-append (e .reports) (r .reports)) (omega arith)
+after-room e r room h k = rw (encode-append (e .reports) (r .reports), length-append) (omega arith)
 
 ends-room : (k : ℕ) (v : Venue) (room : ℕ) → length (encodeAll (ends k v .reports)) ≤ room
 unfolding ends encodeAll
@@ -133,11 +144,11 @@ unfoldable pub left : (done : ℕ) → List ℕ → List ℕ
 left zero bs = bs
 left (suc done) bs = left done (drop (lengthField bs) bs)
 
-torn-not : (v : Venue) (n : ℕ) (bs : List ℕ) → step v (suc n) bs .refused ≢ 1 → torn bs ≡ false
+pub torn-not : (v : Venue) (n : ℕ) (bs : List ℕ) → step v (suc n) bs .refused ≢ 1 → torn bs ≡ false
 unfolding step answered
 torn-not v n bs h = not-torn v bs (ne-eqb (refusal v bs) 1 h)
 
-no-bytes : (bs : List ℕ) → length bs ≡ 0 → bs ≡ []
+pub no-bytes : (bs : List ℕ) → length bs ≡ 0 → bs ≡ []
 no-bytes [] h = refl
 no-bytes (x ∷ bs) h = absurd (omega arith)
 

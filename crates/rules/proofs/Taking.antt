@@ -20,7 +20,7 @@ use Rattle.rules.proofs.Adding.{count-elsewhere, count-taker}
 use Rattle.rules.proofs.Cases.{take-by}
 use Rattle.rules.proofs.Filling.{Fewer, fewer-refl, fewer-trans, fill-fewer, fill-last, reg}
 use Rattle.rules.proofs.Picking.{At}
-use Rattle.rules.proofs.Sizes.{Elsewhere, elsewhere-refl, elsewhere-trans, fill-elsewhere, rests-series, shown-most, shows-rests, size-less, size-none}
+use Rattle.rules.proofs.Sizes.{Elsewhere, elsewhere-refl, elsewhere-trans, fill-apart, fill-elsewhere, rests-series, rests-side, shown-most, shows-rests, size-less, size-none}
 use Rattle.rules.proofs.Tests.{and-l, and-r, free-none, held-pos}
 
 -- How many are had ----------------------------------------------------------------------------
@@ -31,7 +31,7 @@ module _ (x s d p : ℕ) where
     unfolding regularAt showsFor showsAt
     taken-series = let z = h .is in rw (h .at) (eqb-true (o .series) s (search (and-l, and-r, z)))
 
-    some-shown : 0 < shown o
+    pub some-shown : 0 < shown o
     unfolding showsFor showsAt
     some-shown =
         let z = h .is in
@@ -39,7 +39,7 @@ module _ (x s d p : ℕ) where
         held-pos _ b
 
     -- what is left at the price
-    left : (q : ℕ) → q ≤ shown o → sizeIn s (opposite d) p (v .regular) ≡ q + sizeIn s (opposite d) p (fillRegular i q v .regular)
+    pub left : (q : ℕ) → q ≤ shown o → sizeIn s (opposite d) p (v .regular) ≡ q + sizeIn s (opposite d) p (fillRegular i q v .regular)
     unfolding fillRegular withRegular regularAt
     left q le = size-less s (opposite d) p q (v .regular) i (h .fits) (rw (h .at) (h .is)) (rw (h .at) le)
 
@@ -116,6 +116,15 @@ module _ {x s d p : ℕ} where
   chain-elsewhere no-more = elsewhere-refl s _
   chain-elsewhere (traded {v = v} i q f r e le c) =
       elsewhere-trans (fill-elsewhere i q s v (unfold regularAt in (shows-series s (opposite d) (reg v i) r))) (chain-elsewhere c)
+
+  -- and every other level
+  pub chain-apart : (t e r : ℕ) → (s ≡ t → opposite d ≡ e → p ≡ r → ⊥) → {v w : Venue} {rs : List Report} → Chain x s d p v rs w →
+      sizeIn t e r (w .regular) ≡ sizeIn t e r (v .regular)
+  chain-apart t e r ne no-more = refl
+  chain-apart t e r ne (traded {v = v} i q f z g le c) =
+      let h = shows-rests s (opposite d) (regularAt v i) z in
+      chain-apart t e r ne c
+      ∙ fill-apart t e r i q v (unfold regularAt in (λ a b k. ne (sym (rests-series s (opposite d) _ h) ∙ a) (sym (rests-side s (opposite d) _ h) ∙ b) (sym g ∙ k)))
 
   pub chain-last : {v w : Venue} {rs : List Report} → Chain x s d p v rs w → w .last ≡ v .last
   chain-last no-more = refl

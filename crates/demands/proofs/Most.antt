@@ -22,14 +22,14 @@ use Rattle.rules.specs.Complex.{work, complex, each, sweep, cancelRegular, canc
 use Rattle.rules.specs.Refusals.{refusal}
 use Rattle.rules.specs.Step.{setAway, setStatus, perform, accept, answered, step}
 use Rattle.rules.specs.Calls.{called, ends, after, one}
-use Rattle.bounds.proofs.Calling.{fits, oneFrom-done}
-use Rattle.bounds.specs.Most.{recordLength, perComplex, perLeg, Parts, WritesAtMost, RoomEnough}
-use Rattle.bounds.proofs.Sums.{sum, sum-append}
-use Rattle.bounds.proofs.Worth.{written, worth, worth-most, fill-le, putC-worth, spent}
-use Rattle.bounds.proofs.Worth.{fillC-le}
-use Rattle.bounds.proofs.Costs.{Costs, costs-then, costs-removeOf, costs-settle, costs-report, costs-work, costs-each}
-use Rattle.bounds.proofs.Generation.{costs-generate, generation-writes}
-use Rattle.bounds.proofs.Matching.{Housed, costs-order, sound-housed}
+use Rattle.demands.proofs.Calling.{fits, oneFrom-done}
+use Rattle.demands.specs.Most.{recordLength, perComplex, perLeg, Parts, WritesAtMost, RoomEnough}
+use Rattle.rules.proofs.Summing.{sum, sum-append}
+use Rattle.rules.proofs.Worth.{written, worth, worth-most, fill-le, putC-worth, spent}
+use Rattle.rules.proofs.Worth.{fillC-le}
+use Rattle.rules.proofs.Costs.{Costs, costs-then, costs-removeOf, costs-settle, costs-report, costs-work, costs-each}
+use Rattle.rules.proofs.Legs.{costs-generate, generation-writes}
+use Rattle.rules.proofs.Matching.{Housed, costs-order, sound-housed}
 
 -- Messages ------------------------------------------------------------------------------------
 

@@ -20,12 +20,12 @@ use Rattle.rules.specs.Refusals.{torn, decoded, refusal}
 use Rattle.rules.specs.Step.{Answered, answered, step}
 use Rattle.rules.specs.Sound.{sound}
 use Rattle.rules.specs.Calls.{Outcome, called, exceeds, ends, after, runFrom, run, oneFrom, one}
-use Rattle.bounds.specs.Most.{most}
-use Rattle.bounds.specs.Agree.{wrote, Progress, begun, onward, byCalls, Enough, Ended, atEnd, atTorn, atFull, Agree, NeverFills}
-use Rattle.bounds.specs.Asked.{SoundVenue, Kept, FreshSound}
-use Rattle.bounds.proofs.Calling.{encode-append, fits, number-fits, room-fits, oneFrom-done}
-use Rattle.bounds.proofs.Most.{writes-at-most}
-use Rattle.bounds.proofs.Front.{Whole, whole}
+use Rattle.demands.specs.Most.{most}
+use Rattle.demands.specs.Agree.{wrote, Progress, begun, onward, byCalls, Enough, Ended, atEnd, atTorn, atFull, Agree, NeverFills}
+use Rattle.demands.specs.Asked.{SoundVenue, Kept, FreshSound}
+use Rattle.demands.proofs.Calling.{encode-append, fits, number-fits, room-fits, oneFrom-done}
+use Rattle.demands.proofs.Most.{writes-at-most}
+use Rattle.rules.proofs.Front.{Whole, whole}
 
 -- what a call wrote is its records' bytes
 pub wrote-is : (room : ℕ) (o : Outcome) → wrote (called room o) ≡ encodeAll (o .reports)

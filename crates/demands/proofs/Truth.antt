@@ -20,11 +20,11 @@ use Rattle.rules.specs.Refusals.{refusal}
 use Rattle.rules.specs.Step.{Answered, accept, answered, step}
 use Rattle.rules.specs.Sound.{sound}
 use Rattle.rules.specs.Calls.{Outcome, called, exceeds, ends, after, runFrom, run, oneFrom, one}
-use Rattle.bounds.specs.Asked.{SoundVenue, Asked}
-use Rattle.bounds.specs.Seen.{Given, parts, Seen, start, extend, Opening, byRun, alone, opening, calls}
-use Rattle.bounds.specs.Truth.{answers, venueAfter, answerOf, AnswersOnce, RefusedAlone, OneMessage, answersOf, leaves, numbers, from, Truth}
-use Rattle.bounds.proofs.Calling.{encode-append, number-fits, room-fits}
-use Rattle.bounds.proofs.Quiet.{answers-append, quiet-accept}
+use Rattle.demands.specs.Asked.{SoundVenue, Asked}
+use Rattle.demands.specs.Seen.{Given, parts, Seen, start, extend, Opening, byRun, alone, opening, calls}
+use Rattle.demands.specs.Truth.{answers, venueAfter, answerOf, AnswersOnce, RefusedAlone, OneMessage, answersOf, leaves, numbers, from, Truth}
+use Rattle.demands.proofs.Calling.{encode-append, number-fits, room-fits}
+use Rattle.rules.proofs.Quiet.{answers-append, quiet-accept}
 
 -- One message ---------------------------------------------------------------------------------
 
