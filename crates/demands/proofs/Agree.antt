@@ -1,52 +1,39 @@
--- A run and one-message calls agree, call by call.
-use mathlib.Core.Path.{_≡_, refl, sym, ap, _∙_}
+-- A run and one-message calls agree, call by call; and a call reads one message.
+use mathlib.Core.Path.{_∙_, _≡_, ap, refl, sym}
 use mathlib.Core.Logic.{_≢_}
-use mathlib.Core.Bool.{Bool, true, false}
-use mathlib.Core.List.{List, [], _∷_, _++_, append-assoc, append-nil}
-use Prim.Native.Nat.{ℕ, zero, suc, _+_, _-_, _*_, _≤_}
-use native.Mathlib.Omega.{arith}
-use native.Mathlib.Numerals.{add-one}
+use mathlib.Core.Bool.{false, true, true≢false}
+use mathlib.Core.List.{List, [], _++_, _∷_, append-assoc, append-nil}
+use Prim.Native.Nat.{_*_, _+_, _-_, _<_, _≤_, suc, zero, ℕ}
 use native.Mathlib.Nat.{add-zero}
-use lib.Dec.{eqb}
-use lib.ListN.{length, drop, length-append, length-drop}
+use native.Mathlib.Numerals.{add-one}
+use native.Mathlib.Omega.{arith}
+use lib.ListN.{drop, length, length-append, length-drop}
 use lib.Seq.{take-append-seam}
-use borrow.Author.Tests.{eqb-true, eqb-false}
 use Rattle.rules.specs.declared.Venue.{Venue}
 use Rattle.rules.specs.Words.{freshVenue}
 use Rattle.rules.specs.Bytes.{lengthField}
 use Rattle.rules.specs.Records.{Report, encodeAll, sheet}
 use Rattle.rules.specs.Effects.{Effect}
-use Rattle.rules.specs.Refusals.{torn, decoded, refusal}
-use Rattle.rules.specs.Step.{Answered, answered, step}
+use Rattle.rules.specs.Refusals.{torn}
+use Rattle.rules.specs.Step.{step}
 use Rattle.rules.specs.Sound.{sound}
-use Rattle.rules.specs.Calls.{Outcome, called, exceeds, ends, after, runFrom, run, oneFrom, one}
+use Rattle.rules.specs.Calls.{Outcome, after, called, ends, exceeds, one, oneFrom, run, runFrom}
+use Rattle.demands.specs.Agree.{Agree, Ended, Enough, NeverFills, Progress, ReadsOne, atEnd, atFull, atTorn, begun, byCalls, onward, wrote}
+use Rattle.demands.specs.Kept.{SoundVenue}
 use Rattle.demands.specs.Most.{most}
-use Rattle.demands.specs.Agree.{wrote, Progress, begun, onward, byCalls, Enough, Ended, atEnd, atTorn, atFull, Agree, NeverFills}
-use Rattle.demands.specs.Asked.{SoundVenue, Kept, FreshSound}
-use Rattle.demands.proofs.Calling.{encode-append, fits, number-fits, room-fits, oneFrom-done}
+use Rattle.rules.proofs.Calling.{encode-append, no-bytes, not-exceeds, oneFrom-done, runFrom-by, torn-not}
+use Rattle.rules.proofs.Front.{reads-one}
+use Rattle.rules.proofs.Refusing.{whole}
+use Rattle.demands.proofs.Calls.{fresh-sound, kept}
 use Rattle.demands.proofs.Most.{writes-at-most}
-use Rattle.rules.proofs.Front.{Whole, whole}
+
+pub one-read : ReadsOne
+one-read = reads-one
 
 -- what a call wrote is its records' bytes
 pub wrote-is : (room : ℕ) (o : Outcome) → wrote (called room o) ≡ encodeAll (o .reports)
 unfolding wrote called sheet
 wrote-is room o = take-append-seam (encodeAll (o .reports)) _
-
--- a message that is not refused with 1 is whole
-torn-refused : (v : Venue) (bs : List ℕ) → torn bs ≡ true → refusal v bs ≡ 1
-unfolding refusal decoded
-torn-refused v bs h = rw (h, refusal)
-
-refused-is : (v : Venue) (n : ℕ) (bs : List ℕ) → step v n bs .refused ≡ refusal v bs
-unfolding step answered
-refused-is v n bs = refl
-
-not-refused : (v : Venue) (n : ℕ) (bs : List ℕ) → (step v n bs .refused ≡ 1 → ⊥) → Whole bs
-not-refused v n bs h = whole bs (go (torn bs) refl)
-  where
-    go : (b : Bool) → torn bs ≡ b → torn bs ≡ false
-    go true e = absurd (h (refused-is v n bs ∙ torn-refused v bs e))
-    go false e = e
 
 -- How calls stand to a run upon v, after n messages and the bytes b, with `room` left: q is how far they came.
 record Follows (n room : ℕ) (b : List ℕ) (o : Outcome) (q : Progress) : Type 0 where
@@ -69,6 +56,10 @@ module _ (v : Venue) (n room : ℕ) (bs : List ℕ) (s : SoundVenue v) (x : ℕ)
   abbrev size : ℕ
   size = length (encodeAll reports)
 
+  -- the message is done: its number and its records fit
+  abbrev Done : Type 0
+  Done = (suc n < 4294967296) × (size ≤ room)
+
   abbrev here : Progress
   here = record { number = x; done = n; venue = v; bytes = b; left = bs }
 
@@ -87,18 +78,19 @@ module _ (v : Venue) (n room : ℕ) (bs : List ℕ) (s : SoundVenue v) (x : ℕ)
   unfolding onward called after ends
   called-on r y f = rw (wrote-is r (after f (ends y (f .venue))), append-nil (f .reports), add-one n)
 
-  moved : (r : ℕ) → most ≤ r → exceeds (suc n) room reports ≡ false → onward here (one v n r bs) ≡ there
+  moved : (r : ℕ) → most ≤ r → Done → onward here (one v n r bs) ≡ there
   unfolding one
   moved r enough e =
       let w = writes-at-most v s (suc n) bs in
-      let f = fits (suc n) r reports (number-fits (suc n) room reports e) (omega arith) in
+      let few = e .0 in
+      let f = not-exceeds (suc n) r reports (omega arith) (omega arith) in
       ap (λ (o : Outcome). onward here (called r o)) (oneFrom-done v n r bs (s .is) f) ∙ called-on r (step v (suc n) bs .refused) (step v (suc n) bs .effect)
 
-  same-room : exceeds (suc n) room reports ≡ false → room - size + length (b ++ encodeAll reports) ≡ room + length b
-  same-room e = let h = room-fits (suc n) room reports e in rw (length-append b (encodeAll reports)) (omega arith)
+  same-room : Done → room - size + length (b ++ encodeAll reports) ≡ room + length b
+  same-room e = let h = e .1 in rw (length-append b (encodeAll reports)) (omega arith)
 
   -- and the same message done by the run
-  joins : (r : ℕ) → most ≤ r → exceeds (suc n) room reports ≡ false → (o : Outcome) (rooms : List ℕ) →
+  joins : (r : ℕ) → most ≤ r → Done → (o : Outcome) (rooms : List ℕ) →
       Follows (suc n) (room - size) (b ++ encodeAll reports) o (byCalls rooms there) →
       Follows n room b (after (step v (suc n) bs .effect) o) (byCalls (r ∷ rooms) here)
   unfolding after byCalls
@@ -119,70 +111,45 @@ full-too v n room bs s e = rw (s, e)
 back : (a b : ℕ) → a + b - b ≡ a
 back a b = omega arith
 
-nothing-left : (bs : List ℕ) → length bs ≡ 0 → bs ≡ []
-nothing-left [] h = refl
-nothing-left (x ∷ bs) h = absurd (omega arith)
-
 -- what a run with this fuel does, calls do
 abbrev Followed : (fuel : ℕ) → Type 0
 Followed fuel = (v : Venue) (n room : ℕ) (bs : List ℕ) (s : SoundVenue v) → length bs ≤ fuel → (x : ℕ) (b : List ℕ) → x ≢ 1 →
     (rooms : List ℕ) → Enough rooms → length rooms ≡ runFrom fuel v n room bs .done → Follows n room b (runFrom fuel v n room bs) (byCalls rooms (here v n room bs s x b))
 
--- one message more
-module _ (kept : Kept) (fuel : ℕ) (ih : Followed fuel) (v : Venue) (n room : ℕ) (bs : List ℕ) (s : SoundVenue v) (le : length bs ≤ suc fuel)
-    (x : ℕ) (b : List ℕ) (not-one : x ≢ 1) where
-  abbrev a : Answered
-  a = step v (suc n) bs
+-- one message more, by what the run does then
+module _ (v : Venue) (n room : ℕ) (bs : List ℕ) (s : SoundVenue v) (x : ℕ) (b : List ℕ) where
+  -- as many calls as o has messages do what o does
+  abbrev FollowedBy : Outcome → Type 0
+  FollowedBy o = (rooms : List ℕ) → Enough rooms → length rooms ≡ o .done → Follows n room b o (byCalls rooms (here v n room bs s x b))
 
-  abbrev w : List ℕ
-  w = encodeAll (a .effect .reports)
+  -- the message is done, and then the rest
+  done-follows : Done v n room bs s x b → (o : Outcome) →
+      ((rooms : List ℕ) → Enough rooms → length rooms ≡ o .done → Follows (suc n) (room - size v n room bs s x b) (b ++ encodeAll (reports v n room bs s x b)) o (byCalls rooms (there v n room bs s x b))) →
+      FollowedBy (after (step v (suc n) bs .effect) o)
+  unfolding after
+  done-follows d o rest [] enough h = absurd (omega arith)
+  done-follows d o rest (r ∷ rs) enough h = joins v n room bs s x b r (enough .0) d o rs (rest rs (enough .1) (omega arith))
 
-  -- after it, by whether it was torn
-  abbrev rest : Bool → Outcome
-  rest t = elim t as (λ _. Outcome) [
-    | true ↦ ends 1 (a .effect .venue)
-    | false ↦ runFrom fuel (a .effect .venue) (suc n) (room - length w) (drop (lengthField bs) bs)
-  ]
+-- what is left is shorter
+shorter : (fuel : ℕ) (bs : List ℕ) → length bs ≤ suc fuel → torn bs ≡ false → length (drop (lengthField bs) bs) ≤ fuel
+shorter fuel bs le t = let w = whole bs t in rw (length-drop (lengthField bs) bs) (omega arith)
 
-  shorter : Whole bs → length (drop (lengthField bs) bs) ≤ fuel
-  shorter f = let l = f .least in let t = f .there in rw (length-drop (lengthField bs) bs) (omega arith)
+followed : (fuel : ℕ) → Followed fuel
+followed zero v n room bs s le x b not-one = unfold runFrom in (λ rooms enough h. stops n room b 0 v _ refl refl refl (atEnd not-one (no-bytes bs (omega arith))) rooms h)
+followed (suc fuel) v n room bs s le x b not-one =
+    runFrom-by (FollowedBy v n room bs s x b) v n room bs fuel
+    (λ e rooms _ h. stops n room b 0 v _ refl refl refl (atEnd not-one (no-bytes bs e)) rooms h)
+    (λ _ e rooms _ h. stops n room b 10 v _ refl refl refl (atFull not-one (rw (back room (length b)) (full-too v n room bs (s .is) e))) rooms h)
+    (λ d t. done-follows v n room bs s x b d _ (λ rooms _ h. stops (suc n) _ _ 1 _ _ refl refl refl (atTorn t) rooms h))
+    (λ d t. done-follows v n room bs s x b d _
+    (λ rooms enough h.
+    followed fuel _ (suc n) _ _ (kept v s (suc n) bs) (shorter fuel bs le (torn-not v n bs t)) (step v (suc n) bs .refused) _ t rooms enough h))
 
-  rest-follows : (t : Bool) → eqb (a .refused) 1 ≡ t → (rooms : List ℕ) → Enough rooms → length rooms ≡ rest t .done →
-      Follows (suc n) (room - length w) (b ++ w) (rest t) (byCalls rooms (there v n room bs s x b))
-  rest-follows true e rooms enough h = stops (suc n) _ _ 1 _ _ refl refl refl (atTorn (eqb-true (a .refused) 1 e)) rooms h
-  rest-follows false e rooms enough h =
-      let z = eqb-false (a .refused) 1 e in
-      let f = not-refused v (suc n) bs z in
-      ih (a .effect .venue) (suc n) (room - length w) (drop (lengthField bs) bs) (kept v s (suc n) bs) (shorter f) (a .refused) (b ++ w) z rooms enough h
-
-  done-follows : exceeds (suc n) room (a .effect .reports) ≡ false → (rooms : List ℕ) → Enough rooms → length rooms ≡ suc (rest (eqb (a .refused) 1) .done) →
-      Follows n room b (after (a .effect) (rest (eqb (a .refused) 1))) (byCalls rooms (here v n room bs s x b))
-  done-follows e [] enough h = absurd (omega arith)
-  done-follows e (r ∷ rs) enough h = joins v n room bs s x b r (enough .0) e _ rs (rest-follows (eqb (a .refused) 1) refl rs (enough .1) (omega arith))
-
-  message-follows : (rooms : List ℕ) → Enough rooms → length rooms ≡ runFrom (suc fuel) v n room bs .done →
-      Follows n room b (runFrom (suc fuel) v n room bs) (byCalls rooms (here v n room bs s x b))
-  unfolding runFrom after
-  message-follows rooms enough = go (eqb (length bs) 0) refl (exceeds (suc n) room (a .effect .reports)) refl
-    where
-      go : (t : Bool) → eqb (length bs) 0 ≡ t → (u : Bool) → exceeds (suc n) room (a .effect .reports) ≡ u →
-          length rooms ≡ (elim t as (λ _. Outcome) [ true ↦ ends 0 v | false ↦ elim u as (λ _. Outcome) [ true ↦ ends 10 v | false ↦ after (a .effect) (rest (eqb (a .refused) 1)) ] ]) .done →
-          Follows n room b (elim t as (λ _. Outcome) [ true ↦ ends 0 v | false ↦ elim u as (λ _. Outcome) [ true ↦ ends 10 v | false ↦ after (a .effect) (rest (eqb (a .refused) 1)) ] ])
-          (byCalls rooms (here v n room bs s x b))
-      go true e u f h = stops n room b 0 v _ refl refl refl (atEnd not-one (nothing-left bs (eqb-true (length bs) 0 e))) rooms h
-      go false e true f h = stops n room b 10 v _ refl refl refl (atFull not-one (rw (back room (length b)) (full-too v n room bs (s .is) f))) rooms h
-      go false e false f h = done-follows f rooms enough h
-
-followed : Kept → (fuel : ℕ) → Followed fuel
-unfolding runFrom
-followed kept zero v n room bs s le x b not-one rooms enough h = stops n room b 0 v _ refl refl refl (atEnd not-one (nothing-left bs (omega arith))) rooms h
-followed kept (suc fuel) v n room bs s le x b not-one rooms enough h = message-follows kept fuel (followed kept fuel) v n room bs s le x b not-one rooms enough h
-
-pub agree : Kept → FreshSound → Agree
+pub agree : Agree
 unfolding run called begun
-agree kept fresh room bs rooms enough h =
+agree room bs rooms enough h =
     let o = runFrom (length bs) freshVenue 0 room bs in
-    let f = followed kept (length bs) freshVenue 0 room bs fresh (omega arith) 0 [] (λ e. omega arith) rooms enough h in
+    let f = followed (length bs) freshVenue 0 room bs fresh-sound (omega arith) 0 [] (λ e. omega arith) rooms enough h in
     record {
       done = let d = f .done in omega arith;
       venue = f .venue;
@@ -196,48 +163,22 @@ agree kept fresh room bs rooms enough h =
 abbrev Roomy : (fuel : ℕ) → Type 0
 Roomy fuel = (v : Venue) (n room : ℕ) (bs : List ℕ) → SoundVenue v → n + length bs ≤ 4294967295 → most * length bs ≤ room → runFrom fuel v n room bs .number ≢ 10
 
-roomy : Kept → (fuel : ℕ) → Roomy fuel
-unfolding runFrom ends after
-roomy kept zero v n room bs s few enough = λ e. omega arith
-roomy kept (suc fuel) v n room bs s few enough = go (eqb (length bs) 0) refl (roomy kept fuel)
-  where
-    a : Answered
-    a = step v (suc n) bs
+roomy : (fuel : ℕ) → Roomy fuel
+unfolding ends after
+roomy zero v n room bs s few enough = unfold runFrom in (λ e. omega arith)
+roomy (suc fuel) v n room bs s few enough =
+    let rs = step v (suc n) bs .effect .reports in
+    let w = writes-at-most v s (suc n) bs in
+    runFrom-by (λ o. o .number ≢ 10) v n room bs fuel (λ _ h. omega arith)
+    (λ some e. absurd (true≢false (sym e ∙ not-exceeds (suc n) room rs (omega arith) (omega arith))))
+    (λ _ _ h. omega arith)
+    (λ d t.
+    let f = whole bs (torn-not v n bs t) in
+    let l = f .0 in
+    let g = f .1 in
+    let q = length-drop (lengthField bs) bs in
+    roomy fuel _ (suc n) _ _ (kept v s (suc n) bs) (omega arith) (omega arith))
 
-    w : List ℕ
-    w = encodeAll (a .effect .reports)
-
-    next : (t : Bool) → eqb (a .refused) 1 ≡ t → Roomy fuel →
-        (elim t as (λ _. Outcome) [
-          | true ↦ ends 1 (a .effect .venue)
-          | false ↦ runFrom fuel (a .effect .venue) (suc n) (room - length w) (drop (lengthField bs) bs)
-        ]) .number ≢ 10
-    next true e ih = λ h. omega arith
-    next false e ih =
-        let f = not-refused v (suc n) bs (eqb-false (a .refused) 1 e) in
-        let l = f .least in
-        let t = f .there in
-        let d = length-drop (lengthField bs) bs in
-        ih (a .effect .venue) (suc n) (room - length w) (drop (lengthField bs) bs) (kept v s (suc n) bs) (omega arith) (omega (arith, writes-at-most v s (suc n) bs))
-
-    go : (t : Bool) → eqb (length bs) 0 ≡ t → Roomy fuel →
-        (elim t as (λ _. Outcome) [
-          | true ↦ ends 0 v
-          | false ↦ elim (exceeds (suc n) room (a .effect .reports)) as (λ _. Outcome) [
-            | true ↦ ends 10 v
-            | false ↦ after (a .effect) (elim (eqb (a .refused) 1) as (λ _. Outcome) [
-              | true ↦ ends 1 (a .effect .venue)
-              | false ↦ runFrom fuel (a .effect .venue) (suc n) (room - length w) (drop (lengthField bs) bs)
-            ])
-          ]
-        ]) .number ≢ 10
-    go true e ih = λ h. omega arith
-    go false e ih =
-        let p = eqb-false (length bs) 0 e in
-        let f : exceeds (suc n) room (a .effect .reports) ≡ false =
-        fits (suc n) room (a .effect .reports) (omega arith) (omega (arith, writes-at-most v s (suc n) bs)) in
-        rw f (next (eqb (a .refused) 1) refl ih)
-
-pub never-fills : Kept → FreshSound → NeverFills
+pub never-fills : NeverFills
 unfolding run called
-never-fills kept fresh room bs few enough = roomy kept (length bs) freshVenue 0 room bs fresh (omega arith) enough
+never-fills room bs few enough = roomy (length bs) freshVenue 0 room bs fresh-sound (omega arith) enough

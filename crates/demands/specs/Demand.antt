@@ -8,7 +8,6 @@ use mathlib.Core.Path.{_≡_}
 use mathlib.Core.Bool.{false, true}
 use mathlib.Core.List.{List, List·Memᴰ, [], _++_, _∷_}
 use Prim.Native.Nat.{_%_, _+_, _/_, _<_, _≤_, suc, zero, ℕ}
-use lib.IntN.{_+ℤ_, pos}
 use lib.ListN.{drop, getD}
 use lib.Signed.{leZ}
 use Rattle.rules.specs.declared.Complex.{Complex}
@@ -18,12 +17,12 @@ use Rattle.rules.specs.declared.Message.the-variants.{Order, TwoLeg}
 use Rattle.rules.specs.declared.Regular.{Regular}
 use Rattle.rules.specs.declared.Venue.{Venue}
 use Rattle.rules.specs.Base.{held}
-use Rattle.rules.specs.Words.{freshVenue, increment, isComplexOf, leggingAt, noLegging, regularAt, signed}
+use Rattle.rules.specs.Words.{freshVenue, increment, isComplexOf, leggingAt, noLegging, regularAt}
 use Rattle.rules.specs.Bytes.{lengthField}
 use Rattle.rules.specs.Messages.{messageOf}
 use Rattle.rules.specs.Records.{Report, answer, records}
 use Rattle.rules.specs.Prices.{better, displayed, inBand, restsAt}
-use Rattle.rules.specs.Standing.{hasLeg, otherClear, otherLeg, parentOf}
+use Rattle.rules.specs.Standing.{hasLeg, legNet, otherClear, otherLeg, parentOf}
 use Rattle.rules.specs.Trading.{take}
 use Rattle.rules.specs.Calls.{Call, one, run}
 use Rattle.rules.specs.Sums.{cancelledOf, contracts, contractsAt, crossedFor, openComplex, openRegular, paired, total}
@@ -85,7 +84,7 @@ calls s (g ∷ gs) = calls (extend s (g .bytes) (one (s .venue) (s .done) (g .ro
 -- ahead of it leave room for an order that brings the hit". The trades are those of `Order.hit`.
 pub record Hit (v : Venue) (c : Complex) (s d : ℕ) (l : Legging) (k : ℕ) : Type 0 where
   pub clear : held (otherClear v c s) ≡ true
-  pub net : leZ (signed d (pos (l .price)) +ℤ signed (otherLeg c s .side) (pos (otherClear v c s))) (c .limit) ≡ true
+  pub net : leZ (legNet c s d (l .price) (otherClear v c s)) (c .limit) ≡ true
   pub found : total (contractsAt (c .id) (otherLeg c s .series) (otherClear v c s))
       (take k (c .id) (otherLeg c s .series) (otherLeg c s .side) (otherClear v c s) k v .reports) ≡ k
 

@@ -54,7 +54,7 @@ module _ {ℓ} (Q : Outcome → Type ℓ) (v : Venue) (n room : ℕ) (bs : List 
   Done = (suc n < 4294967296) × (length (encodeAll (e .reports)) ≤ room)
 
   -- the messages of a run, from the first one on
-  pub runFrom-by : (fuel : ℕ) → (length bs ≡ 0 → Q (ends 0 v)) → (exceeds (suc n) room (e .reports) ≡ true → Q (ends 10 v)) →
+  pub runFrom-by : (fuel : ℕ) → (length bs ≡ 0 → Q (ends 0 v)) → (length bs ≢ 0 → exceeds (suc n) room (e .reports) ≡ true → Q (ends 10 v)) →
       (Done → x .refused ≡ 1 → Q (after e (ends 1 (e .venue)))) →
       (Done → x .refused ≢ 1 → Q (after e (runFrom fuel (e .venue) (suc n) (room - length (encodeAll (e .reports))) (drop (lengthField bs) bs)))) →
       Q (runFrom (suc fuel) v n room bs)
@@ -73,7 +73,7 @@ module _ {ℓ} (Q : Outcome → Type ℓ) (v : Venue) (n room : ℕ) (bs : List 
             ]
           ])
       go true a q b r c = none (eqb-true (length bs) 0 a)
-      go false a true b r c = full b
+      go false a true b r c = full (eqb-false (length bs) 0 a) b
       go false a false b true c = last (within-room (suc n) room (e .reports) b) (eqb-true (x .refused) 1 c)
       go false a false b false c = on (within-room (suc n) room (e .reports) b) (eqb-false (x .refused) 1 c)
 
@@ -116,7 +116,7 @@ ends-room k v room = omega arith
 pub run-room : (fuel : ℕ) (v : Venue) (n room : ℕ) (bs : List ℕ) → length (encodeAll (runFrom fuel v n room bs .reports)) ≤ room
 run-room zero v n room bs = unfold runFrom in (ends-room 0 v room)
 run-room (suc fuel) v n room bs =
-    runFrom-by (λ r. length (encodeAll (r .reports)) ≤ room) v n room bs fuel (λ _. ends-room 0 v room) (λ _. ends-room 10 v room)
+    runFrom-by (λ r. length (encodeAll (r .reports)) ≤ room) v n room bs fuel (λ _. ends-room 0 v room) (λ _ _. ends-room 10 v room)
     (λ d _. after-room _ _ room (d .1) (ends-room 1 _ _)) (λ d _. after-room _ _ room (d .1) (run-room fuel _ (suc n) _ _))
 
 pub one-room : (v : Venue) (n room : ℕ) (bs : List ℕ) → length (encodeAll (oneFrom v n room bs .reports)) ≤ room
@@ -157,7 +157,7 @@ unfolding ends after left
 run-ends zero v n room bs le = unfold runFrom in (λ e. no-bytes bs (omega arith))
 run-ends (suc fuel) v n room bs le =
     runFrom-by (λ r. r .number ≡ 0 → left (r .done) bs ≡ []) v n room bs fuel
-    (λ z _. no-bytes bs z) (λ _ h. absurd (omega arith)) (λ _ _ h. absurd (omega arith))
+    (λ z _. no-bytes bs z) (λ _ _ h. absurd (omega arith)) (λ _ _ h. absurd (omega arith))
     (λ _ t h. run-ends fuel _ (suc n) _ (drop (lengthField bs) bs) (simp length-drop (let z = whole bs (torn-not v n bs t) in omega arith)) h)
 
 -- the fuel of a run is enough: where its number is 0 it has done the whole list

@@ -97,8 +97,7 @@ module _ (i s d : ℕ) where
   hitting k v h e =
       let f = hit-frees i k v n (h .housed e) in
       let z = due-free 60 (lg (hit i (lg v n) k v .venue) n .quantity) f in
-      let y = due-held 60 (lg v n .quantity) (held-pos (lg v n .quantity) e) in
-      (
+      let y = due-held 60 (lg v n .quantity) (held-pos (lg v n .quantity) e) in (
         record { is = hit-from of-lasts i (lg v n) k v (of-lasts .fillR i k v (h .is)); housed = λ t. absurd (true≢false (sym t ∙ f)) },
         omega (arith, costs-hit i (lg v n) k v),
       )
