@@ -46,7 +46,7 @@ step-account s bs a few =
     let n = suc (s .done) in
     let t = step-takes (s .venue) (i .fine) (i .stand) (i .tidy) n bs in
     let y = told (s .venue) (i .ranged) n bs in
-    advance bs a (t .takes) (t .ends) (step (s .venue) n bs .refused) (y .mask) (y .count) (y .effects) (y .is) (y .plain) (t .brings) (step-invariant (s .venue) i n bs) few
+    advance bs a (t .takes) (t .ends) (step (s .venue) n bs .refused) (y .mask) (y .count) (y .effects) (y .is) (y .quiet) (t .brings) (step-invariant (s .venue) i n bs) few
 
 all-account : (o : Opening) (gs : List Given) → Account (calls (opening o) gs)
 all-account = all-keep Account (λ s a. a .invariant .ranged) start-account step-account

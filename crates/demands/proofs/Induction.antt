@@ -3,7 +3,6 @@ use mathlib.Core.List.{List, [], _++_, _∷_, append-assoc, append-nil}
 use Prim.Native.Nat.{_+_, _≤_, suc, zero, ℕ}
 use native.Mathlib.Nat.{add-suc, add-zero, suc-add}
 use lib.ListN.{drop, length}
-use Rattle.rules.specs.declared.Venue.{Venue}
 use Rattle.rules.specs.Words.{freshVenue}
 use Rattle.rules.specs.Bytes.{lengthField}
 use Rattle.rules.specs.Records.{Each, Fits, U32, encodeAll}

@@ -1,7 +1,6 @@
 -- No message upon a sound venue writes more than `most` bytes.
-use mathlib.Core.Path.{_∙_, _≡_, ap, refl}
-use mathlib.Core.List.{List}
-use Prim.Native.Nat.{_≤_, suc, ℕ}
+use mathlib.Core.Path.{_∙_, ap, refl}
+use Prim.Native.Nat.{suc, ℕ}
 use native.Mathlib.Omega.{arith}
 use Rattle.rules.specs.declared.Complex.{Complex}
 use Rattle.rules.specs.declared.Venue.{Venue}

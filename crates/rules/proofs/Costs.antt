@@ -1,6 +1,5 @@
 -- What each effect costs: nothing, but for the trades and the pair of a hit, a new order's own worth, and what is generated.
 use mathlib.Core.Path.{_∙_, _≡_, ap, refl, subst}
-use mathlib.Core.Bool.{Bool, true, false, not}
 use mathlib.Core.List.{List}
 use Prim.Native.Nat.{ℕ, zero, suc, _+_, _≤_, _<_, min}
 use native.Mathlib.Omega.{arith}
@@ -11,19 +10,18 @@ use Rattle.rules.specs.declared.Complex.{Complex}
 use Rattle.rules.specs.declared.Legging.{Legging}
 use Rattle.rules.specs.declared.Venue.{Venue}
 use Rattle.rules.specs.declared.Cause.{Cause}
-use Rattle.rules.specs.declared.Cause.the-variants.{Executed, Touched}
-use Rattle.rules.specs.Base.{if_then_else_, held, Picked, nobody, picked, first}
+use Rattle.rules.specs.declared.Cause.the-variants.{Executed}
 use Rattle.rules.specs.Words.{opposite, noComplex, regularAt, complexAt}
 use Rattle.rules.specs.Prices.{bestRegular, bestSize, sizeIn, net}
 use Rattle.rules.specs.Records.{Report, trade, pair, crossed}
 use Rattle.rules.specs.Effects.{Effect, nothing, report, _⟫_, Turn, ended, turned, repeat}
-use Rattle.rules.specs.Removal.{remove, removeOf, failIf}
+use Rattle.rules.specs.Removal.{remove, removeOf}
 use Rattle.rules.specs.Standing.{settle, verdict}
 use Rattle.rules.specs.Trading.{fillRegular, fillComplex, take, pairOff}
 use Rattle.rules.specs.Order.{meet, hit}
-use Rattle.rules.specs.Complex.{crosses, limitThenId, cross, crossTurn, touches, takenSide, touch, legsIn, legIn, legInTurn, anyClosed, work, nextAbove, each}
+use Rattle.rules.specs.Complex.{crosses, cross, crossTurn, touches, touch, legsIn, legIn, legInTurn, anyClosed, work, each}
 use Rattle.rules.proofs.Tests.{and-l, and-r, held-pos}
-use Rattle.rules.proofs.Picking.{At, Chosen, first-chosen}
+use Rattle.rules.proofs.Picking.{At}
 use Rattle.rules.specs.Lengths.{recordLength}
 use Rattle.rules.proofs.Summing.{due-held}
 use Rattle.rules.proofs.Worth.{worth, fill-le, fills-free, fillC-le, fillC-frees, fillsC-free, spent, spent-nothing, spent-report, spent-then, spent-remove}

@@ -4,10 +4,10 @@ use mathlib.Core.Bool.{Bool, true, false, not}
 use mathlib.Core.List.{List, _++_}
 use Prim.Native.Nat.{ℕ, suc, _+_, _≤_, _<_}
 use native.Mathlib.Omega.{arith}
-use lib.Dec.{ltb, eqb}
+use lib.Dec.{eqb}
 use lib.Seq.{length-take-le}
 use lib.ListN.{length, take, drop, length-append, List·getD-append, take-append-drop}
-use borrow.Author.Tests.{ltb-false, le-ltb, eqb-true}
+use borrow.Author.Tests.{eqb-true}
 use Rattle.rules.specs.declared.Venue.{Venue}
 use Rattle.rules.specs.declared.Message.{Message}
 use Rattle.rules.specs.declared.Message.the-variants.{Order, TwoLeg, Cancel, Away, Status, Sweep}
@@ -20,7 +20,6 @@ use Rattle.rules.specs.Effects.{nothing}
 use Rattle.rules.specs.Refusals.{torn, isKind, isLength, inRange, decoded, refusalOf, refusal}
 use Rattle.rules.specs.Step.{accept, answered, step}
 use Rattle.rules.specs.Calls.{oneFrom, one}
-use Rattle.rules.proofs.Calling.{step-by}
 use Rattle.rules.proofs.Refusing.{accepted-length, whole, whole-in}
 
 -- a whole message: its length field says at least 4 bytes, and they are there

@@ -6,7 +6,7 @@ use mathlib.Core.List.{List, _++_, _∷_}
 use Prim.Native.Nat.{_+_, _<_, _≤_, ℕ}
 use native.Mathlib.Omega.{arith}
 use lib.Dec.{eqb}
-use lib.IntN.{_+ℤ_, pos, ℤ}
+use lib.IntN.{ℤ}
 use lib.ListN.{getD, length}
 use borrow.Author.Tests.{eq-eqb, eqb-false, eqb-true, ne-eqb}
 use Rattle.rules.specs.declared.Cause.the-variants.{Executed}
@@ -15,7 +15,7 @@ use Rattle.rules.specs.declared.Legging.{Legging}
 use Rattle.rules.specs.declared.Regular.{Regular}
 use Rattle.rules.specs.declared.Venue.{Venue}
 use Rattle.rules.specs.Base.{held, if_then_else_, placeWhere}
-use Rattle.rules.specs.Words.{complexAt, isComplexOf, noLegging, opposite, regularAt, signed, withComplex}
+use Rattle.rules.specs.Words.{complexAt, isComplexOf, noLegging, opposite, regularAt, withComplex}
 use Rattle.rules.specs.Records.{Report, pair, trade}
 use Rattle.rules.specs.Effects.{Effect, _⟫_, report}
 use Rattle.rules.specs.Prices.{sizeIn}

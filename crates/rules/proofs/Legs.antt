@@ -8,13 +8,13 @@ use borrow.Author.Tests.{ltb-true, lt-ltb, le-ltb}
 use Rattle.rules.specs.declared.Complex.{Complex}
 use Rattle.rules.specs.declared.Legging.{Legging}
 use Rattle.rules.specs.declared.Venue.{Venue}
-use Rattle.rules.specs.Base.{if_then_else_, held, Picked, nobody, picked}
-use Rattle.rules.specs.Words.{placeOf, noComplex, withLegging, earlierComplex}
+use Rattle.rules.specs.Base.{if_then_else_, held}
+use Rattle.rules.specs.Words.{placeOf, noComplex, withLegging}
 use Rattle.rules.specs.Records.{Report, generated}
 use Rattle.rules.specs.Effects.{Effect, nothing, report, _⟫_}
 use Rattle.rules.specs.Removal.{remove}
 use Rattle.rules.specs.Generation.{placed, makes, make, generateLeg, generate}
-use Rattle.rules.specs.Complex.{nextAbove, each}
+use Rattle.rules.specs.Complex.{each}
 use Rattle.rules.proofs.Tests.{and-l, and-r}
 use Rattle.rules.proofs.Cases.{each-by, if-by, isAbove}
 use Rattle.rules.proofs.Picking.{At}

@@ -1,29 +1,27 @@
 -- No effect writes an answer, upon any venue: the only one is the message's own.
 use mathlib.Core.Path.{subst}
-use mathlib.Core.Bool.{Bool, true, false, not, _&&_}
-use mathlib.Core.List.{List, [], _∷_, _++_}
-use Prim.Native.Nat.{ℕ, zero, suc, _/_, _%_, min}
+use mathlib.Core.Bool.{_&&_}
+use mathlib.Core.List.{List, [], _∷_}
+use Prim.Native.Nat.{ℕ, zero, suc}
 use lib.IntN.{ℤ}
-use Rattle.rules.specs.declared.Regular.{Regular}
 use Rattle.rules.specs.declared.Complex.{Complex}
 use Rattle.rules.specs.declared.Legging.{Legging}
 use Rattle.rules.specs.declared.Venue.{Venue}
 use Rattle.rules.specs.declared.Message.{Message}
 use Rattle.rules.specs.declared.Message.the-variants.{Order, TwoLeg, Cancel, Away, Status, Sweep}
 use Rattle.rules.specs.declared.Cause.{Cause}
-use Rattle.rules.specs.declared.Cause.the-variants.{Touched}
 use Rattle.rules.specs.declared.Verdict.{Verdict}
 use Rattle.rules.specs.declared.Verdict.the-variants.{Stands, Fails}
-use Rattle.rules.specs.Base.{if_then_else_, held, Picked, nobody, picked, first}
-use Rattle.rules.specs.Words.{opposite, regularAt, complexAt, leggingAt}
+use Rattle.rules.specs.Base.{held}
+use Rattle.rules.specs.Words.{complexAt}
 use Rattle.rules.specs.Records.{Each, Report, answer, trade, pair, generated, removed, crossed, cancelled}
 use Rattle.rules.specs.Effects.{Effect, nothing, report, _⟫_, Turn, ended, turned, repeat}
-use Rattle.rules.specs.Removal.{goes, leavers, remove, removeOf, failIf}
+use Rattle.rules.specs.Removal.{goes, leavers, remove, removeOf}
 use Rattle.rules.specs.Standing.{verdict, settle}
 use Rattle.rules.specs.Trading.{fillRegular, tradeWith, take, pairOff}
-use Rattle.rules.specs.Order.{firstMet, leggingFirst, meet, hit, meetTurn, enterRegular, order}
+use Rattle.rules.specs.Order.{meet, hit, meetTurn, enterRegular, order}
 use Rattle.rules.specs.Generation.{makes, make, generateLeg, generate}
-use Rattle.rules.specs.Complex.{anyClosed, crosses, limitThenId, cross, crossTurn, touches, takenSide, touch, legsIn, legIn, legInTurn, work, complex, nextAbove, each, sweep, cancelRegular, cancelComplex, regularPlace, complexPlace, restsRegular, cancel}
+use Rattle.rules.specs.Complex.{anyClosed, cross, crossTurn, touches, touch, legsIn, legIn, legInTurn, work, complex, each, sweep, cancelRegular, cancelComplex, restsRegular, cancel}
 use Rattle.rules.specs.Places.{closeGaps}
 use Rattle.rules.specs.Step.{perform, accept}
 use Rattle.rules.proofs.Cases.{crossTurn-by, each-by, if-by, meetTurn-by, repeat-by, take-by}
@@ -45,7 +43,7 @@ NoAnswer (cancelled id quantity) = Unit {0}
 abbrev pub Quiet : Effect → Type 0
 Quiet e = Each NoAnswer (e .reports)
 
-quiet-nothing : (v : Venue) → Quiet (nothing v)
+pub quiet-nothing : (v : Venue) → Quiet (nothing v)
 unfolding nothing
 quiet-nothing v = tt
 

@@ -1,9 +1,7 @@
 -- What one message writes: its answer, what the venue is worth, and a complex order's own worth with both its legs at most.
-use mathlib.Core.Bool.{Bool}
 use mathlib.Core.List.{List, []}
 use Prim.Native.Nat.{ℕ, _+_, _*_, _≤_}
 use native.Mathlib.Omega.{arith}
-use lib.Dec.{eqb}
 use Rattle.rules.specs.declared.Cause.the-variants.{Withdrawn}
 use Rattle.rules.specs.declared.Complex.{Complex}
 use Rattle.rules.specs.declared.Message.{Message}
@@ -18,7 +16,6 @@ use Rattle.rules.specs.Standing.{parentOf, settle}
 use Rattle.rules.specs.Trading.{fillComplex, fillRegular, freeComplex, putComplex}
 use Rattle.rules.specs.Generation.{generate}
 use Rattle.rules.specs.Complex.{cancel, cancelComplex, cancelRegular, complex, complexPlace, each, regularPlace, restsRegular, sweep, work}
-use Rattle.rules.specs.Refusals.{refusal}
 use Rattle.rules.specs.Step.{accept, answered, perform, setAway, setStatus, step}
 use Rattle.rules.specs.Sums.{total}
 use Rattle.rules.specs.Lengths.{perComplex, perLeg, recordLength}
