@@ -25,7 +25,7 @@ use Rattle.rules.proofs.Adding.{open-none, total-append}
 use Rattle.rules.proofs.Filling.{cx, reg}
 use Rattle.rules.proofs.Generating.{AllStand}
 use Rattle.rules.proofs.Ledger.{ComplexId, Moved, RegularId, cx-kept, ratio-none, ratio-then, reg-kept}
-use Rattle.rules.proofs.Widths.{Plain}
+use Rattle.rules.proofs.Quiet.{NoAnswer}
 use Rattle.demands.proofs.Admitting.{Admitted, NewComplex, NewOrder}
 use Rattle.demands.proofs.Closed.{Ends}
 use Rattle.demands.proofs.Homes.{Fine, Good, Invariant}
@@ -95,10 +95,10 @@ onto s bs e = record {
 }
 
 -- an answer is not among a message's effects
-no-answer : (j x m c : ℕ) (qs : List Report) → Each Plain qs → List·Memᴰ (answer j x m c) qs → ⊥
+no-answer : (j x m c : ℕ) (qs : List Report) → Each NoAnswer qs → List·Memᴰ (answer j x m c) qs → ⊥
 no-answer j x m c [] h k = List·Memᴰ·not-nil k
 no-answer j x m c (q ∷ qs) h k = elim (List·Memᴰ·cases-cons k) [
-  | inl e ↦ subst Plain (sym e) (h .0)
+  | inl e ↦ subst NoAnswer (sym e) (h .0)
   | inr t ↦ no-answer j x m c qs (h .1) t
 ]
 
@@ -117,7 +117,7 @@ pub record Takes (v : Venue) (qs : List Report) (w : Venue) (ms : List Message) 
 
 -- the message bs, and its effect e: what it brings in, its records with its 64 first, and the venue that is returned
 module _ {s : Seen} {u : Venue} {ns : List Message} (bs : List ℕ) {e : Effect} (a : Account s) (t : Takes (s .venue) (e .reports) u ns) (z : Ends u (e .venue))
-    (x k l : ℕ) (es : List Report) (is : e .reports ≡ answer (suc (s .done)) x k l ∷ es) (plain : Each Plain es)
+    (x k l : ℕ) (es : List Report) (is : e .reports ≡ answer (suc (s .done)) x k l ∷ es) (quiet : Each NoAnswer es)
     (brings : x ≡ 0 → ns ≡ messageOf bs ∷ []) (invariant : Invariant (e .venue)) (few : U32 (suc (s .done))) where
   abbrev qs : List Report
   qs = e .reports
@@ -203,7 +203,7 @@ module _ {s : Seen} {u : Venue} {ns : List Message} (bs : List ℕ) {e : Effect}
             let b : length (s .messages) ≡ y .before = (let i = n .0 in let c = a .count in omega arith) in
             let m=bs = ap messageOf (sym (getD-at (s .messages) bs [] [] (y .before) b)) ∙ y .is in
             inr (subst (λ (q : List Message). List·Memᴰ m q) (sym (brings (sym (n .1)))) (List·Memᴰ·head (sym m=bs)))
-        | inr q ↦ absurd (no-answer _ _ _ _ es plain q)
+        | inr q ↦ absurd (no-answer _ _ _ _ es quiet q)
       ]
 
   told-by : (j y m c : ℕ) → List·Memᴰ (answer j y m c) (s .reports ++ qs) → j ≤ suc (s .done)
@@ -211,7 +211,7 @@ module _ {s : Seen} {u : Venue} {ns : List Message} (bs : List ℕ) {e : Effect}
     | inl o ↦ let b = a .numbers j y m c o in omega arith
     | inr p ↦ elim (List·Memᴰ·cases-cons (subst (λ (q : List Report). List·Memᴰ (answer j y m c) q) is p)) [
       | inl q ↦ let b = same-number q .0 in omega arith
-      | inr q ↦ absurd (no-answer j y m c es plain q)
+      | inr q ↦ absurd (no-answer j y m c es quiet q)
     ]
   ]
 

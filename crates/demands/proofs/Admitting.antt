@@ -23,7 +23,7 @@ use Rattle.rules.proofs.Filling.{SameLegs, cx, lg, reg, same-legs}
 use Rattle.rules.proofs.Generating.{AllStand, place-series}
 use Rattle.rules.proofs.Ledger.{ComplexId, RegularId}
 use Rattle.rules.proofs.Putting.{put-alone, put-each, put-most, put-new, put-old, put-rises}
-use Rattle.rules.proofs.Sizes.{Elsewhere, best-set, free-shows, not-there, size-set}
+use Rattle.rules.proofs.Sizes.{Elsewhere, best-set, free-shows, no-price, not-there, size-set}
 use Rattle.rules.proofs.Tests.{and-l, and-r, free-none, held-pos}
 use Rattle.rules.proofs.Verdicts.{passed}
 use Rattle.demands.proofs.Entering.{Pays, Ready, pays-there}
@@ -164,7 +164,7 @@ module _ (v : Venue) (o : Regular) (i : ℕ) where
     unfolding withRegular withLast
     order-elsewhere = record {
       best = λ t e ne. best-set t e (v .regular) i o (free-shows t e _ (joins .free)) (not-there t e o ne);
-      size = λ t e p ne. size-set t e p (v .regular) i o (free-shows t e _ (joins .free)) (not-there t e o ne);
+      size = λ t e p ne. size-set t e p (v .regular) i o (no-price t e p _ (free-shows t e _ (joins .free))) (no-price t e p o (not-there t e o ne));
       complex = refl;
       legging = refl;
     }

@@ -8,9 +8,9 @@ use mathlib.Core.Path.{_≡_}
 use mathlib.Core.Bool.{false, true}
 use mathlib.Core.List.{List, List·Memᴰ, [], _++_, _∷_}
 use Prim.Native.Nat.{_%_, _+_, _/_, _<_, _≤_, suc, zero, ℕ}
-use lib.IntN.{_+ℤ_, pos}
 use lib.ListN.{drop, getD}
 use lib.Signed.{leZ}
+use Rattle.rules.specs.declared.Cause.the-variants.{Executed}
 use Rattle.rules.specs.declared.Complex.{Complex}
 use Rattle.rules.specs.declared.Legging.{Legging}
 use Rattle.rules.specs.declared.Message.{Message}
@@ -18,13 +18,15 @@ use Rattle.rules.specs.declared.Message.the-variants.{Order, TwoLeg}
 use Rattle.rules.specs.declared.Regular.{Regular}
 use Rattle.rules.specs.declared.Venue.{Venue}
 use Rattle.rules.specs.Base.{held}
-use Rattle.rules.specs.Words.{freshVenue, increment, isComplexOf, leggingAt, noLegging, regularAt, signed}
+use Rattle.rules.specs.Words.{freshVenue, increment, isComplexOf, leggingAt, noLegging, opposite, regularAt}
 use Rattle.rules.specs.Bytes.{lengthField}
 use Rattle.rules.specs.Messages.{messageOf}
-use Rattle.rules.specs.Records.{Report, answer, records}
+use Rattle.rules.specs.Records.{Report, answer, pair, records, trade}
+use Rattle.rules.specs.Removal.{removeOf}
 use Rattle.rules.specs.Prices.{better, displayed, inBand, restsAt}
-use Rattle.rules.specs.Standing.{hasLeg, otherClear, otherLeg, parentOf}
+use Rattle.rules.specs.Standing.{hasLeg, legNet, otherClear, otherLeg, parentOf}
 use Rattle.rules.specs.Trading.{take}
+use Rattle.rules.specs.Order.{hit}
 use Rattle.rules.specs.Calls.{Call, one, run}
 use Rattle.rules.specs.Sums.{cancelledOf, contracts, contractsAt, crossedFor, openComplex, openRegular, paired, total}
 
@@ -80,14 +82,21 @@ calls s (g ∷ gs) = calls (extend s (g .bytes) (one (s .venue) (s .done) (g .ro
 
 -- Legging orders ------------------------------------------------------------------------------
 
+-- the other leg's trades when k contracts of c's leg in series s are hit: k contracts at its clear price, upon the venue as it stands
+abbrev pub otherTrades : Venue → Complex → (s k : ℕ) → List Report
+otherTrades v c s k = take k (c .id) (otherLeg c s .series) (otherLeg c s .side) (otherClear v c s) k v .reports
+
 -- "The hit for k … is the one written under Order: it finds k regular contracts at the other leg's clear price, its own price and that one
 -- netting to N or less": of the legging order l of c at side d of series s, upon the venue as it stands, "whether or not ids, places or the size
--- ahead of it leave room for an order that brings the hit". The trades are those of `Order.hit`.
+-- ahead of it leave room for an order that brings the hit".
 pub record Hit (v : Venue) (c : Complex) (s d : ℕ) (l : Legging) (k : ℕ) : Type 0 where
   pub clear : held (otherClear v c s) ≡ true
-  pub net : leZ (signed d (pos (l .price)) +ℤ signed (otherLeg c s .side) (pos (otherClear v c s))) (c .limit) ≡ true
-  pub found : total (contractsAt (c .id) (otherLeg c s .series) (otherClear v c s))
-      (take k (c .id) (otherLeg c s .series) (otherLeg c s .side) (otherClear v c s) k v .reports) ≡ k
+  pub net : leZ (legNet c s d (l .price) (otherClear v c s)) (c .limit) ≡ true
+  pub found : total (contractsAt (c .id) (otherLeg c s .series) (otherClear v c s)) (otherTrades v c s k) ≡ k
+  -- it is `Order.hit`: by the order at place i, of the same series and the other side, that writes its own trade, these trades, the 66 and the removals
+  pub written : (i : ℕ) → regularAt v i .series ≡ s → regularAt v i .side ≡ opposite d → hit i l k v .reports ≡
+      trade s (opposite d) (l .price) k (regularAt v i .id) (c .id)
+      ∷ (otherTrades v c s k ++ (pair (c .id) (legNet c s d (l .price) (otherClear v c s)) k ∷ removeOf (c .id) Executed v .reports))
 
 -- of the legging order l that stands at side d of series s
 pub record Standing (v : Venue) (s d : ℕ) (l : Legging) : Type 0 where

@@ -16,8 +16,9 @@ use Rattle.rules.specs.Effects.{Effect, nothing}
 use Rattle.rules.specs.Refusals.{refusal}
 use Rattle.rules.specs.Step.{accept, answered, filled, mask, step}
 use Rattle.rules.proofs.Calling.{step-by}
+use Rattle.rules.proofs.Quiet.{NoAnswer, Quiet, quiet-accept, quiet-nothing}
 use Rattle.rules.proofs.Refusing.{accepted, refusal-small}
-use Rattle.rules.proofs.Widths.{Plain, Ranged, plain-fits}
+use Rattle.rules.proofs.Widths.{Ranged}
 use Rattle.rules.proofs.Writing.{Writes, writes-accept, writes-nothing}
 
 -- Mask and count ------------------------------------------------------------------------------
@@ -54,14 +55,14 @@ pub record Told (v : Venue) (n : ℕ) (bs : List ℕ) : Type 0 where
   pub count : ℕ
   pub effects : List Report
   pub is : step v n bs .effect .reports ≡ answer n (step v n bs .refused) mask count ∷ effects
-  pub plain : Each Plain effects
+  pub quiet : Each NoAnswer effects
   pub ranged : Ranged (step v n bs .effect .venue)
   pub fits : U32 n → Each Fits (step v n bs .effect .reports)
 
 told-of : (n x : ℕ) (e : Effect) → x ≤ 8 → Writes e → U32 n → Each Fits (answered n x e .effect .reports)
 unfolding answered
 told-of n x e s w h =
-    ((h, omega arith, mask-fits (e .venue .legging) (w .ranged .len), count-fits (e .venue .legging) (w .ranged .len)), plain-fits (e .reports) (w .plain))
+    ((h, omega arith, mask-fits (e .venue .legging) (w .ranged .len), count-fits (e .venue .legging) (w .ranged .len)), w .fits)
 
 pub told : (v : Venue) → Ranged v → (n : ℕ) (bs : List ℕ) → Told v n bs
 unfolding step answered
@@ -73,7 +74,7 @@ told v r n bs =
       count = filled (e .venue .legging);
       effects = e .reports;
       is = refl;
-      plain = w .plain;
+      quiet = step-by Quiet v bs (λ _. quiet-accept (messageOf bs) v) (λ _. quiet-nothing v);
       ranged = w .ranged;
       fits = told-of n (refusal v bs) e (refusal-small v bs) w;
     }

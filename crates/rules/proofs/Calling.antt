@@ -1,19 +1,19 @@
 -- One message and the two calls, by their cases; a call's records fit the report memory, whatever the venue and the bytes.
-use mathlib.Core.Path.{_≡_, refl}
+use mathlib.Core.Path.{_≡_, refl, sym}
 use mathlib.Core.Bool.{Bool, false, not, true}
 use mathlib.Core.Logic.{_≢_}
-use mathlib.Core.List.{List, [], _++_, _∷_}
-use Prim.Native.Nat.{_+_, _-_, _<_, _≤_, suc, zero, ℕ}
+use mathlib.Core.List.{List, [], _++_, _∷_, append-assoc}
+use Prim.Native.Nat.{_-_, _<_, _≤_, suc, zero, ℕ}
 use native.Mathlib.Omega.{arith}
 use lib.Dec.{eqb, ltb}
 use lib.ListN.{drop, length, length-append, length-drop, length-replicate}
-use borrow.Author.Tests.{eqb-false, eqb-true, ltb-false, ne-eqb}
+use borrow.Author.Tests.{eqb-false, eqb-true, le-ltb, ltb-false, ne-eqb}
 use Rattle.rules.specs.declared.Venue.{Venue}
 use Rattle.rules.specs.Base.{if_then_else_}
 use Rattle.rules.specs.Words.{freshVenue}
 use Rattle.rules.specs.Bytes.{lengthField}
 use Rattle.rules.specs.Messages.{messageOf}
-use Rattle.rules.specs.Records.{Report, encodeAll, sheet}
+use Rattle.rules.specs.Records.{Report, encode, encodeAll, sheet}
 use Rattle.rules.specs.Effects.{Effect, nothing}
 use Rattle.rules.specs.Refusals.{full, refusal, torn}
 use Rattle.rules.specs.Step.{Answered, accept, answered, step}
@@ -37,6 +37,11 @@ within-room number room rs h =
     let b = ltb-false room (length (encodeAll rs)) (or-false-r (ltb 4294967295 number) (ltb room (length (encodeAll rs))) h) in
     (omega arith, b)
 
+-- and one whose number and records fit does not exceed
+pub not-exceeds : (number room : ℕ) (rs : List Report) → number ≤ 4294967295 → length (encodeAll rs) ≤ room → exceeds number room rs ≡ false
+unfolding exceeds
+not-exceeds number room rs few enough = rw (le-ltb 4294967295 number few, le-ltb room (length (encodeAll rs)) enough)
+
 module _ {ℓ} (Q : Outcome → Type ℓ) (v : Venue) (n room : ℕ) (bs : List ℕ) where
   abbrev x : Answered
   x = step v (suc n) bs
@@ -49,7 +54,7 @@ module _ {ℓ} (Q : Outcome → Type ℓ) (v : Venue) (n room : ℕ) (bs : List 
   Done = (suc n < 4294967296) × (length (encodeAll (e .reports)) ≤ room)
 
   -- the messages of a run, from the first one on
-  pub runFrom-by : (fuel : ℕ) → (length bs ≡ 0 → Q (ends 0 v)) → (exceeds (suc n) room (e .reports) ≡ true → Q (ends 10 v)) →
+  pub runFrom-by : (fuel : ℕ) → (length bs ≡ 0 → Q (ends 0 v)) → (length bs ≢ 0 → exceeds (suc n) room (e .reports) ≡ true → Q (ends 10 v)) →
       (Done → x .refused ≡ 1 → Q (after e (ends 1 (e .venue)))) →
       (Done → x .refused ≢ 1 → Q (after e (runFrom fuel (e .venue) (suc n) (room - length (encodeAll (e .reports))) (drop (lengthField bs) bs)))) →
       Q (runFrom (suc fuel) v n room bs)
@@ -68,7 +73,7 @@ module _ {ℓ} (Q : Outcome → Type ℓ) (v : Venue) (n room : ℕ) (bs : List 
             ]
           ])
       go true a q b r c = none (eqb-true (length bs) 0 a)
-      go false a true b r c = full b
+      go false a true b r c = full (eqb-false (length bs) 0 a) b
       go false a false b true c = last (within-room (suc n) room (e .reports) b) (eqb-true (x .refused) 1 c)
       go false a false b false c = on (within-room (suc n) room (e .reports) b) (eqb-false (x .refused) 1 c)
 
@@ -85,17 +90,23 @@ module _ {ℓ} (Q : Outcome → Type ℓ) (v : Venue) (n room : ℕ) (bs : List 
       go true a true b = full a b
       go true a false b = done a (within-room (suc n) room (e .reports) b)
 
+-- upon a sound venue, a message that does not exceed is done
+pub oneFrom-done : (v : Venue) (n room : ℕ) (bs : List ℕ) → sound v ≡ true → exceeds (suc n) room (step v (suc n) bs .effect .reports) ≡ false →
+    oneFrom v n room bs ≡ after (step v (suc n) bs .effect) (ends (step v (suc n) bs .refused) (step v (suc n) bs .effect .venue))
+unfolding oneFrom
+oneFrom-done v n room bs s e = rw (s, e)
+
 -- The report memory ---------------------------------------------------------------------------
 
-pub encodeAll-append : (a b : List Report) → length (encodeAll (a ++ b)) ≡ length (encodeAll a) + length (encodeAll b)
+pub encode-append : (a b : List Report) → encodeAll (a ++ b) ≡ encodeAll a ++ encodeAll b
 unfolding encodeAll
-encodeAll-append [] b = omega arith
-encodeAll-append (r ∷ a) b = simp length-append (omega (arith, encodeAll-append a b))
+encode-append [] b = refl
+encode-append (r ∷ a) b = rw (encode-append a b) (sym (append-assoc (encode r) (encodeAll a) (encodeAll b)))
 
 after-room : (e : Effect) (r : Outcome) (room : ℕ) → length (encodeAll (e .reports)) ≤ room → length (encodeAll (r .reports)) ≤ room - length (encodeAll (e .reports)) →
     length (encodeAll (after e r .reports)) ≤ room
 unfolding after
-after-room e r room h k = rw (encodeAll-append (e .reports) (r .reports)) (omega arith)
+after-room e r room h k = rw (encode-append (e .reports) (r .reports), length-append) (omega arith)
 
 ends-room : (k : ℕ) (v : Venue) (room : ℕ) → length (encodeAll (ends k v .reports)) ≤ room
 unfolding ends encodeAll
@@ -105,7 +116,7 @@ ends-room k v room = omega arith
 pub run-room : (fuel : ℕ) (v : Venue) (n room : ℕ) (bs : List ℕ) → length (encodeAll (runFrom fuel v n room bs .reports)) ≤ room
 run-room zero v n room bs = unfold runFrom in (ends-room 0 v room)
 run-room (suc fuel) v n room bs =
-    runFrom-by (λ r. length (encodeAll (r .reports)) ≤ room) v n room bs fuel (λ _. ends-room 0 v room) (λ _. ends-room 10 v room)
+    runFrom-by (λ r. length (encodeAll (r .reports)) ≤ room) v n room bs fuel (λ _. ends-room 0 v room) (λ _ _. ends-room 10 v room)
     (λ d _. after-room _ _ room (d .1) (ends-room 1 _ _)) (λ d _. after-room _ _ room (d .1) (run-room fuel _ (suc n) _ _))
 
 pub one-room : (v : Venue) (n room : ℕ) (bs : List ℕ) → length (encodeAll (oneFrom v n room bs .reports)) ≤ room
@@ -133,11 +144,11 @@ unfoldable pub left : (done : ℕ) → List ℕ → List ℕ
 left zero bs = bs
 left (suc done) bs = left done (drop (lengthField bs) bs)
 
-torn-not : (v : Venue) (n : ℕ) (bs : List ℕ) → step v (suc n) bs .refused ≢ 1 → torn bs ≡ false
+pub torn-not : (v : Venue) (n : ℕ) (bs : List ℕ) → step v (suc n) bs .refused ≢ 1 → torn bs ≡ false
 unfolding step answered
 torn-not v n bs h = not-torn v bs (ne-eqb (refusal v bs) 1 h)
 
-no-bytes : (bs : List ℕ) → length bs ≡ 0 → bs ≡ []
+pub no-bytes : (bs : List ℕ) → length bs ≡ 0 → bs ≡ []
 no-bytes [] h = refl
 no-bytes (x ∷ bs) h = absurd (omega arith)
 
@@ -146,7 +157,7 @@ unfolding ends after left
 run-ends zero v n room bs le = unfold runFrom in (λ e. no-bytes bs (omega arith))
 run-ends (suc fuel) v n room bs le =
     runFrom-by (λ r. r .number ≡ 0 → left (r .done) bs ≡ []) v n room bs fuel
-    (λ z _. no-bytes bs z) (λ _ h. absurd (omega arith)) (λ _ _ h. absurd (omega arith))
+    (λ z _. no-bytes bs z) (λ _ _ h. absurd (omega arith)) (λ _ _ h. absurd (omega arith))
     (λ _ t h. run-ends fuel _ (suc n) _ (drop (lengthField bs) bs) (simp length-drop (let z = whole bs (torn-not v n bs t) in omega arith)) h)
 
 -- the fuel of a run is enough: where its number is 0 it has done the whole list

@@ -2,23 +2,25 @@
 use mathlib.Core.Path.{_∙_, _≡_, ap, refl, subst, sym}
 use mathlib.Core.Bool.{Bool, _||_, false, true}
 use mathlib.Core.Logic.{_≢_, _⊎_, inl, inr}
-use mathlib.Core.List.{List}
+use mathlib.Core.List.{List, _++_, _∷_}
 use Prim.Native.Nat.{_+_, _<_, _≤_, ℕ}
 use native.Mathlib.Omega.{arith}
 use lib.Dec.{eqb}
-use lib.IntN.{_+ℤ_, pos, ℤ}
+use lib.IntN.{ℤ}
 use lib.ListN.{getD, length}
 use borrow.Author.Tests.{eq-eqb, eqb-false, eqb-true, ne-eqb}
+use Rattle.rules.specs.declared.Cause.the-variants.{Executed}
 use Rattle.rules.specs.declared.Complex.{Complex}
 use Rattle.rules.specs.declared.Legging.{Legging}
 use Rattle.rules.specs.declared.Regular.{Regular}
 use Rattle.rules.specs.declared.Venue.{Venue}
 use Rattle.rules.specs.Base.{held, if_then_else_, placeWhere}
-use Rattle.rules.specs.Words.{complexAt, isComplexOf, noLegging, opposite, regularAt, signed, withComplex}
-use Rattle.rules.specs.Records.{Report, trade}
+use Rattle.rules.specs.Words.{complexAt, isComplexOf, noLegging, opposite, regularAt, withComplex}
+use Rattle.rules.specs.Records.{Report, pair, trade}
 use Rattle.rules.specs.Effects.{Effect, _⟫_, report}
 use Rattle.rules.specs.Prices.{sizeIn}
-use Rattle.rules.specs.Standing.{otherClear, otherLeg, parentOf}
+use Rattle.rules.specs.Removal.{remove, removeOf}
+use Rattle.rules.specs.Standing.{legNet, otherClear, otherLeg, parentOf}
 use Rattle.rules.specs.Trading.{fillComplex, fillRegular, pairOff, take}
 use Rattle.rules.specs.Order.{hit}
 use Rattle.rules.specs.Sums.{cancelledOf, contracts, crossedFor, openRegular, paired, total}
@@ -28,7 +30,7 @@ use Rattle.rules.proofs.Ledger.{Moves, RegularId}
 use Rattle.rules.proofs.Moving.{chain-cx, chain-reg, cx-fill, reg-fill}
 use Rattle.rules.proofs.Pairing.{Pairs, Tells, pair-complex, pair-last, pair-regular, pair-removes, pair-tells, pairs-settle}
 use Rattle.rules.proofs.Sizes.{fill-elsewhere}
-use Rattle.rules.proofs.Taking.{Chain, chain-elsewhere, chain-fewer, chain-last, chain-other, chain-silent, take-chain, take-total}
+use Rattle.rules.proofs.Taking.{Chain, chain-elsewhere, chain-fewer, chain-last, chain-other, chain-silent, take-apart, take-chain, take-total}
 
 pub other-is₂ : (c : Complex) (s : ℕ) → c .series1 ≡ s → otherLeg c s .series ≡ c .series2
 unfolding otherLeg
@@ -58,7 +60,7 @@ module _ (v : Venue) (i k : ℕ) (l : Legging) where
   p = otherClear v q (o .series)
 
   abbrev net-of : ℤ
-  net-of = signed (opposite (o .side)) (pos (l .price)) +ℤ signed e (pos p)
+  net-of = legNet q (o .series) (opposite (o .side)) (l .price) p
 
   abbrev trades : Effect
   trades = take k (q .id) t e p k (fillRegular i k v)
@@ -104,6 +106,16 @@ module _ (v : Venue) (i k : ℕ) (l : Legging) where
   -- what counts no trades counts the pair alone
   hit-quiet : (f : Report → ℕ) → ((a b c d g h : ℕ) → f (trade a b c d g h) ≡ 0) → total f (hit i l k v .reports) ≡ total f (pairing .reports)
   hit-quiet f t = omega (arith, hit-total f, chain-silent f t chn, t (o .series) (o .side) (l .price) k (o .id) (q .id))
+
+  -- The hit, record by record, upon the venue as it stands: its trade; k contracts of the other leg, which the incoming order's own fill changes in
+  -- nothing; the 66; and the removals.
+  after-trades : pairing .reports ≡ pair (q .id) net-of k ∷ removeOf (q .id) Executed v .reports
+  unfolding pairOff report _⟫_ removeOf remove fillComplex withComplex
+  after-trades = rw hitting-legging
+
+  pub hit-is : o .series ≢ t → hit i l k v .reports ≡
+      trade (o .series) (o .side) (l .price) k (o .id) (q .id) ∷ (take k (q .id) t e p k v .reports ++ (pair (q .id) net-of k ∷ removeOf (q .id) Executed v .reports))
+  hit-is ne = rw (← after-trades, ← take-apart (q .id) t e p i k k k v ne) (unfold hit report _⟫_ regularAt in refl)
 
 count-own : (y s d p k x : ℕ) → contracts y s (trade s d p k x y) ≡ k
 unfolding contracts

@@ -33,7 +33,7 @@ signed-small (pos n) h = omega arith
 signed-small (negsuc n) h = omega arith
 
 cause-back : (c : Cause) → causeOf (causeNumber c) ≡ c
-unfolding causeOf causeNumber
+unfolding causeOf
 cause-back Worse = refl
 cause-back Unpaired = refl
 cause-back Executed = refl
@@ -44,7 +44,6 @@ cause-back Replaced = refl
 cause-back Touched = refl
 
 cause-small : (c : Cause) → U8 (causeNumber c)
-unfolding causeNumber
 cause-small Worse = omega arith
 cause-small Unpaired = omega arith
 cause-small Executed = omega arith

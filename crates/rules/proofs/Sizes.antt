@@ -17,13 +17,18 @@ use Rattle.rules.specs.Words.{noRegular, opposite, regularAt, withRegula
 use Rattle.rules.specs.Prices.{bestIn, bestRegular, bestSize, better, betterOf, restsAt, shown, showsAt, showsFor, sizeIn}
 use Rattle.rules.specs.Standing.{otherClear, otherLeg, otherSize}
 use Rattle.rules.specs.Trading.{fillRegular, lessRegular}
+use Rattle.rules.proofs.Better.{is-false}
 use Rattle.rules.proofs.Filling.{reg}
 use Rattle.rules.proofs.Settling.{clear-best}
 use Rattle.rules.proofs.Tests.{and-false, and-l, and-r, and-true, held-pos, if-held, pos-held}
 
 -- What an order shows -------------------------------------------------------------------------
 
--- All that is asked of the shown size: none above does more than cite these laws.
+-- All that is asked of the shown size: none above does more than cite these laws. That it is the whole quantity is asked for the bytes of a message alone.
+pub shown-whole : (o : Regular) → shown o ≡ o .quantity
+unfolding shown
+shown-whole o = refl
+
 pub shown-most : (o : Regular) → shown o ≤ o .quantity
 unfolding shown
 shown-most o = omega arith
@@ -85,6 +90,17 @@ pub free-shows : (t e : ℕ) (o : Regular) → held (o .quantity) ≡ false → 
 unfolding showsAt
 free-shows t e o h = rw (shown-none o h)
 
+-- nor at any price there
+pub no-price : (t e p : ℕ) (o : Regular) → showsAt t e o ≡ false → showsFor t e p o ≡ false
+unfolding showsFor
+no-price t e p o h = rw h
+
+-- an order of another series, side or price does not show at price p of side e of series t
+pub elsewhere-shows : (t e p : ℕ) (o : Regular) → (o .series ≡ t → o .side ≡ e → o .price ≡ p → ⊥) → showsFor t e p o ≡ false
+unfolding showsFor showsAt
+elsewhere-shows t e p o ne =
+    is-false _ (λ h. ne (eqb-true (o .series) t (search (and-l, and-r, h))) (eqb-true (o .side) e (search (and-l, and-r, h))) (eqb-true (o .price) p (search (and-l, and-r, h))))
+
 -- Size ----------------------------------------------------------------------------------------
 
 -- what an order adds to the size at price p
@@ -145,9 +161,9 @@ best-set t e [] i o a b = refl
 best-set t e (x ∷ l) zero o a b = rw (a, b)
 best-set t e (x ∷ l) (suc i) o a b = rw (best-set t e l i o a b)
 
-pub size-set : (t e p : ℕ) (l : List Regular) (i : ℕ) (o : Regular) → showsAt t e (getD l i noRegular) ≡ false → showsAt t e o ≡ false →
+pub size-set : (t e p : ℕ) (l : List Regular) (i : ℕ) (o : Regular) → showsFor t e p (getD l i noRegular) ≡ false → showsFor t e p o ≡ false →
     sizeIn t e p (set l i o) ≡ sizeIn t e p l
-unfolding sizeIn showsFor
+unfolding sizeIn
 size-set t e p [] i o a b = refl
 size-set t e p (x ∷ l) zero o a b = rw (a, b)
 size-set t e p (x ∷ l) (suc i) o a b = rw (size-set t e p l i o a b)
@@ -196,10 +212,16 @@ pub fill-elsewhere : (i k s : ℕ) (v : Venue) → reg v i .series ≡ s → Els
 unfolding fillRegular withRegular regularAt lessRegular
 fill-elsewhere i k s v h = record {
   best = λ t e ne. best-set t e (v .regular) i _ (not-there t e _ (λ x. ne (sym h ∙ x))) (not-there t e _ (λ x. ne (sym h ∙ x)));
-  size = λ t e p ne. size-set t e p (v .regular) i _ (not-there t e _ (λ x. ne (sym h ∙ x))) (not-there t e _ (λ x. ne (sym h ∙ x)));
+  size = λ t e p ne. size-set t e p (v .regular) i _ (no-price t e p _ (not-there t e _ (λ x. ne (sym h ∙ x)))) (no-price t e p _ (not-there t e _ (λ x. ne (sym h ∙ x))));
   complex = refl;
   legging = refl;
 }
+
+-- a fill leaves every other level as it was
+pub fill-apart : (t e p i k : ℕ) (v : Venue) → (reg v i .series ≡ t → reg v i .side ≡ e → reg v i .price ≡ p → ⊥) →
+    sizeIn t e p (fillRegular i k v .regular) ≡ sizeIn t e p (v .regular)
+unfolding fillRegular withRegular regularAt lessRegular
+fill-apart t e p i k v ne = size-set t e p (v .regular) i _ (elsewhere-shows t e p _ ne) (elsewhere-shows t e p _ ne)
 
 pub elsewhere-refl : (s : ℕ) (v : Venue) → Elsewhere s v v
 elsewhere-refl s v = record { best = λ t e ne. refl; size = λ t e p ne. refl; complex = refl; legging = refl }

@@ -1,26 +1,27 @@
 -- Taking k contracts at a price, by id: where the size there is at least k, exactly k are had; and `take` as a chain of trades.
-use mathlib.Core.Path.{_∙_, _≡_, refl, sym}
-use mathlib.Core.Bool.{true}
+use mathlib.Core.Path.{_∙_, _≡_, ap, refl, subst, sym}
+use mathlib.Core.Bool.{Bool, false, true}
 use mathlib.Core.Logic.{_≢_}
 use mathlib.Core.List.{List, [], _∷_}
 use Prim.Native.Nat.{_+_, _-_, _<_, _≤_, min, suc, zero, ℕ}
 use native.Mathlib.Omega.{arith}
 use lib.ListN.{length}
+use lib.Seq.{getD-set-other, set-comm}
 use borrow.Author.Tests.{eq-eqb, eqb-true}
 use Rattle.rules.specs.declared.Regular.{Regular}
 use Rattle.rules.specs.declared.Venue.{Venue}
-use Rattle.rules.specs.Base.{held}
-use Rattle.rules.specs.Words.{noRegular, opposite, regularAt, withRegular}
+use Rattle.rules.specs.Base.{Picked, first, held, nobody, picked}
+use Rattle.rules.specs.Words.{earlier, noRegular, opposite, regularAt, withRegular}
 use Rattle.rules.specs.Records.{Report, trade}
 use Rattle.rules.specs.Effects.{Effect, _⟫_, nothing, report}
 use Rattle.rules.specs.Prices.{shown, showsAt, showsFor, sizeIn}
-use Rattle.rules.specs.Trading.{fillRegular, take, tradeWith}
+use Rattle.rules.specs.Trading.{fillRegular, lessRegular, take, tradeWith}
 use Rattle.rules.specs.Sums.{contracts, contractsAt, total}
 use Rattle.rules.proofs.Adding.{count-elsewhere, count-taker}
 use Rattle.rules.proofs.Cases.{take-by}
 use Rattle.rules.proofs.Filling.{Fewer, fewer-refl, fewer-trans, fill-fewer, fill-last, reg}
-use Rattle.rules.proofs.Picking.{At}
-use Rattle.rules.proofs.Sizes.{Elsewhere, elsewhere-refl, elsewhere-trans, fill-elsewhere, rests-series, shown-most, shows-rests, size-less, size-none}
+use Rattle.rules.proofs.Picking.{At, Chosen, first-chosen, first-set}
+use Rattle.rules.proofs.Sizes.{Elsewhere, elsewhere-refl, elsewhere-trans, fill-apart, fill-elsewhere, no-price, not-there, rests-series, rests-side, shown-most, shows-rests, size-less, size-none}
 use Rattle.rules.proofs.Tests.{and-l, and-r, free-none, held-pos}
 
 -- How many are had ----------------------------------------------------------------------------
@@ -31,7 +32,7 @@ module _ (x s d p : ℕ) where
     unfolding regularAt showsFor showsAt
     taken-series = let z = h .is in rw (h .at) (eqb-true (o .series) s (search (and-l, and-r, z)))
 
-    some-shown : 0 < shown o
+    pub some-shown : 0 < shown o
     unfolding showsFor showsAt
     some-shown =
         let z = h .is in
@@ -39,7 +40,7 @@ module _ (x s d p : ℕ) where
         held-pos _ b
 
     -- what is left at the price
-    left : (q : ℕ) → q ≤ shown o → sizeIn s (opposite d) p (v .regular) ≡ q + sizeIn s (opposite d) p (fillRegular i q v .regular)
+    pub left : (q : ℕ) → q ≤ shown o → sizeIn s (opposite d) p (v .regular) ≡ q + sizeIn s (opposite d) p (fillRegular i q v .regular)
     unfolding fillRegular withRegular regularAt
     left q le = size-less s (opposite d) p q (v .regular) i (h .fits) (rw (h .at) (h .is)) (rw (h .at) le)
 
@@ -117,6 +118,15 @@ module _ {x s d p : ℕ} where
   chain-elsewhere (traded {v = v} i q f r e le c) =
       elsewhere-trans (fill-elsewhere i q s v (unfold regularAt in (shows-series s (opposite d) (reg v i) r))) (chain-elsewhere c)
 
+  -- and every other level
+  pub chain-apart : (t e r : ℕ) → (s ≡ t → opposite d ≡ e → p ≡ r → ⊥) → {v w : Venue} {rs : List Report} → Chain x s d p v rs w →
+      sizeIn t e r (w .regular) ≡ sizeIn t e r (v .regular)
+  chain-apart t e r ne no-more = refl
+  chain-apart t e r ne (traded {v = v} i q f z g le c) =
+      let h = shows-rests s (opposite d) (regularAt v i) z in
+      chain-apart t e r ne c
+      ∙ fill-apart t e r i q v (unfold regularAt in (λ a b k. ne (sym (rests-series s (opposite d) _ h) ∙ a) (sym (rests-side s (opposite d) _ h) ∙ b) (sym g ∙ k)))
+
   pub chain-last : {v w : Venue} {rs : List Report} → Chain x s d p v rs w → w .last ≡ v .last
   chain-last no-more = refl
   chain-last (traded {v = v} i q f r e le c) = chain-last c ∙ fill-last i q v
@@ -140,3 +150,64 @@ module _ {x s d p : ℕ} where
   unfolding total contractsAt
   chain-at y t no-more = refl
   chain-at y t (traded {v = v} i q f z e le c) = rw (eq-eqb (regularAt v i .price) p e, chain-at y t c)
+
+-- A fill of an order of another series --------------------------------------------------------
+
+fill-comm : (i q j m : ℕ) (v : Venue) → i ≢ j → fillRegular j m (fillRegular i q v) ≡ fillRegular i q (fillRegular j m v)
+unfolding fillRegular withRegular regularAt
+fill-comm i q j m v ne =
+    rw (getD-set-other (v .regular) i j _ noRegular (λ e. ne (sym e)), getD-set-other (v .regular) j i _ noRegular ne)
+    (ap (λ (l : List Regular). withRegular v l) (set-comm (v .regular) i j _ _ ne))
+
+-- the order at place i is of another series: what is taken in series s is the same whether or not it has been filled
+module _ (x s d p i q : ℕ) where
+  abbrev there : Regular → Bool
+  there = showsFor s (opposite d) p
+
+  abbrev filled : Venue → Venue
+  filled v = fillRegular i q v
+
+  same-first : (v : Venue) → reg v i .series ≢ s → first there earlier (filled v .regular) ≡ first there earlier (v .regular)
+  unfolding fillRegular withRegular regularAt lessRegular
+  same-first v ne = first-set noRegular there earlier 0 (v .regular) i _ (no-price s (opposite d) p _ (not-there s (opposite d) _ ne)) (no-price s (opposite d) p _ (not-there s (opposite d) _ ne))
+
+  -- the order that is taken from is another one
+  apart : (v : Venue) (j : ℕ) (o : Regular) → At noRegular there (v .regular) j o → reg v i .series ≢ s → i ≢ j
+  unfolding regularAt
+  apart v j o h ne e = ne (ap (λ (n : ℕ). reg v n .series) e ∙ taken-series x s d p j o v h)
+
+  same-order : (v : Venue) (j : ℕ) → i ≢ j → regularAt (filled v) j ≡ regularAt v j
+  unfolding fillRegular withRegular regularAt
+  same-order v j ne = getD-set-other (v .regular) i j _ noRegular (λ e. ne (sym e))
+
+  -- one turn of taking, by what is picked
+  abbrev turn : (fuel k : ℕ) → Bool → Picked Regular → Venue → Effect
+  turn fuel k b y v = elim b [
+    | false ↦ nothing v
+    | true ↦ elim y [ nobody ↦ nothing v | picked j o ↦ tradeWith x d j (min k (shown o)) v ⟫ take fuel x s d p (k - min k (shown o)) ]
+  ]
+
+  abbrev Same : (fuel : ℕ) → Type 0
+  Same fuel = (k : ℕ) (v : Venue) → reg v i .series ≢ s → take fuel x s d p k (filled v) .reports ≡ take fuel x s d p k v .reports
+
+  same-turn : (fuel : ℕ) → Same fuel → (k : ℕ) (v : Venue) → reg v i .series ≢ s → (b : Bool) (y : Picked Regular) → Chosen noRegular there (v .regular) y →
+      turn fuel k b y (filled v) .reports ≡ turn fuel k b y v .reports
+  unfolding nothing _⟫_ tradeWith report
+  same-turn fuel ih k v ne false y c = refl
+  same-turn fuel ih k v ne true nobody c = refl
+  same-turn fuel ih k v ne true (picked j o) c =
+      let m = min k (shown o) in
+      let a = apart v j o c ne in
+      let z = fill-fewer j m v .lesser i .series in
+      rw (same-order v j a, fill-comm i q j m v a, ih (k - m) (fillRegular j m v) (λ e. ne (sym z ∙ e)))
+
+  same-more : (fuel : ℕ) → Same fuel → Same (suc fuel)
+  unfolding take
+  same-more fuel ih k v ne =
+      subst (λ (y : Picked Regular). turn fuel k (held k) y (filled v) .reports ≡ turn fuel k (held k) (first there earlier (v .regular)) v .reports) (sym (same-first v ne))
+      (same-turn fuel ih k v ne (held k) (first there earlier (v .regular)) (first-chosen noRegular there earlier (v .regular)))
+
+  pub take-apart : (fuel : ℕ) → Same fuel
+  unfolding nothing
+  take-apart zero = λ k v ne. unfold take in refl
+  take-apart (suc fuel) = same-more fuel (take-apart fuel)

@@ -32,29 +32,6 @@ use Rattle.rules.proofs.Tests.{and-in, and-l, and-r, held-pos, pos-held
 
 -- Records -------------------------------------------------------------------------------------
 
--- no answer, and its fields fit
-abbrev pub Plain : Report → Type 0
-Plain (answer n x m c) = ⊥
-Plain (trade s d p q t m) = Fits (trade s d p q t m)
-Plain (pair i n q) = Fits (pair i n q)
-Plain (generated i s d p x q) = Fits (generated i s d p x q)
-Plain (removed i s d c) = Fits (removed i s d c)
-Plain (crossed t m n q) = Fits (crossed t m n q)
-Plain (cancelled i q) = Fits (cancelled i q)
-
-plain-fit : (r : Report) → Plain r → Fits r
-plain-fit (answer n x m c) h = absurd h
-plain-fit (trade s d p q t m) h = h
-plain-fit (pair i n q) h = h
-plain-fit (generated i s d p x q) h = h
-plain-fit (removed i s d c) h = h
-plain-fit (crossed t m n q) h = h
-plain-fit (cancelled i q) h = h
-
-pub plain-fits : (rs : List Report) → Each Plain rs → Each Fits rs
-plain-fits [] h = tt
-plain-fits (r ∷ rs) h = (plain-fit r (h .0), plain-fits rs (h .1))
-
 pub each-append : (P : Report → Type 0) (a b : List Report) → Each P a → Each P b → Each P (a ++ b)
 each-append P [] b h k = k
 each-append P (r ∷ a) b h k = (h .0, each-append P a b (h .1) k)

@@ -1,4 +1,4 @@
--- What each effect writes: records that fit their widths and are no answers, and the fields stay in range. Nothing is asked of the venue but that.
+-- What each effect writes: records that fit their widths, and the fields stay in range. Nothing is asked of the venue but that.
 use mathlib.Core.Path.{_≡_, subst, sym}
 use mathlib.Core.Bool.{Bool, _&&_, false, true}
 use mathlib.Core.Logic.{_⊎_, inl, inr}
@@ -20,7 +20,7 @@ use Rattle.rules.specs.declared.Verdict.{Verdict}
 use Rattle.rules.specs.declared.Verdict.the-variants.{Fails, Stands}
 use Rattle.rules.specs.Base.{held, if_then_else_}
 use Rattle.rules.specs.Words.{complexAt, increment, isComplexOf, leggingAt, noComplex, noLegging, opposite, regularAt, withLegging}
-use Rattle.rules.specs.Records.{Each, I32, Report, U32, removed}
+use Rattle.rules.specs.Records.{Each, Fits, I32, Report, U32, removed}
 use Rattle.rules.specs.Effects.{Effect, Turn, _⟫_, ended, nothing, repeat, report, turned}
 use Rattle.rules.specs.Prices.{clearPrice, inBand, marketBest, net, ratio1, ratio2, shown, weighed}
 use Rattle.rules.specs.Removal.{goes, leavers, remove, removeOf, stayers}
@@ -38,49 +38,49 @@ use Rattle.rules.proofs.Generating.{Makes, made}
 use Rattle.rules.proofs.Removing.{length-stayers}
 use Rattle.rules.proofs.Settling.{Kept, stayers-kept}
 use Rattle.rules.proofs.Tests.{and-l, and-r}
-use Rattle.rules.proofs.Widths.{CxFits, LgFits, Plain, Ranged, away-ranged, closed-ranged, complex-fits, each-append, fill-ranged, fillC-ranged, last-ranged, no-cx, no-lg, order-fits, placed-ranged, put-ranged, putC-ranged, status-ranged, with-legging}
+use Rattle.rules.proofs.Widths.{CxFits, LgFits, Ranged, away-ranged, closed-ranged, complex-fits, each-append, fill-ranged, fillC-ranged, last-ranged, no-cx, no-lg, order-fits, placed-ranged, put-ranged, putC-ranged, status-ranged, with-legging}
 
--- an effect that writes plain records and leaves the fields in range
+-- an effect that writes records that fit and leaves the fields in range
 pub record Writes (e : Effect) : Type 0 where
-  pub plain : Each Plain (e .reports)
+  pub fits : Each Fits (e .reports)
   pub ranged : Ranged (e .venue)
 
 pub writes-nothing : (v : Venue) → Ranged v → Writes (nothing v)
 unfolding nothing
-writes-nothing v r = record { plain = tt; ranged = r }
+writes-nothing v r = record { fits = tt; ranged = r }
 
-writes-report : (q : Report) (v : Venue) → Plain q → Ranged v → Writes (report q v)
+writes-report : (q : Report) (v : Venue) → Fits q → Ranged v → Writes (report q v)
 unfolding report
-writes-report q v h r = record { plain = (h, tt); ranged = r }
+writes-report q v h r = record { fits = (h, tt); ranged = r }
 
 pub writes-then : (e : Effect) (f : Venue → Effect) → Writes e → ((v : Venue) → Ranged v → Writes (f v)) → Writes (e ⟫ f)
 unfolding _⟫_
 writes-then e f a b =
     let k = b (e .venue) (a .ranged) in
-    record { plain = each-append Plain (e .reports) (f (e .venue) .reports) (a .plain) (k .plain); ranged = k .ranged }
+    record { fits = each-append Fits (e .reports) (f (e .venue) .reports) (a .fits) (k .fits); ranged = k .ranged }
 
 -- Removals ------------------------------------------------------------------------------------
 
-goes-plain : (n : ℕ) (x : Verdict) (l : Legging) → n < 512 → LgFits l → Each Plain (goes n x l)
+goes-fit : (n : ℕ) (x : Verdict) (l : Legging) → n < 512 → LgFits l → Each Fits (goes n x l)
 unfolding goes
-goes-plain n Stands l s h = tt
-goes-plain n (Fails c) l s h = go (held (l .quantity))
+goes-fit n Stands l s h = tt
+goes-fit n (Fails c) l s h = go (held (l .quantity))
   where
-    go : (b : Bool) → Each Plain (if b then removed (l .parent) (n / 2) (n % 2) c ∷ [] else [])
+    go : (b : Bool) → Each Fits (if b then removed (l .parent) (n / 2) (n % 2) c ∷ [] else [])
     go true = ((h .parent, omega arith, omega arith), tt)
     go false = tt
 
-leavers-plain : (f : ℕ → Legging → Verdict) (n : ℕ) (ls : List Legging) → n + length ls ≤ 512 → ((i : ℕ) → LgFits (getD ls i noLegging)) → Each Plain (leavers f n ls)
+leavers-fit : (f : ℕ → Legging → Verdict) (n : ℕ) (ls : List Legging) → n + length ls ≤ 512 → ((i : ℕ) → LgFits (getD ls i noLegging)) → Each Fits (leavers f n ls)
 unfolding leavers
-leavers-plain f n [] s h = tt
-leavers-plain f n (l ∷ ls) s h =
-    each-append Plain (goes n (f n l) l) (leavers f (suc n) ls) (goes-plain n (f n l) l (omega arith) (h 0))
-    (leavers-plain f (suc n) ls (omega arith) (λ i. h (suc i)))
+leavers-fit f n [] s h = tt
+leavers-fit f n (l ∷ ls) s h =
+    each-append Fits (goes n (f n l) l) (leavers f (suc n) ls) (goes-fit n (f n l) l (omega arith) (h 0))
+    (leavers-fit f (suc n) ls (omega arith) (λ i. h (suc i)))
 
 pub writes-remove : (f : ℕ → Legging → Verdict) (v : Venue) → Ranged v → Writes (remove f v)
 unfolding remove withLegging Kept
 writes-remove f v r = record {
-  plain = leavers-plain f 0 (v .legging) (let z = r .len in omega arith) (r .legging);
+  fits = leavers-fit f 0 (v .legging) (let z = r .len in omega arith) (r .legging);
   ranged = with-legging r _ (λ i. go i (stayers-kept f 0 (v .legging) i)) (length-stayers f 0 (v .legging));
 }
   where

@@ -18,5 +18,6 @@ pub mod Step
 pub mod Sound
 pub mod Calls
 pub mod Sums
+pub mod Lengths
 pub mod Opened
 pub mod Trials

@@ -6,27 +6,28 @@ use mathlib.Core.List.{List, [], _∷_}
 use Prim.Native.Nat.{ℕ, suc, _+_, _*_, _/_, _%_, _≤_, _<_, min}
 use native.Mathlib.Omega.{arith}
 use lib.ListN.{length, length-append}
 use Rattle.rules.specs.declared.Regular.{Regular}
 use Rattle.rules.specs.declared.Complex.{Complex}
 use Rattle.rules.specs.declared.Legging.{Legging}
 use Rattle.rules.specs.declared.Venue.{Venue}
 use Rattle.rules.specs.declared.Verdict.{Verdict}
 use Rattle.rules.specs.declared.Verdict.the-variants.{Stands, Fails}
 use Rattle.rules.specs.Base.{if_then_else_, held}
 use Rattle.rules.specs.Words.{noRegular, noComplex, noLegging, regularAt, complexAt, withRegular, withComplex, withLegging}
 use Rattle.rules.specs.Bytes.{bytes, framed}
 use Rattle.rules.specs.Records.{Report, answer, trade, pair, generated, removed, crossed, cancelled, encode, encodeAll}
 use Rattle.rules.specs.Effects.{Effect, nothing, report, _⟫_}
 use Rattle.rules.specs.Removal.{stay, goes, stayers, leavers, remove}
 use Rattle.rules.specs.Trading.{lessRegular, lessComplex, fillRegular, fillComplex, putRegular, putComplex}
 use Rattle.rules.specs.Generation.{placed}
-use Rattle.bounds.specs.Most.{recordLength, Lengths, perRegular, perComplex, perLegging}
-use Rattle.bounds.specs.Asked.{Shaped}
-use Rattle.bounds.proofs.Sums.{sum, sum-append, due, worths-most, put-more, fill-less, fill-gone, fill-both}
+use Rattle.rules.specs.Sums.{total}
+use Rattle.rules.specs.Lengths.{recordLength, perRegular, perComplex, perLegging}
+use Rattle.rules.proofs.Adding.{total-append, total-then}
+use Rattle.rules.proofs.Summing.{sum, due, worths-most, put-more, fill-less, fill-gone, fill-both}
 
 -- Bytes ---------------------------------------------------------------------------------------
 
-pub lengths : Lengths
+pub lengths : (r : Report) → length (encode r) ≡ recordLength r
 unfolding encode framed bytes recordLength
 lengths (answer number refusal mask count) = refl
 lengths (trade series side price quantity taker maker) = refl
@@ -36,8 +37,8 @@ lengths (removed id series side cause) = refl
 lengths (crossed taker maker n quantity) = refl
 lengths (cancelled id quantity) = refl
 
-pub written : (rs : List Report) → length (encodeAll rs) ≡ sum recordLength rs
-unfolding encodeAll sum
+pub written : (rs : List Report) → length (encodeAll rs) ≡ total recordLength rs
+unfolding encodeAll total
 written [] = refl
 written (r ∷ rs) = rw (length-append (encode r) (encodeAll rs), lengths r, written rs)
 
@@ -55,13 +56,13 @@ ofLegging l = due perLegging (l .quantity)
 unfoldable pub worth : Venue → ℕ
 worth v = sum ofRegular (v .regular) + sum ofComplex (v .complex) + sum ofLegging (v .legging)
 
-pub worth-most : (v : Venue) → Shaped v → worth v ≤ perRegular * 128 + perComplex * 32 + perLegging * 16
+pub worth-most : (v : Venue) → worth v ≤ perRegular * length (v .regular) + perComplex * length (v .complex) + perLegging * length (v .legging)
 unfolding worth ofRegular ofComplex ofLegging
-worth-most v h =
+worth-most v =
     let a = worths-most perRegular (λ (o : Regular). o .quantity) noRegular refl (v .regular) in
     let b = worths-most perComplex (λ (c : Complex). c .quantity) noComplex refl (v .complex) in
     let c = worths-most perLegging (λ (l : Legging). l .quantity) noLegging refl (v .legging) in
-    omega (arith, h .regular, h .complex, h .legging)
+    omega arith
 
 -- an order that is given a place adds at most its own worth
 pub put-worth : (i : ℕ) (o : Regular) (v : Venue) → worth (putRegular i o v) ≤ worth v + perRegular
@@ -108,38 +109,38 @@ module _ (i k : ℕ) (v : Venue) where
 
 -- what an effect writes, with what the venue that it leaves is worth
 unfoldable pub spent : Effect → ℕ
-spent e = sum recordLength (e .reports) + worth (e .venue)
+spent e = total recordLength (e .reports) + worth (e .venue)
 
 pub spent-nothing : (v : Venue) → spent (nothing v) ≡ worth v
-unfolding spent nothing sum
+unfolding spent nothing total
 spent-nothing v = omega arith
 
 pub spent-report : (r : Report) (v : Venue) → spent (report r v) ≡ recordLength r + worth v
-unfolding spent report sum
+unfolding spent report total
 spent-report r v = omega arith
 
 pub spent-then : (e : Effect) (f : Venue → Effect) → spent (e ⟫ f) + worth (e .venue) ≡ spent e + spent (f (e .venue))
-unfolding spent _⟫_
-spent-then e f = rw (sum-append recordLength (e .reports) (f (e .venue) .reports)) (omega arith)
+unfolding spent
+spent-then e f = rw (total-then recordLength e f) (unfold _⟫_ in (omega arith))
 
 -- a removal pays for itself
-goes-pays : (n : ℕ) (x : Verdict) (l : Legging) → sum recordLength (goes n x l) + ofLegging (stay x l) ≡ ofLegging l
-unfolding goes stay sum recordLength ofLegging due
+goes-pays : (n : ℕ) (x : Verdict) (l : Legging) → total recordLength (goes n x l) + ofLegging (stay x l) ≡ ofLegging l
+unfolding goes stay total recordLength ofLegging due
 goes-pays n Stands l = omega arith
 goes-pays n (Fails c) l = go (held (l .quantity)) refl
   where
     go : (b : Bool) → held (l .quantity) ≡ b →
-        sum recordLength (if b then removed (l .parent) (n / 2) (n % 2) c ∷ [] else []) + (if held ((if b then noLegging else l) .quantity) then perLegging else 0) ≡ (if b then perLegging else 0)
+        total recordLength (if b then removed (l .parent) (n / 2) (n % 2) c ∷ [] else []) + (if held ((if b then noLegging else l) .quantity) then perLegging else 0) ≡ (if b then perLegging else 0)
     go true e = refl
     go false e = rw e
 
-leavers-pay : (f : ℕ → Legging → Verdict) (n : ℕ) (ls : List Legging) → sum recordLength (leavers f n ls) + sum ofLegging (stayers f n ls) ≡ sum ofLegging ls
-unfolding leavers stayers sum
+leavers-pay : (f : ℕ → Legging → Verdict) (n : ℕ) (ls : List Legging) → total recordLength (leavers f n ls) + sum ofLegging (stayers f n ls) ≡ sum ofLegging ls
+unfolding leavers stayers sum total
 leavers-pay f n [] = refl
 leavers-pay f n (l ∷ ls) =
     let a = goes-pays n (f n l) l in
     let b = leavers-pay f (suc n) ls in
-    rw (sum-append recordLength (goes n (f n l) l) (leavers f (suc n) ls)) (omega arith)
+    rw (total-append recordLength (goes n (f n l) l) (leavers f (suc n) ls)) (omega arith)
 
 pub spent-remove : (f : ℕ → Legging → Verdict) (v : Venue) → spent (remove f v) ≡ worth v
 unfolding spent remove worth withLegging

@@ -4,56 +4,27 @@ use mathlib.Core.Bool.{Bool, true, false, not}
 use mathlib.Core.List.{List, _++_}
 use Prim.Native.Nat.{ℕ, suc, _+_, _≤_, _<_}
 use native.Mathlib.Omega.{arith}
-use lib.Dec.{ltb, eqb}
+use lib.Dec.{eqb}
 use lib.Seq.{length-take-le}
 use lib.ListN.{length, take, drop, length-append, List·getD-append, take-append-drop}
-use borrow.Author.Tests.{ltb-false, le-ltb, eqb-true}
+use borrow.Author.Tests.{eqb-true}
 use Rattle.rules.specs.declared.Venue.{Venue}
 use Rattle.rules.specs.declared.Message.{Message}
 use Rattle.rules.specs.declared.Message.the-variants.{Order, TwoLeg, Cancel, Away, Status, Sweep}
 use Rattle.rules.specs.declared.Decoded.{Decoded}
 use Rattle.rules.specs.declared.Decoded.the-variants.{Taken, Refused}
 use Rattle.rules.specs.Base.{if_then_else_}
 use Rattle.rules.specs.Bytes.{u8At, u16At, u32At, lengthField, kindField}
 use Rattle.rules.specs.Messages.{lengthOf, orderAt, twoLegAt, messageOf}
 use Rattle.rules.specs.Effects.{nothing}
 use Rattle.rules.specs.Refusals.{torn, isKind, isLength, inRange, decoded, refusalOf, refusal}
 use Rattle.rules.specs.Step.{accept, answered, step}
 use Rattle.rules.specs.Calls.{oneFrom, one}
-use Rattle.rules.proofs.Tests.{or-false-l, or-false-r}
-use Rattle.bounds.specs.Agree.{ReadsOne}
+use Rattle.rules.proofs.Refusing.{accepted-length, whole, whole-in}
 
 -- a whole message: its length field says at least 4 bytes, and they are there
-pub record Whole (m : List ℕ) : Type 0 where
-  pub least : 4 ≤ lengthField m
-  pub there : lengthField m ≤ length m
-
-pub whole : (m : List ℕ) → torn m ≡ false → Whole m
-unfolding torn
-whole m h =
-    let a : ltb (lengthField m) 4 ≡ false = search (or-false-l, or-false-r, h) in
-    let b : ltb (length m) (lengthField m) ≡ false = search (or-false-l, or-false-r, h) in
-    record { least = ltb-false (lengthField m) 4 a; there = ltb-false (length m) (lengthField m) b }
-
-pub not-torn : (m : List ℕ) → Whole m → torn m ≡ false
-unfolding torn
-not-torn m w =
-    let a = w .least in
-    let b = w .there in
-    rw (le-ltb (length m) 4 (omega arith), le-ltb (lengthField m) 4 a, le-ltb (length m) (lengthField m) b)
-
--- an accepted message has its kind's length
-accepted-length : (v : Venue) (m : List ℕ) → refusal v m ≡ 0 → isLength (kindField m) (lengthField m) ≡ true
-unfolding refusal decoded
-accepted-length v m = go (torn m) (not (isKind (kindField m))) (isLength (kindField m) (lengthField m)) refl
-  where
-    go : (a b c : Bool) → isLength (kindField m) (lengthField m) ≡ c →
-        _≡_ {A = ℕ} (elim (if a then Refused 1 else if b then Refused 2 else if not c then Refused 3 else if not (inRange (messageOf m)) then Refused 4 else Taken (messageOf m)) as (λ _. ℕ)
-        [ Taken x ↦ refusalOf v x | Refused n ↦ n ]) 0 → isLength (kindField m) (lengthField m) ≡ true
-    go true b c e h = absurd (omega arith)
-    go false true c e h = absurd (omega arith)
-    go false false true e h = e
-    go false false false e h = absurd (omega arith)
+abbrev Whole : List ℕ → Type 0
+Whole m = (4 ≤ lengthField m) × (lengthField m ≤ length m)
 
 -- bytes that are there stay what they are where others follow
 module _ (m rest : List ℕ) where
@@ -120,25 +91,25 @@ module _ (m rest : List ℕ) where
 
   module _ (w : Whole m) where
     four : 4 ≤ length m
-    four = let a = w .least in let b = w .there in omega arith
+    four = let a = w .0 in let b = w .1 in omega arith
 
     still-whole : Whole (m ++ rest)
-    still-whole = record {
-      least = rw (length-same (omega (arith, four))) (w .least);
-      there = rw (length-same (omega (arith, four)), length-append m rest) (let b = w .there in omega arith);
-    }
+    still-whole = (
+      rw (length-same (omega (arith, four))) (w .0),
+      rw (length-same (omega (arith, four)), length-append m rest) (let b = w .1 in omega arith),
+    )
 
     fits-kind : isLength (kindField m) (lengthField m) ≡ true → messageOf (m ++ rest) ≡ messageOf m
     unfolding isLength
     fits-kind e =
         let l = eqb-true (lengthField m) (lengthOf (kindField m)) e in
-        let b = w .there in
+        let b = w .1 in
         message-same four (omega arith)
 
     decoded-same : decoded (m ++ rest) ≡ decoded m
     unfolding decoded
     decoded-same =
-        rw (not-torn (m ++ rest) still-whole, not-torn m w, kind-same four, length-same (omega (arith, four)))
+        rw (whole-in (m ++ rest) still-whole, whole-in m w, kind-same four, length-same (omega (arith, four)))
         (go (isLength (kindField m) (lengthField m)) refl)
       where
         go : (b : Bool) → isLength (kindField m) (lengthField m) ≡ b →
@@ -166,18 +137,19 @@ module _ (m rest : List ℕ) where
 -- so the message in front alone does the same
 front-whole : (bs : List ℕ) → Whole bs → Whole (take (lengthField bs) bs)
 front-whole bs w =
-    let a = w .least in
-    let b = w .there in
+    let a = w .0 in
+    let b = w .1 in
     let l : length (take (lengthField bs) bs) ≡ lengthField bs = length-take-le (lengthField bs) bs b in
     let f : lengthField (take (lengthField bs) bs) ≡ lengthField bs =
     sym (length-same (take (lengthField bs) bs) (drop (lengthField bs) bs) (omega arith)) ∙ ap lengthField (take-append-drop (lengthField bs) bs) in
-    record { least = omega arith; there = omega arith }
+    (omega arith, omega arith)
 
 pub front-step : (v : Venue) (number : ℕ) (bs : List ℕ) → Whole bs → step v number bs ≡ step v number (take (lengthField bs) bs)
 front-step v number bs w =
     ap (step v number) (sym (take-append-drop (lengthField bs) bs))
     ∙ step-same (take (lengthField bs) bs) (drop (lengthField bs) bs) (front-whole bs w) v number
 
-pub reads-one : ReadsOne
+-- "The second reads one message and nothing after it"
+pub reads-one : (v : Venue) (before room : ℕ) (bs : List ℕ) → torn bs ≡ false → one v before room bs ≡ one v before room (take (lengthField bs) bs)
 unfolding one oneFrom
 reads-one v before room bs h = rw (front-step v (suc before) bs (whole bs h))

@@ -10,7 +10,7 @@ use Rattle.rules.specs.Words.{freshVenue}
 use Rattle.rules.specs.Bytes.{lengthField}
 use Rattle.rules.specs.Refusals.{torn}
 use Rattle.rules.specs.Calls.{Call, run, one}
-use Rattle.bounds.specs.Most.{most}
+use Rattle.demands.specs.Most.{most}
 
 -- A call reads one message --------------------------------------------------------------------
 

@@ -5,22 +5,24 @@ use Prim.Native.Nat.{ℕ, zero, suc, _+_, _*_, _≤_, _<_}
 use native.Mathlib.Omega.{arith}
 use lib.Dec.{ltb}
 use borrow.Author.Tests.{ltb-true, lt-ltb, le-ltb}
 use Rattle.rules.specs.declared.Complex.{Complex}
 use Rattle.rules.specs.declared.Legging.{Legging}
 use Rattle.rules.specs.declared.Venue.{Venue}
-use Rattle.rules.specs.Base.{if_then_else_, held, Picked, nobody, picked}
-use Rattle.rules.specs.Words.{placeOf, noComplex, withLegging, earlierComplex}
+use Rattle.rules.specs.Base.{if_then_else_, held}
+use Rattle.rules.specs.Words.{placeOf, noComplex, withLegging}
 use Rattle.rules.specs.Records.{Report, generated}
 use Rattle.rules.specs.Effects.{Effect, nothing, report, _⟫_}
 use Rattle.rules.specs.Removal.{remove}
 use Rattle.rules.specs.Generation.{placed, makes, make, generateLeg, generate}
-use Rattle.rules.specs.Complex.{nextAbove, each}
+use Rattle.rules.specs.Complex.{each}
 use Rattle.rules.proofs.Tests.{and-l, and-r}
-use Rattle.rules.proofs.Picking.{At, Chosen, first-chosen}
-use Rattle.bounds.specs.Most.{recordLength, perComplex, perLegging, perLeg}
-use Rattle.bounds.proofs.Sums.{sum, sum-mono, sum-drop, due}
-use Rattle.bounds.proofs.Worth.{ofComplex, worth, placed-worth, spent, spent-nothing, spent-report, spent-then}
-use Rattle.bounds.proofs.Costs.{Costs, costs-then, costs-more, costs-nothing, costs-remove}
+use Rattle.rules.proofs.Cases.{each-by, if-by, isAbove}
+use Rattle.rules.proofs.Picking.{At}
+use Rattle.rules.specs.Sums.{total}
+use Rattle.rules.specs.Lengths.{recordLength, perComplex, perLegging, perLeg}
+use Rattle.rules.proofs.Summing.{sum, sum-mono, sum-drop, due}
+use Rattle.rules.proofs.Worth.{ofComplex, worth, placed-worth, spent, spent-nothing, spent-report, spent-then}
+use Rattle.rules.proofs.Costs.{Costs, costs-then, costs-more, costs-nothing, costs-remove}
 
 -- A leg -----------------------------------------------------------------------------------------
 
@@ -35,19 +37,12 @@ costs-make c s d v = costs-then 0 perLeg v _ _ (costs-remove _ v) (costs-placed 
 
 costs-leg : (c : Complex) (s d : ℕ) (v : Venue) → Costs perLeg v (generateLeg c s d v)
 unfolding generateLeg
-costs-leg c s d v = go (held (c .quantity) && makes v c s d)
-  where
-    go : (b : Bool) → Costs perLeg v (if b then make c s d v else nothing v)
-    go true = costs-make c s d v
-    go false = costs-more 0 perLeg v _ (omega arith) (costs-nothing v)
+costs-leg c s d v =
+    if-by (Costs perLeg v) (held (c .quantity) && makes v c s d) (λ _. costs-make c s d v) (λ _. costs-more 0 perLeg v _ (omega arith) (costs-nothing v))
 
 leg-complex : (c : Complex) (s d : ℕ) (v : Venue) → generateLeg c s d v .venue .complex ≡ v .complex
 unfolding generateLeg make nothing _⟫_ report remove placed withLegging
-leg-complex c s d v = go (held (c .quantity) && makes v c s d)
-  where
-    go : (b : Bool) → (if b then make c s d v else nothing v) .venue .complex ≡ v .complex
-    go true = refl
-    go false = refl
+leg-complex c s d v = if-by (λ (e : Effect). e .venue .complex ≡ v .complex) (held (c .quantity) && makes v c s d) (λ _. refl) (λ _. refl)
 
 pub costs-generate : (i : ℕ) (v : Venue) → Costs (2 * perLeg) v (generate i v)
 unfolding generate
@@ -83,14 +78,14 @@ above-worth id c = go (held (c .quantity)) (ltb id (c .id))
     go false b = omega arith
 
 -- the next order's own share, which is spent when it has had its turn
-above-own : (id : ℕ) (c : Complex) → (held (c .quantity) && ltb id (c .id)) ≡ true → above (c .id) c + 2 * perLeg ≤ above id c
+above-own : (id : ℕ) (c : Complex) → isAbove id c ≡ true → above (c .id) c + 2 * perLeg ≤ above id c
 unfolding above
 above-own id c h =
     let a : held (c .quantity) ≡ true = search (and-l, h) in
     let b : ltb id (c .id) ≡ true = search (and-l, and-r, h) in
     rw (a, b, le-ltb (c .id) (c .id) (omega arith)) (omega arith)
 
-next-above : (id : ℕ) (v : Venue) (i : ℕ) (c : Complex) → At noComplex (λ x. held (x .quantity) && ltb id (x .id)) (v .complex) i c →
+next-above : (id : ℕ) (v : Venue) (i : ℕ) (c : Complex) → At noComplex (isAbove id) (v .complex) i c →
     sum (above (c .id)) (v .complex) + 2 * perLeg ≤ sum (above id) (v .complex)
 next-above id v i c a =
     let z = a .is in
@@ -106,7 +101,7 @@ none-generated : (id : ℕ) (v : Venue) → Generated id v (nothing v)
 unfolding nothing
 none-generated id v = record { costs = let z = spent-nothing v in omega arith; same = refl }
 
-next-generated : (id : ℕ) (v : Venue) (i : ℕ) (c : Complex) → At noComplex (λ x. held (x .quantity) && ltb id (x .id)) (v .complex) i c → (f : Venue → Effect) →
+next-generated : (id : ℕ) (v : Venue) (i : ℕ) (c : Complex) → At noComplex (isAbove id) (v .complex) i c → (f : Venue → Effect) →
     Generated (c .id) (generate i v .venue) (f (generate i v .venue)) → Generated id v (generate i v ⟫ f)
 unfolding Costs _⟫_
 next-generated id v i c a f g =
@@ -116,22 +111,14 @@ next-generated id v i c a f g =
     let k = g .costs in
     record { costs = omega (arith, costs-generate i v); same = g .same ∙ generate-complex i v }
 
-next-chosen : (id : ℕ) (v : Venue) → Chosen noComplex (λ c. held (c .quantity) && ltb id (c .id)) (v .complex) (nextAbove id v)
-unfolding nextAbove
-next-chosen id v = first-chosen noComplex (λ c. held (c .quantity) && ltb id (c .id)) earlierComplex (v .complex)
-
 all-generated : (fuel id : ℕ) (v : Venue) → Generated id v (each fuel generate id v)
-unfolding each
-all-generated zero id v = none-generated id v
-all-generated (suc fuel) id v = go (nextAbove id v) (next-chosen id v) (all-generated fuel)
-  where
-    go : (x : Picked Complex) → Chosen noComplex (λ c. held (c .quantity) && ltb id (c .id)) (v .complex) x → ((id : ℕ) (w : Venue) → Generated id w (each fuel generate id w)) →
-        Generated id v (elim x as (λ _. Effect) [ nobody ↦ nothing v | picked i c ↦ generate i v ⟫ each fuel generate (c .id) ])
-    go nobody a ih = none-generated id v
-    go (picked i c) a ih = next-generated id v i c a (each fuel generate (c .id)) (ih (c .id) _)
+all-generated zero id v = unfold each in (none-generated id v)
+all-generated (suc fuel) id v =
+    each-by (Generated id v) fuel generate id v (λ _. none-generated id v)
+    (λ i c _ a. next-generated id v i c a (each fuel generate (c .id)) (all-generated fuel (c .id) _))
 
 -- so it writes no more than the venue is worth
-pub generation-writes : (fuel id : ℕ) (v : Venue) → sum recordLength (each fuel generate id v .reports) ≤ worth v
+pub generation-writes : (fuel id : ℕ) (v : Venue) → total recordLength (each fuel generate id v .reports) ≤ worth v
 unfolding spent worth
 generation-writes fuel id v =
     let g = all-generated fuel id v in

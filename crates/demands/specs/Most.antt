@@ -4,40 +4,15 @@ use mathlib.Core.List.{List}
 use Prim.Native.Nat.{ℕ, _+_, _*_, _≤_, _<_}
 use lib.ListN.{length}
 use Rattle.rules.specs.declared.Venue.{Venue}
-use Rattle.rules.specs.Records.{Report, answer, trade, pair, generated, removed, crossed, cancelled, encode, encodeAll}
+use Rattle.rules.specs.Records.{Report, encode, encodeAll}
+use Rattle.rules.specs.Lengths.{perComplex, perLeg, perLegging, perRegular, recordLength}
 use Rattle.rules.specs.Step.{step}
 use Rattle.rules.specs.Calls.{one}
-use Rattle.bounds.specs.Asked.{SoundVenue}
+use Rattle.demands.specs.Kept.{SoundVenue}
 
--- The table's column "Length", of a record.
-unfoldable pub recordLength : Report → ℕ
-recordLength (answer number refusal mask count) = 12
-recordLength (trade series side price quantity taker maker) = 22
-recordLength (pair id n quantity) = 16
-recordLength (generated id series side price shown quantity) = 22
-recordLength (removed id series side cause) = 11
-recordLength (crossed taker maker n quantity) = 20
-recordLength (cancelled id quantity) = 12
-
+-- Each record's bytes are as many as document 01's column "Length" says.
 abbrev pub Lengths : Type 0
 Lengths = (r : Report) → length (encode r) ≡ recordLength r
-
--- What each order pays for when it goes, or in a sweep when its turn comes. A round of legging in writes, beside the trades that free their maker,
--- a trade for each leg and the pair, 22 + 22 + 16; it frees all of a level of one leg, or the complex order. A cross writes 20 and frees a party.
-abbrev pub perRegular : ℕ
-perRegular = 60
-
--- and a complex order that is left may have both legs generated
-abbrev pub perComplex : ℕ
-perComplex = 66
-
--- a legging order's going writes its 68
-abbrev pub perLegging : ℕ
-perLegging = 11
-
--- a leg that is generated: its 67, and the 68 of the holder or, later, its own
-abbrev pub perLeg : ℕ
-perLeg = 33
 
 abbrev pub most : ℕ
 most = 10112

@@ -9,7 +9,7 @@ use Rattle.rules.specs.Words.{freshVenue}
 use Rattle.rules.specs.Records.{Report, answer, trade, pair, generated, removed, crossed, cancelled}
 use Rattle.rules.specs.Refusals.{refusal}
 use Rattle.rules.specs.Step.{mask, filled, step}
-use Rattle.bounds.specs.Seen.{Given, Seen, Opening, opening, calls}
+use Rattle.demands.specs.Demand.{Given, Opening, Seen, calls, opening}
 
 -- One message ---------------------------------------------------------------------------------
 

@@ -1,35 +1,35 @@
 -- What each effect costs: nothing, but for the trades and the pair of a hit, a new order's own worth, and what is generated.
-use mathlib.Core.Path.{_≡_, refl, ap, _∙_}
-use mathlib.Core.Bool.{Bool, true, false, not}
+use mathlib.Core.Path.{_∙_, _≡_, ap, refl, subst}
 use mathlib.Core.List.{List}
 use Prim.Native.Nat.{ℕ, zero, suc, _+_, _≤_, _<_, min}
 use native.Mathlib.Omega.{arith}
 use native.Mathlib.Decide.{decLe}
 use lib.IntN.{ℤ}
 use lib.ListN.{getD}
 use Rattle.rules.specs.declared.Complex.{Complex}
 use Rattle.rules.specs.declared.Legging.{Legging}
 use Rattle.rules.specs.declared.Venue.{Venue}
 use Rattle.rules.specs.declared.Cause.{Cause}
-use Rattle.rules.specs.declared.Cause.the-variants.{Executed, Touched}
-use Rattle.rules.specs.Base.{if_then_else_, held, Picked, nobody, picked, first}
+use Rattle.rules.specs.declared.Cause.the-variants.{Executed}
 use Rattle.rules.specs.Words.{opposite, noComplex, regularAt, complexAt}
 use Rattle.rules.specs.Prices.{bestRegular, bestSize, sizeIn, net}
 use Rattle.rules.specs.Records.{Report, trade, pair, crossed}
 use Rattle.rules.specs.Effects.{Effect, nothing, report, _⟫_, Turn, ended, turned, repeat}
-use Rattle.rules.specs.Removal.{remove, removeOf, failIf}
+use Rattle.rules.specs.Removal.{remove, removeOf}
 use Rattle.rules.specs.Standing.{settle, verdict}
 use Rattle.rules.specs.Trading.{fillRegular, fillComplex, take, pairOff}
 use Rattle.rules.specs.Order.{meet, hit}
-use Rattle.rules.specs.Complex.{crosses, limitThenId, cross, crossTurn, touches, takenSide, touch, legsIn, legIn, legInTurn, anyClosed, work, nextAbove, each}
+use Rattle.rules.specs.Complex.{crosses, cross, crossTurn, touches, touch, legsIn, legIn, legInTurn, anyClosed, work, each}
 use Rattle.rules.proofs.Tests.{and-l, and-r, held-pos}
-use Rattle.rules.proofs.Picking.{At, Chosen, first-chosen}
-use Rattle.bounds.specs.Most.{recordLength}
-use Rattle.bounds.proofs.Sums.{due-held}
-use Rattle.bounds.proofs.Worth.{worth, fill-le, fills-free, fillC-le, fillC-frees, fillsC-free, spent, spent-nothing, spent-report, spent-then, spent-remove}
-use Rattle.bounds.proofs.Sizes.{size-same, size-apart, best-some}
-use Rattle.bounds.proofs.Taking.{spare, trade-spent, take-cheap, take-clears, take-keeps, take-complex}
-use Rattle.rules.proofs.Better.{is-false}
+use Rattle.rules.proofs.Picking.{At}
+use Rattle.rules.specs.Lengths.{recordLength}
+use Rattle.rules.proofs.Summing.{due-held}
+use Rattle.rules.proofs.Worth.{worth, fill-le, fills-free, fillC-le, fillC-frees, fillsC-free, spent, spent-nothing, spent-report, spent-then, spent-remove}
+use Rattle.rules.proofs.Sizes.{best-some}
+use Rattle.rules.proofs.Taking.{chain-apart, chain-elsewhere, take-chain}
+use Rattle.rules.proofs.Cases.{crossTurn-by, each-by, if-by, repeat-by}
+use Rattle.rules.proofs.Ending.{legs-facts}
+use Rattle.rules.proofs.Spending.{spare, trade-spent, take-cheap, take-clears}
 
 -- c bytes more than the venue was worth
 unfoldable pub Costs : (c : ℕ) → Venue → Effect → Type 0
@@ -116,11 +116,7 @@ costs-cross i j k v p q e =
 
 pub costs-touch : (i : ℕ) (v : Venue) → Costs 0 v (touch i v)
 unfolding touch
-costs-touch i v = go (complexAt v i) (touches v (complexAt v i))
-  where
-    go : (c : Complex) (b : Bool) → Costs 0 v (if b then remove (λ n _. failIf (takenSide c n) Touched) v else nothing v)
-    go c true = costs-remove _ v
-    go c false = costs-nothing v
+costs-touch i v = if-by (Costs 0 v) (touches v (complexAt v i)) (λ _. costs-remove _ v) (λ _. costs-nothing v)
 
 -- a round of legging in
 module _ (i : ℕ) (v : Venue) where
@@ -159,16 +155,15 @@ module _ (i : ℕ) (v : Venue) where
   same-complex : (k : ℕ) → complexAt (second-leg k .venue) i .quantity ≡ c .quantity
   unfolding complexAt
   same-complex k =
-      let x = take-complex (c .id) (c .series1) (c .side1) a k k v in
-      let y = take-complex (c .id) (c .series2) (c .side2) b k k (first-leg k .venue) in
+      let x = chain-elsewhere (take-chain (c .id) (c .series1) (c .side1) a k k v) .complex in
+      let y = chain-elsewhere (take-chain (c .id) (c .series2) (c .side2) b k k (first-leg k .venue)) .complex in
       ap (λ (l : List Complex). getD l i noComplex .quantity) (y ∙ x)
 
   -- and the second leg's level, unless it is the first leg's too
   same-size : (k : ℕ) → (size1 ≡ size2 → ⊥) → sizeIn (c .series2) (opposite (c .side2)) b (first-leg k .venue .regular) ≡ size2
   unfolding bestSize
   same-size k n =
-      take-keeps (c .id) (c .series1) (c .side1) a (λ w. sizeIn (c .series2) (opposite (c .side2)) b (w .regular) ≡ size2)
-      (λ j q w f t h. size-apart (c .series2) (opposite (c .side2)) b w j f q (is-false _ (λ u. n (size-same _ _ _ _ _ _ _ (v .regular) t u))) ∙ h) k k v refl
+      chain-apart (c .series2) (opposite (c .side2)) b (λ (x : c .series1 ≡ c .series2) (y : opposite (c .side1) ≡ opposite (c .side2)) (z : a ≡ b). n cc) (take-chain (c .id) (c .series1) (c .side1) a k k v)
 
   costs-legIn : (k : ℕ) → k ≡ min (c .quantity) (min size1 size2) → 0 < c .quantity → 0 < size1 → 0 < size2 → Costs 0 v (legIn i a b k v)
   unfolding Costs bestSize
@@ -205,14 +200,13 @@ Turned P extra v (turned e) = P (e .venue) × (spent e + extra (e .venue) ≤ wo
 
 pub repeat-costs : (P : Venue → Type 0) (extra : Venue → ℕ) (turn : Venue → Turn) → ((v : Venue) → P v → Turned P extra v (turn v)) →
     (fuel : ℕ) (v : Venue) → P v → spent (repeat fuel turn v) ≤ worth v + extra v
-unfolding repeat
-repeat-costs P extra turn ok zero v h = let z = spent-nothing v in omega arith
-repeat-costs P extra turn ok (suc fuel) v h = go (turn v) (ok v h) (repeat-costs P extra turn ok fuel)
-  where
-    go : (t : Turn) → Turned P extra v t → ((w : Venue) → P w → spent (repeat fuel turn w) ≤ worth w + extra w) →
-        spent (elim t as (λ _. Effect) [ ended ↦ nothing v | turned e ↦ e ⟫ repeat fuel turn ]) ≤ worth v + extra v
-    go ended k ih = let z = spent-nothing v in omega arith
-    go (turned e) k ih = let z = spent-then e (repeat fuel turn) in omega (arith, ih (e .venue) (k .0), k .1)
+repeat-costs P extra turn ok zero v h = unfold repeat in (let z = spent-nothing v in omega arith)
+repeat-costs P extra turn ok (suc fuel) v h =
+    repeat-by (λ e. spent e ≤ worth v + extra v) fuel turn v (λ _. let z = spent-nothing v in omega arith)
+    (λ e is.
+    let k = subst (Turned P extra v) is (ok v h) in
+    let z = spent-then e (repeat fuel turn) in
+    omega (arith, repeat-costs P extra turn ok fuel (e .venue) (k .0), k .1))
 
 -- a turn that costs nothing
 abbrev Free : Venue → Turn → Type 0
@@ -235,55 +229,28 @@ crossing-some i v j m a =
     (ap (λ (x : Complex). x .quantity) (a .at), held-pos (m .quantity) (search (and-l, and-r, z)))
 
 crossTurn-free : (i : ℕ) (v : Venue) → Free v (crossTurn i v)
-unfolding crossTurn
 crossTurn-free i v =
-    go (held (complexAt v i .quantity)) refl (first (crosses v (complexAt v i)) limitThenId (v .complex))
-    (first-chosen noComplex (crosses v (complexAt v i)) limitThenId (v .complex))
-  where
-    go : (b : Bool) → held (complexAt v i .quantity) ≡ b → (x : Picked Complex) → Chosen noComplex (crosses v (complexAt v i)) (v .complex) x →
-        Free v (if not b then ended else elim x as (λ _. Turn) [ nobody ↦ ended | picked j m ↦ turned (cross i j (min (complexAt v i .quantity) (m .quantity)) v) ])
-    go false e x a = tt
-    go true e nobody a = tt
-    go true e (picked j m) a =
-        let m = crossing-some i v j m a in
-        costs-cross i j _ v (held-pos (complexAt v i .quantity) e) (omega arith) (omega arith)
-
-record LegsIn (i : ℕ) (v : Venue) : Type 0 where
-  some : held (complexAt v i .quantity) ≡ true
-  first : held (a i v) ≡ true
-  second : held (b i v) ≡ true
-
-legs-in : (i : ℕ) (v : Venue) → legsIn v (complexAt v i) (a i v) (b i v) ≡ true → LegsIn i v
-unfolding legsIn
-legs-in i v h = record { some = search (and-l, and-r, h); first = search (and-l, and-r, h); second = search (and-l, and-r, h) depth 6 }
+    crossTurn-by (Free v) i v (λ _. tt) (λ _ _. tt)
+    (λ h j m a. let z = crossing-some i v j m a in costs-cross i j _ v (held-pos (complexAt v i .quantity) h) (omega arith) (omega arith))
 
 legInTurn-free : (i : ℕ) (v : Venue) → Free v (legInTurn i v)
 unfolding legInTurn
-legInTurn-free i v = go (legsIn v (complexAt v i) (a i v) (b i v)) refl
-  where
-    go : (t : Bool) → legsIn v (complexAt v i) (a i v) (b i v) ≡ t →
-        Free v (if t then turned (legIn i (a i v) (b i v) (min (complexAt v i .quantity) (min (size1 i v) (size2 i v))) v) else ended)
-    go true e =
-        let h : LegsIn i v = legs-in i v e in
-        costs-legIn i v _ refl (held-pos (complexAt v i .quantity) (h .some)) (best-some v _ _ (h .first)) (best-some v _ _ (h .second))
-    go false e = tt
+legInTurn-free i v =
+    if-by (Free v) (legsIn v (complexAt v i) (a i v) (b i v))
+    (λ e.
+    let h = legs-facts v (complexAt v i) (a i v) (b i v) e in
+    costs-legIn i v _ refl (held-pos (complexAt v i .quantity) (h .0)) (best-some v _ _ (h .1)) (best-some v _ _ (h .2)))
+    (λ _. tt)
 
 pub costs-work : (i : ℕ) (v : Venue) → Costs 0 v (work i v)
 unfolding work
-costs-work i v = go (complexAt v i .quantity) (anyClosed v (complexAt v i))
-  where
-    go : (n : ℕ) (b : Bool) → Costs 0 v (if b then nothing v else repeat n (crossTurn i) v ⟫ touch i ⟫ repeat n (legInTurn i))
-    go n true = costs-nothing v
-    go n false =
-        costs-then 0 0 v _ _ (costs-then 0 0 v _ _ (repeat-free (crossTurn i) (crossTurn-free i) n v) (costs-touch i _)) (repeat-free (legInTurn i) (legInTurn-free i) n _)
+costs-work i v =
+    let n = complexAt v i .quantity in
+    if-by (Costs 0 v) (anyClosed v (complexAt v i)) (λ _. costs-nothing v)
+    (λ _. costs-then 0 0 v _ _ (costs-then 0 0 v _ _ (repeat-free (crossTurn i) (crossTurn-free i) n v) (costs-touch i _)) (repeat-free (legInTurn i) (legInTurn-free i) n _))
 
 -- f for each resting order of a sweep
 pub costs-each : (f : ℕ → Venue → Effect) → ((i : ℕ) (v : Venue) → Costs 0 v (f i v)) → (fuel id : ℕ) (v : Venue) → Costs 0 v (each fuel f id v)
-unfolding each
-costs-each f ok zero id v = costs-nothing v
-costs-each f ok (suc fuel) id v = go (nextAbove id v) (costs-each f ok fuel)
-  where
-    go : (x : Picked Complex) → ((id : ℕ) (w : Venue) → Costs 0 w (each fuel f id w)) →
-        Costs 0 v (elim x as (λ _. Effect) [ nobody ↦ nothing v | picked i d ↦ f i v ⟫ each fuel f (d .id) ])
-    go nobody ih = costs-nothing v
-    go (picked i d) ih = costs-then 0 0 v (f i v) (each fuel f (d .id)) (ok i v) (ih (d .id) _)
+costs-each f ok zero id v = unfold each in (costs-nothing v)
+costs-each f ok (suc fuel) id v =
+    each-by (Costs 0 v) fuel f id v (λ _. costs-nothing v) (λ i c _ _. costs-then 0 0 v (f i v) (each fuel f (c .id)) (ok i v) (costs-each f ok fuel (c .id) _))

@@ -1,25 +1,20 @@
--- Sums over the places of a list, and what one place's change does to them.
-use mathlib.Core.Path.{_≡_, refl, sym, ap}
+-- Sums over the places of a list, of any type, and what one place's change does to them.
+use mathlib.Core.Path.{_≡_, ap, refl}
 use mathlib.Core.Bool.{Bool, true, false}
-use mathlib.Core.List.{List, [], _∷_, _++_}
+use mathlib.Core.List.{List, [], _∷_}
 use Prim.Native.Nat.{ℕ, zero, suc, _+_, _-_, _*_, _≤_, _<_, min}
 use native.Mathlib.Omega.{arith}
 use native.Mathlib.Decide.{decLt, decLe}
-use native.Mathlib.Nat.{zero-add, add-assoc, mul-suc}
+use native.Mathlib.Nat.{mul-suc}
 use lib.ListN.{length, getD, set, List·getD-eq-default}
 use lib.Seq.{set-out, getD-set-other}
 use Rattle.rules.specs.Base.{if_then_else_, held}
 use Rattle.rules.proofs.Tests.{held-pos, pos-held}
 
 module _ {A : Type 0} (f : A → ℕ) where
   unfoldable pub sum : List A → ℕ
   sum [] = 0
   sum (x ∷ l) = f x + sum l
-
-  pub sum-append : (l m : List A) → sum (l ++ m) ≡ sum l + sum m
-  unfolding sum
-  sum-append [] m = sym (zero-add _)
-  sum-append (x ∷ l) m = rw (sum-append l m) (sym (add-assoc _ _ _))
 
   -- what is set at a place takes the place of what was there
   pub sum-set : (none : A) (l : List A) (i : ℕ) (x : A) → i < length l → sum (set l i x) + f (getD l i none) ≡ sum l + f x
