@@ -124,7 +124,7 @@ one-room v n room bs =
     oneFrom-by (λ r. length (encodeAll (r .reports)) ≤ room) v n room bs (λ _. ends-room 9 v room) (λ _ _. ends-room 10 v room)
     (λ _ d. after-room _ _ room (d .1) (ends-room _ _ _))
 
-sheet-length : (room : ℕ) (rs : List Report) → length (encodeAll rs) ≤ room → length (sheet room rs) ≡ room
+pub sheet-length : (room : ℕ) (rs : List Report) → length (encodeAll rs) ≤ room → length (sheet room rs) ≡ room
 unfolding sheet
 sheet-length room rs le = simp (length-append, length-replicate) (omega arith)
 

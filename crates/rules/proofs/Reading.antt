@@ -13,26 +13,26 @@ use Rattle.rules.specs.Records.{Each, Fits, I32, Report, U16, U32, U8, a
 
 -- Fields --------------------------------------------------------------------------------------
 
-byte : (x : ℕ) → U8 x → x % 256 ≡ x
+pub byte : (x : ℕ) → U8 x → x % 256 ≡ x
 byte x h = omega arith
 
-half : (x : ℕ) → U16 x → x % 256 + 256 * (x / 256 % 256) ≡ x
+pub half : (x : ℕ) → U16 x → x % 256 + 256 * (x / 256 % 256) ≡ x
 half x h = omega arith
 
-word : (x : ℕ) → U32 x → x % 256 + 256 * (x / 256 % 256) + 65536 * (x / 256 / 256 % 256 + 256 * (x / 256 / 256 / 256 % 256)) ≡ x
+pub word : (x : ℕ) → U32 x → x % 256 + 256 * (x / 256 % 256) + 65536 * (x / 256 / 256 % 256 + 256 * (x / 256 / 256 / 256 % 256)) ≡ x
 word x h = omega arith
 
-signed-back : (z : ℤ) → I32 z → asSigned (asUnsigned z) ≡ z
+pub signed-back : (z : ℤ) → I32 z → asSigned (asUnsigned z) ≡ z
 unfolding asSigned asUnsigned
 signed-back (pos n) h = rw (lt-ltb n 2147483648 h)
 signed-back (negsuc n) h = rw (le-ltb (4294967295 - n) 2147483648 (omega arith)) (ap negsuc (omega arith))
 
-signed-small : (z : ℤ) → I32 z → U32 (asUnsigned z)
+pub signed-small : (z : ℤ) → I32 z → U32 (asUnsigned z)
 unfolding asUnsigned
 signed-small (pos n) h = omega arith
 signed-small (negsuc n) h = omega arith
 
-cause-back : (c : Cause) → causeOf (causeNumber c) ≡ c
+pub cause-back : (c : Cause) → causeOf (causeNumber c) ≡ c
 unfolding causeOf
 cause-back Worse = refl
 cause-back Unpaired = refl
@@ -43,7 +43,7 @@ cause-back NotOpen = refl
 cause-back Replaced = refl
 cause-back Touched = refl
 
-cause-small : (c : Cause) → U8 (causeNumber c)
+pub cause-small : (c : Cause) → U8 (causeNumber c)
 cause-small Worse = omega arith
 cause-small Unpaired = omega arith
 cause-small Executed = omega arith

@@ -18,7 +18,7 @@ use Rattle.rules.specs.declared.Regular.{Regular}
 use Rattle.rules.specs.declared.Venue.{Venue}
 use Rattle.rules.specs.Base.{held}
 use Rattle.rules.specs.Words.{complexAt, increment, isAway, isClass, isId, isLimit, isPrice, isQuantity, isRegularPrice, isSeries, isSide, isStatus, noComplex, noLegging, noRegular, notListed, regularAt, statusOf, withComplex, withLast, withLegging, withRegular, withSeries, within}
-use Rattle.rules.specs.Records.{Each, Fits, Report, U32, answer, cancelled, crossed, generated, pair, removed, trade}
+use Rattle.rules.specs.Records.{Each, Report, U32}
 use Rattle.rules.specs.Trading.{fillComplex, fillRegular, lessComplex, lessRegular}
 use Rattle.rules.specs.Generation.{placed}
 use Rattle.rules.specs.Places.{blankLegging, closeGaps}

@@ -12,7 +12,7 @@ use Rattle.rules.specs.Words.{freshVenue}
 use Rattle.rules.specs.Bytes.{lengthField}
 use Rattle.rules.specs.Records.{Report, encodeAll, sheet}
 use Rattle.rules.specs.Effects.{Effect}
-use Rattle.rules.specs.Step.{Answered, step}
+use Rattle.rules.specs.Step.{step}
 use Rattle.rules.specs.Sound.{sound}
 
 -- how a call goes: its number, the messages done, the venue, and the records of these messages

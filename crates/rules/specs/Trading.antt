@@ -1,6 +1,5 @@
 -- Filling, resting and trading: what Order and Complex have in common.
-use mathlib.Core.Bool.{Bool, true, false, not}
-use mathlib.Core.List.{List}
+use mathlib.Core.Bool.{true, false, not}
 use Prim.Native.Nat.{ℕ, zero, suc, _-_, min}
 use lib.ListN.{set}
 use lib.IntN.{ℤ}

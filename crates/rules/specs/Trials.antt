@@ -16,7 +16,7 @@ use Rattle.rules.specs.Messages.{encodeMessage}
 use Rattle.rules.specs.Records.{Report, answer, trade, pair, generated, removed, records, sheet}
 use Rattle.rules.specs.Prices.{inBand}
 use Rattle.rules.specs.Step.{setAway}
-use Rattle.rules.specs.Calls.{Call, run, one}
+use Rattle.rules.specs.Calls.{run, one}
 use Rattle.rules.specs.Opened.{opened-rules}
 
 -- What is tried -------------------------------------------------------------------------------

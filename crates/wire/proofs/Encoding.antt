@@ -18,7 +18,7 @@ use Rattle.rules.specs.Messages.{lengthOf, orderAt, twoLegAt, messageOf, encode
 use Rattle.rules.specs.Records.{U8, U32, I32}
 use Rattle.rules.specs.Refusals.{isKind, regularInRange, complexInRange, inRange, decoded}
 use Rattle.rules.proofs.Tests.{and-l, and-r}
-use Rattle.wire.proofs.Fields.{byte, word, signed-back, signed-small}
+use Rattle.rules.proofs.Reading.{byte, word, signed-back, signed-small}
 use Rattle.wire.proofs.Decoding.{whole, taken}
 
 -- Widths --------------------------------------------------------------------------------------

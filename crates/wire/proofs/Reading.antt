@@ -2,60 +2,23 @@
 use mathlib.Core.Path.{_≡_, refl, sym, ap, subst, _∙_}
 use mathlib.Core.Bool.{Bool, true, false}
 use mathlib.Core.List.{List, [], _∷_, _++_, append-assoc}
-use Prim.Native.Nat.{ℕ, zero, suc, _+_, _-_, _≤_, _<_, min}
+use Prim.Native.Nat.{ℕ, zero, suc, _+_, _≤_, _<_, min}
 use native.Mathlib.Omega.{arith}
 use lib.Dec.{eqb, leb, ltb}
 use lib.IntN.{ℤ}
-use lib.ListN.{length, getD, drop, replicate, length-append, length-replicate, drop-of-length-le}
-use lib.Seq.{drop-append-seam, drop-drop}
+use lib.ListN.{length, drop, drop-of-length-le}
+use lib.Seq.{drop-drop}
 use borrow.Author.Tests.{ne-eqb, eqb-true, eqb-false, leb-true, leb-false, ltb-true, ltb-false}
-use Rattle.rules.specs.Bytes.{u8At, u16At, u32At, asSigned, asUnsigned, lengthField, kindField, bytes, u16, u32, i32, framed}
-use Rattle.rules.specs.Records.{Report, answer, trade, pair, generated, removed, crossed, cancelled, causeNumber, encode, encodeAll, sheet, recordOf, recordsFrom, records, U16, U32, I32, Fits, Each}
+use Rattle.rules.specs.Bytes.{u8At, u16At, u32At, asSigned, asUnsigned, lengthField, kindField, bytes, u16, u32, i32}
+use Rattle.rules.specs.Records.{Report, encode, encodeAll, sheet, recordOf, recordsFrom, records, U16, U32, I32, Fits, Each}
 use Rattle.wire.specs.declared.Next.{Next}
 use Rattle.wire.specs.declared.Next.the-variants.{Found, End}
 use Rattle.wire.specs.Next.{nextRecord, recordsAt}
 use Rattle.wire.specs.Seen.{Seen, seen, pasted, _plus_}
 use Rattle.wire.proofs.Numbers.{u16-past, u16-drop, u16-here, u32-here}
 use Rattle.wire.proofs.Writes.{plus-in, pasted-from}
-use Rattle.wire.proofs.Fields.{byte, half, word, signed-back, signed-small, cause-back, cause-small}
-
--- Records -------------------------------------------------------------------------------------
-
--- a record is read from its bytes, whatever follows
-pub record-back : (r : Report) → Fits r → (rest : List ℕ) → recordOf (encode r ++ rest) ≡ r
-unfolding recordOf encode framed bytes kindField u8At u16At u32At
-record-back (answer n x m c) h rest = rw (word n (h .0), byte x (h .1), half m (h .2), byte c (h .3))
-record-back (trade s d p q t m) h rest =
-    rw (byte s (h .0), byte d (h .1), word p (h .2), word q (h .3), word t (h .4), word m (h .5))
-record-back (pair i n q) h rest = rw (word i (h .0), word (asUnsigned n) (signed-small n (h .1)), signed-back n (h .1), word q (h .2))
-record-back (generated i s d p x q) h rest =
-    rw (word i (h .0), byte s (h .1), byte d (h .2), word p (h .3), word x (h .4), word q (h .5))
-record-back (removed i s d c) h rest = rw (word i (h .0), byte s (h .1), byte d (h .2), byte (causeNumber c) (cause-small c), cause-back c)
-record-back (crossed t m n q) h rest =
-    rw (word t (h .0), word m (h .1), word (asUnsigned n) (signed-small n (h .2)), signed-back n (h .2), word q (h .3))
-record-back (cancelled i q) h rest = rw (word i (h .0), word q (h .1))
-
--- its length stands at its front
-pub length-back : (r : Report) (rest : List ℕ) → lengthField (encode r ++ rest) ≡ length (encode r)
-unfolding lengthField encode framed bytes u8At u16At
-length-back (answer n x m c) rest = refl
-length-back (trade s d p q t m) rest = refl
-length-back (pair i n q) rest = refl
-length-back (generated i s d p x q) rest = refl
-length-back (removed i s d c) rest = refl
-length-back (crossed t m n q) rest = refl
-length-back (cancelled i q) rest = refl
-
--- and is not 0
-pub some-length : (r : Report) → 4 < length (encode r)
-unfolding encode framed bytes
-some-length (answer n x m c) = omega arith
-some-length (trade s d p q t m) = omega arith
-some-length (pair i n q) = omega arith
-some-length (generated i s d p x q) = omega arith
-some-length (removed i s d c) = omega arith
-some-length (crossed t m n q) = omega arith
-some-length (cancelled i q) = omega arith
+use Rattle.rules.proofs.Reading.{half, word, signed-back, signed-small, record-back, reads-back}
+use Rattle.rules.proofs.Calling.{sheet-length}
 
 -- Read after write ---------------------------------------------------------------------------
 
@@ -81,53 +44,6 @@ module _ (l : List ℕ) (at : ℕ) where
       ∙ record-back r h (drop (at + length (encode r)) l)
 
 -- Sheets --------------------------------------------------------------------------------------
-
-zeros : (m i : ℕ) → _≡_ {A = ℕ} (getD (replicate m 0) i 0) 0
-zeros zero i = refl
-zeros (suc m) zero = refl
-zeros (suc m) (suc i) = zeros m i
-
-ended : (fuel m : ℕ) → recordsFrom fuel (replicate m 0) ≡ []
-unfolding recordsFrom lengthField u16At u8At
-ended zero m = refl
-ended (suc fuel) m = rw (zeros m 0, zeros m 1, recordsFrom)
-
-one-more : (fuel : ℕ) (r : Report) → Fits r → (rest : List ℕ) → recordsFrom (suc fuel) (encode r ++ rest) ≡ r ∷ recordsFrom fuel rest
-unfolding recordsFrom
-one-more fuel r h rest =
-    rw (
-      length-back r rest,
-      ne-eqb (length (encode r)) 0 (λ e. (let z = some-length r in omega arith)),
-      recordsFrom,
-      record-back r h rest,
-      length-back r rest,
-      drop-append-seam (encode r) rest,
-    )
-
-reads : (fuel m : ℕ) (rs : List Report) → Each Fits rs → length (encodeAll rs) ≤ fuel → recordsFrom fuel (encodeAll rs ++ replicate m 0) ≡ rs
-unfolding encodeAll
-reads fuel m [] h le = ended fuel m
-reads zero m (r ∷ rs) h le = (let z = some-length r in let y = simp length-append at le in absurd (omega arith))
-reads (suc fuel) m (r ∷ rs) h le =
-    let z = some-length r in
-    let y = simp length-append at le in
-    rw (
-      append-assoc (encode r) (encodeAll rs) (replicate m 0),
-      one-more fuel r (h .0) (encodeAll rs ++ replicate m 0),
-      reads fuel m rs (h .1) (omega arith),
-    )
-
--- the memory left by any list of records and the zeros after them gives back those records and nothing else
-pub reads-back : (room : ℕ) (rs : List Report) → Each Fits rs → length (encodeAll rs) ≤ room → records (sheet room rs) ≡ rs
-unfolding records sheet
-reads-back room rs h le =
-    reads (length (encodeAll rs ++ replicate (room - length (encodeAll rs)) 0)) (room - length (encodeAll rs)) rs h
-    (simp (length-append, length-replicate) (omega arith))
-
--- the sheet has the length of its memory
-pub sheet-length : (room : ℕ) (rs : List Report) → length (encodeAll rs) ≤ room → length (sheet room rs) ≡ room
-unfolding sheet
-sheet-length room rs le = simp (length-append, length-replicate) (omega arith)
 
 pub encodeAll-append : (a b : List Report) → encodeAll (a ++ b) ≡ encodeAll a ++ encodeAll b
 unfolding encodeAll

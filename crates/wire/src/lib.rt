@@ -79,28 +79,6 @@ pub fn i32_at(s: &[u8], at: usize) -> i32
 
 // A message -----------------------------------------------------------------------------------
 
-// The length of a kind of message; 0 for what is no kind.
-fn length_of(kind: u16) -> u16
-    ensures { λ r. ⌜ r ≡ lengthOf kind ⌝ }
-{
-    match kind {
-        1 => 18,
-        2 => 21,
-        3 => 8,
-        4 => 13,
-        5 => 6,
-        6 => 4,
-        _ => 0,
-    }
-}
-
-// The increment of a series.
-fn increment_of(series: u8) -> u32
-    ensures { λ r. ⌜ r ≡ increment series ⌝ }
-{
-    if series < 6 { 5 } else { 10 }
-}
-
 fn is_regular_price(step: u32, price: u32) -> bool
     requires { ⌜ 0 < step ⌝ }
     ensures { λ r. ⌜ r ≡ isRegularPrice step price ⌝ }
@@ -145,7 +123,7 @@ pub fn regular_in_range(o: Regular) -> bool
     if 1 < o.side {
         return false;
     }
-    if !is_regular_price(increment_of(o.series), o.price) {
+    if !is_regular_price(rules::increment_of(o.series), o.price) {
         return false;
     }
     is_quantity(o.quantity)
@@ -288,7 +266,7 @@ pub fn decode(s: &[u8]) -> Decoded
     if 6 < kind {
         return Decoded::Refused(2);
     }
-    if size != length_of(kind) {
+    if size != rules::length_of(kind) {
         return Decoded::Refused(3);
     }
     let m = message_of(s);
@@ -392,22 +370,6 @@ fn bits(x: i64) -> u32
     (wide % 4294967296) as u32
 }
 
-// The number of a cause.
-pub fn cause_number(c: Cause) -> u8
-    ensures { λ r. ⌜ r ≡ causeNumber c ⌝ }
-{
-    match c {
-        Cause::Worse => 1,
-        Cause::Unpaired => 2,
-        Cause::Executed => 3,
-        Cause::Withdrawn => 4,
-        Cause::OutOfBand => 5,
-        Cause::NotOpen => 6,
-        Cause::Replaced => 7,
-        Cause::Touched => 8,
-    }
-}
-
 // 64: a message's number, its refusal or 0, the legging places filled after it and how many they are.
 pub fn emit_answer(
     out: &mut [u8],
@@ -496,7 +458,7 @@ pub fn emit_removed(out: &mut [u8], at: usize, id: u32, series: u8, side: u8, ca
     ensures { λ r. ⌜ seen (now (out .exit)) r ≡ seen (now (out .entry)) at writes (removed id series side cause ∷ []) ⌝ }
 {
     let i = bytes4(id);
-    let why = cause_number(cause);
+    let why = rules::cause_number(cause);
     let record = [11u8, 0, 68, 0, i[0], i[1], i[2], i[3], series, side, why];
     put(out, at, &record)
 }

@@ -1,6 +1,6 @@
 use Rattle.rules.specs.Bytes.{framed, bytes}
 use Rattle.rules.specs.Records.{answer, encode}
-use Rattle.wire.proofs.Fields.{byte}
+use Rattle.rules.proofs.Reading.{byte}
 use Rattle.wire.proofs.Writes.{emitted}
 use borrow.Author.Needs.{needs}
 use Rattle.wire.proofs.emit_answer.Statement.{statement}

@@ -1,6 +1,6 @@
 use Rattle.rules.specs.Bytes.{framed, bytes}
 use Rattle.rules.specs.Records.{removed, causeNumber, encode}
-use Rattle.wire.proofs.Fields.{byte, cause-small}
+use Rattle.rules.proofs.Reading.{byte, cause-small}
 use Rattle.wire.proofs.Writes.{emitted}
 use borrow.Author.Needs.{needs}
 use Rattle.wire.proofs.emit_removed.Statement.{statement}

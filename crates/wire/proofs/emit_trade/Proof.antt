@@ -1,7 +1,7 @@
 use Rattle.rules.specs.Bytes.{framed, bytes}
 use Rattle.rules.specs.Records.{trade, encode}
 use Rattle.wire.specs.Seen.{wordBytes}
-use Rattle.wire.proofs.Fields.{byte}
+use Rattle.rules.proofs.Reading.{byte}
 use Rattle.wire.proofs.Writes.{emitted}
 use borrow.Author.Needs.{needs}
 use Rattle.wire.proofs.emit_trade.Statement.{statement}
