@@ -23,7 +23,7 @@ add-result c = sum-fits {a = c .before .signed-price .result} {b = c .signed-pri
 returns : tie.Need-returns
 unfolding weighed
 returns c = let e = sum-ok {a = c .before .signed-price .result} {b = c .signed-price2 .result} (record { sfits = c .before .signed-price .ok }) (record { sfits = c .signed-price2 .ok }) (add-result c) in
-    (e ∙ rw (c .before .signed-price .ensures .0, c .signed-price2 .ensures .0, one-mul, one-mul) refl, omega (arith, ap natAbs e, abs-add (c .before .signed-price .result) (c .signed-price2 .result), c .before .signed-price .ensures .1, c .signed-price2 .ensures .1))
+    (e ∙ rw (c .before .signed-price .ensures .0, c .signed-price2 .ensures .0, one-mul (c .before .before .args .a), one-mul (c .before .before .args .b)) refl, omega (arith, ap natAbs e, abs-add (c .before .signed-price .result) (c .signed-price2 .result), c .before .signed-price .ensures .1, c .signed-price2 .ensures .1))
 
 pub net-of-spec : {M : Type 1} → statement M
 net-of-spec = tie.close (tie.spec signed-price-requires signed-price-requires-2 add-result returns)
