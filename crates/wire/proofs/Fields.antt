@@ -29,7 +29,7 @@ signed-small (pos n) h = omega arith
 signed-small (negsuc n) h = omega arith
 
 pub cause-back : (c : Cause) → causeOf (causeNumber c) ≡ c
-unfolding causeOf causeNumber
+unfolding causeOf
 cause-back Worse = refl
 cause-back Unpaired = refl
 cause-back Executed = refl
@@ -40,7 +40,6 @@ cause-back Replaced = refl
 cause-back Touched = refl
 
 pub cause-small : (c : Cause) → U8 (causeNumber c)
-unfolding causeNumber
 cause-small Worse = omega arith
 cause-small Unpaired = omega arith
 cause-small Executed = omega arith

@@ -29,35 +29,27 @@ enum-told-8 : tie.Need-enum-told-8
 enum-told-8 c = search needs
 
 returns : tie.Need-returns
-unfolding causeNumber
 returns c = sym (ap causeNumber (c .enum-told .given .1))
 
 returns-2 : tie.Need-returns-2
-unfolding causeNumber
 returns-2 c = sym (ap causeNumber (c .enum-told2 .given .1))
 
 returns-3 : tie.Need-returns-3
-unfolding causeNumber
 returns-3 c = sym (ap causeNumber (c .enum-told3 .given .1))
 
 returns-4 : tie.Need-returns-4
-unfolding causeNumber
 returns-4 c = sym (ap causeNumber (c .enum-told4 .given .1))
 
 returns-5 : tie.Need-returns-5
-unfolding causeNumber
 returns-5 c = sym (ap causeNumber (c .enum-told5 .given .1))
 
 returns-6 : tie.Need-returns-6
-unfolding causeNumber
 returns-6 c = sym (ap causeNumber (c .enum-told6 .given .1))
 
 returns-7 : tie.Need-returns-7
-unfolding causeNumber
 returns-7 c = sym (ap causeNumber (c .enum-told7 .given .1))
 
 returns-8 : tie.Need-returns-8
-unfolding causeNumber
 returns-8 c = sym (ap causeNumber (c .enum-told8 .given .1))
 
 pub cause-number-spec : {M : Type 1} → statement M
