@@ -14,7 +14,7 @@ use Rattle.rules.specs.declared.Legging.{Legging}
 use Rattle.rules.specs.declared.Listed.{Listed}
 use Rattle.rules.specs.declared.Venue.{Venue}
 use Rattle.rules.specs.Words.{noRegular, noComplex, noLegging, notListed, regularAt, complexAt, withRegular, withComplex, withLegging, withSeries, withLast}
-use Rattle.places.specs.Layout.{size, upto, inUse, regularsUsed, complexesUsed, regularIn, complexIn, leggingIn, listedIn, venueOf}
+use Rattle.places.specs.Layout.{size, upto, inUse, regularsUsed, complexesUsed, regularIn, complexIn, leggingIn, listedIn, venueOf, SameCounts}
 use Rattle.places.proofs.Tables.{upto-same, upto-set, used-same, used-set, used-more, used-at, used-free}
 
 -- a and b have the same numbers but for those from low to below high
@@ -121,6 +121,10 @@ module _ {low high : ℕ} {a b : List ℕ} (o : Outside low high a b) where
   pub count-kept2 : (777 < low) ⊎ (high ≤ 777) → complexesUsed b ≡ complexesUsed a
   unfolding complexesUsed
   count-kept2 h = ap (λ (x : ℕ). min x 32) (o .same 777 h)
+
+  pub counts-kept : (777 < low) ⊎ (high ≤ 776) → SameCounts a b
+  counts-kept (inl h) = record { regulars = count-kept (inl (omega arith)); complexes = count-kept2 (inl (omega arith)) }
+  counts-kept (inr h) = record { regulars = count-kept (inr (omega arith)); complexes = count-kept2 (inr (omega arith)) }
 
   pub regulars-kept : 512 ≤ low → (776 < low) ⊎ (high ≤ 776) → venueOf b .regular ≡ venueOf a .regular
   unfolding venueOf

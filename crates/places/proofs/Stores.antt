@@ -5,6 +5,7 @@ use Prim.Native.Nat.{ℕ, zero, suc, _+_, _-_, _*_, _≤_, _<_, _/_, _%_, min}
 use native.Mathlib.Omega.{arith}
 use native.Mathlib.Nat.{add-zero}
 use mathlib.Core.Logic.{inl, inr}
+use lib.IntN.{pos, _-ℤ_}
 use lib.ListN.{length, getD, set, length-set}
 use lib.Seq.{sets, getD-set-same, getD-set-other}
 use Rattle.rules.specs.declared.Regular.{Regular}
@@ -15,9 +16,9 @@ use Rattle.rules.specs.declared.Venue.{Venue}
 use Rattle.rules.specs.Words.{placeOf, noRegular, noComplex, regularAt, complexAt, withRegular, withComplex, withLegging, withSeries, withLast}
 use Rattle.rules.specs.Trading.{lessRegular, lessComplex, fillRegular, fillComplex, putRegular, putComplex}
 use Rattle.rules.specs.Generation.{placed}
-use Rattle.places.specs.Layout.{size, inUse, regularsUsed, complexesUsed, regularIn, complexIn, leggingIn, listedIn, venueOf, regularRow}
+use Rattle.places.specs.Layout.{size, inUse, regularsUsed, complexesUsed, regularIn, complexIn, leggingIn, listedIn, venueOf, regularRow, limitNumber, complexRow, Kept, Counts}
 use Rattle.places.proofs.Tables.{used-more}
-use Rattle.places.proofs.Parts.{Outside, stored, wider, joined, regulars-few, complexes-few, regular-at, complex-at, regular-set, complex-set, legging-set, listed-set, last-set, regular-unused, regulars-counted, count-kept}
+use Rattle.places.proofs.Parts.{Outside, stored, wider, joined, regulars-few, complexes-few, regular-at, complex-at, regular-set, complex-set, legging-set, listed-set, last-set, regular-unused, complex-unused, regulars-counted, complexes-counted, count-kept, count-kept2}
 
 -- A fill --------------------------------------------------------------------------------------
 
@@ -119,10 +120,10 @@ count-is a b n m h =
 part : (a b : List ℕ) → regularsUsed b ≡ regularsUsed a → venueOf b ≡ venueOf a → inUse (regularIn b) noRegular (regularsUsed a) 128 ≡ venueOf a .regular
 part a b e f = ap (λ (k : ℕ). inUse (regularIn b) noRegular k 128) (sym e) ∙ whole-part b ∙ ap (λ (v : Venue). v .regular) f
 
-pub added-regular : (a : List ℕ) (o : Regular) → length a ≡ size → regularsUsed a < 128 → o .series < 8 → o .side < 2 →
+added-venue : (a : List ℕ) (o : Regular) → length a ≡ size → regularsUsed a < 128 → o .series < 8 → o .side < 2 →
     venueOf (set (sets a (4 * regularsUsed a) (regularRow o)) 776 (regularsUsed a + 1)) ≡ putRegular (regularsUsed a) o (venueOf a)
 unfolding putRegular
-added-regular a o n h s d =
+added-venue a o n h s d =
     regulars-counted (stored b 776 (regularsUsed a + 1))
     ∙ ap (λ (v : Venue). withRegular v (inUse (regularIn b) noRegular (regularsUsed c) 128)) same
     ∙ ap (λ (l : List Regular). withRegular (venueOf a) l) more
@@ -150,6 +151,109 @@ added-regular a o n h s d =
         ap (λ (k : ℕ). inUse (regularIn b) noRegular k 128) more-used
         ∙ used-more (regularIn b) noRegular (regularsUsed a) 128 h
         ∙ ap₂ (λ (l : List Regular) (x : Regular). set l (regularsUsed a) x) (part a b used-b same) (regular-back a (regularsUsed a) o n h s d)
+
+-- an order written after those in use, and counted
+pub added-regular : (a b : List ℕ) (n : ℕ) (o : Regular) → length a ≡ size → regularsUsed a < 128 → o .series < 8 → o .side < 2 →
+    n ≡ regularsUsed a → b ≡ sets a (4 * n) (regularRow o) →
+    (venueOf (set b 776 (n + 1)) ≡ putRegular (regularsUsed a) o (venueOf a)) × Counts (suc (regularsUsed a)) (complexesUsed a) (set b 776 (n + 1))
+added-regular a b n o m h s d p q =
+    rw (q, p) (
+      added-venue a o m h s d,
+      record {
+        regulars = count-is a (sets a (4 * regularsUsed a) (regularRow o)) m (sets-length a (4 * regularsUsed a) (regularRow o) ∙ m) h;
+        complexes = count-kept2 (stored (sets a (4 * regularsUsed a) (regularRow o)) 776 (regularsUsed a + 1)) (inr (omega arith))
+            ∙ count-kept2 (wide-row a (regularsUsed a) o) (inr (omega arith));
+      },
+    )
+
+-- A complex order -----------------------------------------------------------------------------
+
+complex-back : (a : List ℕ) (i : ℕ) (c : Complex) → length a ≡ size → i < 32 → c .series1 < 8 → c .side1 < 2 → c .series2 < 8 → c .side2 < 2 → Kept c →
+    complexIn (sets a (6 * i + 512) (complexRow c)) i ≡ c
+unfolding complexIn complexRow placeOf
+complex-back a i c n h s1 d1 s2 d2 k =
+    let xs : List ℕ = c .id ∷ (2 * c .series1 + c .side1) ∷ (2 * c .series2 + c .side2) ∷ c .class ∷ limitNumber (c .limit) ∷ c .quantity ∷ [] in
+    let w = k .class in
+    let e0 : getD (sets a (6 * i + 512) xs) (6 * i + 512) 0 ≡ c .id = row-at a (6 * i + 512) (6 * i + 512) xs 0 (omega arith) (omega arith) (omega arith) in
+    let e1 : getD (sets a (6 * i + 512) xs) (6 * i + 513) 0 ≡ 2 * c .series1 + c .side1 = row-at a (6 * i + 512) (6 * i + 513) xs 1 (omega arith) (omega arith) (omega arith) in
+    let e2 : getD (sets a (6 * i + 512) xs) (6 * i + 514) 0 ≡ 2 * c .series2 + c .side2 = row-at a (6 * i + 512) (6 * i + 514) xs 2 (omega arith) (omega arith) (omega arith) in
+    let e3 : getD (sets a (6 * i + 512) xs) (6 * i + 515) 0 ≡ c .class = row-at a (6 * i + 512) (6 * i + 515) xs 3 (omega arith) (omega arith) (omega arith) in
+    let e4 : getD (sets a (6 * i + 512) xs) (6 * i + 516) 0 ≡ limitNumber (c .limit) = row-at a (6 * i + 512) (6 * i + 516) xs 4 (omega arith) (omega arith) (omega arith) in
+    let e5 : getD (sets a (6 * i + 512) xs) (6 * i + 517) 0 ≡ c .quantity = row-at a (6 * i + 512) (6 * i + 517) xs 5 (omega arith) (omega arith) (omega arith) in
+    let f1 : (2 * c .series1 + c .side1) % 16 / 2 ≡ c .series1 = omega arith in
+    let g1 : (2 * c .series1 + c .side1) % 2 ≡ c .side1 = omega arith in
+    let f2 : (2 * c .series2 + c .side2) % 16 / 2 ≡ c .series2 = omega arith in
+    let g2 : (2 * c .series2 + c .side2) % 2 ≡ c .side2 = omega arith in
+    let f3 : c .class % 256 ≡ c .class = omega arith in
+    rw (e0, e1, e2, e3, e4, e5, f1, g1, f2, g2, f3, k .limit) refl
+
+counted2 : (b : List ℕ) (k : ℕ) → getD b 777 0 ≡ k → k ≤ 32 → complexesUsed b ≡ k
+unfolding complexesUsed
+counted2 b k e h = rw e (omega arith)
+
+whole-part2 : (b : List ℕ) → inUse (complexIn b) noComplex (complexesUsed b) 32 ≡ venueOf b .complex
+unfolding venueOf
+whole-part2 b = refl
+
+wide-row2 : (a : List ℕ) (i : ℕ) (c : Complex) → Outside (6 * i + 512) (6 * i + 518) a (sets a (6 * i + 512) (complexRow c))
+unfolding complexRow
+wide-row2 a i c =
+    wider (omega arith) (omega arith)
+    (sets-outside a (6 * i + 512) (c .id ∷ placeOf (c .series1) (c .side1) ∷ placeOf (c .series2) (c .side2) ∷ c .class ∷ limitNumber (c .limit) ∷ c .quantity ∷ []))
+
+count-is2 : (a b : List ℕ) → length a ≡ size → length b ≡ size → complexesUsed a < 32 → complexesUsed (set b 777 (complexesUsed a + 1)) ≡ suc (complexesUsed a)
+count-is2 a b n m h =
+    counted2 (set b 777 (complexesUsed a + 1)) (complexesUsed a + 1) (getD-set-same b 777 (complexesUsed a + 1) 0 (omega arith)) (omega arith) ∙ omega arith
+
+part2 : (a b : List ℕ) → complexesUsed b ≡ complexesUsed a → venueOf b ≡ venueOf a → inUse (complexIn b) noComplex (complexesUsed a) 32 ≡ venueOf a .complex
+part2 a b e f = ap (λ (k : ℕ). inUse (complexIn b) noComplex k 32) (sym e) ∙ whole-part2 b ∙ ap (λ (v : Venue). v .complex) f
+
+added-venue2 : (a : List ℕ) (o : Complex) → length a ≡ size → complexesUsed a < 32 →
+    o .series1 < 8 → o .side1 < 2 → o .series2 < 8 → o .side2 < 2 → Kept o →
+    venueOf (set (sets a (6 * complexesUsed a + 512) (complexRow o)) 777 (complexesUsed a + 1)) ≡ putComplex (complexesUsed a) o (venueOf a)
+unfolding putComplex
+added-venue2 a o n h s1 d1 s2 d2 k =
+    complexes-counted (stored b 777 (complexesUsed a + 1))
+    ∙ ap (λ (v : Venue). withComplex v (inUse (complexIn b) noComplex (complexesUsed c) 32)) same
+    ∙ ap (λ (l : List Complex). withComplex (venueOf a) l) more
+  where
+    b : List ℕ
+    b = sets a (6 * complexesUsed a + 512) (complexRow o)
+
+    c : List ℕ
+    c = set b 777 (complexesUsed a + 1)
+
+    row : Outside (6 * complexesUsed a + 512) (6 * complexesUsed a + 518) a b
+    row = wide-row2 a (complexesUsed a) o
+
+    same : venueOf b ≡ venueOf a
+    same = complex-unused (complexesUsed a) row h (omega arith)
+
+    more-used : complexesUsed c ≡ suc (complexesUsed a)
+    more-used = count-is2 a b n (sets-length a (6 * complexesUsed a + 512) (complexRow o) ∙ n) h
+
+    used-b : complexesUsed b ≡ complexesUsed a
+    used-b = count-kept2 row (inr (omega arith))
+
+    more : inUse (complexIn b) noComplex (complexesUsed c) 32 ≡ set (venueOf a .complex) (complexesUsed a) o
+    more =
+        ap (λ (k : ℕ). inUse (complexIn b) noComplex k 32) more-used
+        ∙ used-more (complexIn b) noComplex (complexesUsed a) 32 h
+        ∙ ap₂ (λ (l : List Complex) (x : Complex). set l (complexesUsed a) x) (part2 a b used-b same) (complex-back a (complexesUsed a) o n h s1 d1 s2 d2 k)
+
+pub added-complex : (a b : List ℕ) (n : ℕ) (c : Complex) → length a ≡ size → complexesUsed a < 32 →
+    c .series1 < 8 → c .side1 < 2 → c .series2 < 8 → c .side2 < 2 → Kept c →
+    n ≡ complexesUsed a → b ≡ sets a (6 * n + 512) (complexRow c) →
+    (venueOf (set b 777 (n + 1)) ≡ putComplex (complexesUsed a) c (venueOf a)) × Counts (regularsUsed a) (suc (complexesUsed a)) (set b 777 (n + 1))
+added-complex a b n c m h s1 d1 s2 d2 k p q =
+    rw (q, p) (
+      added-venue2 a c m h s1 d1 s2 d2 k,
+      record {
+        regulars = count-kept (stored (sets a (6 * complexesUsed a + 512) (complexRow c)) 777 (complexesUsed a + 1)) (inl (omega arith))
+            ∙ count-kept (wide-row2 a (complexesUsed a) c) (inr (omega arith));
+        complexes = count-is2 a (sets a (6 * complexesUsed a + 512) (complexRow c)) m (sets-length a (6 * complexesUsed a + 512) (complexRow c) ∙ m) h;
+      },
+    )
 
 -- Legging places, series and the last id ------------------------------------------------------
 

@@ -8,9 +8,10 @@
 --    776   regular places in use, complex places in use, last id
 --
 -- What stands in regular and complex places that are not in use means nothing.
+use mathlib.Core.Path.{_≡_}
 use mathlib.Core.List.{List, [], _∷_, _++_}
-use Prim.Native.Nat.{ℕ, zero, suc, _+_, _-_, _*_, _/_, _%_, min}
-use lib.IntN.{ℤ, pos, _-ℤ_}
+use Prim.Native.Nat.{ℕ, zero, suc, _+_, _-_, _*_, _/_, _%_, _<_, min}
+use lib.IntN.{ℤ, pos, natAbs, _+ℤ_, _-ℤ_}
 use lib.ListN.{getD, replicate}
 use Rattle.rules.specs.declared.Regular.{Regular}
 use Rattle.rules.specs.declared.Complex.{Complex}
@@ -82,3 +83,27 @@ venueOf b = record {
 -- an order's
 unfoldable pub regularRow : Regular → List ℕ
 regularRow o = o .id ∷ placeOf (o .series) (o .side) ∷ o .price ∷ o .quantity ∷ []
+
+-- a limit's number: 2^31 above its value
+unfoldable pub limitNumber : ℤ → ℕ
+limitNumber z = natAbs (z +ℤ pos 2147483648)
+
+unfoldable pub complexRow : Complex → List ℕ
+complexRow c =
+    c .id ∷ placeOf (c .series1) (c .side1) ∷ placeOf (c .series2) (c .side2) ∷ c .class ∷ limitNumber (c .limit) ∷ c .quantity ∷ []
+
+-- a class and a limit that are kept whole
+pub record Kept (c : Complex) : Type 0 where
+  pub class : c .class < 256
+  pub limit : pos (limitNumber (c .limit)) -ℤ pos 2147483648 ≡ c .limit
+
+-- Counts --------------------------------------------------------------------------------------
+
+-- the places in use are r regular and c complex ones
+pub record Counts (r c : ℕ) (b : List ℕ) : Type 0 where
+  pub regulars : regularsUsed b ≡ r
+  pub complexes : complexesUsed b ≡ c
+
+-- as many as before
+abbrev pub SameCounts : (a b : List ℕ) → Type 0
+SameCounts a b = Counts (regularsUsed a) (complexesUsed a) b

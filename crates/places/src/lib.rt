@@ -8,7 +8,7 @@ ghost use lib.Seq.{sets};
 ghost use Rattle.rules.specs.Words.{placeOf, withSeries, withLast};
 ghost use Rattle.rules.specs.Trading.{fillRegular, fillComplex, putRegular, putComplex};
 ghost use Rattle.rules.specs.Generation.{placed};
-ghost use Rattle.places.specs.Layout.{size, regularsUsed, complexesUsed, regularIn, complexIn, leggingIn, listedIn, venueOf, regularRow};
+ghost use Rattle.places.specs.Layout.{size, regularsUsed, complexesUsed, regularIn, complexIn, leggingIn, listedIn, venueOf, regularRow, limitNumber, complexRow, Kept, Counts, SameCounts};
 use rules::Complex;
 use rules::Legging;
 use rules::Listed;
@@ -136,6 +136,7 @@ fn less(q: u32, k: u32) -> u32
 pub fn fill_regular(b: &mut [u32], i: usize, k: u32)
     requires { ⌜ (length (now b) ≡ size) × (i < regularsUsed (now b)) ⌝ }
     ensures { λ _. ⌜ venueOf (now (b .exit)) ≡ fillRegular i k (venueOf (now (b .entry))) ⌝ }
+    ensures counts { λ _. ⌜ SameCounts (now (b .entry)) (now (b .exit)) ⌝ }
 {
     let q = b[4 * i + 3];
     b[4 * i + 3] = less(q, k);
@@ -144,6 +145,7 @@ pub fn fill_regular(b: &mut [u32], i: usize, k: u32)
 pub fn fill_complex(b: &mut [u32], i: usize, k: u32)
     requires { ⌜ (length (now b) ≡ size) × (i < complexesUsed (now b)) ⌝ }
     ensures { λ _. ⌜ venueOf (now (b .exit)) ≡ fillComplex i k (venueOf (now (b .entry))) ⌝ }
+    ensures counts { λ _. ⌜ SameCounts (now (b .entry)) (now (b .exit)) ⌝ }
 {
     let q = b[6 * i + 517];
     b[6 * i + 517] = less(q, k);
@@ -172,16 +174,52 @@ fn write_regular(b: &mut [u32], i: usize, o: Regular)
 pub fn add_regular(b: &mut [u32], o: Regular)
     requires { ⌜ (length (now b) ≡ size) × (regularsUsed (now b) < 128) × (o .series < 8) × (o .side < 2) ⌝ }
     ensures { λ _. ⌜ venueOf (now (b .exit)) ≡ putRegular (regularsUsed (now (b .entry))) o (venueOf (now (b .entry))) ⌝ }
+    ensures counts { λ _. ⌜ Counts (suc (regularsUsed (now (b .entry)))) (complexesUsed (now (b .entry))) (now (b .exit)) ⌝ }
 {
     let n = regulars_used(b);
     write_regular(b, n, o);
     b[776] = (n + 1) as u32;
 }
 
+// A limit's number, as it is kept.
+fn limit_number(x: i32) -> u32
+    ensures { λ r. ⌜ r ≡ limitNumber x ⌝ }
+{
+    ((x as i64) + 2147483648) as u32
+}
+
+// A complex order's numbers at place i.
+fn write_complex(b: &mut [u32], i: usize, c: Complex)
+    requires { ⌜ (length (now b) ≡ size) × (i < 32) ⌝ }
+    ensures { λ _. ⌜ (now (b .exit) ≡ sets (now (b .entry)) (6 * i + 512) (complexRow c)) × Kept c ⌝ }
+{
+    let one = place_number(c.series1, c.side1);
+    let two = place_number(c.series2, c.side2);
+    let limit = limit_number(c.limit);
+    b[6 * i + 512] = c.id;
+    b[6 * i + 513] = one;
+    b[6 * i + 514] = two;
+    b[6 * i + 515] = c.class as u32;
+    b[6 * i + 516] = limit;
+    b[6 * i + 517] = c.quantity;
+}
+
+// A complex order is given the place after those in use.
+pub fn add_complex(b: &mut [u32], c: Complex)
+    requires { ⌜ (length (now b) ≡ size) × (complexesUsed (now b) < 32) × (c .series1 < 8) × (c .side1 < 2) × (c .series2 < 8) × (c .side2 < 2) ⌝ }
+    ensures { λ _. ⌜ venueOf (now (b .exit)) ≡ putComplex (complexesUsed (now (b .entry))) c (venueOf (now (b .entry))) ⌝ }
+    ensures counts { λ _. ⌜ Counts (regularsUsed (now (b .entry))) (suc (complexesUsed (now (b .entry)))) (now (b .exit)) ⌝ }
+{
+    let n = complexes_used(b);
+    write_complex(b, n, c);
+    b[777] = (n + 1) as u32;
+}
+
 // A legging order at a place.
 pub fn put_legging(b: &mut [u32], n: usize, l: Legging)
     requires { ⌜ (length (now b) ≡ size) × (n < 16) ⌝ }
     ensures { λ _. ⌜ venueOf (now (b .exit)) ≡ placed n l (venueOf (now (b .entry))) ⌝ }
+    ensures counts { λ _. ⌜ SameCounts (now (b .entry)) (now (b .exit)) ⌝ }
 {
     b[3 * n + 704] = l.parent;
     b[3 * n + 705] = l.price;
@@ -192,6 +230,7 @@ pub fn put_legging(b: &mut [u32], n: usize, l: Legging)
 pub fn put_listed(b: &mut [u32], s: usize, x: Listed)
     requires { ⌜ (length (now b) ≡ size) × (s < 8) ⌝ }
     ensures { λ _. ⌜ venueOf (now (b .exit)) ≡ withSeries (venueOf (now (b .entry))) (set (venueOf (now (b .entry)) .series) s x) ⌝ }
+    ensures counts { λ _. ⌜ SameCounts (now (b .entry)) (now (b .exit)) ⌝ }
 {
     b[3 * s + 752] = x.status as u32;
     b[3 * s + 753] = x.bid;
@@ -202,6 +241,7 @@ pub fn put_listed(b: &mut [u32], s: usize, x: Listed)
 pub fn put_last(b: &mut [u32], id: u32)
     requires { ⌜ length (now b) ≡ size ⌝ }
     ensures { λ _. ⌜ venueOf (now (b .exit)) ≡ withLast (venueOf (now (b .entry))) id ⌝ }
+    ensures counts { λ _. ⌜ SameCounts (now (b .entry)) (now (b .exit)) ⌝ }
 {
     b[778] = id;
 }

@@ -1,11 +1,5 @@
 -- `places::add_regular` meets its contract.
-use lib.Seq.{sets}
-use lib.ListN.{set}
 use Rattle.places.proofs.Stores.{added-regular}
-use Rattle.places.specs.Layout.{venueOf, regularRow}
-use mathlib.Core.List.{List}
-use Prim.Native.Nat.{ℕ, _+_, _*_}
-use mathlib.Core.Path.{ap, _∙_}
 use borrow.Author.Needs.{needs}
 use Rattle.places.proofs.add_regular.Statement.{statement}
 use Rattle.places.proofs.add_regular.Tie as tie
@@ -30,11 +24,8 @@ same-length c = search needs
 
 returns : tie.Need-returns
 returns c = let s = c .before .before .before .before .before .before .before in
-    let a = s .args .b .now in
-    let u = c .before .before .before .before .regulars-used .ensures .0 in
-    ap (λ (l : List ℕ). venueOf (set l 776 (c .before .before .before .before .regulars-used .result + 1))) (c .before .before .write-regular .ensures)
-    ∙ ap (λ (n : ℕ). venueOf (set (sets a (4 * n) (regularRow (s .args .o))) 776 (n + 1))) u
-    ∙ added-regular a (s .args .o) (s .pre .0) (s .pre .1) (s .pre .2) (s .pre .3)
+    added-regular (s .args .b .now) _ _ (s .args .o) (s .pre .0) (s .pre .1) (s .pre .2) (s .pre .3)
+    (c .before .before .before .before .regulars-used .ensures .0) (c .before .before .write-regular .ensures)
 
 pub add-regular-spec : {M : Type 1} → statement M
 add-regular-spec =

@@ -1,5 +1,7 @@
 -- `places::fill_complex` meets its contract.
 use lib.ListN.{set}
+use Rattle.places.proofs.Parts.{stored, counts-kept, complexes-few}
+use mathlib.Core.Logic.{inr}
 use Rattle.places.proofs.Stores.{filled-complex}
 use Rattle.places.specs.Layout.{venueOf, complexesUsed}
 use native.Mathlib.Omega.{arith}
@@ -49,8 +51,11 @@ same-length c = search needs
 
 returns : tie.Need-returns
 returns c = let s = c .before .before .before in
-    ap (λ (x : ℕ). venueOf (set (s .args .b .now) (6 * c .before .before .before .args .i + 517) x)) (c .less .ensures)
-    ∙ filled-complex (s .args .b .now) (s .args .i) (s .args .k) (s .pre .0) (s .pre .1)
+    let z = complexes-few (s .args .b .now) in (
+      ap (λ (x : ℕ). venueOf (set (s .args .b .now) (6 * s .args .i + 517) x)) (c .less .ensures)
+          ∙ filled-complex (s .args .b .now) (s .args .i) (s .args .k) (s .pre .0) (s .pre .1),
+      counts-kept (stored (s .args .b .now) (6 * s .args .i + 517) (c .less .result)) (inr (omega arith)),
+    )
 
 pub fill-complex-spec : {M : Type 1} → statement M
 fill-complex-spec =

@@ -1,5 +1,7 @@
 -- `places::fill_regular` meets its contract.
 use lib.ListN.{set}
+use Rattle.places.proofs.Parts.{stored, counts-kept, regulars-few}
+use mathlib.Core.Logic.{inr}
 use Rattle.places.proofs.Stores.{filled-regular}
 use Rattle.places.specs.Layout.{venueOf, regularsUsed}
 use native.Mathlib.Omega.{arith}
@@ -49,8 +51,11 @@ same-length c = search needs
 
 returns : tie.Need-returns
 returns c = let s = c .before .before .before in
-    ap (λ (x : ℕ). venueOf (set (s .args .b .now) (4 * c .before .before .before .args .i + 3) x)) (c .less .ensures)
-    ∙ filled-regular (s .args .b .now) (s .args .i) (s .args .k) (s .pre .0) (s .pre .1)
+    let z = regulars-few (s .args .b .now) in (
+      ap (λ (x : ℕ). venueOf (set (s .args .b .now) (4 * s .args .i + 3) x)) (c .less .ensures)
+          ∙ filled-regular (s .args .b .now) (s .args .i) (s .args .k) (s .pre .0) (s .pre .1),
+      counts-kept (stored (s .args .b .now) (4 * s .args .i + 3) (c .less .result)) (inr (omega arith)),
+    )
 
 pub fill-regular-spec : {M : Type 1} → statement M
 fill-regular-spec =

@@ -1,4 +1,7 @@
 -- `places::put_last` meets its contract.
+use Rattle.places.proofs.Parts.{stored, counts-kept}
+use mathlib.Core.Logic.{inl}
+use native.Mathlib.Omega.{arith}
 use Rattle.places.proofs.Stores.{put-last}
 use borrow.Author.Needs.{needs}
 use Rattle.places.proofs.put_last.Statement.{statement}
@@ -11,7 +14,10 @@ same-length : tie.Need-same-length
 same-length c = search needs
 
 returns : tie.Need-returns
-returns c = put-last (c .args .b .now) (c .args .id) (c .pre)
+returns c = (
+  put-last (c .args .b .now) (c .args .id) (c .pre),
+  counts-kept (stored (c .args .b .now) 778 (c .args .id)) (inl (omega arith)),
+)
 
 pub put-last-spec : {M : Type 1} → statement M
 put-last-spec = tie.close (tie.spec slice-write-b same-length returns)

@@ -1,5 +1,8 @@
 -- `places::put_legging` meets its contract.
-use Rattle.places.proofs.Stores.{put-legging}
+use Rattle.places.proofs.Stores.{sets-outside, put-legging}
+use Rattle.places.proofs.Parts.{counts-kept}
+use mathlib.Core.Logic.{inr}
+use mathlib.Core.List.{[], _∷_}
 use lib.ListN.{length-set}
 use native.Mathlib.Omega.{arith}
 use Prim.Native.Nat.{suc, _+_, _*_}
@@ -51,7 +54,11 @@ returns : tie.Need-returns
 returns c = let n = c .args .n in
     let p1 : 3 * n + 705 ≡ suc (3 * n + 704) = omega arith in
     let p2 : 3 * n + 706 ≡ suc (suc (3 * n + 704)) = omega arith in
-    rw (p1, p2) (put-legging (c .args .b .now) n (c .args .l) (c .pre .0) (c .pre .1))
+    let l = c .args .l in
+    rw (p1, p2) (
+      put-legging (c .args .b .now) n l (c .pre .0) (c .pre .1),
+      counts-kept (sets-outside (c .args .b .now) (3 * n + 704) (l .parent ∷ l .price ∷ l .quantity ∷ [])) (inr (omega arith)),
+    )
 
 pub put-legging-spec : {M : Type 1} → statement M
 put-legging-spec =

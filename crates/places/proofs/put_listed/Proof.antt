@@ -1,5 +1,8 @@
 -- `places::put_listed` meets its contract.
-use Rattle.places.proofs.Stores.{put-listed}
+use Rattle.places.proofs.Stores.{sets-outside, put-listed}
+use Rattle.places.proofs.Parts.{counts-kept}
+use mathlib.Core.Logic.{inr}
+use mathlib.Core.List.{[], _∷_}
 use lib.ListN.{length-set}
 use native.Mathlib.Omega.{arith}
 use Prim.Native.Nat.{suc, _+_, _*_}
@@ -55,7 +58,11 @@ returns c = let z = c .before in
     let n = z .args .s in
     let p1 : 3 * n + 753 ≡ suc (3 * n + 752) = omega arith in
     let p2 : 3 * n + 754 ≡ suc (suc (3 * n + 752)) = omega arith in
-    rw (p1, p2) (put-listed (z .args .b .now) n (z .args .x) (z .pre .0) (z .pre .1) (c .struct-known .given .0 .fits))
+    let x = z .args .x in
+    rw (p1, p2) (
+      put-listed (z .args .b .now) n x (z .pre .0) (z .pre .1) (c .struct-known .given .0 .fits),
+      counts-kept (sets-outside (z .args .b .now) (3 * n + 752) (x .status ∷ x .bid ∷ x .offer ∷ [])) (inr (omega arith)),
+    )
 
 pub put-listed-spec : {M : Type 1} → statement M
 put-listed-spec =

@@ -1,0 +1,41 @@
+-- `places::add_complex` meets its contract.
+use Rattle.places.proofs.Stores.{added-complex}
+use borrow.Author.Needs.{needs}
+use Rattle.places.proofs.add_complex.Statement.{statement}
+use Rattle.places.proofs.add_complex.Tie as tie
+
+complexes-used-requires : tie.Need-complexes-used-requires
+complexes-used-requires c κs = search needs
+
+write-complex-requires : tie.Need-write-complex-requires
+write-complex-requires c κs = search needs
+
+add-b : tie.Need-add-b
+add-b c = search needs
+
+cast-b : tie.Need-cast-b
+cast-b c = search needs
+
+slice-write-b : tie.Need-slice-write-b
+slice-write-b c = search needs
+
+same-length : tie.Need-same-length
+same-length c = search needs
+
+returns : tie.Need-returns
+returns c = let s = c .before .before .before .before .before .before .before in
+    let w = c .before .before .write-complex .ensures in
+    added-complex (s .args .b .now) _ _ (s .args .c) (s .pre .0) (s .pre .1) (s .pre .2) (s .pre .3) (s .pre .4) (s .pre .5) (w .1)
+    (c .before .before .before .before .complexes-used .ensures .0) (w .0)
+
+pub add-complex-spec : {M : Type 1} → statement M
+add-complex-spec =
+    tie.close
+    (tie.spec
+    complexes-used-requires
+    write-complex-requires
+    add-b
+    cast-b
+    slice-write-b
+    same-length
+    returns)
