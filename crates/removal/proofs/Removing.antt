@@ -26,7 +26,7 @@ use Rattle.rules.specs.Step.{mask}
 use Rattle.wire.specs.Seen.{Seen, seen}
 use Rattle.wire.specs.Stage.{Stage, stage, _does_}
 use Rattle.wire.proofs.Stages.{onward, does-nothing, does-room}
-use Rattle.places.specs.Layout.{size, leggingIn, venueOf}
+use Rattle.places.specs.Layout.{size, leggingIn, venueOf, SameCounts}
 use Rattle.places.proofs.Tables.{upto-at, upto-length}
 use Rattle.removal.specs.Marks.{clearAt, verdictBy, markedBy}
 
@@ -102,23 +102,29 @@ module _ (f : ℕ → Legging → Verdict) (v : Venue) where
 
 -- The loop ------------------------------------------------------------------------------------
 
+-- as many places in use after two steps
+pub counts-on : (a b c : List ℕ) → SameCounts a b → SameCounts b c → SameCounts a c
+counts-on a b c p q = record { regulars = q .regulars ∙ p .regulars; complexes = q .complexes ∙ p .complexes }
+
 -- its invariant: what is left to do from place n on is what there was to do
 pub record Removing (f : ℕ → Legging → Verdict) (b₀ out₀ : List ℕ) (at : ℕ) (b out : List ℕ) (pos n : ℕ) : Type 0 where
   pub few : n ≤ 16
   pub whole : length b ≡ size
+  pub counts : SameCounts b₀ b
   pub left : seen out pos does removeFrom f n (venueOf b) ≡ seen out₀ at does remove f (venueOf b₀)
 
 pub removing-start : (f : ℕ → Legging → Verdict) (b out : List ℕ) (at : ℕ) → length b ≡ size → Removing f b out at b out at 0
-removing-start f b out at h = record { few = omega arith; whole = h; left = remove-start f (venueOf b) (seen out at) }
+removing-start f b out at h = record { few = omega arith; whole = h; counts = record { regulars = refl; complexes = refl }; left = remove-start f (venueOf b) (seen out at) }
 
 module _ (f : ℕ → Legging → Verdict) {b₀ out₀ b out : List ℕ} {at pos n : ℕ} (i : Removing f b₀ out₀ at b out pos n) where
   -- the order at place n goes
   pub removing-turn : (c : Cause) (b₁ out₁ : List ℕ) (r : ℕ) → n < 16 → f n (leggingIn b n) ≡ Fails c → length b₁ ≡ length b →
-      stage (venueOf b₁) out₁ r ≡ seen out pos does clearAt n (Fails c) (venueOf b) → Removing f b₀ out₀ at b₁ out₁ r (n + 1)
+      (stage (venueOf b₁) out₁ r ≡ seen out pos does clearAt n (Fails c) (venueOf b)) × SameCounts b b₁ → Removing f b₀ out₀ at b₁ out₁ r (n + 1)
   removing-turn c b₁ out₁ r h e k q = record {
     few = omega arith;
     whole = k ∙ i .whole;
-    left = remove-turn f (venueOf b) n (leggingIn b n) (omega (arith, leggings-length b)) (legging-at b n h) (Fails c) (venueOf b₁) out₁ out r pos e q ∙ i .left;
+    counts = counts-on b₀ b b₁ (i .counts) (q .1);
+    left = remove-turn f (venueOf b) n (leggingIn b n) (omega (arith, leggings-length b)) (legging-at b n h) (Fails c) (venueOf b₁) out₁ out r pos e (q .0) ∙ i .left;
   }
 
   -- it stands
@@ -126,15 +132,18 @@ module _ (f : ℕ → Legging → Verdict) {b₀ out₀ b out : List ℕ} {at po
   removing-past h e = record {
     few = omega arith;
     whole = i .whole;
+    counts = i .counts;
     left = remove-past f (venueOf b) n (leggingIn b n) (omega (arith, leggings-length b)) (legging-at b n h) out pos e ∙ i .left;
   }
 
   -- nothing is left
-  pub removing-end : 16 ≤ n → stage (venueOf b) out pos ≡ seen out₀ at does remove f (venueOf b₀)
-  removing-end h =
-      does-nothing (venueOf b) out pos
-      ∙ ap (λ (e : Effect). seen out pos does e) (remove-end f (venueOf b) n (omega (arith, leggings-length b)))
-      ∙ i .left
+  pub removing-end : 16 ≤ n → (stage (venueOf b) out pos ≡ seen out₀ at does remove f (venueOf b₀)) × SameCounts b₀ b
+  removing-end h = (
+    does-nothing (venueOf b) out pos
+        ∙ ap (λ (e : Effect). seen out pos does e) (remove-end f (venueOf b) n (omega (arith, leggings-length b)))
+        ∙ i .left,
+    i .counts,
+  )
 
   pub removing-room : length out ≡ length out₀
   removing-room = does-room out out₀ pos at (removeFrom f n (venueOf b)) (remove f (venueOf b₀)) (i .left)

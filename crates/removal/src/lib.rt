@@ -8,7 +8,7 @@ ghost use Rattle.rules.specs.declared.Verdict.the-variants.{Fails};
 ghost use Rattle.rules.specs.Removal.{remove, removeOf, failIf};
 ghost use Rattle.wire.specs.Seen.{seen};
 ghost use Rattle.wire.specs.Stage.{stage, _does_};
-ghost use Rattle.places.specs.Layout.{size, venueOf};
+ghost use Rattle.places.specs.Layout.{size, venueOf, SameCounts};
 ghost use Rattle.removal.specs.Marks.{clearAt, verdictBy, markedBy};
 use rules::Cause;
 use rules::Legging;
@@ -18,6 +18,7 @@ use rules::Verdict;
 fn clear(b: &mut [u32], n: usize, cause: Cause, out: &mut [u8], at: usize) -> usize
     requires { ⌜ (length (now b) ≡ size) × (n < 16) ⌝ }
     ensures { λ r. ⌜ stage (venueOf (now (b .exit))) (now (out .exit)) r ≡ seen (now (out .entry)) at does clearAt n (Fails cause) (venueOf (now (b .entry))) ⌝ }
+    ensures counts { λ _. ⌜ SameCounts (now (b .entry)) (now (b .exit)) ⌝ }
 {
     let l = places::legging_at(b, n);
     if l.quantity == 0 {
@@ -36,6 +37,7 @@ fn clear(b: &mut [u32], n: usize, cause: Cause, out: &mut [u8], at: usize) -> us
 pub fn remove_of(b: &mut [u32], parent: u32, cause: Cause, out: &mut [u8], at: usize) -> usize
     requires { ⌜ length (now b) ≡ size ⌝ }
     ensures { λ r. ⌜ stage (venueOf (now (b .exit))) (now (out .exit)) r ≡ seen (now (out .entry)) at does removeOf parent cause (venueOf (now (b .entry))) ⌝ }
+    ensures counts { λ _. ⌜ SameCounts (now (b .entry)) (now (b .exit)) ⌝ }
 {
     let mut pos = at;
     let mut n: usize = 0;
@@ -62,6 +64,7 @@ pub fn remove_at(
 ) -> usize
     requires { ⌜ length (now b) ≡ size ⌝ }
     ensures { λ r. ⌜ stage (venueOf (now (b .exit))) (now (out .exit)) r ≡ seen (now (out .entry)) at does remove (λ n _. failIf (eqb n n1 || eqb n n2) cause) (venueOf (now (b .entry))) ⌝ }
+    ensures counts { λ _. ⌜ SameCounts (now (b .entry)) (now (b .exit)) ⌝ }
 {
     let mut pos = at;
     let mut n: usize = 0;
@@ -115,6 +118,7 @@ pub fn verdict_by(x: u8) -> Verdict
 pub fn remove_marked(b: &mut [u32], marks: [u8; 16], out: &mut [u8], at: usize) -> usize
     requires { ⌜ length (now b) ≡ size ⌝ }
     ensures { λ r. ⌜ stage (venueOf (now (b .exit))) (now (out .exit)) r ≡ seen (now (out .entry)) at does remove (markedBy marks) (venueOf (now (b .entry))) ⌝ }
+    ensures counts { λ _. ⌜ SameCounts (now (b .entry)) (now (b .exit)) ⌝ }
 {
     let mut pos = at;
     let mut n: usize = 0;

@@ -1,12 +1,10 @@
 -- `removal::clear` meets its contract.
-use mathlib.Core.Path.{_≡_, refl, sym, ap, _∙_}
-use mathlib.Core.List.{List}
-use Prim.Native.Nat.{ℕ}
+use mathlib.Core.Path.{refl, sym, ap, _∙_}
 use Rattle.rules.specs.Effects.{Effect, report}
 use Rattle.wire.specs.Seen.{seen}
 use Rattle.wire.specs.Stage.{_does_}
 use Rattle.wire.proofs.Stages.{does-nothing, does-report}
-use Rattle.places.specs.Layout.{venueOf, leggingIn}
+use Rattle.places.specs.Layout.{venueOf}
 use Rattle.removal.proofs.Removing.{legging-at, clear-free, clear-held}
 use borrow.Author.Needs.{needs}
 use Rattle.removal.proofs.clear.Statement.{statement}
@@ -19,9 +17,11 @@ same-length : tie.Need-same-length
 same-length c = search needs
 
 returns : tie.Need-returns
-returns c = let s = c .before .before .before .before .before .before in let a = s .args in
-    does-nothing (venueOf (a .b .now)) (a .out .now) (a .at)
-    ∙ ap (λ (e : Effect). seen (a .out .now) (a .at) does e) (clear-free (a .n) (venueOf (a .b .now)) _ (legging-at (a .b .now) (a .n) (s .pre .1) ∙ sym (c .before .before .legging-at .ensures)) (a .cause) (c .if1 .taken))
+returns c = let s = c .before .before .before .before .before .before in let a = s .args in (
+  does-nothing (venueOf (a .b .now)) (a .out .now) (a .at)
+      ∙ ap (λ (e : Effect). seen (a .out .now) (a .at) does e) (clear-free (a .n) (venueOf (a .b .now)) _ (legging-at (a .b .now) (a .n) (s .pre .1) ∙ sym (c .before .before .legging-at .ensures)) (a .cause) (c .if1 .taken)),
+  record { regulars = refl; complexes = refl },
+)
 
 put-legging-requires : tie.Need-put-legging-requires
 put-legging-requires c κs = search needs
@@ -42,9 +42,11 @@ same-length-3 : tie.Need-same-length-3
 same-length-3 c = search needs
 
 returns-2 : tie.Need-returns-2
-returns-2 c = let s = c .before .before .before .before .before .before .before .before .before .before .before .before .before .before in let a = s .args in
-    does-report _ _ _ _ _ _ (c .before .before .emit-removed .ensures)
-    ∙ ap (λ (e : Effect). seen (a .out .now) (a .at) does e) (ap (report _) (c .before .before .before .before .before .before .put-legging .ensures) ∙ clear-held (a .n) (venueOf (a .b .now)) _ (legging-at (a .b .now) (a .n) (s .pre .1) ∙ sym (c .before .before .before .before .before .before .before .before .before .before .legging-at .ensures)) (a .cause) (c .before .before .before .before .before .before .before .before .if1 .left))
+returns-2 c = let s = c .before .before .before .before .before .before .before .before .before .before .before .before .before .before in let a = s .args in (
+  does-report _ _ _ _ _ _ (c .before .before .emit-removed .ensures)
+      ∙ ap (λ (e : Effect). seen (a .out .now) (a .at) does e) (ap (report _) (c .before .before .before .before .before .before .put-legging .ensures .0) ∙ clear-held (a .n) (venueOf (a .b .now)) _ (legging-at (a .b .now) (a .n) (s .pre .1) ∙ sym (c .before .before .before .before .before .before .before .before .before .before .legging-at .ensures)) (a .cause) (c .before .before .before .before .before .before .before .before .if1 .left)),
+  c .before .before .before .before .before .before .put-legging .ensures .1,
+)
 
 pub clear-spec : {M : Type 1} → statement M
 clear-spec =
