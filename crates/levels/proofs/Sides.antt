@@ -1,0 +1,161 @@
+-- The prices of a side, as the code reads them: what stands at a place, a level's price and size, and the tests' outcomes.
+use mathlib.Core.Path.{_≡_, sym, ap, ap₂, _∙_}
+use mathlib.Core.Bool.{Bool, true, false}
+use mathlib.Core.List.{List}
+use Prim.Native.Nat.{ℕ, zero, suc, _+_, _*_, _-_, _<_}
+use native.Mathlib.Omega.{arith}
+use native.Mathlib.Nat.{zero-add}
+use native.Mathlib.Decide.{decLt}
+use borrow.Author.Tests.{eq-eqb, ne-eqb}
+use lib.Dec.{eqb}
+use lib.IntN.{ℤ, _+ℤ_}
+use Rattle.rules.specs.declared.Complex.{Complex}
+use Rattle.rules.specs.declared.Legging.{Legging}
+use Rattle.rules.specs.declared.Listed.{Listed}
+use Rattle.rules.specs.declared.Venue.{Venue}
+use Rattle.rules.specs.Base.{if_then_else_}
+use Rattle.rules.specs.Words.{opposite, noComplex, noLegging, notListed, placeOf, complexAt, leggingAt, listedAt, statusOf, isComplexOf}
+use Rattle.rules.specs.Prices.{better, betterOf, bestRegular, bestSize, ownPrice, bestOwn, clearPrice, away, marketBest, ratio1, ratio2, weighed, net, taken1, taken2, percent, nearNet, inBand}
+use Rattle.rules.specs.Standing.{findComplex, parentOf, bothOpen}
+use Rattle.rules.specs.Complex.{anyClosed}
+use Rattle.places.specs.Layout.{upto, complexesUsed, complexIn, leggingIn, listedIn, venueOf}
+use Rattle.places.proofs.Tables.{upto-at}
+use Rattle.places.proofs.Parts.{complex-at, complex-past}
+use Rattle.levels.specs.declared.Level.{Level}
+use Rattle.levels.specs.Grid.{levelOf, LegsIn}
+use Rattle.levels.proofs.Scans.{find-used}
+
+-- What stands at a place ----------------------------------------------------------------------
+
+pub legging-read : (b : List ℕ) (s d n : ℕ) (l : Legging) → s < 8 → d < 2 → n ≡ placeOf s d → l ≡ leggingIn b n → l ≡ leggingAt (venueOf b) s d
+unfolding leggingAt venueOf placeOf
+legging-read b s d n l hs hd en el =
+    el ∙ ap (leggingIn b) en ∙ sym (upto-at (leggingIn b) noLegging 0 16 (2 * s + d) (omega arith) ∙ ap (leggingIn b) (zero-add (2 * s + d)))
+
+pub listed-read : (b : List ℕ) (s : ℕ) (x : Listed) → s < 8 → x ≡ listedIn b s → x ≡ listedAt (venueOf b) s
+unfolding venueOf
+listed-read b s x h e = e ∙ sym (upto-at (listedIn b) notListed 0 8 s h ∙ ap (listedIn b) (zero-add s))
+
+-- Own, clear and market prices ----------------------------------------------------------------
+
+pub own-free : (l m : Legging) → l ≡ m → l .quantity ≡ 0 → 0 ≡ ownPrice m
+unfolding ownPrice
+own-free l m e h = rw (← e) (simp (eq-eqb _ _ h))
+
+pub own-held : (l m : Legging) → l ≡ m → (l .quantity ≡ 0 → ⊥) → l .price ≡ ownPrice m
+unfolding ownPrice
+own-held l m e h = rw (← e) (simp (ne-eqb _ _ h))
+
+module _ (v : Venue) (s d : ℕ) (l : Level) (e : l ≡ levelOf s d (v .regular)) where
+  pub level-price : l .price ≡ bestRegular v s d
+  unfolding levelOf bestRegular
+  level-price = ap (λ (x : Level). x .price) e
+
+  pub level-size : l .size ≡ bestSize v s d
+  unfolding levelOf bestSize bestRegular
+  level-size = ap (λ (x : Level). x .size) e
+
+  module _ (own : ℕ) (ew : own ≡ ownPrice (leggingAt v s d)) where
+    pub own-best : (r : ℕ) → r ≡ betterOf d own (l .price) → r ≡ bestOwn v s d
+    unfolding bestOwn
+    own-best r q = q ∙ ap₂ (betterOf d) ew level-price
+
+    pub clear-none : better d own (l .price) ≡ true → 0 ≡ clearPrice v s d
+    unfolding clearPrice
+    clear-none t = rw (← ew, ← level-price, t)
+
+    pub clear-best : better d own (l .price) ≡ false → l .price ≡ clearPrice v s d
+    unfolding clearPrice
+    clear-best t = rw (← ew, ← level-price, t)
+
+  pub market-is : (out r : ℕ) → out ≡ away v s d → r ≡ betterOf d out (l .price) → r ≡ marketBest v s d
+  unfolding marketBest
+  market-is out r eo q = q ∙ ap₂ (betterOf d) eo level-price
+
+module _ (v : Venue) (s d : ℕ) (x : Listed) (e : x ≡ listedAt v s) where
+  pub away-bid : d ≡ 0 → x .bid ≡ away v s d
+  unfolding away
+  away-bid h = rw (← e, eq-eqb d 0 h)
+
+  pub away-offer : (d ≡ 0 → ⊥) → x .offer ≡ away v s d
+  unfolding away
+  away-offer h = rw (← e, ne-eqb d 0 h)
+
+pub status-is : (v : Venue) (s : ℕ) (x : Listed) → x ≡ listedAt v s → x .status ≡ statusOf v s
+unfolding statusOf
+status-is v s x e = ap (λ (y : Listed). y .status) e
+
+-- The band ------------------------------------------------------------------------------------
+
+module _ (v : Venue) (c : Complex) (a f : ℕ) (ea : a ≡ marketBest v (c .series1) f) (ef : f ≡ opposite (c .side1)) where
+  one : a ≡ taken1 v c
+  unfolding taken1
+  one = ea ∙ ap (marketBest v (c .series1)) ef
+
+  pub band-none1 : (t : ℤ) → a ≡ 0 → false ≡ inBand v c t
+  unfolding inBand
+  band-none1 t h = rw (← one) (simp (eq-eqb _ _ h))
+
+  module _ (n : a ≡ 0 → ⊥) (b g : ℕ) (eb : b ≡ marketBest v (c .series2) g) (eg : g ≡ opposite (c .side2)) where
+    two : b ≡ taken2 v c
+    unfolding taken2
+    two = eb ∙ ap (marketBest v (c .series2)) eg
+
+    pub band-none2 : (t : ℤ) → b ≡ 0 → false ≡ inBand v c t
+    unfolding inBand
+    band-none2 t h = rw (← one, ← two) (simp (ne-eqb _ _ n, eq-eqb _ _ h))
+
+    pub band-near : (b ≡ 0 → ⊥) → (r : Bool) (o u t : ℤ) → o ≡ weighed 1 (c .side1) a +ℤ weighed 1 (c .side2) b → u ≡ t → r ≡ nearNet percent o u → r ≡ inBand v c t
+    unfolding inBand net ratio1 ratio2
+    band-near m r o u t eo eu h =
+        rw (← one, ← two) (simp (ne-eqb _ _ n, ne-eqb _ _ m)
+        (h ∙ ap (λ (z : ℤ). nearNet percent z u) eo ∙ ap (nearNet percent (weighed 1 (c .side1) a +ℤ weighed 1 (c .side2) b)) eu))
+
+-- Complex orders ------------------------------------------------------------------------------
+
+pub none-legs : LegsIn noComplex
+none-legs = record { first = omega arith; side1 = omega arith; second = omega arith; side2 = omega arith }
+
+pub legs-in : (b : List ℕ) (i : ℕ) → LegsIn (complexIn b i)
+unfolding complexIn
+legs-in b i = record { first = omega arith; side1 = omega arith; second = omega arith; side2 = omega arith }
+
+find-legs : (f : ℕ → Complex) (id i k : ℕ) → ((j : ℕ) → LegsIn (f j)) → LegsIn (findComplex id (upto f i k))
+unfolding findComplex upto
+find-legs f id i zero h = none-legs
+find-legs f id i (suc k) h = go (isComplexOf id (f i)) (find-legs f id (suc i) k h)
+  where
+    go : (t : Bool) → LegsIn (findComplex id (upto f (suc i) k)) → LegsIn (if t then f i else findComplex id (upto f (suc i) k))
+    go true r = h i
+    go false r = r
+
+-- the orders of a venue have their legs in the grid
+pub parent-legs : (b : List ℕ) (l : Legging) → LegsIn (parentOf (venueOf b) l)
+unfolding parentOf venueOf
+parent-legs b l = rw (← find-used (complexIn b) (l .parent) (complexesUsed b) 32) (find-legs (complexIn b) (l .parent) 0 (complexesUsed b) (legs-in b))
+
+pub complex-legs : (b : List ℕ) (i : ℕ) → LegsIn (complexAt (venueOf b) i)
+complex-legs b i =
+    elim (decLt i (complexesUsed b)) [
+      | yes h ↦ rw (complex-at b i h) (legs-in b i)
+      | no h ↦ rw (complex-past b i (omega arith)) none-legs
+    ]
+
+-- Tests of two series -------------------------------------------------------------------------
+
+module _ (v : Venue) (c : Complex) (x : ℕ) (ex : x ≡ statusOf v (c .series1)) where
+  pub open-not : (x ≡ 1 → ⊥) → false ≡ bothOpen v c
+  unfolding bothOpen
+  open-not h = rw (← ex, ne-eqb x 1 h)
+
+  pub open-both : (y : ℕ) → y ≡ statusOf v (c .series2) → x ≡ 1 → eqb y 1 ≡ bothOpen v c
+  unfolding bothOpen
+  open-both y ey h = rw (← ex, ← ey, eq-eqb x 1 h)
+
+  pub closed-one : x ≡ 0 → true ≡ anyClosed v c
+  unfolding anyClosed
+  closed-one h = rw (← ex, eq-eqb x 0 h)
+
+  pub closed-two : (y : ℕ) → y ≡ statusOf v (c .series2) → (x ≡ 0 → ⊥) → eqb y 0 ≡ anyClosed v c
+  unfolding anyClosed
+  closed-two y ey h = rw (← ex, ← ey, ne-eqb x 0 h)

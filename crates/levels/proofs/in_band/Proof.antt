@@ -1,0 +1,51 @@
+-- `levels::in_band` meets its contract.
+use Rattle.rules.specs.Words.{opposite}
+use Rattle.levels.proofs.Sides.{band-none1, band-none2, band-near}
+use Rattle.rules.proofs.Machine.{back}
+use mathlib.Core.Path.{_∙_}
+use borrow.Author.Needs.{needs}
+use Rattle.levels.proofs.in_band.Statement.{statement}
+use Rattle.levels.proofs.in_band.Tie as tie
+
+opposite-of-requires : tie.Need-opposite-of-requires
+opposite-of-requires c κs = search needs
+
+market-best-requires : tie.Need-market-best-requires
+unfolding opposite
+market-best-requires c κs = search needs
+
+returns : tie.Need-returns
+returns c = let a = c .before .before .before .before .args in band-none1 _ (a .c) _ _ (c .before .market-best .ensures) (c .before .before .opposite-of .ensures) _ (c .if1 .taken)
+
+opposite-of-requires-2 : tie.Need-opposite-of-requires-2
+opposite-of-requires-2 c κs = search needs
+
+market-best-requires-2 : tie.Need-market-best-requires-2
+unfolding opposite
+market-best-requires-2 c κs = search needs
+
+returns-2 : tie.Need-returns-2
+returns-2 c = let a = c .before .before .before .before .before .before .before .args in band-none2 _ (a .c) _ _ (c .before .before .before .before .market-best .ensures) (c .before .before .before .before .before .opposite-of .ensures) (c .before .before .before .if1 .left) _ _ (c .before .market-best2 .ensures) (c .before .before .opposite-of2 .ensures) _ (c .if2 .taken)
+
+net-of-requires : tie.Need-net-of-requires
+net-of-requires c κs = search needs
+
+near-net-requires : tie.Need-near-net-requires
+near-net-requires c κs = search needs
+
+returns-3 : tie.Need-returns-3
+returns-3 c = let a = c .before .before .before .before .before .before .before .before .before .args in let u = c .before .net-of in band-near _ (a .c) _ _ (c .before .before .before .before .before .before .market-best .ensures) (c .before .before .before .before .before .before .before .opposite-of .ensures) (c .before .before .before .before .before .if1 .left) _ _ (c .before .before .before .market-best2 .ensures) (c .before .before .before .before .opposite-of2 .ensures) (c .before .before .if2 .left) _ _ _ _ (back {z = u .result} (record { sfits = u .ok }) ∙ u .ensures .0) (back {z = a .t} (c .before .before .before .before .before .before .before .before .before .fits .t)) (c .near-net .ensures)
+
+pub in-band-spec : {M : Type 1} → statement M
+in-band-spec =
+    tie.close
+    (tie.spec
+    opposite-of-requires
+    market-best-requires
+    returns
+    opposite-of-requires-2
+    market-best-requires-2
+    returns-2
+    net-of-requires
+    near-net-requires
+    returns-3)

@@ -1,0 +1,271 @@
+// The prices of a side: better and reached, the grid of the best regular prices and their sizes, own, clear and market prices, and the band.
+use rules::Complex;
+use rules::Leg;
+use rules::Legging;
+ghost use mathlib.Core.Path.{_≡_};
+ghost use Prim.Native.Nat.{_+_, _≤_, _<_};
+ghost use lib.IntN.{natAbs};
+ghost use lib.ListN.{length};
+ghost use Rattle.rules.specs.Words.{leggingAt, statusOf, isComplexOf};
+ghost use Rattle.rules.specs.Prices.{better, betterOf, reaches, ownPrice, bestOwn, clearPrice, away, marketBest, inBand};
+ghost use Rattle.rules.specs.Standing.{otherLeg, parentOf, bothOpen};
+ghost use Rattle.rules.specs.Complex.{anyClosed};
+ghost use Rattle.places.specs.Layout.{size, venueOf};
+ghost use Rattle.levels.specs.Grid.{joinedOf, cellOf, GridOf, LegsIn};
+
+// The best price of a side, and its total size; both 0 where there is none.
+pub struct Level {
+    pub price: u32,
+    pub size: u64,
+}
+
+// a is strictly better than b at this side; any price is better than none.
+pub fn is_better_wide(side: u8, a: u64, b: u64) -> bool
+    ensures { λ r. ⌜ r ≡ better side a b ⌝ }
+{
+    if side == 0 {
+        return b < a;
+    }
+    if a == 0 {
+        return false;
+    }
+    if b == 0 {
+        return true;
+    }
+    a < b
+}
+
+pub fn is_better(side: u8, a: u32, b: u32) -> bool
+    ensures { λ r. ⌜ r ≡ better side a b ⌝ }
+{
+    is_better_wide(side, a as u64, b as u64)
+}
+
+// The better of two prices.
+pub fn better_of(side: u8, a: u32, b: u32) -> u32
+    ensures { λ r. ⌜ r ≡ betterOf side a b ⌝ }
+{
+    if is_better(side, a, b) {
+        return a;
+    }
+    b
+}
+
+// A price p of this side and a price q of the other side cross or are equal.
+pub fn reaches_price(side: u8, p: u32, q: u32) -> bool
+    ensures { λ r. ⌜ r ≡ reaches side p q ⌝ }
+{
+    if side == 0 {
+        return q <= p;
+    }
+    p <= q
+}
+
+// A level with k contracts more at a price.
+fn joined(side: u8, price: u32, k: u32, l: Level) -> Level
+    requires { ⌜ l .size ≤ 549755813760 ⌝ }
+    ensures { λ r. ⌜ r ≡ joinedOf side price k l ⌝ }
+{
+    let size = k as u64;
+    if price == l.price {
+        return Level {
+            price,
+            size: size + l.size,
+        };
+    }
+    if is_better(side, price, l.price) {
+        return Level { price, size };
+    }
+    l
+}
+
+// The levels of all series and sides, in one pass over the places in use.
+pub fn levels(b: &[u32]) -> [[Level; 2]; 8]
+    requires { ⌜ length (now b) ≡ size ⌝ }
+    ensures { λ r. ⌜ GridOf r (venueOf (now (b .entry)) .regular) ⌝ }
+{
+    let none = Level { price: 0, size: 0 };
+    let mut g = [[none; 2]; 8];
+    let mut i = places::regulars_used(b);
+    while 0 < i {
+        i -= 1;
+        let o = places::regular_at(b, i);
+        if o.quantity == 0 {
+            continue;
+        }
+        let s = o.series as usize;
+        let d = o.side as usize;
+        let l = g[s][d];
+        let m = joined(o.side, o.price, o.quantity, l);
+        g[s][d] = m;
+    }
+    g
+}
+
+// The level of a series and side.
+pub fn level_at(g: [[Level; 2]; 8], s: u8, d: u8) -> Level
+    requires { ⌜ (s < 8) × (d < 2) ⌝ }
+    ensures { λ r. ⌜ r ≡ cellOf g s d ⌝ }
+{
+    let i = s as usize;
+    let j = d as usize;
+    let l = g[i][j];
+    l
+}
+
+// The own price of the legging order of a series and side; 0 where there is none.
+pub fn own_price(b: &[u32], s: u8, d: u8) -> u32
+    requires { ⌜ (length (now b) ≡ size) × (s < 8) × (d < 2) ⌝ }
+    ensures { λ r. ⌜ r ≡ ownPrice (leggingAt (venueOf (now (b .entry))) s d) ⌝ }
+{
+    let l = places::legging_at(b, rules::place_of(s, d));
+    if l.quantity == 0 {
+        return 0;
+    }
+    l.price
+}
+
+// The best own price of a side, legging included.
+pub fn best_own(b: &[u32], g: [[Level; 2]; 8], s: u8, d: u8) -> u32
+    requires { ⌜ (length (now b) ≡ size) × (GridOf g (venueOf (now b) .regular)) × (s < 8) × (d < 2) ⌝ }
+    ensures { λ r. ⌜ r ≡ bestOwn (venueOf (now (b .entry))) s d ⌝ }
+{
+    let own = own_price(b, s, d);
+    let best = level_at(g, s, d);
+    better_of(d, own, best.price)
+}
+
+// The best regular price, 0 if there is none or if the legging order has a strictly better own price.
+pub fn clear_price(b: &[u32], g: [[Level; 2]; 8], s: u8, d: u8) -> u32
+    requires { ⌜ (length (now b) ≡ size) × (GridOf g (venueOf (now b) .regular)) × (s < 8) × (d < 2) ⌝ }
+    ensures { λ r. ⌜ r ≡ clearPrice (venueOf (now (b .entry))) s d ⌝ }
+{
+    let own = own_price(b, s, d);
+    let best = level_at(g, s, d);
+    if is_better(d, own, best.price) {
+        return 0;
+    }
+    best.price
+}
+
+// The away price of a side.
+pub fn away_price(b: &[u32], s: u8, d: u8) -> u32
+    requires { ⌜ (length (now b) ≡ size) × (s < 8) ⌝ }
+    ensures { λ r. ⌜ r ≡ away (venueOf (now (b .entry))) s d ⌝ }
+{
+    let x = places::listed_at(b, s as usize);
+    if d == 0 {
+        return x.bid;
+    }
+    x.offer
+}
+
+// The better of away and best regular price.
+pub fn market_best(b: &[u32], g: [[Level; 2]; 8], s: u8, d: u8) -> u32
+    requires { ⌜ (length (now b) ≡ size) × (GridOf g (venueOf (now b) .regular)) × (s < 8) × (d < 2) ⌝ }
+    ensures { λ r. ⌜ r ≡ marketBest (venueOf (now (b .entry))) s d ⌝ }
+{
+    let out = away_price(b, s, d);
+    let best = level_at(g, s, d);
+    better_of(d, out, best.price)
+}
+
+// The net t of a complex order is in band.
+pub fn in_band(b: &[u32], g: [[Level; 2]; 8], c: Complex, t: i64) -> bool
+    requires { ⌜ (length (now b) ≡ size) × (GridOf g (venueOf (now b) .regular)) × (LegsIn c) × (natAbs t ≤ 8589934590) ⌝ }
+    ensures { λ r. ⌜ r ≡ inBand (venueOf (now (b .entry))) c t ⌝ }
+{
+    let first = market_best(b, g, c.series1, rules::opposite_of(c.side1));
+    if first == 0 {
+        return false;
+    }
+    let second = market_best(b, g, c.series2, rules::opposite_of(c.side2));
+    if second == 0 {
+        return false;
+    }
+    let o = rules::net_of(c.side1, first, c.side2, second);
+    rules::near_net(o, t)
+}
+
+// The leg of a complex order that is not in series s.
+pub fn other_leg(c: Complex, s: u8) -> Leg
+    ensures { λ r. ⌜ r ≡ otherLeg c s ⌝ }
+{
+    if c.series1 == s {
+        return Leg {
+            series: c.series2,
+            side: c.side2,
+        };
+    }
+    Leg {
+        series: c.series1,
+        side: c.side1,
+    }
+}
+
+// A resting complex order of this id.
+pub fn is_complex_of(c: Complex, id: u32) -> bool
+    ensures { λ r. ⌜ r ≡ isComplexOf id c ⌝ }
+{
+    if c.quantity == 0 {
+        return false;
+    }
+    c.id == id
+}
+
+// The complex order of a legging order.
+pub fn parent_of(b: &[u32], l: Legging) -> Complex
+    requires { ⌜ length (now b) ≡ size ⌝ }
+    ensures { λ r. ⌜ r ≡ parentOf (venueOf (now (b .entry))) l ⌝ }
+{
+    let n = places::complexes_used(b);
+    let mut i: usize = 0;
+    while i < n {
+        let c = places::complex_at(b, i);
+        if is_complex_of(c, l.parent) {
+            return c;
+        }
+        i += 1;
+    }
+    Complex {
+        id: 0,
+        series1: 0,
+        side1: 0,
+        series2: 0,
+        side2: 0,
+        class: 0,
+        limit: 0,
+        quantity: 0,
+    }
+}
+
+// A series' status.
+pub fn status_of(b: &[u32], s: u8) -> u8
+    requires { ⌜ (length (now b) ≡ size) × (s < 8) ⌝ }
+    ensures { λ r. ⌜ r ≡ statusOf (venueOf (now (b .entry))) s ⌝ }
+{
+    let x = places::listed_at(b, s as usize);
+    x.status
+}
+
+// Both series of a complex order are open.
+pub fn both_open(b: &[u32], c: Complex) -> bool
+    requires { ⌜ (length (now b) ≡ size) × (LegsIn c) ⌝ }
+    ensures { λ r. ⌜ r ≡ bothOpen (venueOf (now (b .entry))) c ⌝ }
+{
+    if status_of(b, c.series1) != 1 {
+        return false;
+    }
+    status_of(b, c.series2) == 1
+}
+
+// A series of a complex order is closed.
+pub fn any_closed(b: &[u32], c: Complex) -> bool
+    requires { ⌜ (length (now b) ≡ size) × (LegsIn c) ⌝ }
+    ensures { λ r. ⌜ r ≡ anyClosed (venueOf (now (b .entry))) c ⌝ }
+{
+    if status_of(b, c.series1) == 0 {
+        return true;
+    }
+    status_of(b, c.series2) == 0
+}

@@ -1,0 +1,250 @@
+-- Laws of removal, for the loops that do it place by place.
+use mathlib.Core.Path.{_≡_, refl, sym, ap, _∙_}
+use mathlib.Core.Bool.{Bool, true, false, not, _||_}
+use mathlib.Core.List.{List, [], _∷_, _++_, append-assoc, append-nil}
+use Prim.Native.Nat.{ℕ, zero, suc, _+_, _-_, _*_, _≤_, _<_, _/_, _%_}
+use native.Mathlib.Omega.{arith}
+use native.Mathlib.Numerals.{add-one}
+use lib.Dec.{eqb}
+use lib.ListN.{length, getD, set, take, drop, drop-of-length-le}
+use lib.Seq.{drop-cons, take-suc-set, drop-set-lt, take-all, set-getD}
+use borrow.Author.Tests.{eq-eqb, ne-eqb, eqb-true}
+use Rattle.rules.specs.declared.Legging.{Legging}
+use Rattle.rules.specs.declared.Venue.{Venue}
+use Rattle.rules.specs.declared.Cause.{Cause}
+use Rattle.rules.specs.declared.Cause.the-variants.{Worse, Unpaired, Executed, Withdrawn, OutOfBand, NotOpen, Replaced, Touched}
+use Rattle.rules.specs.declared.Verdict.{Verdict}
+use Rattle.rules.specs.declared.Verdict.the-variants.{Stands, Fails}
+use Rattle.rules.specs.Base.{if_then_else_, held}
+use Rattle.rules.specs.Words.{noLegging, withLegging}
+use Rattle.rules.specs.Records.{Report, removed}
+use Rattle.rules.specs.Effects.{Effect, nothing, report, _⟫_}
+use Rattle.rules.specs.Removal.{stay, goes, stayers, leavers, remove, failIf}
+use Rattle.rules.specs.Standing.{verdictNumber}
+use Rattle.rules.specs.Generation.{placed}
+use Rattle.rules.specs.Step.{mask}
+use Rattle.wire.specs.Seen.{Seen, seen}
+use Rattle.wire.specs.Stage.{Stage, stage, _does_}
+use Rattle.wire.proofs.Stages.{onward, does-nothing, does-room}
+use Rattle.places.specs.Layout.{size, leggingIn, venueOf, SameCounts}
+use Rattle.places.proofs.Tables.{upto-at, upto-length}
+use Rattle.removal.specs.Marks.{clearAt, verdictBy, markedBy}
+
+-- The legging places of the numbers -----------------------------------------------------------
+
+pub legging-at : (b : List ℕ) (n : ℕ) → n < 16 → getD (venueOf b .legging) n noLegging ≡ leggingIn b n
+unfolding venueOf
+legging-at b n h = upto-at (leggingIn b) noLegging 0 16 n h ∙ ap (leggingIn b) (omega arith)
+
+pub leggings-length : (b : List ℕ) → length (venueOf b .legging) ≡ 16
+unfolding venueOf
+leggings-length b = upto-length (leggingIn b) 0 16
+
+-- One place -----------------------------------------------------------------------------------
+
+-- a verdict that leaves a place as it is
+module _ (n : ℕ) (v : Venue) (l : Legging) (e : getD (v .legging) n noLegging ≡ l) where
+  pub clear-free : (c : Cause) → l .quantity ≡ 0 → nothing v ≡ clearAt n (Fails c) v
+  unfolding clearAt nothing placed withLegging stay goes
+  clear-free c h = simp (e, eq-eqb _ _ h) (ap (λ (ls : List Legging). record { venue = withLegging v ls; reports = [] }) (sym (ap (λ (x : Legging). set (v .legging) n x) (sym e) ∙ set-getD (v .legging) n noLegging)))
+
+  pub clear-held : (c : Cause) → (l .quantity ≡ 0 → ⊥) → report (removed (l .parent) (n / 2) (n % 2) c) (placed n noLegging v) ≡ clearAt n (Fails c) v
+  unfolding clearAt report stay goes
+  clear-held c h = simp (e, ne-eqb _ _ h)
+
+-- The places from n on ------------------------------------------------------------------------
+
+pub removeFrom : (ℕ → Legging → Verdict) → ℕ → Venue → Effect
+removeFrom f n v = record {
+  venue = withLegging v (take n (v .legging) ++ stayers f n (drop n (v .legging)));
+  reports = leavers f n (drop n (v .legging));
+}
+
+module _ (f : ℕ → Legging → Verdict) (v : Venue) where
+  pub remove-start : (w : Seen) → w does removeFrom f 0 v ≡ w does remove f v
+  unfolding removeFrom remove
+  remove-start w = refl
+
+  pub remove-end : (n : ℕ) → length (v .legging) ≤ n → nothing v ≡ removeFrom f n v
+  unfolding removeFrom nothing stayers leavers withLegging
+  remove-end n h =
+      let a : drop n (v .legging) ≡ [] = drop-of-length-le (v .legging) {i = n} h in
+      let b : take n (v .legging) ≡ v .legging = take-all n (v .legging) h in
+      rw (a, b, append-nil)
+
+  -- one place, and then the rest
+  module _ (n : ℕ) (x : Legging) (h : n < length (v .legging)) (e : getD (v .legging) n noLegging ≡ x) where
+    one-place : removeFrom f n v ≡ (clearAt n (f n x) v ⟫ removeFrom f (n + 1))
+    unfolding removeFrom _⟫_ stayers leavers withLegging clearAt placed
+    one-place =
+        let ls = v .legging in
+        let y = stay (f n x) x in
+        let d : drop n ls ≡ x ∷ drop (suc n) ls = drop-cons ls n noLegging h ∙ ap (λ (z : Legging). z ∷ drop (suc n) ls) e in
+        let t : take (suc n) (set ls n y) ≡ take n ls ++ (y ∷ []) = take-suc-set ls n y h in
+        let u : drop (suc n) (set ls n y) ≡ drop (suc n) ls = drop-set-lt (suc n) ls n y (omega arith) in
+        rw (add-one, d, e, t, u, append-assoc)
+
+    -- a turn of the loop: the place is cleared by its verdict
+    pub remove-turn : (y : Verdict) (w : Venue) (l m : List ℕ) (at j : ℕ) → f n x ≡ y → stage w l at ≡ seen m j does clearAt n y v →
+        seen l at does removeFrom f (n + 1) w ≡ seen m j does removeFrom f n v
+    remove-turn y w l m at j q p =
+        sym (onward (seen m j) (clearAt n y v) (removeFrom f (n + 1)) w l at p)
+        ∙ ap (λ (z : Verdict). seen m j does (clearAt n z v ⟫ removeFrom f (n + 1))) (sym q)
+        ∙ ap (λ (z : Effect). seen m j does z) (sym one-place)
+
+    -- or it stands
+    stood : clearAt n Stands v ≡ nothing v
+    unfolding clearAt nothing placed withLegging stay goes
+    stood = ap (λ (ls : List Legging). record { venue = withLegging v ls; reports = [] }) (set-getD (v .legging) n noLegging)
+
+    pub remove-past : (l : List ℕ) (at : ℕ) → f n x ≡ Stands → seen l at does removeFrom f (n + 1) v ≡ seen l at does removeFrom f n v
+    remove-past l at q = remove-turn Stands v l l at at q (does-nothing v l at ∙ ap (λ (z : Effect). seen l at does z) (sym stood))
+
+-- The loop ------------------------------------------------------------------------------------
+
+-- as many places in use after two steps
+pub counts-on : (a b c : List ℕ) → SameCounts a b → SameCounts b c → SameCounts a c
+counts-on a b c p q = record { regulars = q .regulars ∙ p .regulars; complexes = q .complexes ∙ p .complexes }
+
+-- its invariant: what is left to do from place n on is what there was to do
+pub record Removing (f : ℕ → Legging → Verdict) (b₀ out₀ : List ℕ) (at : ℕ) (b out : List ℕ) (pos n : ℕ) : Type 0 where
+  pub few : n ≤ 16
+  pub whole : length b ≡ size
+  pub counts : SameCounts b₀ b
+  pub left : seen out pos does removeFrom f n (venueOf b) ≡ seen out₀ at does remove f (venueOf b₀)
+
+pub removing-start : (f : ℕ → Legging → Verdict) (b out : List ℕ) (at : ℕ) → length b ≡ size → Removing f b out at b out at 0
+removing-start f b out at h = record { few = omega arith; whole = h; counts = record { regulars = refl; complexes = refl }; left = remove-start f (venueOf b) (seen out at) }
+
+module _ (f : ℕ → Legging → Verdict) {b₀ out₀ b out : List ℕ} {at pos n : ℕ} (i : Removing f b₀ out₀ at b out pos n) where
+  -- the order at place n goes
+  pub removing-turn : (c : Cause) (b₁ out₁ : List ℕ) (r : ℕ) → n < 16 → f n (leggingIn b n) ≡ Fails c → length b₁ ≡ length b →
+      (stage (venueOf b₁) out₁ r ≡ seen out pos does clearAt n (Fails c) (venueOf b)) × SameCounts b b₁ → Removing f b₀ out₀ at b₁ out₁ r (n + 1)
+  removing-turn c b₁ out₁ r h e k q = record {
+    few = omega arith;
+    whole = k ∙ i .whole;
+    counts = counts-on b₀ b b₁ (i .counts) (q .1);
+    left = remove-turn f (venueOf b) n (leggingIn b n) (omega (arith, leggings-length b)) (legging-at b n h) (Fails c) (venueOf b₁) out₁ out r pos e (q .0) ∙ i .left;
+  }
+
+  -- it stands
+  pub removing-past : n < 16 → f n (leggingIn b n) ≡ Stands → Removing f b₀ out₀ at b out pos (n + 1)
+  removing-past h e = record {
+    few = omega arith;
+    whole = i .whole;
+    counts = i .counts;
+    left = remove-past f (venueOf b) n (leggingIn b n) (omega (arith, leggings-length b)) (legging-at b n h) out pos e ∙ i .left;
+  }
+
+  -- nothing is left
+  pub removing-end : 16 ≤ n → (stage (venueOf b) out pos ≡ seen out₀ at does remove f (venueOf b₀)) × SameCounts b₀ b
+  removing-end h = (
+    does-nothing (venueOf b) out pos
+        ∙ ap (λ (e : Effect). seen out pos does e) (remove-end f (venueOf b) n (omega (arith, leggings-length b)))
+        ∙ i .left,
+    i .counts,
+  )
+
+  pub removing-room : length out ≡ length out₀
+  removing-room = does-room out out₀ pos at (removeFrom f n (venueOf b)) (remove f (venueOf b₀)) (i .left)
+
+-- Verdicts ------------------------------------------------------------------------------------
+
+-- by parent, of what is read at a place
+module _ (id : ℕ) (c : Cause) {l x : Legging} (e : l ≡ x) where
+  pub by-parent : l .parent ≡ id → failIf (eqb (x .parent) id) c ≡ Fails c
+  unfolding failIf
+  by-parent h = rw (← e) (simp (eq-eqb _ _ h))
+
+  pub not-parent : (l .parent ≡ id → ⊥) → failIf (eqb (x .parent) id) c ≡ Stands
+  unfolding failIf
+  not-parent h = rw (← e) (simp (ne-eqb _ _ h))
+
+-- by place
+module _ (a b n : ℕ) (c : Cause) where
+  pub at-one : n ≡ a → failIf (eqb n a || eqb n b) c ≡ Fails c
+  unfolding failIf
+  at-one h = simp (eq-eqb _ _ h)
+
+  pub at-two : n ≡ b → failIf (eqb n a || eqb n b) c ≡ Fails c
+  unfolding failIf
+  at-two h = go (eqb n a)
+    where
+      go : (t : Bool) → failIf (t || eqb n b) c ≡ Fails c
+      go true = refl
+      go false = simp (eq-eqb _ _ h)
+
+  pub at-neither : (n ≡ a → ⊥) → (n ≡ b → ⊥) → failIf (eqb n a || eqb n b) c ≡ Stands
+  unfolding failIf
+  at-neither h k = simp (ne-eqb _ _ h, ne-eqb _ _ k)
+
+-- the number of a verdict, read back
+pub verdict-back : (x : Verdict) → verdictBy (verdictNumber x) ≡ x
+unfolding verdictBy
+verdict-back Stands = refl
+verdict-back (Fails Worse) = refl
+verdict-back (Fails Unpaired) = refl
+verdict-back (Fails Executed) = refl
+verdict-back (Fails Withdrawn) = refl
+verdict-back (Fails OutOfBand) = refl
+verdict-back (Fails NotOpen) = refl
+verdict-back (Fails Replaced) = refl
+verdict-back (Fails Touched) = refl
+
+-- The same verdicts, the same removal ---------------------------------------------------------
+
+module _ (f g : ℕ → Legging → Verdict) where
+  same-from : (n : ℕ) (ls : List Legging) → ((i : ℕ) → i < length ls → f (n + i) (getD ls i noLegging) ≡ g (n + i) (getD ls i noLegging)) →
+      (stayers f n ls ≡ stayers g n ls) × (leavers f n ls ≡ leavers g n ls)
+  unfolding stayers leavers
+  same-from n [] h = (refl, refl)
+  same-from n (l ∷ ls) h =
+      let z : n + 0 ≡ n = omega arith in
+      let e : f n l ≡ g n l = rw z at (h 0 (omega arith)) in
+      let r = same-from (suc n) ls (λ i q. let y : n + suc i ≡ suc n + i = omega arith in rw y at (h (suc i) (omega arith))) in
+      (rw (e, r .0), rw (e, r .1))
+
+  -- verdicts that agree on what stands at each place
+  pub remove-same : (v : Venue) → ((n : ℕ) → n < length (v .legging) → f n (getD (v .legging) n noLegging) ≡ g n (getD (v .legging) n noLegging)) → remove f v ≡ remove g v
+  unfolding remove
+  remove-same v h =
+      let r = same-from 0 (v .legging) (λ i q. let z : 0 + i ≡ i = omega arith in rw z (h i q)) in
+      rw (r .0, r .1)
+
+-- marks that are the numbers of f's verdicts remove by f
+pub marked-is : (f : ℕ → Legging → Verdict) (marks b : List ℕ) → ((n : ℕ) → n < 16 → getD marks n 0 ≡ verdictNumber (f n (leggingIn b n))) →
+    remove (markedBy marks) (venueOf b) ≡ remove f (venueOf b)
+unfolding markedBy
+marked-is f marks b h = remove-same (markedBy marks) f (venueOf b) (λ n q. go n (omega (arith, leggings-length b)))
+  where
+    go : (n : ℕ) → n < 16 → markedBy marks n (getD (venueOf b .legging) n noLegging) ≡ f n (getD (venueOf b .legging) n noLegging)
+    go n q = ap verdictBy (h n q) ∙ verdict-back (f n (leggingIn b n)) ∙ ap (f n) (sym (legging-at b n q))
+
+-- Where nothing is held, nothing goes ---------------------------------------------------------
+
+module _ (f : ℕ → Legging → Verdict) where
+  free-stays : (x : Verdict) (l : Legging) (n : ℕ) → l .quantity ≡ 0 → (stay x l ≡ l) × (goes n x l ≡ [])
+  unfolding stay goes
+  free-stays Stands l n h = (refl, refl)
+  free-stays (Fails c) l n h = (simp (eq-eqb _ _ h), simp (eq-eqb _ _ h))
+
+  empty-from : (n : ℕ) (ls : List Legging) → mask ls ≡ 0 → (stayers f n ls ≡ ls) × (leavers f n ls ≡ [])
+  unfolding stayers leavers mask
+  empty-from n [] h = (refl, refl)
+  empty-from n (l ∷ ls) h = go (eqb (l .quantity) 0) refl h (λ e. empty-from (suc n) ls e)
+    where
+      go : (t : Bool) → eqb (l .quantity) 0 ≡ t → (if not t then 1 else 0) + 2 * mask ls ≡ 0 →
+          (mask ls ≡ 0 → (stayers f (suc n) ls ≡ ls) × (leavers f (suc n) ls ≡ [])) →
+          (stay (f n l) l ∷ stayers f (suc n) ls ≡ l ∷ ls) × (goes n (f n l) l ++ leavers f (suc n) ls ≡ [])
+      go true e k rest =
+          let s = free-stays (f n l) l n (eqb-true _ _ e) in
+          let r = rest (omega arith) in
+          (rw (s .0, r .0), rw (s .1, r .1))
+      go false e k rest = absurd (omega arith)
+
+  -- a removal from no legging orders does nothing
+  pub remove-none : (v : Venue) → mask (v .legging) ≡ 0 → remove f v ≡ nothing v
+  unfolding remove nothing withLegging
+  remove-none v h =
+      let r = empty-from 0 (v .legging) h in
+      rw (r .0, r .1)

@@ -1,0 +1,75 @@
+-- `removal::remove_at` meets its contract.
+use borrow.Author.Needs.{needs}
+use mathlib.Core.Path.{sym, _∙_}
+use Prim.Native.Nat.{_-_}
+use mathlib.Core.Bool.{_||_}
+use lib.Dec.{eqb}
+use Rattle.rules.specs.Removal.{failIf}
+use Rattle.removal.proofs.Removing.{Removing, removing-start, removing-turn, removing-past, removing-end, removing-room, at-one, at-two, at-neither}
+use Rattle.removal.proofs.remove_at.Statement.{statement}
+use Rattle.removal.proofs.remove_at.Tie as tie
+
+abbrev Inv-loop : tie.InvT-loop
+Inv-loop b₀ n1 n2 cause out₀ at pos₀ n₀ b out pos n = Removing (λ k _. failIf (eqb k n1 || eqb k n2) cause) b₀ out₀ at b out pos n
+
+abbrev μ-loop : tie.MeasureT-loop
+μ-loop b₀ n1 n2 cause out₀ at pos₀ n₀ b out pos n = 16 - n
+
+loop-holds : tie.Need-loop-holds Inv-loop μ-loop
+loop-holds c = removing-start _ _ _ _ (c .before .before .pre)
+
+add-n : tie.Need-add-n Inv-loop μ-loop
+add-n c = search needs
+
+clear-requires : tie.Need-clear-requires Inv-loop μ-loop
+clear-requires c κs = search needs
+
+loop-less : tie.Need-loop-less Inv-loop μ-loop
+loop-less c = search needs
+
+loop-again : tie.Need-loop-again Inv-loop μ-loop
+loop-again c = removing-turn _ (c .before .before .before .before .before .before .before .before .before .loop .inv) _ _ _ _ (c .before .before .before .before .before .before .before .before .loop-test .taken) (at-one _ _ _ _ (c .before .before .before .before .before .before .before .if1 .taken)) (c .before .before .before .before .clear .kept .0) (c .before .before .before .before .clear .ensures)
+
+clear-requires-2 : tie.Need-clear-requires-2 Inv-loop μ-loop
+clear-requires-2 c κs = search needs
+
+loop-less-2 : tie.Need-loop-less-2 Inv-loop μ-loop
+loop-less-2 c = search needs
+
+loop-again-2 : tie.Need-loop-again-2 Inv-loop μ-loop
+loop-again-2 c = removing-turn _ (c .before .before .before .before .before .before .before .before .before .before .loop .inv) _ _ _ _ (c .before .before .before .before .before .before .before .before .before .loop-test .taken) (at-two _ _ _ _ (c .before .before .before .before .before .before .before .if2 .taken)) (c .before .before .before .before .clear2 .kept .0) (c .before .before .before .before .clear2 .ensures)
+
+loop-less-3 : tie.Need-loop-less-3 Inv-loop μ-loop
+loop-less-3 c = search needs
+
+loop-again-3 : tie.Need-loop-again-3 Inv-loop μ-loop
+loop-again-3 c = removing-past _ (c .before .before .before .loop .inv) (c .before .before .loop-test .taken) (at-neither _ _ _ _ (c .before .if1 .left) (c .if2 .left))
+
+same-length : tie.Need-same-length Inv-loop μ-loop
+same-length c = c .before .loop .inv .whole ∙ sym (c .before .before .before .before .pre)
+
+same-length-2 : tie.Need-same-length-2 Inv-loop μ-loop
+same-length-2 c = removing-room _ (c .before .loop .inv)
+
+returns : tie.Need-returns Inv-loop μ-loop
+returns c = removing-end _ (c .before .loop .inv) (c .loop-test .left)
+
+pub remove-at-spec : {M : Type 1} → statement M
+remove-at-spec =
+    tie.close
+    (tie.spec
+    Inv-loop
+    μ-loop
+    loop-holds
+    add-n
+    clear-requires
+    loop-less
+    loop-again
+    clear-requires-2
+    loop-less-2
+    loop-again-2
+    loop-less-3
+    loop-again-3
+    same-length
+    same-length-2
+    returns)

@@ -1,0 +1,67 @@
+-- `removal::remove_of` meets its contract.
+use borrow.Author.Needs.{needs}
+use mathlib.Core.Path.{sym, _∙_}
+use Prim.Native.Nat.{_-_}
+use lib.Dec.{eqb}
+use Rattle.rules.specs.Removal.{failIf, removeOf}
+use Rattle.removal.proofs.Removing.{Removing, removing-start, removing-turn, removing-past, removing-end, removing-room, by-parent, not-parent}
+use Rattle.removal.proofs.remove_of.Statement.{statement}
+use Rattle.removal.proofs.remove_of.Tie as tie
+
+abbrev Inv-loop : tie.InvT-loop
+Inv-loop b₀ parent cause out₀ at pos₀ n₀ b out pos n = Removing (λ k l. failIf (eqb (l .parent) parent) cause) b₀ out₀ at b out pos n
+
+abbrev μ-loop : tie.MeasureT-loop
+μ-loop b₀ parent cause out₀ at pos₀ n₀ b out pos n = 16 - n
+
+loop-holds : tie.Need-loop-holds Inv-loop μ-loop
+loop-holds c = removing-start _ _ _ _ (c .before .before .pre)
+
+add-n : tie.Need-add-n Inv-loop μ-loop
+add-n c = search needs
+
+legging-at-requires : tie.Need-legging-at-requires Inv-loop μ-loop
+legging-at-requires c κs = search needs
+
+loop-less : tie.Need-loop-less Inv-loop μ-loop
+loop-less c = search needs
+
+loop-again : tie.Need-loop-again Inv-loop μ-loop
+loop-again c = removing-past _ (c .before .before .before .before .before .loop .inv) (c .before .before .before .before .loop-test .taken) (not-parent _ _ (c .before .before .legging-at .ensures) (c .if1 .taken))
+
+clear-requires : tie.Need-clear-requires Inv-loop μ-loop
+clear-requires c κs = search needs
+
+loop-less-2 : tie.Need-loop-less-2 Inv-loop μ-loop
+loop-less-2 c = search needs
+
+loop-again-2 : tie.Need-loop-again-2 Inv-loop μ-loop
+loop-again-2 c = removing-turn _ (c .before .before .before .before .before .before .before .before .before .before .before .before .loop .inv) _ _ _ _ (c .before .before .before .before .before .before .before .before .before .before .before .loop-test .taken) (by-parent _ _ (c .before .before .before .before .before .before .before .before .before .legging-at .ensures) (c .before .before .before .before .before .before .before .if1 .left)) (c .before .before .before .before .clear .kept .0) (c .before .before .before .before .clear .ensures)
+
+same-length : tie.Need-same-length Inv-loop μ-loop
+same-length c = c .before .loop .inv .whole ∙ sym (c .before .before .before .before .pre)
+
+same-length-2 : tie.Need-same-length-2 Inv-loop μ-loop
+same-length-2 c = removing-room _ (c .before .loop .inv)
+
+returns : tie.Need-returns Inv-loop μ-loop
+unfolding removeOf
+returns c = removing-end _ (c .before .loop .inv) (c .loop-test .left)
+
+pub remove-of-spec : {M : Type 1} → statement M
+remove-of-spec =
+    tie.close
+    (tie.spec
+    Inv-loop
+    μ-loop
+    loop-holds
+    add-n
+    legging-at-requires
+    loop-less
+    loop-again
+    clear-requires
+    loop-less-2
+    loop-again-2
+    same-length
+    same-length-2
+    returns)

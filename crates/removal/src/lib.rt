@@ -1,0 +1,135 @@
+// Removal of legging orders from the venue in its slice: those that fail go, with their records (68) by rising place.
+ghost use mathlib.Core.Path.{_≡_};
+ghost use mathlib.Core.Bool.{_||_};
+ghost use Prim.Native.Nat.{ℕ, _<_};
+ghost use lib.Dec.{eqb};
+ghost use lib.ListN.{length};
+ghost use Rattle.rules.specs.declared.Verdict.the-variants.{Fails};
+ghost use Rattle.rules.specs.Removal.{remove, removeOf, failIf};
+ghost use Rattle.wire.specs.Seen.{seen};
+ghost use Rattle.wire.specs.Stage.{stage, _does_};
+ghost use Rattle.places.specs.Layout.{size, venueOf, SameCounts};
+ghost use Rattle.removal.specs.Marks.{clearAt, verdictBy, markedBy};
+use rules::Cause;
+use rules::Legging;
+use rules::Verdict;
+
+// What stands at place n goes; a free place stays as it is.
+fn clear(b: &mut [u32], n: usize, cause: Cause, out: &mut [u8], at: usize) -> usize
+    requires { ⌜ (length (now b) ≡ size) × (n < 16) ⌝ }
+    ensures { λ r. ⌜ stage (venueOf (now (b .exit))) (now (out .exit)) r ≡ seen (now (out .entry)) at does clearAt n (Fails cause) (venueOf (now (b .entry))) ⌝ }
+    ensures counts { λ _. ⌜ SameCounts (now (b .entry)) (now (b .exit)) ⌝ }
+{
+    let l = places::legging_at(b, n);
+    if l.quantity == 0 {
+        return at;
+    }
+    let none = Legging {
+        parent: 0,
+        price: 0,
+        quantity: 0,
+    };
+    places::put_legging(b, n, none);
+    wire::emit_removed(out, at, l.parent, (n / 2) as u8, (n % 2) as u8, cause)
+}
+
+// The legging orders of one parent go.
+pub fn remove_of(b: &mut [u32], parent: u32, cause: Cause, out: &mut [u8], at: usize) -> usize
+    requires { ⌜ length (now b) ≡ size ⌝ }
+    ensures { λ r. ⌜ stage (venueOf (now (b .exit))) (now (out .exit)) r ≡ seen (now (out .entry)) at does removeOf parent cause (venueOf (now (b .entry))) ⌝ }
+    ensures counts { λ _. ⌜ SameCounts (now (b .entry)) (now (b .exit)) ⌝ }
+{
+    let mut pos = at;
+    let mut n: usize = 0;
+    while n < 16 {
+        let place = n;
+        n += 1;
+        let l = places::legging_at(b, place);
+        if l.parent != parent {
+            continue;
+        }
+        pos = clear(b, place, cause, out, pos);
+    }
+    pos
+}
+
+// The legging orders at two places go.
+pub fn remove_at(
+    b: &mut [u32],
+    n1: usize,
+    n2: usize,
+    cause: Cause,
+    out: &mut [u8],
+    at: usize,
+) -> usize
+    requires { ⌜ length (now b) ≡ size ⌝ }
+    ensures { λ r. ⌜ stage (venueOf (now (b .exit))) (now (out .exit)) r ≡ seen (now (out .entry)) at does remove (λ n _. failIf (eqb n n1 || eqb n n2) cause) (venueOf (now (b .entry))) ⌝ }
+    ensures counts { λ _. ⌜ SameCounts (now (b .entry)) (now (b .exit)) ⌝ }
+{
+    let mut pos = at;
+    let mut n: usize = 0;
+    while n < 16 {
+        let place = n;
+        n += 1;
+        if place == n1 {
+            pos = clear(b, place, cause, out, pos);
+            continue;
+        }
+        if place == n2 {
+            pos = clear(b, place, cause, out, pos);
+            continue;
+        }
+    }
+    pos
+}
+
+// The verdict of a number.
+pub fn verdict_by(x: u8) -> Verdict
+    ensures { λ r. ⌜ r ≡ verdictBy x ⌝ }
+{
+    if x == 1 {
+        return Verdict::Fails(Cause::Worse);
+    }
+    if x == 2 {
+        return Verdict::Fails(Cause::Unpaired);
+    }
+    if x == 3 {
+        return Verdict::Fails(Cause::Executed);
+    }
+    if x == 4 {
+        return Verdict::Fails(Cause::Withdrawn);
+    }
+    if x == 5 {
+        return Verdict::Fails(Cause::OutOfBand);
+    }
+    if x == 6 {
+        return Verdict::Fails(Cause::NotOpen);
+    }
+    if x == 7 {
+        return Verdict::Fails(Cause::Replaced);
+    }
+    if x == 8 {
+        return Verdict::Fails(Cause::Touched);
+    }
+    Verdict::Stands
+}
+
+// The legging orders at the places that have a cause's number in `marks` go, each for that cause.
+pub fn remove_marked(b: &mut [u32], marks: [u8; 16], out: &mut [u8], at: usize) -> usize
+    requires { ⌜ length (now b) ≡ size ⌝ }
+    ensures { λ r. ⌜ stage (venueOf (now (b .exit))) (now (out .exit)) r ≡ seen (now (out .entry)) at does remove (markedBy marks) (venueOf (now (b .entry))) ⌝ }
+    ensures counts { λ _. ⌜ SameCounts (now (b .entry)) (now (b .exit)) ⌝ }
+{
+    let mut pos = at;
+    let mut n: usize = 0;
+    while n < 16 {
+        let place = n;
+        n += 1;
+        let found = verdict_by(marks[place]);
+        let Verdict::Fails(cause) = found else {
+            continue;
+        };
+        pos = clear(b, place, cause, out, pos);
+    }
+    pos
+}
