@@ -7,6 +7,7 @@ use Rattle.wire.specs.Seen.{seen}
 use Rattle.wire.specs.Stage.{_does_}
 use Rattle.places.specs.Layout.{venueOf}
 use Rattle.matching.proofs.Turns.{enter-law}
+use Rattle.places.proofs.Closed.{dense-regular}
 use borrow.Author.Needs.{needs}
 use Rattle.matching.proofs.enter_regular.Statement.{statement}
 use Rattle.matching.proofs.enter_regular.Tie as tie
@@ -27,7 +28,7 @@ same-length-2 : tie.Need-same-length-2
 same-length-2 c = search needs
 
 returns : tie.Need-returns
-returns c = let s = c .before .before .before .before .before .before .before .before .before .before .before .before .before .before .before in let a = c .before .before .before .before .before .before .before .before .before .add-regular .ensures in let m = c .before .before .before .before .meet-all .ensures in let u = c .before .before .before .before .before .before .before .before .before .before .before .regulars-used .ensures .0 in let v = venueOf (s .args .b .now) in (m .0 ∙ ap (λ (e : Effect). seen (s .args .out .now) (s .args .at) does e) (enter-law (s .args .o) v _ _ (u ∙ sym (s .pre .1)) (a .0 ∙ ap (λ (k : ℕ). putRegular k (s .args .o) v) (sym u))), record { regulars = m .1 .regulars ∙ a .1 .regulars; complexes = m .1 .complexes ∙ a .1 .complexes })
+returns c = let s = c .before .before .before .before .before .before .before .before .before .before .before .before .before .before .before in let a = c .before .before .before .before .before .before .before .before .before .add-regular .ensures in let m = c .before .before .before .before .meet-all .ensures in let u = c .before .before .before .before .before .before .before .before .before .before .before .regulars-used .ensures .0 in let v = venueOf (s .args .b .now) in (m .0 ∙ ap (λ (e : Effect). seen (s .args .out .now) (s .args .at) does e) (enter-law (s .args .o) v _ _ (u ∙ sym (dense-regular (s .args .b .now) (s .pre .1))) (a .0 ∙ ap (λ (k : ℕ). putRegular k (s .args .o) v) (sym u))), record { regulars = m .1 .regulars ∙ a .1 .regulars; complexes = m .1 .complexes ∙ a .1 .complexes })
 
 pub enter-regular-spec : {M : Type 1} → statement M
 enter-regular-spec =
