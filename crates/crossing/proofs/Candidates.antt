@@ -1,6 +1,6 @@
 -- Who crosses with whom, test by test, and who goes first.
 use mathlib.Core.Path.{_≡_, refl, sym, ap, _∙_}
-use mathlib.Core.Bool.{Bool, true, false, not, _&&_, _||_}
+use mathlib.Core.Bool.{Bool, true, false, not, _&&_}
 use mathlib.Core.List.{List}
 use Prim.Native.Nat.{ℕ, _-_}
 use native.Mathlib.Nat.{sub-zero}
@@ -10,7 +10,7 @@ use lib.IntN.{pos, negℤ, _+ℤ_}
 use lib.Signed.{leZ, ltZ}
 use Rattle.rules.specs.declared.Complex.{Complex}
 use Rattle.rules.specs.declared.Venue.{Venue}
-use Rattle.rules.specs.Base.{if_then_else_, held, Picked, picked, ranked, firstFrom, first}
+use Rattle.rules.specs.Base.{ranked, firstFrom, first}
 use Rattle.rules.specs.Words.{opposite, noComplex, earlierComplex}
 use Rattle.rules.specs.Prices.{inBand}
 use Rattle.rules.specs.Complex.{reversed, crosses, limitThenId}

@@ -1,3 +1,6 @@
 pub mod Scanning
 pub mod Limits
 pub mod Candidates
+pub mod Repeats
+pub mod Turns
+pub mod Touches

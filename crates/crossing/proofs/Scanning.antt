@@ -5,7 +5,7 @@ use mathlib.Core.List.{List, [], _∷_, _++_}
 use Prim.Native.Nat.{ℕ, zero, suc, _-_, _≤_, _<_}
 use native.Mathlib.Omega.{arith}
 use lib.ListN.{replicate}
-use Rattle.rules.specs.Base.{if_then_else_, Picked, nobody, picked, ranked, firstFrom, first}
+use Rattle.rules.specs.Base.{if_then_else_, Picked, nobody, ranked, firstFrom, first}
 use Rattle.places.specs.Layout.{upto, inUse}
 use Rattle.levels.proofs.Scans.{upto-back, upto-end}
 
