@@ -1,0 +1,34 @@
+-- `book::by_price` meets its contract.
+use mathlib.Core.Path.{sym, _∙_}
+use borrow.Author.Tests.{eq-eqb, ne-eqb, lt-ltb, le-ltb, le-leb, lt-leb}
+use Rattle.book.specs.Picks.{byPrice}
+use borrow.Author.Needs.{needs}
+use Rattle.book.proofs.by_price.Statement.{statement}
+use Rattle.book.proofs.by_price.Tie as tie
+
+returns : tie.Need-returns
+unfolding byPrice
+returns c = simp (le-leb _ _ (c .if1 .taken))
+
+is-better-requires : tie.Need-is-better-requires
+is-better-requires c κs = search needs
+
+returns-2 : tie.Need-returns-2
+unfolding byPrice
+returns-2 c = simp (lt-leb _ _ (c .before .before .if1 .left), sym (c .before .is-better .ensures) ∙ c .if2 .taken)
+
+returns-3 : tie.Need-returns-3
+unfolding byPrice
+returns-3 c = simp (lt-leb _ _ (c .before .before .before .before .if1 .left), sym (c .before .before .before .is-better .ensures) ∙ c .before .before .if2 .left, ne-eqb _ _ (c .if3 .taken))
+
+returns-4 : tie.Need-returns-4
+unfolding byPrice
+returns-4 c = simp (lt-leb _ _ (c .before .before .before .before .before .before .if1 .left), sym (c .before .before .before .before .before .is-better .ensures) ∙ c .before .before .before .before .if2 .left, eq-eqb _ _ (c .before .before .if3 .left), lt-ltb _ _ (c .if4 .taken))
+
+returns-5 : tie.Need-returns-5
+unfolding byPrice
+returns-5 c = simp (lt-leb _ _ (c .before .before .before .before .before .before .if1 .left), sym (c .before .before .before .before .before .is-better .ensures) ∙ c .before .before .before .before .if2 .left, eq-eqb _ _ (c .before .before .if3 .left), le-ltb _ _ (c .if4 .left))
+
+pub by-price-spec : {M : Type 1} → statement M
+by-price-spec =
+    tie.close (tie.spec returns is-better-requires returns-2 returns-3 returns-4 returns-5)

@@ -1,0 +1,65 @@
+-- `book::complex_place` meets its contract.
+use mathlib.Core.Path.{_≡_, sym, ap, _∙_}
+use mathlib.Core.Bool.{false}
+use Prim.Native.Nat.{ℕ, _-_, _≤_, _<_}
+use native.Mathlib.Omega.{arith}
+use Rattle.rules.specs.Words.{complexAt, isComplexOf}
+use Rattle.rules.specs.Complex.{restsComplex, complexPlace}
+use Rattle.places.specs.Layout.{complexIn, complexesUsed, venueOf}
+use Rattle.places.proofs.Parts.{complexes-few}
+use Rattle.book.specs.Picks.{complexFound}
+use Rattle.book.proofs.Finding.{foundIn, found-at, found-none, passed-on, complex-free}
+use borrow.Author.Needs.{needs}
+use Rattle.book.proofs.complex_place.Statement.{statement}
+use Rattle.book.proofs.complex_place.Tie as tie
+
+abbrev Inv-loop : tie.InvT-loop
+Inv-loop b id n i₀ i = (i ≤ complexesUsed b) × ((j : ℕ) → j < i → isComplexOf id (complexIn b j) ≡ false)
+
+abbrev μ-loop : tie.MeasureT-loop
+μ-loop b id n i₀ i = complexesUsed b - i
+
+complexes-used-requires : tie.Need-complexes-used-requires Inv-loop μ-loop
+complexes-used-requires c κs = search needs
+
+loop-holds : tie.Need-loop-holds Inv-loop μ-loop
+loop-holds c = (search needs, λ j q. absurd (omega arith))
+
+complex-at-requires : tie.Need-complex-at-requires Inv-loop μ-loop
+complex-at-requires c κs = let w = complexes-few (c .before .before .before .before .args .b .now) in search needs
+
+is-complex-of-requires : tie.Need-is-complex-of-requires Inv-loop μ-loop
+is-complex-of-requires c κs = search needs
+
+returns : tie.Need-returns Inv-loop μ-loop
+unfolding complexFound restsComplex complexPlace complexAt venueOf foundIn
+returns c = let b = c .before .before .before .before .before .before .before .args .b .now in found-at (isComplexOf (c .before .before .before .before .before .before .before .args .id)) _ (complex-free _) (complexIn b) (complexesUsed b) 32 (complexes-few b) _ (omega arith) (ap (λ x. isComplexOf (c .before .before .before .before .before .before .before .args .id) x) (sym (c .before .before .complex-at .ensures)) ∙ sym (c .before .is-complex-of .ensures) ∙ c .if1 .taken) (c .before .before .before .before .loop .inv .1)
+
+add-i : tie.Need-add-i Inv-loop μ-loop
+add-i c = let w = complexes-few (c .before .before .before .before .before .before .before .args .b .now) in search needs
+
+loop-less : tie.Need-loop-less Inv-loop μ-loop
+loop-less c = search needs
+
+loop-again : tie.Need-loop-again Inv-loop μ-loop
+loop-again c = (omega arith, passed-on (isComplexOf (c .before .before .before .before .before .before .before .args .id)) (complexIn (c .before .before .before .before .before .before .before .args .b .now)) _ (c .before .before .before .before .loop .inv .1) (ap (λ x. isComplexOf (c .before .before .before .before .before .before .before .args .id) x) (sym (c .before .before .complex-at .ensures)) ∙ sym (c .before .is-complex-of .ensures) ∙ c .if1 .left))
+
+returns-2 : tie.Need-returns-2 Inv-loop μ-loop
+unfolding complexFound restsComplex complexPlace complexAt venueOf foundIn
+returns-2 c = let b = c .before .before .before .before .args .b .now in found-none (isComplexOf (c .before .before .before .before .args .id)) _ (complex-free _) (complexIn b) (complexesUsed b) 32 (complexes-few b) (λ j q. c .before .loop .inv .1 j (omega arith))
+
+pub complex-place-spec : {M : Type 1} → statement M
+complex-place-spec =
+    tie.close
+    (tie.spec
+    Inv-loop
+    μ-loop
+    complexes-used-requires
+    loop-holds
+    complex-at-requires
+    is-complex-of-requires
+    returns
+    add-i
+    loop-less
+    loop-again
+    returns-2)
