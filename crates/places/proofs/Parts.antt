@@ -1,21 +1,16 @@
 -- What a store into the numbers does to the venue that they stand for: numbers that agree outside of one place make venues that differ there only.
-use mathlib.Core.Path.{_≡_, refl, sym, ap, ap₂, _∙_}
+use mathlib.Core.Path.{_≡_, refl, sym, ap, _∙_}
 use mathlib.Core.Logic.{_≢_, _⊎_, inl, inr}
-use mathlib.Core.List.{List, [], _∷_, _++_}
-use Prim.Native.Nat.{ℕ, zero, suc, _+_, _-_, _*_, _≤_, _<_, _/_, _%_, min}
+use mathlib.Core.List.{List}
+use Prim.Native.Nat.{ℕ, _+_, _*_, _≤_, _<_, min}
 use native.Mathlib.Omega.{arith}
 use native.Mathlib.Decide.{decLt}
-use lib.IntN.{ℤ, pos, _-ℤ_}
-use lib.ListN.{length, getD, set}
-use lib.Seq.{getD-set-same, getD-set-other}
-use Rattle.rules.specs.declared.Regular.{Regular}
-use Rattle.rules.specs.declared.Complex.{Complex}
-use Rattle.rules.specs.declared.Legging.{Legging}
-use Rattle.rules.specs.declared.Listed.{Listed}
+use lib.ListN.{getD, set}
+use lib.Seq.{getD-set-other}
 use Rattle.rules.specs.declared.Venue.{Venue}
 use Rattle.rules.specs.Words.{noRegular, noComplex, noLegging, notListed, regularAt, complexAt, withRegular, withComplex, withLegging, withSeries, withLast}
-use Rattle.places.specs.Layout.{size, upto, inUse, regularsUsed, complexesUsed, regularIn, complexIn, leggingIn, listedIn, venueOf, SameCounts}
-use Rattle.places.proofs.Tables.{upto-same, upto-set, used-same, used-set, used-more, used-at, used-free}
+use Rattle.places.specs.Layout.{inUse, regularsUsed, complexesUsed, regularIn, complexIn, leggingIn, listedIn, venueOf, SameCounts}
+use Rattle.places.proofs.Tables.{upto-same, upto-set, used-same, used-set, used-at, used-free}
 
 -- a and b have the same numbers but for those from low to below high
 pub record Outside (low high : ℕ) (a b : List ℕ) : Type 0 where

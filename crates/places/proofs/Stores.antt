@@ -1,11 +1,10 @@
 -- Each store of the code, as what it does to the venue.
 use mathlib.Core.Path.{_≡_, refl, sym, ap, ap₂, _∙_}
 use mathlib.Core.List.{List, [], _∷_}
-use Prim.Native.Nat.{ℕ, zero, suc, _+_, _-_, _*_, _≤_, _<_, _/_, _%_, min}
+use Prim.Native.Nat.{ℕ, zero, suc, _+_, _-_, _*_, _≤_, _<_, _/_, _%_}
 use native.Mathlib.Omega.{arith}
 use native.Mathlib.Nat.{add-zero}
 use mathlib.Core.Logic.{inl, inr}
-use lib.IntN.{pos, _-ℤ_}
 use lib.ListN.{length, getD, set, length-set}
 use lib.Seq.{sets, getD-set-same, getD-set-other}
 use Rattle.rules.specs.declared.Regular.{Regular}
@@ -13,7 +12,7 @@ use Rattle.rules.specs.declared.Complex.{Complex}
 use Rattle.rules.specs.declared.Legging.{Legging}
 use Rattle.rules.specs.declared.Listed.{Listed}
 use Rattle.rules.specs.declared.Venue.{Venue}
-use Rattle.rules.specs.Words.{placeOf, noRegular, noComplex, regularAt, complexAt, withRegular, withComplex, withLegging, withSeries, withLast}
+use Rattle.rules.specs.Words.{placeOf, noRegular, noComplex, withRegular, withComplex, withLegging, withSeries, withLast}
 use Rattle.rules.specs.Trading.{lessRegular, lessComplex, fillRegular, fillComplex, putRegular, putComplex}
 use Rattle.rules.specs.Generation.{placed}
 use Rattle.places.specs.Layout.{size, inUse, regularsUsed, complexesUsed, regularIn, complexIn, leggingIn, listedIn, venueOf, regularRow, limitNumber, complexRow, Kept, Counts}
@@ -97,7 +96,7 @@ regular-back a i o n h s d =
     rw (e0, e1, e2, e3, f, g) refl
 
 -- the count, read
-counted : (b : List ℕ) (k : ℕ) → getD b 776 0 ≡ k → k ≤ 128 → regularsUsed b ≡ k
+pub counted : (b : List ℕ) (k : ℕ) → getD b 776 0 ≡ k → k ≤ 128 → regularsUsed b ≡ k
 unfolding regularsUsed
 counted b k e h = rw e (omega arith)
 
@@ -168,7 +167,7 @@ added-regular a b n o m h s d p q =
 
 -- A complex order -----------------------------------------------------------------------------
 
-complex-back : (a : List ℕ) (i : ℕ) (c : Complex) → length a ≡ size → i < 32 → c .series1 < 8 → c .side1 < 2 → c .series2 < 8 → c .side2 < 2 → Kept c →
+pub complex-back : (a : List ℕ) (i : ℕ) (c : Complex) → length a ≡ size → i < 32 → c .series1 < 8 → c .side1 < 2 → c .series2 < 8 → c .side2 < 2 → Kept c →
     complexIn (sets a (6 * i + 512) (complexRow c)) i ≡ c
 unfolding complexIn complexRow placeOf
 complex-back a i c n h s1 d1 s2 d2 k =
@@ -187,7 +186,7 @@ complex-back a i c n h s1 d1 s2 d2 k =
     let f3 : c .class % 256 ≡ c .class = omega arith in
     rw (e0, e1, e2, e3, e4, e5, f1, g1, f2, g2, f3, k .limit) refl
 
-counted2 : (b : List ℕ) (k : ℕ) → getD b 777 0 ≡ k → k ≤ 32 → complexesUsed b ≡ k
+pub counted2 : (b : List ℕ) (k : ℕ) → getD b 777 0 ≡ k → k ≤ 32 → complexesUsed b ≡ k
 unfolding complexesUsed
 counted2 b k e h = rw e (omega arith)
 

@@ -5,6 +5,7 @@ use mathlib.Core.List.{List, [], _∷_, _++_}
 use Prim.Native.Nat.{ℕ, zero, suc, _+_, _-_, _≤_, _<_}
 use native.Mathlib.Omega.{arith}
 use native.Mathlib.Decide.{decLt, ℕ-discrete}
+use native.Mathlib.Numerals.{add-one}
 use lib.ListN.{length, getD, set, replicate, length-append, length-replicate, length-set, getD-replicate, List·getD-eq-default, List·getD-append}
 use lib.Seq.{ext-getD, getD-append-add, getD-set-same, getD-set-other}
 use Rattle.places.specs.Layout.{upto, inUse}
@@ -28,6 +29,17 @@ module _ {A : Type 0} where
   unfolding upto
   upto-same f g i zero h = refl
   upto-same f g i (suc k) h = ap₂ (λ (x : A) (l : List A). x ∷ l) (h i (omega arith) (omega arith)) (upto-same f g (suc i) k (λ j p q. h j (omega arith) (omega arith)))
+
+  -- one more
+  upto-from : (f : ℕ → A) (i k : ℕ) → upto f i (suc k) ≡ upto f i k ++ (f (i + k) ∷ [])
+  unfolding upto
+  upto-from f i zero = let e : i ≡ i + 0 = omega arith in ap (λ (j : ℕ). f j ∷ []) e
+  upto-from f i (suc k) =
+      let e : suc i + k ≡ i + suc k = omega arith in
+      ap (λ (l : List A). f i ∷ l) (upto-from f (suc i) k ∙ ap (λ (j : ℕ). upto f (suc i) k ++ (f j ∷ [])) e)
+
+  pub upto-more : (f : ℕ → A) (k : ℕ) → upto f 0 (suc k) ≡ upto f 0 k ++ (f k ∷ [])
+  upto-more f k = let e : 0 + k ≡ k = omega arith in upto-from f 0 k ∙ ap (λ (j : ℕ). upto f 0 k ++ (f j ∷ [])) e
 
   pub used-length : (f : ℕ → A) (d : A) (n all : ℕ) → n ≤ all → length (inUse f d n all) ≡ all
   unfolding inUse
@@ -96,6 +108,13 @@ module _ {A : Type 0} where
               | no q ↦ used-free f d (suc n) all j (omega arith) ∙ sym (getD-set-other (inUse f d n all) n j (f n) d e ∙ used-free f d n all j (omega arith))
             ]
           ]
+
+  -- the same, as a loop stores them
+  pub used-next : (f : ℕ → A) (d : A) (i all : ℕ) (r : List A) (x : A) → i < all → r ≡ inUse f d i all → x ≡ f i → set r i x ≡ inUse f d (i + 1) all
+  used-next f d i all r x h e p = rw (e, p, add-one i) (sym (used-more f d i all h))
+
+  pub used-done : (f : ℕ → A) (d : A) (i n all : ℕ) (r : List A) → i ≡ n → r ≡ inUse f d i all → r ≡ inUse f d n all
+  used-done f d i n all r h e = e ∙ ap (λ (k : ℕ). inUse f d k all) h
 
   -- a table is all in use
   pub whole : (f : ℕ → A) (d : A) (n : ℕ) → inUse f d n n ≡ upto f 0 n

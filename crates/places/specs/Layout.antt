@@ -9,16 +9,18 @@
 --
 -- What stands in regular and complex places that are not in use means nothing.
 use mathlib.Core.Path.{_≡_}
+use mathlib.Core.Bool.{Bool, true, false}
 use mathlib.Core.List.{List, [], _∷_, _++_}
 use Prim.Native.Nat.{ℕ, zero, suc, _+_, _-_, _*_, _/_, _%_, _<_, min}
 use lib.IntN.{ℤ, pos, natAbs, _+ℤ_, _-ℤ_}
-use lib.ListN.{getD, replicate}
+use lib.ListN.{length, getD, replicate}
 use Rattle.rules.specs.declared.Regular.{Regular}
 use Rattle.rules.specs.declared.Complex.{Complex}
 use Rattle.rules.specs.declared.Legging.{Legging}
 use Rattle.rules.specs.declared.Listed.{Listed}
 use Rattle.rules.specs.declared.Venue.{Venue}
-use Rattle.rules.specs.Words.{placeOf, noRegular, noComplex}
+use Rattle.rules.specs.Words.{placeOf, noRegular, noComplex, withRegular, withComplex}
+use Rattle.rules.specs.Places.{holdsRegular, holdsComplex, keep, packed, closeGaps}
 
 -- the slice's length
 abbrev pub size : ℕ
@@ -107,3 +109,84 @@ pub record Counts (r c : ℕ) (b : List ℕ) : Type 0 where
 -- as many as before
 abbrev pub SameCounts : (a b : List ℕ) → Type 0
 SameCounts a b = Counts (regularsUsed a) (complexesUsed a) b
+
+-- Gaps ----------------------------------------------------------------------------------------
+
+-- each of the first n places is held
+abbrev pub Filled : {A : Type 0} → (A → Bool) → (ℕ → A) → ℕ → Type 0
+Filled holds f n = (k : ℕ) → k < n → holds (f k) ≡ true
+
+-- every place in use is held
+pub record Dense (b : List ℕ) : Type 0 where
+  pub regulars : Filled holdsRegular (regularIn b) (regularsUsed b)
+  pub complexes : Filled holdsComplex (complexIn b) (complexesUsed b)
+
+-- one book's gaps closed
+unfoldable pub closeRegulars : Venue → Venue
+closeRegulars v = withRegular v (packed holdsRegular noRegular (v .regular))
+
+unfoldable pub closeComplexes : Venue → Venue
+closeComplexes v = withComplex v (packed holdsComplex noComplex (v .complex))
+
+-- the places that a book's closing leaves in use
+abbrev pub regularsHeld : List ℕ → ℕ
+regularsHeld b = length (keep holdsRegular (venueOf b .regular))
+
+abbrev pub complexesHeld : List ℕ → ℕ
+complexesHeld b = length (keep holdsComplex (venueOf b .complex))
+
+-- from a to b the gaps of one book, or of both, are closed
+pub record RegularsClosed (a b : List ℕ) : Type 0 where
+  pub venue : venueOf b ≡ closeRegulars (venueOf a)
+  pub counts : Counts (regularsHeld a) (complexesUsed a) b
+  pub filled : Filled holdsRegular (regularIn b) (regularsUsed b)
+
+pub record ComplexesClosed (a b : List ℕ) : Type 0 where
+  pub venue : venueOf b ≡ closeComplexes (venueOf a)
+  pub counts : Counts (regularsUsed a) (complexesHeld a) b
+  pub filled : Filled holdsComplex (complexIn b) (complexesUsed b)
+
+pub record GapsClosed (a b : List ℕ) : Type 0 where
+  pub venue : venueOf b ≡ closeGaps (venueOf a)
+  pub counts : Counts (regularsHeld a) (complexesHeld a) b
+  pub dense : Dense b
+
+-- A venue's places, loaded --------------------------------------------------------------------
+
+-- held places first, each as asked, and free places as none
+pub record Placed {A : Type 0} (holds : A → Bool) (none : A) (Asked : A → Type 0) (l : List A) : Type 0 where
+  pub dense : (i j : ℕ) → i < j → holds (getD l j none) ≡ true → holds (getD l i none) ≡ true
+  pub blank : (i : ℕ) → holds (getD l i none) ≡ false → getD l i none ≡ none
+  pub asked : (i : ℕ) → holds (getD l i none) ≡ true → Asked (getD l i none)
+
+-- a series and a side
+pub record OnSide (s d : ℕ) : Type 0 where
+  pub series : s < 8
+  pub side : d < 2
+
+abbrev pub RegularsPlaced : List Regular → Type 0
+RegularsPlaced = Placed holdsRegular noRegular (λ o. OnSide (o .series) (o .side))
+
+abbrev pub ComplexesPlaced : List Complex → Type 0
+ComplexesPlaced = Placed holdsComplex noComplex (λ c. OnSide (c .series1) (c .side1) × OnSide (c .series2) (c .side2))
+
+-- what a load asks of a venue; a sound one has it (proofs/Loaded.antt)
+pub record Loadable (v : Venue) : Type 0 where
+  pub regulars : RegularsPlaced (v .regular)
+  pub complexes : ComplexesPlaced (v .complex)
+
+-- from a to b one book becomes l, and is dense
+pub record RegularsLoaded (a : List ℕ) (l : List Regular) (b : List ℕ) : Type 0 where
+  pub venue : venueOf b ≡ withRegular (venueOf a) l
+  pub complexes : complexesUsed b ≡ complexesUsed a
+  pub filled : Filled holdsRegular (regularIn b) (regularsUsed b)
+
+pub record ComplexesLoaded (a : List ℕ) (l : List Complex) (b : List ℕ) : Type 0 where
+  pub venue : venueOf b ≡ withComplex (venueOf a) l
+  pub regulars : regularsUsed b ≡ regularsUsed a
+  pub filled : Filled holdsComplex (complexIn b) (complexesUsed b)
+
+-- b stands for v, and is dense
+pub record Loaded (v : Venue) (b : List ℕ) : Type 0 where
+  pub venue : venueOf b ≡ v
+  pub dense : Dense b

@@ -5,14 +5,18 @@ ghost use Prim.Native.Nat.{ℕ, suc, min, _+_, _-_, _*_, _≤_, _<_};
 ghost use lib.IntN.{pos, _-ℤ_};
 ghost use lib.ListN.{length, set};
 ghost use lib.Seq.{sets};
-ghost use Rattle.rules.specs.Words.{placeOf, withSeries, withLast};
+ghost use Rattle.rules.specs.Words.{placeOf, withLegging, withSeries, withLast};
 ghost use Rattle.rules.specs.Trading.{fillRegular, fillComplex, putRegular, putComplex};
 ghost use Rattle.rules.specs.Generation.{placed};
+ghost use Rattle.rules.specs.Places.{holdsRegular, holdsComplex};
 ghost use Rattle.places.specs.Layout.{size, regularsUsed, complexesUsed, regularIn, complexIn, leggingIn, listedIn, venueOf, regularRow, limitNumber, complexRow, Kept, Counts, SameCounts};
+ghost use Rattle.places.specs.Layout.{Filled, RegularsClosed, ComplexesClosed, GapsClosed};
+ghost use Rattle.places.specs.Layout.{RegularsPlaced, ComplexesPlaced, Loadable, RegularsLoaded, ComplexesLoaded, Loaded};
 use rules::Complex;
 use rules::Legging;
 use rules::Listed;
 use rules::Regular;
+use rules::Venue;
 
 fn wide(x: u32) -> usize
     ensures { λ r. ⌜ r ≡ x ⌝ }
@@ -244,4 +248,275 @@ pub fn put_last(b: &mut [u32], id: u32)
     ensures counts { λ _. ⌜ SameCounts (now (b .entry)) (now (b .exit)) ⌝ }
 {
     b[778] = id;
+}
+
+// The regular places before the first free one of n.
+fn held_regulars(b: &[u32], n: usize) -> usize
+    requires { ⌜ (length (now b) ≡ size) × (n ≤ 128) ⌝ }
+    ensures { λ r. ⌜ (r ≤ n) × Filled holdsRegular (regularIn (now (b .entry))) r ⌝ }
+{
+    let mut i: usize = 0;
+    while i < n {
+        if b[4 * i + 3] == 0 {
+            return i;
+        }
+        i += 1;
+    }
+    n
+}
+
+// The regular places' gaps are closed. Where there are none, nothing is stored.
+pub fn close_regulars(b: &mut [u32])
+    requires { ⌜ length (now b) ≡ size ⌝ }
+    ensures { λ _. ⌜ RegularsClosed (now (b .entry)) (now (b .exit)) ⌝ }
+{
+    let n = regulars_used(b);
+    let mut j = held_regulars(b, n);
+    if j == n {
+        return;
+    }
+    let mut i = j;
+    while i < n {
+        let o = regular_at(b, i);
+        i += 1;
+        if o.quantity == 0 {
+            continue;
+        }
+        write_regular(b, j, o);
+        j += 1;
+    }
+    b[776] = j as u32;
+}
+
+// The complex places before the first free one of n.
+fn held_complexes(b: &[u32], n: usize) -> usize
+    requires { ⌜ (length (now b) ≡ size) × (n ≤ 32) ⌝ }
+    ensures { λ r. ⌜ (r ≤ n) × Filled holdsComplex (complexIn (now (b .entry))) r ⌝ }
+{
+    let mut i: usize = 0;
+    while i < n {
+        if b[6 * i + 517] == 0 {
+            return i;
+        }
+        i += 1;
+    }
+    n
+}
+
+// The complex places' gaps are closed. Where there are none, nothing is stored.
+pub fn close_complexes(b: &mut [u32])
+    requires { ⌜ length (now b) ≡ size ⌝ }
+    ensures { λ _. ⌜ ComplexesClosed (now (b .entry)) (now (b .exit)) ⌝ }
+{
+    let n = complexes_used(b);
+    let mut j = held_complexes(b, n);
+    if j == n {
+        return;
+    }
+    let mut i = j;
+    while i < n {
+        let o = complex_at(b, i);
+        i += 1;
+        if o.quantity == 0 {
+            continue;
+        }
+        write_complex(b, j, o);
+        j += 1;
+    }
+    b[777] = j as u32;
+}
+
+// All gaps are closed.
+pub fn close_gaps(b: &mut [u32])
+    requires { ⌜ length (now b) ≡ size ⌝ }
+    ensures { λ _. ⌜ GapsClosed (now (b .entry)) (now (b .exit)) ⌝ }
+{
+    close_regulars(b);
+    close_complexes(b);
+}
+
+// The venue anew, part by part ----------------------------------------------------------------
+
+fn regulars_of(b: &[u32]) -> [Regular; 128]
+    requires { ⌜ length (now b) ≡ size ⌝ }
+    ensures { λ r. ⌜ r ≡ venueOf (now (b .entry)) .regular ⌝ }
+{
+    let free = Regular {
+        id: 0,
+        series: 0,
+        side: 0,
+        price: 0,
+        quantity: 0,
+    };
+    let mut r = [free; 128];
+    let n = regulars_used(b);
+    let mut i: usize = 0;
+    while i < n {
+        let x = regular_at(b, i);
+        r[i] = x;
+        i += 1;
+    }
+    r
+}
+
+fn complexes_of(b: &[u32]) -> [Complex; 32]
+    requires { ⌜ length (now b) ≡ size ⌝ }
+    ensures { λ r. ⌜ r ≡ venueOf (now (b .entry)) .complex ⌝ }
+{
+    let free = Complex {
+        id: 0,
+        series1: 0,
+        side1: 0,
+        series2: 0,
+        side2: 0,
+        class: 0,
+        limit: 0,
+        quantity: 0,
+    };
+    let mut r = [free; 32];
+    let n = complexes_used(b);
+    let mut i: usize = 0;
+    while i < n {
+        let x = complex_at(b, i);
+        r[i] = x;
+        i += 1;
+    }
+    r
+}
+
+fn leggings_of(b: &[u32]) -> [Legging; 16]
+    requires { ⌜ length (now b) ≡ size ⌝ }
+    ensures { λ r. ⌜ r ≡ venueOf (now (b .entry)) .legging ⌝ }
+{
+    let free = Legging {
+        parent: 0,
+        price: 0,
+        quantity: 0,
+    };
+    let mut r = [free; 16];
+    let mut i: usize = 0;
+    while i < 16 {
+        let x = legging_at(b, i);
+        r[i] = x;
+        i += 1;
+    }
+    r
+}
+
+fn series_of(b: &[u32]) -> [Listed; 8]
+    requires { ⌜ length (now b) ≡ size ⌝ }
+    ensures { λ r. ⌜ r ≡ venueOf (now (b .entry)) .series ⌝ }
+{
+    let free = Listed {
+        status: 0,
+        bid: 0,
+        offer: 0,
+    };
+    let mut r = [free; 8];
+    let mut i: usize = 0;
+    while i < 8 {
+        let x = listed_at(b, i);
+        r[i] = x;
+        i += 1;
+    }
+    r
+}
+
+// The venue that the numbers stand for.
+pub fn venue_of(b: &[u32]) -> Venue
+    requires { ⌜ length (now b) ≡ size ⌝ }
+    ensures { λ r. ⌜ r ≡ venueOf (now (b .entry)) ⌝ }
+{
+    let regular = regulars_of(b);
+    let complex = complexes_of(b);
+    let legging = leggings_of(b);
+    let series = series_of(b);
+    let last = last_id(b);
+    Venue {
+        regular,
+        complex,
+        legging,
+        series,
+        last,
+    }
+}
+
+// A venue's numbers, part by part -------------------------------------------------------------
+
+// Places are read until the first free one.
+fn load_regulars(b: &mut [u32], l: [Regular; 128])
+    requires { ⌜ (length (now b) ≡ size) × RegularsPlaced l ⌝ }
+    ensures { λ _. ⌜ RegularsLoaded (now (b .entry)) l (now (b .exit)) ⌝ }
+{
+    let mut i: usize = 0;
+    while i < 128 {
+        let o = l[i];
+        if o.quantity == 0 {
+            b[776] = i as u32;
+            return;
+        }
+        write_regular(b, i, o);
+        i += 1;
+    }
+    b[776] = 128;
+}
+
+// Places are read until the first free one.
+fn load_complexes(b: &mut [u32], l: [Complex; 32])
+    requires { ⌜ (length (now b) ≡ size) × ComplexesPlaced l ⌝ }
+    ensures { λ _. ⌜ ComplexesLoaded (now (b .entry)) l (now (b .exit)) ⌝ }
+{
+    let mut i: usize = 0;
+    while i < 32 {
+        let o = l[i];
+        if o.quantity == 0 {
+            b[777] = i as u32;
+            return;
+        }
+        write_complex(b, i, o);
+        i += 1;
+    }
+    b[777] = 32;
+}
+
+fn load_leggings(b: &mut [u32], l: [Legging; 16])
+    requires { ⌜ length (now b) ≡ size ⌝ }
+    ensures { λ _. ⌜ venueOf (now (b .exit)) ≡ withLegging (venueOf (now (b .entry))) l ⌝ }
+    ensures counts { λ _. ⌜ SameCounts (now (b .entry)) (now (b .exit)) ⌝ }
+{
+    let mut i: usize = 0;
+    while i < 16 {
+        let x = l[i];
+        put_legging(b, i, x);
+        i += 1;
+    }
+}
+
+fn load_series(b: &mut [u32], l: [Listed; 8])
+    requires { ⌜ length (now b) ≡ size ⌝ }
+    ensures { λ _. ⌜ venueOf (now (b .exit)) ≡ withSeries (venueOf (now (b .entry))) l ⌝ }
+    ensures counts { λ _. ⌜ SameCounts (now (b .entry)) (now (b .exit)) ⌝ }
+{
+    let mut i: usize = 0;
+    while i < 8 {
+        let x = l[i];
+        put_listed(b, i, x);
+        i += 1;
+    }
+}
+
+// A venue's numbers.
+pub fn load(b: &mut [u32], v: Venue)
+    requires { ⌜ (length (now b) ≡ size) × Loadable v ⌝ }
+    ensures { λ _. ⌜ Loaded v (now (b .exit)) ⌝ }
+{
+    let regular = v.regular;
+    load_regulars(b, regular);
+    let complex = v.complex;
+    load_complexes(b, complex);
+    let legging = v.legging;
+    load_leggings(b, legging);
+    let series = v.series;
+    load_series(b, series);
+    put_last(b, v.last);
 }

@@ -12,7 +12,6 @@ use Rattle.rules.specs.declared.Regular.{Regular}
 use Rattle.rules.specs.declared.Complex.{Complex}
 use Rattle.rules.specs.declared.Legging.{Legging}
 use Rattle.rules.specs.declared.Venue.{Venue}
-use Rattle.rules.specs.declared.Leg.{Leg}
 use Rattle.rules.specs.Base.{if_then_else_, held}
 use Rattle.rules.specs.Words.{noRegular, noComplex, withRegular, withComplex, leggingAt, statusOf, isComplexOf}
 use Rattle.rules.specs.Prices.{betterOf, shown, showsAt, bestIn, sizeIn, bestRegular, bestSize, clearPrice, away, marketBest, taken1, taken2, inBand, showsFor}

@@ -22,7 +22,6 @@ use Rattle.rules.specs.declared.Cause.the-variants.{Replaced}
 use Rattle.rules.proofs.Tests.{and-l, and-r, or-r, if-same}
 use Rattle.rules.proofs.Settling.{free-stands}
 use Rattle.rules.proofs.Verdicts.{Passes, passing}
-use Rattle.rules.specs.declared.Leg.{Leg}
 use Rattle.rules.specs.Base.{if_then_else_, held}
 use Rattle.rules.specs.Words.{within, buy, opposite, signed, increment, noLegging, placeOf, leggingAt, statusOf, withLegging}
 use Rattle.rules.specs.Effects.{_⟫_, report, nothing}

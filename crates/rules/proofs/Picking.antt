@@ -2,10 +2,10 @@
 use mathlib.Core.Path.{_≡_, refl, sym, subst, _∙_}
 use mathlib.Core.Bool.{Bool, true, false, true≢false}
 use mathlib.Core.List.{List, [], _∷_}
-use Prim.Native.Nat.{ℕ, zero, suc, _+_, _-_, _≤_, _<_}
+use Prim.Native.Nat.{ℕ, zero, suc, _+_, _<_}
 use native.Mathlib.Nat.{zero-add}
 use native.Mathlib.Omega.{arith}
-use lib.ListN.{length, getD}
+use lib.ListN.{getD, length, set}
 use Rattle.rules.specs.Base.{if_then_else_, Picked, nobody, picked, ranked, firstFrom, first}
 
 module _ {A : Type 0} (d : A) (candidate : A → Bool) where
@@ -123,3 +123,12 @@ module _ {A : Type 0} (d : A) (candidate : A → Bool) (before : A → A → Boo
       (i : ℕ) → i < length l → candidate (getD l i d) ≡ true → before (getD l i d) a ≡ false
   unfolding Least
   first-least l j a e = (subst (λ (x : Picked A). Least l x) e (least-from 0 l)) .1
+
+-- a place whose old and new element are no candidates is passed over
+module _ {A : Type 0} (d : A) (candidate : A → Bool) (before : A → A → Bool) where
+  pub first-set : (n : ℕ) (l : List A) (i : ℕ) (x : A) → candidate (getD l i d) ≡ false → candidate x ≡ false →
+      firstFrom candidate before n (set l i x) ≡ firstFrom candidate before n l
+  unfolding firstFrom
+  first-set n [] i x a b = refl
+  first-set n (y ∷ l) zero x a b = rw (a, b)
+  first-set n (y ∷ l) (suc i) x a b = rw (first-set (suc n) l i x a b)

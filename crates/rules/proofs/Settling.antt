@@ -15,7 +15,6 @@ use Rattle.rules.specs.declared.Verdict.{Verdict}
 use Rattle.rules.specs.declared.Verdict.the-variants.{Stands, Fails}
 use Rattle.rules.proofs.Verdicts.{passed, passing}
 use Rattle.rules.proofs.Tests.{and-l, if-same}
-use Rattle.rules.specs.declared.Leg.{Leg}
 use Rattle.rules.specs.Base.{if_then_else_, held}
 use Rattle.rules.specs.Words.{opposite, noLegging, placeOf, leggingAt, statusOf, withLegging}
 use Rattle.rules.specs.Prices.{better, bestRegular, bestSize, ownPrice, clearPrice, marketBest, away, taken1, taken2, inBand}

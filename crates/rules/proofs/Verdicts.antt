@@ -11,7 +11,7 @@ use Rattle.rules.specs.declared.Verdict.{Verdict}
 use Rattle.rules.specs.declared.Verdict.the-variants.{Stands, Fails}
 use Rattle.rules.specs.Base.{if_then_else_}
 use Rattle.rules.specs.Prices.{inBand}
-use Rattle.rules.specs.Standing.{otherLeg, bothOpen, shownWell, pairs, verdictOf}
+use Rattle.rules.specs.Standing.{bothOpen, shownWell, pairs, verdictOf}
 
 pub record Passes (v : Venue) (c : Complex) (s d : ℕ) (l : Legging) : Type 0 where
   pub shown : shownWell v s d (l .price) ≡ true

@@ -50,7 +50,8 @@ givesWay v c d p l =
     better d p (ownPrice l)
     || (eqb p (ownPrice l) && eqb (c .class) customer && eqb (parentOf v l .class) otherClass)
 
--- "no other standing order would then fail its test": of the legging orders from place n on, but the one at place m, each passes in w; (C)(2)(vi)
+-- "no other standing order would then fail its test": of the legging orders from place n on, but the one at place m, each passes in w.
+-- (C)(2)(vi) bars a generation that would cause removals under (C)(4)(ix); 01 bars any that makes a standing order fail its test.
 unfoldable pub othersStand : (w : Venue) (m n : ℕ) → List Legging → Bool
 othersStand w m n [] = true
 othersStand w m n (l ∷ ls) = (eqb n m || stands (verdict w n l)) && othersStand w m (suc n) ls

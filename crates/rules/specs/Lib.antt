@@ -17,5 +17,7 @@ pub mod Refusals
 pub mod Step
 pub mod Sound
 pub mod Calls
+pub mod Sums
+pub mod Lengths
 pub mod Opened
 pub mod Trials

@@ -2,16 +2,15 @@
 use mathlib.Core.Bool.{Bool, not, _&&_, _||_}
 use Prim.Native.Nat.{ℕ, min}
 use lib.Dec.{eqb}
-use lib.IntN.{pos, _+ℤ_}
 use Rattle.rules.specs.declared.Regular.{Regular}
 use Rattle.rules.specs.declared.Legging.{Legging}
 use Rattle.rules.specs.declared.Venue.{Venue}
 use Rattle.rules.specs.Base.{if_then_else_, held, placeWhere, Picked, nobody, picked, first}
-use Rattle.rules.specs.Words.{opposite, signed, regularAt, leggingAt, isComplexOf, earlier}
+use Rattle.rules.specs.Words.{opposite, regularAt, leggingAt, isComplexOf, earlier}
 use Rattle.rules.specs.Prices.{better, restsAt, reaches, ownPrice}
 use Rattle.rules.specs.Records.{trade}
 use Rattle.rules.specs.Effects.{Effect, report, _⟫_, Turn, ended, turned, repeat}
-use Rattle.rules.specs.Standing.{otherLeg, otherClear, parentOf, settle}
+use Rattle.rules.specs.Standing.{otherLeg, otherClear, legNet, parentOf, settle}
 use Rattle.rules.specs.Trading.{fillRegular, freeRegular, putRegular, tradeWith, take, pairOff}
 
 -- Who is met ----------------------------------------------------------------------------------
@@ -50,7 +49,7 @@ hit i l k v =
     let c = parentOf v l in
     let leg = otherLeg c (o .series) in
     let clear = otherClear v c (o .series) in
-    let n = signed (opposite (o .side)) (pos (l .price)) +ℤ signed (leg .side) (pos clear) in
+    let n = legNet c (o .series) (opposite (o .side)) (l .price) clear in
     report (trade (o .series) (o .side) (l .price) k (o .id) (c .id)) (fillRegular i k v)
     ⟫ take k (c .id) (leg .series) (leg .side) clear k
     ⟫ (λ w. pairOff (placeWhere (isComplexOf (c .id)) (w .complex)) (c .id) n k w)

@@ -82,7 +82,7 @@ clearPrice v s d =
     let best = bestRegular v s d in
     if better d (ownPrice (leggingAt v s d)) best then 0 else best
 
--- "Displayed price of a legging order: its own, down (buy) or up (sell) to the increment"; (C)(2), last part
+-- "Displayed price of a legging order: its own, down (buy) or up (sell) to the increment"; (C)(2): "rounded to the nearest minimum increment", and which way by the filing's Item 3
 unfoldable pub displayed : (increment side price : ℕ) → ℕ
 displayed i d p = if eqb d buy then p / i * i else (p + (i - 1)) / i * i
 

@@ -27,7 +27,8 @@ unfoldable pub listedInRange : Listed → Bool
 listedInRange x = isStatus (x .status) && isAway (x .bid) && isAway (x .offer)
 
 -- "each legging order matches an open parent leg, is no larger than what its parent has open, and passes its test";
--- its fields in range; and a free legging place is all zero
+-- its fields in range; and a free legging place is all zero.
+-- Where no parent rests, `parentOf` is the empty order, which has nothing open.
 unfoldable pub leggingSound : Venue → (place : ℕ) → Legging → Bool
 leggingSound v n l =
     if held (l .quantity)

@@ -1,5 +1,5 @@
 -- Numbers read from bytes: past the end, and from a part.
-use mathlib.Core.Path.{_≡_, ap₂, _∙_, ap}
+use mathlib.Core.Path.{_≡_, sym, ap, ap₂, _∙_}
 use mathlib.Core.List.{List}
 use Prim.Native.Nat.{ℕ, _+_, _*_, _≤_}
 use native.Mathlib.Omega.{arith}
@@ -36,3 +36,10 @@ unfolding u32At
 u32-drop n s i =
     let e : n + (i + 2) ≡ n + i + 2 = omega arith in
     ap₂ (λ (a b : ℕ). a + 65536 * b) (u16-drop n s i) (u16-drop n s (i + 2) ∙ ap (u16At s) e)
+
+-- what stands at a position is at the front of the bytes from there on
+pub u16-here : (n : ℕ) (s : List ℕ) → u16At s n ≡ u16At (drop n s) 0
+u16-here n s = let e : n + 0 ≡ n = omega arith in sym (u16-drop n s 0 ∙ ap (u16At s) e)
+
+pub u32-here : (n : ℕ) (s : List ℕ) → u32At s n ≡ u32At (drop n s) 0
+u32-here n s = let e : n + 0 ≡ n = omega arith in sym (u32-drop n s 0 ∙ ap (u32At s) e)

@@ -5,15 +5,18 @@ use mathlib.Core.List.{List, [], _∷_, _++_, append-assoc}
 use Prim.Native.Nat.{ℕ, zero, suc, _+_, _-_, _≤_, _<_, min}
 use native.Mathlib.Omega.{arith}
 use lib.Dec.{eqb, leb, ltb}
+use lib.IntN.{ℤ}
 use lib.ListN.{length, getD, drop, replicate, length-append, length-replicate, drop-of-length-le}
 use lib.Seq.{drop-append-seam, drop-drop}
 use borrow.Author.Tests.{ne-eqb, eqb-true, eqb-false, leb-true, leb-false, ltb-true, ltb-false}
-use Rattle.rules.specs.Bytes.{u8At, u16At, u32At, asUnsigned, lengthField, kindField, bytes, framed}
-use Rattle.rules.specs.Records.{Report, answer, trade, pair, generated, removed, crossed, cancelled, causeNumber, encode, encodeAll, sheet, recordOf, recordsFrom, records, Fits, Each}
+use Rattle.rules.specs.Bytes.{u8At, u16At, u32At, asSigned, asUnsigned, lengthField, kindField, bytes, u16, u32, i32, framed}
+use Rattle.rules.specs.Records.{Report, answer, trade, pair, generated, removed, crossed, cancelled, causeNumber, encode, encodeAll, sheet, recordOf, recordsFrom, records, U16, U32, I32, Fits, Each}
 use Rattle.wire.specs.declared.Next.{Next}
 use Rattle.wire.specs.declared.Next.the-variants.{Found, End}
 use Rattle.wire.specs.Next.{nextRecord, recordsAt}
-use Rattle.wire.proofs.Numbers.{u16-past, u16-drop}
+use Rattle.wire.specs.Seen.{Seen, seen, pasted, _plus_}
+use Rattle.wire.proofs.Numbers.{u16-past, u16-drop, u16-here, u32-here}
+use Rattle.wire.proofs.Writes.{plus-in, pasted-from}
 use Rattle.wire.proofs.Fields.{byte, half, word, signed-back, signed-small, cause-back, cause-small}
 
 -- Records -------------------------------------------------------------------------------------
@@ -53,6 +56,29 @@ some-length (generated i s d p x q) = omega arith
 some-length (removed i s d c) = omega arith
 some-length (crossed t m n q) = omega arith
 some-length (cancelled i q) = omega arith
+
+-- Read after write ---------------------------------------------------------------------------
+
+module _ (l : List ℕ) (at : ℕ) where
+  pub u16-read : (x : ℕ) → U16 x → at + 2 ≤ length l → u16At (pasted l at (u16 x)) at ≡ x
+  unfolding bytes u16At u8At
+  u16-read x h f =
+      u16-here at (pasted l at (u16 x)) ∙ ap (λ (m : List ℕ). u16At m 0) (pasted-from l (u16 x) at (omega arith)) ∙ half x h
+
+  pub u32-read : (x : ℕ) → U32 x → at + 4 ≤ length l → u32At (pasted l at (u32 x)) at ≡ x
+  unfolding bytes u32At u16At u8At
+  u32-read x h f =
+      u32-here at (pasted l at (u32 x)) ∙ ap (λ (m : List ℕ). u32At m 0) (pasted-from l (u32 x) at (omega arith)) ∙ word x h
+
+  pub i32-read : (z : ℤ) → I32 z → at + 4 ≤ length l → asSigned (u32At (pasted l at (i32 z)) at) ≡ z
+  i32-read z h f = ap asSigned (u32-read (asUnsigned z) (signed-small z h) f) ∙ signed-back z h
+
+  pub record-read : (r : Report) → Fits r → at + length (encode r) ≤ length l → recordOf (drop at ((seen l at plus encode r) .memory)) ≡ r
+  unfolding seen
+  record-read r h f =
+      ap (λ (w : Seen). recordOf (drop at (w .memory))) (plus-in l (encode r) at f)
+      ∙ ap recordOf (pasted-from l (encode r) at (omega arith))
+      ∙ record-back r h (drop (at + length (encode r)) l)
 
 -- Sheets --------------------------------------------------------------------------------------
 
@@ -121,7 +147,7 @@ module _ (m : List ℕ) (at : ℕ) where
 
   front-length : lengthField (drop at m) ≡ u16At m at
   unfolding lengthField
-  front-length = let e : at + 0 ≡ at = omega arith in u16-drop at m 0 ∙ ap (u16At m) e
+  front-length = sym (u16-here at m)
 
   -- the sheet ends here
   ends-at : u16At m at ≡ 0 → (fuel : ℕ) → recordsFrom fuel (drop at m) ≡ []

@@ -2,16 +2,17 @@
 use mathlib.Core.Path.{_≡_, refl, sym, ap, ap₂, _∙_}
 use mathlib.Core.Bool.{Bool, true, false}
 use mathlib.Core.List.{List, [], _∷_, _++_, append-assoc, append-nil}
-use Prim.Native.Nat.{ℕ, suc, _+_, _-_, _≤_, _<_}
+use Prim.Native.Nat.{ℕ, suc, _+_, _-_, _*_, _≤_, _<_}
 use native.Mathlib.Omega.{arith}
+use native.Mathlib.Numerals.{add-one}
 use lib.Dec.{leb}
-use lib.ListN.{length, take, drop, replicate, length-append, length-drop, length-replicate, drop-of-length-le, take-append-drop}
-use lib.Seq.{paste, take-length, take-all, length-take-le, take-at, drop-at, drop-drop, take-append-add, drop-append-add}
+use lib.ListN.{length, getD, take, drop, replicate, length-append, length-drop, length-replicate, drop-of-length-le, take-append-drop}
+use lib.Seq.{paste, take-suc, take-length, take-all, length-take-le, take-take, take-at, drop-at, drop-drop, take-append-add, drop-append-add}
 use borrow.Author.Tests.{le-leb, lt-leb, leb-true, leb-false}
 use borrow.Rule.Slice.PartMut.{putMid}
-use Rattle.rules.specs.Bytes.{framed, bytes}
+use Rattle.rules.specs.Bytes.{u32, framed, bytes}
 use Rattle.rules.specs.Records.{Report, answer, encode, encodeAll, sheet}
-use Rattle.wire.specs.Seen.{Seen, seen, pasted, _plus_, _writes_}
+use Rattle.wire.specs.Seen.{Seen, seen, pasted, wordBytes, _plus_, _writes_}
 
 -- One write -----------------------------------------------------------------------------------
 
@@ -96,6 +97,88 @@ pasted-pasted l a b at h =
         ∙ drop-drop (length b) (at + length a) l
         ∙ ap (λ (n : ℕ). drop n l) ends
 
+-- Bytes and then numbers of four bytes, as one write ------------------------------------------
+
+words-length : (ws : List ℕ) → length (wordBytes ws) ≡ 4 * length ws
+unfolding wordBytes bytes
+words-length [] = refl
+words-length (x ∷ ws) = let e = words-length ws in omega arith
+
+words-append : (a b : List ℕ) → wordBytes (a ++ b) ≡ wordBytes a ++ wordBytes b
+unfolding wordBytes
+words-append [] b = refl
+words-append (x ∷ a) b = ap (λ (y : List ℕ). u32 x ++ y) (words-append a b) ∙ sym (append-assoc (u32 x) (wordBytes a) (wordBytes b))
+
+-- i of the words stand from `at` on
+pub record Laid (l : List ℕ) (at : ℕ) (words out : List ℕ) (i : ℕ) : Type 0 where
+  pub some-words : i ≤ length words
+  pub memory-is : out ≡ pasted l at (wordBytes (take i words))
+
+pub laid-start : (l words : List ℕ) (at : ℕ) → Laid l at words l 0
+unfolding wordBytes
+laid-start l words at = record { some-words = omega arith; memory-is = sym (pasted-nil l at) }
+
+module _ (l words : List ℕ) (at : ℕ) (fits : at + 4 * length words ≤ length l) (out : List ℕ) (i : ℕ) (laid : Laid l at words out i) where
+  laid-length : length (wordBytes (take i words)) ≡ 4 * i
+  laid-length = words-length (take i words) ∙ ap (λ (k : ℕ). 4 * k) (length-take-le i words (laid .some-words))
+
+  pub laid-room : length out ≡ length l
+  laid-room =
+      let h = laid .some-words in
+      ap length (laid .memory-is) ∙ pasted-length l (wordBytes (take i words)) at (omega (arith, fits, laid-length))
+
+  -- one more
+  pub laid-next : (m : List ℕ) → i < length words → m ≡ pasted out (at + 4 * i) (u32 (getD words i 0)) → Laid l at words m (i + 1)
+  unfolding wordBytes
+  laid-next m h e =
+      let a : List ℕ = wordBytes (take i words) in
+      let b : List ℕ = u32 (getD words i 0) in
+      let n : length a ≡ 4 * i = laid-length in
+      let p : at + 4 * i ≡ at + length a = omega arith in
+      let t : take (i + 1) words ≡ take i words ++ (getD words i 0 ∷ []) = rw add-one (take-suc words i 0 h) in
+      let w : wordBytes (take (i + 1) words) ≡ a ++ b =
+      ap wordBytes t ∙ words-append (take i words) (getD words i 0 ∷ []) ∙ ap (λ (y : List ℕ). a ++ y) (append-nil b) in
+      record {
+        some-words = omega arith;
+        memory-is =
+            e ∙ ap₂ (λ (x : List ℕ) (k : ℕ). pasted x k b) (laid .memory-is) p ∙ pasted-pasted l a b at (omega (arith, fits))
+            ∙ ap (pasted l at) (sym w);
+      }
+
+  -- all of them
+  pub laid-end : length words ≤ i → out ≡ pasted l at (wordBytes words)
+  laid-end h = laid .memory-is ∙ ap (λ (x : List ℕ). pasted l at (wordBytes x)) (take-all i words h)
+
+module _ (l head words : List ℕ) (at : ℕ) where
+  both-length : length (head ++ wordBytes words) ≡ length head + 4 * length words
+  both-length = length-append head (wordBytes words) ∙ ap (λ (k : ℕ). length head + k) (words-length words)
+
+  -- a head and words after it
+  pub head-words : (m o : List ℕ) (pos : ℕ) → at + length head + 4 * length words ≤ length l → seen m pos ≡ seen l at plus head →
+      o ≡ pasted m pos (wordBytes words) → seen o (pos + 4 * length words) ≡ seen l at plus (head ++ wordBytes words)
+  unfolding seen
+  head-words m o pos fits e q =
+      let s : seen m pos ≡ seen (pasted l at head) (at + length head) = e ∙ plus-in l head at (omega arith) in
+      let z : pos ≡ at + length head = ap (λ (w : Seen). w .at) s in
+      let n : pos + 4 * length words ≡ at + length (head ++ wordBytes words) = omega (arith, both-length) in
+      ap₂ seen (q ∙ ap₂ (λ (x : List ℕ) (k : ℕ). pasted x k (wordBytes words)) (ap (λ (w : Seen). w .memory) s) z
+      ∙ pasted-pasted l head (wordBytes words) at (omega arith)) n
+      ∙ sym (plus-in l (head ++ wordBytes words) at (omega (arith, both-length)))
+
+  -- there is room for the words after the head
+  pub head-room : (m : List ℕ) (pos : ℕ) → at + length head + 4 * length words ≤ length l → seen m pos ≡ seen l at plus head →
+      pos + 4 * length words ≤ length m
+  unfolding seen
+  head-room m pos fits e =
+      let s : seen m pos ≡ seen (pasted l at head) (at + length head) = e ∙ plus-in l head at (omega arith) in
+      let z : pos ≡ at + length head = ap (λ (w : Seen). w .at) s in
+      let y : length m ≡ length l = ap (λ (w : Seen). length (w .memory)) s ∙ pasted-length l head at (omega arith) in
+      omega arith
+
+  -- they do not fit
+  pub words-out : length l < at + length head + 4 * length words → seen l (suc (length l)) ≡ seen l at plus (head ++ wordBytes words)
+  words-out h = sym (plus-out l (head ++ wordBytes words) at (omega (arith, both-length)))
+
 -- Any number of writes ------------------------------------------------------------------------
 
 pub writes-nil : (w : Seen) → w writes [] ≡ w
@@ -177,6 +260,55 @@ writes-out l at (r ∷ rs) h = go (leb (at + length a) (length l)) refl (λ k. w
         ap (λ (w : Seen). (w writes rs) .at) (plus-out l a at (leb-false _ _ e)) ∙ ap (λ (w : Seen). w .at) (stuck l rs) in
         omega arith
 
+-- a position is never more than one past the end, if it was not at first; so one that is past the end is known
+plus-most : (w : Seen) (bs : List ℕ) → (w plus bs) .at ≤ suc (length (w .memory))
+unfolding seen
+plus-most w bs = go (leb (w .at + length bs) (length (w .memory))) refl
+  where
+    go : (t : Bool) → leb (w .at + length bs) (length (w .memory)) ≡ t → (w plus bs) .at ≤ suc (length (w .memory))
+    go true e =
+        let h = leb-true (w .at + length bs) (length (w .memory)) e in
+        let z : (w plus bs) .at ≡ w .at + length bs = ap (λ (x : Seen). x .at) (plus-in (w .memory) bs (w .at) h) in
+        omega arith
+    go false e =
+        let z : (w plus bs) .at ≡ suc (length (w .memory)) = ap (λ (x : Seen). x .at) (plus-out (w .memory) bs (w .at) (leb-false _ _ e)) in
+        omega arith
+
+pub writes-most : (w : Seen) (rs : List Report) → w .at ≤ suc (length (w .memory)) → (w writes rs) .at ≤ suc (length (w .memory))
+unfolding _writes_
+writes-most w [] h = h
+writes-most w (r ∷ rs) h =
+    let e = plus-room w (encode r) in
+    let p = plus-most w (encode r) in
+    let i = writes-most (w plus encode r) rs (omega arith) in
+    omega arith
+
+-- the bytes before the position are kept, whether the records fit or not
+pub writes-below : (l : List ℕ) (at : ℕ) (rs : List Report) (k : ℕ) → k ≤ at → k ≤ length l → take k ((seen l at writes rs) .memory) ≡ take k l
+unfolding seen _writes_
+writes-below l at [] k h i = refl
+writes-below l at (r ∷ rs) k h i =
+    go (leb (at + length a) (length l)) refl
+    (λ f. writes-below (pasted l at a) (at + length a) rs k (omega arith) (rw (pasted-length l a at f) i))
+  where
+    a : List ℕ
+    a = encode r
+
+    -- by one record that fits
+    one : at + length a ≤ length l → take k (pasted l at a) ≡ take k l
+    one f =
+        let j : at ≤ length l = omega arith in
+        sym (take-take k at (pasted l at a) h) ∙ ap (take k) (pasted-below l a at j) ∙ take-take k at l h
+
+    go : (t : Bool) → leb (at + length a) (length l) ≡ t →
+        (at + length a ≤ length l → take k ((seen (pasted l at a) (at + length a) writes rs) .memory) ≡ take k (pasted l at a)) →
+        take k (((seen l at plus a) writes rs) .memory) ≡ take k l
+    go true e rest =
+        let f : at + length a ≤ length l = leb-true _ _ e in
+        ap (λ (w : Seen). take k ((w writes rs) .memory)) (plus-in l a at f) ∙ rest f ∙ one f
+    go false e rest =
+        ap (λ (w : Seen). take k ((w writes rs) .memory)) (plus-out l a at (leb-false _ _ e)) ∙ ap (λ (w : Seen). take k (w .memory)) (stuck l rs)
+
 -- What an equation of writers says of the bytes -----------------------------------------------
 
 -- the records were written: they fit, and nothing else changed
@@ -197,6 +329,10 @@ module _ (l m : List ℕ) (at end : ℕ) (rs : List Report) (e : seen m end ≡ 
   pub seen-room : length m ≡ length l
   unfolding seen
   seen-room = ap length same-memory ∙ writes-room (seen l at) rs
+
+  pub end-most : at ≤ suc (length l) → end ≤ suc (length l)
+  unfolding seen
+  end-most h = let i = writes-most (seen l at) rs h in let z = same-at in omega arith
 
   pub wrote : end ≤ length l → Wrote l at rs m end
   unfolding seen
@@ -224,16 +360,17 @@ module _ (l m : List ℕ) (at end : ℕ) (rs : List Report) (e : seen m end ≡ 
           absurd (omega arith)
       go false b = leb-false _ _ b
 
--- records written from the start of a slice, and zeros after them, are its sheet
-pub sheet-left : (l m : List ℕ) (end : ℕ) (rs : List Report) → seen m end ≡ seen l 0 writes rs → end ≤ length l →
-    take end m ++ replicate (length m - end) 0 ≡ sheet (length l) rs
+-- Records written from the start of a slice, and zeros after them, are its sheet; also if what stands after them (in o) has changed since,
+-- as where a later message's records did not fit.
+pub sheet-left : (l m o : List ℕ) (end : ℕ) (rs : List Report) → seen m end ≡ seen l 0 writes rs → end ≤ length l →
+    length o ≡ length m → take end o ≡ take end m → take end o ++ replicate (length o - end) 0 ≡ sheet (length l) rs
 unfolding sheet
-sheet-left l m end rs e h =
+sheet-left l m o end rs e h k t =
     let w = wrote l m 0 end rs e h in
     let bs : List ℕ = encodeAll rs in
-    let f : take end m ≡ bs = ap₂ take (w .end-is) (w .memory-is) ∙ pasted-to l bs 0 (omega arith) in
-    let n : length m - end ≡ length l - length bs = (let r = seen-room l m 0 end rs e in let k = w .end-is in omega arith) in
-    ap₂ (λ (x : List ℕ) (k : ℕ). x ++ replicate k 0) f n
+    let f : take end o ≡ bs = t ∙ ap₂ take (w .end-is) (w .memory-is) ∙ pasted-to l bs 0 (omega arith) in
+    let n : length o - end ≡ length l - length bs = (let r = seen-room l m 0 end rs e in let q = w .end-is in omega arith) in
+    ap₂ (λ (x : List ℕ) (j : ℕ). x ++ replicate j 0) f n
 
 -- A part of a slice ---------------------------------------------------------------------------
 
@@ -291,6 +428,16 @@ pub tail-back : (l ys : List ℕ) (a : ℕ) → putMid a (length l - a) l ys ≡
 tail-back l ys a =
     ap (λ (x : List ℕ). take a l ++ (ys ++ x)) (drop-of-length-le (drop a l) {i = length l - a} (rw length-drop (omega arith)))
     ∙ ap (λ (x : List ℕ). take a l ++ x) (append-nil ys)
+
+-- what stands before it is as it was, and then comes what was written to it
+pub tail-front : (l ys : List ℕ) (a : ℕ) → a ≤ length l → take a (putMid a (length l - a) l ys) ≡ take a l
+tail-front l ys a h = ap (take a) (tail-back l ys a) ∙ take-at (take a l) ys a (length-take-le a l h)
+
+pub tail-more : (l ys : List ℕ) (a w : ℕ) → a ≤ length l → take (a + w) (putMid a (length l - a) l ys) ≡ take a l ++ take w ys
+tail-more l ys a w h =
+    ap (take (a + w)) (tail-back l ys a)
+    ∙ ap (λ (k : ℕ). take (k + w) (take a l ++ ys)) (sym (length-take-le a l h))
+    ∙ take-append-add (take a l) ys w
 
 -- records written from the start of the tail are records written to the whole from a on
 pub tail-writes : (l ys : List ℕ) (a w : ℕ) (rs : List Report) → a ≤ length l →
@@ -357,13 +504,14 @@ pub answer-length : (a b c d : ℕ) → length (encode (answer a b c d)) ≡ 12
 unfolding encode framed bytes
 answer-length a b c d = refl
 
--- an answer and records after it, and then the answer set anew (o is what `set_answer` leaves of m)
-pub answer-last : (l m o : List ℕ) (at end a b c d x y z u : ℕ) (rs : List Report) → seen m end ≡ seen l at writes (answer a b c d ∷ rs) →
-    o ≡ (seen m at writes (answer x y z u ∷ [])) .memory → seen o end ≡ seen l at writes (answer x y z u ∷ rs)
+-- an answer written first, records after it, and then the answer set anew: the hypotheses are what these three ensure
+pub answer-last : (l k m o : List ℕ) (at i end a b c d x y z u : ℕ) (rs : List Report) → seen k i ≡ seen l at writes (answer a b c d ∷ []) →
+    seen m end ≡ seen k i writes rs → o ≡ (seen m at writes (answer x y z u ∷ [])) .memory → seen o end ≡ seen l at writes (answer x y z u ∷ rs)
 unfolding _writes_
-answer-last l m o at end a b c d x y z u rs e q =
-    ap (λ (k : List ℕ). seen k end) q
-    ∙ reset l m (encode (answer a b c d)) (encode (answer x y z u)) at end rs (answer-length a b c d ∙ sym (answer-length x y z u)) e
+answer-last l k m o at i end a b c d x y z u rs p e q =
+    ap (λ (n : List ℕ). seen n end) q
+    ∙ reset l m (encode (answer a b c d)) (encode (answer x y z u)) at end rs (answer-length a b c d ∙ sym (answer-length x y z u))
+    (e ∙ ap (λ (w : Seen). w writes rs) p)
 
 -- Zeros ---------------------------------------------------------------------------------------
 

@@ -4,6 +4,7 @@ use Prim.Native.Nat.{ℕ, suc, _+_}
 use lib.Dec.{leb}
 use lib.ListN.{length, take, drop}
 use Rattle.rules.specs.Base.{if_then_else_}
+use Rattle.rules.specs.Bytes.{u32}
 use Rattle.rules.specs.Records.{Report, encode}
 
 -- every byte of the slice, and the position; a position past the end says that something did not fit
@@ -17,6 +18,11 @@ seen l at = record { memory = l; at = at }
 -- l with bs in the place of the bytes from `at` on
 unfoldable pub pasted : List ℕ → ℕ → List ℕ → List ℕ
 pasted l at bs = take at l ++ bs ++ drop (at + length bs) l
+
+-- the bytes of each of some u32s
+unfoldable pub wordBytes : List ℕ → List ℕ
+wordBytes [] = []
+wordBytes (x ∷ xs) = u32 x ++ wordBytes xs
 
 -- bs, written at the position where they fit; where not, no byte is written and the position is past the end, for good
 infixl 6 _plus_

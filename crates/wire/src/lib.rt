@@ -6,15 +6,15 @@ use rules::Message;
 use rules::Regular;
 ghost use mathlib.Core.Path.{_≡_};
 ghost use mathlib.Core.List.{List, [], _∷_, _++_};
-ghost use Prim.Native.Nat.{_+_, _-_, _≤_, _<_};
+ghost use Prim.Native.Nat.{_+_, _-_, _*_, _≤_, _<_};
 ghost use lib.ListN.{length, take, drop, replicate};
 ghost use Rattle.rules.specs.declared.Message.the-variants.{Away, Status};
 ghost use Rattle.rules.specs.Words.{increment, isRegularPrice, isQuantity, isLimit};
-ghost use Rattle.rules.specs.Bytes.{u8At, u16At, u32At, asSigned, bytes, asUnsigned};
+ghost use Rattle.rules.specs.Bytes.{u8At, u16At, u32At, asSigned, bytes, i32};
 ghost use Rattle.rules.specs.Messages.{lengthOf, orderAt, twoLegAt, messageOf};
 ghost use Rattle.rules.specs.Refusals.{regularInRange, complexInRange, inRange, decoded};
 ghost use Rattle.rules.specs.Records.{answer, trade, pair, generated, removed, crossed, cancelled, causeNumber};
-ghost use Rattle.wire.specs.Seen.{seen, _plus_, _writes_};
+ghost use Rattle.wire.specs.Seen.{seen, pasted, wordBytes, _plus_, _writes_};
 ghost use Rattle.wire.specs.Next.{nextRecord};
 
 // Reading -------------------------------------------------------------------------------------
@@ -301,7 +301,7 @@ pub fn decode(s: &[u8]) -> Decoded
 // Writing -------------------------------------------------------------------------------------
 
 // The bytes of `src` at `at`, and the position after them. Where they do not fit nothing is written, and the position is past the end.
-pub fn put(out: &mut [u8], at: usize, src: &[u8]) -> usize
+fn put(out: &mut [u8], at: usize, src: &[u8]) -> usize
     ensures { λ r. ⌜ seen (now (out .exit)) r ≡ seen (now (out .entry)) at plus now (src .entry) ⌝ }
 {
     let n = out.len();
@@ -326,7 +326,7 @@ fn bytes2(x: u16) -> [u8; 2]
     [(x % 256) as u8, (x / 256 % 256) as u8]
 }
 
-fn bytes4(x: u64) -> [u8; 4]
+fn bytes4(x: u32) -> [u8; 4]
     ensures { λ r. ⌜ r ≡ bytes 4 x ⌝ }
 {
     [
@@ -337,18 +337,59 @@ fn bytes4(x: u64) -> [u8; 4]
     ]
 }
 
-// The number whose low 32 bits are those of `x` in two's complement (0 below -2^32, as the definition has it).
-fn unsigned(x: i64) -> u64
-    ensures { λ r. ⌜ r ≡ asUnsigned x ⌝ }
+// A number's four bytes in the place of those at `at`.
+fn store4(out: &mut [u8], at: usize, x: u32)
+    requires { ⌜ at + 4 ≤ length (now out) ⌝ }
+    ensures { λ _. ⌜ now (out .exit) ≡ pasted (now (out .entry)) at (bytes 4 x) ⌝ }
+{
+    out[at] = (x % 256) as u8;
+    out[at + 1] = (x / 256 % 256) as u8;
+    out[at + 2] = (x / 256 / 256 % 256) as u8;
+    out[at + 3] = (x / 256 / 256 / 256 % 256) as u8;
+}
+
+// The bytes of each of `words`, four each, in the place of those from `at` on.
+fn store_words(out: &mut [u8], at: usize, words: &[u32])
+    requires { ⌜ at + 4 * length (now words) ≤ length (now out) ⌝ }
+    ensures { λ _. ⌜ now (out .exit) ≡ pasted (now (out .entry)) at (wordBytes (now (words .entry))) ⌝ }
+{
+    let mut i = 0;
+    while i < words.len() {
+        store4(out, at + 4 * i, words[i]);
+        i += 1;
+    }
+}
+
+// The bytes of `head` and then those of each of `words`, as one write.
+fn put_words(out: &mut [u8], at: usize, head: &[u8], words: &[u32]) -> usize
+    requires { ⌜ (length (now head) ≤ 16) × (length (now words) ≤ 4) ⌝ }
+    ensures { λ r. ⌜ seen (now (out .exit)) r ≡ seen (now (out .entry)) at plus (now (head .entry) ++ wordBytes (now (words .entry))) ⌝ }
+{
+    let n = out.len();
+    if n < at {
+        return n + 1;
+    }
+    if n - at < head.len() + 4 * words.len() {
+        return n + 1;
+    }
+    let pos = put(out, at, head);
+    store_words(out, pos, words);
+    pos + 4 * words.len()
+}
+
+// The 32 bits of a net, in two's complement.
+fn bits(x: i64) -> u32
+    ensures { λ r. ⌜ bytes 4 r ≡ i32 x ⌝ }
 {
     if x < 0 {
         let back = (-1 - x) as u64;
         if 4294967295 < back {
             return 0;
         }
-        return 4294967295 - back;
+        return (4294967295 - back) as u32;
     }
-    x as u64
+    let wide = x as u64;
+    (wide % 4294967296) as u32
 }
 
 // The number of a cause.
@@ -378,7 +419,7 @@ pub fn emit_answer(
 ) -> usize
     ensures { λ r. ⌜ seen (now (out .exit)) r ≡ seen (now (out .entry)) at writes (answer number refusal mask count ∷ []) ⌝ }
 {
-    let n = bytes4(number as u64);
+    let n = bytes4(number);
     let m = bytes2(mask);
     let record = [
         12u8,
@@ -417,63 +458,18 @@ pub fn emit_trade(
 ) -> usize
     ensures { λ r. ⌜ seen (now (out .exit)) r ≡ seen (now (out .entry)) at writes (trade series side price quantity taker maker ∷ []) ⌝ }
 {
-    let p = bytes4(price as u64);
-    let q = bytes4(quantity as u64);
-    let t = bytes4(taker as u64);
-    let m = bytes4(maker as u64);
-    let record = [
-        22u8,
-        0,
-        65,
-        0,
-        series,
-        side,
-        p[0],
-        p[1],
-        p[2],
-        p[3],
-        q[0],
-        q[1],
-        q[2],
-        q[3],
-        t[0],
-        t[1],
-        t[2],
-        t[3],
-        m[0],
-        m[1],
-        m[2],
-        m[3],
-    ];
-    put(out, at, &record)
+    let head = [22u8, 0, 65, 0, series, side];
+    let words = [price, quantity, taker, maker];
+    put_words(out, at, &head, &words)
 }
 
 // 66: pairs of both legs traded, and their net.
 pub fn emit_pair(out: &mut [u8], at: usize, id: u32, net: i64, quantity: u32) -> usize
     ensures { λ r. ⌜ seen (now (out .exit)) r ≡ seen (now (out .entry)) at writes (pair id net quantity ∷ []) ⌝ }
 {
-    let i = bytes4(id as u64);
-    let n = bytes4(unsigned(net));
-    let q = bytes4(quantity as u64);
-    let record = [
-        16u8,
-        0,
-        66,
-        0,
-        i[0],
-        i[1],
-        i[2],
-        i[3],
-        n[0],
-        n[1],
-        n[2],
-        n[3],
-        q[0],
-        q[1],
-        q[2],
-        q[3],
-    ];
-    put(out, at, &record)
+    let head = [16u8, 0, 66, 0];
+    let words = [id, bits(net), quantity];
+    put_words(out, at, &head, &words)
 }
 
 // 67: a legging order made, with its own price and the displayed one.
@@ -489,42 +485,17 @@ pub fn emit_generated(
 ) -> usize
     ensures { λ r. ⌜ seen (now (out .exit)) r ≡ seen (now (out .entry)) at writes (generated id series side price shown quantity ∷ []) ⌝ }
 {
-    let i = bytes4(id as u64);
-    let p = bytes4(price as u64);
-    let d = bytes4(shown as u64);
-    let q = bytes4(quantity as u64);
-    let record = [
-        22u8,
-        0,
-        67,
-        0,
-        i[0],
-        i[1],
-        i[2],
-        i[3],
-        series,
-        side,
-        p[0],
-        p[1],
-        p[2],
-        p[3],
-        d[0],
-        d[1],
-        d[2],
-        d[3],
-        q[0],
-        q[1],
-        q[2],
-        q[3],
-    ];
-    put(out, at, &record)
+    let i = bytes4(id);
+    let head = [22u8, 0, 67, 0, i[0], i[1], i[2], i[3], series, side];
+    let words = [price, shown, quantity];
+    put_words(out, at, &head, &words)
 }
 
 // 68: a legging order gone, and why.
 pub fn emit_removed(out: &mut [u8], at: usize, id: u32, series: u8, side: u8, cause: Cause) -> usize
     ensures { λ r. ⌜ seen (now (out .exit)) r ≡ seen (now (out .entry)) at writes (removed id series side cause ∷ []) ⌝ }
 {
-    let i = bytes4(id as u64);
+    let i = bytes4(id);
     let why = cause_number(cause);
     let record = [11u8, 0, 68, 0, i[0], i[1], i[2], i[3], series, side, why];
     put(out, at, &record)
@@ -541,56 +512,18 @@ pub fn emit_crossed(
 ) -> usize
     ensures { λ r. ⌜ seen (now (out .exit)) r ≡ seen (now (out .entry)) at writes (crossed taker maker net quantity ∷ []) ⌝ }
 {
-    let t = bytes4(taker as u64);
-    let m = bytes4(maker as u64);
-    let n = bytes4(unsigned(net));
-    let q = bytes4(quantity as u64);
-    let record = [
-        20u8,
-        0,
-        70,
-        0,
-        t[0],
-        t[1],
-        t[2],
-        t[3],
-        m[0],
-        m[1],
-        m[2],
-        m[3],
-        n[0],
-        n[1],
-        n[2],
-        n[3],
-        q[0],
-        q[1],
-        q[2],
-        q[3],
-    ];
-    put(out, at, &record)
+    let head = [20u8, 0, 70, 0];
+    let words = [taker, maker, bits(net), quantity];
+    put_words(out, at, &head, &words)
 }
 
 // 71: an order cancelled, and what was open of it.
 pub fn emit_cancelled(out: &mut [u8], at: usize, id: u32, quantity: u32) -> usize
     ensures { λ r. ⌜ seen (now (out .exit)) r ≡ seen (now (out .entry)) at writes (cancelled id quantity ∷ []) ⌝ }
 {
-    let i = bytes4(id as u64);
-    let q = bytes4(quantity as u64);
-    let record = [
-        12u8,
-        0,
-        71,
-        0,
-        i[0],
-        i[1],
-        i[2],
-        i[3],
-        q[0],
-        q[1],
-        q[2],
-        q[3],
-    ];
-    put(out, at, &record)
+    let head = [12u8, 0, 71, 0];
+    let words = [id, quantity];
+    put_words(out, at, &head, &words)
 }
 
 // Zeros from `at` on.
@@ -599,10 +532,10 @@ pub fn zero_from(out: &mut [u8], at: usize)
 {
     if at < out.len() {
         let n = out.len() - at;
-        let mut i = 0;
-        while i < n {
-            out[at + i] = 0;
-            i += 1;
+        let mut k = 0;
+        while k < n {
+            out[at + k] = 0;
+            k += 1;
         }
     }
 }

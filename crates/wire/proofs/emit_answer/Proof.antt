@@ -12,23 +12,23 @@ bytes4-requires c κs = search needs
 bytes2-requires : tie.Need-bytes2-requires
 bytes2-requires c κs = search needs
 
-array-read-t15 : tie.Need-array-read-t15
-array-read-t15 c = search needs
+array-read-t14 : tie.Need-array-read-t14
+array-read-t14 c = search needs
 
-array-read-t18 : tie.Need-array-read-t18
-array-read-t18 c = search needs
+array-read-t17 : tie.Need-array-read-t17
+array-read-t17 c = search needs
 
-array-read-t21 : tie.Need-array-read-t21
-array-read-t21 c = search needs
+array-read-t20 : tie.Need-array-read-t20
+array-read-t20 c = search needs
 
-array-read-t24 : tie.Need-array-read-t24
-array-read-t24 c = search needs
+array-read-t23 : tie.Need-array-read-t23
+array-read-t23 c = search needs
 
-array-read-t27 : tie.Need-array-read-t27
-array-read-t27 c = search needs
+array-read-t26 : tie.Need-array-read-t26
+array-read-t26 c = search needs
 
-array-read-t30 : tie.Need-array-read-t30
-array-read-t30 c = search needs
+array-read-t29 : tie.Need-array-read-t29
+array-read-t29 c = search needs
 
 slice-aggregate-put : tie.Need-slice-aggregate-put
 slice-aggregate-put c = search needs
@@ -44,12 +44,7 @@ unfolding encode framed bytes
 returns c =
     let s = c .before .before .before .before .before .before .before .before in
     emitted _ _ _ (answer (s .args .number) (s .args .refusal) (s .args .mask) (s .args .count)) (c .before .before .put .ensures)
-    (rw (
-      c .before .before .before .before .before .bytes2 .ensures,
-      c .before .before .before .before .before .before .bytes4 .ensures,
-      byte (s .args .refusal) (s .fits .refusal .fits),
-      byte (s .args .count) (s .fits .count .fits),
-    ))
+    (rw (c .before .before .before .before .before .bytes2 .ensures, c .before .before .before .before .before .before .bytes4 .ensures, byte (s .args .refusal) (s .fits .refusal .fits), byte (s .args .count) (s .fits .count .fits)))
 
 pub emit-answer-spec : {M : Type 1} → statement M
 emit-answer-spec =
@@ -57,12 +52,12 @@ emit-answer-spec =
     (tie.spec
     bytes4-requires
     bytes2-requires
-    array-read-t15
-    array-read-t18
-    array-read-t21
-    array-read-t24
-    array-read-t27
-    array-read-t30
+    array-read-t14
+    array-read-t17
+    array-read-t20
+    array-read-t23
+    array-read-t26
+    array-read-t29
     slice-aggregate-put
     put-requires
     same-length

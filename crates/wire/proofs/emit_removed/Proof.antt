@@ -12,17 +12,17 @@ bytes4-requires c κs = search needs
 cause-number-requires : tie.Need-cause-number-requires
 cause-number-requires c κs = search needs
 
-array-read-t14 : tie.Need-array-read-t14
-array-read-t14 c = search needs
+array-read-t13 : tie.Need-array-read-t13
+array-read-t13 c = search needs
 
-array-read-t17 : tie.Need-array-read-t17
-array-read-t17 c = search needs
+array-read-t16 : tie.Need-array-read-t16
+array-read-t16 c = search needs
 
-array-read-t20 : tie.Need-array-read-t20
-array-read-t20 c = search needs
+array-read-t19 : tie.Need-array-read-t19
+array-read-t19 c = search needs
 
-array-read-t23 : tie.Need-array-read-t23
-array-read-t23 c = search needs
+array-read-t22 : tie.Need-array-read-t22
+array-read-t22 c = search needs
 
 slice-aggregate-put : tie.Need-slice-aggregate-put
 slice-aggregate-put c = search needs
@@ -38,13 +38,7 @@ unfolding encode framed bytes
 returns c =
     let s = c .before .before .before .before .before .before .before .before in
     emitted _ _ _ (removed (s .args .id) (s .args .series) (s .args .side) (s .args .cause)) (c .before .before .put .ensures)
-    (rw (
-      c .before .before .before .before .before .cause-number .ensures,
-      c .before .before .before .before .before .before .bytes4 .ensures,
-      byte (s .args .series) (s .fits .series .fits),
-      byte (s .args .side) (s .fits .side .fits),
-      byte (causeNumber (s .args .cause)) (cause-small (s .args .cause)),
-    ))
+    (rw (c .before .before .before .before .before .cause-number .ensures, c .before .before .before .before .before .before .bytes4 .ensures, byte (s .args .series) (s .fits .series .fits), byte (s .args .side) (s .fits .side .fits), byte (causeNumber (s .args .cause)) (cause-small (s .args .cause))))
 
 pub emit-removed-spec : {M : Type 1} → statement M
 emit-removed-spec =
@@ -52,10 +46,10 @@ emit-removed-spec =
     (tie.spec
     bytes4-requires
     cause-number-requires
-    array-read-t14
-    array-read-t17
-    array-read-t20
-    array-read-t23
+    array-read-t13
+    array-read-t16
+    array-read-t19
+    array-read-t22
     slice-aggregate-put
     put-requires
     same-length

@@ -1,52 +1,38 @@
-use mathlib.Core.Path.{_≡_, sym, ap, ap₂, _∙_}
+use mathlib.Core.Path.{sym}
 use native.Mathlib.Omega.{arith}
 use Rattle.wire.proofs.Numbers.{u16-past}
-use Rattle.wire.specs.declared.Next.the-variants.{Found}
 use Rattle.wire.proofs.Reading.{next-none, next-found}
 use borrow.Author.Needs.{needs}
 use Rattle.wire.proofs.next_record.Statement.{statement}
 use Rattle.wire.proofs.next_record.Tie as tie
-use Rattle.wire.proofs.next_record.Reads as reads
-use Rattle.wire.proofs.next_record.Lts as lts
-use Rattle.wire.proofs.u16_at.Reads as u16-at-reads
 
--- src/lib.rt:623:9
 returns : tie.Need-returns
 returns c = let s = c .before .before .args in sym (next-none (s .memory .now) (s .at) (u16-past _ _ (c .if1 .taken)))
 
--- src/lib.rt:625:9
 u16-at-requires : tie.Need-u16-at-requires
 u16-at-requires c κs = search needs
 
--- src/lib.rt:627:9
 returns-2 : tie.Need-returns-2
 returns-2 c = sym (next-none _ _ (omega arith))
 
--- src/lib.rt:629:31
 add-u16-at : tie.Need-add-u16-at
 add-u16-at c = search needs
 
--- src/lib.rt:629:9
 u16-at-requires-2 : tie.Need-u16-at-requires-2
 u16-at-requires-2 c κs = search needs
 
--- src/lib.rt:630:16
 sub-room : tie.Need-sub-room
 sub-room c = search needs
 
--- src/lib.rt:631:17
 cast-bytes : tie.Need-cast-bytes
 cast-bytes c = search needs
 
--- src/lib.rt:633:9
 returns-3 : tie.Need-returns-3
 returns-3 c = let s = c .before .before .before .before .before .before .args in rw (c .before .u16-at2 .ensures) (sym (next-found (s .memory .now) (s .at) _ (λ e. omega arith) (omega arith)))
 
--- src/lib.rt:635:23
 add-t9 : tie.Need-add-t9
 add-t9 c = search needs
 
--- src/lib.rt:618:1
 returns-4 : tie.Need-returns-4
 returns-4 c = let s = c .before .before .before .before .before .before .args in rw (c .before .u16-at2 .ensures) (sym (next-found (s .memory .now) (s .at) _ (λ e. omega arith) (omega arith)))
 

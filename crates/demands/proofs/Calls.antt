@@ -1,0 +1,93 @@
+-- The theorems but those of Most, Agree and Truth: of one message, and by the induction over calls with the account as its invariant.
+use mathlib.Core.Path.{_∙_, _≡_, sym}
+use mathlib.Core.Bool.{true, true≢false}
+use mathlib.Core.Logic.{_≢_}
+use mathlib.Core.List.{List}
+use Prim.Native.Nat.{suc, ℕ}
+use native.Mathlib.Omega.{arith}
+use Rattle.rules.specs.declared.Complex.{Complex}
+use Rattle.rules.specs.declared.Venue.{Venue}
+use Rattle.rules.specs.Words.{freshVenue}
+use Rattle.rules.specs.Records.{U32}
+use Rattle.rules.specs.Prices.{ratio1, ratio2}
+use Rattle.rules.specs.Step.{answered, step}
+use Rattle.rules.specs.Sound.{sound}
+use Rattle.rules.specs.Calls.{after, called, ends, one, oneFrom}
+use Rattle.demands.specs.Kept.{AlwaysSound, DoneFits, FreshSound, Kept, NeverNine}
+use Rattle.demands.specs.Demand.{ComplexAdds, Demand3, Given, Opening, Seen, calls, opening}
+use Rattle.demands.specs.ReadsBack.{ReadsBack, StepFits, WholeMemory}
+use Rattle.rules.proofs.Answering.{told}
+use Rattle.rules.proofs.Calling.{one-memory, oneFrom-by, run-memory}
+use Rattle.rules.proofs.Reading.{reads-back}
+use Rattle.rules.proofs.Refusing.{refusal-small}
+use Rattle.demands.proofs.Account.{Account, ComplexAccount, advance, onto}
+use Rattle.demands.proofs.Fresh.{fresh-invariant, start-account}
+use Rattle.demands.proofs.Induction.{all-keep}
+use Rattle.demands.proofs.Messages.{step-invariant, step-takes}
+use Rattle.demands.proofs.Soundness.{sound-in, sound-out}
+use Rattle.demands.proofs.Standing.{standing}
+
+-- One message ---------------------------------------------------------------------------------
+
+-- soundness is kept by every message
+pub kept : Kept
+kept v s n bs = sound-in _ (step-invariant v (sound-out v s) n bs)
+
+pub fresh-sound : FreshSound
+fresh-sound = sound-in freshVenue fresh-invariant
+
+pub step-fits : StepFits
+step-fits v s n h bs = told v (sound-out v s .ranged) n bs .fits h
+
+-- and so is the account
+step-account : (s : Seen) (bs : List ℕ) → Account s → U32 (suc (s .done)) → Account (onto s bs (step (s .venue) (suc (s .done)) bs .effect))
+step-account s bs a few =
+    let i = a .invariant in
+    let n = suc (s .done) in
+    let t = step-takes (s .venue) (i .fine) (i .stand) (i .tidy) n bs in
+    let y = told (s .venue) (i .ranged) n bs in
+    advance bs a (t .takes) (t .ends) (step (s .venue) n bs .refused) (y .mask) (y .count) (y .effects) (y .is) (y .quiet) (t .brings) (step-invariant (s .venue) i n bs) few
+
+all-account : (o : Opening) (gs : List Given) → Account (calls (opening o) gs)
+all-account = all-keep Account (λ s a. a .invariant .ranged) start-account step-account
+
+-- The theorems --------------------------------------------------------------------------------
+
+-- at equal ratios the contracts are the pairs
+adds : (s : Seen) (c : Complex) → ComplexAccount s c → ComplexAdds s c
+unfolding ratio1 ratio2
+adds s c x = record { first = (let y = x .first in omega arith); second = (let y = x .second in omega arith); adds = x .adds }
+
+pub demand3 : Demand3
+demand3 o gs =
+    let a = all-account o gs in
+    record {
+      standing = standing (calls (opening o) gs .venue) (a .invariant .fine) (a .invariant .stand);
+      complexes = λ c m. adds _ c (a .complexes c m);
+      orders = λ o m. record { adds = a .orders o m .adds };
+    }
+
+pub always-sound : AlwaysSound
+always-sound o gs = sound-in _ (all-account o gs .invariant)
+
+-- upon a sound venue the number is 10, or the message's own
+not-nine : (v : Venue) → sound v ≡ true → (n room : ℕ) (bs : List ℕ) → oneFrom v n room bs .number ≢ 9
+unfolding ends after step answered
+not-nine v h n room bs =
+    oneFrom-by (λ r. r .number ≢ 9) v n room bs (λ u _. true≢false (sym h ∙ u)) (λ _ _ e. omega arith)
+    (λ _ _ e. (let z = refusal-small v bs in omega arith))
+
+pub never-nine : NeverNine
+unfolding one called
+never-nine o gs g =
+    let s = calls (opening o) gs in
+    not-nine (s .venue) (always-sound o gs .is) (s .done) (g .room) (g .bytes)
+
+pub done-fits : DoneFits
+done-fits o gs = all-account o gs .few
+
+pub sheet-reads-back : ReadsBack
+sheet-reads-back = reads-back
+
+pub whole-memory : WholeMemory
+whole-memory = record { byRun = run-memory; byOne = one-memory }

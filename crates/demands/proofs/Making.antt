@@ -1,0 +1,177 @@
+-- Generation and sweeps carry the invariant and leave every legging order standing. `Stood v e`: the effect e upon v does both.
+use mathlib.Core.Path.{_∙_, _≡_, ap, refl, subst, sym}
+use mathlib.Core.Bool.{Bool, _&&_, false, true}
+use mathlib.Core.Logic.{_≢_, inl, inr}
+use mathlib.Core.List.{List}
+use Prim.Native.Nat.{_<_, suc, zero, ℕ}
+use native.Mathlib.Decide.{ℕ-discrete}
+use native.Mathlib.Omega.{arith}
+use lib.Dec.{eqb}
+use lib.ListN.{getD, length, length-set, set}
+use lib.Seq.{getD-set-other, getD-set-same}
+use Rattle.rules.specs.declared.Cause.the-variants.{Replaced}
+use Rattle.rules.specs.declared.Complex.{Complex}
+use Rattle.rules.specs.declared.Legging.{Legging}
+use Rattle.rules.specs.declared.Venue.{Venue}
+use Rattle.rules.specs.declared.Verdict.{Verdict}
+use Rattle.rules.specs.Base.{held, if_then_else_}
+use Rattle.rules.specs.Words.{complexAt, noComplex, noLegging, opposite, placeOf, withLegging}
+use Rattle.rules.specs.Bytes.{i32}
+use Rattle.rules.specs.Records.{generated}
+use Rattle.rules.specs.Effects.{Effect, _⟫_, nothing, report}
+use Rattle.rules.specs.Removal.{failIf, remove}
+use Rattle.rules.specs.Standing.{otherLeg, settle}
+use Rattle.rules.specs.Generation.{generate, generateLeg, make, makes, newLegging, placed}
+use Rattle.rules.specs.Complex.{each, sweep, work}
+use Rattle.rules.proofs.Afforded.{new-open}
+use Rattle.rules.proofs.AllSettled.{settled}
+use Rattle.rules.proofs.Cases.{each-by, if-by, isAbove}
+use Rattle.rules.proofs.Filling.{cx}
+use Rattle.rules.proofs.Finding.{LegOf}
+use Rattle.rules.proofs.Generating.{AllStand, generate-stands, place-series, place-side}
+use Rattle.rules.proofs.Hitting.{other-is₁, other-is₂}
+use Rattle.rules.proofs.Ledger.{moves-placed}
+use Rattle.rules.proofs.Picking.{At}
+use Rattle.rules.proofs.Sweeping.{leg-same}
+use Rattle.demands.proofs.Carrying.{Carries, carries-nothing, carries-remove, carries-then, fine-after, settle-carries, work-carries}
+use Rattle.demands.proofs.Homes.{Fine, Home, Homes, InRange, found, home-same}
+
+-- One leg -------------------------------------------------------------------------------------
+
+-- s, d is a leg of c
+pub record IsLeg (c : Complex) (s d : ℕ) : Type 0 where
+  pub side : d < 2
+  pub series : s < 8
+  pub leg : LegOf c s d
+  pub other : s ≢ otherLeg c s .series
+
+pub first-leg : (c : Complex) → InRange c → IsLeg c (c .series1) (c .side1)
+first-leg c r = record { side = r .side1; series = r .series1; leg = inl (refl, refl); other = λ e. r .apart (e ∙ other-is₂ c (c .series1) refl) }
+
+pub second-leg : (c : Complex) → InRange c → IsLeg c (c .series2) (c .side2)
+second-leg c r = record { side = r .side2; series = r .series2; leg = inr (refl, refl); other = λ e. r .apart (sym (e ∙ other-is₁ c (c .series2) (r .apart))) }
+
+-- a legging order at place n, whose home is known
+placed-homes : (n : ℕ) (l : Legging) (v : Venue) → n < length (v .legging) → Home v n l → Homes v → Homes (placed n l v)
+unfolding placed withLegging
+placed-homes n l v n16 a h = record { len = length-set (v .legging) n l ∙ h .len; home = λ m. go m (ℕ-discrete m n) }
+  where
+    keep : (m : ℕ) (x : Legging) → Home v m x → Home (placed n l v) m x
+    keep m x b = record { at = b .at; fits = b .fits; id = b .id; leg = b .leg; enough = b .enough }
+
+    go : (m : ℕ) → Dec (m ≡ n) → held (getD (set (v .legging) n l) m noLegging .quantity) ≡ true → Home (placed n l v) m (getD (set (v .legging) n l) m noLegging)
+    go m (yes e) t = rw (e, getD-set-same (v .legging) n l noLegging n16) (keep n l a)
+    go m (no ne) t = rw (getD-set-other (v .legging) n m l noLegging ne) (keep m _ (h .home m (rw (getD-set-other (v .legging) n m l noLegging ne) at t)))
+
+remove-complex : (f : ℕ → Legging → Verdict) (v : Venue) → remove f v .venue .complex ≡ v .complex
+unfolding remove withLegging
+remove-complex f v = refl
+
+place-fits : (s d : ℕ) → s < 8 → d < 2 → placeOf s d < 16
+unfolding placeOf
+place-fits s d a b = omega arith
+
+module _ (v : Venue) (i : ℕ) (i32 : i < 32) (f : Fine v) (h : held (cx v i .quantity) ≡ true) (s d : ℕ) (g : IsLeg (cx v i) s d) where
+  abbrev c : Complex
+  c = cx v i
+
+  fitsC : i < length (v .complex)
+  fitsC = rw (f .good .len2) i32
+
+  fitsL : placeOf s d < length (v .legging)
+  fitsL = rw (f .homes .len) (place-fits s d (g .series) (g .side))
+
+  new-home : Home v (placeOf s d) (newLegging v c s d)
+  unfolding newLegging
+  new-home = record { at = i; fits = fitsC; id = refl; leg = rw (place-series s d (g .side), place-side s d (g .side)) (g .leg); enough = new-open v c s d }
+
+  -- when the holder has gone, the new order takes its place
+  placed-carries : (w : Venue) (id p x q : ℕ) → Fine w → w .complex ≡ v .complex → Carries w (report (generated id s d p x q) (placed (placeOf s d) (newLegging v c s d) w))
+  placed-carries w id p x q g′ e = record {
+    moves = moves-placed (placeOf s d) (newLegging v c s d) id s d p x q w;
+    homes = unfold report in (placed-homes (placeOf s d) (newLegging v c s d) w (rw (g′ .homes .len) (place-fits s d (g .series) (g .side))) (home-same e new-home) (g′ .homes));
+  }
+
+  make-carries : Carries v (make c s d v)
+  unfolding make
+  make-carries =
+      let a = carries-remove (λ n _. failIf (eqb n (placeOf s d)) Replaced) v f in
+      carries-then _ _ a (placed-carries _ _ _ _ _ (fine-after f a) (remove-complex _ v))
+
+  pub leg-carries : Carries v (generateLeg c s d v)
+  unfolding generateLeg
+  leg-carries = if-by (Carries v) (held (c .quantity) && makes v c s d) (λ _. make-carries) (λ _. carries-nothing v f)
+
+  opposite-small : (x : ℕ) → opposite x < 2
+  unfolding opposite
+  opposite-small x = omega arith
+
+  pub leg-stands : AllStand v → AllStand (generateLeg c s d v .venue)
+  leg-stands = generate-stands v c s d (g .side) (opposite-small _) (g .other) (found v (f .good) i fitsC h) fitsL
+
+-- Both legs -----------------------------------------------------------------------------------
+
+-- carries, and leaves all standing
+pub record Stood (v : Venue) (e : Effect) : Type 0 where
+  pub carries : Carries v e
+  pub stand : AllStand (e .venue)
+
+pub stood-then : {v : Venue} (e : Effect) (f : Venue → Effect) → Carries v e → Stood (e .venue) (f (e .venue)) → Stood v (e ⟫ f)
+unfolding _⟫_
+stood-then e f a b = record { carries = carries-then e f a (b .carries); stand = b .stand }
+
+module _ (i : ℕ) (i32 : i < 32) where
+  -- a leg of the order at place i, or of a free place
+  one-leg : (v : Venue) (c : Complex) (s d : ℕ) → c ≡ cx v i → (held (c .quantity) ≡ true → IsLeg c s d) → Fine v → AllStand v → Stood v (generateLeg c s d v)
+  unfolding generateLeg nothing
+  one-leg v c s d e g f st = go (held (c .quantity)) refl
+    where
+      go : (b : Bool) → held (c .quantity) ≡ b → Stood v (if held (c .quantity) && makes v c s d then make c s d v else nothing v)
+      go true h =
+          subst (λ (x : Complex). Stood v (generateLeg x s d v)) (sym e)
+          (let h′ = subst (λ (x : Complex). held (x .quantity) ≡ true) e h in
+          let g′ = subst (λ (x : Complex). IsLeg x s d) e (g h) in
+          record { carries = leg-carries v i i32 f h′ s d g′; stand = leg-stands v i i32 f h′ s d g′ st })
+      go false h = rw h (record { carries = carries-nothing v f; stand = st })
+
+  pub generate-stood : (v : Venue) → Fine v → AllStand v → Stood v (generate i v)
+  unfolding generate complexAt
+  generate-stood v f st =
+      let c = cx v i in
+      let a = one-leg v c (c .series1) (c .side1) refl (λ h. first-leg c (f .good .ranges i h)) f st in
+      stood-then _ _ (a .carries)
+      (one-leg (generateLeg c (c .series1) (c .side1) v .venue) c (c .series2) (c .side2)
+      (ap (λ (x : List Complex). getD x i noComplex) (sym (leg-same v c (c .series1) (c .side1))))
+      (λ h. second-leg c (f .good .ranges i h)) (fine-after f (a .carries)) (a .stand))
+
+-- Sweep ---------------------------------------------------------------------------------------
+
+-- f for each resting order: f carries (and leaves standing)
+each-place : (id : ℕ) (v : Venue) → Fine v → (i : ℕ) (c : Complex) → At noComplex (isAbove id) (v .complex) i c → i < 32
+each-place id v f i c a = let z = a .fits in let l = f .good .len2 in omega arith
+
+pub each-carries : (fn : ℕ → Venue → Effect) → ((i : ℕ) → i < 32 → (v : Venue) → Fine v → Carries v (fn i v)) →
+    (fuel id : ℕ) (v : Venue) → Fine v → Carries v (each fuel fn id v)
+each-carries fn ok zero id v f = unfold each in (carries-nothing v f)
+each-carries fn ok (suc fuel) id v f =
+    each-by (Carries v) fuel fn id v (λ _. carries-nothing v f)
+    (λ i c _ a. let k = ok i (each-place id v f i c a) v f in carries-then _ _ k (each-carries fn ok fuel (c .id) _ (fine-after f k)))
+
+stood-nothing : (v : Venue) → Fine v → AllStand v → Stood v (nothing v)
+unfolding nothing
+stood-nothing v f st = record { carries = carries-nothing v f; stand = st }
+
+pub each-stood : (fuel id : ℕ) (v : Venue) → Fine v → AllStand v → Stood v (each fuel generate id v)
+each-stood zero id v f st = unfold each in (stood-nothing v f st)
+each-stood (suc fuel) id v f st =
+    each-by (Stood v) fuel generate id v (λ _. stood-nothing v f st)
+    (λ i c _ a.
+    let k = generate-stood i (each-place id v f i c a) v f st in
+    stood-then _ _ (k .carries) (each-stood fuel (c .id) _ (fine-after f (k .carries)) (k .stand)))
+
+pub sweep-stood : (v : Venue) → Fine v → Stood v (sweep v)
+unfolding sweep
+sweep-stood v f =
+    let a = each-carries work work-carries 32 0 v f in
+    let b = carries-then _ settle a (settle-carries _ (fine-after f a)) in
+    stood-then _ _ b (each-stood 32 0 _ (fine-after f b) (settled (each 32 work 0 v)))

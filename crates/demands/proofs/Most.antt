@@ -1,0 +1,44 @@
+-- No message upon a sound venue writes more than `most` bytes.
+use mathlib.Core.Path.{_∙_, ap, refl}
+use Prim.Native.Nat.{suc, ℕ}
+use native.Mathlib.Omega.{arith}
+use Rattle.rules.specs.declared.Complex.{Complex}
+use Rattle.rules.specs.declared.Venue.{Venue}
+use Rattle.rules.specs.Step.{step}
+use Rattle.rules.specs.Calls.{after, called, ends, one}
+use Rattle.demands.specs.Kept.{SoundVenue}
+use Rattle.demands.specs.Most.{Lengths, Parts, RoomEnough, WritesAtMost}
+use Rattle.rules.proofs.Calling.{not-exceeds, oneFrom-done}
+use Rattle.rules.proofs.Matching.{Housed}
+use Rattle.rules.proofs.Worth.{lengths, worth-most, written}
+use Rattle.rules.proofs.Written.{step-writes}
+use Rattle.demands.proofs.Homes.{parent-found}
+use Rattle.demands.proofs.Soundness.{sound-out}
+
+pub record-lengths : Lengths
+record-lengths = lengths
+
+pub parts : Parts
+parts = refl
+
+-- each legging order of a sound venue has its complex order
+sound-housed : (v : Venue) → SoundVenue v → (n : ℕ) → Housed n v
+unfolding Housed
+sound-housed v s n h =
+    let f = sound-out v s .fine in
+    ap (λ (c : Complex). c .id) (parent-found v f n h) ∙ f .homes .home n h .id
+
+pub writes-at-most : WritesAtMost
+writes-at-most v s number bs =
+    let a = step-writes v (sound-housed v s) number bs in
+    let b = worth-most v in
+    let x = s .shaped .regular in
+    let y = s .shaped .complex in
+    let z = s .shaped .legging in
+    rw (written (step v number bs .effect .reports)) (omega arith)
+
+pub room-enough : RoomEnough
+unfolding one called after ends
+room-enough v s n room bs few enough =
+    let w = writes-at-most v s (suc n) bs in
+    rw (oneFrom-done v n room bs (s .is) (not-exceeds (suc n) room (step v (suc n) bs .effect .reports) (omega arith) (omega arith)))

@@ -1,0 +1,126 @@
+-- Demand 3, the legging orders: where all stand, each is best displayed, in band, and its hits find their contracts.
+use mathlib.Core.Path.{_∙_, _≡_, refl, sym}
+use mathlib.Core.Bool.{false, true, true≢false}
+use mathlib.Core.Logic.{_≢_}
+use mathlib.Core.List.{_++_, _∷_}
+use Prim.Native.Nat.{_%_, _/_, _<_, _≤_, ℕ}
+use native.Mathlib.Omega.{arith}
+use lib.Dec.{leb}
+use borrow.Author.Tests.{eq-eqb, leb-true, not-true}
+use Rattle.rules.specs.declared.Cause.the-variants.{Executed}
+use Rattle.rules.specs.declared.Complex.{Complex}
+use Rattle.rules.specs.declared.Legging.{Legging}
+use Rattle.rules.specs.declared.Venue.{Venue}
+use Rattle.rules.specs.Base.{all, held}
+use Rattle.rules.specs.Words.{increment, isComplexOf, leggingAt, opposite, placeOf, regularAt}
+use Rattle.rules.specs.Prices.{bestIn, bestRegular, bestSize, better, clearPrice, displayed, restsAt, sizeIn}
+use Rattle.rules.specs.Records.{pair, trade}
+use Rattle.rules.specs.Removal.{removeOf}
+use Rattle.rules.specs.Standing.{hasLeg, legNet, otherClear, otherLeg, otherSize, pairs, parentOf, shownWell, verdict}
+use Rattle.rules.specs.Order.{hit}
+use Rattle.rules.specs.Calls.{one}
+use Rattle.demands.specs.Demand.{Hit, Standing, otherTrades}
+use Rattle.rules.proofs.Better.{best-best, better-irrefl, better-past, is-false}
+use Rattle.rules.proofs.Filling.{cx, lg, reg}
+use Rattle.rules.proofs.Finding.{leg-in}
+use Rattle.rules.proofs.Generating.{AllStand, place-series, place-side}
+use Rattle.rules.proofs.Hitting.{hit-is}
+use Rattle.rules.proofs.Settling.{clear-best}
+use Rattle.rules.proofs.Sizes.{rests-shows}
+use Rattle.rules.proofs.Taking.{chain-at, take-chain, take-total}
+use Rattle.rules.proofs.Tests.{and-in, and-l, and-r}
+use Rattle.rules.proofs.Verdicts.{Passes, passed}
+use Rattle.demands.proofs.Homes.{Fine, Home, home-held, other-apart, parent-found}
+
+opposite-twice : (d : ℕ) → d < 2 → opposite (opposite d) ≡ d
+unfolding opposite
+opposite-twice d d2 = omega arith
+
+module _ (v : Venue) (c : Complex) (s d : ℕ) (l : Legging) (p : Passes v c s d l) where
+  -- no regular order is better than what is displayed
+  shown-best : (i : ℕ) → restsAt s d (regularAt v i) ≡ true → better d (regularAt v i .price) (displayed (increment s) d (l .price)) ≡ false
+  unfolding shownWell bestRegular regularAt
+  shown-best i r =
+      is-false _ (λ b. true≢false
+      (sym (better-past d (reg v i .price) (bestIn s d (v .regular)) (displayed (increment s) d (l .price)) b (best-best s d (v .regular) i (rests-shows s d _ r)))
+      ∙ not-true _ (p .shown)))
+
+  -- the hit of `Order`, by an order of the other side
+  writes : parentOf v l ≡ c → s ≢ otherLeg c s .series → d < 2 → (k i : ℕ) → regularAt v i .series ≡ s → regularAt v i .side ≡ opposite d → hit i l k v .reports ≡
+      trade s (opposite d) (l .price) k (regularAt v i .id) (c .id)
+      ∷ (otherTrades v c s k ++ (pair (c .id) (legNet c s d (l .price) (otherClear v c s)) k ∷ removeOf (c .id) Executed v .reports))
+  unfolding regularAt
+  writes is apart d2 k i at of =
+      let q = parentOf v l in
+      let t = reg v i .series in
+      let other : t ≢ otherLeg q t .series = rw (is, at) apart in
+      let h : hit i l k v .reports ≡
+      trade t (reg v i .side) (l .price) k (reg v i .id) (q .id)
+      ∷ (otherTrades v q t k ++ (pair (q .id) (legNet q t (opposite (reg v i .side)) (l .price) (otherClear v q t)) k ∷ removeOf (q .id) Executed v .reports)) =
+      hit-is v i k l other in
+      rw (is, at, of, opposite-twice d d2) at h
+
+  -- the size at the clear price is at least its quantity, so k contracts are there
+  hits : parentOf v l ≡ c → s ≢ otherLeg c s .series → d < 2 → (k : ℕ) → k ≤ l .quantity → Hit v c s d l k
+  unfolding pairs bestSize bestRegular otherClear otherSize
+  hits is apart d2 k le =
+      let q = p .pair in
+      let t = otherLeg c s .series in
+      let e = otherLeg c s .side in
+      let a : held (clearPrice v t (opposite e)) ≡ true = search (and-l, and-r, q) in
+      let n : leb (l .quantity) (sizeIn t (opposite e) (bestIn t (opposite e) (v .regular)) (v .regular)) ≡ true = search (and-l, and-r, q) in
+      let m = leb-true (l .quantity) (sizeIn t (opposite e) (bestIn t (opposite e) (v .regular)) (v .regular)) n in
+      record {
+        clear = a;
+        net = search (and-l, and-r, q);
+        found = chain-at (c .id) t (take-chain (c .id) t e (clearPrice v t (opposite e)) k k v)
+            ∙ take-total (c .id) t e (clearPrice v t (opposite e)) k k v (omega arith) (rw (clear-best v t (opposite e) a) (omega arith));
+        written = writes is apart d2 k;
+      }
+
+module _ (v : Venue) (f : Fine v) (all : AllStand v) (s d : ℕ) (d2 : d < 2) where
+  abbrev n : ℕ
+  n = placeOf s d
+
+  abbrev l : Legging
+  l = lg v n
+
+  -- place n is the one of side d of series s
+  only : (m : ℕ) → m / 2 ≡ s → m % 2 ≡ d → m ≡ n
+  unfolding placeOf
+  only m p q = omega arith
+
+  module _ (h : held (l .quantity) ≡ true) where
+    abbrev c : Complex
+    c = parentOf v l
+
+    passes : Passes v c s d l
+    unfolding AllStand verdict
+    passes = passed (rw (h, place-series s d d2, place-side s d d2) at (all n))
+
+    abbrev home : Home v n l
+    home = f .homes .home n h
+
+    rests : isComplexOf (l .parent) c ≡ true
+    unfolding isComplexOf
+    rests = rw (parent-found v f n h) (and-in _ _ (home-held v f n h) (eq-eqb (cx v (home .at) .id) (l .parent) (home .id)))
+
+    leg : hasLeg c s d ≡ true
+    leg = rw (parent-found v f n h) (leg-in (cx v (home .at)) s d (rw (place-series s d d2, place-side s d d2) at (home .leg)))
+
+    apart : s ≢ otherLeg c s .series
+    apart = rw (parent-found v f n h) (rw (place-series s d d2) at (other-apart v f n h))
+
+    stands : Standing v s d l
+    stands = record {
+      rests = rests;
+      leg = leg;
+      best = shown-best v c s d l passes;
+      bestLegging = λ m p q _. is-false _ (λ b. better-irrefl _ _ (rw (only m p q) at b));
+      band = passes .band;
+      hit = λ k one le. hits v c s d l passes refl apart d2 k le;
+    }
+
+pub standing : (v : Venue) → Fine v → AllStand v → (s d : ℕ) → d < 2 → held (leggingAt v s d .quantity) ≡ true → Standing v s d (leggingAt v s d)
+unfolding leggingAt
+standing v f all s d d2 h = stands v f all s d d2 h

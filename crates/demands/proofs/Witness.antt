@@ -1,0 +1,37 @@
+-- The witness, by computation.
+use mathlib.Core.Path.{_≡_, refl, sym}
+use mathlib.Core.List.{List, List·Memᴰ, List·Memᴰ·head, List·Memᴰ·tail, [], _∷_}
+use Prim.Native.Nat.{_<_, suc, zero, ℕ}
+use native.Mathlib.Omega.{arith}
+use lib.ListN.{getD, length}
+use borrow.Author.Tests.{ltb-true}
+use Rattle.rules.specs.Records.{Report, answer, cancelled}
+use Rattle.rules.specs.Opened.{opened-rules}
+use Rattle.demands.specs.Demand.{calls, extend, opening, parts, start}
+use Rattle.demands.specs.Witness.{Witness, atEnd, bytesOf, causes, kindOf, later, ofKind, session, sums}
+
+-- what stands at a place of a list is one of it
+at-mem : (l : List Report) (n : ℕ) (d r : Report) → n < length l → getD l n d ≡ r → List·Memᴰ r l
+at-mem [] n d r h e = absurd (omega arith)
+at-mem (x ∷ l) zero d r h e = List·Memᴰ·head (sym e)
+at-mem (x ∷ l) (suc n) d r h e = List·Memᴰ·tail (at-mem l n d r (omega arith) e)
+
+told : List·Memᴰ (answer 5 0 5 2) (atEnd .reports)
+unfolding opened-rules bytesOf session later atEnd start extend parts opening calls
+told = at-mem (atEnd .reports) 4 (cancelled 0 0) (answer 5 0 5 2) (ltb-true 4 (length (atEnd .reports)) refl) refl
+
+pub witness : Witness
+unfolding opened-rules bytesOf session later atEnd kindOf ofKind causes sums start extend parts opening calls
+witness = record {
+  done = refl;
+  standing = refl;
+  standing′ = refl;
+  made = refl;
+  trades = refl;
+  pairs = refl;
+  crosses = refl;
+  cancels = refl;
+  removals = refl;
+  accepted = record { before = 4; is = refl; mask = 5; count = 2; told = told };
+  account = refl;
+}

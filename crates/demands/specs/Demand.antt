@@ -1,0 +1,152 @@
+-- Demand 3 of document 01: "one claim about a whole list of messages, not one for each call", in terms of what callers see. In the customer's
+-- words: after every list of messages from a fresh venue, each taken upon the venue that the last one left, each legging order standing is at
+-- the best displayed price of its side and within the band; a hit on it, for any number of contracts up to its quantity, finds that many of its
+-- other leg at one price from regular orders, the net at its complex order's limit or better; and by the reports, the messages done and the
+-- venue left, for every complex order accepted its contracts in the first series equal those in the second and equal its pairs, and quantity
+-- entered = paired + crossed + cancelled + still open. What is quoted below is document 01's paragraph, sentence by sentence.
+use mathlib.Core.Path.{_≡_}
+use mathlib.Core.Bool.{false, true}
+use mathlib.Core.List.{List, List·Memᴰ, [], _++_, _∷_}
+use Prim.Native.Nat.{_%_, _+_, _/_, _<_, _≤_, suc, zero, ℕ}
+use lib.ListN.{drop, getD}
+use lib.Signed.{leZ}
+use Rattle.rules.specs.declared.Cause.the-variants.{Executed}
+use Rattle.rules.specs.declared.Complex.{Complex}
+use Rattle.rules.specs.declared.Legging.{Legging}
+use Rattle.rules.specs.declared.Message.{Message}
+use Rattle.rules.specs.declared.Message.the-variants.{Order, TwoLeg}
+use Rattle.rules.specs.declared.Regular.{Regular}
+use Rattle.rules.specs.declared.Venue.{Venue}
+use Rattle.rules.specs.Base.{held}
+use Rattle.rules.specs.Words.{freshVenue, increment, isComplexOf, leggingAt, noLegging, opposite, regularAt}
+use Rattle.rules.specs.Bytes.{lengthField}
+use Rattle.rules.specs.Messages.{messageOf}
+use Rattle.rules.specs.Records.{Report, answer, pair, records, trade}
+use Rattle.rules.specs.Removal.{removeOf}
+use Rattle.rules.specs.Prices.{better, displayed, inBand, restsAt}
+use Rattle.rules.specs.Standing.{hasLeg, legNet, otherClear, otherLeg, parentOf}
+use Rattle.rules.specs.Trading.{take}
+use Rattle.rules.specs.Order.{hit}
+use Rattle.rules.specs.Calls.{Call, one, run}
+use Rattle.rules.specs.Sums.{cancelledOf, contracts, contractsAt, crossedFor, openComplex, openRegular, paired, total}
+
+-- The list of calls ---------------------------------------------------------------------------
+
+-- What a call is given: bytes, and a report memory of a length. "Any contents, any report memory": what stood in that memory is no matter,
+-- as `run` and `one` say every byte of it.
+pub record Given : Type 0 where
+  pub room : ℕ
+  pub bytes : List ℕ
+
+-- the first `done` messages of a call's bytes, each from its first byte on
+unfoldable pub parts : (done : ℕ) → List ℕ → List (List ℕ)
+parts zero bs = []
+parts (suc done) bs = bs ∷ parts done (drop (lengthField bs) bs)
+
+-- what callers have seen so far
+pub record Seen : Type 0 where
+  -- the venue that the last call returned
+  pub venue : Venue
+  -- the number of messages done, by what the calls returned, and these messages
+  pub done : ℕ
+  pub messages : List (List ℕ)
+  -- "The reports are all records written, in order": as the report memories are read
+  pub reports : List Report
+
+-- "the first call upon a fresh venue", "with the messages done so far, at first none, gone before"
+unfoldable pub start : Seen
+start = record { venue = freshVenue; done = 0; messages = []; reports = [] }
+
+-- one more call, given these bytes: "where a call ends early, it holds of what was done"
+unfoldable pub extend : Seen → List ℕ → Call → Seen
+extend s bs c = record {
+  venue = c .returned .venue;
+  done = s .done + c .returned .done;
+  messages = s .messages ++ parts (c .returned .done) bs;
+  reports = s .reports ++ records (c .report);
+}
+
+-- "The list is what a run is given and then what any number of one-message calls are given one after another, or what such calls alone are given"
+pub data Opening : Type 0 where
+  byRun : Given → Opening
+  alone : Opening
+
+unfoldable pub opening : Opening → Seen
+opening (byRun g) = extend start (g .bytes) (run (g .room) (g .bytes))
+opening alone = start
+
+-- "each later one upon the venue that the last one returned, with the messages done so far … gone before. Nothing else changes the venue meanwhile."
+unfoldable pub calls : Seen → List Given → Seen
+calls s [] = s
+calls s (g ∷ gs) = calls (extend s (g .bytes) (one (s .venue) (s .done) (g .room) (g .bytes))) gs
+
+-- Legging orders ------------------------------------------------------------------------------
+
+-- the other leg's trades when k contracts of c's leg in series s are hit: k contracts at its clear price, upon the venue as it stands
+abbrev pub otherTrades : Venue → Complex → (s k : ℕ) → List Report
+otherTrades v c s k = take k (c .id) (otherLeg c s .series) (otherLeg c s .side) (otherClear v c s) k v .reports
+
+-- "The hit for k … is the one written under Order: it finds k regular contracts at the other leg's clear price, its own price and that one
+-- netting to N or less": of the legging order l of c at side d of series s, upon the venue as it stands, "whether or not ids, places or the size
+-- ahead of it leave room for an order that brings the hit".
+pub record Hit (v : Venue) (c : Complex) (s d : ℕ) (l : Legging) (k : ℕ) : Type 0 where
+  pub clear : held (otherClear v c s) ≡ true
+  pub net : leZ (legNet c s d (l .price) (otherClear v c s)) (c .limit) ≡ true
+  pub found : total (contractsAt (c .id) (otherLeg c s .series) (otherClear v c s)) (otherTrades v c s k) ≡ k
+  -- it is `Order.hit`: by the order at place i, of the same series and the other side, that writes its own trade, these trades, the 66 and the removals
+  pub written : (i : ℕ) → regularAt v i .series ≡ s → regularAt v i .side ≡ opposite d → hit i l k v .reports ≡
+      trade s (opposite d) (l .price) k (regularAt v i .id) (c .id)
+      ∷ (otherTrades v c s k ++ (pair (c .id) (legNet c s d (l .price) (otherClear v c s)) k ∷ removeOf (c .id) Executed v .reports))
+
+-- of the legging order l that stands at side d of series s
+pub record Standing (v : Venue) (s d : ℕ) (l : Legging) : Type 0 where
+  -- its complex order rests, and has the leg
+  pub rests : isComplexOf (l .parent) (parentOf v l) ≡ true
+  pub leg : hasLeg (parentOf v l) s d ≡ true
+  -- "Best displayed: no regular order's price … in the same series and side is better (higher to buy, lower to sell), away prices aside"
+  pub best : (i : ℕ) → restsAt s d (regularAt v i) ≡ true → better d (regularAt v i .price) (displayed (increment s) d (l .price)) ≡ false
+  -- "and no legging order's displayed price": of what stands at a place m, which is side m % 2 of series m / 2
+  pub bestLegging : (m : ℕ) → m / 2 ≡ s → m % 2 ≡ d → held (getD (v .legging) m noLegging .quantity) ≡ true →
+      better d (displayed (increment s) d (getD (v .legging) m noLegging .price)) (displayed (increment s) d (l .price)) ≡ false
+  -- "Within the band: its complex order's N is in band."
+  pub band : inBand v (parentOf v l) (parentOf v l .limit) ≡ true
+  -- "for each k from 1 to its quantity"
+  pub hit : (k : ℕ) → 1 ≤ k → k ≤ l .quantity → Hit v (parentOf v l) s d l k
+
+-- Accounts ------------------------------------------------------------------------------------
+
+-- "Accepted: done, and met by no refusal": m is one of the messages done, and the 64 of its number has refusal 0
+pub record Accepted (s : Seen) (m : Message) : Type 0 where
+  pub before : ℕ
+  pub is : messageOf (getD (s .messages) before []) ≡ m
+  pub mask : ℕ
+  pub count : ℕ
+  pub told : List·Memᴰ (answer (suc before) 0 mask count) (s .reports)
+
+-- "Entered is the quantity in its message; still open is the quantity resting in the venue left (0 if none rests). The rest is summed from the
+-- records that name its id": the sums of `Sums`, over all records written
+pub record ComplexAdds (s : Seen) (c : Complex) : Type 0 where
+  -- its contracts in the first series, and those in the second, equal its pairs
+  pub first : total (contracts (c .id) (c .series1)) (s .reports) ≡ total (paired (c .id)) (s .reports)
+  pub second : total (contracts (c .id) (c .series2)) (s .reports) ≡ total (paired (c .id)) (s .reports)
+  -- entered = paired + crossed + cancelled + still open
+  pub adds : c .quantity ≡
+      total (paired (c .id)) (s .reports) + total (crossedFor (c .id)) (s .reports)
+      + total (cancelledOf (c .id)) (s .reports) + openComplex (c .id) (s .venue .complex)
+
+-- beyond the demand, of a regular order: entered = traded + cancelled + still open
+pub record OrderAdds (s : Seen) (o : Regular) : Type 0 where
+  pub adds : o .quantity ≡
+      total (contracts (o .id) (o .series)) (s .reports) + total (cancelledOf (o .id)) (s .reports) + openRegular (o .id) (s .venue .regular)
+
+-- The claim -----------------------------------------------------------------------------------
+
+pub record Holds (s : Seen) : Type 0 where
+  pub standing : (series side : ℕ) → side < 2 → held (leggingAt (s .venue) series side .quantity) ≡ true →
+      Standing (s .venue) series side (leggingAt (s .venue) series side)
+  pub complexes : (c : Complex) → Accepted s (TwoLeg c) → ComplexAdds s c
+  pub orders : (o : Regular) → Accepted s (Order o) → OrderAdds s o
+
+-- every opening, and then every list of one-message calls
+abbrev pub Demand3 : Type 0
+Demand3 = (o : Opening) (gs : List Given) → Holds (calls (opening o) gs)

@@ -1,0 +1,46 @@
+-- Soundness is kept: a sound venue stays sound under every message, and the fresh venue is sound.
+use mathlib.Core.Path.{_≡_}
+use mathlib.Core.Bool.{true}
+use mathlib.Core.Logic.{_≢_}
+use mathlib.Core.List.{List}
+use Prim.Native.Nat.{ℕ}
+use lib.ListN.{length}
+use Rattle.rules.specs.declared.Venue.{Venue}
+use Rattle.rules.specs.Words.{freshVenue}
+use Rattle.rules.specs.Records.{U32}
+use Rattle.rules.specs.Step.{step}
+use Rattle.rules.specs.Sound.{sound}
+use Rattle.rules.specs.Calls.{one}
+use Rattle.demands.specs.Demand.{Given, Opening, calls, opening}
+
+-- a venue of the declared type: its arrays have their lengths
+pub record Shaped (v : Venue) : Type 0 where
+  pub regular : length (v .regular) ≡ 128
+  pub complex : length (v .complex) ≡ 32
+  pub legging : length (v .legging) ≡ 16
+  pub series : length (v .series) ≡ 8
+
+pub record SoundVenue (v : Venue) : Type 0 where
+  pub shaped : Shaped v
+  pub is : sound v ≡ true
+
+-- under every message: any bytes, of every kind, accepted or refused
+abbrev pub Kept : Type 0
+Kept = (v : Venue) → SoundVenue v → (number : ℕ) (message : List ℕ) → SoundVenue (step v number message .effect .venue)
+
+abbrev pub FreshSound : Type 0
+FreshSound = SoundVenue freshVenue
+
+-- so every venue that the calls return is sound
+abbrev pub AlwaysSound : Type 0
+AlwaysSound = (o : Opening) (gs : List Given) → SoundVenue (calls (opening o) gs .venue)
+
+-- and a one-message call upon a venue that came from the calls never answers 9
+abbrev pub NeverNine : Type 0
+NeverNine = (o : Opening) (gs : List Given) (g : Given) →
+    let s = calls (opening o) gs in
+    one (s .venue) (s .done) (g .room) (g .bytes) .returned .number ≢ 9
+
+-- and the messages done so far, which the next call is given, are a u32
+abbrev pub DoneFits : Type 0
+DoneFits = (o : Opening) (gs : List Given) → U32 (calls (opening o) gs .done)

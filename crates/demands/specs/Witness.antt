@@ -1,0 +1,123 @@
+-- The claims are not empty: a list of calls in which legging orders are made, hit in part, paired, crossed, withdrawn, removed for each of the
+-- causes 1 to 8, and stand at the end; with calls that end early. Given by computation.
+use mathlib.Core.Path.{_≡_}
+use mathlib.Core.List.{List, [], _++_, _∷_}
+use Prim.Native.Nat.{ℕ}
+use lib.Dec.{eqb}
+use lib.IntN.{negsuc, pos, ℤ}
+use lib.ListN.{getD}
+use Rattle.rules.specs.declared.Message.{Message}
+use Rattle.rules.specs.declared.Message.the-variants.{Away, Cancel, Order, Status, Sweep, TwoLeg}
+use Rattle.rules.specs.Base.{if_then_else_}
+use Rattle.rules.specs.Words.{leggingAt}
+use Rattle.rules.specs.Messages.{encodeMessage}
+use Rattle.rules.specs.Records.{Report, answer, cancelled, causeNumber, crossed, generated, pair, removed, trade}
+use Rattle.rules.specs.Sums.{cancelledOf, contracts, crossedFor, openComplex, paired, total}
+use Rattle.demands.specs.Demand.{Accepted, Given, Seen, byRun, calls, opening}
+
+-- The calls -----------------------------------------------------------------------------------
+
+abbrev pub order : (id series side price quantity : ℕ) → Message
+order i s d p q = Order (record { id = i; series = s; side = d; price = p; quantity = q })
+
+-- a complex order of one side in series 0 and 1
+abbrev pub both : (id side class : ℕ) (limit : ℤ) (quantity : ℕ) → Message
+both i d k n q = TwoLeg (record { id = i; series1 = 0; side1 = d; series2 = 1; side2 = d; class = k; limit = n; quantity = q })
+
+unfoldable pub bytesOf : List Message → List ℕ
+bytesOf [] = []
+bytesOf (m ∷ ms) = encodeMessage m ++ bytesOf ms
+
+-- a run: the printed session, a sweep, and then one cause after another
+unfoldable pub session : List Message
+session =
+    Status 0 1 ∷ Status 1 1
+    ∷ order 1 0 1 130 15 ∷ order 2 1 1 90 12
+    ∷ both 3 0 1 (pos 205) 8
+    -- 5 of its 8 are hit: 3
+    ∷ order 4 0 1 115 5 ∷ Sweep
+    -- a better regular bid: 1
+    ∷ order 5 0 0 120 1 ∷ Cancel 5 ∷ Sweep
+    -- an auction: 6
+    ∷ Status 1 2 ∷ Status 1 1 ∷ Sweep
+    -- an away offer that takes N out of the band: 5
+    ∷ Away 0 0 60 ∷ Away 0 0 0 ∷ Sweep
+    -- an order that would take both: 8
+    ∷ both 6 1 0 (negsuc 189) 1 ∷ Cancel 6 ∷ Sweep
+    -- better prices: 7; and their order is cancelled: 4
+    ∷ both 7 0 0 (pos 210) 2 ∷ Cancel 7 ∷ Sweep
+    ∷ []
+
+-- and then one-message calls, each with its room
+unfoldable pub later : List Given
+later =
+    record { room = 100; bytes = encodeMessage (Away 0 115 0) }
+    ∷ record { room = 100; bytes = encodeMessage (Away 1 85 0) }
+    -- a cross: 3
+    ∷ record { room = 100; bytes = encodeMessage (both 8 1 0 (negsuc 204) 1) }
+    -- 11 bytes hold no answer: this call ends with 10 before its message
+    ∷ record { room = 11; bytes = encodeMessage Sweep }
+    ∷ record { room = 100; bytes = encodeMessage Sweep }
+    -- the other leg's offer is cancelled: 2, and 5
+    ∷ record { room = 100; bytes = encodeMessage (Cancel 2) }
+    -- refused: a torn message, and an id that is not above the last
+    ∷ record { room = 100; bytes = 9 ∷ 0 ∷ 6 ∷ [] }
+    ∷ record { room = 100; bytes = encodeMessage (order 8 1 1 90 12) }
+    ∷ record { room = 100; bytes = encodeMessage (order 9 1 1 90 12) }
+    ∷ record { room = 100; bytes = encodeMessage Sweep }
+    ∷ []
+
+unfoldable pub atEnd : Seen
+atEnd = calls (opening (byRun (record { room = 2000; bytes = bytesOf session }))) later
+
+-- What is read off it -------------------------------------------------------------------------
+
+-- the records of a kind, by document 01's number
+unfoldable pub kindOf : Report → ℕ
+kindOf (answer n x m c) = 64
+kindOf (trade s d p q t m) = 65
+kindOf (pair i n q) = 66
+kindOf (generated i s d p x q) = 67
+kindOf (removed i s d c) = 68
+kindOf (crossed t m n q) = 70
+kindOf (cancelled i q) = 71
+
+unfoldable pub ofKind : (kind : ℕ) → List Report → List Report
+ofKind k [] = []
+ofKind k (r ∷ rs) = if eqb (kindOf r) k then r ∷ ofKind k rs else ofKind k rs
+
+-- the causes of the removals, in order
+unfoldable pub causes : List Report → List ℕ
+causes [] = []
+causes (answer n x m c ∷ rs) = causes rs
+causes (trade s d p q t m ∷ rs) = causes rs
+causes (pair i n q ∷ rs) = causes rs
+causes (generated i s d p x q ∷ rs) = causes rs
+causes (removed i s d c ∷ rs) = causeNumber c ∷ causes rs
+causes (crossed t m n q ∷ rs) = causes rs
+causes (cancelled i q ∷ rs) = causes rs
+
+-- of complex order 3, by what Demand 3 sums: contracts in its series, paired, crossed, cancelled, still open
+unfoldable pub sums : Seen → List ℕ
+sums s =
+    total (contracts 3 0) (s .reports) ∷ total (contracts 3 1) (s .reports) ∷ total (paired 3) (s .reports)
+    ∷ total (crossedFor 3) (s .reports) ∷ total (cancelledOf 3) (s .reports) ∷ openComplex 3 (s .venue .complex) ∷ []
+
+pub record Witness : Type 0 where
+  -- 22 messages of the run and 9 later ones; the call with 11 bytes did none
+  pub done : atEnd .done ≡ 31
+  -- two legging orders stand at the end, for 2 contracts at 115 and 75
+  pub standing : leggingAt (atEnd .venue) 0 0 ≡ record { parent = 3; price = 115; quantity = 2 }
+  pub standing′ : leggingAt (atEnd .venue) 1 0 ≡ record { parent = 3; price = 75; quantity = 2 }
+  -- a hit in part: 5 contracts of a legging order for 8, and 5 of the other leg
+  pub made : getD (ofKind 67 (atEnd .reports)) 0 (cancelled 0 0) ≡ generated 3 0 0 115 115 8
+  pub trades : ofKind 65 (atEnd .reports) ≡ trade 0 1 115 5 4 3 ∷ trade 1 0 90 5 3 2 ∷ []
+  pub pairs : ofKind 66 (atEnd .reports) ≡ pair 3 (pos 205) 5 ∷ []
+  pub crosses : ofKind 70 (atEnd .reports) ≡ crossed 8 3 (negsuc 204) 1 ∷ []
+  pub cancels : ofKind 71 (atEnd .reports) ≡ cancelled 5 1 ∷ cancelled 6 1 ∷ cancelled 7 2 ∷ cancelled 2 7 ∷ []
+  -- each removal cause 1 to 8
+  pub removals : causes (atEnd .reports) ≡ 3 ∷ 3 ∷ 1 ∷ 6 ∷ 6 ∷ 5 ∷ 5 ∷ 8 ∷ 8 ∷ 7 ∷ 7 ∷ 4 ∷ 4 ∷ 3 ∷ 3 ∷ 2 ∷ 5 ∷ []
+  -- complex order 3 was accepted, by what Demand 3 reads off the answers
+  pub accepted : Accepted atEnd (both 3 0 1 (pos 205) 8)
+  -- 8 entered = 5 paired + 1 crossed + 0 cancelled + 2 still open
+  pub account : sums atEnd ≡ 5 ∷ 5 ∷ 5 ∷ 1 ∷ 0 ∷ 2 ∷ []

@@ -1,0 +1,38 @@
+-- `matching::cancel_regular` meets its contract.
+use mathlib.Core.Path.{sym, _∙_}
+use native.Mathlib.Omega.{arith}
+use Rattle.places.specs.Layout.{venueOf}
+use Rattle.places.proofs.Parts.{regulars-few, regular-at}
+use Rattle.matching.proofs.Pairs.{cancel-law}
+use borrow.Author.Needs.{needs}
+use Rattle.matching.proofs.cancel_regular.Statement.{statement}
+use Rattle.matching.proofs.cancel_regular.Tie as tie
+
+regular-at-requires : tie.Need-regular-at-requires
+regular-at-requires c κs = let s = c .before .before .before in let w = regulars-few (s .args .b .now) in (s .pre .0, omega arith)
+
+fill-regular-requires : tie.Need-fill-regular-requires
+fill-regular-requires c κs = search needs
+
+emit-cancelled-requires : tie.Need-emit-cancelled-requires
+emit-cancelled-requires c κs = search needs
+
+same-length : tie.Need-same-length
+same-length c = search needs
+
+same-length-2 : tie.Need-same-length-2
+same-length-2 c = search needs
+
+returns : tie.Need-returns
+returns c = let s = c .before .before .before .before .before .before .before .before .before .before .before .before in (cancel-law _ (venueOf (s .args .b .now)) _ _ _ _ _ _ (c .before .before .before .before .before .before .before .before .regular-at .ensures ∙ sym (regular-at (s .args .b .now) (s .args .i) (s .pre .1))) (c .before .before .before .before .before .before .fill-regular .ensures .0) (c .before .before .emit-cancelled .ensures), c .before .before .before .before .before .before .fill-regular .ensures .1)
+
+pub cancel-regular-spec : {M : Type 1} → statement M
+cancel-regular-spec =
+    tie.close
+    (tie.spec
+    regular-at-requires
+    fill-regular-requires
+    emit-cancelled-requires
+    same-length
+    same-length-2
+    returns)

@@ -1,0 +1,26 @@
+-- `matching::facing` meets its contract.
+use mathlib.Core.Path.{ap, _∙_}
+use native.Mathlib.Omega.{arith}
+use Rattle.rules.specs.Words.{opposite, placeOf}
+use Rattle.levels.proofs.Sides.{legging-read}
+use Rattle.matching.proofs.Pairs.{opposite-in}
+use borrow.Author.Needs.{needs}
+use Rattle.matching.proofs.facing.Statement.{statement}
+use Rattle.matching.proofs.facing.Tie as tie
+
+opposite-of-requires : tie.Need-opposite-of-requires
+opposite-of-requires c κs = search needs
+
+place-of-requires : tie.Need-place-of-requires
+place-of-requires c κs = search needs
+
+legging-at-requires : tie.Need-legging-at-requires
+unfolding placeOf
+legging-at-requires c κs = let s = c .before .before .before in let h = opposite-in (s .args .side) in (s .pre .0, omega (arith, c .place-of .ensures, c .before .opposite-of .ensures, s .pre .1))
+
+returns : tie.Need-returns
+returns c = let s = c .before .before .before .before in legging-read (s .args .b .now) (s .args .series) (opposite (s .args .side)) _ _ (s .pre .1) (opposite-in _) (c .before .place-of .ensures ∙ ap (placeOf (s .args .series)) (c .before .before .opposite-of .ensures)) (c .legging-at .ensures)
+
+pub facing-spec : {M : Type 1} → statement M
+facing-spec =
+    tie.close (tie.spec opposite-of-requires place-of-requires legging-at-requires returns)

@@ -1,0 +1,40 @@
+-- `matching::legging_first` meets its contract.
+use mathlib.Core.Path.{sym, _∙_}
+use borrow.Author.Tests.{not-true, not-false}
+use Rattle.matching.proofs.Turns.{first-none, first-far, first-near}
+use borrow.Author.Needs.{needs}
+use Rattle.matching.proofs.legging_first.Statement.{statement}
+use Rattle.matching.proofs.legging_first.Tie as tie
+
+own-price-requires : tie.Need-own-price-requires
+own-price-requires c κs = search needs
+
+returns : tie.Need-returns
+returns c = first-none _ _ _ _ (c .before .own-price .ensures) (c .if1 .taken)
+
+reaches-price-requires : tie.Need-reaches-price-requires
+reaches-price-requires c κs = search needs
+
+returns-2 : tie.Need-returns-2
+returns-2 c = first-far _ _ _ _ (c .before .before .before .own-price .ensures) (c .before .before .if1 .left) (sym (c .before .reaches-price .ensures) ∙ not-true _ (c .if2 .taken))
+
+opposite-of-requires : tie.Need-opposite-of-requires
+opposite-of-requires c κs = search needs
+
+is-better-requires : tie.Need-is-better-requires
+is-better-requires c κs = search needs
+
+returns-3 : tie.Need-returns-3
+returns-3 c = first-near _ _ _ _ (c .before .before .before .before .before .own-price .ensures) _ _ (c .before .before .before .before .if1 .left) (sym (c .before .before .before .reaches-price .ensures) ∙ not-false _ (c .before .before .if2 .left)) (c .before .opposite-of .ensures) (c .is-better .ensures)
+
+pub legging-first-spec : {M : Type 1} → statement M
+legging-first-spec =
+    tie.close
+    (tie.spec
+    own-price-requires
+    returns
+    reaches-price-requires
+    returns-2
+    opposite-of-requires
+    is-better-requires
+    returns-3)

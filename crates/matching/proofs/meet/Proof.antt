@@ -1,0 +1,39 @@
+-- `matching::meet` meets its contract.
+use mathlib.Core.Path.{sym, _∙_}
+use native.Mathlib.Omega.{arith}
+use Rattle.places.specs.Layout.{venueOf}
+use Rattle.places.proofs.Parts.{regulars-few, regular-at}
+use Rattle.removal.proofs.Removing.{counts-on}
+use Rattle.matching.proofs.Pairs.{meet-law}
+use borrow.Author.Needs.{needs}
+use Rattle.matching.proofs.meet.Statement.{statement}
+use Rattle.matching.proofs.meet.Tie as tie
+
+regular-at-requires : tie.Need-regular-at-requires
+regular-at-requires c κs = let s = c .before .before .before in let w = regulars-few (s .args .b .now) in (s .pre .0, omega (arith, s .pre .1))
+
+fill-regular-requires : tie.Need-fill-regular-requires
+fill-regular-requires c κs = search needs
+
+trade-with-requires : tie.Need-trade-with-requires
+trade-with-requires c κs = (c .before .before .before .before .fill-regular .kept .0 ∙ c .before .before .before .before .before .before .before .before .before .before .pre .0, rw (c .before .before .before .before .fill-regular .ensures .1 .regulars) (c .before .before .before .before .before .before .before .before .before .before .pre .2))
+
+same-length : tie.Need-same-length
+same-length c = search needs
+
+same-length-2 : tie.Need-same-length-2
+same-length-2 c = search needs
+
+returns : tie.Need-returns
+returns c = let s = c .before .before .before .before .before .before .before .before .before .before .before .before .before .before .before in (meet-law _ _ _ (venueOf (s .args .b .now)) _ _ _ _ _ _ _ (c .before .before .before .before .before .before .before .before .before .before .before .regular-at .ensures ∙ sym (regular-at (s .args .b .now) (s .args .i) (s .pre .1))) (c .before .before .before .before .before .before .before .before .before .fill-regular .ensures .0) (c .before .before .before .before .trade-with .ensures .0), counts-on _ _ _ (c .before .before .before .before .before .before .before .before .before .fill-regular .ensures .1) (c .before .before .before .before .trade-with .ensures .1))
+
+pub meet-spec : {M : Type 1} → statement M
+meet-spec =
+    tie.close
+    (tie.spec
+    regular-at-requires
+    fill-regular-requires
+    trade-with-requires
+    same-length
+    same-length-2
+    returns)

@@ -1,0 +1,97 @@
+-- `matching::meet_all` meets its contract.
+use mathlib.Core.Path.{sym, ap, _∙_}
+use Rattle.rules.specs.Order.{meetTurn}
+use Rattle.places.specs.Layout.{venueOf}
+use Rattle.matching.specs.Turns.{turnOf}
+use Rattle.matching.proofs.Turns.{Turning, turning-start, turning-end, turning-stop, turning-turn, turning-room}
+use borrow.Author.Needs.{needs}
+use Rattle.matching.proofs.meet_all.Statement.{statement}
+use Rattle.matching.proofs.meet_all.Tie as tie
+
+abbrev Inv-loop : tie.InvT-loop
+Inv-loop b₀ i quantity out₀ at pos₀ turns₀ b out pos turns = Turning (meetTurn i) quantity b₀ out₀ at b out pos turns
+
+abbrev μ-loop : tie.MeasureT-loop
+μ-loop b₀ i quantity out₀ at pos₀ turns₀ b out pos turns = turns
+
+loop-holds : tie.Need-loop-holds Inv-loop μ-loop
+loop-holds c = turning-start _ _ _ _ _ (c .before .before .pre .0)
+
+sub-turns : tie.Need-sub-turns Inv-loop μ-loop
+sub-turns c = search needs
+
+decide-requires : tie.Need-decide-requires Inv-loop μ-loop
+decide-requires c κs = (c .before .before .loop .inv .whole, rw (c .before .before .loop .inv .counts .regulars) (c .before .before .before .before .before .pre .1))
+
+enum-told : tie.Need-enum-told Inv-loop μ-loop
+enum-told c = search needs
+
+same-length : tie.Need-same-length Inv-loop μ-loop
+same-length c = c .before .before .before .before .before .loop .inv .whole ∙ sym (c .before .before .before .before .before .before .before .before .pre .0)
+
+same-length-2 : tie.Need-same-length-2 Inv-loop μ-loop
+same-length-2 c = turning-room (c .before .before .before .before .before .loop .inv)
+
+returns : tie.Need-returns Inv-loop μ-loop
+unfolding turnOf
+returns c = turning-stop (c .before .before .before .before .before .loop .inv) (sym (ap (turnOf (c .before .before .before .before .before .before .before .before .args .i) (venueOf (c .before .before .before .before .before .loop .b))) (c .enum-told .given .1)) ∙ c .before .before .decide .ensures .0)
+
+enum-known-plan : tie.Need-enum-known-plan Inv-loop μ-loop
+enum-known-plan c = search needs
+
+hit-requires : tie.Need-hit-requires Inv-loop μ-loop
+hit-requires c κs = (c .before .before .before .before .before .before .before .before .loop .inv .whole, rw (c .before .before .before .before .before .before .before .before .loop .inv .counts .regulars) (c .before .before .before .before .before .before .before .before .before .before .before .pre .1))
+
+loop-less : tie.Need-loop-less Inv-loop μ-loop
+loop-less c = search needs
+
+loop-again : tie.Need-loop-again Inv-loop μ-loop
+unfolding turnOf
+loop-again c = turning-turn (c .before .before .before .before .before .before .before .before .before .before .before .before .before .loop .inv) _ _ _ _ (c .before .before .before .before .before .before .before .before .before .before .before .before .loop-test .taken) (sym (ap (turnOf (c .before .before .before .before .before .before .before .before .before .before .before .before .before .before .before .before .args .i) (venueOf (c .before .before .before .before .before .before .before .before .before .before .before .before .before .loop .b))) (c .before .before .before .before .before .before .before .before .plan .given .1)) ∙ c .before .before .before .before .before .before .before .before .before .before .decide .ensures .0) (c .before .before .before .before .hit .kept .0) (c .before .before .before .before .hit .ensures)
+
+enum-known-plan-2 : tie.Need-enum-known-plan-2 Inv-loop μ-loop
+enum-known-plan-2 c = search needs
+
+meet-requires : tie.Need-meet-requires Inv-loop μ-loop
+meet-requires c κs = (c .before .before .before .before .before .before .before .before .loop .inv .whole, rw (c .before .before .before .before .before .before .before .before .loop .inv .counts .regulars) (c .before .before .before .before .before .before .before .before .before .before .before .pre .1), rw (c .before .before .before .plan2 .given .1) at (c .before .before .before .before .before .decide .ensures .1))
+
+loop-less-2 : tie.Need-loop-less-2 Inv-loop μ-loop
+loop-less-2 c = search needs
+
+loop-again-2 : tie.Need-loop-again-2 Inv-loop μ-loop
+unfolding turnOf
+loop-again-2 c = turning-turn (c .before .before .before .before .before .before .before .before .before .before .before .before .before .loop .inv) _ _ _ _ (c .before .before .before .before .before .before .before .before .before .before .before .before .loop-test .taken) (sym (ap (turnOf (c .before .before .before .before .before .before .before .before .before .before .before .before .before .before .before .before .args .i) (venueOf (c .before .before .before .before .before .before .before .before .before .before .before .before .before .loop .b))) (c .before .before .before .before .before .before .before .before .plan2 .given .1)) ∙ c .before .before .before .before .before .before .before .before .before .before .decide .ensures .0) (c .before .before .before .before .meet .kept .0) (c .before .before .before .before .meet .ensures)
+
+same-length-3 : tie.Need-same-length-3 Inv-loop μ-loop
+same-length-3 c = c .before .loop .inv .whole ∙ sym (c .before .before .before .before .pre .0)
+
+same-length-4 : tie.Need-same-length-4 Inv-loop μ-loop
+same-length-4 c = turning-room (c .before .loop .inv)
+
+returns-2 : tie.Need-returns-2 Inv-loop μ-loop
+returns-2 c = turning-end (c .before .loop .inv) (c .loop-test .left)
+
+pub meet-all-spec : {M : Type 1} → statement M
+meet-all-spec =
+    tie.close
+    (tie.spec
+    Inv-loop
+    μ-loop
+    loop-holds
+    sub-turns
+    decide-requires
+    enum-told
+    same-length
+    same-length-2
+    returns
+    enum-known-plan
+    hit-requires
+    loop-less
+    loop-again
+    enum-known-plan-2
+    meet-requires
+    loop-less-2
+    loop-again-2
+    same-length-3
+    same-length-4
+    returns-2)

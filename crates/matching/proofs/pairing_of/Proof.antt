@@ -1,0 +1,48 @@
+-- `matching::pairing_of` meets its contract.
+use mathlib.Core.Path.{ap}
+use lib.IntN.{natAbs}
+use native.Mathlib.Omega.{arith}
+use Rattle.rules.proofs.Machine.{back}
+use Rattle.places.specs.Layout.{venueOf}
+use Rattle.levels.proofs.Sides.{parent-legs}
+use Rattle.matching.proofs.Pairs.{leg-in, opposite-in, pairing-law}
+use borrow.Author.Needs.{needs}
+use Rattle.matching.proofs.pairing_of.Statement.{statement}
+use Rattle.matching.proofs.pairing_of.Tie as tie
+
+parent-of-requires : tie.Need-parent-of-requires
+parent-of-requires c κs = search needs
+
+other-leg-requires : tie.Need-other-leg-requires
+other-leg-requires c κs = search needs
+
+levels-requires : tie.Need-levels-requires
+levels-requires c κs = search needs
+
+opposite-of-requires : tie.Need-opposite-of-requires
+opposite-of-requires c κs = search needs
+
+clear-price-requires : tie.Need-clear-price-requires
+clear-price-requires c κs = let s = c .before .before .before .before .before in let h = leg-in (c .before .before .before .parent-of .result) (s .args .series) (rw (← c .before .before .before .parent-of .ensures) at (parent-legs (s .args .b .now) (s .args .l))) in (s .pre, c .before .levels .ensures, rw (c .before .before .other-leg .ensures) (h .0), rw (c .opposite-of .ensures) (opposite-in _))
+
+opposite-of-requires-2 : tie.Need-opposite-of-requires-2
+opposite-of-requires-2 c κs = search needs
+
+net-of-requires : tie.Need-net-of-requires
+net-of-requires c κs = search needs
+
+returns : tie.Need-returns
+returns c = let q = back {z = c .net-of .result} (record { sfits = c .net-of .ok }) in let s = c .before .before .before .before .before .before .before .before in (pairing-law (venueOf (s .args .b .now)) (s .args .l) (s .args .series) (s .args .side) _ _ _ _ _ _ _ (c .before .before .before .before .before .before .parent-of .ensures) (c .before .before .before .before .before .other-leg .ensures) (c .before .before .before .opposite-of .ensures) (c .before .before .clear-price .ensures) (c .before .opposite-of2 .ensures) (c .net-of .ensures .0) q, omega (arith, ap natAbs q, c .net-of .ensures .1))
+
+pub pairing-of-spec : {M : Type 1} → statement M
+pairing-of-spec =
+    tie.close
+    (tie.spec
+    parent-of-requires
+    other-leg-requires
+    levels-requires
+    opposite-of-requires
+    clear-price-requires
+    opposite-of-requires-2
+    net-of-requires
+    returns)

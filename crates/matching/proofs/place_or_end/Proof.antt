@@ -1,0 +1,25 @@
+-- `matching::place_or_end` meets its contract.
+use mathlib.Core.Path.{sym, _∙_}
+use Rattle.matching.proofs.Pairs.{place-found, place-nothing}
+use borrow.Author.Needs.{needs}
+use Rattle.matching.proofs.place_or_end.Statement.{statement}
+use Rattle.matching.proofs.place_or_end.Tie as tie
+
+complex-place-requires : tie.Need-complex-place-requires
+complex-place-requires c κs = search needs
+
+enum-known-found : tie.Need-enum-known-found
+enum-known-found c = search needs
+
+enum-told : tie.Need-enum-told
+enum-told c = search needs
+
+returns : tie.Need-returns
+returns c = let s = c .before .before .before .before .before in place-found (s .args .b .now) (s .args .id) _ (sym (c .before .found .given .1) ∙ c .before .before .before .complex-place .ensures)
+
+returns-2 : tie.Need-returns-2
+returns-2 c = let s = c .before .before .before .before in place-nothing (s .args .b .now) (s .args .id) (sym (c .enum-told .given .1) ∙ c .before .before .complex-place .ensures)
+
+pub place-or-end-spec : {M : Type 1} → statement M
+place-or-end-spec =
+    tie.close (tie.spec complex-place-requires enum-known-found enum-told returns returns-2)

@@ -1,0 +1,306 @@
+// Matching: what an order, a pair and a cancel do to the venue in its slice, with their records.
+// Each function says in one equation the venue that it leaves and all that it writes: those of its definition.
+ghost use mathlib.Core.Path.{_≡_};
+ghost use Prim.Native.Nat.{ℕ, suc, min, _≤_, _<_};
+ghost use lib.IntN.{natAbs};
+ghost use lib.ListN.{length};
+ghost use Rattle.rules.specs.Words.{opposite, leggingAt};
+ghost use Rattle.rules.specs.Effects.{repeat};
+ghost use Rattle.rules.specs.Trading.{fillComplex, freeRegular, tradeWith, pairOff};
+ghost use Rattle.rules.specs.Trading as trading;
+ghost use Rattle.rules.specs.Prices.{ownPrice};
+ghost use Rattle.rules.specs.Order.{leggingFirst, meetTurn, enterRegular};
+ghost use Rattle.rules.specs.Order as order;
+ghost use Rattle.rules.specs.Complex.{complexPlace, cancelRegular, cancelComplex};
+ghost use Rattle.wire.specs.Seen.{seen};
+ghost use Rattle.wire.specs.Stage.{stage, _does_};
+ghost use Rattle.places.specs.Layout.{size, regularsUsed, complexesUsed, venueOf, Counts, SameCounts};
+ghost use Rattle.matching.specs.Turns.{pairingOf, turnOf, InUse};
+use book::Found;
+use book::Pick;
+use rules::Cause;
+use rules::Legging;
+use rules::Regular;
+
+fn lesser(a: u32, b: u32) -> u32
+    ensures { λ r. ⌜ r ≡ min a b ⌝ }
+{
+    if a < b {
+        return a;
+    }
+    b
+}
+
+// A taker of a side trades k contracts with the regular order at place j.
+fn trade_with(
+    b: &mut [u32],
+    taker: u32,
+    side: u8,
+    j: usize,
+    k: u32,
+    out: &mut [u8],
+    at: usize,
+) -> usize
+    requires { ⌜ (length (now b) ≡ size) × (j < regularsUsed (now b)) ⌝ }
+    ensures { λ r. ⌜ stage (venueOf (now (b .exit))) (now (out .exit)) r ≡ seen (now (out .entry)) at does tradeWith taker side j k (venueOf (now (b .entry))) ⌝ }
+    ensures counts { λ _. ⌜ SameCounts (now (b .entry)) (now (b .exit)) ⌝ }
+{
+    let m = places::regular_at(b, j);
+    places::fill_regular(b, j, k);
+    wire::emit_trade(out, at, m.series, side, m.price, k, taker, m.id)
+}
+
+// A taker of a side takes contracts at a price in a series, by id, until it has all or none are left there.
+pub fn take(
+    b: &mut [u32],
+    taker: u32,
+    series: u8,
+    side: u8,
+    price: u32,
+    quantity: u32,
+    out: &mut [u8],
+    at: usize,
+) -> usize
+    requires { ⌜ length (now b) ≡ size ⌝ }
+    ensures { λ r. ⌜ stage (venueOf (now (b .exit))) (now (out .exit)) r ≡ seen (now (out .entry)) at does trading.take quantity taker series side price quantity (venueOf (now (b .entry))) ⌝ }
+    ensures counts { λ _. ⌜ SameCounts (now (b .entry)) (now (b .exit)) ⌝ }
+{
+    let other = rules::opposite_of(side);
+    let mut pos = at;
+    let mut left = quantity;
+    while 0 < left {
+        let found = book::first_for(b, series, other, price);
+        let Pick::At(j, m) = found else {
+            return pos;
+        };
+        let k = lesser(left, m.quantity);
+        pos = trade_with(b, taker, side, j, k, out, pos);
+        left -= k;
+    }
+    pos
+}
+
+// The complex order at place i, if there is one, is filled for k contracts.
+fn fill_pair(b: &mut [u32], i: usize, k: u32)
+    requires { ⌜ length (now b) ≡ size ⌝ }
+    ensures { λ _. ⌜ venueOf (now (b .exit)) ≡ fillComplex i k (venueOf (now (b .entry))) ⌝ }
+    ensures counts { λ _. ⌜ SameCounts (now (b .entry)) (now (b .exit)) ⌝ }
+{
+    if places::complexes_used(b) <= i {
+        return;
+    }
+    places::fill_complex(b, i, k);
+}
+
+// The complex order of this id, at place i, pairs k contracts at a net; its legging orders go.
+pub fn pair_off(
+    b: &mut [u32],
+    i: usize,
+    id: u32,
+    net: i64,
+    k: u32,
+    out: &mut [u8],
+    at: usize,
+) -> usize
+    requires { ⌜ length (now b) ≡ size ⌝ }
+    ensures { λ r. ⌜ stage (venueOf (now (b .exit))) (now (out .exit)) r ≡ seen (now (out .entry)) at does pairOff i id net k (venueOf (now (b .entry))) ⌝ }
+    ensures counts { λ _. ⌜ SameCounts (now (b .entry)) (now (b .exit)) ⌝ }
+{
+    fill_pair(b, i, k);
+    let pos = wire::emit_pair(out, at, id, net, k);
+    removal::remove_of(b, id, Cause::Executed, out, pos)
+}
+
+// What a hit pairs: the complex order, its other leg with the clear price, and the net.
+pub struct Pairing {
+    pub id: u32,
+    pub series: u8,
+    pub side: u8,
+    pub clear: u32,
+    pub net: i64,
+}
+
+fn pairing_of(b: &[u32], l: Legging, series: u8, side: u8) -> Pairing
+    requires { ⌜ length (now b) ≡ size ⌝ }
+    ensures { λ r. ⌜ r ≡ pairingOf (venueOf (now (b .entry))) l series side ⌝ }
+    ensures bounded { λ r. ⌜ natAbs (r .net) ≤ 8589934590 ⌝ }
+{
+    let c = levels::parent_of(b, l);
+    let leg = levels::other_leg(c, series);
+    let g = levels::levels(b);
+    let clear = levels::clear_price(b, g, leg.series, rules::opposite_of(leg.side));
+    let net = rules::net_of(rules::opposite_of(side), l.price, leg.side, clear);
+    Pairing {
+        id: c.id,
+        series: leg.series,
+        side: leg.side,
+        clear,
+        net,
+    }
+}
+
+// The place of the resting complex order with an id; 32 where there is none.
+fn place_or_end(b: &[u32], id: u32) -> usize
+    requires { ⌜ length (now b) ≡ size ⌝ }
+    ensures { λ r. ⌜ r ≡ complexPlace (venueOf (now (b .entry))) id ⌝ }
+{
+    let found = book::complex_place(b, id);
+    match found {
+        Found::At(j) => j,
+        Found::Nothing => 32,
+    }
+}
+
+// The order at place i hits a legging order for k contracts: the trade, then the pairing.
+fn hit(b: &mut [u32], i: usize, l: Legging, k: u32, out: &mut [u8], at: usize) -> usize
+    requires { ⌜ (length (now b) ≡ size) × (i < regularsUsed (now b)) ⌝ }
+    ensures { λ r. ⌜ stage (venueOf (now (b .exit))) (now (out .exit)) r ≡ seen (now (out .entry)) at does order.hit i l k (venueOf (now (b .entry))) ⌝ }
+    ensures counts { λ _. ⌜ SameCounts (now (b .entry)) (now (b .exit)) ⌝ }
+{
+    let o = places::regular_at(b, i);
+    let p = pairing_of(b, l, o.series, o.side);
+    places::fill_regular(b, i, k);
+    let traded = wire::emit_trade(out, at, o.series, o.side, l.price, k, o.id, p.id);
+    let taken = take(b, p.id, p.series, p.side, p.clear, k, out, traded);
+    let j = place_or_end(b, p.id);
+    pair_off(b, j, p.id, p.net, k, out, taken)
+}
+
+// The order at place i trades k contracts with the regular order at place j.
+fn meet(b: &mut [u32], i: usize, j: usize, k: u32, out: &mut [u8], at: usize) -> usize
+    requires { ⌜ (length (now b) ≡ size) × (i < regularsUsed (now b)) × (j < regularsUsed (now b)) ⌝ }
+    ensures { λ r. ⌜ stage (venueOf (now (b .exit))) (now (out .exit)) r ≡ seen (now (out .entry)) at does order.meet i j k (venueOf (now (b .entry))) ⌝ }
+    ensures counts { λ _. ⌜ SameCounts (now (b .entry)) (now (b .exit)) ⌝ }
+{
+    let o = places::regular_at(b, i);
+    places::fill_regular(b, i, k);
+    trade_with(b, o.id, o.side, j, k, out, at)
+}
+
+// What the order at a place does next.
+pub enum Plan {
+    Ended,
+    Hit(Legging, u32),
+    Meet(usize, u32),
+}
+
+fn own_price(l: Legging) -> u32
+    ensures { λ r. ⌜ r ≡ ownPrice l ⌝ }
+{
+    if l.quantity == 0 {
+        return 0;
+    }
+    l.price
+}
+
+// The order o meets the legging order l before a regular order at price p (0: none).
+fn legging_first(o: Regular, l: Legging, p: u32) -> bool
+    ensures { λ r. ⌜ r ≡ leggingFirst o l p ⌝ }
+{
+    let own = own_price(l);
+    if own == 0 {
+        return false;
+    }
+    if !levels::reaches_price(o.side, o.price, own) {
+        return false;
+    }
+    levels::is_better(rules::opposite_of(o.side), own, p)
+}
+
+// The legging order that one of a side in a series faces.
+fn facing(b: &[u32], series: u8, side: u8) -> Legging
+    requires { ⌜ (length (now b) ≡ size) × (series < 8) ⌝ }
+    ensures { λ r. ⌜ r ≡ leggingAt (venueOf (now (b .entry))) series (opposite side) ⌝ }
+{
+    let n = rules::place_of(series, rules::opposite_of(side));
+    places::legging_at(b, n)
+}
+
+// What the order at place i does next.
+fn decide(b: &[u32], i: usize) -> Plan
+    requires { ⌜ (length (now b) ≡ size) × (i < regularsUsed (now b)) ⌝ }
+    ensures { λ r. ⌜ (turnOf i (venueOf (now (b .entry))) r ≡ meetTurn i (venueOf (now (b .entry)))) × InUse (regularsUsed (now (b .entry))) r ⌝ }
+{
+    let o = places::regular_at(b, i);
+    if o.quantity == 0 {
+        return Plan::Ended;
+    }
+    let l = facing(b, o.series, o.side);
+    let found = book::first_met(b, o.series, o.side, o.price);
+    match found {
+        Pick::Nobody => {
+            if legging_first(o, l, 0) {
+                return Plan::Hit(l, lesser(o.quantity, l.quantity));
+            }
+            Plan::Ended
+        }
+        Pick::At(j, m) => {
+            if legging_first(o, l, m.price) {
+                return Plan::Hit(l, lesser(o.quantity, l.quantity));
+            }
+            Plan::Meet(j, lesser(o.quantity, m.quantity))
+        }
+    }
+}
+
+// The order at place i meets the other side, in at most `quantity` turns.
+pub fn meet_all(b: &mut [u32], i: usize, quantity: u32, out: &mut [u8], at: usize) -> usize
+    requires { ⌜ (length (now b) ≡ size) × (i < regularsUsed (now b)) ⌝ }
+    ensures { λ r. ⌜ stage (venueOf (now (b .exit))) (now (out .exit)) r ≡ seen (now (out .entry)) at does repeat quantity (meetTurn i) (venueOf (now (b .entry))) ⌝ }
+    ensures counts { λ _. ⌜ SameCounts (now (b .entry)) (now (b .exit)) ⌝ }
+{
+    let mut pos = at;
+    let mut turns = quantity;
+    while 0 < turns {
+        turns -= 1;
+        let plan = decide(b, i);
+        match plan {
+            Plan::Ended => {
+                return pos;
+            }
+            Plan::Hit(l, k) => {
+                pos = hit(b, i, l, k, out, pos);
+                continue;
+            }
+            Plan::Meet(j, k) => {
+                pos = meet(b, i, j, k, out, pos);
+                continue;
+            }
+        }
+    }
+    pos
+}
+
+// The order is given a place and meets the other side there.
+pub fn enter_regular(b: &mut [u32], o: Regular, out: &mut [u8], at: usize) -> usize
+    requires { ⌜ (length (now b) ≡ size) × (freeRegular (venueOf (now b)) ≡ regularsUsed (now b)) × (regularsUsed (now b) < 128) × (o .series < 8) × (o .side < 2) ⌝ }
+    ensures { λ r. ⌜ stage (venueOf (now (b .exit))) (now (out .exit)) r ≡ seen (now (out .entry)) at does enterRegular o (venueOf (now (b .entry))) ⌝ }
+    ensures counts { λ _. ⌜ Counts (suc (regularsUsed (now (b .entry)))) (complexesUsed (now (b .entry))) (now (b .exit)) ⌝ }
+{
+    let i = places::regulars_used(b);
+    places::add_regular(b, o);
+    meet_all(b, i, o.quantity, out, at)
+}
+
+// The regular order at place i is cancelled.
+pub fn cancel_regular(b: &mut [u32], i: usize, out: &mut [u8], at: usize) -> usize
+    requires { ⌜ (length (now b) ≡ size) × (i < regularsUsed (now b)) ⌝ }
+    ensures { λ r. ⌜ stage (venueOf (now (b .exit))) (now (out .exit)) r ≡ seen (now (out .entry)) at does cancelRegular i (venueOf (now (b .entry))) ⌝ }
+    ensures counts { λ _. ⌜ SameCounts (now (b .entry)) (now (b .exit)) ⌝ }
+{
+    let o = places::regular_at(b, i);
+    places::fill_regular(b, i, o.quantity);
+    wire::emit_cancelled(out, at, o.id, o.quantity)
+}
+
+// The complex order at place i is cancelled, and its legging orders go.
+pub fn cancel_complex(b: &mut [u32], i: usize, out: &mut [u8], at: usize) -> usize
+    requires { ⌜ (length (now b) ≡ size) × (i < complexesUsed (now b)) ⌝ }
+    ensures { λ r. ⌜ stage (venueOf (now (b .exit))) (now (out .exit)) r ≡ seen (now (out .entry)) at does cancelComplex i (venueOf (now (b .entry))) ⌝ }
+    ensures counts { λ _. ⌜ SameCounts (now (b .entry)) (now (b .exit)) ⌝ }
+{
+    let c = places::complex_at(b, i);
+    places::fill_complex(b, i, c.quantity);
+    let pos = wire::emit_cancelled(out, at, c.id, c.quantity);
+    removal::remove_of(b, c.id, Cause::Withdrawn, out, pos)
+}

@@ -1,0 +1,269 @@
+-- What closing the gaps does to the venue, and that a dense book's first free place is the one after those in use.
+use mathlib.Core.Path.{_≡_, refl, sym, ap, _∙_}
+use mathlib.Core.Bool.{true, false}
+use mathlib.Core.Logic.{_⊎_, inl, inr}
+use mathlib.Core.List.{List}
+use Prim.Native.Nat.{ℕ, _+_, _*_, _≤_, _<_}
+use native.Mathlib.Omega.{arith}
+use lib.IntN.{ℤ, pos, natAbs, _-ℤ_, -ℤ-+ℤ-cancel}
+use lib.ListN.{length, set, getD}
+use lib.Seq.{sets, getD-set-same}
+use Rattle.rules.specs.declared.Regular.{Regular}
+use Rattle.rules.specs.declared.Complex.{Complex}
+use Rattle.rules.specs.declared.Venue.{Venue}
+use Rattle.rules.specs.Words.{noRegular, noComplex, regularAt, complexAt, withRegular, withComplex}
+use Rattle.rules.specs.Trading.{freeRegular, freeComplex}
+use Rattle.rules.specs.Places.{holdsRegular, holdsComplex, keep, closeGaps}
+use Rattle.places.specs.Layout.{size, inUse, regularsUsed, complexesUsed, regularIn, complexIn, venueOf, regularRow, complexRow, limitNumber, Kept, Counts, SameCounts, Filled, Dense, closeRegulars, closeComplexes, RegularsClosed, ComplexesClosed, GapsClosed}
+use Rattle.places.proofs.Parts.{Outside, stored, wider, regulars-few, complexes-few, regular-at, complex-at, regular-kept, complex-kept, count-kept, count-kept2, regulars-kept, complexes-kept, leggings-kept, series-kept, last-kept, venue-is, regulars-counted, complexes-counted}
+use Rattle.places.proofs.Stores.{regular-back, complex-back, counted, counted2}
+use Rattle.places.proofs.Gaps.{closing-start, closed-count, closed-part, free-place, Moving, moving-start, moving-skip, moving-keep}
+
+-- Rows ----------------------------------------------------------------------------------------
+
+abbrev pub lowRegular : ℕ → ℕ
+lowRegular i = 4 * i
+
+abbrev pub lowComplex : ℕ → ℕ
+lowComplex i = 6 * i + 512
+
+pub regular-wide : (i : ℕ) (o : Regular) → 4 * i + length (regularRow o) ≡ 4 * (i + 1)
+unfolding regularRow
+regular-wide i o = omega arith
+
+pub complex-wide : (i : ℕ) (c : Complex) → 6 * i + 512 + length (complexRow c) ≡ 6 * (i + 1) + 512
+unfolding complexRow
+complex-wide i c = omega arith
+
+pub regular-agree : (a b : List ℕ) (l h i : ℕ) → Outside l h a b → (4 * (i + 1) ≤ l) ⊎ (h ≤ 4 * i) → regularIn a i ≡ regularIn b i
+regular-agree a b l h i o (inl w) = regular-kept o i (inl (omega arith))
+regular-agree a b l h i o (inr w) = regular-kept o i (inr w)
+
+pub complex-agree : (a b : List ℕ) (l h i : ℕ) → Outside l h a b → (6 * (i + 1) + 512 ≤ l) ⊎ (h ≤ 6 * i + 512) → complexIn a i ≡ complexIn b i
+complex-agree a b l h i o (inl w) = complex-kept o i (inl (omega arith))
+complex-agree a b l h i o (inr w) = complex-kept o i (inr w)
+
+-- what is read may be written
+regular-again : (a c : List ℕ) (i k : ℕ) → length a ≡ size → i < 128 → regularIn (sets a (4 * i) (regularRow (regularIn c k))) i ≡ regularIn c k
+regular-again a c i k e h = regular-back a i (regularIn c k) e h (unfold regularIn in omega arith) (unfold regularIn in omega arith)
+
+complex-keeps : (c : List ℕ) (k : ℕ) → Kept (complexIn c k)
+unfolding complexIn limitNumber
+complex-keeps c k = record {
+  class = omega arith;
+  limit = ap (λ (z : ℤ). pos (natAbs z) -ℤ pos 2147483648) (-ℤ-+ℤ-cancel (pos (getD c (6 * k + 516) 0)) (pos 2147483648));
+}
+
+complex-again : (a c : List ℕ) (i k : ℕ) → length a ≡ size → i < 32 → complexIn (sets a (6 * i + 512) (complexRow (complexIn c k))) i ≡ complexIn c k
+complex-again a c i k e h =
+    complex-back a i (complexIn c k) e h (unfold complexIn in omega arith) (unfold complexIn in omega arith) (unfold complexIn in omega arith) (unfold complexIn in omega arith) (complex-keeps c k)
+
+-- The loops -----------------------------------------------------------------------------------
+
+abbrev pub MovingRegulars : (a b : List ℕ) (n i j : ℕ) → Type 0
+MovingRegulars = Moving holdsRegular lowRegular regularIn
+
+abbrev pub MovingComplexes : (a b : List ℕ) (n i j : ℕ) → Type 0
+MovingComplexes = Moving holdsComplex lowComplex complexIn
+
+pub regulars-start : (a : List ℕ) (n r : ℕ) → length a ≡ size → r ≤ n → Filled holdsRegular (regularIn a) r → MovingRegulars a a n r r
+regulars-start = moving-start holdsRegular 128 lowRegular regularIn regularRow (λ i j h. omega arith) regular-wide regular-agree regular-again
+
+pub complexes-start : (a : List ℕ) (n r : ℕ) → length a ≡ size → r ≤ n → Filled holdsComplex (complexIn a) r → MovingComplexes a a n r r
+complexes-start = moving-start holdsComplex 32 lowComplex complexIn complexRow (λ i j h. omega arith) complex-wide complex-agree complex-again
+
+pub regulars-skip : (a b : List ℕ) (n i j : ℕ) → MovingRegulars a b n i j → i < n → (o : Regular) → o ≡ regularIn b i → holdsRegular o ≡ false → MovingRegulars a b n (i + 1) j
+regulars-skip = moving-skip holdsRegular 128 lowRegular regularIn regularRow (λ i j h. omega arith) regular-wide regular-agree regular-again
+
+pub complexes-skip : (a b : List ℕ) (n i j : ℕ) → MovingComplexes a b n i j → i < n → (o : Complex) → o ≡ complexIn b i → holdsComplex o ≡ false → MovingComplexes a b n (i + 1) j
+complexes-skip = moving-skip holdsComplex 32 lowComplex complexIn complexRow (λ i j h. omega arith) complex-wide complex-agree complex-again
+
+pub regulars-keep : (a b : List ℕ) (n i j : ℕ) → MovingRegulars a b n i j → i < n → (o : Regular) → o ≡ regularIn b i →
+    (b′ : List ℕ) → n ≤ 128 → holdsRegular o ≡ true → b′ ≡ sets b (4 * j) (regularRow o) → MovingRegulars a b′ n (i + 1) (j + 1)
+regulars-keep = moving-keep holdsRegular 128 lowRegular regularIn regularRow (λ i j h. omega arith) regular-wide regular-agree regular-again
+
+pub complexes-keep : (a b : List ℕ) (n i j : ℕ) → MovingComplexes a b n i j → i < n → (o : Complex) → o ≡ complexIn b i →
+    (b′ : List ℕ) → n ≤ 32 → holdsComplex o ≡ true → b′ ≡ sets b (6 * j + 512) (complexRow o) → MovingComplexes a b′ n (i + 1) (j + 1)
+complexes-keep = moving-keep holdsComplex 32 lowComplex complexIn complexRow (λ i j h. omega arith) complex-wide complex-agree complex-again
+
+-- The venue -----------------------------------------------------------------------------------
+
+others-regular : (a b : List ℕ) (l : List Regular) → Outside 0 512 a b → withRegular (venueOf b) l ≡ withRegular (venueOf a) l
+unfolding withRegular
+others-regular a b l o =
+    venue-is (withRegular (venueOf b) l) (withRegular (venueOf a) l) refl (complexes-kept o (inl (omega arith)) (inr (omega arith)))
+    (leggings-kept o (inl (omega arith))) (series-kept o (inl (omega arith))) (last-kept o (inr (omega arith)))
+
+others-complex : (a b : List ℕ) (l : List Complex) → Outside 512 704 a b → withComplex (venueOf b) l ≡ withComplex (venueOf a) l
+unfolding withComplex
+others-complex a b l o =
+    venue-is (withComplex (venueOf b) l) (withComplex (venueOf a) l) (regulars-kept o (omega arith) (inr (omega arith))) refl
+    (leggings-kept o (inl (omega arith))) (series-kept o (inl (omega arith))) (last-kept o (inr (omega arith)))
+
+-- no gap
+regulars-same : (a : List ℕ) → Filled holdsRegular (regularIn a) (regularsUsed a) → RegularsClosed a a
+unfolding closeRegulars withRegular venueOf
+regulars-same a full =
+    let n = regularsUsed a in
+    let p = closing-start holdsRegular n (regularIn a) n (omega arith) full in
+    record {
+      venue = venue-is (venueOf a) (closeRegulars (venueOf a)) (closed-part holdsRegular noRegular refl n 128 (regularIn a) (regularIn a) n p (regulars-few a)) refl refl refl refl;
+      counts = record { regulars = sym (closed-count holdsRegular noRegular refl n 128 (regularIn a) (regularIn a) n p (regulars-few a)); complexes = refl };
+      filled = full;
+    }
+
+complexes-same : (a : List ℕ) → Filled holdsComplex (complexIn a) (complexesUsed a) → ComplexesClosed a a
+unfolding closeComplexes withComplex venueOf
+complexes-same a full =
+    let n = complexesUsed a in
+    let p = closing-start holdsComplex n (complexIn a) n (omega arith) full in
+    record {
+      venue = venue-is (venueOf a) (closeComplexes (venueOf a)) refl (closed-part holdsComplex noComplex refl n 32 (complexIn a) (complexIn a) n p (complexes-few a)) refl refl refl;
+      counts = record { regulars = refl; complexes = sym (closed-count holdsComplex noComplex refl n 32 (complexIn a) (complexIn a) n p (complexes-few a)) };
+      filled = full;
+    }
+
+-- the book becomes l, of which j places are in use
+pub record RegularsSet (a : List ℕ) (l : List Regular) (j : ℕ) (c : List ℕ) : Type 0 where
+  pub venue : venueOf c ≡ withRegular (venueOf a) l
+  pub counts : Counts j (complexesUsed a) c
+  pub filled : Filled holdsRegular (regularIn c) (regularsUsed c)
+
+pub regulars-set : (a b : List ℕ) (l : List Regular) (j : ℕ) → length b ≡ size → j ≤ 128 → Outside 0 512 a b →
+    inUse (regularIn b) noRegular j 128 ≡ l → Filled holdsRegular (regularIn b) j → RegularsSet a l j (set b 776 j)
+regulars-set a b l j long few near part full = record {
+  venue = regulars-counted (stored b 776 j)
+      ∙ ap (λ (k : ℕ). withRegular (venueOf b) (inUse (regularIn b) noRegular k 128)) used
+      ∙ ap (λ (x : List Regular). withRegular (venueOf b) x) part
+      ∙ others-regular a b l near;
+  counts = record {
+    regulars = used;
+    complexes = count-kept2 (stored b 776 j) (inr (omega arith)) ∙ count-kept2 near (inr (omega arith));
+  };
+  filled = λ k w. ap holdsRegular (sym (regular-kept (stored b 776 j) k (inl (let z = regulars-few (set b 776 j) in omega arith)))) ∙ full k (let e = used in omega arith);
+}
+  where
+    used : regularsUsed (set b 776 j) ≡ j
+    used = counted (set b 776 j) j (getD-set-same b 776 j 0 (omega arith)) few
+
+regulars-closed : (a b : List ℕ) (j : ℕ) → MovingRegulars a b (regularsUsed a) (regularsUsed a) j → RegularsClosed a (set b 776 j)
+unfolding closeRegulars venueOf
+regulars-closed a b j m =
+    let few = regulars-few a in
+    let fewer = m .places .fewer in
+    let s = regulars-set a b _ j (m .long) (omega arith) (wider (omega arith) (omega arith) (m .outside))
+    (closed-part holdsRegular noRegular refl (regularsUsed a) 128 (regularIn a) (regularIn b) j (m .places) few) (m .places .full) in
+    record {
+      venue = s .venue;
+      counts = record {
+        regulars = s .counts .regulars ∙ sym (closed-count holdsRegular noRegular refl (regularsUsed a) 128 (regularIn a) (regularIn b) j (m .places) few);
+        complexes = s .counts .complexes;
+      };
+      filled = s .filled;
+    }
+
+-- the book becomes l, of which j places are in use
+pub record ComplexesSet (a : List ℕ) (l : List Complex) (j : ℕ) (c : List ℕ) : Type 0 where
+  pub venue : venueOf c ≡ withComplex (venueOf a) l
+  pub counts : Counts (regularsUsed a) j c
+  pub filled : Filled holdsComplex (complexIn c) (complexesUsed c)
+
+pub complexes-set : (a b : List ℕ) (l : List Complex) (j : ℕ) → length b ≡ size → j ≤ 32 → Outside 512 704 a b →
+    inUse (complexIn b) noComplex j 32 ≡ l → Filled holdsComplex (complexIn b) j → ComplexesSet a l j (set b 777 j)
+complexes-set a b l j long few near part full = record {
+  venue = complexes-counted (stored b 777 j)
+      ∙ ap (λ (k : ℕ). withComplex (venueOf b) (inUse (complexIn b) noComplex k 32)) used
+      ∙ ap (λ (x : List Complex). withComplex (venueOf b) x) part
+      ∙ others-complex a b l near;
+  counts = record {
+    complexes = used;
+    regulars = count-kept (stored b 777 j) (inl (omega arith)) ∙ count-kept near (inr (omega arith));
+  };
+  filled = λ k w. ap holdsComplex (sym (complex-kept (stored b 777 j) k (inl (let z = complexes-few (set b 777 j) in omega arith)))) ∙ full k (let e = used in omega arith);
+}
+  where
+    used : complexesUsed (set b 777 j) ≡ j
+    used = counted2 (set b 777 j) j (getD-set-same b 777 j 0 (omega arith)) few
+
+complexes-closed : (a b : List ℕ) (j : ℕ) → MovingComplexes a b (complexesUsed a) (complexesUsed a) j → ComplexesClosed a (set b 777 j)
+unfolding closeComplexes venueOf
+complexes-closed a b j m =
+    let few = complexes-few a in
+    let fewer = m .places .fewer in
+    let s = complexes-set a b _ j (m .long) (omega arith) (wider (omega arith) (omega arith) (m .outside))
+    (closed-part holdsComplex noComplex refl (complexesUsed a) 32 (complexIn a) (complexIn b) j (m .places) few) (m .places .full) in
+    record {
+      venue = s .venue;
+      counts = record {
+        complexes = s .counts .complexes ∙ sym (closed-count holdsComplex noComplex refl (complexesUsed a) 32 (complexIn a) (complexIn b) j (m .places) few);
+        regulars = s .counts .regulars;
+      };
+      filled = s .filled;
+    }
+
+pub regulars-whole : (a : List ℕ) (n r : ℕ) → n ≡ regularsUsed a → r ≡ n → Filled holdsRegular (regularIn a) r → RegularsClosed a a
+regulars-whole a n r e h full = regulars-same a (λ k w. full k (omega arith))
+
+pub regulars-end : (a b : List ℕ) (n i j : ℕ) → n ≡ regularsUsed a → n ≤ i → MovingRegulars a b n i j → RegularsClosed a (set b 776 j)
+regulars-end a b n i j e h m =
+    let q = m .places .read in
+    let z : i ≡ n = omega arith in
+    regulars-closed a b j (rw (z, e) at m)
+
+pub complexes-whole : (a : List ℕ) (n r : ℕ) → n ≡ complexesUsed a → r ≡ n → Filled holdsComplex (complexIn a) r → ComplexesClosed a a
+complexes-whole a n r e h full = complexes-same a (λ k w. full k (omega arith))
+
+pub complexes-end : (a b : List ℕ) (n i j : ℕ) → n ≡ complexesUsed a → n ≤ i → MovingComplexes a b n i j → ComplexesClosed a (set b 777 j)
+complexes-end a b n i j e h m =
+    let q = m .places .read in
+    let z : i ≡ n = omega arith in
+    complexes-closed a b j (rw (z, e) at m)
+
+-- Both books ----------------------------------------------------------------------------------
+
+same-at : (a b : List ℕ) → venueOf b .regular ≡ venueOf a .regular → (k : ℕ) → regularAt (venueOf b) k ≡ regularAt (venueOf a) k
+unfolding regularAt
+same-at a b p k = ap (λ (l : List Regular). getD l k noRegular) p
+
+-- held places stay held where the book is the same
+pub regulars-filled : (a b : List ℕ) → venueOf b .regular ≡ venueOf a .regular → regularsUsed b ≡ regularsUsed a →
+    Filled holdsRegular (regularIn a) (regularsUsed a) → Filled holdsRegular (regularIn b) (regularsUsed b)
+regulars-filled a b p e full = λ k w. ap holdsRegular (sym (regular-at b k w) ∙ same-at a b p k ∙ regular-at a k (omega arith)) ∙ full k (omega arith)
+
+complex-same : (a b : List ℕ) → venueOf b .complex ≡ venueOf a .complex → (k : ℕ) → complexAt (venueOf b) k ≡ complexAt (venueOf a) k
+unfolding complexAt
+complex-same a b p k = ap (λ (l : List Complex). getD l k noComplex) p
+
+complexes-filled : (a b : List ℕ) → venueOf b .complex ≡ venueOf a .complex → complexesUsed b ≡ complexesUsed a →
+    Filled holdsComplex (complexIn a) (complexesUsed a) → Filled holdsComplex (complexIn b) (complexesUsed b)
+complexes-filled a b p e full = λ k w. ap holdsComplex (sym (complex-at b k w) ∙ complex-same a b p k ∙ complex-at a k (omega arith)) ∙ full k (omega arith)
+
+-- what changes neither book leaves it dense
+pub dense-kept : (a b : List ℕ) → venueOf b .regular ≡ venueOf a .regular → venueOf b .complex ≡ venueOf a .complex → SameCounts a b → Dense a → Dense b
+dense-kept a b p q n d = record {
+  regulars = regulars-filled a b p (n .regulars) (d .regulars);
+  complexes = complexes-filled a b q (n .complexes) (d .complexes);
+}
+
+pub both-closed : (a b c : List ℕ) → RegularsClosed a b → ComplexesClosed b c → GapsClosed a c
+unfolding closeGaps closeRegulars closeComplexes withRegular withComplex
+both-closed a b c r s = record {
+  venue = s .venue ∙ ap closeComplexes (r .venue);
+  counts = record {
+    regulars = s .counts .regulars ∙ r .counts .regulars;
+    complexes = s .counts .complexes ∙ ap (λ (v : Venue). length (keep holdsComplex (v .complex))) (r .venue);
+  };
+  dense = record {
+    regulars = regulars-filled b c (ap (λ (v : Venue). v .regular) (s .venue)) (s .counts .regulars) (r .filled);
+    complexes = s .filled;
+  };
+}
+
+-- a dense book's first free place
+pub dense-regular : (b : List ℕ) → Dense b → freeRegular (venueOf b) ≡ regularsUsed b
+unfolding freeRegular venueOf
+dense-regular b d = free-place holdsRegular noRegular refl (regularIn b) (regularsUsed b) 128 (d .regulars)
+
+pub dense-complex : (b : List ℕ) → Dense b → freeComplex (venueOf b) ≡ complexesUsed b
+unfolding freeComplex venueOf
+dense-complex b d = free-place holdsComplex noComplex refl (complexIn b) (complexesUsed b) 32 (d .complexes)

@@ -1,0 +1,266 @@
+-- Loading a venue: its books row by row to the first free place, its other parts place by place.
+use mathlib.Core.Path.{_≡_, refl, sym, ap, _∙_}
+use mathlib.Core.Bool.{Bool, true, false, _&&_, true≢false}
+use mathlib.Core.Logic.{_⊎_, inl}
+use mathlib.Core.List.{List, [], _∷_, _++_}
+use Prim.Native.Nat.{ℕ, _+_, _*_, _≤_, _<_}
+use native.Mathlib.Omega.{arith}
+use native.Mathlib.Decide.{decLt}
+use native.Mathlib.Numerals.{add-one}
+use borrow.Author.Tests.{leb-true}
+use lib.ListN.{length, getD, set, take, List·getD-eq-default}
+use lib.Seq.{sets, ext-getD, take-suc, take-suc-set, take-all}
+use Rattle.rules.specs.declared.Regular.{Regular}
+use Rattle.rules.specs.declared.Complex.{Complex}
+use Rattle.rules.specs.declared.Legging.{Legging}
+use Rattle.rules.specs.declared.Listed.{Listed}
+use Rattle.rules.specs.declared.Venue.{Venue}
+use Rattle.rules.specs.Words.{noRegular, noComplex, noLegging, notListed, withRegular, withComplex, withLegging, withSeries, withLast, isSeries, isSide, within}
+use Rattle.rules.specs.Places.{holdsRegular, holdsComplex, blankRegular, blankComplex, packed, closeGaps}
+use Rattle.rules.specs.Refusals.{regularInRange, complexInRange}
+use Rattle.rules.specs.Sound.{regularsSound, complexesSound, sound}
+use Rattle.rules.proofs.Tests.{and-l, and-r}
+use Rattle.rules.proofs.Closing.{packed-free}
+use Rattle.rules.proofs.Arranging.{arranged-out, blank-free, blank-freeC, closed-same}
+use Rattle.places.specs.Layout.{size, inUse, regularIn, complexIn, leggingIn, listedIn, venueOf, regularRow, complexRow, Kept, SameCounts, Filled, Placed, OnSide, RegularsPlaced, ComplexesPlaced, Loadable, RegularsLoaded, ComplexesLoaded, Loaded}
+use Rattle.places.proofs.Tables.{upto-length, used-length, used-at, used-free}
+use Rattle.places.proofs.Parts.{Outside, wider, joined}
+use Rattle.places.proofs.Stores.{sets-outside, sets-length, regular-back, complex-back}
+use Rattle.places.proofs.Gaps.{filled-more}
+use Rattle.places.proofs.Closed.{lowRegular, lowComplex, regular-wide, complex-wide, regular-agree, complex-agree, regulars-set, complexes-set, regulars-filled, dense-kept}
+
+-- Rows, to the first free place ----------------------------------------------------------------
+
+-- the first i rows are l's
+pub record Laying {A : Type 0} (holds : A → Bool) (none : A) (low : ℕ → ℕ) (rowIn : List ℕ → ℕ → A) (a b : List ℕ) (l : List A) (i : ℕ) : Type 0 where
+  pub long : length b ≡ size
+  pub same : (k : ℕ) → k < i → rowIn b k ≡ getD l k none
+  pub full : Filled holds (rowIn b) i
+  pub outside : Outside (low 0) (low i) a b
+
+module _ {A : Type 0} (holds : A → Bool) (none : A) (all : ℕ) (low : ℕ → ℕ) (rowIn : List ℕ → ℕ → A) (row : A → List ℕ)
+    (rises : (i j : ℕ) → i ≤ j → low i ≤ low j) (wide : (i : ℕ) (x : A) → low i + length (row x) ≡ low (i + 1))
+    (agree : (a b : List ℕ) (l h i : ℕ) → Outside l h a b → (low (i + 1) ≤ l) ⊎ (h ≤ low i) → rowIn a i ≡ rowIn b i) where
+  pub laying-first : (a : List ℕ) (l : List A) → length a ≡ size → Laying holds none low rowIn a a l 0
+  laying-first a l e = record {
+    long = e;
+    same = λ k w. absurd (omega arith);
+    full = λ k w. absurd (omega arith);
+    outside = record { same = λ k w. refl };
+  }
+
+  module _ (a b : List ℕ) (l : List A) (i : ℕ) (m : Laying holds none low rowIn a b l i) where
+    pub laying-next : holds (getD l i none) ≡ true → rowIn (sets b (low i) (row (getD l i none))) i ≡ getD l i none →
+        Laying holds none low rowIn a (sets b (low i) (row (getD l i none))) l (i + 1)
+    laying-next h new = record {
+      long = sets-length b (low i) (row (getD l i none)) ∙ m .long;
+      same = same;
+      full = filled-more holds (rowIn b′) i (λ k w. ap holds (sym (before k w)) ∙ m .full k w) (ap holds new ∙ h);
+      outside = joined (wider (omega arith) (rises i (i + 1) (omega arith)) (m .outside))
+          (wider (rises 0 i (omega arith)) (let z = wide i (getD l i none) in omega arith) (sets-outside b (low i) (row (getD l i none))));
+    }
+      where
+        b′ : List ℕ
+        b′ = sets b (low i) (row (getD l i none))
+
+        before : (k : ℕ) → k < i → rowIn b k ≡ rowIn b′ k
+        before k w =
+            agree b b′ (low i) (low i + length (row (getD l i none))) k (sets-outside b (low i) (row (getD l i none))) (inl (rises (k + 1) i (omega arith)))
+
+        same : (k : ℕ) → k < i + 1 → rowIn b′ k ≡ getD l k none
+        same k w = elim (decLt k i) [
+          | yes r ↦ sym (before k r) ∙ m .same k r
+          | no r ↦ (let e : k ≡ i = omega arith in ap (rowIn b′) e ∙ new ∙ sym (ap (λ (x : ℕ). getD l x none) e))
+        ]
+
+    -- the rest is free
+    pub laid : length l ≡ all → i ≤ all → ((k : ℕ) → i ≤ k → getD l k none ≡ none) → inUse (rowIn b) none i all ≡ l
+    laid n few rest = ext-getD none (inUse (rowIn b) none i all) l (used-length (rowIn b) none i all few ∙ sym n) (λ k w. elem k)
+      where
+        elem : (k : ℕ) → getD (inUse (rowIn b) none i all) k none ≡ getD l k none
+        elem k = elim (decLt k i) [
+          | yes r ↦ used-at (rowIn b) none i all k r ∙ m .same k r
+          | no r ↦ used-free (rowIn b) none i all k (omega arith) ∙ sym (rest k (omega arith))
+        ]
+
+-- places after a free one are free
+pub free-after : {A : Type 0} (holds : A → Bool) (none : A) (Asked : A → Type 0) (l : List A) (i : ℕ) → Placed holds none Asked l → holds (getD l i none) ≡ false →
+    (k : ℕ) → i ≤ k → getD l k none ≡ none
+free-after holds none Asked l i p h k le = p .blank k (go (holds (getD l k none)) refl)
+  where
+    go : (t : Bool) → holds (getD l k none) ≡ t → holds (getD l k none) ≡ false
+    go false e = e
+    go true e = elim (decLt i k) [
+      | yes r ↦ absurd (true≢false (sym (p .dense i k r e) ∙ h))
+      | no r ↦ (let z : k ≡ i = omega arith in ap (λ (x : ℕ). holds (getD l x none)) z ∙ h)
+    ]
+
+-- and so are those past the end
+pub past-end : {A : Type 0} (none : A) (l : List A) (i : ℕ) → length l ≤ i → (k : ℕ) → i ≤ k → getD l k none ≡ none
+past-end none l i h k le = List·getD-eq-default l none {n = k} (omega arith)
+
+abbrev pub LayingRegulars : (a b : List ℕ) (l : List Regular) (i : ℕ) → Type 0
+LayingRegulars = Laying holdsRegular noRegular lowRegular regularIn
+
+pub regulars-first : (a : List ℕ) (l : List Regular) → length a ≡ size → LayingRegulars a a l 0
+regulars-first = laying-first holdsRegular noRegular 128 lowRegular regularIn regularRow (λ i j h. omega arith) regular-wide regular-agree
+
+pub regulars-next : (a b b′ : List ℕ) (l : List Regular) (i : ℕ) → RegularsPlaced l → LayingRegulars a b l i → i < 128 → (o : Regular) → o ≡ getD l i noRegular →
+    holdsRegular o ≡ true → b′ ≡ sets b (4 * i) (regularRow o) → LayingRegulars a b′ l (i + 1)
+regulars-next a b b′ l i p m lt o is h e =
+    let q = p .asked i (ap holdsRegular (sym is) ∙ h) in
+    rw (e, is) (laying-next holdsRegular noRegular 128 lowRegular regularIn regularRow (λ i j h. omega arith) regular-wide regular-agree a b l i m (ap holdsRegular (sym is) ∙ h)
+    (regular-back b i (getD l i noRegular) (m .long) lt (q .series) (q .side)))
+
+pub regulars-last : (a b : List ℕ) (l : List Regular) (i : ℕ) → LayingRegulars a b l i → length l ≡ 128 → i ≤ 128 →
+    ((k : ℕ) → i ≤ k → getD l k noRegular ≡ noRegular) → RegularsLoaded a l (set b 776 i)
+regulars-last a b l i m n few rest =
+    let s = regulars-set a b l i (m .long) few (wider (omega arith) (omega arith) (m .outside)) (laid holdsRegular noRegular 128 lowRegular regularIn regularRow (λ i j h. omega arith) regular-wide regular-agree a b l i m n few rest) (m .full) in
+    record { venue = s .venue; complexes = s .counts .complexes; filled = s .filled }
+
+abbrev pub LayingComplexes : (a b : List ℕ) (l : List Complex) (i : ℕ) → Type 0
+LayingComplexes = Laying holdsComplex noComplex lowComplex complexIn
+
+pub complexes-first : (a : List ℕ) (l : List Complex) → length a ≡ size → LayingComplexes a a l 0
+complexes-first = laying-first holdsComplex noComplex 32 lowComplex complexIn complexRow (λ i j h. omega arith) complex-wide complex-agree
+
+pub complexes-next : (a b b′ : List ℕ) (l : List Complex) (i : ℕ) → ComplexesPlaced l → LayingComplexes a b l i → i < 32 → (o : Complex) → o ≡ getD l i noComplex →
+    holdsComplex o ≡ true → Kept o → b′ ≡ sets b (6 * i + 512) (complexRow o) → LayingComplexes a b′ l (i + 1)
+complexes-next a b b′ l i p m lt o is h kept e =
+    let q = p .asked i (ap holdsComplex (sym is) ∙ h) in
+    rw (e, is) (laying-next holdsComplex noComplex 32 lowComplex complexIn complexRow (λ i j h. omega arith) complex-wide complex-agree a b l i m (ap holdsComplex (sym is) ∙ h)
+    (complex-back b i (getD l i noComplex) (m .long) lt (q .0 .series) (q .0 .side) (q .1 .series) (q .1 .side) (rw is at kept)))
+
+pub complexes-last : (a b : List ℕ) (l : List Complex) (i : ℕ) → LayingComplexes a b l i → length l ≡ 32 → i ≤ 32 →
+    ((k : ℕ) → i ≤ k → getD l k noComplex ≡ noComplex) → ComplexesLoaded a l (set b 777 i)
+complexes-last a b l i m n few rest =
+    let s = complexes-set a b l i (m .long) few (wider (omega arith) (omega arith) (m .outside)) (laid holdsComplex noComplex 32 lowComplex complexIn complexRow (λ i j h. omega arith) complex-wide complex-agree a b l i m n few rest) (m .full) in
+    record { venue = s .venue; regulars = s .counts .regulars; filled = s .filled }
+
+-- Whole parts, place by place -----------------------------------------------------------------
+
+-- the first i places of one part are l's, and nothing else changed
+pub record Loading {A : Type 0} (With : Venue → List A → Venue) (part : Venue → List A) (a b : List ℕ) (l : List A) (i : ℕ) : Type 0 where
+  pub long : length b ≡ size
+  pub others : With (venueOf b) l ≡ With (venueOf a) l
+  pub front : take i (part (venueOf b)) ≡ take i l
+  pub counts : SameCounts a b
+
+module _ {A : Type 0} (With : Venue → List A → Venue) (part : Venue → List A) (none : A) (n : ℕ)
+    (again : (v : Venue) (x y : List A) → With (With v x) y ≡ With v y) (got : (v : Venue) (x : List A) → part (With v x) ≡ x)
+    (own : (v : Venue) → With v (part v) ≡ v) (many : (b : List ℕ) → length (part (venueOf b)) ≡ n) (a : List ℕ) (l : List A) where
+  pub loading-first : length a ≡ size → Loading With part a a l 0
+  loading-first e = record { long = e; others = refl; front = refl; counts = record { regulars = refl; complexes = refl } }
+
+  pub loading-next : (b b′ : List ℕ) (i : ℕ) → Loading With part a b l i → i < n → length l ≡ n → (x : A) → x ≡ getD l i none → length b′ ≡ length b →
+      venueOf b′ ≡ With (venueOf b) (set (part (venueOf b)) i x) → SameCounts b b′ → Loading With part a b′ l (i + 1)
+  loading-next b b′ i m lt ln x is e v c = record {
+    long = e ∙ m .long;
+    others = ap (λ (w : Venue). With w l) v ∙ again (venueOf b) (set (part (venueOf b)) i x) l ∙ m .others;
+    front =
+        ap (λ (w : Venue). take (i + 1) (part w)) v ∙ ap (take (i + 1)) (got (venueOf b) (set (part (venueOf b)) i x))
+        ∙ ap (λ (k : ℕ). take k (set (part (venueOf b)) i x)) (add-one i)
+        ∙ take-suc-set (part (venueOf b)) i x (omega (arith, many b))
+        ∙ ap (λ (t : List A). t ++ (x ∷ [])) (m .front)
+        ∙ ap (λ (y : A). take i l ++ (y ∷ [])) is
+        ∙ sym (take-suc l i none (omega arith))
+        ∙ sym (ap (λ (k : ℕ). take k l) (add-one i));
+    counts = record { regulars = c .regulars ∙ m .counts .regulars; complexes = c .complexes ∙ m .counts .complexes };
+  }
+
+  pub loading-last : (b : List ℕ) (i : ℕ) → Loading With part a b l i → n ≤ i → length l ≡ n → venueOf b ≡ With (venueOf a) l
+  loading-last b i m h ln =
+      sym (own (venueOf b))
+      ∙ ap (With (venueOf b)) (sym (take-all i (part (venueOf b)) (omega (arith, many b))) ∙ m .front ∙ take-all i l (omega arith))
+      ∙ m .others
+
+abbrev pub LoadingLeggings : (a b : List ℕ) (l : List Legging) (i : ℕ) → Type 0
+LoadingLeggings = Loading withLegging (λ v. v .legging)
+
+legging-many : (b : List ℕ) → length (venueOf b .legging) ≡ 16
+unfolding venueOf
+legging-many b = upto-length (leggingIn b) 0 16
+
+pub legging-first : (a : List ℕ) (l : List Legging) → length a ≡ size → LoadingLeggings a a l 0
+unfolding withLegging
+legging-first = loading-first withLegging (λ v. v .legging) noLegging 16 (λ v x y. refl) (λ v x. refl) (λ v. refl) legging-many
+
+pub legging-next : (a : List ℕ) (l : List Legging) (b b′ : List ℕ) (i : ℕ) → LoadingLeggings a b l i → i < 16 → length l ≡ 16 → (x : Legging) → x ≡ getD l i noLegging →
+    length b′ ≡ length b → venueOf b′ ≡ withLegging (venueOf b) (set (venueOf b .legging) i x) → SameCounts b b′ → LoadingLeggings a b′ l (i + 1)
+unfolding withLegging
+legging-next = loading-next withLegging (λ v. v .legging) noLegging 16 (λ v x y. refl) (λ v x. refl) (λ v. refl) legging-many
+
+pub legging-last : (a : List ℕ) (l : List Legging) (b : List ℕ) (i : ℕ) → LoadingLeggings a b l i → 16 ≤ i → length l ≡ 16 → venueOf b ≡ withLegging (venueOf a) l
+unfolding withLegging
+legging-last = loading-last withLegging (λ v. v .legging) noLegging 16 (λ v x y. refl) (λ v x. refl) (λ v. refl) legging-many
+
+abbrev pub LoadingSeries : (a b : List ℕ) (l : List Listed) (i : ℕ) → Type 0
+LoadingSeries = Loading withSeries (λ v. v .series)
+
+series-many : (b : List ℕ) → length (venueOf b .series) ≡ 8
+unfolding venueOf
+series-many b = upto-length (listedIn b) 0 8
+
+pub series-first : (a : List ℕ) (l : List Listed) → length a ≡ size → LoadingSeries a a l 0
+unfolding withSeries
+series-first = loading-first withSeries (λ v. v .series) notListed 8 (λ v x y. refl) (λ v x. refl) (λ v. refl) series-many
+
+pub series-next : (a : List ℕ) (l : List Listed) (b b′ : List ℕ) (i : ℕ) → LoadingSeries a b l i → i < 8 → length l ≡ 8 → (x : Listed) → x ≡ getD l i notListed →
+    length b′ ≡ length b → venueOf b′ ≡ withSeries (venueOf b) (set (venueOf b .series) i x) → SameCounts b b′ → LoadingSeries a b′ l (i + 1)
+unfolding withSeries
+series-next = loading-next withSeries (λ v. v .series) notListed 8 (λ v x y. refl) (λ v x. refl) (λ v. refl) series-many
+
+pub series-last : (a : List ℕ) (l : List Listed) (b : List ℕ) (i : ℕ) → LoadingSeries a b l i → 8 ≤ i → length l ≡ 8 → venueOf b ≡ withSeries (venueOf a) l
+unfolding withSeries
+series-last = loading-last withSeries (λ v. v .series) notListed 8 (λ v x y. refl) (λ v x. refl) (λ v. refl) series-many
+
+-- The whole venue -----------------------------------------------------------------------------
+
+pub loaded : (v : Venue) (a b c d e f : List ℕ) → RegularsLoaded a (v .regular) b → ComplexesLoaded b (v .complex) c →
+    venueOf d ≡ withLegging (venueOf c) (v .legging) → SameCounts c d → venueOf e ≡ withSeries (venueOf d) (v .series) → SameCounts d e →
+    venueOf f ≡ withLast (venueOf e) (v .last) → SameCounts e f → Loaded v f
+unfolding withRegular withComplex withLegging withSeries withLast
+loaded v a b c d e f rs cs ls n ss o lt p = record {
+  venue = lt ∙ ap (λ (w : Venue). withLast w (v .last)) (ss ∙ ap (λ (w : Venue). withSeries w (v .series)) (ls ∙ ap (λ (w : Venue). withLegging w (v .legging)) (cs .venue ∙ ap (λ (w : Venue). withComplex w (v .complex)) (rs .venue))));
+  dense = dense-kept e f (ap (λ (w : Venue). w .regular) lt) (ap (λ (w : Venue). w .complex) lt) p
+      (dense-kept d e (ap (λ (w : Venue). w .regular) ss) (ap (λ (w : Venue). w .complex) ss) o
+      (dense-kept c d (ap (λ (w : Venue). w .regular) ls) (ap (λ (w : Venue). w .complex) ls) n
+      record { regulars = regulars-filled b c (ap (λ (w : Venue). w .regular) (cs .venue)) (cs .regulars) (rs .filled); complexes = cs .filled }));
+}
+
+-- A sound venue can be loaded -----------------------------------------------------------------
+
+regular-side : (o : Regular) (t : Bool) → (regularInRange o && t) ≡ true → OnSide (o .series) (o .side)
+unfolding regularInRange isSeries isSide within
+regular-side o t z =
+    let a = leb-true (o .series) 7 (search (and-l, and-r, z) depth 8) in
+    let b = leb-true (o .side) 1 (search (and-l, and-r, z) depth 8) in
+    record { series = omega arith; side = omega arith }
+
+complex-sides : (c : Complex) (t : Bool) → (complexInRange c && t) ≡ true → OnSide (c .series1) (c .side1) × OnSide (c .series2) (c .side2)
+unfolding complexInRange isSeries isSide within
+complex-sides c t z =
+    let a = leb-true (c .series1) 7 (search (and-l, and-r, z) depth 12) in
+    let b = leb-true (c .side1) 1 (search (and-l, and-r, z) depth 12) in
+    let e = leb-true (c .series2) 7 (search (and-l, and-r, z) depth 12) in
+    let f = leb-true (c .side2) 1 (search (and-l, and-r, z) depth 12) in
+    (record { series = omega arith; side = omega arith }, record { series = omega arith; side = omega arith })
+
+books-load : (v : Venue) → regularsSound v ≡ true → complexesSound v ≡ true → closeGaps v ≡ v → Loadable v
+unfolding regularsSound complexesSound closeGaps withRegular withComplex
+books-load v r c e =
+    let a = arranged-out noRegular holdsRegular _ blankRegular (λ o. o .id) blank-free (unfold blankRegular in refl) 0 (v .regular) r in
+    let b = arranged-out noComplex holdsComplex _ blankComplex (λ c. c .id) blank-freeC (unfold blankComplex in refl) 0 (v .complex) c in
+    let p : packed holdsRegular noRegular (v .regular) ≡ v .regular = ap (λ (w : Venue). w .regular) e in
+    let q : packed holdsComplex noComplex (v .complex) ≡ v .complex = ap (λ (w : Venue). w .complex) e in
+    record {
+      regulars = record { dense = a .dense; blank = rw p at (packed-free holdsRegular noRegular (v .regular)); asked = λ i h. regular-side _ _ (a .asks i h) };
+      complexes = record { dense = b .dense; blank = rw q at (packed-free holdsComplex noComplex (v .complex)); asked = λ i h. complex-sides _ _ (b .asks i h) };
+    }
+
+pub sound-loads : (v : Venue) → sound v ≡ true → Loadable v
+unfolding sound
+sound-loads v h =
+    let r : regularsSound v ≡ true = search (and-l, and-r, h) depth 10 in
+    let c : complexesSound v ≡ true = search (and-l, and-r, h) depth 10 in
+    books-load v r c (closed-same v r c)

@@ -1,0 +1,34 @@
+-- `places::venue_of` meets its contract.
+use Rattle.places.proofs.Parts.{venue-is}
+use borrow.Author.Needs.{needs}
+use Rattle.places.proofs.venue_of.Statement.{statement}
+use Rattle.places.proofs.venue_of.Tie as tie
+
+regulars-of-requires : tie.Need-regulars-of-requires
+regulars-of-requires c κs = search needs
+
+complexes-of-requires : tie.Need-complexes-of-requires
+complexes-of-requires c κs = search needs
+
+leggings-of-requires : tie.Need-leggings-of-requires
+leggings-of-requires c κs = search needs
+
+series-of-requires : tie.Need-series-of-requires
+series-of-requires c κs = search needs
+
+last-id-requires : tie.Need-last-id-requires
+last-id-requires c κs = search needs
+
+returns : tie.Need-returns
+returns c = venue-is _ _ (c .before .before .before .before .regulars-of .ensures) (c .before .before .before .complexes-of .ensures) (c .before .before .leggings-of .ensures) (c .before .series-of .ensures) (c .last-id .ensures)
+
+pub venue-of-spec : {M : Type 1} → statement M
+venue-of-spec =
+    tie.close
+    (tie.spec
+    regulars-of-requires
+    complexes-of-requires
+    leggings-of-requires
+    series-of-requires
+    last-id-requires
+    returns)

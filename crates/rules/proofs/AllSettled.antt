@@ -1,0 +1,57 @@
+-- After every message all are tested: whatever an accepted message does, every legging order stands when it has settled.
+use mathlib.Core.Path.{_≡_, refl}
+use Rattle.rules.specs.declared.Complex.{Complex}
+use Rattle.rules.specs.declared.Message.{Message}
+use Rattle.rules.specs.declared.Message.the-variants.{Away, Cancel, Order, Status, Sweep, TwoLeg}
+use Rattle.rules.specs.declared.Venue.{Venue}
+use Rattle.rules.specs.Words.{withLast}
+use Rattle.rules.specs.Effects.{Effect, _⟫_}
+use Rattle.rules.specs.Standing.{settle}
+use Rattle.rules.specs.Trading.{freeComplex, putComplex}
+use Rattle.rules.specs.Order.{enterRegular, order}
+use Rattle.rules.specs.Generation.{generate}
+use Rattle.rules.specs.Complex.{cancel, complex, each, sweep, work}
+use Rattle.rules.specs.Step.{perform, setAway, setStatus}
+use Rattle.rules.proofs.Generating.{AllStand}
+use Rattle.rules.proofs.Settling.{settle-stands}
+
+pub settle-all : (v : Venue) → AllStand (settle v .venue)
+unfolding AllStand
+settle-all v = settle-stands v
+
+pub settled : (e : Effect) → AllStand ((e ⟫ settle) .venue)
+unfolding _⟫_
+settled e = settle-all (e .venue)
+
+-- a message that generates nothing
+abbrev pub Quiet : Message → Type 0
+Quiet (Order o) = Unit {0}
+Quiet (TwoLeg c) = ⊥
+Quiet (Cancel id) = Unit {0}
+Quiet (Away s bid offer) = Unit {0}
+Quiet (Status s x) = Unit {0}
+Quiet Sweep = ⊥
+
+-- "After every accepted message all are tested against the same state, failures go together": none is left that fails
+pub perform-stands : (m : Message) → Quiet m → (v : Venue) → AllStand (perform m v .venue)
+unfolding perform order cancel
+perform-stands (Order o) q v = settled (enterRegular o (withLast v (o .id)))
+perform-stands (TwoLeg c) q v = absurd q
+perform-stands (Cancel id) q v = settled _
+perform-stands (Away s bid offer) q v = settle-all (setAway s bid offer v)
+perform-stands (Status s x) q v = settle-all (setStatus s x v)
+perform-stands Sweep q v = absurd q
+
+-- A message that generates has settled before it does; `Generating.generate-stands` has that generation keeps it.
+pub complex-stands : (c : Complex) (v : Venue) →
+    let i = freeComplex v in
+    let e = work i (putComplex i c v) ⟫ settle in
+    (complex c v ≡ e ⟫ generate i) × AllStand (e .venue)
+unfolding complex
+complex-stands c v = (refl, settled _)
+
+pub sweep-stands : (v : Venue) →
+    let e = each 32 work 0 v ⟫ settle in
+    (sweep v ≡ e ⟫ each 32 generate 0) × AllStand (e .venue)
+unfolding sweep
+sweep-stands v = (refl, settled _)

@@ -1,0 +1,128 @@
+-- What generation costs: a leg its 67 and the new legging order's worth; in a sweep each order's two legs, once.
+use mathlib.Core.Path.{_≡_, refl, ap, _∙_}
+use mathlib.Core.Bool.{Bool, true, false, _&&_}
+use Prim.Native.Nat.{ℕ, zero, suc, _+_, _*_, _≤_, _<_}
+use native.Mathlib.Omega.{arith}
+use lib.Dec.{ltb}
+use borrow.Author.Tests.{ltb-true, lt-ltb, le-ltb}
+use Rattle.rules.specs.declared.Complex.{Complex}
+use Rattle.rules.specs.declared.Legging.{Legging}
+use Rattle.rules.specs.declared.Venue.{Venue}
+use Rattle.rules.specs.Base.{if_then_else_, held}
+use Rattle.rules.specs.Words.{placeOf, noComplex, withLegging}
+use Rattle.rules.specs.Records.{Report, generated}
+use Rattle.rules.specs.Effects.{Effect, nothing, report, _⟫_}
+use Rattle.rules.specs.Removal.{remove}
+use Rattle.rules.specs.Generation.{placed, makes, make, generateLeg, generate}
+use Rattle.rules.specs.Complex.{each}
+use Rattle.rules.proofs.Tests.{and-l, and-r}
+use Rattle.rules.proofs.Cases.{each-by, if-by, isAbove}
+use Rattle.rules.proofs.Picking.{At}
+use Rattle.rules.specs.Sums.{total}
+use Rattle.rules.specs.Lengths.{recordLength, perComplex, perLegging, perLeg}
+use Rattle.rules.proofs.Summing.{sum, sum-mono, sum-drop, due}
+use Rattle.rules.proofs.Worth.{ofComplex, worth, placed-worth, spent, spent-nothing, spent-report, spent-then}
+use Rattle.rules.proofs.Costs.{Costs, costs-then, costs-more, costs-nothing, costs-remove}
+
+-- A leg -----------------------------------------------------------------------------------------
+
+-- the record, and what the new legging order is worth
+costs-placed : (r : Report) (n : ℕ) (l : Legging) (v : Venue) → Costs (recordLength r + perLegging) v (report r (placed n l v))
+unfolding Costs
+costs-placed r n l v = let z = spent-report r (placed n l v) in let p = placed-worth n l v in omega arith
+
+costs-make : (c : Complex) (s d : ℕ) (v : Venue) → Costs perLeg v (make c s d v)
+unfolding make recordLength
+costs-make c s d v = costs-then 0 perLeg v _ _ (costs-remove _ v) (costs-placed (generated _ _ _ _ _ _) (placeOf s d) _ _)
+
+costs-leg : (c : Complex) (s d : ℕ) (v : Venue) → Costs perLeg v (generateLeg c s d v)
+unfolding generateLeg
+costs-leg c s d v =
+    if-by (Costs perLeg v) (held (c .quantity) && makes v c s d) (λ _. costs-make c s d v) (λ _. costs-more 0 perLeg v _ (omega arith) (costs-nothing v))
+
+leg-complex : (c : Complex) (s d : ℕ) (v : Venue) → generateLeg c s d v .venue .complex ≡ v .complex
+unfolding generateLeg make nothing _⟫_ report remove placed withLegging
+leg-complex c s d v = if-by (λ (e : Effect). e .venue .complex ≡ v .complex) (held (c .quantity) && makes v c s d) (λ _. refl) (λ _. refl)
+
+pub costs-generate : (i : ℕ) (v : Venue) → Costs (2 * perLeg) v (generate i v)
+unfolding generate
+costs-generate i v = costs-then perLeg perLeg v _ _ (costs-leg _ _ _ v) (costs-leg _ _ _ _)
+
+generate-complex : (i : ℕ) (v : Venue) → generate i v .venue .complex ≡ v .complex
+unfolding generate _⟫_
+generate-complex i v = leg-complex _ _ _ _ ∙ leg-complex _ _ _ v
+
+-- Generation of a sweep -----------------------------------------------------------------------
+
+-- what it can cost yet: both legs of each resting order above an id
+unfoldable above : (id : ℕ) → Complex → ℕ
+above id c = if held (c .quantity) && ltb id (c .id) then 2 * perLeg else 0
+
+above-less : (id id′ : ℕ) → id < id′ → (c : Complex) → above id′ c ≤ above id c
+unfolding above
+above-less id id′ lt c = go (held (c .quantity)) (ltb id′ (c .id)) refl
+  where
+    go : (h b : Bool) → ltb id′ (c .id) ≡ b → (if h && b then 2 * perLeg else 0) ≤ (if h && ltb id (c .id) then 2 * perLeg else 0)
+    go true true e = let z = ltb-true id′ (c .id) e in rw (lt-ltb id (c .id) (omega arith)) (omega arith)
+    go true false e = omega arith
+    go false b e = omega arith
+
+-- an order's own worth pays for both its legs
+above-worth : (id : ℕ) (c : Complex) → above id c ≤ ofComplex c
+unfolding above ofComplex due
+above-worth id c = go (held (c .quantity)) (ltb id (c .id))
+  where
+    go : (h b : Bool) → (if h && b then 2 * perLeg else 0) ≤ (if h then perComplex else 0)
+    go true true = omega arith
+    go true false = omega arith
+    go false b = omega arith
+
+-- the next order's own share, which is spent when it has had its turn
+above-own : (id : ℕ) (c : Complex) → isAbove id c ≡ true → above (c .id) c + 2 * perLeg ≤ above id c
+unfolding above
+above-own id c h =
+    let a : held (c .quantity) ≡ true = search (and-l, h) in
+    let b : ltb id (c .id) ≡ true = search (and-l, and-r, h) in
+    rw (a, b, le-ltb (c .id) (c .id) (omega arith)) (omega arith)
+
+next-above : (id : ℕ) (v : Venue) (i : ℕ) (c : Complex) → At noComplex (isAbove id) (v .complex) i c →
+    sum (above (c .id)) (v .complex) + 2 * perLeg ≤ sum (above id) (v .complex)
+next-above id v i c a =
+    let z = a .is in
+    sum-drop (above id) (above (c .id)) (above-less id (c .id) (ltb-true id (c .id) (search (and-l, and-r, z)))) noComplex (2 * perLeg) (v .complex) i (a .fits)
+    (rw (a .at) (above-own id c z))
+
+-- generation costs no more than that, and leaves the complex orders as they were
+record Generated (id : ℕ) (v : Venue) (e : Effect) : Type 0 where
+  costs : spent e ≤ worth v + sum (above id) (v .complex)
+  same : e .venue .complex ≡ v .complex
+
+none-generated : (id : ℕ) (v : Venue) → Generated id v (nothing v)
+unfolding nothing
+none-generated id v = record { costs = let z = spent-nothing v in omega arith; same = refl }
+
+next-generated : (id : ℕ) (v : Venue) (i : ℕ) (c : Complex) → At noComplex (isAbove id) (v .complex) i c → (f : Venue → Effect) →
+    Generated (c .id) (generate i v .venue) (f (generate i v .venue)) → Generated id v (generate i v ⟫ f)
+unfolding Costs _⟫_
+next-generated id v i c a f g =
+    let s : sum (above (c .id)) (generate i v .venue .complex) ≡ sum (above (c .id)) (v .complex) = ap (sum (above (c .id))) (generate-complex i v) in
+    let n = next-above id v i c a in
+    let z = spent-then (generate i v) f in
+    let k = g .costs in
+    record { costs = omega (arith, costs-generate i v); same = g .same ∙ generate-complex i v }
+
+all-generated : (fuel id : ℕ) (v : Venue) → Generated id v (each fuel generate id v)
+all-generated zero id v = unfold each in (none-generated id v)
+all-generated (suc fuel) id v =
+    each-by (Generated id v) fuel generate id v (λ _. none-generated id v)
+    (λ i c _ a. next-generated id v i c a (each fuel generate (c .id)) (all-generated fuel (c .id) _))
+
+-- so it writes no more than the venue is worth
+pub generation-writes : (fuel id : ℕ) (v : Venue) → total recordLength (each fuel generate id v .reports) ≤ worth v
+unfolding spent worth
+generation-writes fuel id v =
+    let g = all-generated fuel id v in
+    let c = g .costs in
+    let s : sum ofComplex (each fuel generate id v .venue .complex) ≡ sum ofComplex (v .complex) = ap (sum ofComplex) (g .same) in
+    let m = sum-mono ofComplex (above id) (above-worth id) (v .complex) in
+    omega arith

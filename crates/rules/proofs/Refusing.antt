@@ -1,0 +1,97 @@
+-- Refusals: what an accepted message has passed, what a message that is not torn has, and that a refusal is at most 8.
+use mathlib.Core.Path.{_≡_, refl, sym}
+use mathlib.Core.Bool.{Bool, true, false, not, _||_}
+use mathlib.Core.List.{List}
+use Prim.Native.Nat.{ℕ, _≤_}
+use native.Mathlib.Omega.{arith}
+use lib.Dec.{eqb, ltb}
+use lib.ListN.{length}
+use borrow.Author.Tests.{eqb-false, le-ltb, ltb-false}
+use Rattle.rules.specs.declared.Venue.{Venue}
+use Rattle.rules.specs.declared.Message.{Message}
+use Rattle.rules.specs.declared.Decoded.{Decoded}
+use Rattle.rules.specs.declared.Decoded.the-variants.{Taken, Refused}
+use Rattle.rules.specs.Bytes.{lengthField, kindField}
+use Rattle.rules.specs.Messages.{messageOf}
+use Rattle.rules.specs.Refusals.{torn, isKind, isLength, inRange, decoded, idTooLow, onClosed, full, unknown, refusalOf, refusal}
+use Rattle.rules.proofs.Tests.{not-out, or-false-l, or-false-r}
+use Rattle.rules.proofs.Cases.{if-by}
+
+-- the refusals 1 to 4 by their cases
+module _ {ℓ} (Q : Decoded → Type ℓ) (bs : List ℕ) where
+  pub decoded-by : (torn bs ≡ true → Q (Refused 1)) →
+      (torn bs ≡ false → isKind (kindField bs) ≡ false → Q (Refused 2)) →
+      (torn bs ≡ false → isLength (kindField bs) (lengthField bs) ≡ false → Q (Refused 3)) →
+      (torn bs ≡ false → inRange (messageOf bs) ≡ false → Q (Refused 4)) →
+      (torn bs ≡ false → isLength (kindField bs) (lengthField bs) ≡ true → inRange (messageOf bs) ≡ true → Q (Taken (messageOf bs))) →
+      Q (decoded bs)
+  unfolding decoded
+  decoded-by r1 r2 r3 r4 taken =
+      if-by Q (torn bs) r1 (λ a. if-by Q (not (isKind (kindField bs))) (λ b. r2 a (not-out _ b))
+      (λ _. if-by Q (not (isLength (kindField bs) (lengthField bs))) (λ c. r3 a (not-out _ c))
+      (λ c. if-by Q (not (inRange (messageOf bs))) (λ d. r4 a (not-out _ d)) (λ d. taken a (was _ c) (was _ d)))))
+    where
+      was : (b : Bool) → not b ≡ false → b ≡ true
+      was true e = refl
+      was false e = sym e
+
+-- the refusals 5 to 8
+module _ {ℓ} (Q : ℕ → Type ℓ) (v : Venue) (m : Message) where
+  pub refusalOf-by : Q 5 → Q 6 → Q 7 → Q 8 → (idTooLow v m ≡ false → onClosed v m ≡ false → full v m ≡ false → unknown v m ≡ false → Q 0) → Q (refusalOf v m)
+  unfolding refusalOf
+  refusalOf-by r5 r6 r7 r8 none =
+      if-by Q (idTooLow v m) (λ _. r5)
+      (λ a. if-by Q (onClosed v m) (λ _. r6) (λ b. if-by Q (full v m) (λ _. r7) (λ c. if-by Q (unknown v m) (λ _. r8) (none a b c))))
+
+-- what an accepted message has passed
+pub record Passed (v : Venue) (m : Message) : Type 0 where
+  pub range : inRange m ≡ true
+  pub fresh-id : idTooLow v m ≡ false
+  pub series-open : onClosed v m ≡ false
+  pub room : full v m ≡ false
+  pub known : unknown v m ≡ false
+
+-- the refusal of what was decoded
+abbrev of : Venue → Decoded → ℕ
+of v x = elim x [ Taken m ↦ refusalOf v m | Refused n ↦ n ]
+
+pub accepted : (v : Venue) (bs : List ℕ) → refusal v bs ≡ 0 → Passed v (messageOf bs)
+unfolding refusal
+accepted v bs =
+    decoded-by (λ x. of v x ≡ 0 → Passed v (messageOf bs)) bs
+    (λ _ h. absurd (omega arith)) (λ _ _ h. absurd (omega arith)) (λ _ _ h. absurd (omega arith)) (λ _ _ h. absurd (omega arith))
+    (λ _ _ r. refusalOf-by (λ x. x ≡ 0 → Passed v (messageOf bs)) v (messageOf bs)
+    (λ h. absurd (omega arith)) (λ h. absurd (omega arith)) (λ h. absurd (omega arith)) (λ h. absurd (omega arith))
+    (λ a b c d _. record { range = r; fresh-id = a; series-open = b; room = c; known = d }))
+
+pub accepted-length : (v : Venue) (bs : List ℕ) → refusal v bs ≡ 0 → isLength (kindField bs) (lengthField bs) ≡ true
+unfolding refusal
+accepted-length v bs =
+    decoded-by (λ x. of v x ≡ 0 → isLength (kindField bs) (lengthField bs) ≡ true) bs
+    (λ _ h. absurd (omega arith)) (λ _ _ h. absurd (omega arith)) (λ _ _ h. absurd (omega arith)) (λ _ _ h. absurd (omega arith)) (λ _ l _ _. l)
+
+pub refusal-small : (v : Venue) (bs : List ℕ) → refusal v bs ≤ 8
+unfolding refusal
+refusal-small v bs =
+    decoded-by (λ x. of v x ≤ 8) bs (λ _. omega arith) (λ _ _. omega arith) (λ _ _. omega arith) (λ _ _. omega arith)
+    (λ _ _ _. refusalOf-by (λ x. x ≤ 8) v (messageOf bs) (omega arith) (omega arith) (omega arith) (omega arith) (λ _ _ _ _. omega arith))
+
+-- a message that is not torn has its length
+pub not-torn : (v : Venue) (bs : List ℕ) → eqb (refusal v bs) 1 ≡ false → torn bs ≡ false
+unfolding refusal
+not-torn v bs =
+    decoded-by (λ x. eqb (of v x) 1 ≡ false → torn bs ≡ false) bs
+    (λ _ h. absurd (eqb-false 1 1 h refl)) (λ a _ _. a) (λ a _ _. a) (λ a _ _. a) (λ a _ _ _. a)
+
+pub whole : (bs : List ℕ) → torn bs ≡ false → (4 ≤ lengthField bs) × (lengthField bs ≤ length bs)
+unfolding torn
+whole bs h =
+    let x = or-false-l (ltb (length bs) 4 || ltb (lengthField bs) 4) (ltb (length bs) (lengthField bs)) h in
+    (ltb-false (lengthField bs) 4 (or-false-r (ltb (length bs) 4) _ x), ltb-false (length bs) (lengthField bs) (or-false-r (ltb (length bs) 4 || ltb (lengthField bs) 4) (ltb (length bs) (lengthField bs)) h))
+
+pub whole-in : (bs : List ℕ) → (4 ≤ lengthField bs) × (lengthField bs ≤ length bs) → torn bs ≡ false
+unfolding torn
+whole-in bs h =
+    let a = h .0 in
+    let b = h .1 in
+    rw (le-ltb (length bs) 4 (omega arith), le-ltb (lengthField bs) 4 a, le-ltb (length bs) (lengthField bs) b)

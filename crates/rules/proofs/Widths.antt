@@ -1,0 +1,262 @@
+-- Fields in range: what each place and each record holds fits its width. `Ranged v`: of every place of v, held or free; kept by all that
+-- writes one place.
+use mathlib.Core.Path.{_∙_, _≡_, refl, subst, sym}
+use mathlib.Core.Bool.{Bool, _&&_, false, false≢true, not, true}
+use mathlib.Core.List.{List, [], _++_, _∷_}
+use Prim.Native.Nat.{_+_, _-_, _<_, _≤_, suc, zero, ℕ}
+use native.Mathlib.Omega.{arith}
+use lib.Dec.{eqb, leb}
+use lib.IntN.{negsuc, pos, ℤ}
+use lib.ListN.{getD, length, length-set, set}
+use lib.Signed.{leZ}
+use borrow.Author.Tests.{le-leb, leb-true}
+use Rattle.rules.specs.declared.Complex.{Complex}
+use Rattle.rules.specs.declared.Legging.{Legging}
+use Rattle.rules.specs.declared.Listed.{Listed}
+use Rattle.rules.specs.declared.Message.the-variants.{Away, Status}
+use Rattle.rules.specs.declared.Regular.{Regular}
+use Rattle.rules.specs.declared.Venue.{Venue}
+use Rattle.rules.specs.Base.{held}
+use Rattle.rules.specs.Words.{complexAt, increment, isAway, isClass, isId, isLimit, isPrice, isQuantity, isRegularPrice, isSeries, isSide, isStatus, noComplex, noLegging, noRegular, notListed, regularAt, statusOf, withComplex, withLast, withLegging, withRegular, withSeries, within}
+use Rattle.rules.specs.Records.{Each, Fits, Report, U32, answer, cancelled, crossed, generated, pair, removed, trade}
+use Rattle.rules.specs.Trading.{fillComplex, fillRegular, lessComplex, lessRegular}
+use Rattle.rules.specs.Generation.{placed}
+use Rattle.rules.specs.Places.{blankLegging, closeGaps}
+use Rattle.rules.specs.Refusals.{complexInRange, inRange, regularInRange}
+use Rattle.rules.specs.Step.{setAway, setStatus}
+use Rattle.rules.specs.Sound.{listedInRange}
+use Rattle.rules.proofs.Filling.{cx, lg, reg}
+use Rattle.rules.proofs.Gaps.{was, wasC}
+use Rattle.rules.proofs.Integers.{le-out, minus, plus}
+use Rattle.rules.proofs.Tests.{and-in, and-l, and-r, held-pos, pos-held}
+
+-- Records -------------------------------------------------------------------------------------
+
+pub each-append : (P : Report → Type 0) (a b : List Report) → Each P a → Each P b → Each P (a ++ b)
+each-append P [] b h k = k
+each-append P (r ∷ a) b h k = (h .0, each-append P a b (h .1) k)
+
+-- The venue's fields --------------------------------------------------------------------------
+
+pub record RegFits (o : Regular) : Type 0 where
+  pub id : U32 (o .id)
+  pub series : o .series < 8
+  pub side : o .side < 2
+  pub price : o .price ≤ 100000
+  pub quantity : o .quantity ≤ 10000
+  pub ok : held (o .quantity) ≡ true → regularInRange o ≡ true
+
+pub record CxFits (c : Complex) : Type 0 where
+  pub id : U32 (c .id)
+  pub series1 : c .series1 < 8
+  pub side1 : c .side1 < 2
+  pub series2 : c .series2 < 8
+  pub side2 : c .side2 < 2
+  pub high : plus (c .limit) ≤ 200000
+  pub low : minus (c .limit) ≤ 200000
+  pub quantity : c .quantity ≤ 10000
+  pub ok : held (c .quantity) ≡ true → complexInRange c ≡ true
+
+pub record LgFits (l : Legging) : Type 0 where
+  pub parent : U32 (l .parent)
+  pub price : l .price ≤ 100000
+  pub quantity : l .quantity ≤ 10000
+  pub ok : held (l .quantity) ≡ true → (isId (l .parent) && isPrice (l .price) && isQuantity (l .quantity)) ≡ true
+  pub zero : held (l .quantity) ≡ false → blankLegging l ≡ true
+
+pub record Ranged (v : Venue) : Type 0 where
+  pub regular : (i : ℕ) → RegFits (reg v i)
+  pub complex : (i : ℕ) → CxFits (cx v i)
+  pub legging : (i : ℕ) → LgFits (lg v i)
+  pub listed : (i : ℕ) → listedInRange (getD (v .series) i notListed) ≡ true
+  pub last : v .last ≤ 4294967295
+  pub len : length (v .legging) ≡ 16
+  pub eight : length (v .series) ≡ 8
+
+pub no-cx : CxFits noComplex
+unfolding plus minus
+no-cx = record { id = omega arith; series1 = omega arith; side1 = omega arith; series2 = omega arith; side2 = omega arith; high = omega arith; low = omega arith; quantity = omega arith; ok = λ h. absurd (false≢true h) }
+
+pub no-lg : LgFits noLegging
+no-lg = record { parent = omega arith; price = omega arith; quantity = omega arith; ok = λ h. absurd (false≢true h); zero = λ h. unfold blankLegging in refl }
+
+-- One place written ---------------------------------------------------------------------------
+
+pub set-each : {A : Type 0} (P : A → Type 0) (d : A) (l : List A) (i : ℕ) (x : A) → P x → ((j : ℕ) → P (getD l j d)) → (j : ℕ) → P (getD (set l i x) j d)
+set-each P d [] i x h a j = a j
+set-each P d (y ∷ l) zero x h a zero = h
+set-each P d (y ∷ l) zero x h a (suc j) = a (suc j)
+set-each P d (y ∷ l) (suc i) x h a zero = a 0
+set-each P d (y ∷ l) (suc i) x h a (suc j) = set-each P d l i x h (λ n. a (suc n)) j
+
+-- an order with less open, some of it still
+quantity-less : (q k : ℕ) → isQuantity q ≡ true → held (q - k) ≡ true → isQuantity (q - k) ≡ true
+unfolding isQuantity within
+quantity-less q k h t =
+    let a = held-pos (q - k) t in
+    let b = leb-true q 10000 (and-r (leb 1 q) _ h) in
+    and-in _ _ (le-leb 1 (q - k) (omega arith)) (le-leb (q - k) 10000 (omega arith))
+
+still : (q k : ℕ) → held (q - k) ≡ true → held q ≡ true
+still q k t = let a = held-pos (q - k) t in pos-held q (omega arith)
+
+less-fits : (k : ℕ) (o : Regular) → RegFits o → RegFits (lessRegular k o)
+unfolding lessRegular regularInRange
+less-fits k o f = record {
+  id = f .id;
+  series = f .series;
+  side = f .side;
+  price = f .price;
+  quantity = (let z = f .quantity in omega arith);
+  ok = λ t.
+      (let z = f .ok (still (o .quantity) k t) in
+      let a : isId (o .id) ≡ true = search (and-l, and-r, z) depth 8 in
+      let b : isSeries (o .series) ≡ true = search (and-l, and-r, z) depth 8 in
+      let c : isSide (o .side) ≡ true = search (and-l, and-r, z) depth 8 in
+      let d : isRegularPrice (increment (o .series)) (o .price) ≡ true = search (and-l, and-r, z) depth 8 in
+      let e : isQuantity (o .quantity) ≡ true = search (and-l, and-r, z) depth 8 in
+      rw (a, b, c, d, quantity-less (o .quantity) k e t));
+}
+
+lessC-fits : (k : ℕ) (c : Complex) → CxFits c → CxFits (lessComplex k c)
+unfolding lessComplex complexInRange
+lessC-fits k c f = record {
+  id = f .id;
+  series1 = f .series1;
+  side1 = f .side1;
+  series2 = f .series2;
+  side2 = f .side2;
+  high = f .high;
+  low = f .low;
+  quantity = (let z = f .quantity in omega arith);
+  ok = λ t. last-conjunct front _ _ (f .ok (still (c .quantity) k t)) (λ e. quantity-less (c .quantity) k e t);
+}
+  where
+    front : Bool
+    front =
+        isId (c .id) && isSeries (c .series1) && isSide (c .side1) && isSeries (c .series2) && isSide (c .side2)
+        && not (eqb (c .series1) (c .series2)) && isClass (c .class) && isLimit (c .limit)
+
+    last-conjunct : (a b b′ : Bool) → (a && b) ≡ true → (b ≡ true → b′ ≡ true) → (a && b′) ≡ true
+    last-conjunct a b b′ h k = and-in a b′ (and-l a b h) (k (and-r a b h))
+
+-- one part of the venue anew
+module _ {v : Venue} (r : Ranged v) where
+  with-regular : (l : List Regular) → ((i : ℕ) → RegFits (getD l i noRegular)) → Ranged (withRegular v l)
+  unfolding withRegular
+  with-regular l h = record { regular = h; complex = r .complex; legging = r .legging; listed = r .listed; last = r .last; len = r .len; eight = r .eight }
+
+  with-complex : (l : List Complex) → ((i : ℕ) → CxFits (getD l i noComplex)) → Ranged (withComplex v l)
+  unfolding withComplex
+  with-complex l h = record { regular = r .regular; complex = h; legging = r .legging; listed = r .listed; last = r .last; len = r .len; eight = r .eight }
+
+  pub with-legging : (l : List Legging) → ((i : ℕ) → LgFits (getD l i noLegging)) → length l ≡ length (v .legging) → Ranged (withLegging v l)
+  unfolding withLegging
+  with-legging l h e = record { regular = r .regular; complex = r .complex; legging = h; listed = r .listed; last = r .last; len = e ∙ r .len; eight = r .eight }
+
+  with-series : (l : List Listed) → ((i : ℕ) → listedInRange (getD l i notListed) ≡ true) → length l ≡ length (v .series) → Ranged (withSeries v l)
+  unfolding withSeries
+  with-series l h e = record { regular = r .regular; complex = r .complex; legging = r .legging; listed = h; last = r .last; len = r .len; eight = e ∙ r .eight }
+
+pub last-ranged : (n : ℕ) (v : Venue) → U32 n → Ranged v → Ranged (withLast v n)
+unfolding withLast
+last-ranged n v h r = record { regular = r .regular; complex = r .complex; legging = r .legging; listed = r .listed; last = omega arith; len = r .len; eight = r .eight }
+
+-- an order put, or with less open
+pub put-ranged : (i : ℕ) (o : Regular) (v : Venue) → RegFits o → Ranged v → Ranged (withRegular v (set (v .regular) i o))
+put-ranged i o v f r = with-regular r _ (set-each RegFits noRegular (v .regular) i o f (r .regular))
+
+pub putC-ranged : (i : ℕ) (c : Complex) (v : Venue) → CxFits c → Ranged v → Ranged (withComplex v (set (v .complex) i c))
+putC-ranged i c v f r = with-complex r _ (set-each CxFits noComplex (v .complex) i c f (r .complex))
+
+pub fill-ranged : (i k : ℕ) (v : Venue) → Ranged v → Ranged (fillRegular i k v)
+unfolding fillRegular regularAt
+fill-ranged i k v r = put-ranged i _ v (less-fits k (reg v i) (r .regular i)) r
+
+pub fillC-ranged : (i k : ℕ) (v : Venue) → Ranged v → Ranged (fillComplex i k v)
+unfolding fillComplex complexAt
+fillC-ranged i k v r = putC-ranged i _ v (lessC-fits k (cx v i) (r .complex i)) r
+
+pub placed-ranged : (n : ℕ) (l : Legging) (v : Venue) → LgFits l → Ranged v → Ranged (placed n l v)
+unfolding placed
+placed-ranged n l v f r = with-legging r _ (set-each LgFits noLegging (v .legging) n l f (r .legging)) (length-set (v .legging) n l)
+
+-- one series written
+series-ranged : (s : ℕ) (x : Listed) (v : Venue) → listedInRange x ≡ true → Ranged v → Ranged (withSeries v (set (v .series) s x))
+series-ranged s x v h r = with-series r _ (set-each (λ y. listedInRange y ≡ true) notListed (v .series) s x h (r .listed)) (length-set (v .series) s x)
+
+pub away-ranged : (s b o : ℕ) (v : Venue) → inRange (Away s b o) ≡ true → Ranged v → Ranged (setAway s b o v)
+unfolding setAway inRange statusOf
+away-ranged s b o v z r =
+    series-ranged s _ v (unfold listedInRange in (let y = r .listed s in
+    let a : isStatus (getD (v .series) s notListed .status) ≡ true = search (and-l, and-r, y) depth 6 in
+    let p : isAway b ≡ true = search (and-l, and-r, z) depth 6 in
+    let q : isAway o ≡ true = search (and-l, and-r, z) depth 6 in
+    rw (a, p, q))) r
+
+pub status-ranged : (s x : ℕ) (v : Venue) → inRange (Status s x) ≡ true → Ranged v → Ranged (setStatus s x v)
+unfolding setStatus inRange
+status-ranged s x v z r =
+    series-ranged s _ v (unfold listedInRange in (let y = r .listed s in
+    let a : isStatus x ≡ true = search (and-l, and-r, z) depth 6 in
+    let p : isAway (getD (v .series) s notListed .bid) ≡ true = search (and-l, and-r, y) depth 6 in
+    let q : isAway (getD (v .series) s notListed .offer) ≡ true = search (and-l, and-r, y) depth 6 in
+    rw (a, p, q))) r
+
+pub closed-ranged : (v : Venue) → Ranged v → Ranged (closeGaps v)
+unfolding closeGaps withRegular withComplex
+closed-ranged v r =
+    with-complex (with-regular r _ (λ i. subst RegFits (sym (was v i)) (r .regular _))) _ (λ i. subst CxFits (sym (wasC v i)) (r .complex _))
+
+-- Orders in range -----------------------------------------------------------------------------
+
+-- a message in range brings an order in range
+pub order-fits : (o : Regular) → regularInRange o ≡ true → RegFits o
+unfolding regularInRange isId isSeries isSide isRegularPrice isPrice isQuantity within
+order-fits o z =
+    let a : leb (o .id) 4294967295 ≡ true = search (and-l, and-r, z) depth 12 in
+    let b : leb (o .series) 7 ≡ true = search (and-l, and-r, z) depth 12 in
+    let c : leb (o .side) 1 ≡ true = search (and-l, and-r, z) depth 12 in
+    let d : leb (o .price) 100000 ≡ true = search (and-l, and-r, z) depth 12 in
+    let e : leb (o .quantity) 10000 ≡ true = search (and-l, and-r, z) depth 12 in
+    record {
+      id = (let x = leb-true (o .id) 4294967295 a in omega arith);
+      series = (let x = leb-true (o .series) 7 b in omega arith);
+      side = (let x = leb-true (o .side) 1 c in omega arith);
+      price = leb-true (o .price) 100000 d;
+      quantity = leb-true (o .quantity) 10000 e;
+      ok = λ _. z;
+    }
+
+pub complex-fits : (c : Complex) → complexInRange c ≡ true → CxFits c
+unfolding complexInRange isId isSeries isSide isLimit isQuantity within plus minus
+complex-fits c z =
+    let a : leb (c .id) 4294967295 ≡ true = search (and-l, and-r, z) depth 14 in
+    let s1 : leb (c .series1) 7 ≡ true = search (and-l, and-r, z) depth 14 in
+    let s2 : leb (c .series2) 7 ≡ true = search (and-l, and-r, z) depth 14 in
+    let d1 : leb (c .side1) 1 ≡ true = search (and-l, and-r, z) depth 14 in
+    let d2 : leb (c .side2) 1 ≡ true = search (and-l, and-r, z) depth 14 in
+    let lo : leZ (negsuc 199999) (c .limit) ≡ true = search (and-l, and-r, z) depth 14 in
+    let hi : leZ (c .limit) (pos 200000) ≡ true = search (and-l, and-r, z) depth 14 in
+    let q : leb (c .quantity) 10000 ≡ true = search (and-l, and-r, z) depth 14 in
+    let l = le-out (negsuc 199999) (c .limit) lo in
+    let h = le-out (c .limit) (pos 200000) hi in
+    record {
+      id = (let x = leb-true (c .id) 4294967295 a in omega arith);
+      series1 = (let x = leb-true (c .series1) 7 s1 in omega arith);
+      side1 = (let x = leb-true (c .side1) 1 d1 in omega arith);
+      series2 = (let x = leb-true (c .series2) 7 s2 in omega arith);
+      side2 = (let x = leb-true (c .side2) 1 d2 in omega arith);
+      high = high (c .limit) h;
+      low = low (c .limit) l;
+      quantity = leb-true (c .quantity) 10000 q;
+      ok = λ _. z;
+    }
+  where
+    high : (z : ℤ) → plus z + 0 ≤ 200000 + minus z → plus z ≤ 200000
+    high (pos n) h = omega arith
+    high (negsuc n) h = omega arith
+
+    low : (z : ℤ) → 0 + minus z ≤ plus z + 200000 → minus z ≤ 200000
+    low (pos n) h = omega arith
+    low (negsuc n) h = omega arith

@@ -1,0 +1,30 @@
+-- Lengths of records, and what each order pays for: by these the bytes that one message writes are bounded.
+use Prim.Native.Nat.{ℕ}
+use Rattle.rules.specs.Records.{Report, answer, trade, pair, generated, removed, crossed, cancelled}
+
+-- The table's column "Length", of a record.
+unfoldable pub recordLength : Report → ℕ
+recordLength (answer number refusal mask count) = 12
+recordLength (trade series side price quantity taker maker) = 22
+recordLength (pair id n quantity) = 16
+recordLength (generated id series side price shown quantity) = 22
+recordLength (removed id series side cause) = 11
+recordLength (crossed taker maker n quantity) = 20
+recordLength (cancelled id quantity) = 12
+
+-- What each order pays for when it goes, or in a sweep when its turn comes. A round of legging in writes, beside the trades that free their maker,
+-- a trade for each leg and the pair, 22 + 22 + 16; it frees all of a level of one leg, or the complex order. A cross writes 20 and frees a party.
+abbrev pub perRegular : ℕ
+perRegular = 60
+
+-- and a complex order that is left may have both legs generated
+abbrev pub perComplex : ℕ
+perComplex = 66
+
+-- a legging order's going writes its 68
+abbrev pub perLegging : ℕ
+perLegging = 11
+
+-- a leg that is generated: its 67, and the 68 of the holder or, later, its own
+abbrev pub perLeg : ℕ
+perLeg = 33

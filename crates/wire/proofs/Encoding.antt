@@ -1,0 +1,137 @@
+-- A message is decoded from its bytes.
+use mathlib.Core.Path.{_≡_, refl, sym, ap, _∙_}
+use mathlib.Core.Bool.{true}
+use mathlib.Core.List.{List, [], _++_, append-nil}
+use Prim.Native.Nat.{ℕ, _≤_}
+use native.Mathlib.Omega.{arith}
+use lib.Dec.{leb}
+use lib.ListN.{length, length-append}
+use lib.IntN.{ℤ, pos, negsuc}
+use lib.Signed.{leZ}
+use borrow.Author.Tests.{leb-true}
+use Rattle.rules.specs.declared.Message.{Message}
+use Rattle.rules.specs.declared.Message.the-variants.{Order, TwoLeg, Cancel, Away, Status, Sweep}
+use Rattle.rules.specs.declared.Decoded.the-variants.{Taken}
+use Rattle.rules.specs.Words.{within, isId, isSeries, isSide, isClass, isStatus, isQuantity, isAway, isPrice, isRegularPrice, isLimit, increment}
+use Rattle.rules.specs.Bytes.{u8At, u16At, u32At, asUnsigned, lengthField, kindField, bytes, framed}
+use Rattle.rules.specs.Messages.{lengthOf, orderAt, twoLegAt, messageOf, encodeMessage}
+use Rattle.rules.specs.Records.{U8, U32, I32}
+use Rattle.rules.specs.Refusals.{isKind, regularInRange, complexInRange, inRange, decoded}
+use Rattle.rules.proofs.Tests.{and-l, and-r}
+use Rattle.wire.proofs.Fields.{byte, word, signed-back, signed-small}
+use Rattle.wire.proofs.Decoding.{whole, taken}
+
+-- Widths --------------------------------------------------------------------------------------
+
+-- what is in a range is at most its upper end
+at-most : (low high x : ℕ) → within low high x ≡ true → x ≤ high
+unfolding within
+at-most low high x h = leb-true x high (and-r (leb low x) (leb x high) h)
+
+limit-fits : (z : ℤ) → isLimit z ≡ true → I32 z
+unfolding isLimit
+limit-fits (pos n) h = let k = leb-true n 200000 (and-r (leZ (negsuc 199999) (pos n)) (leb n 200000) h) in omega arith
+limit-fits (negsuc n) h = let k = leb-true n 199999 (and-l (leb n 199999) (leZ (negsuc n) (pos 200000)) h) in omega arith
+
+id-fits : (x : ℕ) → isId x ≡ true → U32 x
+unfolding isId
+id-fits x h = let k = at-most 1 4294967295 x h in omega arith
+
+series-fits : (x : ℕ) → isSeries x ≡ true → U8 x
+unfolding isSeries
+series-fits x h = let k = at-most 0 7 x h in omega arith
+
+side-fits : (x : ℕ) → isSide x ≡ true → U8 x
+unfolding isSide
+side-fits x h = let k = at-most 0 1 x h in omega arith
+
+class-fits : (x : ℕ) → isClass x ≡ true → U8 x
+unfolding isClass
+class-fits x h = let k = at-most 0 1 x h in omega arith
+
+status-fits : (x : ℕ) → isStatus x ≡ true → U8 x
+unfolding isStatus
+status-fits x h = let k = at-most 0 2 x h in omega arith
+
+quantity-fits : (x : ℕ) → isQuantity x ≡ true → U32 x
+unfolding isQuantity
+quantity-fits x h = let k = at-most 1 10000 x h in omega arith
+
+away-fits : (x : ℕ) → isAway x ≡ true → U32 x
+unfolding isAway
+away-fits x h = let k = at-most 0 100000 x h in omega arith
+
+price-fits : (i x : ℕ) → isRegularPrice i x ≡ true → U32 x
+unfolding isRegularPrice isPrice
+price-fits i x h = let z = h in let k = at-most 1 100000 x (search (and-l, z)) in omega arith
+
+-- A message's bytes ---------------------------------------------------------------------------
+
+-- a message whose fields are in range is the one at the front of its bytes, whatever follows
+pub message-back : (m : Message) → inRange m ≡ true → (rest : List ℕ) → messageOf (encodeMessage m ++ rest) ≡ m
+unfolding messageOf orderAt twoLegAt encodeMessage framed bytes kindField u8At u16At u32At inRange regularInRange complexInRange
+message-back (Order o) h rest =
+    let z = h in
+    rw (
+      word (o .id) (id-fits _ (search (and-l, and-r, z) depth 8)),
+      byte (o .series) (series-fits _ (search (and-l, and-r, z) depth 8)),
+      byte (o .side) (side-fits _ (search (and-l, and-r, z) depth 8)),
+      word (o .price) (price-fits (increment (o .series)) _ (search (and-l, and-r, z) depth 8)),
+      word (o .quantity) (quantity-fits _ (search (and-l, and-r, z) depth 8)),
+    )
+message-back (TwoLeg c) h rest =
+    let z = h in
+    let l : isLimit (c .limit) ≡ true = search (and-l, and-r, z) depth 12 in
+    rw (
+      word (c .id) (id-fits _ (search (and-l, and-r, z) depth 12)),
+      byte (c .series1) (series-fits _ (search (and-l, and-r, z) depth 12)),
+      byte (c .side1) (side-fits _ (search (and-l, and-r, z) depth 12)),
+      byte (c .series2) (series-fits _ (search (and-l, and-r, z) depth 12)),
+      byte (c .side2) (side-fits _ (search (and-l, and-r, z) depth 12)),
+      byte (c .class) (class-fits _ (search (and-l, and-r, z) depth 12)),
+      word (asUnsigned (c .limit)) (signed-small (c .limit) (limit-fits (c .limit) l)),
+      signed-back (c .limit) (limit-fits (c .limit) l),
+      word (c .quantity) (quantity-fits _ (search (and-l, and-r, z) depth 12)),
+    )
+message-back (Cancel id) h rest = rw (word id (id-fits id h))
+message-back (Away s bid offer) h rest =
+    let z = h in
+    rw (
+      byte s (series-fits s (search (and-l, z))),
+      word bid (away-fits bid (search (and-l, and-r, z))),
+      word offer (away-fits offer (search (and-l, and-r, z))),
+    )
+message-back (Status s x) h rest =
+    rw (byte s (series-fits s (and-l (isSeries s) (isStatus x) h)), byte x (status-fits x (and-r (isSeries s) (isStatus x) h)))
+message-back Sweep h rest = refl
+
+-- what stands at the front of a message's bytes: its length, which is its kind's, and its kind
+pub record Front (s : List ℕ) (n : ℕ) : Type 0 where
+  pub size : lengthField s ≡ n
+  pub kind : isKind (kindField s) ≡ true
+  pub kinds-size : n ≡ lengthOf (kindField s)
+  pub least : 4 ≤ n
+
+pub front : (m : Message) (rest : List ℕ) → Front (encodeMessage m ++ rest) (length (encodeMessage m))
+unfolding encodeMessage framed bytes lengthField kindField u8At u16At isKind within lengthOf
+front (Order o) rest = record { size = refl; kind = refl; kinds-size = refl; least = omega arith }
+front (TwoLeg c) rest = record { size = refl; kind = refl; kinds-size = refl; least = omega arith }
+front (Cancel id) rest = record { size = refl; kind = refl; kinds-size = refl; least = omega arith }
+front (Away s bid offer) rest = record { size = refl; kind = refl; kinds-size = refl; least = omega arith }
+front (Status s x) rest = record { size = refl; kind = refl; kinds-size = refl; least = omega arith }
+front Sweep rest = record { size = refl; kind = refl; kinds-size = refl; least = omega arith }
+
+-- a message has the length of its kind
+pub message-length : (m : Message) → length (encodeMessage m) ≡ lengthOf (kindField (encodeMessage m))
+message-length m = front m [] .kinds-size ∙ ap (λ (s : List ℕ). lengthOf (kindField s)) (append-nil (encodeMessage m))
+
+-- decoding gives the message back, whatever follows
+pub decodes-back : (m : Message) → inRange m ≡ true → (rest : List ℕ) → decoded (encodeMessage m ++ rest) ≡ Taken m
+unfolding lengthField kindField
+decodes-back m h rest =
+    let s : List ℕ = encodeMessage m ++ rest in
+    let n = length-append (encodeMessage m) rest in
+    let f = front m rest in
+    let k : u16At s 0 ≡ length (encodeMessage m) = f .size in
+    let l = f .least in
+    sym (taken s m (sym (message-back m h rest)) (whole s (omega arith) (omega arith) (omega arith)) (f .kind) (k ∙ f .kinds-size) h)

@@ -1,0 +1,231 @@
+//! The state inside a call, and the prices of a side.
+
+use crate::book::{Level, RegularBook, Resting};
+use crate::price::{
+    better, bit, facing, in_band, is_open, place, series_of, side_of, signed, Place, BAND_PERCENT,
+};
+use crate::types::{Complex, Legging, Listed, Regular, Venue};
+use crate::types::{BUY, COMPLEX_PLACES, LEGGING_PLACES, SERIES};
+
+#[derive(Clone, Copy, Debug)]
+pub struct ComplexOrder {
+    pub id: u32,
+    pub legs: [Place; 2],
+    pub class: u8,
+    pub limit: i32,
+    pub quantity: u32,
+    /// The legs as a mask of places.
+    pub mask: u16,
+}
+
+impl ComplexOrder {
+    pub fn new(id: u32, legs: [Place; 2], class: u8, limit: i32, quantity: u32) -> Self {
+        ComplexOrder {
+            id,
+            legs,
+            class,
+            limit,
+            quantity,
+            mask: bit(legs[0]) | bit(legs[1]),
+        }
+    }
+
+    /// The mask of an order with the same series and each side reversed.
+    pub fn reversed_mask(&self) -> u16 {
+        bit(facing(self.legs[0])) | bit(facing(self.legs[1]))
+    }
+
+    /// The two places of its legging orders, rising.
+    pub fn places(&self) -> [Place; 2] {
+        rising(self.legs)
+    }
+
+    /// The two sides it would take, rising.
+    pub fn taken(&self) -> [Place; 2] {
+        rising(self.legs.map(facing))
+    }
+}
+
+fn rising([a, b]: [Place; 2]) -> [Place; 2] {
+    [a.min(b), a.max(b)]
+}
+
+/// A legging order, with what its test needs of its parent.
+#[derive(Clone, Copy, Debug, Default)]
+pub struct Standing {
+    pub parent: u32,
+    pub price: u32,
+    pub quantity: u32,
+    pub other: Place,
+    pub limit: i32,
+    pub class: u8,
+}
+
+#[derive(Clone, Debug)]
+pub struct Books {
+    pub regular: RegularBook,
+    /// In rising id; an order filled during a message stays with quantity 0
+    /// until the message's work on complex orders is done.
+    pub complex: Vec<ComplexOrder>,
+    pub standing: [Standing; LEGGING_PLACES],
+    /// The legging places in use.
+    pub filled: u16,
+    pub series: [Listed; SERIES],
+    pub last: u32,
+}
+
+impl Books {
+    pub fn fresh() -> Self {
+        Books {
+            regular: RegularBook::default(),
+            complex: Vec::with_capacity(COMPLEX_PLACES),
+            standing: [Standing::default(); LEGGING_PLACES],
+            filled: 0,
+            series: [Listed::default(); SERIES],
+            last: 0,
+        }
+    }
+
+    pub fn is_filled(&self, place: Place) -> bool {
+        self.filled & bit(place) != 0
+    }
+
+    pub fn is_series_open(&self, place: Place) -> bool {
+        is_open(self.series[series_of(place)].status)
+    }
+
+    /// The legging order's own price at a place, if one stands there.
+    pub fn legging_price(&self, place: Place) -> Option<u32> {
+        self.is_filled(place).then(|| self.standing[place].price)
+    }
+
+    /// The best own price of a side, legging orders included.
+    pub fn best_own(&self, place: Place) -> Option<u32> {
+        best_of(place, self.regular.best(place), self.legging_price(place))
+    }
+
+    /// The best regular price and its size, unless a legging order on that
+    /// side has a strictly better own price.
+    pub fn clear(&self, place: Place) -> Option<Level> {
+        let level = self.regular.level(place)?;
+        match self.legging_price(place) {
+            Some(price) if better(place, price, level.price) => None,
+            _ => Some(level),
+        }
+    }
+
+    pub fn away(&self, place: Place) -> Option<u32> {
+        let listed = &self.series[series_of(place)];
+        let price = if side_of(place) == BUY {
+            listed.bid
+        } else {
+            listed.offer
+        };
+        (price > 0).then_some(price)
+    }
+
+    fn market_best(&self, place: Place) -> Option<u32> {
+        best_of(place, self.regular.best(place), self.away(place))
+    }
+
+    /// Net of the market bests that the legs would take.
+    pub fn market_net(&self, legs: [Place; 2]) -> Option<i32> {
+        let first = self.market_best(facing(legs[0]))?;
+        let second = self.market_best(facing(legs[1]))?;
+        Some(signed(legs[0], first) + signed(legs[1], second))
+    }
+
+    pub fn is_in_band(&self, net: i32, legs: [Place; 2]) -> bool {
+        match self.market_net(legs) {
+            Some(market) => in_band(net, market, BAND_PERCENT),
+            None => false,
+        }
+    }
+
+    pub fn complex_index(&self, id: u32) -> Option<usize> {
+        self.complex
+            .binary_search_by_key(&id, |order| order.id)
+            .ok()
+    }
+}
+
+fn best_of(place: Place, a: Option<u32>, b: Option<u32>) -> Option<u32> {
+    match (a, b) {
+        (Some(a), Some(b)) if better(place, b, a) => Some(b),
+        (None, b) => b,
+        (a, _) => a,
+    }
+}
+
+impl Books {
+    /// Adds orders in rising id.
+    pub fn add_regular(&mut self, orders: &[Regular]) {
+        let places = orders.iter().map(|order| place(order.series, order.side));
+        self.regular.reserve(places.clone());
+        for (place, order) in places.zip(orders) {
+            let resting = Resting {
+                id: order.id,
+                price: order.price,
+                quantity: order.quantity,
+            };
+            self.regular.insert(place, resting);
+        }
+    }
+
+    pub fn add_complex(&mut self, order: &Complex) {
+        let legs = [
+            place(order.series1, order.side1),
+            place(order.series2, order.side2),
+        ];
+        let added = ComplexOrder::new(order.id, legs, order.class, order.limit, order.quantity);
+        self.complex.push(added);
+    }
+
+    /// The venue by value, in its one form.
+    pub fn to_venue(&self) -> Venue {
+        let mut venue = Venue::fresh();
+        let mut count = 0;
+        for (slot, (place, order)) in venue.regular.iter_mut().zip(self.regular.iter()) {
+            *slot = regular_at(place, order);
+            count += 1;
+        }
+        venue.regular[..count].sort_unstable_by_key(|order| order.id);
+        for (slot, order) in venue.complex.iter_mut().zip(&self.complex) {
+            *slot = complex_of(order);
+        }
+        for place in crate::price::places(self.filled) {
+            let standing = &self.standing[place];
+            venue.legging[place] = Legging {
+                parent: standing.parent,
+                price: standing.price,
+                quantity: standing.quantity,
+            };
+        }
+        venue.series = self.series;
+        venue.last = self.last;
+        venue
+    }
+}
+
+fn regular_at(place: Place, order: &Resting) -> Regular {
+    Regular {
+        id: order.id,
+        series: series_of(place) as u8,
+        side: side_of(place),
+        price: order.price,
+        quantity: order.quantity,
+    }
+}
+
+fn complex_of(order: &ComplexOrder) -> Complex {
+    Complex {
+        id: order.id,
+        series1: series_of(order.legs[0]) as u8,
+        side1: side_of(order.legs[0]),
+        series2: series_of(order.legs[1]) as u8,
+        side2: side_of(order.legs[1]),
+        class: order.class,
+        limit: order.limit,
+        quantity: order.quantity,
+    }
+}

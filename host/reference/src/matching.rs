@@ -1,0 +1,313 @@
+//! What each kind of message does once it is accepted.
+
+use crate::book::Resting;
+use crate::books::{Books, ComplexOrder};
+use crate::legging::Cause;
+use crate::price::{
+    better, bit, facing, in_band, places, reaches, series_of, signed, Place, BAND_PERCENT,
+};
+use crate::types::{CLOSED, COMPLEX_PLACES};
+use crate::wire::{Message, NewComplex, NewOrder, Refusal, Report};
+
+/// Whom an arriving order meets next.
+enum Met {
+    Regular,
+    Legging,
+}
+
+/// One round of legging in: the net of both best prices and the quantity.
+struct Round {
+    net: i32,
+    quantity: u32,
+}
+
+impl Books {
+    /// Refusals that depend on the venue, in number order.
+    pub fn admit(&self, message: &Message) -> Result<(), Refusal> {
+        match message {
+            Message::Order(order) => {
+                self.admit_new(order.id, &[order.place], self.regular.is_full())
+            }
+            Message::Complex(order) => {
+                let full = self.complex.len() >= COMPLEX_PLACES;
+                self.admit_new(order.id, &order.legs, full)
+            }
+            Message::Cancel { id } if !self.rests(*id) => Err(Refusal::NoSuchOrder),
+            _ => Ok(()),
+        }
+    }
+
+    fn admit_new(&self, id: u32, legs: &[Place], full: bool) -> Result<(), Refusal> {
+        if id <= self.last {
+            return Err(Refusal::IdNotAbove);
+        }
+        if legs.iter().any(|leg| self.is_closed(*leg)) {
+            return Err(Refusal::SeriesClosed);
+        }
+        if full {
+            return Err(Refusal::BookFull);
+        }
+        Ok(())
+    }
+
+    fn is_closed(&self, place: Place) -> bool {
+        self.series[series_of(place)].status == CLOSED
+    }
+
+    fn rests(&self, id: u32) -> bool {
+        self.complex_index(id).is_some() || self.regular.holds(id)
+    }
+
+    /// Carries out an accepted message.
+    pub fn perform(&mut self, message: Message, report: &mut Report) {
+        match message {
+            Message::Order(order) => self.order(order, report),
+            Message::Complex(order) => self.complex(order, report),
+            Message::Cancel { id } => self.cancel(id, report),
+            Message::Away { series, bid, offer } => {
+                self.series[series].bid = bid;
+                self.series[series].offer = offer;
+                self.settle(report);
+            }
+            Message::Status { series, status } => {
+                self.series[series].status = status;
+                self.settle(report);
+            }
+            Message::Sweep => self.sweep(report),
+        }
+    }
+
+    fn order(&mut self, order: NewOrder, report: &mut Report) {
+        self.last = order.id;
+        let mut open = order.quantity;
+        while open > 0 {
+            let Some(met) = self.met_by(order.place, order.price) else {
+                break;
+            };
+            open -= match met {
+                Met::Regular => self.trade_regular(order.place, open, order.id, report),
+                Met::Legging => self.hit(order.place, open, order.id, report),
+            };
+        }
+        if open > 0 {
+            let resting = Resting {
+                id: order.id,
+                price: order.price,
+                quantity: open,
+            };
+            self.regular.insert(order.place, resting);
+        }
+        self.settle(report);
+    }
+
+    /// Who is first opposite an order: best own price, a regular order before
+    /// a legging order at the same price.
+    fn met_by(&self, place: Place, price: u32) -> Option<Met> {
+        let opposite = facing(place);
+        let regular = self.regular.best(opposite);
+        let legging = self.legging_price(opposite);
+        let (met, best) = match (regular, legging) {
+            (Some(best), Some(own)) if better(opposite, own, best) => (Met::Legging, own),
+            (Some(best), _) => (Met::Regular, best),
+            (None, Some(own)) => (Met::Legging, own),
+            (None, None) => return None,
+        };
+        reaches(place, price as i32, best).then_some(met)
+    }
+
+    /// One trade of a leg or order with the first regular order it takes.
+    fn trade_regular(&mut self, leg: Place, most: u32, taker: u32, report: &mut Report) -> u32 {
+        let Some(fill) = self.regular.take_first(facing(leg), most) else {
+            return 0;
+        };
+        report.trade(leg, fill.price, fill.quantity, taker, fill.id);
+        fill.quantity
+    }
+
+    /// Trades `quantity` contracts at the best price of the side a leg takes.
+    fn trade_leg(&mut self, leg: Place, mut quantity: u32, taker: u32, report: &mut Report) {
+        while quantity > 0 {
+            let traded = self.trade_regular(leg, quantity, taker, report);
+            debug_assert!(traded > 0, "the size at the best price was counted");
+            quantity -= traded;
+        }
+    }
+
+    /// A legging order is hit: its trade, the other leg, the pair, removals.
+    fn hit(&mut self, taker: Place, most: u32, id: u32, report: &mut Report) -> u32 {
+        let place = facing(taker);
+        let order = self.standing[place];
+        let quantity = order.quantity.min(most);
+        report.trade(taker, order.price, quantity, id, order.parent);
+        let Some(clear) = self.clear(facing(order.other)) else {
+            unreachable!("a standing order's other leg has a clear price");
+        };
+        self.trade_leg(order.other, quantity, order.parent, report);
+        let net = signed(place, order.price) + signed(order.other, clear.price);
+        report.pair(order.parent, net, quantity);
+        let Some(index) = self.complex_index(order.parent) else {
+            unreachable!("a legging order's parent rests");
+        };
+        self.complex[index].quantity -= quantity;
+        let parent = self.complex[index];
+        self.remove_all_of(&parent, Cause::Executed, report);
+        if parent.quantity == 0 {
+            self.complex.remove(index);
+        }
+        quantity
+    }
+
+    fn complex(&mut self, order: NewComplex, report: &mut Report) {
+        self.last = order.id;
+        let NewComplex {
+            id,
+            legs,
+            class,
+            limit,
+            quantity,
+        } = order;
+        self.complex
+            .push(ComplexOrder::new(id, legs, class, limit, quantity));
+        let index = self.complex.len() - 1;
+        self.work(index, report);
+        let worked = self.complex[index];
+        self.drop_filled();
+        self.settle(report);
+        if worked.quantity > 0 {
+            self.generate(worked, report);
+        }
+    }
+
+    fn sweep(&mut self, report: &mut Report) {
+        for index in 0..self.complex.len() {
+            let order = &self.complex[index];
+            let closed = order.legs.iter().any(|leg| self.is_closed(*leg));
+            if order.quantity > 0 && !closed {
+                self.work(index, report);
+            }
+        }
+        self.drop_filled();
+        self.settle(report);
+        for index in 0..self.complex.len() {
+            self.generate(self.complex[index], report);
+        }
+    }
+
+    fn drop_filled(&mut self) {
+        self.complex.retain(|order| order.quantity > 0);
+    }
+
+    /// Cross, then touch, then leg in, each while something is open.
+    fn work(&mut self, index: usize, report: &mut Report) {
+        self.cross(index, report);
+        if self.complex[index].quantity == 0 {
+            return;
+        }
+        self.touch(index, report);
+        self.leg_in(index, report);
+    }
+
+    fn cross(&mut self, index: usize, report: &mut Report) {
+        // Crosses move no price, so the best maker only changes by being filled.
+        while self.complex[index].quantity > 0 {
+            let Some(maker) = self.best_maker(index) else {
+                return;
+            };
+            self.cross_with(index, maker, report);
+        }
+    }
+
+    /// Among the orders that the taker may cross with, the highest limit, then
+    /// the earliest.
+    fn best_maker(&self, index: usize) -> Option<usize> {
+        let taker = &self.complex[index];
+        let reversed = taker.reversed_mask();
+        let candidates = self.complex.iter().enumerate().filter(|(_, maker)| {
+            maker.mask == reversed && maker.quantity > 0 && taker.limit + maker.limit >= 0
+        });
+        let mut best: Option<(usize, i32)> = None;
+        for (at, maker) in candidates {
+            if best.is_some_and(|(_, limit)| maker.limit <= limit) {
+                continue;
+            }
+            if self.cross_in_band(taker, maker) {
+                best = Some((at, maker.limit));
+            }
+        }
+        best.map(|(at, _)| at)
+    }
+
+    /// Both nets dealt at, each against the market net of its own order.
+    fn cross_in_band(&self, taker: &ComplexOrder, maker: &ComplexOrder) -> bool {
+        let (Some(taken), Some(made)) = (self.market_net(taker.legs), self.market_net(maker.legs))
+        else {
+            return false;
+        };
+        in_band(-maker.limit, taken, BAND_PERCENT) && in_band(maker.limit, made, BAND_PERCENT)
+    }
+
+    fn cross_with(&mut self, index: usize, at: usize, report: &mut Report) {
+        let quantity = self.complex[index].quantity.min(self.complex[at].quantity);
+        self.complex[index].quantity -= quantity;
+        self.complex[at].quantity -= quantity;
+        let (taker, maker) = (self.complex[index], self.complex[at]);
+        report.cross(taker.id, maker.id, -maker.limit, quantity);
+        self.remove_all_of(&taker, Cause::Executed, report);
+        self.remove_all_of(&maker, Cause::Executed, report);
+    }
+
+    /// Where the best own prices would fill an order, the legging orders on
+    /// the sides it would take give way.
+    fn touch(&mut self, index: usize, report: &mut Report) {
+        let order = &self.complex[index];
+        let [first, second] = order.legs;
+        let taken = order.taken();
+        if self.filled & (bit(taken[0]) | bit(taken[1])) == 0 {
+            return;
+        }
+        let (Some(a), Some(b)) = (self.best_own(facing(first)), self.best_own(facing(second)))
+        else {
+            return;
+        };
+        if signed(first, a) + signed(second, b) > order.limit {
+            return;
+        }
+        for place in places(self.filled & (bit(taken[0]) | bit(taken[1]))) {
+            self.remove(place, Cause::Touched, report);
+        }
+    }
+
+    fn leg_in(&mut self, index: usize, report: &mut Report) {
+        while let Some(round) = self.next_round(&self.complex[index]) {
+            let order = self.complex[index];
+            self.trade_leg(order.legs[0], round.quantity, order.id, report);
+            self.trade_leg(order.legs[1], round.quantity, order.id, report);
+            report.pair(order.id, round.net, round.quantity);
+            self.complex[index].quantity -= round.quantity;
+            self.remove_all_of(&order, Cause::Executed, report);
+        }
+    }
+
+    /// The next round, if something is open and the best regular prices net
+    /// within the limit and the band.
+    fn next_round(&self, order: &ComplexOrder) -> Option<Round> {
+        let [first, second] = order.legs;
+        let a = self.regular.level(facing(first))?;
+        let b = self.regular.level(facing(second))?;
+        let net = signed(first, a.price) + signed(second, b.price);
+        let quantity = order.quantity.min(a.size).min(b.size);
+        let goes = quantity > 0 && net <= order.limit && self.is_in_band(net, order.legs);
+        goes.then_some(Round { net, quantity })
+    }
+
+    fn cancel(&mut self, id: u32, report: &mut Report) {
+        if let Some(index) = self.complex_index(id) {
+            let order = self.complex.remove(index);
+            report.cancelled(id, order.quantity);
+            self.remove_all_of(&order, Cause::ParentCancelled, report);
+        } else if let Some(order) = self.regular.cancel(id) {
+            report.cancelled(id, order.quantity);
+        }
+        self.settle(report);
+    }
+}

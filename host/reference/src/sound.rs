@@ -1,0 +1,141 @@
+//! Soundness of a venue, tested while it is laid out for a call.
+
+use crate::books::{Books, Standing};
+use crate::legging::Verdict;
+use crate::price::{
+    better, facing, place, places, valid_limit, valid_price, valid_quantity, valid_regular_price,
+    Place,
+};
+use crate::types::{Complex, Legging, Listed, Regular, Venue};
+use crate::types::{BUY, COMPLEX_PLACES, LEGGING_PLACES, OTHER, REGULAR_PLACES, SERIES};
+use crate::wire::{valid_away, valid_leg, valid_status};
+
+/// Whether a one-message call takes this venue.
+pub fn is_sound(venue: &Venue) -> bool {
+    lay_out(venue).is_some()
+}
+
+/// The state of a sound venue; nothing if the venue is unsound.
+pub fn lay_out(venue: &Venue) -> Option<Books> {
+    let mut books = Books::fresh();
+    books.last = venue.last;
+    lay_out_regular(&mut books, &venue.regular)?;
+    lay_out_complex(&mut books, &venue.complex)?;
+    lay_out_series(&mut books, &venue.series)?;
+    lay_out_legging(&mut books, &venue.legging)?;
+    let sound = ids_are_distinct(venue)
+        && !is_locked_or_crossed(&books)
+        && places(books.filled).all(|place| books.verdict(place) == Verdict::Stands);
+    sound.then_some(books)
+}
+
+fn lay_out_regular(books: &mut Books, orders: &[Regular; REGULAR_PLACES]) -> Option<()> {
+    let held = orders.iter().position(|order| order.quantity == 0);
+    let (held, free) = orders.split_at(held.unwrap_or(orders.len()));
+    let mut before = 0;
+    let valid = held.iter().all(|order| {
+        let rises = order.id > before;
+        before = order.id;
+        rises && valid_regular(order)
+    });
+    if !valid || before > books.last || free.iter().any(|order| *order != Regular::default()) {
+        return None;
+    }
+    books.add_regular(held);
+    Some(())
+}
+
+fn valid_regular(order: &Regular) -> bool {
+    valid_leg(order.series, order.side)
+        && valid_regular_price(order.series, order.price)
+        && valid_quantity(order.quantity)
+}
+
+fn lay_out_complex(books: &mut Books, orders: &[Complex; COMPLEX_PLACES]) -> Option<()> {
+    let held = orders.iter().position(|order| order.quantity == 0);
+    let (held, free) = orders.split_at(held.unwrap_or(orders.len()));
+    let mut before = 0;
+    let valid = held.iter().all(|order| {
+        let rises = order.id > before;
+        before = order.id;
+        rises && valid_complex(order)
+    });
+    if !valid || before > books.last || free.iter().any(|order| *order != Complex::default()) {
+        return None;
+    }
+    held.iter().for_each(|order| books.add_complex(order));
+    Some(())
+}
+
+fn valid_complex(order: &Complex) -> bool {
+    valid_leg(order.series1, order.side1)
+        && valid_leg(order.series2, order.side2)
+        && order.series1 != order.series2
+        && order.class <= OTHER
+        && valid_limit(order.limit)
+        && valid_quantity(order.quantity)
+}
+
+fn lay_out_series(books: &mut Books, series: &[Listed; SERIES]) -> Option<()> {
+    books.series = *series;
+    series
+        .iter()
+        .all(|listed| {
+            valid_status(listed.status) && valid_away(listed.bid) && valid_away(listed.offer)
+        })
+        .then_some(())
+}
+
+fn lay_out_legging(books: &mut Books, orders: &[Legging; LEGGING_PLACES]) -> Option<()> {
+    for (place, order) in orders.iter().enumerate() {
+        if *order == Legging::default() {
+            continue;
+        }
+        books.standing[place] = standing_of(books, place, order)?;
+        books.filled |= 1 << place;
+    }
+    Some(())
+}
+
+/// The legging order with its parent's leg, if it matches one.
+fn standing_of(books: &Books, place: Place, order: &Legging) -> Option<Standing> {
+    let parent = &books.complex[books.complex_index(order.parent)?];
+    let other = match parent.legs {
+        [leg, other] if leg == place => other,
+        [other, leg] if leg == place => other,
+        _ => return None,
+    };
+    let valid = valid_price(order.price) && order.quantity > 0 && order.quantity <= parent.quantity;
+    valid.then_some(Standing {
+        parent: order.parent,
+        price: order.price,
+        quantity: order.quantity,
+        other,
+        limit: parent.limit,
+        class: parent.class,
+    })
+}
+
+/// Both lists rise, so one pass over them finds an id held by both.
+fn ids_are_distinct(venue: &Venue) -> bool {
+    let mut regular = venue.regular.iter().map(|order| order.id).peekable();
+    let complex = venue.complex.iter().map(|order| order.id);
+    for id in complex.take_while(|id| *id > 0) {
+        while regular.next_if(|other| *other > 0 && *other < id).is_some() {}
+        if regular.peek() == Some(&id) {
+            return false;
+        }
+    }
+    true
+}
+
+/// Whether in some series the best own prices of both sides meet.
+fn is_locked_or_crossed(books: &Books) -> bool {
+    (0..SERIES as u8).any(|series| {
+        let bids = place(series, BUY);
+        match (books.best_own(bids), books.best_own(facing(bids))) {
+            (Some(bid), Some(offer)) => !better(bids, offer, bid),
+            _ => false,
+        }
+    })
+}

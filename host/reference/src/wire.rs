@@ -1,0 +1,340 @@
+//! Message bytes read, record bytes written. All numbers are little-endian.
+
+use crate::price::{
+    place, series_of, side_of, valid_limit, valid_price, valid_quantity, valid_regular_price, Place,
+};
+use crate::types::{AUCTION, OTHER, SELL, SERIES};
+
+/// Why a message was refused, by the numbers of the document.
+#[derive(Clone, Copy, Debug, PartialEq, Eq)]
+pub enum Refusal {
+    Torn,
+    UnknownKind,
+    WrongLength,
+    OutOfRange,
+    IdNotAbove,
+    SeriesClosed,
+    BookFull,
+    NoSuchOrder,
+}
+
+impl Refusal {
+    pub fn number(self) -> u8 {
+        match self {
+            Refusal::Torn => 1,
+            Refusal::UnknownKind => 2,
+            Refusal::WrongLength => 3,
+            Refusal::OutOfRange => 4,
+            Refusal::IdNotAbove => 5,
+            Refusal::SeriesClosed => 6,
+            Refusal::BookFull => 7,
+            Refusal::NoSuchOrder => 8,
+        }
+    }
+}
+
+#[derive(Clone, Copy, Debug)]
+pub struct NewOrder {
+    pub id: u32,
+    pub place: Place,
+    pub price: u32,
+    pub quantity: u32,
+}
+
+#[derive(Clone, Copy, Debug)]
+pub struct NewComplex {
+    pub id: u32,
+    pub legs: [Place; 2],
+    pub class: u8,
+    pub limit: i32,
+    pub quantity: u32,
+}
+
+/// A message whose fields are all in range.
+#[derive(Clone, Copy, Debug)]
+pub enum Message {
+    Order(NewOrder),
+    Complex(NewComplex),
+    Cancel { id: u32 },
+    Away { series: usize, bid: u32, offer: u32 },
+    Status { series: usize, status: u8 },
+    Sweep,
+}
+
+/// The bytes of the first message, by its length field.
+pub fn first_message(bytes: &[u8]) -> Result<&[u8], Refusal> {
+    if bytes.len() < 4 {
+        return Err(Refusal::Torn);
+    }
+    let length = usize::from(u16_at(bytes, 0));
+    if length < 4 || length > bytes.len() {
+        return Err(Refusal::Torn);
+    }
+    Ok(&bytes[..length])
+}
+
+/// Reads one whole message: its kind, its length, then its fields.
+pub fn decode(bytes: &[u8]) -> Result<Message, Refusal> {
+    let kind = u16_at(bytes, 2);
+    let length = length_of(kind).ok_or(Refusal::UnknownKind)?;
+    if bytes.len() != length {
+        return Err(Refusal::WrongLength);
+    }
+    let message = match kind {
+        1 => decode_order(bytes),
+        2 => decode_complex(bytes),
+        3 => decode_cancel(bytes),
+        4 => decode_away(bytes),
+        5 => decode_status(bytes),
+        _ => Some(Message::Sweep),
+    };
+    message.ok_or(Refusal::OutOfRange)
+}
+
+fn length_of(kind: u16) -> Option<usize> {
+    match kind {
+        1 => Some(18),
+        2 => Some(21),
+        3 => Some(8),
+        4 => Some(13),
+        5 => Some(6),
+        6 => Some(4),
+        _ => None,
+    }
+}
+
+fn decode_order(bytes: &[u8]) -> Option<Message> {
+    let (id, series, side) = (u32_at(bytes, 4), bytes[8], bytes[9]);
+    let (price, quantity) = (u32_at(bytes, 10), u32_at(bytes, 14));
+    let valid = id > 0
+        && valid_leg(series, side)
+        && valid_regular_price(series, price)
+        && valid_quantity(quantity);
+    valid.then(|| {
+        Message::Order(NewOrder {
+            id,
+            place: place(series, side),
+            price,
+            quantity,
+        })
+    })
+}
+
+fn decode_complex(bytes: &[u8]) -> Option<Message> {
+    let (id, class) = (u32_at(bytes, 4), bytes[12]);
+    let (series1, side1, series2, side2) = (bytes[8], bytes[9], bytes[10], bytes[11]);
+    let (limit, quantity) = (u32_at(bytes, 13) as i32, u32_at(bytes, 17));
+    let valid = id > 0
+        && valid_leg(series1, side1)
+        && valid_leg(series2, side2)
+        && series1 != series2
+        && class <= OTHER
+        && valid_limit(limit)
+        && valid_quantity(quantity);
+    valid.then(|| {
+        Message::Complex(NewComplex {
+            id,
+            legs: [place(series1, side1), place(series2, side2)],
+            class,
+            limit,
+            quantity,
+        })
+    })
+}
+
+fn decode_cancel(bytes: &[u8]) -> Option<Message> {
+    let id = u32_at(bytes, 4);
+    (id > 0).then_some(Message::Cancel { id })
+}
+
+fn decode_away(bytes: &[u8]) -> Option<Message> {
+    let (series, bid, offer) = (bytes[4], u32_at(bytes, 5), u32_at(bytes, 9));
+    let valid = valid_series(series) && valid_away(bid) && valid_away(offer);
+    valid.then_some(Message::Away {
+        series: usize::from(series),
+        bid,
+        offer,
+    })
+}
+
+fn decode_status(bytes: &[u8]) -> Option<Message> {
+    let (series, status) = (bytes[4], bytes[5]);
+    let valid = valid_series(series) && valid_status(status);
+    valid.then_some(Message::Status {
+        series: usize::from(series),
+        status,
+    })
+}
+
+pub fn valid_series(series: u8) -> bool {
+    usize::from(series) < SERIES
+}
+
+pub fn valid_leg(series: u8, side: u8) -> bool {
+    valid_series(series) && side <= SELL
+}
+
+pub fn valid_away(price: u32) -> bool {
+    price == 0 || valid_price(price)
+}
+
+pub fn valid_status(status: u8) -> bool {
+    status <= AUCTION
+}
+
+fn u16_at(bytes: &[u8], at: usize) -> u16 {
+    u16::from_le_bytes([bytes[at], bytes[at + 1]])
+}
+
+fn u32_at(bytes: &[u8], at: usize) -> u32 {
+    u32::from_le_bytes([bytes[at], bytes[at + 1], bytes[at + 2], bytes[at + 3]])
+}
+
+pub const ANSWER_BYTES: usize = 12;
+
+/// The lent report memory, with the position of the next record.
+///
+/// A record that does not fit marks the report as overflowed; nothing of the
+/// message counts then, and `rewind` goes back to where it began.
+pub struct Report<'a> {
+    memory: &'a mut [u8],
+    at: usize,
+    overflowed: bool,
+}
+
+impl<'a> Report<'a> {
+    pub fn new(memory: &'a mut [u8]) -> Self {
+        Report {
+            memory,
+            at: 0,
+            overflowed: false,
+        }
+    }
+
+    pub fn left(&self) -> usize {
+        self.memory.len() - self.at
+    }
+
+    pub fn overflowed(&self) -> bool {
+        self.overflowed
+    }
+
+    /// Leaves room for an answer, to be filled in once its mask is known.
+    pub fn reserve_answer(&mut self) -> usize {
+        let start = self.at;
+        self.put(&[0; ANSWER_BYTES]);
+        start
+    }
+
+    pub fn fill_answer(&mut self, start: usize, number: u32, refusal: u8, mask: u16) {
+        let record = Record::<ANSWER_BYTES>::new(64)
+            .u32(number)
+            .u8(refusal)
+            .u16(mask)
+            .u8(mask.count_ones() as u8);
+        self.memory[start..start + ANSWER_BYTES].copy_from_slice(&record.bytes);
+    }
+
+    pub fn rewind(&mut self, start: usize) {
+        self.at = start;
+        self.overflowed = false;
+    }
+
+    /// Zeros from the last record to the end of the memory.
+    pub fn finish(self) -> usize {
+        self.memory[self.at..].fill(0);
+        self.at
+    }
+
+    pub fn trade(&mut self, leg: Place, price: u32, quantity: u32, taker: u32, maker: u32) {
+        let record = Record::<22>::new(65)
+            .place(leg)
+            .u32(price)
+            .u32(quantity)
+            .u32(taker)
+            .u32(maker);
+        self.put(&record.bytes);
+    }
+
+    pub fn pair(&mut self, id: u32, net: i32, quantity: u32) {
+        let record = Record::<16>::new(66).u32(id).u32(net as u32).u32(quantity);
+        self.put(&record.bytes);
+    }
+
+    pub fn generated(&mut self, id: u32, leg: Place, price: u32, displayed: u32, quantity: u32) {
+        let record = Record::<22>::new(67)
+            .u32(id)
+            .place(leg)
+            .u32(price)
+            .u32(displayed)
+            .u32(quantity);
+        self.put(&record.bytes);
+    }
+
+    pub fn removed(&mut self, id: u32, leg: Place, cause: u8) {
+        let record = Record::<11>::new(68).u32(id).place(leg).u8(cause);
+        self.put(&record.bytes);
+    }
+
+    pub fn cross(&mut self, taker: u32, maker: u32, net: i32, quantity: u32) {
+        let record = Record::<20>::new(70)
+            .u32(taker)
+            .u32(maker)
+            .u32(net as u32)
+            .u32(quantity);
+        self.put(&record.bytes);
+    }
+
+    pub fn cancelled(&mut self, id: u32, quantity: u32) {
+        let record = Record::<12>::new(71).u32(id).u32(quantity);
+        self.put(&record.bytes);
+    }
+
+    fn put(&mut self, record: &[u8]) {
+        if self.overflowed || record.len() > self.left() {
+            self.overflowed = true;
+            return;
+        }
+        let end = self.at + record.len();
+        self.memory[self.at..end].copy_from_slice(record);
+        self.at = end;
+    }
+}
+
+/// The bytes of one record, filled field by field.
+struct Record<const N: usize> {
+    bytes: [u8; N],
+    at: usize,
+}
+
+impl<const N: usize> Record<N> {
+    fn new(kind: u16) -> Self {
+        let empty = Record {
+            bytes: [0; N],
+            at: 0,
+        };
+        empty.u16(N as u16).u16(kind)
+    }
+
+    fn u8(mut self, value: u8) -> Self {
+        self.bytes[self.at] = value;
+        self.at += 1;
+        self
+    }
+
+    fn u16(mut self, value: u16) -> Self {
+        self.bytes[self.at..self.at + 2].copy_from_slice(&value.to_le_bytes());
+        self.at += 2;
+        self
+    }
+
+    fn u32(mut self, value: u32) -> Self {
+        self.bytes[self.at..self.at + 4].copy_from_slice(&value.to_le_bytes());
+        self.at += 4;
+        self
+    }
+
+    fn place(self, place: Place) -> Self {
+        self.u8(series_of(place) as u8).u8(side_of(place))
+    }
+}

@@ -1,0 +1,152 @@
+//! The audit of a sheet: every complex order's sums, from the session and the
+//! sheet, against what the reference leaves open.
+
+use crate::ledger::{Account, Ledger};
+use crate::message::{split, Message};
+use crate::record::Record;
+use crate::sheet::run_whole;
+use crate::view::{held_complex, held_regular};
+use reference::Venue;
+use std::fmt::{self, Display};
+
+pub struct Row {
+    pub account: Account,
+    pub open: u64,
+    pub fault: Option<String>,
+}
+
+pub struct Audit {
+    pub messages: usize,
+    pub complex: Vec<Row>,
+    /// What does not agree, order by order.
+    pub faults: Vec<String>,
+}
+
+/// Sums a sheet over the messages that it answers. An error means that the
+/// sheet is not one of this session.
+pub fn audit(list: &[u8], records: &[Record]) -> Result<Audit, String> {
+    let pieces = split(list);
+    let (ledger, answered, mut faults) = sum(&pieces, records)?;
+    let (returned, _) = run_whole(&pieces[..answered].concat());
+    let mut complex = Vec::new();
+    for account in ledger.accounts {
+        let open = open_quantity(&returned.venue, account.id);
+        let fault = account.disagreement(open);
+        faults.extend(fault.clone());
+        if account.is_complex {
+            complex.push(Row {
+                account,
+                open,
+                fault,
+            });
+        }
+    }
+    faults.extend(unknown_orders(&returned.venue, &complex));
+    Ok(Audit {
+        messages: answered,
+        complex,
+        faults,
+    })
+}
+
+fn open_quantity(venue: &Venue, id: u32) -> u64 {
+    let mut complex = held_complex(venue).filter(|order| order.id == id);
+    let mut regular = held_regular(venue).filter(|order| order.id == id);
+    let quantity = complex
+        .next()
+        .map(|order| order.quantity)
+        .or(regular.next().map(|order| order.quantity));
+    u64::from(quantity.unwrap_or(0))
+}
+
+/// Complex orders that rest in the venue left but were refused by the sheet.
+fn unknown_orders(venue: &Venue, rows: &[Row]) -> Vec<String> {
+    let known = |id| rows.iter().any(|row| row.account.id == id);
+    held_complex(venue)
+        .filter(|order| !known(order.id))
+        .map(|order| format!("order {}: rests, but the sheet did not accept it", order.id))
+        .collect()
+}
+
+/// The ledger of a sheet, with the number of messages it answers and the
+/// records that could not be entered.
+fn sum(pieces: &[&[u8]], records: &[Record]) -> Result<(Ledger, usize, Vec<String>), String> {
+    let mut ledger = Ledger::default();
+    let mut faults = Vec::new();
+    let mut answered = 0;
+    for (index, record) in records.iter().enumerate() {
+        let Record::Answer {
+            number, refusal, ..
+        } = *record
+        else {
+            if answered == 0 {
+                return Err(format!("line 1: expected record 64, found \"{record}\""));
+            }
+            faults.extend(ledger.add(record).err());
+            continue;
+        };
+        let line = index + 1;
+        if number as usize != answered + 1 {
+            return Err(format!(
+                "line {line}: expected the answer to message {}, found {number}",
+                answered + 1
+            ));
+        }
+        let Some(piece) = pieces.get(answered) else {
+            return Err(format!(
+                "line {line}: expected no more answers, the session has {answered} messages"
+            ));
+        };
+        answered += 1;
+        if refusal == 0 {
+            faults.extend(ledger.enter(&Message::decode(piece)).err());
+        }
+    }
+    Ok((ledger, answered, faults))
+}
+
+impl Display for Audit {
+    fn fmt(&self, f: &mut fmt::Formatter) -> fmt::Result {
+        writeln!(
+            f,
+            "{:>10} {:>8} {:>8} {:>8} {:>9} {:>8}  {:<24} sums",
+            "order", "entered", "paired", "crossed", "cancelled", "open", "contracts by series"
+        )?;
+        for row in &self.complex {
+            let account = &row.account;
+            let verdict = if row.fault.is_none() {
+                "agree"
+            } else {
+                "DISAGREE"
+            };
+            writeln!(
+                f,
+                "{:>10} {:>8} {:>8} {:>8} {:>9} {:>8}  {:<24} {verdict}",
+                account.id,
+                account.entered,
+                account.paired,
+                account.crossed,
+                account.cancelled,
+                row.open,
+                contracts(account)
+            )?;
+        }
+        let orders = self.complex.len();
+        writeln!(f, "{} messages, {orders} complex orders", self.messages)?;
+        for fault in &self.faults {
+            writeln!(f, "disagreement: {fault}")?;
+        }
+        Ok(())
+    }
+}
+
+/// The contracts in its own series and in any other that has some.
+fn contracts(account: &Account) -> String {
+    let shown = (0..8u8).filter(|series| {
+        account.series.contains(series) || account.contracts[usize::from(*series)] > 0
+    });
+    let parts: Vec<String> = shown
+        .map(|series| format!("{series}: {}", account.contracts[usize::from(series)]))
+        .collect();
+    parts.join(", ")
+}

@@ -1,0 +1,357 @@
+//! Demand 3 and what surrounds it, checked after every message from what a
+//! caller sees: the bytes given, the numbers and venues returned, the records.
+
+use crate::ledger::Ledger;
+use crate::message::Leg;
+use crate::message::Message;
+use crate::model::{refusal, work};
+use crate::phases::{expected_generation, expected_settling, phases, Attempt, Phases};
+use crate::record::Record;
+use crate::sound::fault;
+use crate::view::{
+    beats, displayed, find_complex, held_regular, leg_at, legs_of, opposite, sign, View,
+};
+use reference::{Complex, Legging, Returned, Venue};
+
+/// One message as a caller saw it.
+pub struct Step<'a> {
+    pub message: &'a Message,
+    /// The bytes lent to the call.
+    pub bytes: &'a [u8],
+    pub before: &'a Venue,
+    pub returned: &'a Returned,
+    pub records: &'a [Record],
+}
+
+/// What an accepted message did to the legging orders.
+pub struct Seen<'a> {
+    pub phases: Phases<'a>,
+    pub attempts: Vec<Attempt>,
+}
+
+/// Follows one list of messages from a fresh venue.
+#[derive(Clone, Default)]
+pub struct Checker {
+    pub ledger: Ledger,
+    pub done: u32,
+}
+
+impl Checker {
+    /// Checks one message done; tells what an accepted one did.
+    pub fn check<'a>(&mut self, step: &Step<'a>) -> Result<Option<Seen<'a>>, String> {
+        self.done += 1;
+        let after = &step.returned.venue;
+        let effects = check_answer(step, self.done)?;
+        let expected = refusal(step.before, step.bytes);
+        if expected != step.returned.number {
+            let found = step.returned.number;
+            return Err(format!("answered {found}, expected {expected}"));
+        }
+        let seen = if step.returned.number == 0 {
+            Some(self.check_accepted(step, effects)?)
+        } else {
+            check_refused(step, effects)?;
+            None
+        };
+        if let Some(fault) = fault(after) {
+            return Err(format!("unsound: {fault}"));
+        }
+        check_standing(after)?;
+        match self.ledger.disagreement(after) {
+            Some(fault) => Err(fault),
+            None => Ok(seen),
+        }
+    }
+
+    fn check_accepted<'a>(
+        &mut self,
+        step: &Step<'a>,
+        effects: &'a [Record],
+    ) -> Result<Seen<'a>, String> {
+        self.ledger.enter(step.message)?;
+        for record in effects {
+            self.ledger.add(record)?;
+        }
+        let after = &step.returned.venue;
+        let phases = phases(step.before, after, effects)?;
+        check_work(step, &phases)?;
+        let expected = expected_settling(&phases.at_settling, after);
+        if expected != phases.settled {
+            return Err(format!(
+                "settling removed {:?}, expected {expected:?} (place, cause)",
+                phases.settled
+            ));
+        }
+        let mut view = phases.settled_view.clone();
+        let (attempts, records) = expected_generation(&mut view, step.message, after);
+        if records != phases.generation {
+            return Err(format!(
+                "generation wrote {:?}, expected {records:?}",
+                phases.generation
+            ));
+        }
+        if view.legging != after.legging {
+            return Err("the records do not lead to the legging orders left".to_string());
+        }
+        Ok(Seen { phases, attempts })
+    }
+}
+
+/// The work's records and the books left are those of the plain model.
+fn check_work(step: &Step, phases: &Phases) -> Result<(), String> {
+    let after = &step.returned.venue;
+    let expected = work(step.before, step.message);
+    if expected.records != phases.work {
+        return Err(format!(
+            "the work wrote {:?}, expected {:?}",
+            phases.work, expected.records
+        ));
+    }
+    let same = expected.venue.regular == after.regular
+        && expected.venue.complex == after.complex
+        && expected.venue.series == after.series
+        && expected.venue.last == after.last
+        && expected.venue.legging == phases.at_settling.legging;
+    if !same {
+        return Err("the work left other books".to_string());
+    }
+    Ok(())
+}
+
+/// The first record is the message's 64, and there is no other.
+fn check_answer<'a>(step: &Step<'a>, number: u32) -> Result<&'a [Record], String> {
+    let after = &step.returned.venue;
+    let filled = (0..16).filter(|place| after.legging[*place].quantity > 0);
+    let mask = filled.fold(0, |mask, place| mask | 1u16 << place);
+    let expected = Record::Answer {
+        number,
+        refusal: step.returned.number,
+        mask,
+        count: mask.count_ones() as u8,
+    };
+    let Some((first, effects)) = step.records.split_first() else {
+        return Err("no record was written".to_string());
+    };
+    if *first != expected {
+        return Err(format!("answer \"{first}\", expected \"{expected}\""));
+    }
+    if effects.iter().any(|record| record.kind() == 64) {
+        return Err("a second 64 was written".to_string());
+    }
+    Ok(effects)
+}
+
+fn check_refused(step: &Step, effects: &[Record]) -> Result<(), String> {
+    if !effects.is_empty() {
+        return Err(format!("a refused message wrote {effects:?}"));
+    }
+    if *step.before != step.returned.venue {
+        return Err("a refused message changed the venue".to_string());
+    }
+    Ok(())
+}
+
+/// Each standing legging order is best displayed, in band, and its hit finds
+/// every number of contracts up to its quantity.
+fn check_standing(venue: &Venue) -> Result<(), String> {
+    let view = View::of(venue);
+    for place in 0..16 {
+        let leg = leg_at(place);
+        let Some(order) = view.standing(leg) else {
+            continue;
+        };
+        let Some(parent) = find_complex(venue, order.parent) else {
+            return Err(format!("the legging order at place {place} has no parent"));
+        };
+        check_best_displayed(venue, leg, order)?;
+        if !view.in_band(i64::from(parent.limit), legs_of(parent)) {
+            return Err(format!("order {} is not in band", parent.id));
+        }
+        check_hit(&view, venue, leg, order, parent)?;
+    }
+    Ok(())
+}
+
+fn check_best_displayed(venue: &Venue, leg: Leg, order: Legging) -> Result<(), String> {
+    let shown = displayed(leg, i64::from(order.price));
+    let mut same_side = held_regular(venue)
+        .filter(|regular| regular.series == leg.series && regular.side == leg.side);
+    match same_side.find(|regular| beats(leg, i64::from(regular.price), shown)) {
+        Some(regular) => Err(format!(
+            "regular order {} is better than the legging order of {} shown at {shown}",
+            regular.id, order.parent
+        )),
+        None => Ok(()),
+    }
+}
+
+/// The hit for k contracts, k from 1 to the quantity: what is at hand for the
+/// largest is at hand for each.
+fn check_hit(
+    view: &View,
+    venue: &Venue,
+    leg: Leg,
+    order: Legging,
+    parent: &Complex,
+) -> Result<(), String> {
+    let legs = legs_of(parent);
+    let other = if legs[0] == leg { legs[1] } else { legs[0] };
+    let taken = opposite(other);
+    let Some(clear) = view.clear(taken) else {
+        return Err(format!("a hit of order {} finds no clear price", parent.id));
+    };
+    let at_hand: i64 = held_regular(venue)
+        .filter(|regular| regular.series == taken.series && regular.side == taken.side)
+        .filter(|regular| i64::from(regular.price) == clear.price)
+        .map(|regular| i64::from(regular.quantity))
+        .sum();
+    let net = sign(leg) * i64::from(order.price) + sign(other) * clear.price;
+    if at_hand < i64::from(order.quantity) || net > i64::from(parent.limit) {
+        return Err(format!(
+            "a hit of order {} finds {at_hand} contracts at a net of {net}",
+            parent.id
+        ));
+    }
+    Ok(())
+}
+
+#[cfg(test)]
+mod tests {
+    use super::*;
+    use crate::record::{parse_sheet, read_report};
+    use crate::text::encode_session;
+    use reference::{one_message, run};
+
+    const OFFERS: &str = "open 0\nopen 1\norder 1 sell 15 series 0 at 130\n\
+        order 2 sell 12 series 1 at 90\n";
+    const LEGGING: &str = "complex 3 buy 0 buy 1 class 1 net 203 quantity 8\n";
+
+    fn venue_after(text: &str) -> Venue {
+        run(&encode_session(text).unwrap(), &mut [0; 4096]).venue
+    }
+
+    fn standing() -> Venue {
+        venue_after(&format!("{OFFERS}{LEGGING}order 4 buy 1 series 0 at 110\n"))
+    }
+
+    #[test]
+    fn standing_orders_of_a_session_hold() {
+        assert_eq!(check_standing(&standing()), Ok(()));
+    }
+
+    #[test]
+    fn legging_order_that_is_not_best_displayed_is_found() {
+        let mut venue = standing();
+        venue.regular[2].price = 115;
+        let expected = "regular order 4 is better than the legging order of 3 shown at 110";
+        assert_eq!(check_standing(&venue), Err(expected.to_string()));
+    }
+
+    #[test]
+    fn legging_order_out_of_band_is_found() {
+        let mut venue = standing();
+        venue.series[1].offer = 40;
+        let expected = "order 3 is not in band";
+        assert_eq!(check_standing(&venue), Err(expected.to_string()));
+    }
+
+    #[test]
+    fn hit_that_finds_too_few_contracts_or_too_high_a_net_is_found() {
+        let mut venue = standing();
+        venue.regular[1].quantity = 7;
+        let expected = "a hit of order 3 finds 7 contracts at a net of 203";
+        assert_eq!(check_standing(&venue), Err(expected.to_string()));
+        let mut venue = standing();
+        venue.regular[1].price = 95;
+        let expected = "a hit of order 3 finds 12 contracts at a net of 208";
+        assert_eq!(check_standing(&venue), Err(expected.to_string()));
+        let mut venue = standing();
+        venue.legging[3] = Legging {
+            parent: 3,
+            price: 85,
+            quantity: 1,
+        };
+        let expected = "a hit of order 3 finds no clear price";
+        assert_eq!(check_standing(&venue), Err(expected.to_string()));
+    }
+
+    /// Checks the printed session's last message after a change to what the
+    /// call returned or wrote.
+    fn check_changed(change: impl Fn(&mut Returned, &mut Vec<Record>)) -> Result<(), String> {
+        let complex = "complex 3 buy 0 buy 1 class 1 net 205 quantity 8\n";
+        let order = "order 4 sell 5 series 0 at 115\n";
+        let list = encode_session(&format!("{OFFERS}{complex}{order}")).unwrap();
+        let mut checker = Checker::default();
+        let mut venue = Venue::fresh();
+        let pieces = crate::message::split(&list);
+        for (before, piece) in pieces.iter().enumerate() {
+            let mut report = [0; 1024];
+            let mut returned = one_message(&venue, before as u32, piece, &mut report);
+            let mut records = read_report(&report).unwrap();
+            if before + 1 == pieces.len() {
+                change(&mut returned, &mut records);
+            }
+            let step = Step {
+                message: &Message::decode(piece),
+                bytes: piece,
+                before: &venue,
+                returned: &returned,
+                records: &records,
+            };
+            checker.check(&step)?;
+            venue = returned.venue;
+        }
+        Ok(())
+    }
+
+    #[test]
+    fn session_without_a_change_holds() {
+        assert_eq!(check_changed(|_, _| {}), Ok(()));
+    }
+
+    #[test]
+    fn every_changed_missing_or_doubled_record_is_found() {
+        for index in 0..6 {
+            assert!(check_changed(|_, records| {
+                records.remove(index);
+            })
+            .is_err());
+            assert!(check_changed(|_, records| records.insert(index, records[index])).is_err());
+        }
+        let changes = [
+            (0, "64 6 0 1 1"),
+            (1, "65 0 1 110 5 4 3"),
+            (2, "65 1 0 90 5 3 1"),
+            (3, "66 3 204 5"),
+            (4, "68 3 0 0 4"),
+        ];
+        for (index, line) in changes {
+            let record = parse_sheet(line).unwrap()[0];
+            assert!(check_changed(|_, records| records[index] = record).is_err());
+        }
+        assert!(check_changed(|_, records| records.swap(4, 5)).is_err());
+    }
+
+    #[test]
+    fn every_changed_part_of_the_venue_left_is_found() {
+        let changes: [fn(&mut Venue); 7] = [
+            |venue| venue.regular[0].quantity = 14,
+            |venue| venue.regular[1].quantity = 8,
+            |venue| venue.complex[0].quantity = 4,
+            |venue| venue.complex[0].limit = 204,
+            |venue| venue.series[5].status = 1,
+            |venue| venue.last = 5,
+            |venue| {
+                venue.legging[0] = Legging {
+                    parent: 3,
+                    price: 115,
+                    quantity: 3,
+                }
+            },
+        ];
+        for change in changes {
+            assert!(check_changed(|returned, _| change(&mut returned.venue)).is_err());
+        }
+        assert!(check_changed(|returned, _| returned.number = 4).is_err());
+    }
+}

@@ -1,0 +1,106 @@
+//! Changes to a sound venue, most of which make it unsound.
+
+use crate::random::Random;
+use reference::{Complex, Legging, Regular, Venue};
+
+/// A copy of a venue with one thing changed at random.
+pub fn corrupt(venue: &Venue, random: &mut Random) -> Venue {
+    let mut changed = venue.clone();
+    match random.below(5) {
+        0 => corrupt_regular(&mut changed, random),
+        1 => corrupt_complex(&mut changed, random),
+        2 => corrupt_legging(&mut changed, random),
+        3 => corrupt_series(&mut changed, random),
+        _ => corrupt_order(&mut changed, random),
+    }
+    changed
+}
+
+fn odd_number(random: &mut Random) -> u32 {
+    random.pick(&[
+        0,
+        1,
+        2,
+        3,
+        5,
+        8,
+        10,
+        113,
+        10_001,
+        100_000,
+        100_001,
+        u32::MAX,
+    ])
+}
+
+fn corrupt_regular(venue: &mut Venue, random: &mut Random) {
+    let held = venue.regular.iter().filter(|order| order.id > 0).count();
+    let at = random.below(held as u64 + 1).min(127) as usize;
+    let order = &mut venue.regular[at];
+    match random.below(5) {
+        0 => order.id = odd_number(random),
+        1 => order.series = random.below(10) as u8,
+        2 => order.side = random.below(4) as u8,
+        3 => order.price = odd_number(random),
+        _ => order.quantity = odd_number(random),
+    }
+}
+
+fn corrupt_complex(venue: &mut Venue, random: &mut Random) {
+    let held = venue.complex.iter().filter(|order| order.id > 0).count();
+    let at = random.below(held as u64 + 1).min(31) as usize;
+    let order = &mut venue.complex[at];
+    match random.below(8) {
+        0 => order.id = odd_number(random),
+        1 => order.series1 = random.below(10) as u8,
+        2 => order.side1 = random.below(4) as u8,
+        3 => order.series2 = random.below(10) as u8,
+        4 => order.side2 = random.below(4) as u8,
+        5 => order.class = random.below(4) as u8,
+        6 => order.limit = random.pick(&[-200_001, -200_000, 0, 200_000, 200_001, i32::MIN]),
+        _ => order.quantity = odd_number(random),
+    }
+}
+
+fn corrupt_legging(venue: &mut Venue, random: &mut Random) {
+    let filled: Vec<usize> = (0..16)
+        .filter(|place| venue.legging[*place].quantity > 0)
+        .collect();
+    let any = random.below(16) as usize;
+    let at = if filled.is_empty() || random.chance(20) {
+        any
+    } else {
+        random.pick(&filled)
+    };
+    let order = &mut venue.legging[at];
+    match random.below(7) {
+        0 => order.parent = odd_number(random),
+        1 => order.price = odd_number(random),
+        2 => order.quantity = odd_number(random),
+        3 => order.price = order.price.wrapping_add(random.between(-6, 6) as u32),
+        4 => order.quantity = order.quantity.wrapping_add(random.between(-1, 2) as u32),
+        5 => *order = Legging::default(),
+        _ => venue.legging.swap(at, any),
+    }
+}
+
+fn corrupt_series(venue: &mut Venue, random: &mut Random) {
+    let series = &mut venue.series[random.below(8) as usize];
+    match random.below(3) {
+        0 => series.status = random.below(5) as u8,
+        1 => series.bid = odd_number(random),
+        _ => series.offer = odd_number(random),
+    }
+}
+
+/// Changes that touch several orders: places, ids and sizes.
+fn corrupt_order(venue: &mut Venue, random: &mut Random) {
+    match random.below(6) {
+        0 => venue.last = venue.last.saturating_sub(random.below(20) as u32),
+        1 => venue.regular.swap(0, 1),
+        2 => venue.complex.swap(0, 1),
+        3 => venue.regular[0] = Regular::default(),
+        4 => venue.complex[0] = Complex::default(),
+        _ => venue.complex[0].id = venue.regular[0].id,
+    }
+}

@@ -1,0 +1,168 @@
+//! What each accepted order entered, traded, crossed and cancelled, summed from
+//! messages and records.
+
+use crate::message::Message;
+use crate::record::Record;
+use crate::view::{held_complex, held_regular};
+use reference::Venue;
+
+#[derive(Clone, Debug, PartialEq, Eq)]
+pub struct Account {
+    pub id: u32,
+    /// The two series of a complex order; one twice for a regular order.
+    pub series: [u8; 2],
+    pub is_complex: bool,
+    pub entered: u64,
+    pub paired: u64,
+    pub crossed: u64,
+    pub cancelled: u64,
+    pub contracts: [u64; 8],
+}
+
+impl Account {
+    /// What is wrong with the sums, given what is still open.
+    pub fn disagreement(&self, open: u64) -> Option<String> {
+        let traded = if self.is_complex {
+            self.paired + self.crossed
+        } else {
+            self.contracts[usize::from(self.series[0])]
+        };
+        if self.entered != traded + self.cancelled + open {
+            return Some(format!(
+                "order {}: entered {} but traded {}, cancelled {} and open {}",
+                self.id, self.entered, traded, self.cancelled, open
+            ));
+        }
+        (0..8).find_map(|series| self.series_disagreement(series))
+    }
+
+    fn series_disagreement(&self, series: u8) -> Option<String> {
+        let own = self.series.contains(&series);
+        let contracts = self.contracts[usize::from(series)];
+        let expected = match (own, self.is_complex) {
+            (true, true) => self.paired,
+            (true, false) => contracts,
+            (false, _) => 0,
+        };
+        (contracts != expected).then(|| {
+            format!(
+                "order {}: {contracts} contracts in series {series}, expected {expected}",
+                self.id
+            )
+        })
+    }
+}
+
+/// The accounts of all accepted orders, in rising id.
+#[derive(Clone, Debug, Default)]
+pub struct Ledger {
+    pub accounts: Vec<Account>,
+}
+
+impl Ledger {
+    /// Opens the account of an accepted order.
+    pub fn enter(&mut self, message: &Message) -> Result<(), String> {
+        let (id, series, is_complex, quantity) = match message {
+            Message::Order {
+                id, leg, quantity, ..
+            } => (*id, [leg.series; 2], false, *quantity),
+            Message::Complex {
+                id, legs, quantity, ..
+            } => (*id, legs.map(|leg| leg.series), true, *quantity),
+            _ => return Ok(()),
+        };
+        if series.iter().any(|series| *series > 7) {
+            return Err(format!("order {id} was accepted with a series above 7"));
+        }
+        if self.accounts.last().is_some_and(|last| last.id >= id) {
+            return Err(format!("order {id} was accepted after a higher id"));
+        }
+        self.accounts.push(Account {
+            id,
+            series,
+            is_complex,
+            entered: u64::from(quantity),
+            paired: 0,
+            crossed: 0,
+            cancelled: 0,
+            contracts: [0; 8],
+        });
+        Ok(())
+    }
+
+    fn account(&mut self, id: u32, record: &Record) -> Result<&mut Account, String> {
+        match self
+            .accounts
+            .binary_search_by_key(&id, |account| account.id)
+        {
+            Ok(at) => Ok(&mut self.accounts[at]),
+            Err(_) => Err(format!(
+                "record \"{record}\" names {id}, which was not accepted"
+            )),
+        }
+    }
+
+    /// Adds one record's quantities to the accounts that it names.
+    pub fn add(&mut self, record: &Record) -> Result<(), String> {
+        match *record {
+            Record::Trade {
+                series,
+                quantity,
+                taker,
+                maker,
+                ..
+            } => {
+                for id in [taker, maker] {
+                    let account = self.account(id, record)?;
+                    let Some(contracts) = account.contracts.get_mut(usize::from(series)) else {
+                        return Err(format!("record \"{record}\" has a series above 7"));
+                    };
+                    *contracts += u64::from(quantity);
+                }
+            }
+            Record::Pair { id, quantity, .. } => {
+                self.account(id, record)?.paired += u64::from(quantity);
+            }
+            Record::Cross {
+                taker,
+                maker,
+                quantity,
+                ..
+            } => {
+                self.account(taker, record)?.crossed += u64::from(quantity);
+                self.account(maker, record)?.crossed += u64::from(quantity);
+            }
+            Record::Cancelled { id, quantity } => {
+                self.account(id, record)?.cancelled += u64::from(quantity);
+            }
+            Record::Answer { .. } | Record::Generated { .. } | Record::Removed { .. } => {}
+        }
+        Ok(())
+    }
+
+    /// The first order whose sums do not agree with the venue left.
+    pub fn disagreement(&self, venue: &Venue) -> Option<String> {
+        let mut regular = held_regular(venue).peekable();
+        let mut complex = held_complex(venue).peekable();
+        for account in &self.accounts {
+            let open = if account.is_complex {
+                complex
+                    .next_if(|order| order.id == account.id)
+                    .map(|order| order.quantity)
+            } else {
+                regular
+                    .next_if(|order| order.id == account.id)
+                    .map(|order| order.quantity)
+            };
+            let fault = account.disagreement(u64::from(open.unwrap_or(0)));
+            if fault.is_some() {
+                return fault;
+            }
+        }
+        let left = complex
+            .next()
+            .map(|order| order.id)
+            .or(regular.next().map(|order| order.id));
+        left.map(|id| format!("order {id} rests but was not accepted"))
+    }
+}

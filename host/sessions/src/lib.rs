@@ -1,0 +1,25 @@
+//! Sessions of the legging order engine: messages as text and bytes, records and
+//! sheets, random sessions, and checks written apart from the reference.
+
+#![forbid(unsafe_code)]
+
+pub mod audit;
+pub mod check;
+pub mod corrupt;
+pub mod coverage;
+pub mod explain;
+pub mod generator;
+pub mod ledger;
+pub mod lent;
+pub mod message;
+pub mod model;
+pub mod phases;
+pub mod profile;
+pub mod random;
+pub mod record;
+pub mod scripts;
+pub mod sheet;
+pub mod soak;
+pub mod sound;
+pub mod text;
+pub mod view;

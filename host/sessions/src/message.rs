@@ -1,0 +1,181 @@
+//! Messages as fields, to and from bytes. Fields keep any value that fits their
+//! width, so that refused messages can be written too.
+
+#[derive(Clone, Copy, Debug, PartialEq, Eq)]
+pub struct Leg {
+    pub series: u8,
+    pub side: u8,
+}
+
+#[derive(Clone, Debug, PartialEq, Eq)]
+pub enum Message {
+    Order {
+        id: u32,
+        leg: Leg,
+        price: u32,
+        quantity: u32,
+    },
+    Complex {
+        id: u32,
+        legs: [Leg; 2],
+        class: u8,
+        limit: i32,
+        quantity: u32,
+    },
+    Cancel {
+        id: u32,
+    },
+    Away {
+        series: u8,
+        bid: u32,
+        offer: u32,
+    },
+    Status {
+        series: u8,
+        status: u8,
+    },
+    Sweep,
+    /// Bytes that are no message of kinds 1 to 6 at its length.
+    Raw(Vec<u8>),
+}
+
+impl Message {
+    pub fn encode(&self) -> Vec<u8> {
+        match self {
+            Message::Order {
+                id,
+                leg,
+                price,
+                quantity,
+            } => framed(
+                1,
+                &[
+                    &id.to_le_bytes(),
+                    &leg.bytes(),
+                    &price.to_le_bytes(),
+                    &quantity.to_le_bytes(),
+                ],
+            ),
+            Message::Complex {
+                id,
+                legs: [first, second],
+                class,
+                limit,
+                quantity,
+            } => {
+                let legs = [first.bytes(), second.bytes()].concat();
+                let (limit, quantity) = (limit.to_le_bytes(), quantity.to_le_bytes());
+                framed(2, &[&id.to_le_bytes(), &legs, &[*class], &limit, &quantity])
+            }
+            Message::Cancel { id } => framed(3, &[&id.to_le_bytes()]),
+            Message::Away { series, bid, offer } => {
+                framed(4, &[&[*series], &bid.to_le_bytes(), &offer.to_le_bytes()])
+            }
+            Message::Status { series, status } => framed(5, &[&[*series, *status]]),
+            Message::Sweep => framed(6, &[]),
+            Message::Raw(bytes) => bytes.clone(),
+        }
+    }
+
+    /// Reads one message cut from a list; what is none of kinds 1 to 6 at its
+    /// length stays raw.
+    pub fn decode(bytes: &[u8]) -> Message {
+        let mut fields = Fields { bytes, at: 4 };
+        let whole = bytes.len() >= 4 && usize::from(word(bytes, 0)) == bytes.len();
+        let kind = if whole { word(bytes, 2) } else { 0 };
+        match (kind, bytes.len()) {
+            (1, 18) => Message::Order {
+                id: fields.u32(),
+                leg: fields.leg(),
+                price: fields.u32(),
+                quantity: fields.u32(),
+            },
+            (2, 21) => Message::Complex {
+                id: fields.u32(),
+                legs: [fields.leg(), fields.leg()],
+                class: fields.u8(),
+                limit: fields.u32() as i32,
+                quantity: fields.u32(),
+            },
+            (3, 8) => Message::Cancel { id: fields.u32() },
+            (4, 13) => Message::Away {
+                series: fields.u8(),
+                bid: fields.u32(),
+                offer: fields.u32(),
+            },
+            (5, 6) => Message::Status {
+                series: fields.u8(),
+                status: fields.u8(),
+            },
+            (6, 4) => Message::Sweep,
+            _ => Message::Raw(bytes.to_vec()),
+        }
+    }
+}
+
+impl Leg {
+    fn bytes(self) -> [u8; 2] {
+        [self.series, self.side]
+    }
+}
+
+/// Cuts a list into its messages; a torn rest is the last piece.
+pub fn split(list: &[u8]) -> Vec<&[u8]> {
+    let mut pieces = Vec::new();
+    let mut rest = list;
+    while !rest.is_empty() {
+        let length = message_length(rest);
+        let (piece, after) = rest.split_at(length);
+        pieces.push(piece);
+        rest = after;
+    }
+    pieces
+}
+
+fn message_length(bytes: &[u8]) -> usize {
+    if bytes.len() < 4 {
+        return bytes.len();
+    }
+    match usize::from(word(bytes, 0)) {
+        length if length >= 4 && length <= bytes.len() => length,
+        _ => bytes.len(),
+    }
+}
+
+fn framed(kind: u16, fields: &[&[u8]]) -> Vec<u8> {
+    let length = 4 + fields.iter().map(|field| field.len()).sum::<usize>();
+    let mut bytes = Vec::with_capacity(length);
+    bytes.extend_from_slice(&(length as u16).to_le_bytes());
+    bytes.extend_from_slice(&kind.to_le_bytes());
+    for field in fields {
+        bytes.extend_from_slice(field);
+    }
+    bytes
+}
+
+fn word(bytes: &[u8], at: usize) -> u16 {
+    u16::from_le_bytes([bytes[at], bytes[at + 1]])
+}
+
+struct Fields<'a> {
+    bytes: &'a [u8],
+    at: usize,
+}
+
+impl Fields<'_> {
+    fn u8(&mut self) -> u8 {
+        self.at += 1;
+        self.bytes[self.at - 1]
+    }
+
+    fn u32(&mut self) -> u32 {
+        u32::from_le_bytes([self.u8(), self.u8(), self.u8(), self.u8()])
+    }
+
+    fn leg(&mut self) -> Leg {
+        Leg {
+            series: self.u8(),
+            side: self.u8(),
+        }
+    }
+}

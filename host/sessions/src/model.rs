@@ -1,0 +1,415 @@
+//! What a message is answered and what its work does, by the plainest reading
+//! of document 01: every choice looks at all orders, every price is worked out
+//! anew. It is slow, and shares nothing with the reference but its types.
+
+use crate::message::{split, Leg, Message};
+use crate::record::Record;
+use crate::view::{held_complex, held_regular, increment, legs_of, opposite, place_of, sign, View};
+use reference::{Complex, Legging, Regular, Venue};
+
+/// The refusal that a message meets, or 0. `left` is all that is left to read.
+pub fn refusal(venue: &Venue, left: &[u8]) -> u8 {
+    let length = |bytes: &[u8]| usize::from(u16::from_le_bytes([bytes[0], bytes[1]]));
+    if left.len() < 4 || length(left) < 4 || length(left) > left.len() {
+        return 1;
+    }
+    let message = split(left)[0];
+    let kind = u16::from_le_bytes([message[2], message[3]]);
+    if !(1..=6).contains(&kind) {
+        return 2;
+    }
+    match Message::decode(message) {
+        Message::Raw(_) => 3,
+        decoded if !in_range(&decoded) => 4,
+        decoded => venue_refusal(venue, &decoded),
+    }
+}
+
+fn in_range(message: &Message) -> bool {
+    let leg_in_range = |leg: &Leg| leg.series <= 7 && leg.side <= 1;
+    match message {
+        Message::Order {
+            id,
+            leg,
+            price,
+            quantity,
+        } => {
+            *id >= 1
+                && leg_in_range(leg)
+                && (1..=100_000).contains(price)
+                && i64::from(*price) % increment(leg.series) == 0
+                && (1..=10_000).contains(quantity)
+        }
+        Message::Complex {
+            id,
+            legs,
+            class,
+            limit,
+            quantity,
+        } => {
+            *id >= 1
+                && legs.iter().all(leg_in_range)
+                && legs[0].series != legs[1].series
+                && *class <= 1
+                && (-200_000..=200_000).contains(limit)
+                && (1..=10_000).contains(quantity)
+        }
+        Message::Cancel { id } => *id >= 1,
+        Message::Away { series, bid, offer } => {
+            *series <= 7 && *bid <= 100_000 && *offer <= 100_000
+        }
+        Message::Status { series, status } => *series <= 7 && *status <= 2,
+        Message::Sweep => true,
+        Message::Raw(_) => false,
+    }
+}
+
+fn venue_refusal(venue: &Venue, message: &Message) -> u8 {
+    let (id, legs, full) = match message {
+        Message::Order { id, leg, .. } => (*id, vec![*leg], venue.regular[127].quantity > 0),
+        Message::Complex { id, legs, .. } => (*id, legs.to_vec(), venue.complex[31].quantity > 0),
+        Message::Cancel { id } => return if rests(venue, *id) { 0 } else { 8 },
+        _ => return 0,
+    };
+    if id <= venue.last {
+        return 5;
+    }
+    if legs.iter().any(|leg| is_closed(venue, *leg)) {
+        return 6;
+    }
+    if full {
+        7
+    } else {
+        0
+    }
+}
+
+fn rests(venue: &Venue, id: u32) -> bool {
+    held_regular(venue).any(|order| order.id == id)
+        || held_complex(venue).any(|order| order.id == id)
+}
+
+fn is_closed(venue: &Venue, leg: Leg) -> bool {
+    venue.series[usize::from(leg.series)].status == 0
+}
+
+/// An accepted message's work: the venue at its settling, and the records.
+pub struct Work {
+    pub venue: Venue,
+    pub records: Vec<Record>,
+}
+
+pub fn work(before: &Venue, message: &Message) -> Work {
+    let mut work = Work {
+        venue: before.clone(),
+        records: Vec::new(),
+    };
+    match *message {
+        Message::Order {
+            id,
+            leg,
+            price,
+            quantity,
+        } => work.order(id, leg, price, quantity),
+        Message::Complex { id, .. } => {
+            work.rest(message);
+            work.complex(id);
+        }
+        Message::Cancel { id } => work.cancel(id),
+        Message::Away { series, bid, offer } => {
+            let listed = &mut work.venue.series[usize::from(series)];
+            (listed.bid, listed.offer) = (bid, offer);
+        }
+        Message::Status { series, status } => {
+            work.venue.series[usize::from(series)].status = status;
+        }
+        Message::Sweep => {
+            let ids: Vec<u32> = held_complex(before).map(|order| order.id).collect();
+            ids.into_iter().for_each(|id| work.complex(id));
+        }
+        Message::Raw(_) => {}
+    }
+    work
+}
+
+impl Work {
+    /// Puts an arriving complex order in the first free place.
+    fn rest(&mut self, message: &Message) {
+        let Message::Complex {
+            id,
+            legs,
+            class,
+            limit,
+            quantity,
+        } = *message
+        else {
+            return;
+        };
+        let place = held_complex(&self.venue).count();
+        self.venue.last = id;
+        self.venue.complex[place] = Complex {
+            id,
+            series1: legs[0].series,
+            side1: legs[0].side,
+            series2: legs[1].series,
+            side2: legs[1].side,
+            class,
+            limit,
+            quantity,
+        };
+    }
+
+    fn find(&self, id: u32) -> Option<Complex> {
+        held_complex(&self.venue)
+            .find(|order| order.id == id)
+            .copied()
+    }
+
+    /// Takes contracts from the regular order in a place.
+    fn fill_regular(&mut self, place: usize, quantity: u32) {
+        self.venue.regular[place].quantity -= quantity;
+        if self.venue.regular[place].quantity == 0 {
+            self.venue.regular[place..].rotate_left(1);
+            self.venue.regular[127] = Regular::default();
+        }
+    }
+
+    /// Takes from what a complex order has open.
+    fn fill_complex(&mut self, id: u32, quantity: u32) {
+        let held = held_complex(&self.venue).position(|order| order.id == id);
+        let Some(place) = held else {
+            return;
+        };
+        self.venue.complex[place].quantity -= quantity;
+        if self.venue.complex[place].quantity == 0 {
+            self.venue.complex[place..].rotate_left(1);
+            self.venue.complex[31] = Complex::default();
+        }
+    }
+
+    /// Removes the legging orders for which `goes` holds, by place.
+    fn remove(&mut self, cause: u8, goes: impl Fn(usize, &Legging) -> bool) {
+        for place in 0..16 {
+            let order = self.venue.legging[place];
+            if order.quantity == 0 || !goes(place, &order) {
+                continue;
+            }
+            self.records.push(Record::Removed {
+                id: order.parent,
+                series: (place / 2) as u8,
+                side: (place % 2) as u8,
+                cause,
+            });
+            self.venue.legging[place] = Legging::default();
+        }
+    }
+
+    fn remove_of(&mut self, id: u32, cause: u8) {
+        self.remove(cause, |_, order| order.parent == id);
+    }
+
+    fn trade(&mut self, leg: Leg, price: u32, quantity: u32, taker: u32, maker: u32) {
+        self.records.push(Record::Trade {
+            series: leg.series,
+            side: leg.side,
+            price,
+            quantity,
+            taker,
+            maker,
+        });
+    }
+
+    fn order(&mut self, id: u32, leg: Leg, price: u32, quantity: u32) {
+        self.venue.last = id;
+        let mut open = quantity;
+        while open > 0 {
+            let Some(traded) = self.meet(id, leg, price, open) else {
+                break;
+            };
+            open -= traded;
+        }
+        if open > 0 {
+            let place = held_regular(&self.venue).count();
+            self.venue.regular[place] = Regular {
+                id,
+                series: leg.series,
+                side: leg.side,
+                price,
+                quantity: open,
+            };
+        }
+    }
+
+    /// One trade of an arriving order with whoever it meets first.
+    fn meet(&mut self, id: u32, leg: Leg, price: u32, open: u32) -> Option<u32> {
+        let facing = opposite(leg);
+        let rank = |price: u32| sign(leg) * i64::from(price);
+        let regular = held_regular(&self.venue)
+            .enumerate()
+            .filter(|(_, order)| (order.series, order.side) == (facing.series, facing.side))
+            .map(|(place, order)| (rank(order.price), false, order.id, place));
+        let standing = self.venue.legging[place_of(facing)];
+        let legging = (standing.quantity > 0).then_some((rank(standing.price), true, 0, 0));
+        let (best, is_legging, _, place) = regular.chain(legging).min()?;
+        if best > rank(price) {
+            return None;
+        }
+        if is_legging {
+            return Some(self.hit(id, leg, standing, open));
+        }
+        let maker = self.venue.regular[place];
+        let traded = maker.quantity.min(open);
+        self.trade(leg, maker.price, traded, id, maker.id);
+        self.fill_regular(place, traded);
+        Some(traded)
+    }
+
+    fn hit(&mut self, id: u32, leg: Leg, standing: Legging, open: u32) -> u32 {
+        let traded = standing.quantity.min(open);
+        self.trade(leg, standing.price, traded, id, standing.parent);
+        let Some(parent) = self.find(standing.parent) else {
+            return traded;
+        };
+        let own = opposite(leg);
+        let legs = legs_of(&parent);
+        let other = if legs[0] == own { legs[1] } else { legs[0] };
+        let clear = View::of(&self.venue).clear(opposite(other));
+        self.take_best(other, traded, parent.id);
+        let paid = clear.map_or(0, |level| level.price);
+        let net = sign(own) * i64::from(standing.price) + sign(other) * paid;
+        self.pair(parent.id, net, traded);
+        traded
+    }
+
+    fn pair(&mut self, id: u32, net: i64, quantity: u32) {
+        self.records.push(Record::Pair {
+            id,
+            net: net as i32,
+            quantity,
+        });
+        self.remove_of(id, 3);
+        self.fill_complex(id, quantity);
+    }
+
+    /// Trades of a leg at the best price opposite, by id.
+    fn take_best(&mut self, leg: Leg, mut quantity: u32, taker: u32) {
+        let taken = opposite(leg);
+        let Some(best) = View::of(&self.venue).best(taken) else {
+            return;
+        };
+        while quantity > 0 {
+            let at_best = held_regular(&self.venue).position(|order| {
+                (order.series, order.side) == (taken.series, taken.side)
+                    && i64::from(order.price) == best.price
+            });
+            let Some(place) = at_best else {
+                return;
+            };
+            let maker = self.venue.regular[place];
+            let traded = maker.quantity.min(quantity);
+            self.trade(leg, maker.price, traded, taker, maker.id);
+            self.fill_regular(place, traded);
+            quantity -= traded;
+        }
+    }
+
+    /// Cross, touch and leg in of an order that still rests.
+    fn complex(&mut self, id: u32) {
+        let Some(order) = self.find(id) else {
+            return;
+        };
+        if legs_of(&order)
+            .iter()
+            .any(|leg| is_closed(&self.venue, *leg))
+        {
+            return;
+        }
+        while self.cross(id) {}
+        self.touch(id);
+        while self.leg_in(id) {}
+    }
+
+    fn cross(&mut self, id: u32) -> bool {
+        let Some(taker) = self.find(id) else {
+            return false;
+        };
+        let view = View::of(&self.venue);
+        let wanted = legs_of(&taker).map(opposite);
+        let best = held_complex(&self.venue)
+            .filter(|maker| {
+                let legs = legs_of(maker);
+                legs == wanted || legs == [wanted[1], wanted[0]]
+            })
+            .filter(|maker| taker.limit + maker.limit >= 0)
+            .filter(|maker| view.in_band(-i64::from(maker.limit), legs_of(&taker)))
+            .filter(|maker| view.in_band(i64::from(maker.limit), legs_of(maker)))
+            .min_by_key(|maker| (-maker.limit, maker.id));
+        let Some(maker) = best.copied() else {
+            return false;
+        };
+        let quantity = taker.quantity.min(maker.quantity);
+        self.records.push(Record::Cross {
+            taker: taker.id,
+            maker: maker.id,
+            net: -maker.limit,
+            quantity,
+        });
+        self.remove_of(taker.id, 3);
+        self.remove_of(maker.id, 3);
+        self.fill_complex(taker.id, quantity);
+        self.fill_complex(maker.id, quantity);
+        true
+    }
+
+    fn touch(&mut self, id: u32) {
+        let Some(order) = self.find(id) else {
+            return;
+        };
+        let view = View::of(&self.venue);
+        let legs = legs_of(&order);
+        let own = |leg| Some(sign(leg) * view.best_own(opposite(leg))?);
+        let (Some(first), Some(second)) = (own(legs[0]), own(legs[1])) else {
+            return;
+        };
+        if first + second <= i64::from(order.limit) {
+            let touched = legs.map(|leg| place_of(opposite(leg)));
+            self.remove(8, |place, _| touched.contains(&place));
+        }
+    }
+
+    fn leg_in(&mut self, id: u32) -> bool {
+        let Some(order) = self.find(id) else {
+            return false;
+        };
+        let view = View::of(&self.venue);
+        let legs = legs_of(&order);
+        let levels = legs.map(|leg| view.best(opposite(leg)));
+        let [Some(first), Some(second)] = levels else {
+            return false;
+        };
+        let net = sign(legs[0]) * first.price + sign(legs[1]) * second.price;
+        if net > i64::from(order.limit) || !view.in_band(net, legs) {
+            return false;
+        }
+        let sizes = first.size.min(second.size);
+        let quantity = sizes.min(i64::from(order.quantity)) as u32;
+        self.take_best(legs[0], quantity, id);
+        self.take_best(legs[1], quantity, id);
+        self.pair(id, net, quantity);
+        true
+    }
+
+    fn cancel(&mut self, id: u32) {
+        let place = held_regular(&self.venue).position(|order| order.id == id);
+        let open = match place {
+            Some(place) => self.venue.regular[place].quantity,
+            None => self.find(id).map_or(0, |order| order.quantity),
+        };
+        self.records.push(Record::Cancelled { id, quantity: open });
+        self.remove_of(id, 4);
+        match place {
+            Some(place) => self.fill_regular(place, open),
+            None => self.fill_complex(id, open),
+        }
+    }
+}

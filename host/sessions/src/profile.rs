@@ -1,0 +1,165 @@
+//! The profiles of random sessions.
+
+#[derive(Clone, Copy, Debug, PartialEq, Eq)]
+pub enum Profile {
+    Mixed,
+    FewSeries,
+    Credit,
+    BandEdges,
+    Refusals,
+    FullBooks,
+    Sweeps,
+    StatusFlips,
+    Classes,
+    Hits,
+    CrossParties,
+    PriceEdges,
+    OddBytes,
+}
+
+impl Profile {
+    pub const ALL: [Profile; 13] = [
+        Profile::Mixed,
+        Profile::FewSeries,
+        Profile::Credit,
+        Profile::BandEdges,
+        Profile::Refusals,
+        Profile::FullBooks,
+        Profile::Sweeps,
+        Profile::StatusFlips,
+        Profile::Classes,
+        Profile::Hits,
+        Profile::CrossParties,
+        Profile::PriceEdges,
+        Profile::OddBytes,
+    ];
+
+    pub fn name(self) -> &'static str {
+        match self {
+            Profile::Mixed => "mixed",
+            Profile::FewSeries => "few-series",
+            Profile::Credit => "credit",
+            Profile::BandEdges => "band-edges",
+            Profile::Refusals => "refusals",
+            Profile::FullBooks => "full-books",
+            Profile::Sweeps => "sweeps",
+            Profile::StatusFlips => "status-flips",
+            Profile::Classes => "classes",
+            Profile::Hits => "hits",
+            Profile::CrossParties => "cross-parties",
+            Profile::PriceEdges => "price-edges",
+            Profile::OddBytes => "odd-bytes",
+        }
+    }
+
+    pub fn from_name(name: &str) -> Option<Profile> {
+        Profile::ALL
+            .into_iter()
+            .find(|profile| profile.name() == name)
+    }
+
+    /// What the profile prefers, as differences from a common base.
+    pub(crate) fn shape(self) -> Shape {
+        const THREE: &[u8] = &[0, 1, 2];
+        let base = Shape::base();
+        match self {
+            Profile::Mixed => base.over(&[0, 1, 2, 3, 4, 5, 6, 7]),
+            Profile::FewSeries => base.over(&[0, 1]).weighted([58, 18, 8, 4, 1, 9, 2]),
+            Profile::Credit => base.over(&[0, 1, 7]).at(400, 6).reversing(90),
+            Profile::BandEdges => base
+                .over(THREE)
+                .weighted([35, 32, 6, 17, 1, 8, 1])
+                .at(1000, 6),
+            Profile::Refusals => base.weighted([25, 12, 5, 5, 8, 3, 42]),
+            Profile::FullBooks => base
+                .weighted([62, 24, 2, 2, 1, 4, 5])
+                .at(100, 30)
+                .crossing(3),
+            Profile::Sweeps => base.over(THREE).weighted([33, 22, 5, 7, 1, 31, 1]),
+            Profile::StatusFlips => base.over(THREE).weighted([36, 24, 5, 4, 20, 10, 1]),
+            Profile::Classes => base
+                .over(THREE)
+                .weighted([30, 42, 8, 3, 1, 15, 1])
+                .at(100, 3),
+            Profile::Hits => base
+                .over(THREE)
+                .weighted([55, 25, 4, 3, 1, 11, 1])
+                .scripted(40),
+            Profile::CrossParties => {
+                let shape = base.over(THREE).weighted([32, 35, 4, 8, 1, 19, 1]);
+                shape.crossing(45).scripted(40)
+            }
+            Profile::PriceEdges => base.over(&[0, 1, 6, 7]).at(0, 4),
+            Profile::OddBytes => base.weighted([30, 15, 5, 5, 4, 6, 35]),
+        }
+    }
+}
+
+/// What a profile prefers. Weights are of order, complex, cancel, away, status,
+/// sweep and messages to be refused.
+pub(crate) struct Shape {
+    pub series: &'static [u8],
+    pub weights: [u64; 7],
+    pub centre: i64,
+    pub steps: i64,
+    pub most_quantity: i64,
+    /// Percent of complex orders with one leg bought and one sold.
+    pub reversed_legs: u64,
+    /// Percent of complex orders priced to cross with a resting one.
+    pub crossing_limits: u64,
+    /// Messages between scripts; 0 for none.
+    pub script_every: usize,
+}
+
+impl Shape {
+    fn base() -> Self {
+        Shape {
+            series: &[0, 1, 2, 6],
+            weights: [45, 22, 10, 8, 3, 8, 4],
+            centre: 100,
+            steps: 6,
+            most_quantity: 20,
+            reversed_legs: 50,
+            crossing_limits: 20,
+            script_every: 0,
+        }
+    }
+
+    fn over(self, series: &'static [u8]) -> Self {
+        Shape { series, ..self }
+    }
+
+    fn weighted(self, weights: [u64; 7]) -> Self {
+        Shape { weights, ..self }
+    }
+
+    /// Prices up to so many increments away from a centre.
+    fn at(self, centre: i64, steps: i64) -> Self {
+        Shape {
+            centre,
+            steps,
+            ..self
+        }
+    }
+
+    fn reversing(self, reversed_legs: u64) -> Self {
+        Shape {
+            reversed_legs,
+            ..self
+        }
+    }
+
+    fn crossing(self, crossing_limits: u64) -> Self {
+        Shape {
+            crossing_limits,
+            ..self
+        }
+    }
+
+    fn scripted(self, script_every: usize) -> Self {
+        Shape {
+            script_every,
+            ..self
+        }
+    }
+}

@@ -1,0 +1,30 @@
+//! A run whose report memory never fills, and the sheet of it.
+
+use crate::record::{read_report, Record};
+use reference::{run, Returned};
+
+/// The most bytes that the printing program reads.
+pub const MOST_INPUT: usize = 65_536;
+
+const ENDED_EARLY: u8 = 10;
+
+/// Runs a list with report memory enough for all its records.
+pub fn run_whole(list: &[u8]) -> (Returned, Vec<u8>) {
+    let mut report = vec![0; 64 * 1024 + 16 * list.len()];
+    loop {
+        let returned = run(list, &mut report);
+        if returned.number != ENDED_EARLY {
+            report.truncate(returned.written);
+            return (returned, report);
+        }
+        let doubled = 2 * report.len();
+        report.resize(doubled, 0);
+    }
+}
+
+/// The records that the printing program prints for this input.
+pub fn sheet_of(input: &[u8]) -> Result<Vec<Record>, String> {
+    let list = &input[..input.len().min(MOST_INPUT)];
+    let (_, report) = run_whole(list);
+    read_report(&report)
+}

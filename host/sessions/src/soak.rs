@@ -1,0 +1,299 @@
+//! Random sessions with every check after every message.
+
+use crate::check::{Checker, Step};
+use crate::corrupt::corrupt;
+use crate::coverage::Coverage;
+use crate::generator::Generator;
+use crate::lent::Lent;
+use crate::message::{split, Message};
+use crate::profile::Profile;
+use crate::record::{read_report_into, Record};
+use crate::sound::fault;
+use reference::{is_sound, one_message, run, Returned, Venue};
+use std::fmt::{self, Display};
+
+/// More than the records of any one message take.
+const ROOM: usize = 16_384;
+
+/// A violation, with what repeats it.
+#[derive(Clone, Debug)]
+pub struct Failure {
+    pub profile: Profile,
+    pub seed: u64,
+    /// Messages that went well before it.
+    pub after: usize,
+    pub what: String,
+}
+
+impl Display for Failure {
+    fn fmt(&self, f: &mut fmt::Formatter) -> fmt::Result {
+        let name = self.profile.name();
+        write!(
+            f,
+            "profile {name} seed {} after {} messages: {}",
+            self.seed, self.after, self.what
+        )
+    }
+}
+
+/// A list of messages with what the one-message calls made of it.
+struct Session<'a> {
+    generator: Generator,
+    checker: Checker,
+    venue: Venue,
+    pieces: Vec<Vec<u8>>,
+    report: Vec<u8>,
+    /// Report bytes after each message.
+    ends: Vec<usize>,
+    last_number: u8,
+    records: Vec<Record>,
+    lent: Lent,
+    coverage: &'a mut Coverage,
+}
+
+/// How many messages a session of this profile and seed has.
+pub fn session_length(profile: Profile, seed: u64) -> usize {
+    let spread = (seed.wrapping_mul(0x9E37_79B9_7F4A_7C15) >> 32) as usize;
+    match profile {
+        Profile::FullBooks => 400 + spread % 500,
+        _ => 60 + spread % 500,
+    }
+}
+
+/// The messages of a session, as the checks send them.
+pub fn generate(profile: Profile, seed: u64, messages: usize) -> Vec<Vec<u8>> {
+    let mut coverage = Coverage::default();
+    let mut session = Session::new(profile, seed, &mut coverage);
+    for _ in 0..messages {
+        let message = session.generator.next(&session.venue);
+        let before = session.pieces.len() as u32;
+        let returned = one_message(&session.venue, before, &message, session.lent.lend(ROOM));
+        session.venue = returned.venue;
+        session.pieces.push(message);
+    }
+    session.pieces
+}
+
+/// Runs one session with all checks, adding to the coverage.
+pub fn check_session(profile: Profile, seed: u64, coverage: &mut Coverage) -> Result<(), Failure> {
+    let mut session = Session::new(profile, seed, coverage);
+    let checked = session.check_all(profile, session_length(profile, seed));
+    let after = session.pieces.len();
+    checked.map_err(|what| Failure {
+        profile,
+        seed,
+        after,
+        what,
+    })
+}
+
+impl<'a> Session<'a> {
+    fn new(profile: Profile, seed: u64, coverage: &'a mut Coverage) -> Self {
+        Session {
+            generator: Generator::new(profile, seed),
+            checker: Checker::default(),
+            venue: Venue::fresh(),
+            pieces: Vec::new(),
+            report: Vec::new(),
+            ends: Vec::new(),
+            last_number: 0,
+            records: Vec::new(),
+            lent: Lent::new(),
+            coverage,
+        }
+    }
+
+    fn check_all(&mut self, profile: Profile, messages: usize) -> Result<(), String> {
+        // Probes draw from numbers of their own, so that the session is the
+        // same with and without them.
+        let mut probes = Generator::new(profile, messages as u64);
+        for _ in 0..messages {
+            let message = self.generator.next(&self.venue);
+            self.check_message(message)?;
+            if probes.random().chance(6) {
+                self.probe(&mut probes)?;
+            }
+        }
+        let tail = match (profile, probes.random().below(8)) {
+            (Profile::OddBytes, 0..=2) => probes.noise(),
+            (Profile::OddBytes, 3..=5) | (_, 0) => probes.torn(&self.venue),
+            _ => Vec::new(),
+        };
+        for piece in split(&tail) {
+            self.check_message(piece.to_vec())?;
+        }
+        self.check_runs(&mut probes)?;
+        self.coverage.sessions += 1;
+        Ok(())
+    }
+
+    /// One message of the list, by a one-message call.
+    fn check_message(&mut self, message: Vec<u8>) -> Result<(), String> {
+        let before = self.pieces.len() as u32;
+        let returned = one_message(&self.venue, before, &message, self.lent.lend(ROOM));
+        let written = self.lent.written(returned.written)?;
+        read_report_into(written, &mut self.records)?;
+        let decoded = Message::decode(&message);
+        let step = Step {
+            message: &decoded,
+            bytes: &message,
+            before: &self.venue,
+            returned: &returned,
+            records: &self.records,
+        };
+        let seen = self.checker.check(&step)?;
+        if returned.done != 1 || !is_sound(&returned.venue) {
+            return Err("done is not 1, or the venue is unsound to the reference".to_string());
+        }
+        self.coverage.observe(&step, seen.as_ref());
+        self.report.extend_from_slice(written);
+        self.ends.push(self.report.len());
+        self.pieces.push(message);
+        self.last_number = returned.number;
+        self.venue = returned.venue;
+        Ok(())
+    }
+
+    /// Calls beside the list, which leave it as it is.
+    fn probe(&mut self, probes: &mut Generator) -> Result<(), String> {
+        match probes.random().below(4) {
+            0 => self.probe_memory(probes),
+            1 => self.probe_number(probes),
+            2 => self.probe_unsound(probes),
+            _ => self.probe_noise(probes),
+        }
+    }
+
+    /// A message with every record fitting exactly, and with one byte less.
+    fn probe_memory(&mut self, probes: &mut Generator) -> Result<(), String> {
+        let message = probes.next(&self.venue);
+        let whole = one_message(&self.venue, 7, &message, self.lent.lend(ROOM));
+        let records = self.lent.written(whole.written)?.to_vec();
+        let exact = one_message(&self.venue, 7, &message, self.lent.lend(records.len()));
+        if exact != whole || self.lent.written(exact.written)? != records {
+            return Err("exact report memory changed the outcome".to_string());
+        }
+        let short = probes.random().below(records.len() as u64) as usize;
+        for length in [records.len() - 1, short] {
+            let ended = one_message(&self.venue, 7, &message, self.lent.lend(length));
+            self.expect_ended(&ended, 10)?;
+        }
+        Ok(())
+    }
+
+    fn expect_ended(&mut self, returned: &Returned, number: u8) -> Result<(), String> {
+        let expected = Returned {
+            number,
+            done: 0,
+            written: 0,
+            venue: self.venue.clone(),
+        };
+        self.lent.written(0)?;
+        self.coverage.answer(returned.number);
+        if *returned != expected {
+            return Err(format!("a call that ends with {number} left a trace"));
+        }
+        Ok(())
+    }
+
+    fn probe_number(&mut self, probes: &mut Generator) -> Result<(), String> {
+        let message = probes.next(&self.venue);
+        let ended = one_message(&self.venue, u32::MAX, &message, self.lent.lend(ROOM));
+        self.expect_ended(&ended, 10)?;
+        let before = u32::MAX - 1;
+        let last = one_message(&self.venue, before, &message, self.lent.lend(ROOM));
+        read_report_into(self.lent.written(last.written)?, &mut self.records)?;
+        match self.records.first() {
+            Some(Record::Answer { number, .. }) if *number == u32::MAX => Ok(()),
+            _ => Err("the last message number was not answered".to_string()),
+        }
+    }
+
+    /// Both tests of soundness agree on a changed venue, and so does the call.
+    fn probe_unsound(&mut self, probes: &mut Generator) -> Result<(), String> {
+        for _ in 0..4 {
+            let changed = corrupt(&self.venue, probes.random());
+            let unsound = fault(&changed);
+            let returned = one_message(&changed, 0, &Message::Sweep.encode(), self.lent.lend(ROOM));
+            if unsound.is_some() != (returned.number == 9) {
+                return Err(format!("soundness differs: {unsound:?} for {changed:?}"));
+            }
+            if unsound.is_some() {
+                let kept = std::mem::replace(&mut self.venue, changed);
+                let checked = self.expect_ended(&returned, 9);
+                self.venue = kept;
+                checked?;
+            }
+        }
+        Ok(())
+    }
+
+    /// Odd bytes upon this venue: refused or done, with every check.
+    fn probe_noise(&mut self, probes: &mut Generator) -> Result<(), String> {
+        let bytes = match probes.random().below(3) {
+            0 => probes.torn(&self.venue),
+            _ => probes.noise(),
+        };
+        let before = self.pieces.len() as u32;
+        let returned = one_message(&self.venue, before, &bytes, self.lent.lend(ROOM));
+        read_report_into(self.lent.written(returned.written)?, &mut self.records)?;
+        let first = split(&bytes).first().map(|piece| Message::decode(piece));
+        let step = Step {
+            message: &first.unwrap_or(Message::Raw(Vec::new())),
+            bytes: &bytes,
+            before: &self.venue,
+            returned: &returned,
+            records: &self.records,
+        };
+        self.coverage.answer(returned.number);
+        self.checker.clone().check(&step).map(|_| ())
+    }
+
+    /// The run of the whole list, with memory for all of it and with less.
+    fn check_runs(&mut self, probes: &mut Generator) -> Result<(), String> {
+        let list = self.pieces.concat();
+        let whole = self.report.len();
+        let torn = self.last_number == 1;
+        for length in [whole, whole + 1, whole + 500] {
+            let returned = run(&list, self.lent.lend(length));
+            let expected = Returned {
+                number: u8::from(torn),
+                done: self.pieces.len() as u32,
+                written: whole,
+                venue: self.venue.clone(),
+            };
+            if returned != expected || self.lent.written(whole)? != self.report {
+                return Err("the run differs from its one-message calls".to_string());
+            }
+        }
+        for _ in 0..3 {
+            let length = probes.random().below(whole as u64) as usize;
+            self.check_short_run(&list, length)?;
+        }
+        Ok(())
+    }
+
+    /// A run whose report memory fills: it ends before the first message whose
+    /// records do not fit.
+    fn check_short_run(&mut self, list: &[u8], length: usize) -> Result<(), String> {
+        let done = self.ends.partition_point(|end| *end <= length);
+        let written = if done == 0 { 0 } else { self.ends[done - 1] };
+        let returned = run(list, self.lent.lend(length));
+        self.coverage.answer(returned.number);
+        let told = (returned.number, returned.done as usize, returned.written);
+        if told != (10, done, written) {
+            return Err(format!(
+                "short run returned {told:?}, expected {:?}",
+                (10, done, written)
+            ));
+        }
+        if self.lent.written(written)? != &self.report[..written] {
+            return Err("short run wrote other records".to_string());
+        }
+        let part = run(&self.pieces[..done].concat(), self.lent.lend(written));
+        if part.venue != returned.venue || part.number != 0 {
+            return Err("short run left another venue".to_string());
+        }
+        Ok(())
+    }
+}

@@ -1,0 +1,140 @@
+//! Soundness from the document's sentence, apart from the reference's test.
+
+use crate::message::Leg;
+use crate::view::{displayed, find_complex, increment, leg_at, legs_of, View};
+use reference::{Complex, Legging, Listed, Regular, Venue};
+
+/// What is unsound about a venue, if anything.
+pub fn fault(venue: &Venue) -> Option<String> {
+    let faults = [
+        arrangement_fault(venue),
+        regular_fault(venue),
+        complex_fault(venue),
+        series_fault(venue),
+        id_fault(venue),
+    ];
+    if let Some(fault) = faults.into_iter().flatten().next() {
+        return Some(fault);
+    }
+    legging_fault(venue).or_else(|| crossed_fault(venue))
+}
+
+/// Held places come first in rising id; free places are zero.
+fn arrangement_fault(venue: &Venue) -> Option<String> {
+    let regular: Vec<u32> = venue.regular.iter().map(|order| order.id).collect();
+    let complex: Vec<u32> = venue.complex.iter().map(|order| order.id).collect();
+    if !rises_then_zero(&regular) || !rises_then_zero(&complex) {
+        return Some("places are not held first in rising id".to_string());
+    }
+    let free_regular = venue.regular.iter().filter(|order| order.id == 0);
+    let free_complex = venue.complex.iter().filter(|order| order.id == 0);
+    let free_legging = venue.legging.iter().filter(|order| order.quantity == 0);
+    let zero = free_regular
+        .clone()
+        .all(|order| *order == Regular::default())
+        && free_complex
+            .clone()
+            .all(|order| *order == Complex::default())
+        && free_legging
+            .clone()
+            .all(|order| *order == Legging::default());
+    (!zero).then(|| "a free place is not zero".to_string())
+}
+
+fn rises_then_zero(ids: &[u32]) -> bool {
+    ids.windows(2)
+        .all(|pair| pair[1] == 0 || (pair[0] != 0 && pair[0] < pair[1]))
+}
+
+fn regular_fault(venue: &Venue) -> Option<String> {
+    let held = venue.regular.iter().filter(|order| order.id != 0);
+    let mut bad = held.filter(|order| {
+        order.series > 7
+            || order.side > 1
+            || !(1..=100_000).contains(&order.price)
+            || i64::from(order.price) % increment(order.series) != 0
+            || !(1..=10_000).contains(&order.quantity)
+    });
+    bad.next()
+        .map(|order| format!("a field of regular order {} is out of range", order.id))
+}
+
+fn complex_fault(venue: &Venue) -> Option<String> {
+    let held = venue.complex.iter().filter(|order| order.id != 0);
+    let mut bad = held.filter(|order| {
+        let legs = legs_of(order);
+        legs.iter().any(|leg| leg.series > 7 || leg.side > 1)
+            || legs[0].series == legs[1].series
+            || order.class > 1
+            || order.limit.abs_diff(0) > 200_000
+            || !(1..=10_000).contains(&order.quantity)
+    });
+    bad.next()
+        .map(|order| format!("a field of complex order {} is out of range", order.id))
+}
+
+fn series_fault(venue: &Venue) -> Option<String> {
+    let out = |listed: &Listed| listed.status > 2 || listed.bid > 100_000 || listed.offer > 100_000;
+    let bad = venue.series.iter().position(out);
+    bad.map(|series| format!("a field of series {series} is out of range"))
+}
+
+fn id_fault(venue: &Venue) -> Option<String> {
+    let regular = venue.regular.iter().map(|order| order.id);
+    let complex = venue.complex.iter().map(|order| order.id);
+    let mut ids: Vec<u32> = regular.chain(complex).filter(|id| *id != 0).collect();
+    ids.sort_unstable();
+    if ids.windows(2).any(|pair| pair[0] == pair[1]) {
+        return Some("two orders have one id".to_string());
+    }
+    let above = ids.last().is_some_and(|id| *id > venue.last);
+    above.then(|| "an id is above the last id".to_string())
+}
+
+fn legging_fault(venue: &Venue) -> Option<String> {
+    let view = View::of(venue);
+    (0..16).find_map(|place| {
+        let leg = leg_at(place);
+        let order = view.standing(leg)?;
+        let fault = match_fault(venue, leg, order).or_else(|| test_fault(&view, venue, leg, order));
+        fault.map(|fault| format!("the legging order at place {place} {fault}"))
+    })
+}
+
+fn match_fault(venue: &Venue, leg: Leg, order: Legging) -> Option<String> {
+    let Some(parent) = find_complex(venue, order.parent) else {
+        return Some("has no parent".to_string());
+    };
+    if !legs_of(parent).contains(&leg) {
+        return Some("matches no leg of its parent".to_string());
+    }
+    if !(1..=100_000).contains(&order.price) {
+        return Some("has a price out of range".to_string());
+    }
+    (order.quantity > parent.quantity).then(|| "is larger than its parent".to_string())
+}
+
+fn test_fault(view: &View, venue: &Venue, leg: Leg, order: Legging) -> Option<String> {
+    let parent = find_complex(venue, order.parent)?;
+    let causes = view.failing_causes(leg, parent);
+    let shown = displayed(leg, i64::from(order.price));
+    let cause = causes.first()?;
+    Some(format!(
+        "shown at {shown} fails its test with cause {cause}"
+    ))
+}
+
+fn crossed_fault(venue: &Venue) -> Option<String> {
+    let view = View::of(venue);
+    let crossed = (0..8).find(|series| {
+        let side = |side| Leg {
+            series: *series,
+            side,
+        };
+        match (view.best_own(side(0)), view.best_own(side(1))) {
+            (Some(bid), Some(offer)) => bid >= offer,
+            _ => false,
+        }
+    });
+    crossed.map(|series| format!("series {series} is locked or crossed"))
+}

@@ -1,0 +1,366 @@
+//! Messages as text, one a line.
+//!
+//! ```text
+//! order ID SIDE QUANTITY series SERIES at PRICE
+//! complex ID SIDE SERIES SIDE SERIES class CLASS net LIMIT quantity QUANTITY
+//! cancel ID
+//! away SERIES bid PRICE offer PRICE
+//! status SERIES STATUS          (also: open SERIES, close SERIES, auction SERIES)
+//! sweep
+//! raw HEX HEX ...
+//! ```
+//! SIDE is `buy`, `sell` or `side=NUMBER`; STATUS is `open`, `closed`, `auction`
+//! or `status=NUMBER`. Any number that fits its field's width may be written.
+//! `#` begins a comment; blank lines are passed over.
+
+use crate::message::{split, Leg, Message};
+use std::fmt::{self, Display};
+use std::str::FromStr;
+
+/// What was wrong with a line of text.
+#[derive(Clone, Debug, PartialEq, Eq)]
+pub struct LineError {
+    pub line: usize,
+    pub expected: String,
+    pub found: String,
+}
+
+impl Display for LineError {
+    fn fmt(&self, f: &mut fmt::Formatter) -> fmt::Result {
+        let LineError {
+            line,
+            expected,
+            found,
+        } = self;
+        write!(f, "line {line}: expected {expected}, found {found}")
+    }
+}
+
+/// Reads a session's text into its messages.
+pub fn parse_session(text: &str) -> Result<Vec<Message>, LineError> {
+    let mut messages = Vec::new();
+    for (index, line) in text.lines().enumerate() {
+        let body = line.split('#').next().unwrap_or("");
+        if !body.trim().is_empty() {
+            messages.push(parse_line(body, index + 1)?);
+        }
+    }
+    Ok(messages)
+}
+
+/// The bytes of a session's text.
+pub fn encode_session(text: &str) -> Result<Vec<u8>, LineError> {
+    let messages = parse_session(text)?;
+    Ok(messages.iter().flat_map(Message::encode).collect())
+}
+
+/// A session's text from its bytes, one message a line.
+pub fn decode_session(bytes: &[u8]) -> String {
+    let pieces = split(bytes);
+    let lines = pieces.iter().map(|piece| Message::decode(piece));
+    lines.map(|message| format!("{message}\n")).collect()
+}
+
+fn parse_line(body: &str, line: usize) -> Result<Message, LineError> {
+    let mut words = Words {
+        words: body.split_whitespace(),
+        line,
+    };
+    let message = parse_message(&mut words)?;
+    words.end()?;
+    Ok(message)
+}
+
+const KINDS: &str =
+    "a message (order, complex, cancel, away, status, open, close, auction, sweep or raw)";
+
+fn parse_message(words: &mut Words) -> Result<Message, LineError> {
+    match words.next() {
+        Some("order") => parse_order(words),
+        Some("complex") => parse_complex(words),
+        Some("cancel") => Ok(Message::Cancel {
+            id: words.number("an id")?,
+        }),
+        Some("away") => parse_away(words),
+        Some("status") => Ok(Message::Status {
+            series: words.number("a series")?,
+            status: words.status()?,
+        }),
+        Some("open") => words.status_of_series(1),
+        Some("close") => words.status_of_series(0),
+        Some("auction") => words.status_of_series(2),
+        Some("sweep") => Ok(Message::Sweep),
+        Some("raw") => words.bytes().map(Message::Raw),
+        found => Err(words.error(KINDS, found)),
+    }
+}
+
+fn parse_order(words: &mut Words) -> Result<Message, LineError> {
+    let id = words.number("an id")?;
+    let side = words.side()?;
+    let quantity = words.number("a quantity")?;
+    words.literal("series")?;
+    let series = words.number("a series")?;
+    words.literal("at")?;
+    let price = words.number("a price")?;
+    Ok(Message::Order {
+        id,
+        leg: Leg { series, side },
+        price,
+        quantity,
+    })
+}
+
+fn parse_complex(words: &mut Words) -> Result<Message, LineError> {
+    let id = words.number("an id")?;
+    let legs = [words.leg()?, words.leg()?];
+    words.literal("class")?;
+    let class = words.number("a class")?;
+    words.literal("net")?;
+    let limit = words.number("a net limit")?;
+    words.literal("quantity")?;
+    let quantity = words.number("a quantity")?;
+    Ok(Message::Complex {
+        id,
+        legs,
+        class,
+        limit,
+        quantity,
+    })
+}
+
+fn parse_away(words: &mut Words) -> Result<Message, LineError> {
+    let series = words.number("a series")?;
+    words.literal("bid")?;
+    let bid = words.number("a bid")?;
+    words.literal("offer")?;
+    let offer = words.number("an offer")?;
+    Ok(Message::Away { series, bid, offer })
+}
+
+/// The words of one line, read from left to right.
+struct Words<'a> {
+    words: std::str::SplitWhitespace<'a>,
+    line: usize,
+}
+
+/// Number fields, with the range that their width allows.
+trait Width: FromStr {
+    const RANGE: &'static str;
+}
+
+impl Width for u8 {
+    const RANGE: &'static str = "0 to 255";
+}
+
+impl Width for u32 {
+    const RANGE: &'static str = "0 to 4294967295";
+}
+
+impl Width for i32 {
+    const RANGE: &'static str = "-2147483648 to 2147483647";
+}
+
+impl<'a> Words<'a> {
+    fn next(&mut self) -> Option<&'a str> {
+        self.words.next()
+    }
+
+    fn error(&self, expected: &str, found: Option<&str>) -> LineError {
+        LineError {
+            line: self.line,
+            expected: expected.to_string(),
+            found: match found {
+                Some(word) => format!("{word:?}"),
+                None => "the end of the line".to_string(),
+            },
+        }
+    }
+
+    fn literal(&mut self, word: &str) -> Result<(), LineError> {
+        match self.next() {
+            Some(found) if found == word => Ok(()),
+            found => Err(self.error(&format!("{word:?}"), found)),
+        }
+    }
+
+    fn number<T: Width>(&mut self, name: &str) -> Result<T, LineError> {
+        let found = self.next();
+        let digits = found.filter(|word| !word.starts_with('+'));
+        match digits.and_then(|word| word.parse().ok()) {
+            Some(value) => Ok(value),
+            None => Err(self.error(&format!("{name}, a number from {}", T::RANGE), found)),
+        }
+    }
+
+    fn side(&mut self) -> Result<u8, LineError> {
+        let found = self.next();
+        match found {
+            Some("buy") => return Ok(0),
+            Some("sell") => return Ok(1),
+            _ => {}
+        }
+        numbered(found, "side=")
+            .ok_or_else(|| self.error("a side (buy, sell or side=0 to side=255)", found))
+    }
+
+    fn status(&mut self) -> Result<u8, LineError> {
+        let found = self.next();
+        match found {
+            Some("closed") => return Ok(0),
+            Some("open") => return Ok(1),
+            Some("auction") => return Ok(2),
+            _ => {}
+        }
+        let expected = "a status (open, closed, auction or status=0 to status=255)";
+        numbered(found, "status=").ok_or_else(|| self.error(expected, found))
+    }
+
+    fn leg(&mut self) -> Result<Leg, LineError> {
+        let side = self.side()?;
+        let series = self.number("a series")?;
+        Ok(Leg { series, side })
+    }
+
+    fn status_of_series(&mut self, status: u8) -> Result<Message, LineError> {
+        let series = self.number("a series")?;
+        Ok(Message::Status { series, status })
+    }
+
+    fn bytes(&mut self) -> Result<Vec<u8>, LineError> {
+        const EXPECTED: &str = "bytes of two hexadecimal digits";
+        let mut bytes = Vec::new();
+        while let Some(word) = self.next() {
+            let hex = word.len() == 2 && word.bytes().all(|digit| digit.is_ascii_hexdigit());
+            let value = u8::from_str_radix(word, 16).ok().filter(|_| hex);
+            bytes.push(value.ok_or_else(|| self.error(EXPECTED, Some(word)))?);
+        }
+        if bytes.is_empty() {
+            return Err(self.error(EXPECTED, None));
+        }
+        Ok(bytes)
+    }
+
+    fn end(&mut self) -> Result<(), LineError> {
+        match self.next() {
+            None => Ok(()),
+            found => Err(self.error("the end of the line", found)),
+        }
+    }
+}
+
+fn numbered(word: Option<&str>, prefix: &str) -> Option<u8> {
+    let digits = word?.strip_prefix(prefix)?;
+    digits.parse().ok().filter(|_| !digits.starts_with('+'))
+}
+
+struct Side(u8);
+
+impl Display for Side {
+    fn fmt(&self, f: &mut fmt::Formatter) -> fmt::Result {
+        match self.0 {
+            0 => write!(f, "buy"),
+            1 => write!(f, "sell"),
+            other => write!(f, "side={other}"),
+        }
+    }
+}
+
+struct Status(u8);
+
+impl Display for Status {
+    fn fmt(&self, f: &mut fmt::Formatter) -> fmt::Result {
+        match self.0 {
+            0 => write!(f, "closed"),
+            1 => write!(f, "open"),
+            2 => write!(f, "auction"),
+            other => write!(f, "status={other}"),
+        }
+    }
+}
+
+impl Display for Message {
+    fn fmt(&self, f: &mut fmt::Formatter) -> fmt::Result {
+        match self {
+            Message::Order {
+                id,
+                leg,
+                price,
+                quantity,
+            } => {
+                let (side, series) = (Side(leg.side), leg.series);
+                write!(f, "order {id} {side} {quantity} series {series} at {price}")
+            }
+            Message::Complex {
+                id,
+                legs: [first, second],
+                class,
+                limit,
+                quantity,
+            } => {
+                let (side1, series1) = (Side(first.side), first.series);
+                let (side2, series2) = (Side(second.side), second.series);
+                write!(f, "complex {id} {side1} {series1} {side2} {series2} ")?;
+                write!(f, "class {class} net {limit} quantity {quantity}")
+            }
+            Message::Cancel { id } => write!(f, "cancel {id}"),
+            Message::Away { series, bid, offer } => {
+                write!(f, "away {series} bid {bid} offer {offer}")
+            }
+            Message::Status { series, status } => {
+                write!(f, "status {series} {}", Status(*status))
+            }
+            Message::Sweep => write!(f, "sweep"),
+            Message::Raw(bytes) => {
+                write!(f, "raw")?;
+                bytes.iter().try_for_each(|byte| write!(f, " {byte:02x}"))
+            }
+        }
+    }
+}
+
+#[cfg(test)]
+mod tests {
+    use super::*;
+
+    #[test]
+    fn every_kind_of_line_reads_back_as_written() {
+        let text = "order 4 sell 5 series 0 at 115\n\
+            order 0 side=7 4294967295 series 255 at 0\n\
+            complex 3 buy 0 sell 1 class 1 net -205 quantity 8\n\
+            complex 3 side=2 9 buy 1 class 255 net -2147483648 quantity 0\n\
+            cancel 3\naway 0 bid 0 offer 60\nstatus 0 open\nstatus 1 closed\n\
+            status 2 auction\nstatus 9 status=3\nsweep\nraw 09 00 06\n";
+        let bytes = encode_session(text).unwrap();
+        assert_eq!(decode_session(&bytes), text);
+    }
+
+    #[test]
+    fn short_status_forms_comments_and_blank_lines_are_taken() {
+        let text = "# a session\n\nopen 0 # first\nclose 1\n  auction 2\n";
+        let plain = "status 0 open\nstatus 1 closed\nstatus 2 auction\n";
+        assert_eq!(encode_session(text), encode_session(plain));
+    }
+
+    #[test]
+    fn errors_name_the_line_and_what_was_expected() {
+        let cases = [
+            ("sweep\nordr 1", "line 2: expected a message (order, complex, cancel, away, status, open, close, auction, sweep or raw), found \"ordr\""),
+            ("order 4 bye 5 series 0 at 115", "line 1: expected a side (buy, sell or side=0 to side=255), found \"bye\""),
+            ("order 4 buy 5 series 0 at", "line 1: expected a price, a number from 0 to 4294967295, found the end of the line"),
+            ("order 4 buy 5 serie 0 at 5", "line 1: expected \"series\", found \"serie\""),
+            ("cancel 4294967296", "line 1: expected an id, a number from 0 to 4294967295, found \"4294967296\""),
+            ("\n\ncancel +4", "line 3: expected an id, a number from 0 to 4294967295, found \"+4\""),
+            ("open 256", "line 1: expected a series, a number from 0 to 255, found \"256\""),
+            ("sweep now", "line 1: expected the end of the line, found \"now\""),
+            ("raw", "line 1: expected bytes of two hexadecimal digits, found the end of the line"),
+            ("raw 9", "line 1: expected bytes of two hexadecimal digits, found \"9\""),
+            ("raw +9", "line 1: expected bytes of two hexadecimal digits, found \"+9\""),
+            ("status 1 shut", "line 1: expected a status (open, closed, auction or status=0 to status=255), found \"shut\""),
+        ];
+        for (text, expected) in cases {
+            let error = encode_session(text).unwrap_err();
+            assert_eq!(error.to_string(), expected);
+        }
+    }
+}

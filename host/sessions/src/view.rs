@@ -1,0 +1,344 @@
+//! The rules of prices, standing and generation, worked out from a venue as a
+//! caller sees it. Nothing here is shared with the reference but its types.
+
+use crate::message::Leg;
+use reference::{Complex, Legging, Listed, Regular, Venue};
+use std::fmt::{self, Display};
+
+#[derive(Clone, Copy, Debug, PartialEq, Eq)]
+pub struct Level {
+    pub price: i64,
+    pub size: i64,
+}
+
+/// The best regular prices with what stands in the legging places.
+#[derive(Clone, Debug)]
+pub struct View {
+    best: [[Option<Level>; 2]; 8],
+    pub legging: [Legging; 16],
+    series: [Listed; 8],
+}
+
+pub fn place_of(leg: Leg) -> usize {
+    2 * usize::from(leg.series) + usize::from(leg.side)
+}
+
+pub fn leg_at(place: usize) -> Leg {
+    Leg {
+        series: (place / 2) as u8,
+        side: (place % 2) as u8,
+    }
+}
+
+pub fn legs_of(order: &Complex) -> [Leg; 2] {
+    [
+        Leg {
+            series: order.series1,
+            side: order.side1,
+        },
+        Leg {
+            series: order.series2,
+            side: order.side2,
+        },
+    ]
+}
+
+pub fn opposite(leg: Leg) -> Leg {
+    Leg {
+        series: leg.series,
+        side: 1 - leg.side,
+    }
+}
+
+pub fn sign(leg: Leg) -> i64 {
+    1 - 2 * i64::from(leg.side)
+}
+
+pub fn increment(series: u8) -> i64 {
+    match series {
+        0..=5 => 5,
+        _ => 10,
+    }
+}
+
+/// Strictly better to rest at on this side.
+pub fn beats(leg: Leg, a: i64, b: i64) -> bool {
+    sign(leg) * a > sign(leg) * b
+}
+
+/// Down to the increment for a buy, up to it for a sell.
+pub fn displayed(leg: Leg, price: i64) -> i64 {
+    let step = increment(leg.series);
+    let up = if leg.side == 1 { step - 1 } else { 0 };
+    (price + up).div_euclid(step) * step
+}
+
+pub fn held_regular(venue: &Venue) -> impl Iterator<Item = &Regular> {
+    venue.regular.iter().take_while(|order| order.quantity > 0)
+}
+
+pub fn held_complex(venue: &Venue) -> impl Iterator<Item = &Complex> {
+    venue.complex.iter().take_while(|order| order.quantity > 0)
+}
+
+pub fn find_complex(venue: &Venue, id: u32) -> Option<&Complex> {
+    held_complex(venue).find(|order| order.id == id)
+}
+
+impl View {
+    pub fn of(venue: &Venue) -> View {
+        let mut view = View {
+            best: [[None; 2]; 8],
+            legging: venue.legging,
+            series: venue.series,
+        };
+        for order in held_regular(venue) {
+            view.count(order);
+        }
+        view
+    }
+
+    fn count(&mut self, order: &Regular) {
+        let leg = Leg {
+            series: order.series,
+            side: order.side,
+        };
+        let (price, size) = (i64::from(order.price), i64::from(order.quantity));
+        let best = &mut self.best[usize::from(leg.series)][usize::from(leg.side)];
+        match best {
+            Some(level) if level.price == price => level.size += size,
+            Some(level) if beats(leg, level.price, price) => {}
+            _ => *best = Some(Level { price, size }),
+        }
+    }
+
+    pub fn best(&self, leg: Leg) -> Option<Level> {
+        self.best[usize::from(leg.series)][usize::from(leg.side)]
+    }
+
+    pub fn standing(&self, leg: Leg) -> Option<Legging> {
+        let order = self.legging[place_of(leg)];
+        (order.quantity > 0).then_some(order)
+    }
+
+    /// The best own price of a side, legging orders included.
+    pub fn best_own(&self, leg: Leg) -> Option<i64> {
+        let regular = self.best(leg).map(|level| level.price);
+        let legging = self.standing(leg).map(|order| i64::from(order.price));
+        better_of(leg, regular, legging)
+    }
+
+    pub fn clear(&self, leg: Leg) -> Option<Level> {
+        let level = self.best(leg)?;
+        let hidden = self
+            .standing(leg)
+            .is_some_and(|order| beats(leg, i64::from(order.price), level.price));
+        (!hidden).then_some(level)
+    }
+
+    pub fn away(&self, leg: Leg) -> Option<i64> {
+        let listed = self.series[usize::from(leg.series)];
+        let price = [listed.bid, listed.offer][usize::from(leg.side)];
+        (price != 0).then_some(i64::from(price))
+    }
+
+    pub fn market_best(&self, leg: Leg) -> Option<i64> {
+        better_of(leg, self.best(leg).map(|level| level.price), self.away(leg))
+    }
+
+    /// O: the net of the market bests that the legs would take.
+    pub fn market_net(&self, legs: [Leg; 2]) -> Option<i64> {
+        let taken = |leg| Some(sign(leg) * self.market_best(opposite(leg))?);
+        Some(taken(legs[0])? + taken(legs[1])?)
+    }
+
+    pub fn in_band(&self, net: i64, legs: [Leg; 2]) -> bool {
+        self.market_net(legs)
+            .is_some_and(|market| 100 * net <= 100 * market + 5 * market.abs())
+    }
+
+    pub fn is_open(&self, leg: Leg) -> bool {
+        self.series[usize::from(leg.series)].status == 1
+    }
+
+    fn worse_than_book(&self, leg: Leg, shown: i64) -> bool {
+        self.best(leg)
+            .is_some_and(|level| beats(leg, level.price, shown))
+    }
+
+    /// The causes for which the order at a place fails its test, lowest first.
+    pub fn failing_causes(&self, leg: Leg, parent: &Complex) -> Vec<u8> {
+        let Some(order) = self.standing(leg) else {
+            return Vec::new();
+        };
+        let legs = legs_of(parent);
+        let other = if legs[0] == leg { legs[1] } else { legs[0] };
+        let price = i64::from(order.price);
+        let other_leg_holds = self.clear(opposite(other)).is_some_and(|clear| {
+            let net = sign(leg) * price + sign(other) * clear.price;
+            net <= i64::from(parent.limit) && clear.size >= i64::from(order.quantity)
+        });
+        let conditions = [
+            (1, !self.worse_than_book(leg, displayed(leg, price))),
+            (2, other_leg_holds),
+            (5, self.in_band(i64::from(parent.limit), legs)),
+            (6, self.is_open(leg) && self.is_open(other)),
+        ];
+        let failing = conditions.iter().filter(|(_, holds)| !holds);
+        failing.map(|(cause, _)| *cause).collect()
+    }
+}
+
+fn better_of(leg: Leg, a: Option<i64>, b: Option<i64>) -> Option<i64> {
+    match (a, b) {
+        (Some(a), Some(b)) => Some(if beats(leg, b, a) { b } else { a }),
+        (a, b) => a.or(b),
+    }
+}
+
+/// The condition of generation that failed first.
+#[derive(Clone, Debug, PartialEq, Eq)]
+pub enum Declined {
+    NotOpen { series: u8 },
+    OutOfBand { limit: i64, market: Option<i64> },
+    NoClearPrice { series: u8, side: u8 },
+    DisplayedOutOfRange { displayed: i64 },
+    WorseThanBook { displayed: i64, best: i64 },
+    ReachesOwn { price: i64, own: i64 },
+    ReachesAway { price: i64, away: i64 },
+    PlaceHeld { price: i64, holder: u32, held: i64 },
+    OtherWouldFail { price: i64, parent: u32 },
+}
+
+impl Display for Declined {
+    fn fmt(&self, f: &mut fmt::Formatter) -> fmt::Result {
+        match self {
+            Declined::NotOpen { series } => write!(f, "series {series} is not open"),
+            Declined::OutOfBand {
+                limit,
+                market: Some(market),
+            } => write!(f, "limit {limit} is not in band of market net {market}"),
+            Declined::OutOfBand { market: None, .. } => {
+                write!(f, "a market best that the legs would take is missing")
+            }
+            Declined::NoClearPrice { series, side } => {
+                let side = ["buy", "sell"][usize::from(*side)];
+                write!(f, "the {side} side of series {series} has no clear price")
+            }
+            Declined::DisplayedOutOfRange { displayed } => write!(
+                f,
+                "displayed price {displayed} is not from the increment to 100000"
+            ),
+            Declined::WorseThanBook { displayed, best } => write!(
+                f,
+                "displayed price {displayed} is worse than the best regular price {best} of its side"
+            ),
+            Declined::ReachesOwn { price, own } => {
+                write!(f, "price {price} reaches the own price {own} opposite")
+            }
+            Declined::ReachesAway { price, away } => {
+                write!(f, "price {price} reaches the away price {away} opposite")
+            }
+            Declined::PlaceHeld {
+                price,
+                holder,
+                held,
+            } => write!(f, "the place is held by order {holder} at {held}, not to be replaced at {price}"),
+            Declined::OtherWouldFail { price, parent } => write!(
+                f,
+                "at {price} it would make the legging order of {parent} fail its test"
+            ),
+        }
+    }
+}
+
+impl View {
+    /// The legging order that generation makes for a leg, or the first
+    /// condition that fails, in the document's order.
+    pub fn generation(
+        &self,
+        venue: &Venue,
+        order: &Complex,
+        which: usize,
+    ) -> Result<Legging, Declined> {
+        let legs = legs_of(order);
+        let (leg, other) = (legs[which], legs[1 - which]);
+        let limit = i64::from(order.limit);
+        if let Some(leg) = legs.iter().find(|leg| !self.is_open(**leg)) {
+            return Err(Declined::NotOpen { series: leg.series });
+        }
+        if !self.in_band(limit, legs) {
+            let market = self.market_net(legs);
+            return Err(Declined::OutOfBand { limit, market });
+        }
+        let taken = opposite(other);
+        let Some(clear) = self.clear(taken) else {
+            return Err(Declined::NoClearPrice {
+                series: taken.series,
+                side: taken.side,
+            });
+        };
+        let price = sign(leg) * (limit - sign(other) * clear.price);
+        self.price_allowed(leg, price)?;
+        let made = Legging {
+            parent: order.id,
+            price: price as u32,
+            quantity: order.quantity.min(clear.size as u32),
+        };
+        self.place_allowed(venue, leg, order.class, made)?;
+        Ok(made)
+    }
+
+    fn price_allowed(&self, leg: Leg, price: i64) -> Result<(), Declined> {
+        let displayed = displayed(leg, price);
+        if displayed < increment(leg.series) || displayed > 100_000 {
+            return Err(Declined::DisplayedOutOfRange { displayed });
+        }
+        if let Some(best) = self.best(leg).map(|level| level.price) {
+            if beats(leg, best, displayed) {
+                return Err(Declined::WorseThanBook { displayed, best });
+            }
+        }
+        let reached = |opposite: &i64| sign(leg) * price >= sign(leg) * opposite;
+        if let Some(own) = self.best_own(opposite(leg)).filter(reached) {
+            return Err(Declined::ReachesOwn { price, own });
+        }
+        if let Some(away) = self.away(opposite(leg)).filter(reached) {
+            return Err(Declined::ReachesAway { price, away });
+        }
+        Ok(())
+    }
+
+    fn place_allowed(
+        &self,
+        venue: &Venue,
+        leg: Leg,
+        class: u8,
+        made: Legging,
+    ) -> Result<(), Declined> {
+        let price = i64::from(made.price);
+        if let Some(holder) = self.standing(leg) {
+            let held = i64::from(holder.price);
+            let holder_class = find_complex(venue, holder.parent).map(|parent| parent.class);
+            let by_class = held == price && class == 0 && holder_class == Some(1);
+            if !beats(leg, price, held) && !by_class {
+                return Err(Declined::PlaceHeld {
+                    price,
+                    holder: holder.parent,
+                    held,
+                });
+            }
+        }
+        let mut then = self.clone();
+        then.legging[place_of(leg)] = made;
+        for place in (0..16).filter(|place| *place != place_of(leg)) {
+            let parent = then.legging[place].parent;
+            let fails = find_complex(venue, parent)
+                .is_some_and(|order| !then.failing_causes(leg_at(place), order).is_empty());
+            if fails {
+                return Err(Declined::OtherWouldFail { price, parent });
+            }
+        }
+        Ok(())
+    }
+}

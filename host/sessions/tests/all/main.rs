@@ -1,0 +1,10 @@
+//! The tests of the reference, in one program so that they build quickly.
+
+mod common;
+mod random_sessions;
+mod refusals;
+mod report_memory;
+mod rules;
+mod short_sessions;
+mod soundness;
+mod trials;

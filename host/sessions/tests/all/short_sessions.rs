@@ -1,0 +1,130 @@
+//! Every short session from a small list, with every check after every
+//! message, and the run of each whole session against its calls.
+
+use crate::common::{bytes, venue_after};
+use reference::{is_sound, one_message, run, Venue};
+use sessions::check::{Checker, Step};
+use sessions::lent::Lent;
+use sessions::message::{split, Message};
+use sessions::record::{read_report_into, Record};
+
+struct Search<'a> {
+    choices: &'a [Vec<u8>],
+    depth: usize,
+    lent: Lent,
+    list: Vec<u8>,
+    report: Vec<u8>,
+    sessions: u64,
+    runs: u64,
+}
+
+impl Search<'_> {
+    /// All sessions that go on from here.
+    fn go_on(&mut self, checker: &Checker, venue: &Venue, length: usize) {
+        self.sessions += 1;
+        if length == self.depth {
+            self.compare_run(venue);
+            return;
+        }
+        for choice in self.choices {
+            let (list, report) = (self.list.len(), self.report.len());
+            self.take(checker, venue, choice, length);
+            self.list.truncate(list);
+            self.report.truncate(report);
+        }
+    }
+
+    fn take(&mut self, checker: &Checker, venue: &Venue, choice: &[u8], length: usize) {
+        let returned = one_message(venue, checker.done, choice, self.lent.lend(2048));
+        let written = self.lent.written(returned.written).unwrap();
+        let mut records: Vec<Record> = Vec::new();
+        read_report_into(written, &mut records).unwrap();
+        let step = Step {
+            message: &Message::decode(choice),
+            bytes: choice,
+            before: venue,
+            returned: &returned,
+            records: &records,
+        };
+        let mut checker = checker.clone();
+        self.list.extend_from_slice(choice);
+        self.report.extend_from_slice(written);
+        let checked = checker.check(&step).map(|_| ());
+        assert_eq!(checked, Ok(()), "list {:02x?}", self.list);
+        assert!(is_sound(&returned.venue), "list {:02x?}", self.list);
+        self.go_on(&checker, &returned.venue, length + 1);
+    }
+
+    fn compare_run(&mut self, venue: &Venue) {
+        let returned = run(&self.list, self.lent.lend(self.report.len()));
+        assert_eq!(returned.number, 0, "list {:02x?}", self.list);
+        assert_eq!(returned.venue, *venue, "list {:02x?}", self.list);
+        assert_eq!(self.lent.written(self.report.len()).unwrap(), self.report);
+        self.runs += 1;
+    }
+}
+
+/// Sessions of up to `depth` messages after a first part; how many there are.
+fn search(first: &str, choices: &str, depth: usize) -> u64 {
+    let list = bytes(first);
+    let choices = bytes(choices);
+    let choices: Vec<Vec<u8>> = split(&choices).into_iter().map(<[u8]>::to_vec).collect();
+    let mut checker = Checker::default();
+    let mut search = Search {
+        choices: &choices,
+        depth,
+        lent: Lent::new(),
+        list: Vec::new(),
+        report: Vec::new(),
+        sessions: 0,
+        runs: 0,
+    };
+    let mut venue = Venue::fresh();
+    for piece in split(&list) {
+        let returned = one_message(&venue, checker.done, piece, search.lent.lend(2048));
+        let written = search.lent.written(returned.written).unwrap();
+        let mut records = Vec::new();
+        read_report_into(written, &mut records).unwrap();
+        let step = Step {
+            message: &Message::decode(piece),
+            bytes: piece,
+            before: &venue,
+            returned: &returned,
+            records: &records,
+        };
+        checker.check(&step).map(|_| ()).unwrap();
+        search.list.extend_from_slice(piece);
+        search.report.extend_from_slice(written);
+        venue = returned.venue;
+    }
+    assert_eq!(venue, venue_after(first));
+    search.go_on(&checker, &venue, 0);
+    assert_eq!(search.runs, (choices.len() as u64).pow(depth as u32));
+    search.sessions
+}
+
+/// How many sessions of 0 to `depth` messages there are from `count` messages.
+fn sessions_of(count: u64, depth: u32) -> u64 {
+    (0..=depth).map(|length| count.pow(length)).sum()
+}
+
+#[test]
+fn every_session_of_up_to_6_messages_from_8_upon_a_fresh_venue() {
+    let choices = "open 0\nopen 1\norder 1 sell 15 series 0 at 130\n\
+        order 2 sell 12 series 1 at 90\ncomplex 3 buy 0 buy 1 class 1 net 205 quantity 8\n\
+        order 4 sell 5 series 0 at 115\ncancel 3\nsweep\n";
+    assert_eq!(search("", choices, 6), sessions_of(8, 6));
+}
+
+#[test]
+fn every_session_of_up_to_5_messages_from_12_upon_quoted_series() {
+    let first = "open 0\nopen 1\naway 0 bid 100 offer 0\naway 1 bid 80 offer 0\n\
+        order 1 sell 15 series 0 at 130\norder 2 sell 12 series 1 at 90\n";
+    let choices = "complex 3 buy 0 buy 1 class 1 net 205 quantity 8\n\
+        complex 4 sell 1 sell 0 class 0 net -204 quantity 5\n\
+        complex 5 buy 0 buy 1 class 0 net 205 quantity 20\norder 6 sell 5 series 0 at 115\n\
+        order 7 sell 9 series 1 at 85\norder 8 buy 2 series 0 at 110\n\
+        order 9 buy 12 series 1 at 90\nsweep\ncancel 2\ncancel 3\nauction 1\n\
+        away 0 bid 100 offer 110\n";
+    assert_eq!(search(first, choices, 5), sessions_of(12, 5));
+}

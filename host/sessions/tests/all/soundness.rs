@@ -1,0 +1,183 @@
+//! Each kind of unsoundness is found, by the reference and by the check
+//! written apart from it; and what is sound stays sound.
+
+use crate::common::{one, venue_after, with_legging};
+use reference::{is_sound, Venue};
+use sessions::sound::fault;
+
+/// Regular orders in series 0 to 2, a complex order with two legging orders,
+/// and a second complex order without any.
+fn opened() -> Venue {
+    venue_after(&with_legging(
+        "open 2\nopen 3\ncomplex 4 buy 2 buy 3 class 0 net 9 quantity 5\n\
+         order 6 buy 4 series 2 at 50\n",
+    ))
+}
+
+#[test]
+fn venues_of_sessions_are_sound() {
+    for venue in [Venue::fresh(), venue_after(&with_legging("")), opened()] {
+        assert!(is_sound(&venue));
+        assert_eq!(fault(&venue), None);
+    }
+}
+
+type Change = (&'static str, fn(&mut Venue));
+
+const REGULAR: &[Change] = &[
+    ("id 0 in a held place", |v| v.regular[0].id = 0),
+    ("id above the last", |v| v.regular[2].id = 7),
+    ("ids fall", |v| v.regular.swap(0, 1)),
+    ("one id twice", |v| v.regular[1].id = 1),
+    ("series 8", |v| v.regular[2].series = 8),
+    ("side 2", |v| v.regular[2].side = 2),
+    ("price 0", |v| v.regular[2].price = 0),
+    ("price above 100,000", |v| v.regular[0].price = 100_005),
+    ("price off the increment", |v| v.regular[2].price = 51),
+    ("price off the increment of 10", |v| {
+        v.regular[2].series = 6;
+        v.regular[2].price = 55;
+    }),
+    ("quantity 0", |v| v.regular[2].quantity = 0),
+    ("quantity above 10,000", |v| v.regular[2].quantity = 10_001),
+    ("a gap", |v| v.regular.swap(2, 3)),
+    ("a free place with an id", |v| v.regular[100].id = 5),
+    ("a free place with a series", |v| v.regular[127].series = 1),
+    ("a free place with a side", |v| v.regular[127].side = 1),
+    ("a free place with a price", |v| v.regular[5].price = 5),
+];
+
+const COMPLEX: &[Change] = &[
+    ("id 0 in a held place", |v| v.complex[0].id = 0),
+    ("id above the last", |v| v.complex[1].id = 7),
+    ("id of a regular order", |v| v.complex[1].id = 6),
+    ("ids fall", |v| v.complex.swap(0, 1)),
+    ("series 8", |v| v.complex[1].series1 = 8),
+    ("second series 8", |v| v.complex[1].series2 = 8),
+    ("side 2", |v| v.complex[1].side1 = 2),
+    ("second side 2", |v| v.complex[1].side2 = 2),
+    ("both legs in one series", |v| v.complex[1].series2 = 2),
+    ("class 2", |v| v.complex[1].class = 2),
+    ("limit above 200,000", |v| v.complex[1].limit = 200_001),
+    ("limit below -200,000", |v| v.complex[1].limit = -200_001),
+    ("limit at the end of its width", |v| {
+        v.complex[1].limit = i32::MIN
+    }),
+    ("quantity 0", |v| v.complex[1].quantity = 0),
+    ("quantity above 10,000", |v| v.complex[1].quantity = 10_001),
+    ("a gap", |v| v.complex.swap(1, 2)),
+    ("a free place with a limit", |v| v.complex[31].limit = 1),
+    ("a free place with a class", |v| v.complex[31].class = 1),
+];
+
+const SERIES: &[Change] = &[
+    ("status 3", |v| v.series[7].status = 3),
+    ("bid above 100,000", |v| v.series[7].bid = 100_001),
+    ("offer above 100,000", |v| v.series[7].offer = 100_001),
+    ("last id below a resting id", |v| v.last = 5),
+];
+
+const LEGGING: &[Change] = &[
+    ("parent that does not rest", |v| v.legging[0].parent = 5),
+    ("parent that is a regular order", |v| {
+        v.legging[0].parent = 1
+    }),
+    ("parent without that leg", |v| v.legging[0].parent = 4),
+    ("side of no leg of its parent", |v| v.legging.swap(0, 1)),
+    ("price 0", |v| v.legging[0].price = 0),
+    ("price above 100,000", |v| v.legging[0].price = 100_001),
+    ("quantity 0", |v| v.legging[0].quantity = 0),
+    ("free place with a parent", |v| v.legging[9].parent = 3),
+    ("free place with a price", |v| v.legging[9].price = 5),
+    ("larger than its parent", |v| v.legging[2].quantity = 9),
+    ("larger than its parent left", |v| v.complex[0].quantity = 7),
+    ("net above the limit", |v| v.legging[0].price = 116),
+    ("limit below the net", |v| v.complex[0].limit = 204),
+    ("size below the quantity", |v| v.regular[1].quantity = 7),
+    ("out of band", |v| v.series[0].offer = 60),
+    ("a series in auction", |v| v.series[1].status = 2),
+    ("a series closed", |v| v.series[0].status = 0),
+    ("worse than the book", |v| {
+        v.regular[2].series = 0;
+        v.regular[2].price = 120;
+    }),
+    ("locked with a regular order", |v| v.regular[0].price = 115),
+];
+
+fn expect_unsound(changes: &[Change]) {
+    for (name, change) in changes {
+        let mut venue = opened();
+        change(&mut venue);
+        assert!(!is_sound(&venue), "the reference takes {name}");
+        assert!(fault(&venue).is_some(), "the check takes {name}");
+        let (returned, lines) = one(&venue, &[4, 0, 6, 0]);
+        assert_eq!((returned.number, returned.done), (9, 0), "{name}");
+        assert_eq!((returned.venue, lines), (venue, String::new()), "{name}");
+    }
+}
+
+#[test]
+fn each_fault_of_a_regular_order_is_unsound() {
+    expect_unsound(REGULAR);
+}
+
+#[test]
+fn each_fault_of_a_complex_order_is_unsound() {
+    expect_unsound(COMPLEX);
+}
+
+#[test]
+fn each_fault_of_a_series_or_of_the_last_id_is_unsound() {
+    expect_unsound(SERIES);
+}
+
+#[test]
+fn each_fault_of_a_legging_order_is_unsound() {
+    expect_unsound(LEGGING);
+}
+
+#[test]
+fn locked_or_crossed_regular_orders_are_unsound() {
+    for price in [50, 45] {
+        let mut venue = opened();
+        venue.regular[0].series = 2;
+        venue.regular[0].price = price;
+        venue.legging = Default::default();
+        assert!(!is_sound(&venue));
+        assert_eq!(
+            fault(&venue),
+            Some("series 2 is locked or crossed".to_string())
+        );
+        venue.regular[0].price = 55;
+        assert!(is_sound(&venue));
+        assert_eq!(fault(&venue), None);
+    }
+}
+
+const SOUND: &[Change] = &[
+    ("a worse own price", |v| v.legging[0].price = 114),
+    ("own price 1, shown at 0", |v| v.legging[0].price = 1),
+    ("a smaller quantity", |v| v.legging[0].quantity = 1),
+    ("no legging orders", |v| v.legging = Default::default()),
+    ("a legging order that reaches an away price", |v| {
+        v.series[0].offer = 106
+    }),
+    ("crossed away prices off the increment", |v| {
+        v.series[5].bid = 77;
+        v.series[5].offer = 33;
+    }),
+    ("a higher last id", |v| v.last = u32::MAX),
+    ("resting orders in a closed series", |v| {
+        v.series[2].status = 0
+    }),
+];
+
+#[test]
+fn what_the_document_allows_is_sound() {
+    for (name, change) in SOUND {
+        let mut venue = opened();
+        change(&mut venue);
+        assert!(is_sound(&venue), "the reference refuses {name}");
+        assert_eq!(fault(&venue), None, "{name}");
+    }
+}

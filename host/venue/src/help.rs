@@ -1,0 +1,114 @@
+//! The help texts.
+
+pub const OVERVIEW: &str = "\
+venue: session tools for the legging order engine
+
+  venue sheet [--text] [FILE]           print the sheet of a run
+  venue encode [FILE]                   text to message bytes
+  venue decode [FILE]                   message bytes to text
+  venue print [FILE]                    report bytes to sheet lines
+  venue audit [--text] SESSION [SHEET]  sums of every complex order
+  venue explain [--text] [FILE]         what happened, message by message
+  venue generate --profile P --seed N --messages M [--text]
+                                        a random session
+  venue check [--seed N] [--messages M] [--profile P] [--sessions K] [--complete]
+                                        random sessions with every check
+  venue help [COMMAND]                  this text, or more of one command
+
+Where FILE is left out or is -, standard input is read. A session is message
+bytes; with --text it is text, one message a line. Output is written only when
+all of the input was good. The exit status is 0 for success, 1 for bad input or
+something that does not agree, 2 for a wrong command line.
+";
+
+pub const TEXT_FORM: &str = "\
+The text form, one message a line:
+
+  order ID SIDE QUANTITY series SERIES at PRICE
+  complex ID SIDE SERIES SIDE SERIES class CLASS net LIMIT quantity QUANTITY
+  cancel ID
+  away SERIES bid PRICE offer PRICE
+  status SERIES STATUS      also: open SERIES, close SERIES, auction SERIES
+  sweep
+  raw HEX HEX ...           any bytes, two hexadecimal digits each
+
+SIDE is buy, sell or side=NUMBER. STATUS is open, closed, auction or
+status=NUMBER. Any number that fits its field's width may be written, so that
+refused messages can be too. # begins a comment; blank lines are passed over.
+";
+
+const SHEET: &str = "\
+venue sheet [--text] [FILE]
+
+Runs the session's first 65,536 bytes from a fresh venue, with report memory that
+never fills, and prints a line for each record: its kind, then its fields in table
+order, blank between. Bytes are never taken for text: text needs --text.
+";
+
+const PRINT: &str = "\
+venue print [FILE]
+
+Prints report memory as sheet lines, up to the first zero length or its end.
+";
+
+const AUDIT: &str = "\
+venue audit [--text] SESSION [SHEET]
+
+SESSION is message bytes, or text with --text. SHEET is the lines of a sheet of
+it; left out, the reference's own sheet is taken. Prints every complex order:
+entered (from its message), paired, crossed, cancelled and contracts in each
+series (from the sheet), open (from the venue that the reference leaves after the
+messages that the sheet answers). Names each order whose sums do not agree;
+then the exit status is 1.
+";
+
+const EXPLAIN: &str = "\
+venue explain [--text] [FILE]
+
+Tells for each message what happened and, for each leg for which no legging order
+was made, the first condition of generation that failed. Every check is made
+meanwhile; a violation ends it with an error.
+";
+
+const GENERATE: &str = "\
+venue generate --profile P --seed N --messages M [--text]
+
+Writes a random session: bytes, or text with --text. Equal arguments give equal
+sessions. The profiles:
+
+  mixed few-series credit band-edges refusals full-books sweeps status-flips
+  classes hits cross-parties price-edges odd-bytes
+";
+
+const CHECK: &str = "\
+venue check [--seed N] [--messages M] [--profile P] [--sessions K] [--complete]
+
+Random sessions over all profiles, or one, with every check after every message,
+from seed N (default 0) on, until M messages (default 100000) or K sessions were
+done. Progress goes to standard error; the coverage is printed at the end. A
+violation is named with the profile and seed that repeat it:
+
+  venue check --profile P --seed N --sessions 1
+
+With --complete it is an error if some record, cause, refusal or rare case was
+not shown.
+";
+
+/// The help of one command.
+pub fn of(command: &str) -> Option<String> {
+    let text = match command {
+        "sheet" => SHEET.to_string(),
+        "encode" => format!("venue encode [FILE]\n\nWrites message bytes.\n\n{TEXT_FORM}"),
+        "decode" => format!(
+            "venue decode [FILE]\n\nWrites one message a line; bytes that are no message of \
+             kinds 1 to 6\nat its length become raw.\n\n{TEXT_FORM}"
+        ),
+        "print" => PRINT.to_string(),
+        "audit" => AUDIT.to_string(),
+        "explain" => EXPLAIN.to_string(),
+        "generate" => GENERATE.to_string(),
+        "check" => CHECK.to_string(),
+        _ => return None,
+    };
+    Some(text)
+}

@@ -1,0 +1,401 @@
+//! The venue program as a user meets it: output, errors and exit status.
+
+use std::io::Write;
+use std::process::{Command, Output, Stdio};
+
+const PRINTED_TEXT: &str = include_str!("sessions/printed.txt");
+
+const PRINTED_SHEET: &str = "64 1 0 0 0\n64 2 0 0 0\n64 3 0 0 0\n64 4 0 0 0\n64 5 0 5 2\n\
+    67 3 0 0 115 115 8\n67 3 1 0 75 75 8\n64 6 0 0 0\n65 0 1 115 5 4 3\n65 1 0 90 5 3 2\n\
+    66 3 205 5\n68 3 0 0 3\n68 3 1 0 3\n";
+
+fn venue(arguments: &[&str], input: &[u8]) -> Output {
+    let mut child = Command::new(env!("CARGO_BIN_EXE_venue"))
+        .args(arguments)
+        .stdin(Stdio::piped())
+        .stdout(Stdio::piped())
+        .stderr(Stdio::piped())
+        .spawn()
+        .unwrap();
+    // A command that refuses its arguments does not read its input.
+    let _ = child.stdin.take().unwrap().write_all(input);
+    child.wait_with_output().unwrap()
+}
+
+/// The output of a command that succeeds.
+fn good(arguments: &[&str], input: &[u8]) -> Vec<u8> {
+    let output = venue(arguments, input);
+    let errors = String::from_utf8_lossy(&output.stderr);
+    assert_eq!(output.status.code(), Some(0), "{arguments:?}: {errors}");
+    output.stdout
+}
+
+/// The error text of a command that fails and writes nothing.
+fn bad(arguments: &[&str], input: &[u8], status: i32) -> String {
+    let output = venue(arguments, input);
+    assert_eq!(output.status.code(), Some(status), "{arguments:?}");
+    assert!(output.stdout.is_empty(), "{arguments:?} wrote output");
+    String::from_utf8(output.stderr).unwrap()
+}
+
+/// A file that is gone when the test ends.
+struct Kept(std::path::PathBuf);
+
+impl Kept {
+    fn new(name: &str, contents: &[u8]) -> Self {
+        let file = format!("venue-{}-{name}", std::process::id());
+        let path = std::env::temp_dir().join(file);
+        std::fs::write(&path, contents).unwrap();
+        Kept(path)
+    }
+
+    fn path(&self) -> &str {
+        self.0.to_str().unwrap()
+    }
+}
+
+impl Drop for Kept {
+    fn drop(&mut self) {
+        let _ = std::fs::remove_file(&self.0);
+    }
+}
+
+#[test]
+fn printed_session_comes_out_to_the_letter_from_text_and_from_bytes() {
+    let from_text = good(&["sheet", "--text"], PRINTED_TEXT.as_bytes());
+    assert_eq!(String::from_utf8(from_text).unwrap(), PRINTED_SHEET);
+    let bytes = good(&["encode"], PRINTED_TEXT.as_bytes());
+    let from_bytes = good(&["sheet"], &bytes);
+    assert_eq!(String::from_utf8(from_bytes).unwrap(), PRINTED_SHEET);
+}
+
+#[test]
+fn decode_gives_text_that_encodes_to_the_same_bytes() {
+    let bytes = good(&["encode"], PRINTED_TEXT.as_bytes());
+    let text = good(&["decode"], &bytes);
+    assert!(text.starts_with(b"status 0 open\nstatus 1 open\norder 1 sell 15 series 0 at 130\n"));
+    assert_eq!(good(&["encode"], &text), bytes);
+}
+
+#[test]
+fn bad_text_is_told_with_its_line_and_nothing_is_written() {
+    for command in [
+        &["encode"][..],
+        &["sheet", "--text"],
+        &["explain", "--text"],
+        &["audit", "--text", "-"],
+    ] {
+        let errors = bad(command, b"open 0\norder 1 sell x series 0 at 130\n", 1);
+        let expected = "line 2: expected a quantity, a number from 0 to 4294967295, found \"x\"";
+        assert!(errors.contains(expected), "{errors}");
+    }
+}
+
+#[test]
+fn bytes_that_are_no_text_are_told_with_their_line() {
+    let errors = bad(&["encode"], b"open 0\nopen 1\n\xff\xfe\n", 1);
+    assert_eq!(
+        errors,
+        "venue encode: line 3: expected text, found other bytes\n"
+    );
+}
+
+#[test]
+fn wrong_command_lines_are_told_with_status_2() {
+    let cases: [(&[&str], &str); 9] = [
+        (&[], "expected a command"),
+        (&["shet"], "command \"shet\" is not known"),
+        (&["sheet", "--txt"], "option --txt is not known here"),
+        (
+            &["sheet", "--text", "--text"],
+            "option --text was given twice",
+        ),
+        (&["sheet", "a", "b"], "argument \"b\" is one too many"),
+        (
+            &[
+                "generate",
+                "--profile",
+                "mix",
+                "--seed",
+                "1",
+                "--messages",
+                "1",
+            ],
+            "expected a profile (mixed,",
+        ),
+        (
+            &["generate", "--profile", "mixed", "--messages", "1"],
+            "expected --seed NUMBER",
+        ),
+        (
+            &["check", "--seed", "one"],
+            "expected a number after --seed, found \"one\"",
+        ),
+        (&["check", "--seed"], "expected a value after --seed"),
+    ];
+    for (arguments, expected) in cases {
+        let errors = bad(arguments, b"", 2);
+        assert!(errors.contains(expected), "{arguments:?}: {errors}");
+    }
+}
+
+#[test]
+fn missing_file_is_told_by_name() {
+    let errors = bad(&["sheet", "no-such-file"], b"", 1);
+    assert!(
+        errors.starts_with("venue sheet: no-such-file: "),
+        "{errors}"
+    );
+}
+
+#[test]
+fn help_names_every_command() {
+    let text = String::from_utf8(good(&["help"], b"")).unwrap();
+    for command in [
+        "sheet", "encode", "decode", "print", "audit", "explain", "generate", "check",
+    ] {
+        assert!(text.contains(&format!("venue {command}")), "{command}");
+        let more = String::from_utf8(good(&["help", command], b"")).unwrap();
+        assert!(more.starts_with(&format!("venue {command}")), "{command}");
+        assert_eq!(good(&[command, "--help"], b""), more.into_bytes());
+    }
+}
+
+#[test]
+fn sheet_runs_the_first_65536_bytes_and_no_more() {
+    let sweeps = [4, 0, 6, 0].repeat(16_384 + 5);
+    let output = venue(&["sheet"], &sweeps);
+    let lines = String::from_utf8(output.stdout).unwrap();
+    assert_eq!(lines.lines().count(), 16_384);
+    assert!(lines.ends_with("64 16384 0 0 0\n"));
+    let mut cut = vec![6, 0, 5, 0, 0, 1];
+    cut.extend([4, 0, 6, 0].repeat(16_384));
+    let lines = String::from_utf8(venue(&["sheet"], &cut).stdout).unwrap();
+    assert!(lines.ends_with("64 16383 0 0 0\n64 16384 1 0 0\n"));
+}
+
+#[test]
+fn print_reads_report_bytes_up_to_the_first_zero_length() {
+    let mut report = vec![12, 0, 64, 0, 1, 0, 0, 0, 0, 5, 0, 2];
+    report.extend([16, 0, 66, 0, 3, 0, 0, 0, 255, 255, 255, 255, 5, 0, 0, 0]);
+    let lines = b"64 1 0 5 2\n66 3 -1 5\n";
+    assert_eq!(good(&["print"], &report), lines);
+    report.extend([0, 0, 9, 9, 9]);
+    assert_eq!(good(&["print"], &report), lines);
+}
+
+#[test]
+fn print_tells_where_report_bytes_are_no_record() {
+    let cases: [(&[u8], &str); 3] = [
+        (
+            &[12, 0, 64, 0, 1],
+            "byte 0: expected 12 bytes of record 64, found 5",
+        ),
+        (
+            &[4, 0, 69, 0],
+            "byte 0: expected a record kind 64 to 68, 70 or 71, found 69",
+        ),
+        (
+            &[12, 0],
+            "byte 0: expected a record's length and kind, found 2 bytes",
+        ),
+    ];
+    for (report, expected) in cases {
+        let errors = bad(&["print"], report, 1);
+        assert!(errors.contains(expected), "{errors}");
+    }
+}
+
+#[test]
+fn audit_tells_the_sums_of_every_complex_order() {
+    let session = Kept::new("audit.txt", PRINTED_TEXT.as_bytes());
+    let sheet = Kept::new("audit.sheet", PRINTED_SHEET.as_bytes());
+    let given = good(&["audit", "--text", session.path(), sheet.path()], b"");
+    let own = good(&["audit", "--text", "-"], PRINTED_TEXT.as_bytes());
+    assert_eq!(given, own);
+    let table = String::from_utf8(given).unwrap();
+    let row: Vec<&str> = table.lines().nth(1).unwrap().split_whitespace().collect();
+    assert_eq!(
+        row,
+        ["3", "8", "5", "0", "0", "3", "0:", "5,", "1:", "5", "agree"]
+    );
+}
+
+#[test]
+fn audit_names_the_order_whose_sums_do_not_agree() {
+    let session = Kept::new("wrong.txt", PRINTED_TEXT.as_bytes());
+    let cases = [
+        (
+            "66 3 205 5",
+            "66 3 205 4",
+            "order 3: entered 8 but traded 4, cancelled 0 and open 3",
+        ),
+        (
+            "65 1 0 90 5 3 2",
+            "65 1 0 90 4 3 2",
+            "order 3: 4 contracts in series 1, expected 5",
+        ),
+        (
+            "65 0 1 115 5 4 3",
+            "65 2 1 115 5 4 3",
+            "order 3: 0 contracts in series 0, expected 5",
+        ),
+        (
+            "64 5 0 5 2",
+            "64 5 4 5 2",
+            "order 3: rests, but the sheet did not accept it",
+        ),
+        (
+            "66 3 205 5",
+            "66 9 205 5",
+            "record \"66 9 205 5\" names 9, which was not accepted",
+        ),
+    ];
+    for (right, wrong, expected) in cases {
+        let sheet = Kept::new(
+            "wrong.sheet",
+            PRINTED_SHEET.replace(right, wrong).as_bytes(),
+        );
+        let output = venue(&["audit", "--text", session.path(), sheet.path()], b"");
+        assert_eq!(output.status.code(), Some(1), "{wrong}");
+        let table = String::from_utf8(output.stdout).unwrap();
+        assert!(table.contains(expected), "{wrong}: {table}");
+    }
+}
+
+#[test]
+fn audit_refuses_a_sheet_of_another_session() {
+    let session = Kept::new("other.txt", PRINTED_TEXT.as_bytes());
+    let cases = [
+        (
+            "64 2 0 0 0\n",
+            "line 1: expected the answer to message 1, found 2",
+        ),
+        (
+            "66 3 205 5\n",
+            "line 1: expected record 64, found \"66 3 205 5\"",
+        ),
+        (
+            "64 1 0 0\n",
+            "line 1: expected 4 fields of record 64, found 3",
+        ),
+        (
+            "64 1 0 0 0\n\n",
+            "line 2: expected a record kind 64 to 68, 70 or 71, found \"\"",
+        ),
+        (
+            "64 1 256 0 0\n",
+            "line 1: expected field 2 of record 64, a number from 0 to 255, found \"256\"",
+        ),
+    ];
+    for (lines, expected) in cases {
+        let sheet = Kept::new("other.sheet", lines.as_bytes());
+        let errors = bad(&["audit", "--text", session.path(), sheet.path()], b"", 1);
+        assert!(errors.contains(expected), "{errors}");
+    }
+    let long = format!("{PRINTED_SHEET}64 7 0 0 0\n");
+    let sheet = Kept::new("long.sheet", long.as_bytes());
+    let errors = bad(&["audit", "--text", session.path(), sheet.path()], b"", 1);
+    assert!(
+        errors.contains("line 14: expected no more answers"),
+        "{errors}"
+    );
+}
+
+#[test]
+fn explain_tells_why_a_legging_order_was_not_made() {
+    let base = "open 0\nopen 1\norder 1 sell 15 series 0 at 130\norder 2 sell 12 series 1 at 90\n";
+    let cases = [
+        ("complex 3 buy 0 buy 1 class 1 net 205 quantity 8\nclose 0\nsweep\n", "no legging order of 3, buy series 0: series 0 is not open"),
+        ("away 0 bid 0 offer 60\ncomplex 3 buy 0 buy 1 class 1 net 205 quantity 8\n", "no legging order of 3, buy series 0: limit 205 is not in band of market net 150"),
+        ("cancel 2\naway 1 bid 0 offer 90\ncomplex 3 buy 0 buy 1 class 1 net 205 quantity 8\n", "no legging order of 3, buy series 0: the sell side of series 1 has no clear price"),
+        ("complex 3 buy 0 buy 1 class 1 net 94 quantity 8\n", "no legging order of 3, buy series 0: displayed price 0 is not from the increment to 100000"),
+        ("order 3 buy 1 series 0 at 120\ncomplex 4 buy 0 buy 1 class 1 net 205 quantity 8\n", "no legging order of 4, buy series 0: displayed price 115 is worse than the best regular price 120 of its side"),
+        ("away 0 bid 0 offer 110\ncomplex 3 buy 0 buy 1 class 1 net 205 quantity 8\n", "no legging order of 3, buy series 0: price 115 reaches the away price 110 opposite"),
+        ("complex 3 buy 0 buy 1 class 1 net 205 quantity 8\ncomplex 4 buy 0 buy 1 class 1 net 204 quantity 8\n", "no legging order of 4, buy series 1: the place is held by order 3 at 75, not to be replaced at 74"),
+    ];
+    for (rest, expected) in cases {
+        let text = format!("{base}{rest}");
+        let told = good(&["explain", "--text"], text.as_bytes());
+        let told = String::from_utf8(told).unwrap();
+        assert!(told.contains(expected), "{told}");
+    }
+}
+
+#[test]
+fn explain_tells_refusals_in_words() {
+    let told = good(&["explain", "--text"], b"cancel 9\nraw 09 00 06\n");
+    let told = String::from_utf8(told).unwrap();
+    assert!(
+        told.contains("refused with 8: no resting order has the id"),
+        "{told}"
+    );
+    assert!(
+        told.contains("2: raw 09 00 06\n    refused with 1: the message is torn"),
+        "{told}"
+    );
+}
+
+#[test]
+fn generate_repeats_by_seed_in_bytes_and_in_text() {
+    let arguments = [
+        "generate",
+        "--profile",
+        "hits",
+        "--seed",
+        "9",
+        "--messages",
+        "200",
+    ];
+    let bytes = good(&arguments, b"");
+    assert_eq!(good(&arguments, b""), bytes);
+    let text = good(&[&arguments[..], &["--text"]].concat(), b"");
+    assert_eq!(text.iter().filter(|byte| **byte == b'\n').count(), 200);
+    assert_eq!(good(&["encode"], &text), bytes);
+    let sheet = good(&["sheet"], &bytes);
+    assert!(String::from_utf8(sheet).unwrap().contains("64 200 "));
+}
+
+#[test]
+fn check_prints_the_coverage() {
+    let output = good(&["check", "--seed", "1000", "--sessions", "13"], b"");
+    let report = String::from_utf8(output).unwrap();
+    assert!(report.starts_with("        13  sessions\n"), "{report}");
+    let few = venue(
+        &[
+            "check",
+            "--profile",
+            "mixed",
+            "--sessions",
+            "1",
+            "--complete",
+        ],
+        b"",
+    );
+    assert_eq!(few.status.code(), Some(1));
+    assert!(String::from_utf8(few.stderr)
+        .unwrap()
+        .contains("not shown: "));
+}
+
+#[test]
+fn reader_that_leaves_causes_no_panic() {
+    let mut child = Command::new(env!("CARGO_BIN_EXE_venue"))
+        .args([
+            "generate",
+            "--profile",
+            "mixed",
+            "--seed",
+            "1",
+            "--messages",
+            "20000",
+        ])
+        .stdout(Stdio::piped())
+        .stderr(Stdio::piped())
+        .spawn()
+        .unwrap();
+    drop(child.stdout.take());
+    let output = child.wait_with_output().unwrap();
+    assert_eq!(output.status.code(), Some(1));
+    assert!(output.stderr.is_empty());
+}
