@@ -1,0 +1,368 @@
+-- Laws of generation, as the code makes it.
+use mathlib.Core.Path.{_≡_, refl, sym, ap, ap₂, _∙_}
+use mathlib.Core.Bool.{Bool, true, false, not, _&&_, _||_, true≢false, false≢true}
+use mathlib.Core.List.{List, [], _∷_}
+use Prim.Native.Nat.{ℕ, _+_, _*_, _/_, _-_, _≤_, _<_, min}
+use native.Mathlib.Omega.{arith}
+use borrow.Author.Tests.{eq-eqb, ne-eqb, le-leb, lt-leb, leb-true}
+use lib.Dec.{eqb, ltb, leb}
+use lib.IntN.{ℤ, pos, natAbs, negℤ, _+ℤ_, _-ℤ_, +ℤ-idl}
+use lib.ListN.{set}
+use lib.Seq.{set-getD, set-set}
+use mir.Syntax.{w64}
+use mir.Val.{SFits, toZ, ofZ}
+use Rattle.rules.specs.declared.Regular.{Regular}
+use Rattle.rules.specs.declared.Complex.{Complex}
+use Rattle.rules.specs.declared.Legging.{Legging}
+use Rattle.rules.specs.declared.Leg.{Leg}
+use Rattle.rules.specs.declared.Venue.{Venue}
+use Rattle.rules.specs.declared.Cause.the-variants.{Replaced}
+use Rattle.rules.specs.Base.{if_then_else_, held}
+use Rattle.rules.specs.Words.{buy, within, opposite, signed, increment, noComplex, noLegging, placeOf, complexAt, leggingAt, withLegging}
+use Rattle.rules.specs.Prices.{better, ownPrice, bestOwn, displayed, away, inBand}
+use Rattle.rules.specs.Records.{generated}
+use Rattle.rules.specs.Effects.{Effect, nothing, report, _⟫_}
+use Rattle.rules.specs.Removal.{remove, failIf}
+use Rattle.rules.specs.Standing.{otherLeg, otherClear, otherSize, parentOf, bothOpen, shownWell, settle}
+use Rattle.rules.specs.Generation.{asPrice, legPrice, newLegging, placed, reachesAny, givesWay, othersStand, makes, make, generateLeg, generate}
+use Rattle.rules.proofs.Tests.{and-l, and-r, held-pos}
+use Rattle.rules.proofs.Better.{is-false}
+use Rattle.rules.proofs.Integers.{abs-neg, abs-add}
+use Rattle.rules.proofs.Machine.{fits-of, back}
+use Rattle.rules.proofs.Generating.{Makes, made, zero-out}
+use Rattle.wire.specs.Seen.{seen, _writes_}
+use Rattle.wire.specs.Stage.{stage, _does_}
+use Rattle.wire.proofs.Stages.{follow, does-report}
+use Rattle.places.specs.Layout.{leggingIn, complexIn, venueOf, complexesUsed}
+use Rattle.places.proofs.Parts.{complex-at, complex-past}
+use Rattle.levels.specs.declared.Level.{Level}
+use Rattle.levels.specs.Grid.{levelOf, GridOf, LegsIn}
+use Rattle.levels.proofs.Sides.{legs-in}
+use Rattle.removal.proofs.Removing.{legging-at, remove-same}
+use Rattle.legging.specs.Parts.{rangedPrice, pricedLeg, marketOpen, standsClear, mayStand, plannedLeg, madeBy}
+
+-- Signed numbers of 64 bits -------------------------------------------------------------------
+
+pub sign-buy : (d : ℕ) (z : ℤ) → d ≡ 0 → z ≡ signed d z
+unfolding signed
+sign-buy d z h = rw (eq-eqb d 0 h)
+
+pub sign-sell : (d : ℕ) (z : ℤ) → (d ≡ 0 → ⊥) → negℤ z ≡ signed d z
+unfolding signed
+sign-sell d z h = rw (ne-eqb d 0 h)
+
+pub turned-fits : (z : ℤ) → SFits w64 z → natAbs z ≤ 8589934590 → SFits w64 (pos 0 -ℤ toZ w64 (ofZ w64 z))
+turned-fits z f h = rw (back f, +ℤ-idl (negℤ z)) (fits-of (negℤ z) (omega (arith, abs-neg z)))
+
+pub turned-is : (z : ℤ) (f : SFits w64 z) → SFits w64 (pos 0 -ℤ toZ w64 (ofZ w64 z)) → toZ w64 (ofZ w64 (pos 0 -ℤ toZ w64 (ofZ w64 z))) ≡ negℤ z
+turned-is z f g = back g ∙ ap (λ (y : ℤ). pos 0 -ℤ y) (back f) ∙ +ℤ-idl (negℤ z)
+
+-- a difference of two results
+module _ {a b : ℤ} (fa : SFits w64 a) (fb : SFits w64 b) (h : natAbs a + natAbs b ≤ 8589934590) where
+  pub diff-fits : SFits w64 (toZ w64 (ofZ w64 a) -ℤ toZ w64 (ofZ w64 b))
+  diff-fits = rw (back fa, back fb) (fits-of (a -ℤ b) (omega (arith, abs-add a (negℤ b), abs-neg b)))
+
+  pub diff-is : toZ w64 (ofZ w64 (toZ w64 (ofZ w64 a) -ℤ toZ w64 (ofZ w64 b))) ≡ a -ℤ b
+  diff-is = back diff-fits ∙ ap₂ (λ (x y : ℤ). x -ℤ y) (back fa) (back fb)
+
+  pub diff-abs : natAbs (toZ w64 (ofZ w64 (toZ w64 (ofZ w64 a) -ℤ toZ w64 (ofZ w64 b)))) ≤ 8589934590
+  diff-abs = rw diff-is (omega (arith, abs-add a (negℤ b), abs-neg b))
+
+-- The price of a leg --------------------------------------------------------------------------
+
+-- displayed, a price above 100,009 is above 100,000
+pub ranged-far : (s d p : ℕ) → 100009 < p → 0 ≡ rangedPrice s d p
+unfolding rangedPrice within displayed increment
+ranged-far s d p h = go (ltb s 6) (eqb d buy)
+  where
+    out : (i x : ℕ) → 100000 < x → 0 ≡ (if leb i x && leb x 100000 then p else 0)
+    out i x k = rw (lt-leb x 100000 k) (far (leb i x))
+      where
+        far : (t : Bool) → 0 ≡ (if t && false then p else 0)
+        far true = refl
+        far false = refl
+
+    go : (a b : Bool) →
+        0 ≡ (if leb (if a then 5 else 10) (if b then p / (if a then 5 else 10) * (if a then 5 else 10) else (p + ((if a then 5 else 10) - 1)) / (if a then 5 else 10) * (if a then 5 else 10))
+        && leb (if b then p / (if a then 5 else 10) * (if a then 5 else 10) else (p + ((if a then 5 else 10) - 1)) / (if a then 5 else 10) * (if a then 5 else 10)) 100000 then p else 0)
+    go true true = out 5 (p / 5 * 5) (omega arith)
+    go true false = out 5 ((p + 4) / 5 * 5) (omega arith)
+    go false true = out 10 (p / 10 * 10) (omega arith)
+    go false false = out 10 ((p + 9) / 10 * 10) (omega arith)
+
+module _ (s d p q i : ℕ) (eq : q ≡ displayed (increment s) d p) (ei : i ≡ increment s) where
+  ranged-is : rangedPrice s d p ≡ (if leb i q && leb q 100000 then p else 0)
+  unfolding rangedPrice within
+  ranged-is = rw (← eq, ← ei)
+
+  pub ranged-low : q < i → 0 ≡ rangedPrice s d p
+  ranged-low h = sym (ranged-is ∙ rw (lt-leb i q h))
+
+  pub ranged-high : i ≤ q → 100000 < q → 0 ≡ rangedPrice s d p
+  ranged-high h k = sym (ranged-is ∙ rw (le-leb i q h, lt-leb q 100000 k))
+
+  pub ranged-in : i ≤ q → q ≤ 100000 → p ≡ rangedPrice s d p
+  ranged-in h k = sym (ranged-is ∙ rw (le-leb i q h, le-leb q 100000 k))
+
+module _ (v : Venue) (c : Complex) (s d x : ℕ) (ex : x ≡ otherClear v c s) where
+  pub priced-none : x ≡ 0 → 0 ≡ pricedLeg v c s d
+  unfolding pricedLeg
+  priced-none h = rw (← ex, h)
+
+  pub priced-is : (x ≡ 0 → ⊥) → (o : Leg) → o ≡ otherLeg c s → (m n y z : ℤ) (p r : ℕ) → m ≡ c .limit → n ≡ signed (o .side) (pos x) → y ≡ m -ℤ n → z ≡ signed d y →
+      p ≡ asPrice z → r ≡ rangedPrice s d p → r ≡ pricedLeg v c s d
+  unfolding pricedLeg legPrice
+  priced-is h o eo m n y z p r em en ey ez ep er =
+      let k : n ≡ signed (otherLeg c s .side) (pos x) = en ∙ ap (λ (l : Leg). signed (l .side) (pos x)) eo in
+      er ∙ ap (rangedPrice s d) (ep ∙ ap asPrice (ez ∙ ap (signed d) (ey ∙ ap₂ (λ (a b : ℤ). a -ℤ b) em k)))
+      ∙ rw (← ex, ne-eqb x 0 h) refl
+
+-- Conditions ----------------------------------------------------------------------------------
+
+module _ (v : Venue) (s d p f : ℕ) (ef : f ≡ opposite d) where
+  pub clear-own : shownWell v s d p ≡ true → (x : ℕ) → x ≡ bestOwn v s f → reachesAny d p x ≡ true → false ≡ standsClear v s d p
+  unfolding standsClear
+  clear-own h x ex r = rw (← ef, ← ex, h, r)
+
+  pub clear-away : shownWell v s d p ≡ true → (x : ℕ) → x ≡ bestOwn v s f → reachesAny d p x ≡ false → (y : ℕ) → y ≡ away v s f → not (reachesAny d p y) ≡ standsClear v s d p
+  unfolding standsClear
+  clear-away h x ex r y ey = rw (← ef, ← ex, ← ey, h, r)
+
+module _ (v : Venue) (c : Complex) (d p own : ℕ) (l : Legging) (ew : own ≡ ownPrice l) where
+  pub way-better : better d p own ≡ true → true ≡ givesWay v c d p l
+  unfolding givesWay
+  way-better h = rw (← ew, h)
+
+  module _ (h : better d p own ≡ false) where
+    pub way-worse : (p ≡ own → ⊥) → false ≡ givesWay v c d p l
+    unfolding givesWay
+    way-worse k = rw (← ew, h, ne-eqb p own k)
+
+    pub way-other : p ≡ own → (c .class ≡ 0 → ⊥) → false ≡ givesWay v c d p l
+    unfolding givesWay
+    way-other k n = rw (← ew, h, eq-eqb p own k, ne-eqb (c .class) 0 n)
+
+    pub way-class : p ≡ own → c .class ≡ 0 → (m : Complex) → m ≡ parentOf v l → eqb (m .class) 1 ≡ givesWay v c d p l
+    unfolding givesWay
+    way-class k n m em = rw (← ew, h, eq-eqb p own k, eq-eqb (c .class) 0 n, ← em)
+
+-- The order as planned ------------------------------------------------------------------------
+
+module _ (v : Venue) (c : Complex) (s d : ℕ) where
+  asked : Bool
+  asked = held (c .quantity) && held (pricedLeg v c s d) && mayStand v c s d (pricedLeg v c s d)
+
+  planned-if : (t : Bool) → asked ≡ t → plannedLeg v c s d ≡ (if t then newLegging v c s d else noLegging)
+  unfolding plannedLeg asked
+  planned-if t e = rw e
+
+  pub planned-gone : c .quantity ≡ 0 → noLegging ≡ plannedLeg v c s d
+  unfolding asked
+  planned-gone h = sym (planned-if false (rw (eq-eqb (c .quantity) 0 h)))
+
+  module _ (p : ℕ) (ep : p ≡ pricedLeg v c s d) where
+    pub planned-free : (c .quantity ≡ 0 → ⊥) → p ≡ 0 → noLegging ≡ plannedLeg v c s d
+    unfolding asked
+    planned-free h k = sym (planned-if false (rw (ne-eqb (c .quantity) 0 h, ← ep, k)))
+
+    pub planned-not : (c .quantity ≡ 0 → ⊥) → (p ≡ 0 → ⊥) → mayStand v c s d p ≡ false → noLegging ≡ plannedLeg v c s d
+    unfolding asked
+    planned-not h k m = sym (planned-if false (rw (ne-eqb (c .quantity) 0 h, ← ep, ne-eqb p 0 k, m)))
+
+  -- a price that is there is the leg's
+  priced-back : (t u : Bool) → held (otherClear v c s) ≡ t → within (increment s) 100000 (displayed (increment s) d (legPrice v c s d)) ≡ u →
+      held (pricedLeg v c s d) ≡ true → (t ≡ true) × (u ≡ true)
+  unfolding pricedLeg rangedPrice
+  priced-back true true e f h = (refl, refl)
+  priced-back true false e f h = absurd (false≢true (rw (e, f) at h))
+  priced-back false u e f h = absurd (false≢true (rw e at h))
+
+  priced-clear : held (pricedLeg v c s d) ≡ true → held (otherClear v c s) ≡ true
+  priced-clear h = priced-back (held (otherClear v c s)) (within (increment s) 100000 (displayed (increment s) d (legPrice v c s d))) refl refl h .0
+
+  pub priced-range : held (pricedLeg v c s d) ≡ true → within (increment s) 100000 (displayed (increment s) d (legPrice v c s d)) ≡ true
+  priced-range h = priced-back (held (otherClear v c s)) (within (increment s) 100000 (displayed (increment s) d (legPrice v c s d))) refl refl h .1
+
+  priced-leg : held (otherClear v c s) ≡ true → within (increment s) 100000 (displayed (increment s) d (legPrice v c s d)) ≡ true → pricedLeg v c s d ≡ legPrice v c s d
+  unfolding pricedLeg rangedPrice
+  priced-leg h k = rw (h, k)
+
+  pub planned-new : (p k : ℕ) → p ≡ pricedLeg v c s d → (c .quantity ≡ 0 → ⊥) → (p ≡ 0 → ⊥) → mayStand v c s d p ≡ true → k ≡ min (c .quantity) (otherSize v c s) →
+      record { parent = c .id; price = p; quantity = k } ≡ plannedLeg v c s d
+  unfolding asked newLegging
+  planned-new p k ep h n m ek =
+      let t : held (pricedLeg v c s d) ≡ true = rw (← ep, ne-eqb p 0 n) in
+      let e : p ≡ legPrice v c s d = ep ∙ priced-leg (priced-clear t) (priced-range t) in
+      let a : asked ≡ true = rw (ne-eqb (c .quantity) 0 h, ← ep, ne-eqb p 0 n, m) in
+      rw (e, ek) (sym (planned-if true a))
+
+  -- Made or not -----------------------------------------------------------------------------
+
+  may-made : Makes v c s d → mayStand v c s d (legPrice v c s d) ≡ true
+  unfolding mayStand marketOpen standsClear
+  may-made m = rw (m .opens, m .band, m .shown, m .inside, m .outside, m .way)
+
+  planned-made : held (c .quantity) ≡ true → Makes v c s d → plannedLeg v c s d ≡ newLegging v c s d
+  unfolding asked
+  planned-made h m =
+      let e = priced-leg (m .clear) (m .range) in
+      planned-if true (rw (h, e, zero-out s d (legPrice v c s d) (m .range), may-made m))
+
+  not-made : (held (c .quantity) && makes v c s d) ≡ false → nothing v ≡ generateLeg c s d v
+  unfolding generateLeg
+  not-made h = rw h
+
+  pub made-none : (l : Legging) → l ≡ plannedLeg v c s d → l .price ≡ 0 → nothing v ≡ generateLeg c s d v
+  unfolding newLegging
+  made-none l el h = not-made (is-false (held (c .quantity) && makes v c s d) (λ t. go (and-l (held (c .quantity)) (makes v c s d) t) (made (and-r (held (c .quantity)) (makes v c s d) t))))
+    where
+      go : held (c .quantity) ≡ true → Makes v c s d → ⊥
+      go q m =
+          let z = held-pos (legPrice v c s d) (zero-out s d (legPrice v c s d) (m .range)) in
+          let e : l .price ≡ legPrice v c s d = ap (λ (x : Legging). x .price) (el ∙ planned-made q m) in
+          omega arith
+
+  module _ (l : Legging) (el : l ≡ plannedLeg v c s d) (n : l .price ≡ 0 → ⊥) where
+    asked-all : asked ≡ true
+    asked-all = go asked refl
+      where
+        go : (t : Bool) → asked ≡ t → t ≡ true
+        go true e = refl
+        go false e = absurd (n (ap (λ (x : Legging). x .price) (el ∙ planned-if false e)))
+
+    asked-held : held (c .quantity) ≡ true
+    unfolding asked
+    asked-held = and-l _ _ (and-l _ _ asked-all)
+
+    asked-priced : held (pricedLeg v c s d) ≡ true
+    unfolding asked
+    asked-priced = and-r (held (c .quantity)) (held (pricedLeg v c s d)) (and-l _ _ asked-all)
+
+    priced-is-leg : pricedLeg v c s d ≡ legPrice v c s d
+    priced-is-leg = priced-leg (priced-clear asked-priced) (priced-range asked-priced)
+
+    asked-may : mayStand v c s d (legPrice v c s d) ≡ true
+    unfolding asked
+    asked-may = rw priced-is-leg at (and-r (held (c .quantity) && held (pricedLeg v c s d)) _ asked-all)
+
+    pub planned-is : l ≡ newLegging v c s d
+    planned-is = el ∙ planned-if true asked-all
+
+    pub planned-shown : displayed (increment s) d (l .price) ≤ 100000
+    unfolding newLegging within
+    planned-shown = rw planned-is (leb-true _ _ (and-r (leb (increment s) (displayed (increment s) d (legPrice v c s d))) _ (priced-range asked-priced)))
+
+    module _ (k : ℕ) (ek : k ≡ placeOf s d) where
+      others-is : othersStand (placed k l v) k 0 (placed k l v .legging) ≡ othersStand (placed (placeOf s d) (newLegging v c s d) v) (placeOf s d) 0 (placed (placeOf s d) (newLegging v c s d) v .legging)
+      others-is = rw (ek, planned-is) refl
+
+      pub made-alone : othersStand (placed k l v) k 0 (placed k l v .legging) ≡ false → nothing v ≡ generateLeg c s d v
+      unfolding placed withLegging
+      made-alone h = not-made (is-false (held (c .quantity) && makes v c s d) (λ t. true≢false (sym (made (and-r (held (c .quantity)) (makes v c s d) t) .others) ∙ sym others-is ∙ h)))
+
+      may-open : marketOpen v c ≡ true
+      unfolding mayStand
+      may-open = and-l _ _ (and-l _ _ asked-may)
+
+      may-clear : standsClear v s d (legPrice v c s d) ≡ true
+      unfolding mayStand
+      may-clear = and-r (marketOpen v c) (standsClear v s d (legPrice v c s d)) (and-l _ _ asked-may)
+
+      may-way : givesWay v c d (legPrice v c s d) (leggingAt v s d) ≡ true
+      unfolding mayStand
+      may-way = and-r (marketOpen v c && standsClear v s d (legPrice v c s d)) _ asked-may
+
+      makes-all : othersStand (placed k l v) k 0 (placed k l v .legging) ≡ true → makes v c s d ≡ true
+      unfolding makes marketOpen standsClear
+      makes-all h =
+          let o = sym others-is ∙ h in
+          let opens : bothOpen v c ≡ true = and-l _ (inBand v c (c .limit)) may-open in
+          let shown : shownWell v s d (legPrice v c s d) ≡ true = and-l _ _ (and-l _ _ may-clear) in
+          let band : inBand v c (c .limit) ≡ true = and-r (bothOpen v c) _ may-open in
+          let inside : not (reachesAny d (legPrice v c s d) (bestOwn v s (opposite d))) ≡ true = and-r (shownWell v s d (legPrice v c s d)) _ (and-l _ _ may-clear) in
+          let outside : not (reachesAny d (legPrice v c s d) (away v s (opposite d))) ≡ true =
+          and-r (shownWell v s d (legPrice v c s d) && not (reachesAny d (legPrice v c s d) (bestOwn v s (opposite d)))) _ may-clear in
+          rw (opens, band, priced-clear asked-priced, priced-range asked-priced, shown, inside, outside, may-way, o)
+
+      pub made-is : othersStand (placed k l v) k 0 (placed k l v .legging) ≡ true → madeBy (c .id) s d l v ≡ generateLeg c s d v
+      unfolding generateLeg make madeBy
+      made-is h = rw (asked-held, makes-all h, planned-is) refl
+
+-- One place for another -----------------------------------------------------------------------
+
+pub placed-back : (b : List ℕ) (n : ℕ) (x old : Legging) → n < 16 → old ≡ leggingIn b n → placed n old (placed n x (venueOf b)) ≡ venueOf b
+unfolding placed withLegging
+placed-back b n x old h e =
+    ap (λ (l : List Legging). withLegging (venueOf b) l)
+    (set-set (venueOf b .legging) n x old ∙ ap (set (venueOf b .legging) n) (e ∙ sym (legging-at b n h)) ∙ set-getD (venueOf b .legging) n noLegging)
+
+pub placed-regular : (n : ℕ) (l : Legging) (v : Venue) → placed n l v .regular ≡ v .regular
+unfolding placed withLegging
+placed-regular n l v = refl
+
+-- the grid is of the regular orders alone
+pub grid-kept : (g : List (List Level)) (os ps : List Regular) → ps ≡ os → GridOf g os → GridOf g ps
+grid-kept g os ps e h = λ s d hs hd. h s d hs hd ∙ ap (levelOf s d) (sym e)
+
+-- The making ----------------------------------------------------------------------------------
+
+same-place : (n k : ℕ) (v : Venue) → n ≡ k → remove (λ m _. failIf (eqb m n || eqb m n) Replaced) v ≡ remove (λ m _. failIf (eqb m k) Replaced) v
+same-place n k v e =
+    remove-same (λ m _. failIf (eqb m n || eqb m n) Replaced) (λ m _. failIf (eqb m k) Replaced) v
+    (λ m q. ap (λ (t : Bool). failIf t Replaced) (one (eqb m n) ∙ ap (eqb m) e))
+  where
+    one : (t : Bool) → (t || t) ≡ t
+    one true = refl
+    one false = refl
+
+pub made-law : (id s d n shown : ℕ) (l : Legging) (v v₁ v₂ : Venue) (o₀ o₁ o₂ : List ℕ) (at mid r : ℕ) → n ≡ placeOf s d → shown ≡ displayed (increment s) d (l .price) →
+    stage v₁ o₁ mid ≡ seen o₀ at does remove (λ m _. failIf (eqb m n || eqb m n) Replaced) v →
+    v₂ ≡ placed n l v₁ →
+    seen o₂ r ≡ seen o₁ mid writes (generated id s d (l .price) shown (l .quantity) ∷ []) →
+    stage v₂ o₂ r ≡ seen o₀ at does madeBy id s d l v
+unfolding madeBy
+made-law id s d n shown l v v₁ v₂ o₀ o₁ o₂ at mid r en es p q w =
+    follow (seen o₀ at) (remove (λ m _. failIf (eqb m (placeOf s d)) Replaced) v)
+    (λ u. report (generated id s d (l .price) (displayed (increment s) d (l .price)) (l .quantity)) (placed (placeOf s d) l u)) v₁ v₂ o₁ o₂ mid r
+    (p ∙ ap (λ (e : Effect). seen o₀ at does e) (same-place n (placeOf s d) v en))
+    (does-report v₂ o₂ o₁ r mid (generated id s d (l .price) shown (l .quantity)) w
+    ∙ ap (λ (e : Effect). seen o₁ mid does e)
+    (ap₂ (λ (k : ℕ) (u : Venue). report (generated id s d (l .price) k (l .quantity)) u) es (q ∙ ap (λ (k : ℕ). placed k l v₁) en)))
+
+-- What is kept --------------------------------------------------------------------------------
+
+pub settle-regular : (v : Venue) → settle v .venue .regular ≡ v .regular
+unfolding settle remove withLegging
+settle-regular v = refl
+
+pub generateLeg-regular : (c : Complex) (s d : ℕ) (v : Venue) → generateLeg c s d v .venue .regular ≡ v .regular
+unfolding generateLeg make remove report nothing _⟫_ placed withLegging
+generateLeg-regular c s d v = go (held (c .quantity) && makes v c s d)
+  where
+    go : (t : Bool) → (if t then make c s d v else nothing v) .venue .regular ≡ v .regular
+    go true = refl
+    go false = refl
+
+pub generate-regular : (i : ℕ) (v : Venue) → generate i v .venue .regular ≡ v .regular
+unfolding generate _⟫_
+generate-regular i v =
+    generateLeg-regular (complexAt v i) (complexAt v i .series2) (complexAt v i .side2) (generateLeg (complexAt v i) (complexAt v i .series1) (complexAt v i .side1) v .venue)
+    ∙ generateLeg-regular (complexAt v i) (complexAt v i .series1) (complexAt v i .side1) v
+
+-- a place that is not in use has nothing to generate
+none-made : (s d : ℕ) (v : Venue) → generateLeg noComplex s d v ≡ nothing v
+unfolding generateLeg
+none-made s d v = refl
+
+pub generate-past : (b : List ℕ) (i : ℕ) → complexesUsed b ≤ i → nothing (venueOf b) ≡ generate i (venueOf b)
+unfolding generate _⟫_ nothing
+generate-past b i h = rw (complex-past b i h, none-made, none-made) refl
+
+module _ (b : List ℕ) (i : ℕ) (c : Complex) (ec : c ≡ complexIn b i) where
+  pub complex-in : LegsIn c
+  complex-in = rw ec (legs-in b i)
+
+  pub generate-is : i < complexesUsed b →
+      generateLeg c (c .series1) (c .side1) (venueOf b) ⟫ generateLeg c (c .series2) (c .side2) ≡ generate i (venueOf b)
+  unfolding generate
+  generate-is h = ap (λ (x : Complex). generateLeg x (x .series1) (x .side1) (venueOf b) ⟫ generateLeg x (x .series2) (x .side2)) (ec ∙ sym (complex-at b i h))

@@ -1,0 +1,123 @@
+-- Laws of the standing test, as the code makes it.
+use mathlib.Core.Path.{_≡_, refl, sym, ap, ap₂, _∙_}
+use mathlib.Core.Bool.{Bool, true, false, not, _&&_, true≢false}
+use Prim.Native.Nat.{ℕ, _+_, _≤_, _<_, _/_, _%_}
+use native.Mathlib.Omega.{arith}
+use native.Mathlib.Nat.{one-mul}
+use borrow.Author.Tests.{eq-eqb, ne-eqb}
+use lib.Dec.{eqb, leb}
+use lib.IntN.{ℤ, pos, negsuc, natAbs, _+ℤ_}
+use lib.Signed.{leZ}
+use mir.Syntax.{w32, w64}
+use mir.Val.{SFits, toZ, ofZ}
+use mir.ValLaws.{toZ-ofZ}
+use Rattle.rules.specs.declared.Complex.{Complex}
+use Rattle.rules.specs.declared.Legging.{Legging}
+use Rattle.rules.specs.declared.Leg.{Leg}
+use Rattle.rules.specs.declared.Venue.{Venue}
+use Rattle.rules.specs.declared.Verdict.{Verdict}
+use Rattle.rules.specs.declared.Verdict.the-variants.{Stands}
+use Rattle.rules.specs.Base.{if_then_else_}
+use Rattle.rules.specs.Words.{opposite, signed, increment}
+use Rattle.rules.specs.Prices.{better, displayed, clearPrice, weighed}
+use Rattle.rules.specs.Standing.{otherLeg, otherClear, otherSize, parentOf, shownWell, pairs, verdictOf, verdict}
+use Rattle.levels.specs.declared.Level.{Level}
+use Rattle.levels.specs.Grid.{levelOf, LegsIn}
+use Rattle.levels.proofs.Sides.{level-price, level-size}
+
+-- A flag and its negation ---------------------------------------------------------------------
+
+pub off : (r x : Bool) → r ≡ x → not r ≡ true → x ≡ false
+off r true e h = absurd (true≢false (sym (rw e at h)))
+off r false e h = refl
+
+pub on : (r x : Bool) → r ≡ x → not r ≡ false → x ≡ true
+on r true e h = refl
+on r false e h = absurd (true≢false (rw e at h))
+
+-- A limit of 32 bits in 64 --------------------------------------------------------------------
+
+widen : (z : ℤ) → SFits w32 z → SFits w64 z
+widen (pos n) f = let h : n < 2147483648 = f .sfits in record { sfits = omega arith }
+widen (negsuc n) f = let h : n < 2147483648 = f .sfits in record { sfits = omega arith }
+
+limit-abs : (z : ℤ) → SFits w32 z → natAbs z ≤ 2147483648
+limit-abs (pos n) f = let h : n < 2147483648 = f .sfits in omega arith
+limit-abs (negsuc n) f = let h : n < 2147483648 = f .sfits in omega arith
+
+module _ (z : ℤ) (f : SFits w32 z) where
+  pub cast-fits : SFits w64 (toZ w32 (ofZ w32 z))
+  cast-fits = rw (toZ-ofZ w32 z f) (widen z f)
+
+  cast-back : toZ w64 (ofZ w64 (toZ w32 (ofZ w32 z))) ≡ z
+  cast-back = rw (toZ-ofZ w32 z f) (toZ-ofZ w64 z (widen z f))
+
+  pub cast-is : (toZ w64 (ofZ w64 (toZ w32 (ofZ w32 z))) ≡ z) × (natAbs (toZ w64 (ofZ w64 (toZ w32 (ofZ w32 z)))) ≤ 2147483648)
+  cast-is = (cast-back, rw cast-back (limit-abs z f))
+
+-- Prices --------------------------------------------------------------------------------------
+
+pub shown-is : (v : Venue) (s d p q : ℕ) (l : Level) (t : Bool) → l ≡ levelOf s d (v .regular) → q ≡ displayed (increment s) d p → t ≡ better d (l .price) q →
+    not t ≡ shownWell v s d p
+unfolding shownWell
+shown-is v s d p q l t el eq e = ap not (e ∙ ap₂ (better d) (level-price v s d l el) eq)
+
+pub opposite-in : (d f : ℕ) → f ≡ opposite d → f < 2
+unfolding opposite
+opposite-in d f e = omega (arith, e)
+
+module _ (c : Complex) (s : ℕ) (o : Leg) (eo : o ≡ otherLeg c s) where
+  pub other-in : LegsIn c → o .series < 8
+  unfolding otherLeg
+  other-in h = rw eo (go (eqb (c .series1) s))
+    where
+      leg : ℕ → ℕ → Leg
+      leg x y = record { series = x; side = y }
+
+      go : (t : Bool) → (if t then leg (c .series2) (c .side2) else leg (c .series1) (c .side1)) .series < 8
+      go true = h .second
+      go false = h .first
+
+  module _ (v : Venue) (f : ℕ) (ef : f ≡ opposite (o .side)) where
+    pub clear-is : (r : ℕ) → r ≡ clearPrice v (o .series) f → r ≡ otherClear v c s
+    unfolding otherClear
+    clear-is r e = e ∙ ap (clearPrice v (o .series)) ef ∙ ap (λ (x : Leg). clearPrice v (x .series) (opposite (x .side))) eo
+
+    pub size-is : (l : Level) → l ≡ levelOf (o .series) f (v .regular) → l .size ≡ otherSize v c s
+    unfolding otherSize
+    size-is l e =
+        level-size v (o .series) f l e
+        ∙ rw (ef, eo) refl
+
+-- The other leg can be had --------------------------------------------------------------------
+
+module _ (v : Venue) (c : Complex) (s d p k x : ℕ) (ex : x ≡ otherClear v c s) where
+  pub pair-none : x ≡ 0 → false ≡ pairs v c s d p k
+  unfolding pairs
+  pair-none h = rw (← ex, h)
+
+  module _ (h : x ≡ 0 → ⊥) (o : Leg) (eo : o ≡ otherLeg c s) (n m : ℤ) (en : n ≡ weighed 1 d p +ℤ weighed 1 (o .side) x) (em : m ≡ c .limit) where
+    net-is : n ≡ signed d (pos p) +ℤ signed (otherLeg c s .side) (pos x)
+    unfolding weighed
+    net-is = en ∙ rw (one-mul, one-mul, eo) refl
+
+    pairs-is : pairs v c s d p k ≡ (leZ n m && leb k (otherSize v c s))
+    unfolding pairs
+    pairs-is = rw (← ex, ne-eqb x 0 h) (ap₂ (λ (a b : ℤ). leZ a b && leb k (otherSize v c s)) (sym net-is) (sym em))
+
+    pub pair-dear : leZ n m ≡ false → false ≡ pairs v c s d p k
+    pair-dear q = sym (pairs-is ∙ rw q)
+
+    pub pair-size : leZ n m ≡ true → (z : ℕ) → z ≡ otherSize v c s → leb k z ≡ pairs v c s d p k
+    pair-size q z ez = ap (leb k) ez ∙ sym (pairs-is ∙ rw q)
+
+-- The verdict ---------------------------------------------------------------------------------
+
+pub verdict-free : (v : Venue) (n : ℕ) (l m : Legging) → l ≡ m → l .quantity ≡ 0 → Stands ≡ verdict v n m
+unfolding verdict
+verdict-free v n l m e h = rw (← e) (simp (eq-eqb _ _ h))
+
+pub verdict-held : (v : Venue) (n : ℕ) (l m : Legging) (c : Complex) (r : Verdict) → l ≡ m → (l .quantity ≡ 0 → ⊥) → c ≡ parentOf v l →
+    r ≡ verdictOf v c (n / 2) (n % 2) l → r ≡ verdict v n m
+unfolding verdict
+verdict-held v n l m c r e h ec q = rw (← e) (simp (ne-eqb _ _ h) (q ∙ ap (λ (z : Complex). verdictOf v z (n / 2) (n % 2) l) ec))

@@ -1,0 +1,67 @@
+-- `legging::generate_leg` meets its contract.
+use Rattle.legging.proofs.Making.{made-none, made-alone, made-is, planned-shown}
+use Rattle.legging.proofs.Testing.{off, on}
+use Rattle.legging.specs.Parts.{madeBy}
+use Rattle.removal.proofs.Removing.{counts-on}
+use Rattle.places.specs.Layout.{venueOf}
+use Rattle.wire.proofs.Stages.{does-nothing}
+use Rattle.wire.specs.Stage.{_does_}
+use Rattle.wire.specs.Seen.{seen}
+use Rattle.rules.specs.Effects.{Effect, nothing}
+use Rattle.rules.specs.Words.{placeOf}
+use Rattle.rules.specs.declared.Venue.{Venue}
+use mathlib.Core.Path.{refl, ap, _∙_}
+use borrow.Author.Needs.{needs}
+use Rattle.legging.proofs.generate_leg.Statement.{statement}
+use Rattle.legging.proofs.generate_leg.Tie as tie
+
+plan-leg-requires : tie.Need-plan-leg-requires
+plan-leg-requires c κs = search needs
+
+same-length : tie.Need-same-length
+same-length c = search needs
+
+returns : tie.Need-returns
+returns c = let a = c .before .before .before .before .before .before .args in (
+  does-nothing (venueOf (a .b .now)) (a .out .now) (a .at)
+      ∙ ap (λ (e : Effect). seen (a .out .now) (a .at) does e) (made-none _ (a .c) _ _ (c .before .before .plan-leg .result) (c .before .before .plan-leg .ensures) (c .if1 .taken)),
+  record { regulars = refl; complexes = refl },
+)
+
+place-of-requires : tie.Need-place-of-requires
+place-of-requires c κs = search needs
+
+others-stand-with-requires : tie.Need-others-stand-with-requires
+unfolding placeOf
+others-stand-with-requires c κs = search needs
+
+same-length-2 : tie.Need-same-length-2
+same-length-2 c = search needs
+
+returns-2 : tie.Need-returns-2
+returns-2 c = let a = c .before .before .before .before .before .before .before .before .before .before .before .before .args in let w = c .before .before .before .others-stand-with in (
+  does-nothing _ (a .out .now) (a .at) ∙ ap (λ (v : Venue). seen (a .out .now) (a .at) does nothing v) (w .ensures .1 .0)
+      ∙ ap (λ (e : Effect). seen (a .out .now) (a .at) does e)
+      (made-alone _ (a .c) _ _ (c .before .before .before .before .before .before .before .before .plan-leg .result) (c .before .before .before .before .before .before .before .before .plan-leg .ensures) (c .before .before .before .before .before .before .if1 .left) _ (c .before .before .before .before .place-of .ensures) (off _ _ (w .ensures .0) (c .if2 .taken))),
+  w .ensures .1 .1,
+)
+
+make-leg-requires : tie.Need-make-leg-requires
+make-leg-requires c κs = let a = c .before .before .before .before .before .before .before .before .before .before .before .before .before .before .args in let p = c .before .before .before .before .before .before .before .before .before .before .before .before .before .before .pre in (search needs, p .3, p .4, planned-shown _ (a .c) _ _ (c .before .before .before .before .before .before .before .before .before .before .plan-leg .result) (c .before .before .before .before .before .before .before .before .before .before .plan-leg .ensures) (c .before .before .before .before .before .before .before .before .if1 .left))
+
+same-length-3 : tie.Need-same-length-3
+same-length-3 c = search needs
+
+same-length-4 : tie.Need-same-length-4
+same-length-4 c = search needs
+
+returns-3 : tie.Need-returns-3
+returns-3 c = let a = c .before .before .before .before .before .before .before .before .before .before .before .before .before .before .before .before .before .before .before .args in let w = c .before .before .before .before .before .before .before .before .before .before .others-stand-with in (
+  c .before .before .before .before .make-leg .ensures .0 ∙ ap (λ (v : Venue). seen (a .out .now) (a .at) does madeBy (a .c .id) (a .s) (a .d) (c .before .before .before .before .before .before .before .before .before .before .before .before .before .before .before .plan-leg .result) v) (w .ensures .1 .0)
+      ∙ ap (λ (e : Effect). seen (a .out .now) (a .at) does e)
+      (made-is _ (a .c) _ _ (c .before .before .before .before .before .before .before .before .before .before .before .before .before .before .before .plan-leg .result) (c .before .before .before .before .before .before .before .before .before .before .before .before .before .before .before .plan-leg .ensures) (c .before .before .before .before .before .before .before .before .before .before .before .before .before .if1 .left) _ (c .before .before .before .before .before .before .before .before .before .before .before .place-of .ensures) (on _ _ (w .ensures .0) (c .before .before .before .before .before .before .before .if2 .left))),
+  counts-on _ _ _ (w .ensures .1 .1) (c .before .before .before .before .make-leg .ensures .1),
+)
+
+pub generate-leg-spec : {M : Type 1} → statement M
+generate-leg-spec = tie.close (tie.spec plan-leg-requires same-length returns place-of-requires others-stand-with-requires same-length-2 returns-2 make-leg-requires same-length-3 same-length-4 returns-3)

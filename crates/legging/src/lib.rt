@@ -1,0 +1,416 @@
+// Legging orders: the test by which they stand, settling, and generation.
+use levels::Level;
+use rules::Cause;
+use rules::Complex;
+use rules::Legging;
+use rules::Verdict;
+ghost use mathlib.Core.Path.{_≡_};
+ghost use Prim.Native.Nat.{ℕ, _+_, _≤_, _<_, min};
+ghost use lib.IntN.{natAbs};
+ghost use lib.Dec.{eqb};
+ghost use lib.ListN.{length, getD};
+ghost use Rattle.rules.specs.Step.{mask};
+ghost use Rattle.rules.specs.Words.{noLegging, signed, increment, leggingAt};
+ghost use Rattle.rules.specs.Prices.{displayed};
+ghost use Rattle.rules.specs.Standing.{otherClear, otherSize, shownWell, pairs, verdictOf, verdict, verdictNumber, settle};
+ghost use Rattle.rules.specs.Generation.{asPrice, reachesAny, givesWay, placed, othersStand, generateLeg, generate};
+ghost use Rattle.wire.specs.Seen.{seen};
+ghost use Rattle.wire.specs.Stage.{stage, _does_};
+ghost use Rattle.places.specs.Layout.{size, leggingIn, venueOf, SameCounts};
+ghost use Rattle.levels.specs.Grid.{GridOf, LegsIn};
+ghost use Rattle.legging.specs.Parts.{rangedPrice, pricedLeg, marketOpen, standsClear, mayStand, plannedLeg, madeBy};
+
+// A complex order's limit, in 64 bits.
+fn limit_of(c: Complex) -> i64
+    ensures { λ r. ⌜ (r ≡ c .limit) × (natAbs r ≤ 2147483648) ⌝ }
+{
+    let n = c.limit;
+    n as i64
+}
+
+// A price p at side d of series s, displayed, is no worse than the best regular of its side.
+pub fn shown_well(b: &[u32], g: [[Level; 2]; 8], s: u8, d: u8, p: u32) -> bool
+    requires { ⌜ (length (now b) ≡ size) × (GridOf g (venueOf (now b) .regular)) × (s < 8) × (d < 2) ⌝ }
+    ensures { λ r. ⌜ r ≡ shownWell (venueOf (now (b .entry))) s d p ⌝ }
+{
+    let best = levels::level_at(g, s, d);
+    !levels::is_better_wide(d, best.price as u64, rules::displayed_price(s, d, p))
+}
+
+// The clear price of the leg of c that is not in series s.
+fn other_clear(b: &[u32], g: [[Level; 2]; 8], c: Complex, s: u8) -> u32
+    requires { ⌜ (length (now b) ≡ size) × (GridOf g (venueOf (now b) .regular)) × (LegsIn c) ⌝ }
+    ensures { λ r. ⌜ r ≡ otherClear (venueOf (now (b .entry))) c s ⌝ }
+{
+    let other = levels::other_leg(c, s);
+    levels::clear_price(b, g, other.series, rules::opposite_of(other.side))
+}
+
+// The size at that price.
+fn other_size(b: &[u32], g: [[Level; 2]; 8], c: Complex, s: u8) -> u64
+    requires { ⌜ (length (now b) ≡ size) × (GridOf g (venueOf (now b) .regular)) × (LegsIn c) ⌝ }
+    ensures { λ r. ⌜ r ≡ otherSize (venueOf (now (b .entry))) c s ⌝ }
+{
+    let other = levels::other_leg(c, s);
+    let best = levels::level_at(g, other.series, rules::opposite_of(other.side));
+    best.size
+}
+
+// The other leg of c has a clear price, its net with the legging order's is no more than N, and its size is enough.
+pub fn can_pair(b: &[u32], g: [[Level; 2]; 8], c: Complex, s: u8, d: u8, l: Legging) -> bool
+    requires { ⌜ (length (now b) ≡ size) × (GridOf g (venueOf (now b) .regular)) × (LegsIn c) ⌝ }
+    ensures { λ r. ⌜ r ≡ pairs (venueOf (now (b .entry))) c s d (l .price) (l .quantity) ⌝ }
+{
+    let clear = other_clear(b, g, c, s);
+    if clear == 0 {
+        return false;
+    }
+    let other = levels::other_leg(c, s);
+    let net = rules::net_of(d, l.price, other.side, clear);
+    let limit = limit_of(c);
+    if net <= limit {
+        let k = l.quantity as u64;
+        return k <= other_size(b, g, c, s);
+    }
+    false
+}
+
+// The test of a legging order of c at side d of series s, by rising cause.
+pub fn test_order(b: &[u32], g: [[Level; 2]; 8], c: Complex, s: u8, d: u8, l: Legging) -> Verdict
+    requires { ⌜ (length (now b) ≡ size) × (GridOf g (venueOf (now b) .regular)) × (LegsIn c) × (s < 8) × (d < 2) ⌝ }
+    ensures { λ r. ⌜ r ≡ verdictOf (venueOf (now (b .entry))) c s d l ⌝ }
+{
+    if !shown_well(b, g, s, d, l.price) {
+        return Verdict::Fails(Cause::Worse);
+    }
+    if !can_pair(b, g, c, s, d, l) {
+        return Verdict::Fails(Cause::Unpaired);
+    }
+    if !levels::in_band(b, g, c, limit_of(c)) {
+        return Verdict::Fails(Cause::OutOfBand);
+    }
+    if !levels::both_open(b, c) {
+        return Verdict::Fails(Cause::NotOpen);
+    }
+    Verdict::Stands
+}
+
+// The test of what stands at place n.
+pub fn judge(b: &[u32], g: [[Level; 2]; 8], n: usize) -> Verdict
+    requires { ⌜ (length (now b) ≡ size) × (GridOf g (venueOf (now b) .regular)) × (n < 16) ⌝ }
+    ensures { λ r. ⌜ r ≡ verdict (venueOf (now (b .entry))) n (getD (venueOf (now (b .entry)) .legging) n noLegging) ⌝ }
+{
+    let l = places::legging_at(b, n);
+    if l.quantity == 0 {
+        return Verdict::Stands;
+    }
+    let c = levels::parent_of(b, l);
+    test_order(b, g, c, (n / 2) as u8, (n % 2) as u8, l)
+}
+
+// The number of each place's verdict.
+fn verdicts(b: &[u32], g: [[Level; 2]; 8]) -> [u8; 16]
+    requires { ⌜ (length (now b) ≡ size) × (GridOf g (venueOf (now b) .regular)) ⌝ }
+    ensures { λ r. ⌜ ((n : ℕ) → n < 16 → getD r n 0 ≡ verdictNumber (verdict (venueOf (now (b .entry))) n (leggingIn (now (b .entry)) n))) ⌝ }
+{
+    let mut marks = [0u8; 16];
+    let mut n: usize = 0;
+    while n < 16 {
+        marks[n] = rules::verdict_number(judge(b, g, n));
+        n += 1;
+    }
+    marks
+}
+
+// No legging order stands.
+pub fn none_stands(b: &[u32]) -> bool
+    requires { ⌜ length (now b) ≡ size ⌝ }
+    ensures { λ r. ⌜ r ≡ eqb (mask (venueOf (now (b .entry)) .legging)) 0 ⌝ }
+{
+    let mut n: usize = 0;
+    while n < 16 {
+        let l = places::legging_at(b, n);
+        if l.quantity != 0 {
+            return false;
+        }
+        n += 1;
+    }
+    true
+}
+
+// All legging orders are tested against the same state, and the failures go together.
+pub fn settle_with(b: &mut [u32], g: [[Level; 2]; 8], out: &mut [u8], at: usize) -> usize
+    requires { ⌜ (length (now b) ≡ size) × (GridOf g (venueOf (now b) .regular)) ⌝ }
+    ensures { λ r. ⌜ stage (venueOf (now (b .exit))) (now (out .exit)) r ≡ seen (now (out .entry)) at does settle (venueOf (now (b .entry))) ⌝ }
+    ensures counts { λ r. ⌜ SameCounts (now (b .entry)) (now (b .exit)) ⌝ }
+{
+    let marks = verdicts(b, g);
+    removal::remove_marked(b, marks, out, at)
+}
+
+// The same; the grid is made only where some legging order stands.
+pub fn settle_all(b: &mut [u32], out: &mut [u8], at: usize) -> usize
+    requires { ⌜ length (now b) ≡ size ⌝ }
+    ensures { λ r. ⌜ stage (venueOf (now (b .exit))) (now (out .exit)) r ≡ seen (now (out .entry)) at does settle (venueOf (now (b .entry))) ⌝ }
+    ensures counts { λ r. ⌜ SameCounts (now (b .entry)) (now (b .exit)) ⌝ }
+{
+    if none_stands(b) {
+        return at;
+    }
+    let g = levels::levels(b);
+    settle_with(b, g, out, at)
+}
+
+// Every legging order but the one at place m passes its test.
+pub fn others_stand(b: &[u32], g: [[Level; 2]; 8], m: usize) -> bool
+    requires { ⌜ (length (now b) ≡ size) × (GridOf g (venueOf (now b) .regular)) ⌝ }
+    ensures { λ r. ⌜ r ≡ othersStand (venueOf (now (b .entry))) m 0 (venueOf (now (b .entry)) .legging) ⌝ }
+{
+    let mut n: usize = 0;
+    while n < 16 {
+        let place = n;
+        n += 1;
+        if place == m {
+            continue;
+        }
+        let Verdict::Stands = judge(b, g, place) else {
+            return false;
+        };
+    }
+    true
+}
+
+// Sign × z for a leg of side d.
+fn signed_of(d: u8, z: i64) -> i64
+    requires { ⌜ natAbs z ≤ 8589934590 ⌝ }
+    ensures { λ r. ⌜ r ≡ signed d z ⌝ }
+{
+    if d == 0 {
+        return z;
+    }
+    0 - z
+}
+
+// A price; 0 where the number is negative.
+fn as_price(z: i64) -> u64
+    ensures { λ r. ⌜ r ≡ asPrice z ⌝ }
+{
+    if z < 0 {
+        return 0;
+    }
+    z as u64
+}
+
+// A price whose displayed price is from the increment to 100,000; else 0.
+fn ranged(s: u8, d: u8, p: u64) -> u32
+    ensures { λ r. ⌜ r ≡ rangedPrice s d p ⌝ }
+{
+    if 100009 < p {
+        return 0;
+    }
+    let price = p as u32;
+    let shown = rules::displayed_price(s, d, price);
+    if shown < (rules::increment_of(s) as u64) {
+        return 0;
+    }
+    if 100000 < shown {
+        return 0;
+    }
+    price
+}
+
+// The price of the leg of c at side d of series s: sign × (N - the other leg's sign × its clear price); 0 where there is none in range.
+pub fn leg_price(b: &[u32], g: [[Level; 2]; 8], c: Complex, s: u8, d: u8) -> u32
+    requires { ⌜ (length (now b) ≡ size) × (GridOf g (venueOf (now b) .regular)) × (LegsIn c) ⌝ }
+    ensures { λ r. ⌜ r ≡ pricedLeg (venueOf (now (b .entry))) c s d ⌝ }
+{
+    let clear = other_clear(b, g, c, s);
+    if clear == 0 {
+        return 0;
+    }
+    let other = levels::other_leg(c, s);
+    let limit = limit_of(c);
+    let price = rules::signed_price(other.side, clear);
+    ranged(s, d, as_price(signed_of(d, limit - price)))
+}
+
+// Both series of c are open, and N is in band.
+fn market_open(b: &[u32], g: [[Level; 2]; 8], c: Complex) -> bool
+    requires { ⌜ (length (now b) ≡ size) × (GridOf g (venueOf (now b) .regular)) × (LegsIn c) ⌝ }
+    ensures { λ r. ⌜ r ≡ marketOpen (venueOf (now (b .entry))) c ⌝ }
+{
+    if !levels::both_open(b, c) {
+        return false;
+    }
+    levels::in_band(b, g, c, limit_of(c))
+}
+
+// A price p of side d reaches a price q that is there.
+fn reaches_any(d: u8, p: u32, q: u32) -> bool
+    ensures { λ r. ⌜ r ≡ reachesAny d p q ⌝ }
+{
+    if q == 0 {
+        return false;
+    }
+    levels::reaches_price(d, p, q)
+}
+
+// A price p at side d of series s is no worse than the best regular of its side, and reaches nothing opposite.
+fn stands_clear(b: &[u32], g: [[Level; 2]; 8], s: u8, d: u8, p: u32) -> bool
+    requires { ⌜ (length (now b) ≡ size) × (GridOf g (venueOf (now b) .regular)) × (s < 8) × (d < 2) ⌝ }
+    ensures { λ r. ⌜ r ≡ standsClear (venueOf (now (b .entry))) s d p ⌝ }
+{
+    if !shown_well(b, g, s, d, p) {
+        return false;
+    }
+    let f = rules::opposite_of(d);
+    if reaches_any(d, p, levels::best_own(b, g, s, f)) {
+        return false;
+    }
+    !reaches_any(d, p, levels::away_price(b, s, f))
+}
+
+// What stands at side d of series s gives way to c at price p: it is worse, or of class 1 at an equal price while c is of class 0.
+pub fn gives_way(b: &[u32], c: Complex, s: u8, d: u8, p: u32) -> bool
+    requires { ⌜ (length (now b) ≡ size) × (s < 8) × (d < 2) ⌝ }
+    ensures { λ r. ⌜ r ≡ givesWay (venueOf (now (b .entry))) c d p (leggingAt (venueOf (now (b .entry))) s d) ⌝ }
+{
+    let own = levels::own_price(b, s, d);
+    if levels::is_better(d, p, own) {
+        return true;
+    }
+    if p != own {
+        return false;
+    }
+    if c.class != 0 {
+        return false;
+    }
+    let holder = levels::parent_of(b, places::legging_at(b, rules::place_of(s, d)));
+    holder.class == 1
+}
+
+// All that is asked of a legging order of c at price p but that the others stand.
+fn may_stand(b: &[u32], g: [[Level; 2]; 8], c: Complex, s: u8, d: u8, p: u32) -> bool
+    requires { ⌜ (length (now b) ≡ size) × (GridOf g (venueOf (now b) .regular)) × (LegsIn c) × (s < 8) × (d < 2) ⌝ }
+    ensures { λ r. ⌜ r ≡ mayStand (venueOf (now (b .entry))) c s d p ⌝ }
+{
+    if !market_open(b, g, c) {
+        return false;
+    }
+    if !stands_clear(b, g, s, d, p) {
+        return false;
+    }
+    gives_way(b, c, s, d, p)
+}
+
+// The lesser of an order's open quantity and the size at the other leg's clear price.
+fn leg_quantity(b: &[u32], g: [[Level; 2]; 8], c: Complex, s: u8) -> u32
+    requires { ⌜ (length (now b) ≡ size) × (GridOf g (venueOf (now b) .regular)) × (LegsIn c) ⌝ }
+    ensures { λ r. ⌜ r ≡ min (c .quantity) (otherSize (venueOf (now (b .entry))) c s) ⌝ }
+{
+    let open = c.quantity as u64;
+    let there = other_size(b, g, c, s);
+    if open < there {
+        return c.quantity;
+    }
+    there as u32
+}
+
+// With l at place n every other legging order passes its test. The venue is left as it was.
+fn others_stand_with(b: &mut [u32], g: [[Level; 2]; 8], n: usize, l: Legging) -> bool
+    requires { ⌜ (length (now b) ≡ size) × (GridOf g (venueOf (now b) .regular)) × (n < 16) ⌝ }
+    ensures { λ r. ⌜ r ≡ othersStand (placed n l (venueOf (now (b .entry)))) n 0 (placed n l (venueOf (now (b .entry))) .legging) ⌝ }
+    ensures kept { λ r. ⌜ venueOf (now (b .exit)) ≡ venueOf (now (b .entry)) ⌝ }
+    ensures counts { λ r. ⌜ SameCounts (now (b .entry)) (now (b .exit)) ⌝ }
+{
+    let old = places::legging_at(b, n);
+    places::put_legging(b, n, l);
+    let stand = others_stand(b, g, n);
+    places::put_legging(b, n, old);
+    stand
+}
+
+// The legging order of the leg of c at side d of series s, where it may stand; else a free place.
+fn plan_leg(b: &[u32], g: [[Level; 2]; 8], c: Complex, s: u8, d: u8) -> Legging
+    requires { ⌜ (length (now b) ≡ size) × (GridOf g (venueOf (now b) .regular)) × (LegsIn c) × (s < 8) × (d < 2) ⌝ }
+    ensures { λ r. ⌜ r ≡ plannedLeg (venueOf (now (b .entry))) c s d ⌝ }
+{
+    let none = Legging {
+        parent: 0,
+        price: 0,
+        quantity: 0,
+    };
+    if c.quantity == 0 {
+        return none;
+    }
+    let price = leg_price(b, g, c, s, d);
+    if price == 0 {
+        return none;
+    }
+    if !may_stand(b, g, c, s, d, price) {
+        return none;
+    }
+    let quantity = leg_quantity(b, g, c, s);
+    Legging {
+        parent: c.id,
+        price,
+        quantity,
+    }
+}
+
+// The holder of the place goes, and then l is put there.
+fn make_leg(b: &mut [u32], id: u32, s: u8, d: u8, l: Legging, out: &mut [u8], at: usize) -> usize
+    requires { ⌜ (length (now b) ≡ size) × (s < 8) × (d < 2) × (displayed (increment s) d (l .price) ≤ 100000) ⌝ }
+    ensures { λ r. ⌜ stage (venueOf (now (b .exit))) (now (out .exit)) r ≡ seen (now (out .entry)) at does madeBy id s d l (venueOf (now (b .entry))) ⌝ }
+    ensures counts { λ r. ⌜ SameCounts (now (b .entry)) (now (b .exit)) ⌝ }
+{
+    let place = rules::place_of(s, d);
+    let pos = removal::remove_at(b, place, place, Cause::Replaced, out, at);
+    places::put_legging(b, place, l);
+    let shown = rules::displayed_price(s, d, l.price) as u32;
+    wire::emit_generated(out, pos, id, s, d, l.price, shown, l.quantity)
+}
+
+// The legging order of a leg of c, made where every condition holds.
+pub fn generate_leg(
+    b: &mut [u32],
+    g: [[Level; 2]; 8],
+    c: Complex,
+    s: u8,
+    d: u8,
+    out: &mut [u8],
+    at: usize,
+) -> usize
+    requires { ⌜ (length (now b) ≡ size) × (GridOf g (venueOf (now b) .regular)) × (LegsIn c) × (s < 8) × (d < 2) ⌝ }
+    ensures { λ r. ⌜ stage (venueOf (now (b .exit))) (now (out .exit)) r ≡ seen (now (out .entry)) at does generateLeg c s d (venueOf (now (b .entry))) ⌝ }
+    ensures counts { λ r. ⌜ SameCounts (now (b .entry)) (now (b .exit)) ⌝ }
+{
+    let l = plan_leg(b, g, c, s, d);
+    if l.price == 0 {
+        return at;
+    }
+    if !others_stand_with(b, g, rules::place_of(s, d), l) {
+        return at;
+    }
+    make_leg(b, c.id, s, d, l, out, at)
+}
+
+// Generation for the first leg and then the second of the order at place i.
+pub fn generate_order(
+    b: &mut [u32],
+    g: [[Level; 2]; 8],
+    i: usize,
+    out: &mut [u8],
+    at: usize,
+) -> usize
+    requires { ⌜ (length (now b) ≡ size) × (GridOf g (venueOf (now b) .regular)) ⌝ }
+    ensures { λ r. ⌜ stage (venueOf (now (b .exit))) (now (out .exit)) r ≡ seen (now (out .entry)) at does generate i (venueOf (now (b .entry))) ⌝ }
+    ensures counts { λ r. ⌜ SameCounts (now (b .entry)) (now (b .exit)) ⌝ }
+{
+    if places::complexes_used(b) <= i {
+        return at;
+    }
+    let c = places::complex_at(b, i);
+    let pos = generate_leg(b, g, c, c.series1, c.side1, out, at);
+    generate_leg(b, g, c, c.series2, c.side2, out, pos)
+}
