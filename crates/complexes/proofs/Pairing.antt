@@ -12,7 +12,7 @@ use Rattle.rules.specs.declared.Venue.{Venue}
 use Rattle.rules.specs.Base.{if_then_else_}
 use Rattle.rules.specs.Words.{opposite, complexAt}
 use Rattle.rules.specs.Prices.{bestRegular, bestSize, ratio1, ratio2, weighed, net, inBand}
-use Rattle.rules.specs.Effects.{Effect, _⟫_, Turn, ended, turned}
+use Rattle.rules.specs.Effects.{_⟫_, Turn, ended, turned}
 use Rattle.rules.specs.Trading.{take, pairOff}
 use Rattle.rules.specs.Complex.{legsIn, legIn, legInTurn}
 use Rattle.wire.specs.Seen.{seen}
