@@ -1,5 +1,5 @@
 -- Laws of a pass over a list: every element passes a test, and the test of the arrangement.
-use mathlib.Core.Path.{_≡_, refl, sym, ap, _∙_}
+use mathlib.Core.Path.{_≡_, sym, ap, _∙_}
 use mathlib.Core.Bool.{Bool, true, false, _&&_, true≢false}
 use mathlib.Core.List.{List, [], _∷_}
 use Prim.Native.Nat.{ℕ, suc, _+_, _≤_, _<_}
@@ -123,6 +123,9 @@ module _ (a b c : Bool) where
 
   pub second-fails : b ≡ false → false ≡ (a && b && c)
   second-fails h = rw (h, and-false a)
+
+  pub third-fails : c ≡ false → false ≡ (a && b && c)
+  third-fails h = rw (h, and-false (a && b))
 
   pub last-decides : a ≡ true → b ≡ true → c ≡ (a && b && c)
   last-decides h q = rw (h, q)

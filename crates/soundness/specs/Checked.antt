@@ -51,9 +51,9 @@ leggingInRange l = isId (l .parent) && isPrice (l .price) && isQuantity (l .quan
 unfoldable pub hasHome : Venue → Legging → (series side : ℕ) → Bool
 hasHome v l s d = hasLeg (parentOf v l) s d && leb (l .quantity) (parentOf v l .quantity)
 
--- what is asked of orders beside one another
+-- what is asked of the last id, and of orders beside one another
 unfoldable pub ordersSound : Venue → Bool
-ordersSound v = idsDistinct v && all (apart v) eight && leggingsSound v 0 (v .legging)
+ordersSound v = leb (v .last) 4294967295 && idsDistinct v && all (apart v) eight && leggingsSound v 0 (v .legging)
 
 -- r tells whether v is sound; where it is, b stands for it
 pub record Checked (v : Venue) (r : Bool) (b : List ℕ) : Type 0 where

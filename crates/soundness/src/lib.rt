@@ -9,6 +9,8 @@ use rules::Venue;
 use rules::Verdict;
 ghost use mathlib.Core.Path.{_≡_};
 ghost use Prim.Native.Nat.{_<_};
+ghost use mathlib.Core.Bool.{_&&_};
+ghost use lib.Dec.{eqb};
 ghost use lib.ListN.{length, drop};
 ghost use Rattle.rules.specs.Base.{all};
 ghost use Rattle.rules.specs.Places.{blankRegular, blankComplex, blankLegging};
@@ -192,4 +194,193 @@ fn places_sound(v: Venue) -> bool
     }
     let series = v.series;
     series_sound(series)
+}
+
+// Orders beside one another -------------------------------------------------------------------
+
+// A regular order, where it rests, has its id alone.
+fn is_alone(b: &[u32], o: Regular) -> bool
+    requires { ⌜ length (now b) ≡ size ⌝ }
+    ensures { λ r. ⌜ r ≡ isAlone (venueOf (now (b .entry))) o ⌝ }
+{
+    if o.quantity == 0 {
+        return true;
+    }
+    let Found::Nothing = book::complex_place(b, o.id) else {
+        return false;
+    };
+    true
+}
+
+// No id rests in both books.
+fn ids_distinct(b: &[u32]) -> bool
+    requires { ⌜ length (now b) ≡ size ⌝ }
+    ensures { λ r. ⌜ r ≡ idsDistinct (venueOf (now (b .entry))) ⌝ }
+{
+    let n = places::regulars_used(b);
+    let mut i: usize = 0;
+    while i < n {
+        let o = places::regular_at(b, i);
+        if !is_alone(b, o) {
+            return false;
+        }
+        i += 1;
+    }
+    true
+}
+
+// A series is neither locked nor crossed, counting own prices.
+fn is_apart(b: &[u32], g: [[Level; 2]; 8], s: u8) -> bool
+    requires { ⌜ (length (now b) ≡ size) × (GridOf g (venueOf (now b) .regular)) × (s < 8) ⌝ }
+    ensures { λ r. ⌜ r ≡ apart (venueOf (now (b .entry))) s ⌝ }
+{
+    let bid = levels::best_own(b, g, s, 0);
+    if bid == 0 {
+        return true;
+    }
+    let offer = levels::best_own(b, g, s, 1);
+    if offer == 0 {
+        return true;
+    }
+    bid < offer
+}
+
+fn all_apart(b: &[u32], g: [[Level; 2]; 8]) -> bool
+    requires { ⌜ (length (now b) ≡ size) × (GridOf g (venueOf (now b) .regular)) ⌝ }
+    ensures { λ r. ⌜ r ≡ all (apart (venueOf (now (b .entry)))) eight ⌝ }
+{
+    let mut s: u8 = 0;
+    while s < 8 {
+        if !is_apart(b, g, s) {
+            return false;
+        }
+        s += 1;
+    }
+    true
+}
+
+// A legging place that is all zero.
+fn blank_legging(l: Legging) -> bool
+    ensures { λ r. ⌜ r ≡ blankLegging l ⌝ }
+{
+    if l.parent != 0 {
+        return false;
+    }
+    if l.price != 0 {
+        return false;
+    }
+    l.quantity == 0
+}
+
+// A held legging place's fields are in range.
+fn legging_in_range(l: Legging) -> bool
+    ensures { λ r. ⌜ r ≡ leggingInRange l ⌝ }
+{
+    if l.parent == 0 {
+        return false;
+    }
+    if l.price == 0 {
+        return false;
+    }
+    if 100000 < l.price {
+        return false;
+    }
+    if l.quantity == 0 {
+        return false;
+    }
+    l.quantity <= 10000
+}
+
+// A leg's series and side are these.
+fn is_leg(series: u8, side: u8, s: u8, d: u8) -> bool
+    ensures { λ r. ⌜ r ≡ (eqb series s && eqb side d) ⌝ }
+{
+    if series != s {
+        return false;
+    }
+    side == d
+}
+
+// Side d of series s is a leg of c.
+fn has_leg(c: Complex, s: u8, d: u8) -> bool
+    ensures { λ r. ⌜ r ≡ hasLeg c s d ⌝ }
+{
+    if is_leg(c.series1, c.side1, s, d) {
+        return true;
+    }
+    is_leg(c.series2, c.side2, s, d)
+}
+
+// A legging order's parent rests, has this leg, and has as much open.
+fn has_home(b: &[u32], l: Legging, s: u8, d: u8) -> bool
+    requires { ⌜ length (now b) ≡ size ⌝ }
+    ensures { λ r. ⌜ r ≡ hasHome (venueOf (now (b .entry))) l s d ⌝ }
+{
+    let c = levels::parent_of(b, l);
+    if !has_leg(c, s, d) {
+        return false;
+    }
+    l.quantity <= c.quantity
+}
+
+// What stands at a legging place is sound.
+fn legging_sound(b: &[u32], g: [[Level; 2]; 8], n: usize) -> bool
+    requires { ⌜ (length (now b) ≡ size) × (GridOf g (venueOf (now b) .regular)) × (n < 16) ⌝ }
+    ensures { λ r. ⌜ r ≡ leggingSound (venueOf (now (b .entry))) n (leggingIn (now (b .entry)) n) ⌝ }
+{
+    let l = places::legging_at(b, n);
+    if l.quantity == 0 {
+        return blank_legging(l);
+    }
+    if !legging_in_range(l) {
+        return false;
+    }
+    if !has_home(b, l, (n / 2) as u8, (n % 2) as u8) {
+        return false;
+    }
+    let Verdict::Stands = legging::judge(b, g, n) else {
+        return false;
+    };
+    true
+}
+
+fn leggings_sound(b: &[u32], g: [[Level; 2]; 8]) -> bool
+    requires { ⌜ (length (now b) ≡ size) × (GridOf g (venueOf (now b) .regular)) ⌝ }
+    ensures { λ r. ⌜ r ≡ leggingsSound (venueOf (now (b .entry))) 0 (venueOf (now (b .entry)) .legging) ⌝ }
+{
+    let mut n: usize = 0;
+    while n < 16 {
+        if !legging_sound(b, g, n) {
+            return false;
+        }
+        n += 1;
+    }
+    true
+}
+
+// Ids are distinct, no series is locked or crossed, and each legging order is sound.
+fn orders_sound(b: &[u32]) -> bool
+    requires { ⌜ length (now b) ≡ size ⌝ }
+    ensures { λ r. ⌜ r ≡ ordersSound (venueOf (now (b .entry))) ⌝ }
+{
+    if !ids_distinct(b) {
+        return false;
+    }
+    let g = levels::levels(b);
+    if !all_apart(b, g) {
+        return false;
+    }
+    leggings_sound(b, g)
+}
+
+// Whether a venue is sound; one that is stands in the slice afterwards.
+pub fn load_sound(b: &mut [u32], v: Venue) -> bool
+    requires { ⌜ length (now b) ≡ size ⌝ }
+    ensures { λ r. ⌜ Checked v r (now (b .exit)) ⌝ }
+{
+    if !places_sound(v) {
+        return false;
+    }
+    places::load(b, v);
+    orders_sound(b)
 }

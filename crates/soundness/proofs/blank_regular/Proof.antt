@@ -8,7 +8,7 @@ use Rattle.soundness.proofs.blank_regular.Tie as tie
 
 returns : tie.Need-returns
 unfolding blankRegular
-returns c = simp (ne-eqb _ _ (c .if1 .taken), and-false)
+returns c = simp (ne-eqb _ _ (c .if1 .taken))
 
 returns-2 : tie.Need-returns-2
 unfolding blankRegular
