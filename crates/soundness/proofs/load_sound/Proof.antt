@@ -1,0 +1,36 @@
+-- `soundness::load_sound` meets its contract.
+use mathlib.Core.Path.{sym, _∙_}
+use borrow.Author.Tests.{not-true, not-false}
+use Rattle.soundness.proofs.Whole.{checked-not, checked, places-load}
+use borrow.Author.Needs.{needs}
+use Rattle.soundness.proofs.load_sound.Statement.{statement}
+use Rattle.soundness.proofs.load_sound.Tie as tie
+
+places-sound-requires : tie.Need-places-sound-requires
+places-sound-requires c κs = search needs
+
+returns : tie.Need-returns
+returns c = checked-not _ _ (sym (c .before .places-sound .ensures) ∙ not-true _ (c .if1 .taken))
+
+load-requires : tie.Need-load-requires
+load-requires c κs = (c .before .before .before .before .pre, places-load (c .before .before .before .before .args .v) (sym (c .before .before .places-sound .ensures) ∙ not-false _ (c .before .if1 .left)))
+
+orders-sound-requires : tie.Need-orders-sound-requires
+orders-sound-requires c κs = search needs
+
+same-length : tie.Need-same-length
+same-length c = search needs
+
+returns-2 : tie.Need-returns-2
+returns-2 c = checked _ _ _ (sym (c .before .before .before .before .before .before .before .places-sound .ensures) ∙ not-false _ (c .before .before .before .before .before .before .if1 .left)) (c .before .before .before .before .load .ensures) (c .orders-sound .ensures)
+
+pub load-sound-spec : {M : Type 1} → statement M
+load-sound-spec =
+    tie.close
+    (tie.spec
+    places-sound-requires
+    returns
+    load-requires
+    orders-sound-requires
+    same-length
+    returns-2)

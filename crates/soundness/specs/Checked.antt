@@ -1,0 +1,61 @@
+-- The check of a venue held by value.
+use mathlib.Core.Path.{_≡_}
+use mathlib.Core.Bool.{Bool, true, not, _&&_, _||_}
+use mathlib.Core.List.{List, [], _∷_}
+use Prim.Native.Nat.{ℕ}
+use lib.Dec.{leb}
+use Rattle.rules.specs.declared.Regular.{Regular}
+use Rattle.rules.specs.declared.Complex.{Complex}
+use Rattle.rules.specs.declared.Legging.{Legging}
+use Rattle.rules.specs.declared.Venue.{Venue}
+use Rattle.rules.specs.Base.{held, all}
+use Rattle.rules.specs.Words.{isId, isPrice, isQuantity}
+use Rattle.rules.specs.Standing.{hasLeg, parentOf}
+use Rattle.rules.specs.Places.{holdsRegular, holdsComplex, blankRegular, blankComplex, arranged}
+use Rattle.rules.specs.Refusals.{regularInRange, complexInRange}
+use Rattle.rules.specs.Complex.{restsComplex}
+use Rattle.rules.specs.Sound.{apart, listedInRange, leggingsSound, regularsSound, complexesSound, idsDistinct, sound}
+use Rattle.places.specs.Layout.{Loaded}
+
+-- in range, with an id of at most `last`
+abbrev pub askedRegular : (last : ℕ) → Regular → Bool
+askedRegular last o = regularInRange o && leb (o .id) last
+
+abbrev pub askedComplex : (last : ℕ) → Complex → Bool
+askedComplex last c = complexInRange c && leb (c .id) last
+
+-- a book's places, with ids above `low` and at most `last`
+unfoldable pub regularsFrom : (last low : ℕ) → List Regular → Bool
+regularsFrom last low l = arranged holdsRegular (askedRegular last) blankRegular (λ o. o .id) low l
+
+unfoldable pub complexesFrom : (last low : ℕ) → List Complex → Bool
+complexesFrom last low l = arranged holdsComplex (askedComplex last) blankComplex (λ c. c .id) low l
+
+-- what is asked of each place by itself: it makes a venue loadable
+unfoldable pub placesSound : Venue → Bool
+placesSound v = regularsSound v && complexesSound v && all listedInRange (v .series)
+
+-- a regular order, where it rests, has its id alone
+unfoldable pub isAlone : Venue → Regular → Bool
+isAlone v o = not (held (o .quantity)) || not (restsComplex v (o .id))
+
+-- the eight series
+abbrev pub eight : List ℕ
+eight = 0 ∷ 1 ∷ 2 ∷ 3 ∷ 4 ∷ 5 ∷ 6 ∷ 7 ∷ []
+
+-- the fields of a legging order
+unfoldable pub leggingInRange : Legging → Bool
+leggingInRange l = isId (l .parent) && isPrice (l .price) && isQuantity (l .quantity)
+
+-- its parent rests, has this leg, and has as much open
+unfoldable pub hasHome : Venue → Legging → (series side : ℕ) → Bool
+hasHome v l s d = hasLeg (parentOf v l) s d && leb (l .quantity) (parentOf v l .quantity)
+
+-- what is asked of the last id, and of orders beside one another
+unfoldable pub ordersSound : Venue → Bool
+ordersSound v = leb (v .last) 4294967295 && idsDistinct v && all (apart v) eight && leggingsSound v 0 (v .legging)
+
+-- r tells whether v is sound; where it is, b stands for it
+pub record Checked (v : Venue) (r : Bool) (b : List ℕ) : Type 0 where
+  pub answer : r ≡ sound v
+  pub loaded : r ≡ true → Loaded v b

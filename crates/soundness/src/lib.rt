@@ -1,0 +1,386 @@
+// Whether a venue that is held by value is sound. One that is sound is loaded on the way.
+use book::Found;
+use levels::Level;
+use rules::Complex;
+use rules::Legging;
+use rules::Listed;
+use rules::Regular;
+use rules::Venue;
+use rules::Verdict;
+ghost use mathlib.Core.Path.{_≡_};
+ghost use Prim.Native.Nat.{_<_};
+ghost use mathlib.Core.Bool.{_&&_};
+ghost use lib.Dec.{eqb};
+ghost use lib.ListN.{length, drop};
+ghost use Rattle.rules.specs.Base.{all};
+ghost use Rattle.rules.specs.Places.{blankRegular, blankComplex, blankLegging};
+ghost use Rattle.rules.specs.Standing.{hasLeg};
+ghost use Rattle.rules.specs.Sound.{apart, listedInRange, leggingSound, leggingsSound, idsDistinct};
+ghost use Rattle.places.specs.Layout.{size, leggingIn, venueOf};
+ghost use Rattle.levels.specs.Grid.{GridOf};
+ghost use Rattle.soundness.specs.Checked.{regularsFrom, complexesFrom, placesSound, isAlone, eight, leggingInRange, hasHome, ordersSound, Checked};
+
+// Places by themselves ------------------------------------------------------------------------
+
+// A regular place that is all zero.
+fn blank_regular(o: Regular) -> bool
+    ensures { λ r. ⌜ r ≡ blankRegular o ⌝ }
+{
+    if o.id != 0 {
+        return false;
+    }
+    if o.series != 0 {
+        return false;
+    }
+    if o.side != 0 {
+        return false;
+    }
+    if o.price != 0 {
+        return false;
+    }
+    o.quantity == 0
+}
+
+// All places from one on are zero.
+fn regulars_blank(l: [Regular; 128], from: usize) -> bool
+    ensures { λ r. ⌜ r ≡ all blankRegular (drop from l) ⌝ }
+{
+    let mut i = from;
+    while i < 128 {
+        let o = l[i];
+        if !blank_regular(o) {
+            return false;
+        }
+        i += 1;
+    }
+    true
+}
+
+// Held places come first, in range and in rising id up to the last; then places that are all zero.
+fn regulars_sound(l: [Regular; 128], last: u32) -> bool
+    ensures { λ r. ⌜ r ≡ regularsFrom last 0 l ⌝ }
+{
+    let mut low: u32 = 0;
+    let mut i: usize = 0;
+    while i < 128 {
+        let o = l[i];
+        if o.quantity == 0 {
+            return regulars_blank(l, i);
+        }
+        if o.id <= low {
+            return false;
+        }
+        if !wire::regular_in_range(o) {
+            return false;
+        }
+        if last < o.id {
+            return false;
+        }
+        low = o.id;
+        i += 1;
+    }
+    true
+}
+
+// A complex place that is all zero.
+fn blank_complex(c: Complex) -> bool
+    ensures { λ r. ⌜ r ≡ blankComplex c ⌝ }
+{
+    if c.id != 0 {
+        return false;
+    }
+    if c.series1 != 0 {
+        return false;
+    }
+    if c.side1 != 0 {
+        return false;
+    }
+    if c.series2 != 0 {
+        return false;
+    }
+    if c.side2 != 0 {
+        return false;
+    }
+    if c.class != 0 {
+        return false;
+    }
+    let limit = c.limit;
+    if limit < 0 {
+        return false;
+    }
+    if 0 < limit {
+        return false;
+    }
+    c.quantity == 0
+}
+
+fn complexes_blank(l: [Complex; 32], from: usize) -> bool
+    ensures { λ r. ⌜ r ≡ all blankComplex (drop from l) ⌝ }
+{
+    let mut i = from;
+    while i < 32 {
+        let c = l[i];
+        if !blank_complex(c) {
+            return false;
+        }
+        i += 1;
+    }
+    true
+}
+
+fn complexes_sound(l: [Complex; 32], last: u32) -> bool
+    ensures { λ r. ⌜ r ≡ complexesFrom last 0 l ⌝ }
+{
+    let mut low: u32 = 0;
+    let mut i: usize = 0;
+    while i < 32 {
+        let c = l[i];
+        if c.quantity == 0 {
+            return complexes_blank(l, i);
+        }
+        if c.id <= low {
+            return false;
+        }
+        if !wire::complex_in_range(c) {
+            return false;
+        }
+        if last < c.id {
+            return false;
+        }
+        low = c.id;
+        i += 1;
+    }
+    true
+}
+
+// A series' fields are in range.
+fn listed_in_range(x: Listed) -> bool
+    ensures { λ r. ⌜ r ≡ listedInRange x ⌝ }
+{
+    if 2 < x.status {
+        return false;
+    }
+    if 100000 < x.bid {
+        return false;
+    }
+    x.offer <= 100000
+}
+
+fn series_sound(l: [Listed; 8]) -> bool
+    ensures { λ r. ⌜ r ≡ all listedInRange l ⌝ }
+{
+    let mut i: usize = 0;
+    while i < 8 {
+        let x = l[i];
+        if !listed_in_range(x) {
+            return false;
+        }
+        i += 1;
+    }
+    true
+}
+
+// Every place by itself is sound, and both books are arranged.
+fn places_sound(v: Venue) -> bool
+    ensures { λ r. ⌜ r ≡ placesSound v ⌝ }
+{
+    let regular = v.regular;
+    if !regulars_sound(regular, v.last) {
+        return false;
+    }
+    let complex = v.complex;
+    if !complexes_sound(complex, v.last) {
+        return false;
+    }
+    let series = v.series;
+    series_sound(series)
+}
+
+// Orders beside one another -------------------------------------------------------------------
+
+// A regular order, where it rests, has its id alone.
+fn is_alone(b: &[u32], o: Regular) -> bool
+    requires { ⌜ length (now b) ≡ size ⌝ }
+    ensures { λ r. ⌜ r ≡ isAlone (venueOf (now (b .entry))) o ⌝ }
+{
+    if o.quantity == 0 {
+        return true;
+    }
+    let Found::Nothing = book::complex_place(b, o.id) else {
+        return false;
+    };
+    true
+}
+
+// No id rests in both books.
+fn ids_distinct(b: &[u32]) -> bool
+    requires { ⌜ length (now b) ≡ size ⌝ }
+    ensures { λ r. ⌜ r ≡ idsDistinct (venueOf (now (b .entry))) ⌝ }
+{
+    let n = places::regulars_used(b);
+    let mut i: usize = 0;
+    while i < n {
+        let o = places::regular_at(b, i);
+        if !is_alone(b, o) {
+            return false;
+        }
+        i += 1;
+    }
+    true
+}
+
+// A series is neither locked nor crossed, counting own prices.
+fn is_apart(b: &[u32], g: [[Level; 2]; 8], s: u8) -> bool
+    requires { ⌜ (length (now b) ≡ size) × (GridOf g (venueOf (now b) .regular)) × (s < 8) ⌝ }
+    ensures { λ r. ⌜ r ≡ apart (venueOf (now (b .entry))) s ⌝ }
+{
+    let bid = levels::best_own(b, g, s, 0);
+    if bid == 0 {
+        return true;
+    }
+    let offer = levels::best_own(b, g, s, 1);
+    if offer == 0 {
+        return true;
+    }
+    bid < offer
+}
+
+fn all_apart(b: &[u32], g: [[Level; 2]; 8]) -> bool
+    requires { ⌜ (length (now b) ≡ size) × (GridOf g (venueOf (now b) .regular)) ⌝ }
+    ensures { λ r. ⌜ r ≡ all (apart (venueOf (now (b .entry)))) eight ⌝ }
+{
+    let mut s: u8 = 0;
+    while s < 8 {
+        if !is_apart(b, g, s) {
+            return false;
+        }
+        s += 1;
+    }
+    true
+}
+
+// A legging place that is all zero.
+fn blank_legging(l: Legging) -> bool
+    ensures { λ r. ⌜ r ≡ blankLegging l ⌝ }
+{
+    if l.parent != 0 {
+        return false;
+    }
+    if l.price != 0 {
+        return false;
+    }
+    l.quantity == 0
+}
+
+// A held legging place's fields are in range.
+fn legging_in_range(l: Legging) -> bool
+    ensures { λ r. ⌜ r ≡ leggingInRange l ⌝ }
+{
+    if l.parent == 0 {
+        return false;
+    }
+    if l.price == 0 {
+        return false;
+    }
+    if 100000 < l.price {
+        return false;
+    }
+    if l.quantity == 0 {
+        return false;
+    }
+    l.quantity <= 10000
+}
+
+// A leg's series and side are these.
+fn is_leg(series: u8, side: u8, s: u8, d: u8) -> bool
+    ensures { λ r. ⌜ r ≡ (eqb series s && eqb side d) ⌝ }
+{
+    if series != s {
+        return false;
+    }
+    side == d
+}
+
+// Side d of series s is a leg of c.
+fn has_leg(c: Complex, s: u8, d: u8) -> bool
+    ensures { λ r. ⌜ r ≡ hasLeg c s d ⌝ }
+{
+    if is_leg(c.series1, c.side1, s, d) {
+        return true;
+    }
+    is_leg(c.series2, c.side2, s, d)
+}
+
+// A legging order's parent rests, has this leg, and has as much open.
+fn has_home(b: &[u32], l: Legging, s: u8, d: u8) -> bool
+    requires { ⌜ length (now b) ≡ size ⌝ }
+    ensures { λ r. ⌜ r ≡ hasHome (venueOf (now (b .entry))) l s d ⌝ }
+{
+    let c = levels::parent_of(b, l);
+    if !has_leg(c, s, d) {
+        return false;
+    }
+    l.quantity <= c.quantity
+}
+
+// What stands at a legging place is sound.
+fn legging_sound(b: &[u32], g: [[Level; 2]; 8], n: usize) -> bool
+    requires { ⌜ (length (now b) ≡ size) × (GridOf g (venueOf (now b) .regular)) × (n < 16) ⌝ }
+    ensures { λ r. ⌜ r ≡ leggingSound (venueOf (now (b .entry))) n (leggingIn (now (b .entry)) n) ⌝ }
+{
+    let l = places::legging_at(b, n);
+    if l.quantity == 0 {
+        return blank_legging(l);
+    }
+    if !legging_in_range(l) {
+        return false;
+    }
+    if !has_home(b, l, (n / 2) as u8, (n % 2) as u8) {
+        return false;
+    }
+    let Verdict::Stands = legging::judge(b, g, n) else {
+        return false;
+    };
+    true
+}
+
+fn leggings_sound(b: &[u32], g: [[Level; 2]; 8]) -> bool
+    requires { ⌜ (length (now b) ≡ size) × (GridOf g (venueOf (now b) .regular)) ⌝ }
+    ensures { λ r. ⌜ r ≡ leggingsSound (venueOf (now (b .entry))) 0 (venueOf (now (b .entry)) .legging) ⌝ }
+{
+    let mut n: usize = 0;
+    while n < 16 {
+        if !legging_sound(b, g, n) {
+            return false;
+        }
+        n += 1;
+    }
+    true
+}
+
+// Ids are distinct, no series is locked or crossed, and each legging order is sound.
+fn orders_sound(b: &[u32]) -> bool
+    requires { ⌜ length (now b) ≡ size ⌝ }
+    ensures { λ r. ⌜ r ≡ ordersSound (venueOf (now (b .entry))) ⌝ }
+{
+    if !ids_distinct(b) {
+        return false;
+    }
+    let g = levels::levels(b);
+    if !all_apart(b, g) {
+        return false;
+    }
+    leggings_sound(b, g)
+}
+
+// Whether a venue is sound; one that is stands in the slice afterwards.
+pub fn load_sound(b: &mut [u32], v: Venue) -> bool
+    requires { ⌜ length (now b) ≡ size ⌝ }
+    ensures { λ r. ⌜ Checked v r (now (b .exit)) ⌝ }
+{
+    if !places_sound(v) {
+        return false;
+    }
+    places::load(b, v);
+    orders_sound(b)
+}
