@@ -1,0 +1,4 @@
+pub mod Pairing
+pub mod Working
+pub mod Sweeping
+pub mod Finding

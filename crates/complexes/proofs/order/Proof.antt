@@ -1,0 +1,34 @@
+-- `complexes::order` meets its contract.
+use Rattle.rules.specs.Standing.{settle}
+use Rattle.rules.specs.Order.{enterRegular, order}
+use Rattle.wire.proofs.Stages.{follow}
+use Rattle.places.specs.Layout.{venueOf}
+use Rattle.complexes.proofs.Working.{counts-more}
+use borrow.Author.Needs.{needs}
+use Rattle.complexes.proofs.order.Statement.{statement}
+use Rattle.complexes.proofs.order.Tie as tie
+use Rattle.complexes.proofs.order.Reads as reads
+use Rattle.complexes.proofs.order.Lts as lts
+use Rattle.legging.proofs.settle_all.Reads as settle-all-reads
+use Rattle.matching.proofs.enter_regular.Reads as enter-regular-reads
+
+enter-regular-requires : tie.Need-enter-regular-requires
+enter-regular-requires c κs = c .before .before .before .before .pre
+
+settle-all-requires : tie.Need-settle-all-requires
+settle-all-requires c κs = search needs
+
+same-length : tie.Need-same-length
+same-length c = search needs
+
+same-length-2 : tie.Need-same-length-2
+same-length-2 c = search needs
+
+returns : tie.Need-returns
+unfolding order
+returns c = (follow _ (enterRegular (c .before .before .before .before .before .before .before .before .before .before .before .before .before .before .before .before .args .o) (venueOf (c .before .before .before .before .before .before .before .before .before .before .before .before .before .before .before .before .args .b .now))) settle _ _ _ _ _ _ (c .before .before .before .before .before .before .before .before .before .before .before .enter-regular .ensures .0) (c .before .before .before .before .settle-all .ensures .0), counts-more _ _ _ _ (c .before .before .before .before .before .before .before .before .before .before .before .enter-regular .ensures .1) (c .before .before .before .before .settle-all .ensures .1))
+
+pub order-spec : {M : Type 1} → statement M
+order-spec =
+    tie.close
+    (tie.spec enter-regular-requires settle-all-requires same-length same-length-2 returns)

@@ -1,0 +1,63 @@
+-- `complexes::work` meets its contract.
+use mathlib.Core.Path.{refl, sym, subst, _∙_}
+use native.Mathlib.Omega.{arith}
+use Rattle.places.proofs.Parts.{complexes-few, complex-at}
+use Rattle.levels.specs.Grid.{LegsIn}
+use Rattle.levels.proofs.Sides.{legs-in}
+use Rattle.removal.proofs.Removing.{counts-on}
+use Rattle.complexes.proofs.Working.{quiet-grid, quiet-book, crosses-quiet, touch-quiet, book-on, work-closed, work-steps}
+use borrow.Author.Needs.{needs}
+use Rattle.complexes.proofs.work.Statement.{statement}
+use Rattle.complexes.proofs.work.Tie as tie
+use Rattle.complexes.proofs.work.Reads as reads
+use Rattle.complexes.proofs.work.Lts as lts
+use Rattle.complexes.proofs.leg_in_all.Reads as leg-in-all-reads
+use Rattle.crossing.proofs.cross_all.Reads as cross-all-reads
+use Rattle.crossing.proofs.touch.Reads as touch-reads
+use Rattle.levels.proofs.any_closed.Reads as any-closed-reads
+use Rattle.places.proofs.complex_at.Reads as complex-at-reads
+
+complex-at-requires : tie.Need-complex-at-requires
+complex-at-requires c κs = let z = complexes-few (c .before .before .before .args .b .now) in (c .before .before .before .pre .0, omega (arith, c .before .before .before .pre .2))
+
+any-closed-requires : tie.Need-any-closed-requires
+any-closed-requires c κs = (c .before .before .before .before .before .pre .0, subst LegsIn (sym (c .before .complex-at .ensures)) (legs-in (c .before .before .before .before .before .args .b .now) (c .before .before .before .before .before .args .i)))
+
+same-length : tie.Need-same-length
+same-length c = search needs
+
+returns : tie.Need-returns
+returns c = (work-closed (c .before .before .before .before .before .before .before .args .i) _ _ (c .before .before .before .complex-at .ensures ∙ sym (complex-at (c .before .before .before .before .before .before .before .args .b .now) (c .before .before .before .before .before .before .before .args .i) (c .before .before .before .before .before .before .before .pre .2))) _ _ (sym (c .before .any-closed .ensures) ∙ c .if1 .taken), (record { regulars = refl; complexes = refl }, record { same = λ _. refl }))
+
+cross-all-requires : tie.Need-cross-all-requires
+cross-all-requires c κs = search needs
+
+touch-requires : tie.Need-touch-requires
+touch-requires c κs = (c .before .before .before .before .before .before .cross-all .kept .0 ∙ c .before .before .before .before .before .before .before .before .before .before .before .before .before .before .before .before .pre .0, quiet-grid _ _ _ _ _ _ _ (c .before .before .before .before .before .before .cross-all .ensures .0) (crosses-quiet (c .before .before .before .before .before .before .before .before .before .before .before .before .before .before .before .before .args .i) _ _) (c .before .before .before .before .before .before .before .before .before .before .before .before .before .before .before .before .args .g) (c .before .before .before .before .before .before .before .before .before .before .before .before .before .before .before .before .pre .1), omega (arith, c .before .before .before .before .before .before .cross-all .ensures .1 .complexes, c .before .before .before .before .before .before .before .before .before .before .before .before .before .before .before .before .pre .2))
+
+leg-in-all-requires : tie.Need-leg-in-all-requires
+leg-in-all-requires c κs = (c .before .before .before .before .before .before .touch .kept .0 ∙ c .before .before .before .before .before .before .before .before .before .before .before .before .before .cross-all .kept .0 ∙ c .before .before .before .before .before .before .before .before .before .before .before .before .before .before .before .before .before .before .before .before .before .before .before .pre .0, quiet-grid _ _ _ _ _ _ _ (c .before .before .before .before .before .before .touch .ensures .0) (touch-quiet (c .before .before .before .before .before .before .before .before .before .before .before .before .before .before .before .before .before .before .before .before .before .before .before .args .i) _) (c .before .before .before .before .before .before .before .before .before .before .before .before .before .before .before .before .before .before .before .before .before .before .before .args .g) (quiet-grid _ _ _ _ _ _ _ (c .before .before .before .before .before .before .before .before .before .before .before .before .before .cross-all .ensures .0) (crosses-quiet (c .before .before .before .before .before .before .before .before .before .before .before .before .before .before .before .before .before .before .before .before .before .before .before .args .i) _ _) (c .before .before .before .before .before .before .before .before .before .before .before .before .before .before .before .before .before .before .before .before .before .before .before .args .g) (c .before .before .before .before .before .before .before .before .before .before .before .before .before .before .before .before .before .before .before .before .before .before .before .pre .1)), omega (arith, c .before .before .before .before .before .before .touch .ensures .1 .complexes, c .before .before .before .before .before .before .before .before .before .before .before .before .before .cross-all .ensures .1 .complexes, c .before .before .before .before .before .before .before .before .before .before .before .before .before .before .before .before .before .before .before .before .before .before .before .pre .2))
+
+same-length-2 : tie.Need-same-length-2
+same-length-2 c = search needs
+
+same-length-3 : tie.Need-same-length-3
+same-length-3 c = search needs
+
+returns-2 : tie.Need-returns-2
+returns-2 c = (work-steps (c .before .before .before .before .before .before .before .before .before .before .before .before .before .before .before .before .before .before .before .before .before .before .before .before .before .before .before .before .args .i) _ _ (c .before .before .before .before .before .before .before .before .before .before .before .before .before .before .before .before .before .before .before .before .before .before .before .before .complex-at .ensures ∙ sym (complex-at (c .before .before .before .before .before .before .before .before .before .before .before .before .before .before .before .before .before .before .before .before .before .before .before .before .before .before .before .before .args .b .now) (c .before .before .before .before .before .before .before .before .before .before .before .before .before .before .before .before .before .before .before .before .before .before .before .before .before .before .before .before .args .i) (c .before .before .before .before .before .before .before .before .before .before .before .before .before .before .before .before .before .before .before .before .before .before .before .before .before .before .before .before .pre .2))) _ _ _ _ _ _ _ _ _ _ _ (sym (c .before .before .before .before .before .before .before .before .before .before .before .before .before .before .before .before .before .before .before .before .before .before .any-closed .ensures) ∙ c .before .before .before .before .before .before .before .before .before .before .before .before .before .before .before .before .before .before .before .before .before .if1 .left) (c .before .before .before .before .before .before .before .before .before .before .before .before .before .before .before .before .before .before .cross-all .ensures .0) (c .before .before .before .before .before .before .before .before .before .before .before .touch .ensures .0) (c .before .before .before .before .leg-in-all .ensures .0), (counts-on _ _ _ (counts-on _ _ _ (c .before .before .before .before .before .before .before .before .before .before .before .before .before .before .before .before .before .before .cross-all .ensures .1) (c .before .before .before .before .before .before .before .before .before .before .before .touch .ensures .1)) (c .before .before .before .before .leg-in-all .ensures .1 .0), book-on _ _ _ _ (quiet-book _ _ _ _ _ _ _ (c .before .before .before .before .before .before .before .before .before .before .before .touch .ensures .0) (touch-quiet (c .before .before .before .before .before .before .before .before .before .before .before .before .before .before .before .before .before .before .before .before .before .before .before .before .before .before .before .before .args .i) _) ∙ quiet-book _ _ _ _ _ _ _ (c .before .before .before .before .before .before .before .before .before .before .before .before .before .before .before .before .before .before .cross-all .ensures .0) (crosses-quiet (c .before .before .before .before .before .before .before .before .before .before .before .before .before .before .before .before .before .before .before .before .before .before .before .before .before .before .before .before .args .i) _ _)) (c .before .before .before .before .leg-in-all .ensures .1 .1)))
+
+pub work-spec : {M : Type 1} → statement M
+work-spec =
+    tie.close
+    (tie.spec
+    complex-at-requires
+    any-closed-requires
+    same-length
+    returns
+    cross-all-requires
+    touch-requires
+    leg-in-all-requires
+    same-length-2
+    same-length-3
+    returns-2)

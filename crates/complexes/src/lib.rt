@@ -1,0 +1,257 @@
+// What the messages do: an order, a complex order, a sweep and a cancel, each with its settling; and how a complex order is worked.
+// Each function says in one equation the venue that it leaves and all that it writes: those of its definition.
+use book::Found;
+use book::PickComplex;
+use levels::Level;
+use rules::Complex;
+use rules::Regular;
+ghost use mathlib.Core.Path.{_≡_};
+ghost use mathlib.Core.Bool.{true, false, _||_};
+ghost use Prim.Native.Nat.{ℕ, suc, min, _≤_, _<_};
+ghost use lib.ListN.{length};
+ghost use Rattle.rules.specs.Effects.{repeat};
+ghost use Rattle.rules.specs.Order as order;
+ghost use Rattle.rules.specs.Generation.{generate};
+ghost use Rattle.rules.specs.Complex.{legsIn, legInTurn, each, complexPlace, cancelComplex, restsRegular, restsComplex};
+ghost use Rattle.rules.specs.Complex as complex;
+ghost use Rattle.wire.specs.Seen.{seen};
+ghost use Rattle.wire.specs.Stage.{stage, _does_};
+ghost use Rattle.places.specs.Layout.{size, regularsUsed, complexesUsed, venueOf, Counts, SameCounts, Dense};
+ghost use Rattle.levels.specs.Grid.{GridOf, LegsIn};
+ghost use Rattle.complexes.specs.Effects.{withdrawn};
+ghost use Rattle.complexes.specs.Grids.{SameBook, RightUnless};
+
+// Where the report stands, and whether regular orders were traded with: if not, a grid of their prices is still right.
+pub struct Worked {
+    pub at: usize,
+    pub traded: bool,
+}
+
+// The best regular prices a and p that c would take net to its limit or less, and that net is in band.
+fn can_leg_in(b: &[u32], g: [[Level; 2]; 8], c: Complex, a: u32, p: u32) -> bool
+    requires { ⌜ (length (now b) ≡ size) × (GridOf g (venueOf (now b) .regular)) × (LegsIn c) ⌝ }
+    ensures { λ r. ⌜ r ≡ legsIn (venueOf (now (b .entry))) c a p ⌝ }
+{
+    if c.quantity == 0 {
+        return false;
+    }
+    if a == 0 {
+        return false;
+    }
+    if p == 0 {
+        return false;
+    }
+    let net = rules::net_of(c.side1, a, c.side2, p);
+    let limit = crossing::limit_of(c);
+    if limit < net {
+        return false;
+    }
+    levels::in_band(b, g, c, net)
+}
+
+// k contracts of each leg of the order at place i, at prices a and p: the first leg's trades, the second's, the pair.
+pub fn leg_in(b: &mut [u32], i: usize, a: u32, p: u32, k: u32, out: &mut [u8], at: usize) -> usize
+    requires { ⌜ (length (now b) ≡ size) × (i < complexesUsed (now b)) ⌝ }
+    ensures { λ r. ⌜ stage (venueOf (now (b .exit))) (now (out .exit)) r ≡ seen (now (out .entry)) at does complex.legIn i a p k (venueOf (now (b .entry))) ⌝ }
+    ensures counts { λ _. ⌜ SameCounts (now (b .entry)) (now (b .exit)) ⌝ }
+{
+    let c = places::complex_at(b, i);
+    let net = rules::net_of(c.side1, a, c.side2, p);
+    let first = matching::take(b, c.id, c.series1, c.side1, a, k, out, at);
+    let second = matching::take(b, c.id, c.series2, c.side2, p, k, out, first);
+    matching::pair_off(b, i, c.id, net, k, out, second)
+}
+
+// q, but at most a size.
+fn at_most(q: u32, n: u64) -> u32
+    ensures { λ r. ⌜ r ≡ min q n ⌝ }
+{
+    if n < (q as u64) {
+        return n as u32;
+    }
+    q
+}
+
+// The order at place i legs in while the best prices allow it, in at most `quantity` turns.
+pub fn leg_in_all(
+    b: &mut [u32],
+    g: [[Level; 2]; 8],
+    i: usize,
+    quantity: u32,
+    out: &mut [u8],
+    at: usize,
+) -> Worked
+    requires { ⌜ (length (now b) ≡ size) × (GridOf g (venueOf (now b) .regular)) × (i < complexesUsed (now b)) ⌝ }
+    ensures { λ r. ⌜ stage (venueOf (now (b .exit))) (now (out .exit)) (r .at) ≡ seen (now (out .entry)) at does repeat quantity (legInTurn i) (venueOf (now (b .entry))) ⌝ }
+    ensures counts { λ _. ⌜ SameCounts (now (b .entry)) (now (b .exit)) ⌝ }
+    ensures book { λ r. ⌜ SameBook (r .traded) (now (b .entry)) (now (b .exit)) ⌝ }
+{
+    let mut grid = g;
+    let mut pos = at;
+    let mut traded = false;
+    let mut turns = quantity;
+    while 0 < turns {
+        turns -= 1;
+        let c = places::complex_at(b, i);
+        let first = levels::level_at(grid, c.series1, rules::opposite_of(c.side1));
+        let second = levels::level_at(grid, c.series2, rules::opposite_of(c.side2));
+        if !can_leg_in(b, grid, c, first.price, second.price) {
+            return Worked { at: pos, traded };
+        }
+        let k = at_most(at_most(c.quantity, first.size), second.size);
+        pos = leg_in(b, i, first.price, second.price, k, out, pos);
+        traded = true;
+        let anew = levels::levels(b);
+        grid = anew;
+    }
+    Worked { at: pos, traded }
+}
+
+// The order at place i crosses, touches and legs in, if neither of its series is closed.
+pub fn work(b: &mut [u32], g: [[Level; 2]; 8], i: usize, out: &mut [u8], at: usize) -> Worked
+    requires { ⌜ (length (now b) ≡ size) × (GridOf g (venueOf (now b) .regular)) × (i < complexesUsed (now b)) ⌝ }
+    ensures { λ r. ⌜ stage (venueOf (now (b .exit))) (now (out .exit)) (r .at) ≡ seen (now (out .entry)) at does complex.work i (venueOf (now (b .entry))) ⌝ }
+    ensures counts { λ _. ⌜ SameCounts (now (b .entry)) (now (b .exit)) ⌝ }
+    ensures book { λ r. ⌜ SameBook (r .traded) (now (b .entry)) (now (b .exit)) ⌝ }
+{
+    let c = places::complex_at(b, i);
+    if levels::any_closed(b, c) {
+        return Worked { at, traded: false };
+    }
+    let crossed = crossing::cross_all(b, g, i, out, at);
+    let touched = crossing::touch(b, g, i, out, crossed);
+    leg_in_all(b, g, i, c.quantity, out, touched)
+}
+
+// A grid that is right now: g, unless there was a trade.
+fn grid_after(b: &[u32], g: [[Level; 2]; 8], traded: bool) -> [[Level; 2]; 8]
+    requires { ⌜ (length (now b) ≡ size) × (RightUnless traded g (now b)) ⌝ }
+    ensures { λ r. ⌜ GridOf r (venueOf (now (b .entry)) .regular) ⌝ }
+{
+    if traded {
+        return levels::levels(b);
+    }
+    g
+}
+
+// A complex order arrives: it is given a place and worked there; then settling, and generation for its legs.
+pub fn complex_order(b: &mut [u32], c: Complex, out: &mut [u8], at: usize) -> usize
+    requires { ⌜ (length (now b) ≡ size) × (Dense (now b)) × (complexesUsed (now b) < 32) × (LegsIn c) ⌝ }
+    ensures { λ r. ⌜ stage (venueOf (now (b .exit))) (now (out .exit)) r ≡ seen (now (out .entry)) at does complex.complex c (venueOf (now (b .entry))) ⌝ }
+    ensures counts { λ _. ⌜ Counts (regularsUsed (now (b .entry))) (suc (complexesUsed (now (b .entry)))) (now (b .exit)) ⌝ }
+{
+    let i = places::complexes_used(b);
+    places::add_complex(b, c);
+    let g = levels::levels(b);
+    let w = work(b, g, i, out, at);
+    let h = grid_after(b, g, w.traded);
+    let settled = legging::settle_with(b, h, out, w.at);
+    legging::generate_order(b, h, i, out, settled)
+}
+
+// Each resting complex order is worked, earliest first.
+fn work_each(b: &mut [u32], out: &mut [u8], at: usize) -> usize
+    requires { ⌜ length (now b) ≡ size ⌝ }
+    ensures { λ r. ⌜ stage (venueOf (now (b .exit))) (now (out .exit)) r ≡ seen (now (out .entry)) at does each 32 complex.work 0 (venueOf (now (b .entry))) ⌝ }
+    ensures counts { λ _. ⌜ SameCounts (now (b .entry)) (now (b .exit)) ⌝ }
+{
+    let mut grid = levels::levels(b);
+    let mut pos = at;
+    let mut id: u32 = 0;
+    let mut turns: u32 = 32;
+    while 0 < turns {
+        turns -= 1;
+        let found = book::next_above(b, id);
+        let PickComplex::At(i, c) = found else {
+            return pos;
+        };
+        let w = work(b, grid, i, out, pos);
+        pos = w.at;
+        id = c.id;
+        if !w.traded {
+            continue;
+        }
+        let anew = levels::levels(b);
+        grid = anew;
+    }
+    pos
+}
+
+// Generation for each resting complex order, earliest first.
+fn generate_each(b: &mut [u32], g: [[Level; 2]; 8], out: &mut [u8], at: usize) -> usize
+    requires { ⌜ (length (now b) ≡ size) × (GridOf g (venueOf (now b) .regular)) ⌝ }
+    ensures { λ r. ⌜ stage (venueOf (now (b .exit))) (now (out .exit)) r ≡ seen (now (out .entry)) at does each 32 generate 0 (venueOf (now (b .entry))) ⌝ }
+    ensures counts { λ _. ⌜ SameCounts (now (b .entry)) (now (b .exit)) ⌝ }
+{
+    let mut pos = at;
+    let mut id: u32 = 0;
+    let mut turns: u32 = 32;
+    while 0 < turns {
+        turns -= 1;
+        let found = book::next_above(b, id);
+        let PickComplex::At(i, c) = found else {
+            return pos;
+        };
+        id = c.id;
+        pos = legging::generate_order(b, g, i, out, pos);
+    }
+    pos
+}
+
+// All resting complex orders are worked; then settling, once, and generation.
+pub fn sweep(b: &mut [u32], out: &mut [u8], at: usize) -> usize
+    requires { ⌜ length (now b) ≡ size ⌝ }
+    ensures { λ r. ⌜ stage (venueOf (now (b .exit))) (now (out .exit)) r ≡ seen (now (out .entry)) at does complex.sweep (venueOf (now (b .entry))) ⌝ }
+    ensures counts { λ _. ⌜ SameCounts (now (b .entry)) (now (b .exit)) ⌝ }
+{
+    let worked = work_each(b, out, at);
+    let g = levels::levels(b);
+    let settled = legging::settle_with(b, g, out, worked);
+    generate_each(b, g, out, settled)
+}
+
+// The resting complex order with an id is cancelled.
+fn withdraw_complex(b: &mut [u32], id: u32, out: &mut [u8], at: usize) -> usize
+    requires { ⌜ (length (now b) ≡ size) × (restsComplex (venueOf (now b)) id ≡ true) ⌝ }
+    ensures { λ r. ⌜ stage (venueOf (now (b .exit))) (now (out .exit)) r ≡ seen (now (out .entry)) at does cancelComplex (complexPlace (venueOf (now (b .entry))) id) (venueOf (now (b .entry))) ⌝ }
+    ensures counts { λ _. ⌜ SameCounts (now (b .entry)) (now (b .exit)) ⌝ }
+{
+    let found = book::complex_place(b, id);
+    let Found::At(i) = found else {
+        return at;
+    };
+    matching::cancel_complex(b, i, out, at)
+}
+
+// The resting order with an id is cancelled.
+fn withdraw(b: &mut [u32], id: u32, out: &mut [u8], at: usize) -> usize
+    requires { ⌜ (length (now b) ≡ size) × ((restsRegular (venueOf (now b)) id || restsComplex (venueOf (now b)) id) ≡ true) ⌝ }
+    ensures { λ r. ⌜ stage (venueOf (now (b .exit))) (now (out .exit)) r ≡ seen (now (out .entry)) at does withdrawn id (venueOf (now (b .entry))) ⌝ }
+    ensures counts { λ _. ⌜ SameCounts (now (b .entry)) (now (b .exit)) ⌝ }
+{
+    let found = book::regular_place(b, id);
+    let Found::At(i) = found else {
+        return withdraw_complex(b, id, out, at);
+    };
+    matching::cancel_regular(b, i, out, at)
+}
+
+// The resting order with an id is cancelled; then settling.
+pub fn cancel(b: &mut [u32], id: u32, out: &mut [u8], at: usize) -> usize
+    requires { ⌜ (length (now b) ≡ size) × ((restsRegular (venueOf (now b)) id || restsComplex (venueOf (now b)) id) ≡ true) ⌝ }
+    ensures { λ r. ⌜ stage (venueOf (now (b .exit))) (now (out .exit)) r ≡ seen (now (out .entry)) at does complex.cancel id (venueOf (now (b .entry))) ⌝ }
+    ensures counts { λ _. ⌜ SameCounts (now (b .entry)) (now (b .exit)) ⌝ }
+{
+    let pos = withdraw(b, id, out, at);
+    legging::settle_all(b, out, pos)
+}
+
+// An order arrives and meets the other side; then settling.
+pub fn order(b: &mut [u32], o: Regular, out: &mut [u8], at: usize) -> usize
+    requires { ⌜ (length (now b) ≡ size) × (Dense (now b)) × (regularsUsed (now b) < 128) × (o .series < 8) × (o .side < 2) ⌝ }
+    ensures { λ r. ⌜ stage (venueOf (now (b .exit))) (now (out .exit)) r ≡ seen (now (out .entry)) at does order.order o (venueOf (now (b .entry))) ⌝ }
+    ensures counts { λ _. ⌜ Counts (suc (regularsUsed (now (b .entry)))) (complexesUsed (now (b .entry))) (now (b .exit)) ⌝ }
+{
+    let pos = matching::enter_regular(b, o, out, at);
+    legging::settle_all(b, out, pos)
+}

@@ -1,0 +1,96 @@
+-- Who crosses with whom, test by test, and who goes first.
+use mathlib.Core.Path.{_≡_, refl, sym, ap, _∙_}
+use mathlib.Core.Bool.{Bool, true, false, not, _&&_}
+use mathlib.Core.List.{List}
+use Prim.Native.Nat.{ℕ, _-_}
+use native.Mathlib.Nat.{sub-zero}
+use borrow.Author.Tests.{eq-eqb, ne-eqb, not-false}
+use lib.Dec.{eqb, ltb}
+use lib.IntN.{pos, negℤ, _+ℤ_}
+use lib.Signed.{leZ, ltZ}
+use Rattle.rules.specs.declared.Complex.{Complex}
+use Rattle.rules.specs.declared.Venue.{Venue}
+use Rattle.rules.specs.Base.{ranked, firstFrom, first}
+use Rattle.rules.specs.Words.{opposite, noComplex, earlierComplex}
+use Rattle.rules.specs.Prices.{inBand}
+use Rattle.rules.specs.Complex.{reversed, crosses, limitThenId}
+use Rattle.rules.proofs.Tests.{not-out}
+use Rattle.places.specs.Layout.{upto, complexesUsed, complexIn, venueOf}
+use Rattle.crossing.specs.declared.Pick.{Pick}
+use Rattle.crossing.specs.declared.Pick.the-variants.{Nobody, At}
+use Rattle.crossing.specs.Picks.{pickedOf}
+use Rattle.crossing.proofs.Scanning.{first-used}
+
+-- what a negated test says of the definition's
+pub off : (r x : Bool) → r ≡ x → not r ≡ true → x ≡ false
+off r x e h = sym e ∙ not-out r h
+
+pub on : (r x : Bool) → r ≡ x → not r ≡ false → x ≡ true
+on r x e h = sym e ∙ not-false r h
+
+-- the last leg decides where the others face
+pub last-faces : (a b c d e f g h o q : ℕ) → a ≡ b → o ≡ opposite d → c ≡ o → e ≡ f → q ≡ opposite h →
+    eqb g q ≡ (eqb a b && eqb c (opposite d) && eqb e f && eqb g (opposite h))
+last-faces a b c d e f g h o q i j k l m = rw (eq-eqb a b i, eq-eqb c (opposite d) (k ∙ j), eq-eqb e f l, ← m)
+
+module _ (v : Venue) (c m : Complex) where
+  pub cross-free : m .quantity ≡ 0 → false ≡ crosses v c m
+  unfolding crosses
+  cross-free h = rw (eq-eqb (m .quantity) 0 h)
+
+  module _ (n : m .quantity ≡ 0 → ⊥) where
+    pub cross-aside : reversed c m ≡ false → false ≡ crosses v c m
+    unfolding crosses
+    cross-aside h = rw (ne-eqb (m .quantity) 0 n, h)
+
+    module _ (r : reversed c m ≡ true) where
+      pub cross-apart : leZ (pos 0) (c .limit +ℤ m .limit) ≡ false → false ≡ crosses v c m
+      unfolding crosses
+      cross-apart h = rw (ne-eqb (m .quantity) 0 n, r, h)
+
+      module _ (l : leZ (pos 0) (c .limit +ℤ m .limit) ≡ true) where
+        pub cross-out : inBand v c (negℤ (m .limit)) ≡ false → false ≡ crosses v c m
+        unfolding crosses
+        cross-out h = rw (ne-eqb (m .quantity) 0 n, r, l, h)
+
+        pub cross-last : inBand v c (negℤ (m .limit)) ≡ true → (t : Bool) → t ≡ inBand v m (m .limit) → t ≡ crosses v c m
+        unfolding crosses
+        cross-last h t e = rw (ne-eqb (m .quantity) 0 n, r, l, h) e
+
+-- Rank ----------------------------------------------------------------------------------------
+
+module _ (a m : Complex) where
+  pub rank-higher : ltZ (m .limit) (a .limit) ≡ true → true ≡ limitThenId a m
+  unfolding limitThenId
+  rank-higher h = rw h
+
+  pub rank-lower : ltZ (m .limit) (a .limit) ≡ false → ltZ (a .limit) (m .limit) ≡ true → false ≡ limitThenId a m
+  unfolding limitThenId
+  rank-lower h k = rw (h, k)
+
+  pub rank-equal : ltZ (m .limit) (a .limit) ≡ false → ltZ (a .limit) (m .limit) ≡ false → ltb (a .id) (m .id) ≡ limitThenId a m
+  unfolding limitThenId earlierComplex
+  rank-equal h k = rw (h, k)
+
+module _ (best : Pick) (n : ℕ) (m : Complex) where
+  pub pick-none : best ≡ Nobody → pickedOf (At n m) ≡ ranked limitThenId n m (pickedOf best)
+  unfolding pickedOf ranked
+  pick-none e = rw e
+
+  module _ (i : ℕ) (a : Complex) (e : best ≡ At i a) where
+    pub pick-kept : limitThenId a m ≡ true → pickedOf (At i a) ≡ ranked limitThenId n m (pickedOf best)
+    unfolding pickedOf ranked
+    pick-kept h = rw (e, h)
+
+    pub pick-new : limitThenId a m ≡ false → pickedOf (At n m) ≡ ranked limitThenId n m (pickedOf best)
+    unfolding pickedOf ranked
+    pick-new h = rw (e, h)
+
+-- The places in use ---------------------------------------------------------------------------
+
+pub first-crossed : (b : List ℕ) (c : Complex) →
+    firstFrom (crosses (venueOf b) c) limitThenId 0 (upto (complexIn b) 0 (complexesUsed b - 0)) ≡ first (crosses (venueOf b) c) limitThenId (venueOf b .complex)
+first-crossed b c =
+    ap (λ (k : ℕ). firstFrom (crosses (venueOf b) c) limitThenId 0 (upto (complexIn b) 0 k)) (sub-zero (complexesUsed b))
+    ∙ first-used (crosses (venueOf b) c) limitThenId (complexIn b) noComplex (complexesUsed b) 32 (sym (cross-free (venueOf b) c noComplex refl))
+    ∙ ap (first (crosses (venueOf b) c) limitThenId) (unfold venueOf in refl)

@@ -1,0 +1,6 @@
+pub mod Scanning
+pub mod Limits
+pub mod Candidates
+pub mod Loops
+pub mod Turns
+pub mod Touches

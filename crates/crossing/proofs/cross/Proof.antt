@@ -1,0 +1,66 @@
+-- `crossing::cross` meets its contract.
+use mathlib.Core.Path.{sym, _∙_}
+use native.Mathlib.Omega.{arith}
+use Rattle.rules.proofs.Machine.{back}
+use Rattle.places.proofs.Parts.{complexes-few, complex-at}
+use Rattle.removal.proofs.Removing.{counts-on}
+use Rattle.crossing.proofs.Turns.{cross-law}
+use borrow.Author.Needs.{needs}
+use Rattle.crossing.proofs.cross.Statement.{statement}
+use Rattle.crossing.proofs.cross.Tie as tie
+use Rattle.crossing.proofs.cross.Reads as reads
+use Rattle.crossing.proofs.cross.Lts as lts
+use Rattle.crossing.proofs.net_against.Reads as net-against-reads
+use Rattle.places.proofs.complex_at.Reads as complex-at-reads
+use Rattle.places.proofs.fill_complex.Reads as fill-complex-reads
+use Rattle.removal.proofs.remove_of.Reads as remove-of-reads
+use Rattle.wire.proofs.emit_crossed.Reads as emit-crossed-reads
+
+complex-at-requires : tie.Need-complex-at-requires
+complex-at-requires c κs = let z = complexes-few (c .before .before .before .args .b .now) in (c .before .before .before .pre .0, omega (arith, c .before .before .before .pre .1))
+
+complex-at-requires-2 : tie.Need-complex-at-requires-2
+complex-at-requires-2 c κs = let z = complexes-few (c .before .before .before .before .before .args .b .now) in (c .before .before .before .before .before .pre .0, omega (arith, c .before .before .before .before .before .pre .2))
+
+fill-complex-requires : tie.Need-fill-complex-requires
+fill-complex-requires c κs = search needs
+
+fill-complex-requires-2 : tie.Need-fill-complex-requires-2
+fill-complex-requires-2 c κs = search needs
+
+net-against-requires : tie.Need-net-against-requires
+net-against-requires c κs = search needs
+
+emit-crossed-requires : tie.Need-emit-crossed-requires
+emit-crossed-requires c κs = search needs
+
+remove-of-requires : tie.Need-remove-of-requires
+remove-of-requires c κs = search needs
+
+remove-of-requires-2 : tie.Need-remove-of-requires-2
+remove-of-requires-2 c κs = c .before .before .before .before .before .before .remove-of .kept .0 ∙ c .before .before .before .before .before .before .before .before .before .before .before .before .before .before .before .before .fill-complex2 .kept .0 ∙ c .before .before .before .before .before .before .before .before .before .before .before .before .before .before .before .before .before .before .before .before .fill-complex .kept .0 ∙ c .before .before .before .before .before .before .before .before .before .before .before .before .before .before .before .before .before .before .before .before .before .before .before .before .before .before .before .before .pre .0
+
+same-length : tie.Need-same-length
+same-length c = search needs
+
+same-length-2 : tie.Need-same-length-2
+same-length-2 c = search needs
+
+returns : tie.Need-returns
+returns c = (cross-law (c .before .before .before .before .before .before .before .before .before .before .before .before .before .before .before .before .before .before .before .before .before .before .before .before .before .before .before .before .before .before .before .before .before .args .i) (c .before .before .before .before .before .before .before .before .before .before .before .before .before .before .before .before .before .before .before .before .before .before .before .before .before .before .before .before .before .before .before .before .before .args .j) (c .before .before .before .before .before .before .before .before .before .before .before .before .before .before .before .before .before .before .before .before .before .before .before .before .before .before .before .before .before .before .before .before .before .args .k) _ _ _ _ _ _ _ _ _ _ _ _ _ _ _ _ (c .before .before .before .before .before .before .before .before .before .before .before .before .before .before .before .before .before .before .before .before .before .before .before .before .before .before .before .before .before .complex-at .ensures ∙ sym (complex-at (c .before .before .before .before .before .before .before .before .before .before .before .before .before .before .before .before .before .before .before .before .before .before .before .before .before .before .before .before .before .before .before .before .before .args .b .now) (c .before .before .before .before .before .before .before .before .before .before .before .before .before .before .before .before .before .before .before .before .before .before .before .before .before .before .before .before .before .before .before .before .before .args .i) (c .before .before .before .before .before .before .before .before .before .before .before .before .before .before .before .before .before .before .before .before .before .before .before .before .before .before .before .before .before .before .before .before .before .pre .1))) (c .before .before .before .before .before .before .before .before .before .before .before .before .before .before .before .before .before .before .before .before .before .before .before .before .before .before .before .complex-at2 .ensures ∙ sym (complex-at (c .before .before .before .before .before .before .before .before .before .before .before .before .before .before .before .before .before .before .before .before .before .before .before .before .before .before .before .before .before .before .before .before .before .args .b .now) (c .before .before .before .before .before .before .before .before .before .before .before .before .before .before .before .before .before .before .before .before .before .before .before .before .before .before .before .before .before .before .before .before .before .args .j) (c .before .before .before .before .before .before .before .before .before .before .before .before .before .before .before .before .before .before .before .before .before .before .before .before .before .before .before .before .before .before .before .before .before .pre .2))) (back {z = c .before .before .before .before .before .before .before .before .before .before .before .before .before .before .before .before .before .net-against .result} (record { sfits = c .before .before .before .before .before .before .before .before .before .before .before .before .before .before .before .before .before .net-against .ok }) ∙ c .before .before .before .before .before .before .before .before .before .before .before .before .before .before .before .before .before .net-against .ensures .0) (c .before .before .before .before .before .before .before .before .before .before .before .before .before .before .before .before .before .before .before .before .before .before .before .before .before .fill-complex .ensures .0) (c .before .before .before .before .before .before .before .before .before .before .before .before .before .before .before .before .before .before .before .before .before .fill-complex2 .ensures .0) (c .before .before .before .before .before .before .before .before .before .before .before .before .before .before .before .before .emit-crossed .ensures) (c .before .before .before .before .before .before .before .before .before .before .before .remove-of .ensures .0) (c .before .before .before .before .remove-of2 .ensures .0), counts-on _ _ _ (counts-on _ _ _ (c .before .before .before .before .before .before .before .before .before .before .before .before .before .before .before .before .before .before .before .before .before .before .before .before .before .fill-complex .ensures .1) (c .before .before .before .before .before .before .before .before .before .before .before .before .before .before .before .before .before .before .before .before .before .fill-complex2 .ensures .1)) (counts-on _ _ _ (c .before .before .before .before .before .before .before .before .before .before .before .remove-of .ensures .1) (c .before .before .before .before .remove-of2 .ensures .1)))
+
+pub cross-spec : {M : Type 1} → statement M
+cross-spec =
+    tie.close
+    (tie.spec
+    complex-at-requires
+    complex-at-requires-2
+    fill-complex-requires
+    fill-complex-requires-2
+    net-against-requires
+    emit-crossed-requires
+    remove-of-requires
+    remove-of-requires-2
+    same-length
+    same-length-2
+    returns)

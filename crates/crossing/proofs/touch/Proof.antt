@@ -1,0 +1,71 @@
+-- `crossing::touch` meets its contract.
+use mathlib.Core.Path.{refl, sym, subst, _∙_}
+use native.Mathlib.Omega.{arith}
+use Rattle.places.proofs.Parts.{complexes-few, complex-at}
+use Rattle.levels.specs.Grid.{LegsIn}
+use Rattle.levels.proofs.Sides.{legs-in}
+use Rattle.crossing.proofs.Candidates.{off, on}
+use Rattle.crossing.proofs.Touches.{touch-not, touch-both}
+use borrow.Author.Needs.{needs}
+use Rattle.crossing.proofs.touch.Statement.{statement}
+use Rattle.crossing.proofs.touch.Tie as tie
+use Rattle.crossing.proofs.touch.Reads as reads
+use Rattle.crossing.proofs.touch.Lts as lts
+use Rattle.crossing.proofs.can_touch.Reads as can-touch-reads
+use Rattle.places.proofs.complex_at.Reads as complex-at-reads
+use Rattle.removal.proofs.remove_at.Reads as remove-at-reads
+use Rattle.rules.proofs.opposite_of.Reads as opposite-of-reads
+use Rattle.rules.proofs.place_of.Reads as place-of-reads
+
+complex-at-requires : tie.Need-complex-at-requires
+complex-at-requires c κs = let z = complexes-few (c .before .before .before .args .b .now) in (c .before .before .before .pre .0, omega (arith, c .before .before .before .pre .2))
+
+can-touch-requires : tie.Need-can-touch-requires
+can-touch-requires c κs = (c .before .before .before .before .before .pre .0, c .before .before .before .before .before .pre .1, subst LegsIn (sym (c .before .complex-at .ensures)) (legs-in (c .before .before .before .before .before .args .b .now) (c .before .before .before .before .before .args .i)))
+
+same-length : tie.Need-same-length
+same-length c = search needs
+
+returns : tie.Need-returns
+returns c = (touch-not (c .before .before .before .before .before .before .before .args .i) _ _ (c .before .before .before .complex-at .ensures ∙ sym (complex-at (c .before .before .before .before .before .before .before .args .b .now) (c .before .before .before .before .before .before .before .args .i) (c .before .before .before .before .before .before .before .pre .2))) _ _ (off _ _ (c .before .can-touch .ensures) (c .if1 .taken)), record { regulars = refl; complexes = refl })
+
+opposite-of-requires : tie.Need-opposite-of-requires
+opposite-of-requires c κs = search needs
+
+place-of-requires : tie.Need-place-of-requires
+place-of-requires c κs = search needs
+
+opposite-of-requires-2 : tie.Need-opposite-of-requires-2
+opposite-of-requires-2 c κs = search needs
+
+place-of-requires-2 : tie.Need-place-of-requires-2
+place-of-requires-2 c κs = search needs
+
+remove-at-requires : tie.Need-remove-at-requires
+remove-at-requires c κs = search needs
+
+same-length-2 : tie.Need-same-length-2
+same-length-2 c = search needs
+
+same-length-3 : tie.Need-same-length-3
+same-length-3 c = search needs
+
+returns-2 : tie.Need-returns-2
+returns-2 c = (touch-both (c .before .before .before .before .before .before .before .before .before .before .before .before .before .before .before .before .before .before .args .i) _ _ (c .before .before .before .before .before .before .before .before .before .before .before .before .before .before .complex-at .ensures ∙ sym (complex-at (c .before .before .before .before .before .before .before .before .before .before .before .before .before .before .before .before .before .before .args .b .now) (c .before .before .before .before .before .before .before .before .before .before .before .before .before .before .before .before .before .before .args .i) (c .before .before .before .before .before .before .before .before .before .before .before .before .before .before .before .before .before .before .pre .2))) _ _ _ _ _ (on _ _ (c .before .before .before .before .before .before .before .before .before .before .before .before .can-touch .ensures) (c .before .before .before .before .before .before .before .before .before .before .before .if1 .left)) _ _ _ _ (c .before .before .before .before .before .before .before .before .before .before .opposite-of .ensures) (c .before .before .before .before .before .before .before .before .before .place-of .ensures) (c .before .before .before .before .before .before .before .before .opposite-of2 .ensures) (c .before .before .before .before .before .before .before .place-of2 .ensures) (c .before .before .before .before .remove-at .ensures .0), c .before .before .before .before .remove-at .ensures .1)
+
+pub touch-spec : {M : Type 1} → statement M
+touch-spec =
+    tie.close
+    (tie.spec
+    complex-at-requires
+    can-touch-requires
+    same-length
+    returns
+    opposite-of-requires
+    place-of-requires
+    opposite-of-requires-2
+    place-of-requires-2
+    remove-at-requires
+    same-length-2
+    same-length-3
+    returns-2)

@@ -1,0 +1,228 @@
+// Complex orders with one another: who crosses with whom, the cross, and the touch of legging orders.
+use levels::Level;
+use rules::Cause;
+use rules::Complex;
+ghost use mathlib.Core.Path.{_≡_};
+ghost use mathlib.Core.Bool.{_&&_};
+ghost use Prim.Native.Nat.{ℕ, _≤_, _<_, min};
+ghost use lib.Dec.{eqb};
+ghost use lib.IntN.{ℤ, pos, natAbs, negℤ, _+ℤ_};
+ghost use lib.ListN.{length};
+ghost use lib.Signed.{leZ};
+ghost use Rattle.rules.specs.Base.{ranked, first};
+ghost use Rattle.rules.specs.Words.{opposite, complexAt};
+ghost use Rattle.rules.specs.Effects.{repeat};
+ghost use Rattle.rules.specs.Complex.{reversed, crosses, limitThenId, cross, crossTurn, touches, touch};
+ghost use Rattle.wire.specs.Seen.{seen};
+ghost use Rattle.wire.specs.Stage.{stage, _does_};
+ghost use Rattle.places.specs.Layout.{size, complexesUsed, venueOf, SameCounts};
+ghost use Rattle.levels.specs.Grid.{GridOf, LegsIn};
+ghost use Rattle.crossing.specs.Picks.{pickedOf};
+
+// A complex order with its place, or none.
+pub enum Pick {
+    Nobody,
+    At(usize, Complex),
+}
+
+// A complex order's limit, in 64 bits.
+pub fn limit_of(c: Complex) -> i64
+    ensures { λ r. ⌜ (r ≡ c .limit) × (natAbs r ≤ 2147483648) ⌝ }
+{
+    let n = c.limit;
+    n as i64
+}
+
+// What an order pays in a cross with m, at m's limit.
+fn net_against(m: Complex) -> i64
+    ensures { λ r. ⌜ (r ≡ negℤ (m .limit)) × (natAbs r ≤ 2147483648) ⌝ }
+{
+    let n = limit_of(m);
+    0 - n
+}
+
+// The legs of c stand in series s and t at the sides opposite to d and e.
+fn legs_face(c: Complex, s: u8, d: u8, t: u8, e: u8) -> bool
+    ensures { λ r. ⌜ r ≡ (eqb (c .series1) s && eqb (c .side1) (opposite d) && eqb (c .series2) t && eqb (c .side2) (opposite e)) ⌝ }
+{
+    if c.series1 != s {
+        return false;
+    }
+    if c.side1 != rules::opposite_of(d) {
+        return false;
+    }
+    if c.series2 != t {
+        return false;
+    }
+    c.side2 == rules::opposite_of(e)
+}
+
+// The same series, and in each the reversed side, whichever leg is named first.
+pub fn is_reversed(c: Complex, m: Complex) -> bool
+    ensures { λ r. ⌜ r ≡ reversed c m ⌝ }
+{
+    if legs_face(c, m.series1, m.side1, m.series2, m.side2) {
+        return true;
+    }
+    legs_face(c, m.series2, m.side2, m.series1, m.side1)
+}
+
+// The limits of two orders leave room for a cross.
+fn limits_meet(c: Complex, m: Complex) -> bool
+    ensures { λ r. ⌜ r ≡ leZ (pos 0) (c .limit +ℤ m .limit) ⌝ }
+{
+    let x = limit_of(c);
+    let y = limit_of(m);
+    0 <= x + y
+}
+
+// The resting order m is a candidate for c.
+pub fn can_cross(b: &[u32], g: [[Level; 2]; 8], c: Complex, m: Complex) -> bool
+    requires { ⌜ (length (now b) ≡ size) × (GridOf g (venueOf (now b) .regular)) × (LegsIn c) × (LegsIn m) ⌝ }
+    ensures { λ r. ⌜ r ≡ crosses (venueOf (now (b .entry))) c m ⌝ }
+{
+    if m.quantity == 0 {
+        return false;
+    }
+    if !is_reversed(c, m) {
+        return false;
+    }
+    if !limits_meet(c, m) {
+        return false;
+    }
+    if !levels::in_band(b, g, c, net_against(m)) {
+        return false;
+    }
+    levels::in_band(b, g, m, limit_of(m))
+}
+
+// a goes before m: the higher limit, then the earlier.
+pub fn ranks_before(a: Complex, m: Complex) -> bool
+    ensures { λ r. ⌜ r ≡ limitThenId a m ⌝ }
+{
+    let x = a.limit;
+    let y = m.limit;
+    if y < x {
+        return true;
+    }
+    if x < y {
+        return false;
+    }
+    a.id < m.id
+}
+
+// The candidate m at place n, beside the best of those after it.
+fn better_pick(best: Pick, n: usize, m: Complex) -> Pick
+    ensures { λ r. ⌜ pickedOf r ≡ ranked limitThenId n m (pickedOf best) ⌝ }
+{
+    match best {
+        Pick::Nobody => Pick::At(n, m),
+        Pick::At(i, a) => {
+            if ranks_before(a, m) {
+                return Pick::At(i, a);
+            }
+            Pick::At(n, m)
+        }
+    }
+}
+
+// The resting order that c crosses with first.
+pub fn first_cross(b: &[u32], g: [[Level; 2]; 8], c: Complex) -> Pick
+    requires { ⌜ (length (now b) ≡ size) × (GridOf g (venueOf (now b) .regular)) × (LegsIn c) ⌝ }
+    ensures { λ r. ⌜ pickedOf r ≡ first (crosses (venueOf (now (b .entry))) c) limitThenId (venueOf (now (b .entry)) .complex) ⌝ }
+{
+    let mut best = Pick::Nobody;
+    let mut i = places::complexes_used(b);
+    while 0 < i {
+        i -= 1;
+        let m = places::complex_at(b, i);
+        if !can_cross(b, g, c, m) {
+            continue;
+        }
+        best = better_pick(best, i, m);
+    }
+    best
+}
+
+// The orders at places i and j cross for k contracts at the limit of the latter; the legging orders of the taker go, then the maker's.
+pub fn cross(b: &mut [u32], i: usize, j: usize, k: u32, out: &mut [u8], at: usize) -> usize
+    requires { ⌜ (length (now b) ≡ size) × (i < complexesUsed (now b)) × (j < complexesUsed (now b)) ⌝ }
+    ensures { λ r. ⌜ stage (venueOf (now (b .exit))) (now (out .exit)) r ≡ seen (now (out .entry)) at does cross i j k (venueOf (now (b .entry))) ⌝ }
+    ensures counts { λ _. ⌜ SameCounts (now (b .entry)) (now (b .exit)) ⌝ }
+{
+    let c = places::complex_at(b, i);
+    let m = places::complex_at(b, j);
+    places::fill_complex(b, i, k);
+    places::fill_complex(b, j, k);
+    let told = wire::emit_crossed(out, at, c.id, m.id, net_against(m), k);
+    let gone = removal::remove_of(b, c.id, Cause::Executed, out, told);
+    removal::remove_of(b, m.id, Cause::Executed, out, gone)
+}
+
+fn lesser(a: u32, b: u32) -> u32
+    ensures { λ r. ⌜ r ≡ min a b ⌝ }
+{
+    if a < b {
+        return a;
+    }
+    b
+}
+
+// The order at place i crosses while there is one that it crosses with.
+pub fn cross_all(b: &mut [u32], g: [[Level; 2]; 8], i: usize, out: &mut [u8], at: usize) -> usize
+    requires { ⌜ (length (now b) ≡ size) × (GridOf g (venueOf (now b) .regular)) × (i < complexesUsed (now b)) ⌝ }
+    ensures { λ r. ⌜ stage (venueOf (now (b .exit))) (now (out .exit)) r ≡ seen (now (out .entry)) at does repeat (complexAt (venueOf (now (b .entry))) i .quantity) (crossTurn i) (venueOf (now (b .entry))) ⌝ }
+    ensures counts { λ _. ⌜ SameCounts (now (b .entry)) (now (b .exit)) ⌝ }
+{
+    let taker = places::complex_at(b, i);
+    let mut turns = taker.quantity;
+    let mut pos = at;
+    while 0 < turns {
+        turns -= 1;
+        let c = places::complex_at(b, i);
+        if c.quantity == 0 {
+            return pos;
+        }
+        let found = first_cross(b, g, c);
+        let Pick::At(j, m) = found else {
+            return pos;
+        };
+        pos = cross(b, i, j, lesser(c.quantity, m.quantity), out, pos);
+    }
+    pos
+}
+
+// The best own prices that c would take net to its limit or less.
+fn can_touch(b: &[u32], g: [[Level; 2]; 8], c: Complex) -> bool
+    requires { ⌜ (length (now b) ≡ size) × (GridOf g (venueOf (now b) .regular)) × (LegsIn c) ⌝ }
+    ensures { λ r. ⌜ r ≡ touches (venueOf (now (b .entry))) c ⌝ }
+{
+    if c.quantity == 0 {
+        return false;
+    }
+    let first = levels::best_own(b, g, c.series1, rules::opposite_of(c.side1));
+    if first == 0 {
+        return false;
+    }
+    let second = levels::best_own(b, g, c.series2, rules::opposite_of(c.side2));
+    if second == 0 {
+        return false;
+    }
+    let net = rules::net_of(c.side1, first, c.side2, second);
+    net <= limit_of(c)
+}
+
+// The legging orders at the two sides that the order at place i would take go, where it touches.
+pub fn touch(b: &mut [u32], g: [[Level; 2]; 8], i: usize, out: &mut [u8], at: usize) -> usize
+    requires { ⌜ (length (now b) ≡ size) × (GridOf g (venueOf (now b) .regular)) × (i < complexesUsed (now b)) ⌝ }
+    ensures { λ r. ⌜ stage (venueOf (now (b .exit))) (now (out .exit)) r ≡ seen (now (out .entry)) at does touch i (venueOf (now (b .entry))) ⌝ }
+    ensures counts { λ _. ⌜ SameCounts (now (b .entry)) (now (b .exit)) ⌝ }
+{
+    let c = places::complex_at(b, i);
+    if !can_touch(b, g, c) {
+        return at;
+    }
+    let one = rules::place_of(c.series1, rules::opposite_of(c.side1));
+    let two = rules::place_of(c.series2, rules::opposite_of(c.side2));
+    removal::remove_at(b, one, two, Cause::Touched, out, at)
+}
