@@ -1,8 +1,8 @@
 -- Laws of the mask of the legging places, and of its ones.
-use mathlib.Core.Path.{_≡_, refl, sym, ap, ap₂, _∙_}
+use mathlib.Core.Path.{_≡_, refl, ap, ap₂, _∙_}
 use mathlib.Core.Bool.{Bool, true, false}
 use mathlib.Core.List.{List, [], _∷_}
-use Prim.Native.Nat.{ℕ, suc, _+_, _*_, _-_, _^_, _≤_, _<_}
+use Prim.Native.Nat.{ℕ, _+_, _*_, _-_, _^_, _≤_, _<_}
 use native.Mathlib.Omega.{arith}
 use native.Mathlib.Nat.{pow-suc, lt-of-lt-of-le}
 use lib.Dec.{lit<, lit≤}
@@ -14,7 +14,7 @@ use Rattle.rules.specs.Base.{if_then_else_, held}
 use Rattle.rules.specs.Step.{mask, filled}
 use Rattle.places.specs.Layout.{upto, leggingIn, venueOf}
 use Rattle.places.proofs.Tables.{upto-length}
-use Rattle.levels.proofs.Scans.{upto-back, upto-end}
+use Rattle.levels.proofs.Scans.{upto-back}
 use Rattle.book.specs.Picks.{bitOf}
 
 cond-le : (b : Bool) → (if b then 1 else 0) ≤ 1

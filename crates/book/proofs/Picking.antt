@@ -1,5 +1,5 @@
 -- Laws of scans that pick the first in rank. For a candidate and a ranking: what `first` picks of a table in use, and how a loop that counts down keeps it.
-use mathlib.Core.Path.{_≡_, refl, sym, ap, ap₂, _∙_}
+use mathlib.Core.Path.{_≡_, refl, sym, ap, _∙_}
 use mathlib.Core.Bool.{Bool, true, false, _&&_, _||_, true≢false}
 use mathlib.Core.List.{List, [], _∷_, _++_}
 use Prim.Native.Nat.{ℕ, zero, suc, _+_, _-_, _≤_, _<_}
@@ -7,8 +7,8 @@ use native.Mathlib.Omega.{arith}
 use native.Mathlib.Decide.{decLt}
 use borrow.Author.Tests.{lt-leb, eqb-true, eq-eqb, ne-eqb}
 use Rattle.rules.proofs.Tests.{and-l, and-r}
-use lib.Dec.{leb, ltb, eqb}
-use lib.ListN.{length, getD, replicate}
+use lib.Dec.{ltb, eqb}
+use lib.ListN.{length, replicate}
 use Rattle.rules.specs.declared.Regular.{Regular}
 use Rattle.rules.specs.declared.Complex.{Complex}
 use Rattle.rules.specs.Base.{if_then_else_, held, Picked, nobody, picked, ranked, firstFrom, first}
@@ -17,7 +17,7 @@ use Rattle.rules.specs.Prices.{better, restsAt, shown, showsAt, showsFor, reach
 use Rattle.rules.specs.Order.{isMet, priceThenId}
 use Rattle.rules.proofs.Picking.{At, Chosen, first-chosen}
 use Rattle.places.specs.Layout.{upto, inUse, regularsUsed, complexesUsed, regularIn, complexIn, venueOf}
-use Rattle.places.proofs.Tables.{upto-length, used-at, used-free, used-length}
+use Rattle.places.proofs.Tables.{upto-length, used-at, used-free}
 use Rattle.places.proofs.Parts.{regulars-few, complexes-few}
 use Rattle.levels.proofs.Scans.{upto-back, upto-end}
 use Rattle.book.specs.declared.Best.{Best}

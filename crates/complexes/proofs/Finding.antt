@@ -9,7 +9,6 @@ use lib.ListN.{getD}
 use Rattle.rules.specs.declared.Venue.{Venue}
 use Rattle.rules.specs.Base.{if_then_else_}
 use Rattle.rules.specs.Words.{noRegular, noComplex, regularAt, complexAt, isRegularOf, isComplexOf}
-use Rattle.rules.specs.Effects.{Effect}
 use Rattle.rules.specs.Complex.{cancelRegular, cancelComplex, regularPlace, complexPlace, restsRegular, restsComplex}
 use Rattle.places.specs.Layout.{inUse, regularsUsed, complexesUsed, regularIn, complexIn, venueOf}
 use Rattle.places.proofs.Tables.{used-free}

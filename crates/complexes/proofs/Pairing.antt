@@ -12,7 +12,7 @@ use Rattle.rules.specs.declared.Venue.{Venue}
 use Rattle.rules.specs.Base.{if_then_else_}
 use Rattle.rules.specs.Words.{opposite, complexAt}
 use Rattle.rules.specs.Prices.{bestRegular, bestSize, ratio1, ratio2, weighed, net, inBand}
-use Rattle.rules.specs.Effects.{Effect, _⟫_, Turn, ended, turned}
+use Rattle.rules.specs.Effects.{_⟫_, Turn, ended, turned}
 use Rattle.rules.specs.Trading.{take, pairOff}
 use Rattle.rules.specs.Complex.{legsIn, legIn, legInTurn}
 use Rattle.wire.specs.Seen.{seen}
@@ -64,10 +64,10 @@ pub leg-in-law : (i a p k : ℕ) (v v₁ v₂ v₃ : Venue) (l₀ l₁ l₂ l₃
 unfolding legIn net ratio1 ratio2
 leg-in-law i a p k v v₁ v₂ v₃ l₀ l₁ l₂ l₃ a₀ a₁ a₂ a₃ c n ec en t u r =
     follow (seen l₀ a₀) (take k (c .id) (c .series1) (c .side1) a k v ⟫ take k (c .id) (c .series2) (c .side2) p k) (pairOff i (c .id) n k) v₂ v₃ l₂ l₃ a₂ a₃
-      (follow (seen l₀ a₀) (take k (c .id) (c .series1) (c .side1) a k v) (take k (c .id) (c .series2) (c .side2) p k) v₁ v₂ l₁ l₂ a₁ a₂ t u) r
+    (follow (seen l₀ a₀) (take k (c .id) (c .series1) (c .side1) a k v) (take k (c .id) (c .series2) (c .side2) p k) v₁ v₂ l₁ l₂ a₁ a₂ t u) r
     ∙ ap (λ (z : ℤ). seen l₀ a₀ does (take k (c .id) (c .series1) (c .side1) a k v ⟫ take k (c .id) (c .series2) (c .side2) p k ⟫ pairOff i (c .id) z k)) en
     ∙ ap (λ (x : Complex). seen l₀ a₀ does (take k (x .id) (x .series1) (x .side1) a k v ⟫ take k (x .id) (x .series2) (x .side2) p k
-        ⟫ pairOff i (x .id) (weighed 1 (x .side1) a +ℤ weighed 1 (x .side2) p) k)) ec
+    ⟫ pairOff i (x .id) (weighed 1 (x .side1) a +ℤ weighed 1 (x .side2) p) k)) ec
 
 -- The turn ------------------------------------------------------------------------------------
 

@@ -97,8 +97,8 @@ module _ (i : ℕ) (v : Venue) (c : Complex) (ec : c ≡ complexAt v i) where
   work-steps v₁ v₂ v₃ l₀ l₁ l₂ l₃ a₀ a₁ a₂ a₃ h p q r =
       rw (← ec, h)
       (follow (seen l₀ a₀) (repeat (c .quantity) (crossTurn i) v ⟫ touch i) (repeat (c .quantity) (legInTurn i)) v₂ v₃ l₂ l₃ a₂ a₃
-        (follow (seen l₀ a₀) (repeat (c .quantity) (crossTurn i) v) (touch i) v₁ v₂ l₁ l₂ a₁ a₂
-          (p ∙ ap (λ (x : Complex). seen l₀ a₀ does repeat (x .quantity) (crossTurn i) v) (sym ec)) q) r)
+      (follow (seen l₀ a₀) (repeat (c .quantity) (crossTurn i) v) (touch i) v₁ v₂ l₁ l₂ a₁ a₂
+      (p ∙ ap (λ (x : Complex). seen l₀ a₀ does repeat (x .quantity) (crossTurn i) v) (sym ec)) q) r)
 
 -- A complex order that arrives: its place, the work, settling, generation ----------------------
 

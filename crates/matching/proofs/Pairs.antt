@@ -2,7 +2,7 @@
 use mathlib.Core.Path.{_≡_, refl, sym, ap, _∙_}
 use mathlib.Core.Bool.{Bool, true, false, true≢false}
 use mathlib.Core.List.{List, [], _∷_}
-use Prim.Native.Nat.{ℕ, zero, suc, _+_, _-_, _*_, _≤_, _<_}
+use Prim.Native.Nat.{ℕ, suc, _*_, _≤_, _<_}
 use native.Mathlib.Omega.{arith}
 use lib.Dec.{eqb}
 use lib.ListN.{length, getD, set}
@@ -27,14 +27,13 @@ use Rattle.rules.specs.Complex.{complexPlace, restsComplex, cancelRegular, canc
 use Rattle.wire.specs.Seen.{seen, _writes_}
 use Rattle.wire.specs.Stage.{stage, _does_}
 use Rattle.wire.proofs.Stages.{follow, does-report}
-use Rattle.places.specs.Layout.{complexesUsed, complexIn, inUse, venueOf}
+use Rattle.places.specs.Layout.{complexesUsed, complexIn, venueOf}
 use Rattle.places.proofs.Parts.{complex-past, complexes-few}
 use Rattle.places.proofs.Tables.{used-length}
 use Rattle.levels.specs.Grid.{LegsIn}
-use Rattle.book.specs.declared.Found.{Found}
 use Rattle.book.specs.declared.Found.the-variants as found
 use Rattle.book.specs.Picks.{complexFound}
-use Rattle.book.proofs.Finding.{foundIn, found-is, found-not, complex-free}
+use Rattle.book.proofs.Finding.{foundIn, found-is, found-not}
 use Rattle.matching.specs.declared.Pairing.{Pairing}
 use Rattle.matching.specs.Turns.{pairingOf}
 

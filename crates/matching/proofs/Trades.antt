@@ -1,30 +1,29 @@
 -- Laws of trading and taking, for the code that does them.
 use mathlib.Core.Path.{_≡_, refl, sym, ap, ap₂, _∙_}
-use mathlib.Core.Bool.{Bool, true, false, not, _&&_}
+use mathlib.Core.Bool.{Bool, true, false, not}
 use mathlib.Core.List.{List, [], _∷_, _++_}
-use Prim.Native.Nat.{ℕ, zero, suc, _+_, _-_, _≤_, _<_, min}
+use Prim.Native.Nat.{ℕ, zero, suc, _-_, _≤_, _<_, min}
 use native.Mathlib.Omega.{arith}
 use lib.Dec.{eqb}
 use lib.ListN.{length}
 use borrow.Author.Tests.{ne-eqb, eqb-false, not-true}
 use Rattle.rules.specs.declared.Regular.{Regular}
 use Rattle.rules.specs.declared.Venue.{Venue}
-use Rattle.rules.specs.Base.{if_then_else_, held, Picked, nobody, picked, first}
+use Rattle.rules.specs.Base.{held, Picked, nobody, picked, first}
 use Rattle.rules.specs.Words.{opposite, noRegular, regularAt, earlier}
 use Rattle.rules.specs.Prices.{shown, showsAt, showsFor}
-use Rattle.rules.specs.Records.{Report, trade}
+use Rattle.rules.specs.Records.{trade}
 use Rattle.rules.specs.Effects.{Effect, nothing, report, _⟫_}
 use Rattle.rules.specs.Trading.{fillRegular, tradeWith, take}
 use Rattle.rules.proofs.Tests.{and-l}
-use Rattle.rules.proofs.Picking.{At, Chosen, first-chosen}
+use Rattle.rules.proofs.Picking.{first-chosen}
 use Rattle.wire.specs.Seen.{seen, _writes_}
 use Rattle.wire.specs.Stage.{stage, _does_}
 use Rattle.wire.proofs.Stages.{onward, does-nothing, does-report, does-room}
-use Rattle.places.specs.Layout.{size, regularsUsed, regularIn, venueOf, SameCounts}
-use Rattle.book.specs.declared.Pick.{Pick}
+use Rattle.places.specs.Layout.{size, regularsUsed, venueOf, SameCounts}
 use Rattle.book.specs.declared.Pick.the-variants as pick
 use Rattle.book.specs.Picks.{pickOf}
-use Rattle.book.proofs.Picking.{Chooses, regular-used, for-free}
+use Rattle.book.proofs.Picking.{regular-used, for-free}
 use Rattle.removal.proofs.Removing.{counts-on}
 
 -- What a pick says ----------------------------------------------------------------------------

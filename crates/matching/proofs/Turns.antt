@@ -1,10 +1,9 @@
 -- Laws of turns: what an incoming order does next, and the loop of it.
 use mathlib.Core.Path.{_≡_, refl, sym, ap, _∙_}
-use mathlib.Core.Bool.{Bool, true, false, not, _&&_}
-use mathlib.Core.List.{List, [], _∷_}
-use Prim.Native.Nat.{ℕ, zero, suc, _+_, _-_, _≤_, _<_, min}
+use mathlib.Core.Bool.{Bool, true, false, not}
+use mathlib.Core.List.{List}
+use Prim.Native.Nat.{ℕ, zero, suc, _-_, _≤_, _<_, min}
 use native.Mathlib.Omega.{arith}
-use lib.Dec.{eqb}
 use lib.ListN.{length}
 use borrow.Author.Tests.{eq-eqb, ne-eqb}
 use Rattle.rules.specs.declared.Regular.{Regular}
@@ -19,15 +18,12 @@ use Rattle.rules.specs.Order.{isMet, priceThenId, firstMet, leggingFirst, meet,
 use Rattle.wire.specs.Seen.{seen}
 use Rattle.wire.specs.Stage.{stage, _does_}
 use Rattle.wire.proofs.Stages.{onward, does-nothing, does-room}
-use Rattle.places.specs.Layout.{size, regularsUsed, complexesUsed, venueOf, Counts, SameCounts}
+use Rattle.places.specs.Layout.{size, regularsUsed, venueOf, SameCounts}
 use Rattle.book.specs.declared.Pick.{Pick}
 use Rattle.book.specs.declared.Pick.the-variants as pick
 use Rattle.book.specs.Picks.{pickOf}
-use Rattle.book.proofs.Picking.{Chooses, regular-used, met-free}
+use Rattle.book.proofs.Picking.{regular-used, met-free}
 use Rattle.removal.proofs.Removing.{counts-on}
-use Rattle.matching.specs.declared.Plan.{Plan}
-use Rattle.matching.specs.declared.Plan.the-variants.{Ended, Hit, Meet}
-use Rattle.matching.specs.Turns.{turnOf}
 use Rattle.matching.proofs.Trades.{picked-is, nobody-is}
 
 -- Who comes first -----------------------------------------------------------------------------

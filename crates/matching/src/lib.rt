@@ -6,7 +6,7 @@ ghost use lib.IntN.{natAbs};
 ghost use lib.ListN.{length};
 ghost use Rattle.rules.specs.Words.{opposite, leggingAt};
 ghost use Rattle.rules.specs.Effects.{repeat};
-ghost use Rattle.rules.specs.Trading.{fillComplex, freeRegular, tradeWith, pairOff};
+ghost use Rattle.rules.specs.Trading.{fillComplex, tradeWith, pairOff};
 ghost use Rattle.rules.specs.Trading as trading;
 ghost use Rattle.rules.specs.Prices.{ownPrice};
 ghost use Rattle.rules.specs.Order.{leggingFirst, meetTurn, enterRegular};
@@ -14,7 +14,7 @@ ghost use Rattle.rules.specs.Order as order;
 ghost use Rattle.rules.specs.Complex.{complexPlace, cancelRegular, cancelComplex};
 ghost use Rattle.wire.specs.Seen.{seen};
 ghost use Rattle.wire.specs.Stage.{stage, _does_};
-ghost use Rattle.places.specs.Layout.{size, regularsUsed, complexesUsed, venueOf, Counts, SameCounts};
+ghost use Rattle.places.specs.Layout.{size, regularsUsed, complexesUsed, venueOf, Counts, SameCounts, Dense};
 ghost use Rattle.matching.specs.Turns.{pairingOf, turnOf, InUse};
 use book::Found;
 use book::Pick;
@@ -271,9 +271,9 @@ pub fn meet_all(b: &mut [u32], i: usize, quantity: u32, out: &mut [u8], at: usiz
     pos
 }
 
-// The order is given a place and meets the other side there.
+// The order is given a place and meets the other side there. Every place in use is held, so the place after them is the first free one.
 pub fn enter_regular(b: &mut [u32], o: Regular, out: &mut [u8], at: usize) -> usize
-    requires { ⌜ (length (now b) ≡ size) × (freeRegular (venueOf (now b)) ≡ regularsUsed (now b)) × (regularsUsed (now b) < 128) × (o .series < 8) × (o .side < 2) ⌝ }
+    requires { ⌜ (length (now b) ≡ size) × (Dense (now b)) × (regularsUsed (now b) < 128) × (o .series < 8) × (o .side < 2) ⌝ }
     ensures { λ r. ⌜ stage (venueOf (now (b .exit))) (now (out .exit)) r ≡ seen (now (out .entry)) at does enterRegular o (venueOf (now (b .entry))) ⌝ }
     ensures counts { λ _. ⌜ Counts (suc (regularsUsed (now (b .entry)))) (complexesUsed (now (b .entry))) (now (b .exit)) ⌝ }
 {

@@ -2,7 +2,7 @@
 use mathlib.Core.Path.{_≡_, refl, sym, ap, _∙_}
 use mathlib.Core.Bool.{Bool, true, false, not, _||_}
 use mathlib.Core.List.{List, [], _∷_, _++_, append-assoc, append-nil}
-use Prim.Native.Nat.{ℕ, zero, suc, _+_, _-_, _*_, _≤_, _<_, _/_, _%_}
+use Prim.Native.Nat.{ℕ, suc, _+_, _*_, _≤_, _<_, _/_, _%_}
 use native.Mathlib.Omega.{arith}
 use native.Mathlib.Numerals.{add-one}
 use lib.Dec.{eqb}
@@ -15,16 +15,16 @@ use Rattle.rules.specs.declared.Cause.{Cause}
 use Rattle.rules.specs.declared.Cause.the-variants.{Worse, Unpaired, Executed, Withdrawn, OutOfBand, NotOpen, Replaced, Touched}
 use Rattle.rules.specs.declared.Verdict.{Verdict}
 use Rattle.rules.specs.declared.Verdict.the-variants.{Stands, Fails}
-use Rattle.rules.specs.Base.{if_then_else_, held}
+use Rattle.rules.specs.Base.{if_then_else_}
 use Rattle.rules.specs.Words.{noLegging, withLegging}
-use Rattle.rules.specs.Records.{Report, removed}
+use Rattle.rules.specs.Records.{removed}
 use Rattle.rules.specs.Effects.{Effect, nothing, report, _⟫_}
 use Rattle.rules.specs.Removal.{stay, goes, stayers, leavers, remove, failIf}
 use Rattle.rules.specs.Standing.{verdictNumber}
 use Rattle.rules.specs.Generation.{placed}
 use Rattle.rules.specs.Step.{mask}
 use Rattle.wire.specs.Seen.{Seen, seen}
-use Rattle.wire.specs.Stage.{Stage, stage, _does_}
+use Rattle.wire.specs.Stage.{stage, _does_}
 use Rattle.wire.proofs.Stages.{onward, does-nothing, does-room}
 use Rattle.places.specs.Layout.{size, leggingIn, venueOf, SameCounts}
 use Rattle.places.proofs.Tables.{upto-at, upto-length}

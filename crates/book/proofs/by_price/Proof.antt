@@ -19,15 +19,29 @@ returns-2 c = simp (lt-leb _ _ (c .before .before .if1 .left), sym (c .before .i
 
 returns-3 : tie.Need-returns-3
 unfolding byPrice
-returns-3 c = simp (lt-leb _ _ (c .before .before .before .before .if1 .left), sym (c .before .before .before .is-better .ensures) ∙ c .before .before .if2 .left, ne-eqb _ _ (c .if3 .taken))
+returns-3 c =
+    let p2 = c .before .before in
+    let p3 = p2 .before in
+    let p4 = p3 .before in
+    simp (lt-leb _ _ (p4 .if1 .left), sym (p3 .is-better .ensures) ∙ p2 .if2 .left, ne-eqb _ _ (c .if3 .taken))
 
 returns-4 : tie.Need-returns-4
 unfolding byPrice
-returns-4 c = simp (lt-leb _ _ (c .before .before .before .before .before .before .if1 .left), sym (c .before .before .before .before .before .is-better .ensures) ∙ c .before .before .before .before .if2 .left, eq-eqb _ _ (c .before .before .if3 .left), lt-ltb _ _ (c .if4 .taken))
+returns-4 c =
+    let p2 = c .before .before in
+    let p4 = p2 .before .before in
+    let p5 = p4 .before in
+    let p6 = p5 .before in
+    simp (lt-leb _ _ (p6 .if1 .left), sym (p5 .is-better .ensures) ∙ p4 .if2 .left, eq-eqb _ _ (p2 .if3 .left), lt-ltb _ _ (c .if4 .taken))
 
 returns-5 : tie.Need-returns-5
 unfolding byPrice
-returns-5 c = simp (lt-leb _ _ (c .before .before .before .before .before .before .if1 .left), sym (c .before .before .before .before .before .is-better .ensures) ∙ c .before .before .before .before .if2 .left, eq-eqb _ _ (c .before .before .if3 .left), le-ltb _ _ (c .if4 .left))
+returns-5 c =
+    let p2 = c .before .before in
+    let p4 = p2 .before .before in
+    let p5 = p4 .before in
+    let p6 = p5 .before in
+    simp (lt-leb _ _ (p6 .if1 .left), sym (p5 .is-better .ensures) ∙ p4 .if2 .left, eq-eqb _ _ (p2 .if3 .left), le-ltb _ _ (c .if4 .left))
 
 pub by-price-spec : {M : Type 1} → statement M
 by-price-spec =

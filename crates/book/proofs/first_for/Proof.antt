@@ -23,7 +23,14 @@ regulars-used-requires : tie.Need-regulars-used-requires Inv-loop μ-loop
 regulars-used-requires c κs = search needs
 
 loop-holds : tie.Need-loop-holds Inv-loop μ-loop
-loop-holds c = (search needs, scan-none (showsFor (c .before .before .args .series) (c .before .before .args .side) (c .before .before .args .price)) earlier noBest keepRegular _ _ ∙ ap (λ (k : ℕ). kept noBest keepRegular (from (showsFor (c .before .before .args .series) (c .before .before .args .side) (c .before .before .args .price)) earlier (regularIn (c .before .before .args .b .now)) (regularsUsed (c .before .before .args .b .now)) k)) (sym (c .regulars-used .ensures .0)))
+loop-holds c =
+    let p2 = c .before .before in (
+      search needs,
+      scan-none (showsFor (p2 .args .series) (p2 .args .side) (p2 .args .price)) earlier noBest keepRegular _ _
+          ∙ ap
+          (λ (k : ℕ). kept noBest keepRegular (from (showsFor (p2 .args .series) (p2 .args .side) (p2 .args .price)) earlier (regularIn (p2 .args .b .now)) (regularsUsed (p2 .args .b .now)) k))
+          (sym (c .regulars-used .ensures .0)),
+    )
 
 sub-i : tie.Need-sub-i Inv-loop μ-loop
 sub-i c = search needs
@@ -38,7 +45,13 @@ loop-less : tie.Need-loop-less Inv-loop μ-loop
 loop-less c = search needs
 
 loop-again : tie.Need-loop-again Inv-loop μ-loop
-loop-again c = (omega arith, scan-past _ _ _ _ _ _ _ (omega arith) (omega arith) _ (c .before .before .before .before .loop .inv .1) _ (c .before .before .regular-at .ensures) (sym (c .before .shows-for .ensures) ∙ not-true _ (c .if1 .taken)))
+loop-again c =
+    let p2 = c .before .before in
+    let p4 = p2 .before .before in (
+      omega arith,
+      scan-past _ _ _ _ _ _ _ (omega arith) (omega arith) _ (p4 .loop .inv .1) _ (p2 .regular-at .ensures)
+          (sym (c .before .shows-for .ensures) ∙ not-true _ (c .if1 .taken)),
+    )
 
 by-id-requires : tie.Need-by-id-requires Inv-loop μ-loop
 by-id-requires c κs = search needs
@@ -47,14 +60,28 @@ loop-less-2 : tie.Need-loop-less-2 Inv-loop μ-loop
 loop-less-2 c = search needs
 
 loop-again-2 : tie.Need-loop-again-2 Inv-loop μ-loop
-loop-again-2 c = (omega arith, scan-on _ _ _ _ _ _ _ (omega arith) (omega arith) _ (c .before .before .before .before .before .loop .inv .1) _ (c .before .before .before .regular-at .ensures) 128 (let w = regulars-few (c .before .before .before .before .before .before .before .before .args .b .now) in omega arith) (sym (c .before .before .shows-for .ensures) ∙ not-false _ (c .before .if1 .left)) (byId (c .before .before .before .before .before .loop .i - 1) (c .before .before .before .regular-at .result .price) (c .before .before .before .regular-at .result .id)) _ (c .by-id .ensures) (rank-earlier _ _ _))
+loop-again-2 c =
+    let p2 = c .before .before in
+    let p3 = p2 .before in
+    let p5 = p3 .before .before in
+    let p8 = p5 .before .before .before in (
+      omega arith,
+      scan-on _ _ _ _ _ _ _ (omega arith) (omega arith) _ (p5 .loop .inv .1) _ (p3 .regular-at .ensures) 128
+          (let w = regulars-few (p8 .args .b .now) in omega arith) (sym (p2 .shows-for .ensures) ∙ not-false _ (c .before .if1 .left))
+          (byId (p5 .loop .i - 1) (p3 .regular-at .result .price) (p3 .regular-at .result .id)) _ (c .by-id .ensures) (rank-earlier _ _ _),
+    )
 
 pick-at-requires : tie.Need-pick-at-requires Inv-loop μ-loop
 pick-at-requires c κs = search needs
 
 returns : tie.Need-returns Inv-loop μ-loop
 unfolding venueOf
-returns c = let s = c .before .before .before .before .before in regular-answer _ _ (for-free (c .before .before .before .before .before .args .series) (c .before .before .before .before .before .args .side) (c .before .before .before .before .before .args .price)) (s .args .b .now) _ _ (scan-end _ _ _ _ _ (for-free (c .before .before .before .before .before .args .series) (c .before .before .before .before .before .args .side) (c .before .before .before .before .before .args .price)) _ _ 128 _ (omega arith) _ (c .before .before .loop .inv .1)) (c .pick-at .ensures)
+returns c =
+    let p2 = c .before .before in
+    let p5 = p2 .before .before .before in
+    regular-answer _ _ (for-free (p5 .args .series) (p5 .args .side) (p5 .args .price)) (p5 .args .b .now) _ _
+    (scan-end _ _ _ _ _ (for-free (p5 .args .series) (p5 .args .side) (p5 .args .price)) _ _ 128 _ (omega arith) _ (p2 .loop .inv .1))
+    (c .pick-at .ensures)
 
 pub first-for-spec : {M : Type 1} → statement M
 first-for-spec =

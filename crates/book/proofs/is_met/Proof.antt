@@ -16,14 +16,24 @@ rests-at-requires c κs = search needs
 
 returns : tie.Need-returns
 unfolding isMet
-returns c = simp (sym (c .before .rests-at .ensures ∙ ap (λ (d : ℕ). restsAt (c .before .before .before .args .series) d (c .before .before .before .args .o)) (c .before .before .opposite-of .ensures)) ∙ not-true _ (c .if1 .taken))
+returns c =
+    let p2 = c .before .before in
+    let p3 = p2 .before in
+    simp
+    (sym (c .before .rests-at .ensures ∙ ap (λ (d : ℕ). restsAt (p3 .args .series) d (p3 .args .o)) (p2 .opposite-of .ensures)) ∙ not-true _ (c .if1 .taken))
 
 reaches-price-requires : tie.Need-reaches-price-requires
 reaches-price-requires c κs = search needs
 
 returns-2 : tie.Need-returns-2
 unfolding isMet
-returns-2 c = simp (sym (c .before .before .rests-at .ensures ∙ ap (λ (d : ℕ). restsAt (c .before .before .before .before .args .series) d (c .before .before .before .before .args .o)) (c .before .before .before .opposite-of .ensures)) ∙ not-false _ (c .before .if1 .left)) (c .reaches-price .ensures)
+returns-2 c =
+    let p2 = c .before .before in
+    let p3 = p2 .before in
+    let p4 = p3 .before in
+    simp
+    (sym (p2 .rests-at .ensures ∙ ap (λ (d : ℕ). restsAt (p4 .args .series) d (p4 .args .o)) (p3 .opposite-of .ensures)) ∙ not-false _ (c .before .if1 .left))
+    (c .reaches-price .ensures)
 
 pub is-met-spec : {M : Type 1} → statement M
 is-met-spec =

@@ -30,13 +30,24 @@ bit-requires : tie.Need-bit-requires Inv-loop μ-loop
 bit-requires c κs = search needs
 
 add-m : tie.Need-add-m Inv-loop μ-loop
-add-m c = let h = c .before .before .before in omega (arith, h .loop .inv .1, mask-small (h .before .before .args .b .now) (h .loop .i) (omega arith), c .bit .ensures, bit-le (c .before .legging-at .result))
+add-m c =
+    let p3 = c .before .before .before in
+    let h = p3 in
+    omega
+    (arith, h .loop .inv .1, mask-small (h .before .before .args .b .now) (h .loop .i) (omega arith), c .bit .ensures, bit-le (c .before .legging-at .result))
 
 loop-less : tie.Need-loop-less Inv-loop μ-loop
 loop-less c = search needs
 
 loop-again : tie.Need-loop-again Inv-loop μ-loop
-loop-again c = let h = c .before .before .before in let b = h .before .before .args .b .now in (omega arith, ap (λ (x : ℕ). h .loop .m * 2 + x) (c .bit .ensures ∙ ap bitOf (c .before .legging-at .ensures)) ∙ mask-back b (h .loop .i) (h .loop .m) (omega arith) (omega arith) (h .loop .inv .1))
+loop-again c =
+    let p3 = c .before .before .before in
+    let h = p3 in
+    let b = h .before .before .args .b .now in (
+      omega arith,
+      ap (λ (x : ℕ). h .loop .m * 2 + x) (c .bit .ensures ∙ ap bitOf (c .before .legging-at .ensures))
+          ∙ mask-back b (h .loop .i) (h .loop .m) (omega arith) (omega arith) (h .loop .inv .1),
+    )
 
 returns : tie.Need-returns Inv-loop μ-loop
 returns c = let h = c .before in mask-end (h .before .before .args .b .now) (h .loop .i) _ (omega arith) (h .loop .inv .1)

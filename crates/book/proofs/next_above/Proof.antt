@@ -23,7 +23,14 @@ complexes-used-requires : tie.Need-complexes-used-requires Inv-loop μ-loop
 complexes-used-requires c κs = search needs
 
 loop-holds : tie.Need-loop-holds Inv-loop μ-loop
-loop-holds c = (search needs, scan-none (isAbove (c .before .before .args .id)) earlierComplex noBest keepComplex _ _ ∙ ap (λ (k : ℕ). kept noBest keepComplex (from (isAbove (c .before .before .args .id)) earlierComplex (complexIn (c .before .before .args .b .now)) (complexesUsed (c .before .before .args .b .now)) k)) (sym (c .complexes-used .ensures .0)))
+loop-holds c =
+    let p2 = c .before .before in (
+      search needs,
+      scan-none (isAbove (p2 .args .id)) earlierComplex noBest keepComplex _ _
+          ∙ ap
+          (λ (k : ℕ). kept noBest keepComplex (from (isAbove (p2 .args .id)) earlierComplex (complexIn (p2 .args .b .now)) (complexesUsed (p2 .args .b .now)) k))
+          (sym (c .complexes-used .ensures .0)),
+    )
 
 sub-i : tie.Need-sub-i Inv-loop μ-loop
 sub-i c = search needs
@@ -38,7 +45,13 @@ loop-less : tie.Need-loop-less Inv-loop μ-loop
 loop-less c = search needs
 
 loop-again : tie.Need-loop-again Inv-loop μ-loop
-loop-again c = (omega arith, scan-past _ _ _ _ _ _ _ (omega arith) (omega arith) _ (c .before .before .before .before .loop .inv .1) _ (c .before .before .complex-at .ensures) (sym (c .before .is-above .ensures) ∙ not-true _ (c .if1 .taken)))
+loop-again c =
+    let p2 = c .before .before in
+    let p4 = p2 .before .before in (
+      omega arith,
+      scan-past _ _ _ _ _ _ _ (omega arith) (omega arith) _ (p4 .loop .inv .1) _ (p2 .complex-at .ensures)
+          (sym (c .before .is-above .ensures) ∙ not-true _ (c .if1 .taken)),
+    )
 
 by-id-requires : tie.Need-by-id-requires Inv-loop μ-loop
 by-id-requires c κs = search needs
@@ -47,14 +60,27 @@ loop-less-2 : tie.Need-loop-less-2 Inv-loop μ-loop
 loop-less-2 c = search needs
 
 loop-again-2 : tie.Need-loop-again-2 Inv-loop μ-loop
-loop-again-2 c = (omega arith, scan-on _ _ _ _ _ _ _ (omega arith) (omega arith) _ (c .before .before .before .before .before .loop .inv .1) _ (c .before .before .before .complex-at .ensures) 128 (let w = complexes-few (c .before .before .before .before .before .before .before .before .args .b .now) in omega arith) (sym (c .before .before .is-above .ensures) ∙ not-false _ (c .before .if1 .left)) (byId (c .before .before .before .before .before .loop .i - 1) 0 (c .before .before .before .complex-at .result .id)) _ (c .by-id .ensures) (rank-complex _ _ _))
+loop-again-2 c =
+    let p2 = c .before .before in
+    let p3 = p2 .before in
+    let p5 = p3 .before .before in
+    let p8 = p5 .before .before .before in (
+      omega arith,
+      scan-on _ _ _ _ _ _ _ (omega arith) (omega arith) _ (p5 .loop .inv .1) _ (p3 .complex-at .ensures) 128
+          (let w = complexes-few (p8 .args .b .now) in omega arith) (sym (p2 .is-above .ensures) ∙ not-false _ (c .before .if1 .left))
+          (byId (p5 .loop .i - 1) 0 (p3 .complex-at .result .id)) _ (c .by-id .ensures) (rank-complex _ _ _),
+    )
 
 pick-complex-at-requires : tie.Need-pick-complex-at-requires Inv-loop μ-loop
 pick-complex-at-requires c κs = search needs
 
 returns : tie.Need-returns Inv-loop μ-loop
 unfolding venueOf nextAbove isAbove
-returns c = let s = c .before .before .before .before .before in complex-answer _ _ (above-free (c .before .before .before .before .before .args .id)) (s .args .b .now) _ _ (scan-end _ _ _ _ _ (above-free (c .before .before .before .before .before .args .id)) _ _ 32 _ (omega arith) _ (c .before .before .loop .inv .1)) (c .pick-complex-at .ensures)
+returns c =
+    let p2 = c .before .before in
+    let p5 = p2 .before .before .before in
+    complex-answer _ _ (above-free (p5 .args .id)) (p5 .args .b .now) _ _
+    (scan-end _ _ _ _ _ (above-free (p5 .args .id)) _ _ 32 _ (omega arith) _ (p2 .loop .inv .1)) (c .pick-complex-at .ensures)
 
 pub next-above-spec : {M : Type 1} → statement M
 next-above-spec =

@@ -33,7 +33,13 @@ is-regular-of-requires c κs = search needs
 
 returns : tie.Need-returns Inv-loop μ-loop
 unfolding regularFound restsRegular regularPlace regularAt venueOf foundIn
-returns c = let b = c .before .before .before .before .before .before .before .args .b .now in found-at (isRegularOf (c .before .before .before .before .before .before .before .args .id)) _ (regular-free _) (regularIn b) (regularsUsed b) 128 (regulars-few b) _ (omega arith) (ap (λ x. isRegularOf (c .before .before .before .before .before .before .before .args .id) x) (sym (c .before .before .regular-at .ensures)) ∙ sym (c .before .is-regular-of .ensures) ∙ c .if1 .taken) (c .before .before .before .before .loop .inv .1)
+returns c =
+    let p2 = c .before .before in
+    let p4 = p2 .before .before in
+    let p7 = p4 .before .before .before in
+    let b = p7 .args .b .now in
+    found-at (isRegularOf (p7 .args .id)) _ (regular-free _) (regularIn b) (regularsUsed b) 128 (regulars-few b) _ (omega arith)
+    (ap (λ x. isRegularOf (p7 .args .id) x) (sym (p2 .regular-at .ensures)) ∙ sym (c .before .is-regular-of .ensures) ∙ c .if1 .taken) (p4 .loop .inv .1)
 
 add-i : tie.Need-add-i Inv-loop μ-loop
 add-i c = let w = regulars-few (c .before .before .before .before .before .before .before .args .b .now) in search needs
@@ -42,11 +48,22 @@ loop-less : tie.Need-loop-less Inv-loop μ-loop
 loop-less c = search needs
 
 loop-again : tie.Need-loop-again Inv-loop μ-loop
-loop-again c = (omega arith, passed-on (isRegularOf (c .before .before .before .before .before .before .before .args .id)) (regularIn (c .before .before .before .before .before .before .before .args .b .now)) _ (c .before .before .before .before .loop .inv .1) (ap (λ x. isRegularOf (c .before .before .before .before .before .before .before .args .id) x) (sym (c .before .before .regular-at .ensures)) ∙ sym (c .before .is-regular-of .ensures) ∙ c .if1 .left))
+loop-again c =
+    let p2 = c .before .before in
+    let p4 = p2 .before .before in
+    let p7 = p4 .before .before .before in (
+      omega arith,
+      passed-on (isRegularOf (p7 .args .id)) (regularIn (p7 .args .b .now)) _ (p4 .loop .inv .1)
+          (ap (λ x. isRegularOf (p7 .args .id) x) (sym (p2 .regular-at .ensures)) ∙ sym (c .before .is-regular-of .ensures) ∙ c .if1 .left),
+    )
 
 returns-2 : tie.Need-returns-2 Inv-loop μ-loop
 unfolding regularFound restsRegular regularPlace regularAt venueOf foundIn
-returns-2 c = let b = c .before .before .before .before .args .b .now in found-none (isRegularOf (c .before .before .before .before .args .id)) _ (regular-free _) (regularIn b) (regularsUsed b) 128 (regulars-few b) (λ j q. c .before .loop .inv .1 j (omega arith))
+returns-2 c =
+    let p4 = c .before .before .before .before in
+    let b = p4 .args .b .now in
+    found-none (isRegularOf (p4 .args .id)) _ (regular-free _) (regularIn b) (regularsUsed b) 128 (regulars-few b)
+    (λ j q. c .before .loop .inv .1 j (omega arith))
 
 pub regular-place-spec : {M : Type 1} → statement M
 regular-place-spec =

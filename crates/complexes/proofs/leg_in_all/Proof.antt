@@ -1,5 +1,5 @@
 -- `complexes::leg_in_all` meets its contract.
-use mathlib.Core.Path.{_≡_, refl, sym, subst, _∙_}
+use mathlib.Core.Path.{refl, sym, subst, _∙_}
 use mathlib.Core.Bool.{true≢false}
 use native.Mathlib.Omega.{arith}
 use Rattle.rules.specs.Words.{opposite}

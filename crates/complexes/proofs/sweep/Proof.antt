@@ -1,3 +1,8 @@
+-- `complexes::sweep` meets its contract.
+use mathlib.Core.Path.{_∙_}
+use Rattle.removal.proofs.Removing.{counts-on}
+use Rattle.complexes.proofs.Working.{quiet-grid, settle-quiet}
+use Rattle.complexes.proofs.Sweeping.{sweep-law}
 use borrow.Author.Needs.{needs}
 use Rattle.complexes.proofs.sweep.Statement.{statement}
 use Rattle.complexes.proofs.sweep.Tie as tie
@@ -8,33 +13,26 @@ use Rattle.complexes.proofs.work_each.Reads as work-each-reads
 use Rattle.legging.proofs.settle_with.Reads as settle-with-reads
 use Rattle.levels.proofs.levels.Reads as levels-reads
 
--- src/lib.rt:207:9
 work-each-requires : tie.Need-work-each-requires
 work-each-requires c κs = search needs
 
--- src/lib.rt:208:9
 levels-requires : tie.Need-levels-requires
 levels-requires c κs = search needs
 
--- src/lib.rt:209:9
 settle-with-requires : tie.Need-settle-with-requires
 settle-with-requires c κs = search needs
 
--- src/lib.rt:210:5
 generate-each-requires : tie.Need-generate-each-requires
-generate-each-requires c κs = ?
+generate-each-requires c κs = (c .before .before .before .before .before .before .settle-with .kept .0 ∙ c .before .before .before .before .before .before .before .before .before .before .before .before .before .before .before .work-each .kept .0 ∙ c .before .before .before .before .before .before .before .before .before .before .before .before .before .before .before .before .before .before .before .before .pre, quiet-grid _ _ _ _ _ _ _ (c .before .before .before .before .before .before .settle-with .ensures .0) (settle-quiet _) (c .before .before .before .before .before .before .before .before .before .levels .result) (c .before .before .before .before .before .before .before .before .before .levels .ensures))
 
--- src/lib.rt:202:1
 same-length : tie.Need-same-length
 same-length c = search needs
 
--- src/lib.rt:202:1
 same-length-2 : tie.Need-same-length-2
 same-length-2 c = search needs
 
--- src/lib.rt:202:1
 returns : tie.Need-returns
-returns c = ?
+returns c = (sweep-law _ _ _ _ _ _ _ _ _ _ _ _ (c .before .before .before .before .before .before .before .before .before .before .before .before .before .before .before .before .before .before .before .before .work-each .ensures .0) (c .before .before .before .before .before .before .before .before .before .before .before .settle-with .ensures .0) (c .before .before .before .before .generate-each .ensures .0), counts-on _ _ _ (counts-on _ _ _ (c .before .before .before .before .before .before .before .before .before .before .before .before .before .before .before .before .before .before .before .before .work-each .ensures .1) (c .before .before .before .before .before .before .before .before .before .before .before .settle-with .ensures .1)) (c .before .before .before .before .generate-each .ensures .1))
 
 pub sweep-spec : {M : Type 1} → statement M
 sweep-spec =

@@ -28,7 +28,17 @@ same-length-2 : tie.Need-same-length-2
 same-length-2 c = search needs
 
 returns : tie.Need-returns
-returns c = let s = c .before .before .before .before .before .before .before .before .before .before .before .before .before .before .before .before .before .before .before in (cancel-complex-law _ (venueOf (s .args .b .now)) _ _ _ _ _ _ _ _ _ (c .before .before .before .before .before .before .before .before .before .before .before .before .before .before .before .complex-at .ensures ∙ sym (complex-at (s .args .b .now) (s .args .i) (s .pre .1))) (c .before .before .before .before .before .before .before .before .before .before .before .before .before .fill-complex .ensures .0) (c .before .before .before .before .before .before .before .before .before .emit-cancelled .ensures) (c .before .before .before .before .remove-of .ensures .0), counts-on _ _ _ (c .before .before .before .before .before .before .before .before .before .before .before .before .before .fill-complex .ensures .1) (c .before .before .before .before .remove-of .ensures .1))
+returns c =
+    let p4 = c .before .before .before .before in
+    let p9 = p4 .before .before .before .before .before in
+    let p13 = p9 .before .before .before .before in
+    let p15 = p13 .before .before in
+    let p19 = p15 .before .before .before .before in (
+      cancel-complex-law _ (venueOf (p19 .args .b .now)) _ _ _ _ _ _ _ _ _
+          (p15 .complex-at .ensures ∙ sym (complex-at (p19 .args .b .now) (p19 .args .i) (p19 .pre .1))) (p13 .fill-complex .ensures .0)
+          (p9 .emit-cancelled .ensures) (p4 .remove-of .ensures .0),
+      counts-on _ _ _ (p13 .fill-complex .ensures .1) (p4 .remove-of .ensures .1),
+    )
 
 pub cancel-complex-spec : {M : Type 1} → statement M
 cancel-complex-spec =

@@ -24,7 +24,15 @@ same-length-2 : tie.Need-same-length-2
 same-length-2 c = search needs
 
 returns : tie.Need-returns
-returns c = let s = c .before .before .before .before .before .before .before .before .before .before .before .before in (cancel-law _ (venueOf (s .args .b .now)) _ _ _ _ _ _ (c .before .before .before .before .before .before .before .before .regular-at .ensures ∙ sym (regular-at (s .args .b .now) (s .args .i) (s .pre .1))) (c .before .before .before .before .before .before .fill-regular .ensures .0) (c .before .before .emit-cancelled .ensures), c .before .before .before .before .before .before .fill-regular .ensures .1)
+returns c =
+    let p2 = c .before .before in
+    let p6 = p2 .before .before .before .before in
+    let p8 = p6 .before .before in
+    let p12 = p8 .before .before .before .before in (
+      cancel-law _ (venueOf (p12 .args .b .now)) _ _ _ _ _ _ (p8 .regular-at .ensures ∙ sym (regular-at (p12 .args .b .now) (p12 .args .i) (p12 .pre .1)))
+          (p6 .fill-regular .ensures .0) (p2 .emit-cancelled .ensures),
+      p6 .fill-regular .ensures .1,
+    )
 
 pub cancel-regular-spec : {M : Type 1} → statement M
 cancel-regular-spec =

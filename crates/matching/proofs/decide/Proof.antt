@@ -15,10 +15,19 @@ regular-at-requires c κs = let s = c .before in let w = regulars-few (s .args .
 
 returns : tie.Need-returns
 unfolding turnOf
-returns c = (turn-idle (c .before .before .before .before .args .i) (venueOf (c .before .before .before .before .args .b .now)) _ (c .before .before .regular-at .ensures ∙ sym (regular-at (c .before .before .before .before .args .b .now) (c .before .before .before .before .args .i) (c .before .before .before .before .pre .1))) (c .if1 .taken), tt)
+returns c =
+    let p2 = c .before .before in
+    let p4 = p2 .before .before in (
+      turn-idle (p4 .args .i) (venueOf (p4 .args .b .now)) _ (p2 .regular-at .ensures ∙ sym (regular-at (p4 .args .b .now) (p4 .args .i) (p4 .pre .1)))
+          (c .if1 .taken),
+      tt,
+    )
 
 facing-requires : tie.Need-facing-requires
-facing-requires c κs = let s = c .before .before .before .before in (s .pre .0, series-in (s .args .b .now) (s .args .i) _ (c .before .before .regular-at .ensures))
+facing-requires c κs =
+    let p2 = c .before .before in
+    let p4 = p2 .before .before in
+    (p4 .pre .0, series-in (p4 .args .b .now) (p4 .args .i) _ (p2 .regular-at .ensures))
 
 first-met-requires : tie.Need-first-met-requires
 first-met-requires c κs = search needs
@@ -34,7 +43,19 @@ lesser-requires c κs = search needs
 
 returns-2 : tie.Need-returns-2
 unfolding turnOf
-returns-2 c = (none-hit (c .before .before .before .before .before .before .before .before .before .before .before .args .i) (venueOf (c .before .before .before .before .before .before .before .before .before .before .before .args .b .now)) _ (c .before .before .before .before .before .before .before .before .before .regular-at .ensures ∙ sym (regular-at (c .before .before .before .before .before .before .before .before .before .before .before .args .b .now) (c .before .before .before .before .before .before .before .before .before .before .before .args .i) (c .before .before .before .before .before .before .before .before .before .before .before .pre .1))) _ (c .before .before .before .before .before .before .before .if1 .left) (c .before .before .before .before .before .before .facing .ensures) _ (sym (c .before .before .before .enum-told .given .1) ∙ c .before .before .before .before .before .first-met .ensures) (sym (c .before .before .legging-first .ensures) ∙ c .before .if2 .taken) (c .lesser .ensures), tt)
+returns-2 c =
+    let p2 = c .before .before in
+    let p3 = p2 .before in
+    let p5 = p3 .before .before in
+    let p6 = p5 .before in
+    let p7 = p6 .before in
+    let p9 = p7 .before .before in
+    let p11 = p9 .before .before in (
+      none-hit (p11 .args .i) (venueOf (p11 .args .b .now)) _ (p9 .regular-at .ensures ∙ sym (regular-at (p11 .args .b .now) (p11 .args .i) (p11 .pre .1)))
+          _ (p7 .if1 .left) (p6 .facing .ensures) _ (sym (p3 .enum-told .given .1) ∙ p5 .first-met .ensures)
+          (sym (p2 .legging-first .ensures) ∙ c .before .if2 .taken) (c .lesser .ensures),
+      tt,
+    )
 
 enum-known-found : tie.Need-enum-known-found
 enum-known-found c = search needs
@@ -47,18 +68,54 @@ lesser-requires-2 c κs = search needs
 
 returns-3 : tie.Need-returns-3
 unfolding turnOf
-returns-3 c = (some-hit (c .before .before .before .before .before .before .before .before .before .before .before .before .args .i) (venueOf (c .before .before .before .before .before .before .before .before .before .before .before .before .args .b .now)) _ (c .before .before .before .before .before .before .before .before .before .before .regular-at .ensures ∙ sym (regular-at (c .before .before .before .before .before .before .before .before .before .before .before .before .args .b .now) (c .before .before .before .before .before .before .before .before .before .before .before .before .args .i) (c .before .before .before .before .before .before .before .before .before .before .before .before .pre .1))) _ (c .before .before .before .before .before .before .before .before .if1 .left) (c .before .before .before .before .before .before .before .facing .ensures) _ _ (sym (c .before .before .before .before .found .given .1) ∙ c .before .before .before .before .before .before .first-met .ensures) _ (sym (c .before .before .legging-first2 .ensures) ∙ c .before .if3 .taken) (c .lesser2 .ensures), tt)
+returns-3 c =
+    let p2 = c .before .before in
+    let p4 = p2 .before .before in
+    let p6 = p4 .before .before in
+    let p7 = p6 .before in
+    let p8 = p7 .before in
+    let p10 = p8 .before .before in
+    let p12 = p10 .before .before in (
+      some-hit (p12 .args .i) (venueOf (p12 .args .b .now)) _ (p10 .regular-at .ensures ∙ sym (regular-at (p12 .args .b .now) (p12 .args .i) (p12 .pre .1)))
+          _ (p8 .if1 .left) (p7 .facing .ensures) _ _ (sym (p4 .found .given .1) ∙ p6 .first-met .ensures) _
+          (sym (p2 .legging-first2 .ensures) ∙ c .before .if3 .taken) (c .lesser2 .ensures),
+      tt,
+    )
 
 lesser-requires-3 : tie.Need-lesser-requires-3
 lesser-requires-3 c κs = search needs
 
 returns-4 : tie.Need-returns-4
 unfolding turnOf
-returns-4 c = (none-end (c .before .before .before .before .before .before .before .before .before .before .args .i) (venueOf (c .before .before .before .before .before .before .before .before .before .before .args .b .now)) _ (c .before .before .before .before .before .before .before .before .regular-at .ensures ∙ sym (regular-at (c .before .before .before .before .before .before .before .before .before .before .args .b .now) (c .before .before .before .before .before .before .before .before .before .before .args .i) (c .before .before .before .before .before .before .before .before .before .before .pre .1))) _ (c .before .before .before .before .before .before .if1 .left) (c .before .before .before .before .before .facing .ensures) (sym (c .before .before .enum-told .given .1) ∙ c .before .before .before .before .first-met .ensures) (sym (c .before .legging-first .ensures) ∙ c .if2 .left), tt)
+returns-4 c =
+    let p2 = c .before .before in
+    let p4 = p2 .before .before in
+    let p5 = p4 .before in
+    let p6 = p5 .before in
+    let p8 = p6 .before .before in
+    let p10 = p8 .before .before in (
+      none-end (p10 .args .i) (venueOf (p10 .args .b .now)) _ (p8 .regular-at .ensures ∙ sym (regular-at (p10 .args .b .now) (p10 .args .i) (p10 .pre .1)))
+          _ (p6 .if1 .left) (p5 .facing .ensures) (sym (p2 .enum-told .given .1) ∙ p4 .first-met .ensures)
+          (sym (c .before .legging-first .ensures) ∙ c .if2 .left),
+      tt,
+    )
 
 returns-5 : tie.Need-returns-5
 unfolding turnOf
-returns-5 c = let e = sym (c .before .before .before .before .found .given .1) ∙ c .before .before .before .before .before .before .first-met .ensures in (some-meet (c .before .before .before .before .before .before .before .before .before .before .before .before .args .i) (venueOf (c .before .before .before .before .before .before .before .before .before .before .before .before .args .b .now)) _ (c .before .before .before .before .before .before .before .before .before .before .regular-at .ensures ∙ sym (regular-at (c .before .before .before .before .before .before .before .before .before .before .before .before .args .b .now) (c .before .before .before .before .before .before .before .before .before .before .before .before .args .i) (c .before .before .before .before .before .before .before .before .before .before .before .before .pre .1))) _ (c .before .before .before .before .before .before .before .before .if1 .left) (c .before .before .before .before .before .before .before .facing .ensures) _ _ e _ (sym (c .before .before .legging-first2 .ensures) ∙ c .before .if3 .left) (c .lesser3 .ensures), met-used (c .before .before .before .before .before .before .before .before .before .before .before .before .args .b .now) _ _ _ _ _ e)
+returns-5 c =
+    let p2 = c .before .before in
+    let p4 = p2 .before .before in
+    let p6 = p4 .before .before in
+    let p7 = p6 .before in
+    let p8 = p7 .before in
+    let p10 = p8 .before .before in
+    let p12 = p10 .before .before in
+    let e = sym (p4 .found .given .1) ∙ p6 .first-met .ensures in (
+      some-meet (p12 .args .i) (venueOf (p12 .args .b .now)) _
+          (p10 .regular-at .ensures ∙ sym (regular-at (p12 .args .b .now) (p12 .args .i) (p12 .pre .1))) _ (p8 .if1 .left) (p7 .facing .ensures) _ _ e _
+          (sym (p2 .legging-first2 .ensures) ∙ c .before .if3 .left) (c .lesser3 .ensures),
+      met-used (p12 .args .b .now) _ _ _ _ _ e,
+    )
 
 pub decide-spec : {M : Type 1} → statement M
 decide-spec =

@@ -7,6 +7,7 @@ use Rattle.wire.specs.Seen.{seen}
 use Rattle.wire.specs.Stage.{_does_}
 use Rattle.places.specs.Layout.{venueOf}
 use Rattle.matching.proofs.Turns.{enter-law}
+use Rattle.places.proofs.Closed.{dense-regular}
 use borrow.Author.Needs.{needs}
 use Rattle.matching.proofs.enter_regular.Statement.{statement}
 use Rattle.matching.proofs.enter_regular.Tie as tie
@@ -27,7 +28,20 @@ same-length-2 : tie.Need-same-length-2
 same-length-2 c = search needs
 
 returns : tie.Need-returns
-returns c = let s = c .before .before .before .before .before .before .before .before .before .before .before .before .before .before .before in let a = c .before .before .before .before .before .before .before .before .before .add-regular .ensures in let m = c .before .before .before .before .meet-all .ensures in let u = c .before .before .before .before .before .before .before .before .before .before .before .regulars-used .ensures .0 in let v = venueOf (s .args .b .now) in (m .0 ∙ ap (λ (e : Effect). seen (s .args .out .now) (s .args .at) does e) (enter-law (s .args .o) v _ _ (u ∙ sym (s .pre .1)) (a .0 ∙ ap (λ (k : ℕ). putRegular k (s .args .o) v) (sym u))), record { regulars = m .1 .regulars ∙ a .1 .regulars; complexes = m .1 .complexes ∙ a .1 .complexes })
+returns c =
+    let p4 = c .before .before .before .before in
+    let p9 = p4 .before .before .before .before .before in
+    let p11 = p9 .before .before in
+    let p15 = p11 .before .before .before .before in
+    let a = p9 .add-regular .ensures in
+    let m = p4 .meet-all .ensures in
+    let u = p11 .regulars-used .ensures .0 in
+    let v = venueOf (p15 .args .b .now) in (
+      m .0
+          ∙ ap (λ (e : Effect). seen (p15 .args .out .now) (p15 .args .at) does e)
+          (enter-law (p15 .args .o) v _ _ (u ∙ sym (dense-regular (p15 .args .b .now) (p15 .pre .1))) (a .0 ∙ ap (λ (k : ℕ). putRegular k (p15 .args .o) v) (sym u))),
+      record { regulars = m .1 .regulars ∙ a .1 .regulars; complexes = m .1 .complexes ∙ a .1 .complexes },
+    )
 
 pub enter-regular-spec : {M : Type 1} → statement M
 enter-regular-spec =

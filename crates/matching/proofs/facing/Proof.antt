@@ -16,10 +16,17 @@ place-of-requires c κs = search needs
 
 legging-at-requires : tie.Need-legging-at-requires
 unfolding placeOf
-legging-at-requires c κs = let s = c .before .before .before in let h = opposite-in (s .args .side) in (s .pre .0, omega (arith, c .place-of .ensures, c .before .opposite-of .ensures, s .pre .1))
+legging-at-requires c κs =
+    let p3 = c .before .before .before in
+    let h = opposite-in (p3 .args .side) in
+    (p3 .pre .0, omega (arith, c .place-of .ensures, c .before .opposite-of .ensures, p3 .pre .1))
 
 returns : tie.Need-returns
-returns c = let s = c .before .before .before .before in legging-read (s .args .b .now) (s .args .series) (opposite (s .args .side)) _ _ (s .pre .1) (opposite-in _) (c .before .place-of .ensures ∙ ap (placeOf (s .args .series)) (c .before .before .opposite-of .ensures)) (c .legging-at .ensures)
+returns c =
+    let p2 = c .before .before in
+    let p4 = p2 .before .before in
+    legging-read (p4 .args .b .now) (p4 .args .series) (opposite (p4 .args .side)) _ _ (p4 .pre .1) (opposite-in _)
+    (c .before .place-of .ensures ∙ ap (placeOf (p4 .args .series)) (p2 .opposite-of .ensures)) (c .legging-at .ensures)
 
 pub facing-spec : {M : Type 1} → statement M
 facing-spec =

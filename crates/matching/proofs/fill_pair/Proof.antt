@@ -13,7 +13,11 @@ same-length : tie.Need-same-length
 same-length c = search needs
 
 returns : tie.Need-returns
-returns c = let s = c .before .before .before .before in (fill-unused (s .args .b .now) (s .args .i) (s .args .k) (omega (arith, c .if1 .taken, c .before .complexes-used .ensures .0)), record { regulars = refl; complexes = refl })
+returns c =
+    let p4 = c .before .before .before .before in (
+      fill-unused (p4 .args .b .now) (p4 .args .i) (p4 .args .k) (omega (arith, c .if1 .taken, c .before .complexes-used .ensures .0)),
+      record { regulars = refl; complexes = refl },
+    )
 
 fill-complex-requires : tie.Need-fill-complex-requires
 fill-complex-requires c κs = search needs

@@ -26,10 +26,18 @@ take-requires : tie.Need-take-requires
 take-requires c κs = search needs
 
 place-or-end-requires : tie.Need-place-or-end-requires
-place-or-end-requires c κs = c .before .before .before .before .before .take .kept .0 ∙ c .before .before .before .before .before .before .before .before .before .before .before .before .before .before .fill-regular .kept .0 ∙ c .before .before .before .before .before .before .before .before .before .before .before .before .before .before .before .before .before .before .before .before .before .before .pre .0
+place-or-end-requires c κs =
+    let p5 = c .before .before .before .before .before in
+    let p14 = p5 .before .before .before .before .before .before .before .before .before in
+    let p22 = p14 .before .before .before .before .before .before .before .before in
+    p5 .take .kept .0 ∙ p14 .fill-regular .kept .0 ∙ p22 .pre .0
 
 pair-off-requires : tie.Need-pair-off-requires
-pair-off-requires c κs = c .before .before .before .before .before .before .before .before .before .take .kept .0 ∙ c .before .before .before .before .before .before .before .before .before .before .before .before .before .before .before .before .before .before .fill-regular .kept .0 ∙ c .before .before .before .before .before .before .before .before .before .before .before .before .before .before .before .before .before .before .before .before .before .before .before .before .before .before .pre .0
+pair-off-requires c κs =
+    let p9 = c .before .before .before .before .before .before .before .before .before in
+    let p18 = p9 .before .before .before .before .before .before .before .before .before in
+    let p26 = p18 .before .before .before .before .before .before .before .before in
+    p9 .take .kept .0 ∙ p18 .fill-regular .kept .0 ∙ p26 .pre .0
 
 same-length : tie.Need-same-length
 same-length c = search needs
@@ -38,7 +46,21 @@ same-length-2 : tie.Need-same-length-2
 same-length-2 c = search needs
 
 returns : tie.Need-returns
-returns c = let s = c .before .before .before .before .before .before .before .before .before .before .before .before .before .before .before .before .before .before .before .before .before .before .before .before .before .before .before .before .before .before .before in let p = c .before .before .before .before .before .before .before .before .before .before .before .before .before .before .before .before .before .before .before .before .before .before .before .before .before .pairing-of in (hit-law _ _ _ (venueOf (s .args .b .now)) _ _ _ _ _ _ _ _ _ _ _ _ _ _ _ (back (fits-of (p .result .net) (omega (arith, p .ensures .1)))) (c .before .before .before .before .before .before .before .before .before .before .before .before .before .before .before .before .before .before .before .before .before .before .before .before .before .before .before .regular-at .ensures ∙ sym (regular-at (s .args .b .now) (s .args .i) (s .pre .1))) (p .ensures .0) (c .before .before .before .before .before .before .before .before .before .before .before .before .before .before .before .before .before .before .before .before .before .before .before .fill-regular .ensures .0) (c .before .before .before .before .before .before .before .before .before .before .before .before .before .before .before .before .before .before .before .emit-trade .ensures) (c .before .before .before .before .before .before .before .before .before .before .before .before .before .before .take .ensures .0) (c .before .before .before .before .before .before .before .before .place-or-end .ensures) (c .before .before .before .before .pair-off .ensures .0), counts-on _ _ _ (counts-on _ _ _ (c .before .before .before .before .before .before .before .before .before .before .before .before .before .before .before .before .before .before .before .before .before .before .before .fill-regular .ensures .1) (c .before .before .before .before .before .before .before .before .before .before .before .before .before .before .take .ensures .1)) (c .before .before .before .before .pair-off .ensures .1))
+returns c =
+    let p4 = c .before .before .before .before in
+    let p8 = p4 .before .before .before .before in
+    let p14 = p8 .before .before .before .before .before .before in
+    let p19 = p14 .before .before .before .before .before in
+    let p23 = p19 .before .before .before .before in
+    let p25 = p23 .before .before in
+    let p27 = p25 .before .before in
+    let p31 = p27 .before .before .before .before in
+    let p = p25 .pairing-of in (
+      hit-law _ _ _ (venueOf (p31 .args .b .now)) _ _ _ _ _ _ _ _ _ _ _ _ _ _ _ (back (fits-of (p .result .net) (omega (arith, p .ensures .1))))
+          (p27 .regular-at .ensures ∙ sym (regular-at (p31 .args .b .now) (p31 .args .i) (p31 .pre .1))) (p .ensures .0) (p23 .fill-regular .ensures .0)
+          (p19 .emit-trade .ensures) (p14 .take .ensures .0) (p8 .place-or-end .ensures) (p4 .pair-off .ensures .0),
+      counts-on _ _ _ (counts-on _ _ _ (p23 .fill-regular .ensures .1) (p14 .take .ensures .1)) (p4 .pair-off .ensures .1),
+    )
 
 pub hit-spec : {M : Type 1} → statement M
 hit-spec =

@@ -16,7 +16,10 @@ reaches-price-requires : tie.Need-reaches-price-requires
 reaches-price-requires c κs = search needs
 
 returns-2 : tie.Need-returns-2
-returns-2 c = first-far _ _ _ _ (c .before .before .before .own-price .ensures) (c .before .before .if1 .left) (sym (c .before .reaches-price .ensures) ∙ not-true _ (c .if2 .taken))
+returns-2 c =
+    let p2 = c .before .before in
+    let p3 = p2 .before in
+    first-far _ _ _ _ (p3 .own-price .ensures) (p2 .if1 .left) (sym (c .before .reaches-price .ensures) ∙ not-true _ (c .if2 .taken))
 
 opposite-of-requires : tie.Need-opposite-of-requires
 opposite-of-requires c κs = search needs
@@ -25,7 +28,13 @@ is-better-requires : tie.Need-is-better-requires
 is-better-requires c κs = search needs
 
 returns-3 : tie.Need-returns-3
-returns-3 c = first-near _ _ _ _ (c .before .before .before .before .before .own-price .ensures) _ _ (c .before .before .before .before .if1 .left) (sym (c .before .before .before .reaches-price .ensures) ∙ not-false _ (c .before .before .if2 .left)) (c .before .opposite-of .ensures) (c .is-better .ensures)
+returns-3 c =
+    let p2 = c .before .before in
+    let p3 = p2 .before in
+    let p4 = p3 .before in
+    let p5 = p4 .before in
+    first-near _ _ _ _ (p5 .own-price .ensures) _ _ (p4 .if1 .left) (sym (p3 .reaches-price .ensures) ∙ not-false _ (p2 .if2 .left))
+    (c .before .opposite-of .ensures) (c .is-better .ensures)
 
 pub legging-first-spec : {M : Type 1} → statement M
 legging-first-spec =

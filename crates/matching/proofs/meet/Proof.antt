@@ -16,7 +16,10 @@ fill-regular-requires : tie.Need-fill-regular-requires
 fill-regular-requires c κs = search needs
 
 trade-with-requires : tie.Need-trade-with-requires
-trade-with-requires c κs = (c .before .before .before .before .fill-regular .kept .0 ∙ c .before .before .before .before .before .before .before .before .before .before .pre .0, rw (c .before .before .before .before .fill-regular .ensures .1 .regulars) (c .before .before .before .before .before .before .before .before .before .before .pre .2))
+trade-with-requires c κs =
+    let p4 = c .before .before .before .before in
+    let p10 = p4 .before .before .before .before .before .before in
+    (p4 .fill-regular .kept .0 ∙ p10 .pre .0, rw (p4 .fill-regular .ensures .1 .regulars) (p10 .pre .2))
 
 same-length : tie.Need-same-length
 same-length c = search needs
@@ -25,7 +28,16 @@ same-length-2 : tie.Need-same-length-2
 same-length-2 c = search needs
 
 returns : tie.Need-returns
-returns c = let s = c .before .before .before .before .before .before .before .before .before .before .before .before .before .before .before in (meet-law _ _ _ (venueOf (s .args .b .now)) _ _ _ _ _ _ _ (c .before .before .before .before .before .before .before .before .before .before .before .regular-at .ensures ∙ sym (regular-at (s .args .b .now) (s .args .i) (s .pre .1))) (c .before .before .before .before .before .before .before .before .before .fill-regular .ensures .0) (c .before .before .before .before .trade-with .ensures .0), counts-on _ _ _ (c .before .before .before .before .before .before .before .before .before .fill-regular .ensures .1) (c .before .before .before .before .trade-with .ensures .1))
+returns c =
+    let p4 = c .before .before .before .before in
+    let p9 = p4 .before .before .before .before .before in
+    let p11 = p9 .before .before in
+    let p15 = p11 .before .before .before .before in (
+      meet-law _ _ _ (venueOf (p15 .args .b .now)) _ _ _ _ _ _ _
+          (p11 .regular-at .ensures ∙ sym (regular-at (p15 .args .b .now) (p15 .args .i) (p15 .pre .1))) (p9 .fill-regular .ensures .0)
+          (p4 .trade-with .ensures .0),
+      counts-on _ _ _ (p9 .fill-regular .ensures .1) (p4 .trade-with .ensures .1),
+    )
 
 pub meet-spec : {M : Type 1} → statement M
 meet-spec =

@@ -21,7 +21,10 @@ sub-turns : tie.Need-sub-turns Inv-loop μ-loop
 sub-turns c = search needs
 
 decide-requires : tie.Need-decide-requires Inv-loop μ-loop
-decide-requires c κs = (c .before .before .loop .inv .whole, rw (c .before .before .loop .inv .counts .regulars) (c .before .before .before .before .before .pre .1))
+decide-requires c κs =
+    let p2 = c .before .before in
+    let p5 = p2 .before .before .before in
+    (p2 .loop .inv .whole, rw (p2 .loop .inv .counts .regulars) (p5 .pre .1))
 
 enum-told : tie.Need-enum-told Inv-loop μ-loop
 enum-told c = search needs
@@ -34,33 +37,61 @@ same-length-2 c = turning-room (c .before .before .before .before .before .loop 
 
 returns : tie.Need-returns Inv-loop μ-loop
 unfolding turnOf
-returns c = turning-stop (c .before .before .before .before .before .loop .inv) (sym (ap (turnOf (c .before .before .before .before .before .before .before .before .args .i) (venueOf (c .before .before .before .before .before .loop .b))) (c .enum-told .given .1)) ∙ c .before .before .decide .ensures .0)
+returns c =
+    let p2 = c .before .before in
+    let p5 = p2 .before .before .before in
+    let p8 = p5 .before .before .before in
+    turning-stop (p5 .loop .inv) (sym (ap (turnOf (p8 .args .i) (venueOf (p5 .loop .b))) (c .enum-told .given .1)) ∙ p2 .decide .ensures .0)
 
 enum-known-plan : tie.Need-enum-known-plan Inv-loop μ-loop
 enum-known-plan c = search needs
 
 hit-requires : tie.Need-hit-requires Inv-loop μ-loop
-hit-requires c κs = (c .before .before .before .before .before .before .before .before .loop .inv .whole, rw (c .before .before .before .before .before .before .before .before .loop .inv .counts .regulars) (c .before .before .before .before .before .before .before .before .before .before .before .pre .1))
+hit-requires c κs =
+    let p8 = c .before .before .before .before .before .before .before .before in
+    let p11 = p8 .before .before .before in
+    (p8 .loop .inv .whole, rw (p8 .loop .inv .counts .regulars) (p11 .pre .1))
 
 loop-less : tie.Need-loop-less Inv-loop μ-loop
 loop-less c = search needs
 
 loop-again : tie.Need-loop-again Inv-loop μ-loop
 unfolding turnOf
-loop-again c = turning-turn (c .before .before .before .before .before .before .before .before .before .before .before .before .before .loop .inv) _ _ _ _ (c .before .before .before .before .before .before .before .before .before .before .before .before .loop-test .taken) (sym (ap (turnOf (c .before .before .before .before .before .before .before .before .before .before .before .before .before .before .before .before .args .i) (venueOf (c .before .before .before .before .before .before .before .before .before .before .before .before .before .loop .b))) (c .before .before .before .before .before .before .before .before .plan .given .1)) ∙ c .before .before .before .before .before .before .before .before .before .before .decide .ensures .0) (c .before .before .before .before .hit .kept .0) (c .before .before .before .before .hit .ensures)
+loop-again c =
+    let p4 = c .before .before .before .before in
+    let p8 = p4 .before .before .before .before in
+    let p10 = p8 .before .before in
+    let p12 = p10 .before .before in
+    let p13 = p12 .before in
+    let p16 = p13 .before .before .before in
+    turning-turn (p13 .loop .inv) _ _ _ _ (p12 .loop-test .taken)
+    (sym (ap (turnOf (p16 .args .i) (venueOf (p13 .loop .b))) (p8 .plan .given .1)) ∙ p10 .decide .ensures .0) (p4 .hit .kept .0) (p4 .hit .ensures)
 
 enum-known-plan-2 : tie.Need-enum-known-plan-2 Inv-loop μ-loop
 enum-known-plan-2 c = search needs
 
 meet-requires : tie.Need-meet-requires Inv-loop μ-loop
-meet-requires c κs = (c .before .before .before .before .before .before .before .before .loop .inv .whole, rw (c .before .before .before .before .before .before .before .before .loop .inv .counts .regulars) (c .before .before .before .before .before .before .before .before .before .before .before .pre .1), rw (c .before .before .before .plan2 .given .1) at (c .before .before .before .before .before .decide .ensures .1))
+meet-requires c κs =
+    let p3 = c .before .before .before in
+    let p5 = p3 .before .before in
+    let p8 = p5 .before .before .before in
+    let p11 = p8 .before .before .before in
+    (p8 .loop .inv .whole, rw (p8 .loop .inv .counts .regulars) (p11 .pre .1), rw (p3 .plan2 .given .1) at (p5 .decide .ensures .1))
 
 loop-less-2 : tie.Need-loop-less-2 Inv-loop μ-loop
 loop-less-2 c = search needs
 
 loop-again-2 : tie.Need-loop-again-2 Inv-loop μ-loop
 unfolding turnOf
-loop-again-2 c = turning-turn (c .before .before .before .before .before .before .before .before .before .before .before .before .before .loop .inv) _ _ _ _ (c .before .before .before .before .before .before .before .before .before .before .before .before .loop-test .taken) (sym (ap (turnOf (c .before .before .before .before .before .before .before .before .before .before .before .before .before .before .before .before .args .i) (venueOf (c .before .before .before .before .before .before .before .before .before .before .before .before .before .loop .b))) (c .before .before .before .before .before .before .before .before .plan2 .given .1)) ∙ c .before .before .before .before .before .before .before .before .before .before .decide .ensures .0) (c .before .before .before .before .meet .kept .0) (c .before .before .before .before .meet .ensures)
+loop-again-2 c =
+    let p4 = c .before .before .before .before in
+    let p8 = p4 .before .before .before .before in
+    let p10 = p8 .before .before in
+    let p12 = p10 .before .before in
+    let p13 = p12 .before in
+    let p16 = p13 .before .before .before in
+    turning-turn (p13 .loop .inv) _ _ _ _ (p12 .loop-test .taken)
+    (sym (ap (turnOf (p16 .args .i) (venueOf (p13 .loop .b))) (p8 .plan2 .given .1)) ∙ p10 .decide .ensures .0) (p4 .meet .kept .0) (p4 .meet .ensures)
 
 same-length-3 : tie.Need-same-length-3 Inv-loop μ-loop
 same-length-3 c = c .before .loop .inv .whole ∙ sym (c .before .before .before .before .pre .0)

@@ -23,7 +23,15 @@ same-length-2 : tie.Need-same-length-2
 same-length-2 c = search needs
 
 returns : tie.Need-returns
-returns c = let s = c .before .before .before .before .before .before .before .before .before .before .before .before .before .before .before .before .before in (pair-law _ _ _ _ _ (venueOf (s .args .b .now)) _ _ _ _ _ _ _ _ (back (s .fits .net)) (c .before .before .before .before .before .before .before .before .before .before .before .before .before .fill-pair .ensures .0) (c .before .before .before .before .before .before .before .before .before .emit-pair .ensures) (c .before .before .before .before .remove-of .ensures .0), counts-on _ _ _ (c .before .before .before .before .before .before .before .before .before .before .before .before .before .fill-pair .ensures .1) (c .before .before .before .before .remove-of .ensures .1))
+returns c =
+    let p4 = c .before .before .before .before in
+    let p9 = p4 .before .before .before .before .before in
+    let p13 = p9 .before .before .before .before in
+    let p17 = p13 .before .before .before .before in (
+      pair-law _ _ _ _ _ (venueOf (p17 .args .b .now)) _ _ _ _ _ _ _ _ (back (p17 .fits .net)) (p13 .fill-pair .ensures .0) (p9 .emit-pair .ensures)
+          (p4 .remove-of .ensures .0),
+      counts-on _ _ _ (p13 .fill-pair .ensures .1) (p4 .remove-of .ensures .1),
+    )
 
 pub pair-off-spec : {M : Type 1} → statement M
 pair-off-spec =

@@ -23,7 +23,12 @@ opposite-of-requires : tie.Need-opposite-of-requires
 opposite-of-requires c κs = search needs
 
 clear-price-requires : tie.Need-clear-price-requires
-clear-price-requires c κs = let s = c .before .before .before .before .before in let h = leg-in (c .before .before .before .parent-of .result) (s .args .series) (rw (← c .before .before .before .parent-of .ensures) at (parent-legs (s .args .b .now) (s .args .l))) in (s .pre, c .before .levels .ensures, rw (c .before .before .other-leg .ensures) (h .0), rw (c .opposite-of .ensures) (opposite-in _))
+clear-price-requires c κs =
+    let p2 = c .before .before in
+    let p3 = p2 .before in
+    let p5 = p3 .before .before in
+    let h = leg-in (p3 .parent-of .result) (p5 .args .series) (rw (← p3 .parent-of .ensures) at (parent-legs (p5 .args .b .now) (p5 .args .l))) in
+    (p5 .pre, c .before .levels .ensures, rw (p2 .other-leg .ensures) (h .0), rw (c .opposite-of .ensures) (opposite-in _))
 
 opposite-of-requires-2 : tie.Need-opposite-of-requires-2
 opposite-of-requires-2 c κs = search needs
@@ -32,7 +37,17 @@ net-of-requires : tie.Need-net-of-requires
 net-of-requires c κs = search needs
 
 returns : tie.Need-returns
-returns c = let q = back {z = c .net-of .result} (record { sfits = c .net-of .ok }) in let s = c .before .before .before .before .before .before .before .before in (pairing-law (venueOf (s .args .b .now)) (s .args .l) (s .args .series) (s .args .side) _ _ _ _ _ _ _ (c .before .before .before .before .before .before .parent-of .ensures) (c .before .before .before .before .before .other-leg .ensures) (c .before .before .before .opposite-of .ensures) (c .before .before .clear-price .ensures) (c .before .opposite-of2 .ensures) (c .net-of .ensures .0) q, omega (arith, ap natAbs q, c .net-of .ensures .1))
+returns c =
+    let p2 = c .before .before in
+    let p3 = p2 .before in
+    let p5 = p3 .before .before in
+    let p6 = p5 .before in
+    let p8 = p6 .before .before in
+    let q = back {z = c .net-of .result} (record { sfits = c .net-of .ok }) in (
+      pairing-law (venueOf (p8 .args .b .now)) (p8 .args .l) (p8 .args .series) (p8 .args .side) _ _ _ _ _ _ _ (p6 .parent-of .ensures)
+          (p5 .other-leg .ensures) (p3 .opposite-of .ensures) (p2 .clear-price .ensures) (c .before .opposite-of2 .ensures) (c .net-of .ensures .0) q,
+      omega (arith, ap natAbs q, c .net-of .ensures .1),
+    )
 
 pub pairing-of-spec : {M : Type 1} → statement M
 pairing-of-spec =

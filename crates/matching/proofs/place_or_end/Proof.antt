@@ -15,10 +15,16 @@ enum-told : tie.Need-enum-told
 enum-told c = search needs
 
 returns : tie.Need-returns
-returns c = let s = c .before .before .before .before .before in place-found (s .args .b .now) (s .args .id) _ (sym (c .before .found .given .1) ∙ c .before .before .before .complex-place .ensures)
+returns c =
+    let p3 = c .before .before .before in
+    let p5 = p3 .before .before in
+    place-found (p5 .args .b .now) (p5 .args .id) _ (sym (c .before .found .given .1) ∙ p3 .complex-place .ensures)
 
 returns-2 : tie.Need-returns-2
-returns-2 c = let s = c .before .before .before .before in place-nothing (s .args .b .now) (s .args .id) (sym (c .enum-told .given .1) ∙ c .before .before .complex-place .ensures)
+returns-2 c =
+    let p2 = c .before .before in
+    let p4 = p2 .before .before in
+    place-nothing (p4 .args .b .now) (p4 .args .id) (sym (c .enum-told .given .1) ∙ p2 .complex-place .ensures)
 
 pub place-or-end-spec : {M : Type 1} → statement M
 place-or-end-spec =

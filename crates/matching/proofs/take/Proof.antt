@@ -28,28 +28,63 @@ enum-told : tie.Need-enum-told Inv-loop μ-loop
 enum-told c = search needs
 
 same-length : tie.Need-same-length Inv-loop μ-loop
-same-length c = c .before .before .before .before .before .loop .inv .whole ∙ sym (c .before .before .before .before .before .before .before .before .before .pre)
+same-length c =
+    let p5 = c .before .before .before .before .before in
+    let p9 = p5 .before .before .before .before in
+    p5 .loop .inv .whole ∙ sym (p9 .pre)
 
 same-length-2 : tie.Need-same-length-2 Inv-loop μ-loop
 same-length-2 c = taking-room (c .before .before .before .before .before .loop .inv)
 
 returns : tie.Need-returns Inv-loop μ-loop
-returns c = taking-none (c .before .before .before .before .before .loop .inv) _ (c .before .before .before .before .loop-test .taken) (c .before .before .before .before .before .before .opposite-of .ensures) (sym (c .enum-told .given .1) ∙ c .before .before .first-for .ensures)
+returns c =
+    let p2 = c .before .before in
+    let p4 = p2 .before .before in
+    let p5 = p4 .before in
+    let p6 = p5 .before in
+    taking-none (p5 .loop .inv) _ (p4 .loop-test .taken) (p6 .opposite-of .ensures) (sym (c .enum-told .given .1) ∙ p2 .first-for .ensures)
 
 lesser-requires : tie.Need-lesser-requires Inv-loop μ-loop
 lesser-requires c κs = search needs
 
 trade-with-requires : tie.Need-trade-with-requires Inv-loop μ-loop
-trade-with-requires c κs = (c .before .before .before .before .before .before .before .before .before .loop .inv .whole, taking-used (c .before .before .before .before .before .before .before .before .before .loop .inv) _ _ _ _ (c .before .before .before .before .before .before .before .before .loop-test .taken) (c .before .before .before .before .before .before .before .before .before .before .opposite-of .ensures) (sym (c .before .before .before .before .found .given .1) ∙ c .before .before .before .before .before .before .first-for .ensures) (c .before .before .lesser .ensures))
+trade-with-requires c κs =
+    let p2 = c .before .before in
+    let p4 = p2 .before .before in
+    let p6 = p4 .before .before in
+    let p8 = p6 .before .before in
+    let p9 = p8 .before in
+    let p10 = p9 .before in (
+      p9 .loop .inv .whole,
+      taking-used (p9 .loop .inv) _ _ _ _ (p8 .loop-test .taken) (p10 .opposite-of .ensures) (sym (p4 .found .given .1) ∙ p6 .first-for .ensures)
+          (p2 .lesser .ensures),
+    )
 
 sub-left : tie.Need-sub-left Inv-loop μ-loop
 sub-left c = omega (arith, c .before .before .before .before .before .before .before .lesser .ensures)
 
 loop-less : tie.Need-loop-less Inv-loop μ-loop
-loop-less c = taking-less (c .before .before .before .before .before .before .before .before .before .before .before .before .before .before .loop .inv) _ _ _ _ (c .before .before .before .before .before .before .before .before .before .before .before .before .before .loop-test .taken) (c .before .before .before .before .before .before .before .before .before .before .before .before .before .before .before .opposite-of .ensures) (sym (c .before .before .before .before .before .before .before .before .before .found .given .1) ∙ c .before .before .before .before .before .before .before .before .before .before .before .first-for .ensures) (c .before .before .before .before .before .before .before .lesser .ensures)
+loop-less c =
+    let p7 = c .before .before .before .before .before .before .before in
+    let p9 = p7 .before .before in
+    let p11 = p9 .before .before in
+    let p13 = p11 .before .before in
+    let p14 = p13 .before in
+    let p15 = p14 .before in
+    taking-less (p14 .loop .inv) _ _ _ _ (p13 .loop-test .taken) (p15 .opposite-of .ensures) (sym (p9 .found .given .1) ∙ p11 .first-for .ensures)
+    (p7 .lesser .ensures)
 
 loop-again : tie.Need-loop-again Inv-loop μ-loop
-loop-again c = taking-turn (c .before .before .before .before .before .before .before .before .before .before .before .before .before .before .loop .inv) _ _ _ _ (c .before .before .before .before .before .before .before .before .before .before .before .before .before .loop-test .taken) (c .before .before .before .before .before .before .before .before .before .before .before .before .before .before .before .opposite-of .ensures) (sym (c .before .before .before .before .before .before .before .before .before .found .given .1) ∙ c .before .before .before .before .before .before .before .before .before .before .before .first-for .ensures) (c .before .before .before .before .before .before .before .lesser .ensures) _ _ _ (c .before .before .before .before .trade-with .kept .0) (c .before .before .before .before .trade-with .ensures)
+loop-again c =
+    let p4 = c .before .before .before .before in
+    let p7 = p4 .before .before .before in
+    let p9 = p7 .before .before in
+    let p11 = p9 .before .before in
+    let p13 = p11 .before .before in
+    let p14 = p13 .before in
+    let p15 = p14 .before in
+    taking-turn (p14 .loop .inv) _ _ _ _ (p13 .loop-test .taken) (p15 .opposite-of .ensures) (sym (p9 .found .given .1) ∙ p11 .first-for .ensures)
+    (p7 .lesser .ensures) _ _ _ (p4 .trade-with .kept .0) (p4 .trade-with .ensures)
 
 same-length-3 : tie.Need-same-length-3 Inv-loop μ-loop
 same-length-3 c = c .before .loop .inv .whole ∙ sym (c .before .before .before .before .before .pre)

@@ -17,11 +17,15 @@ same-length : tie.Need-same-length
 same-length c = search needs
 
 returns : tie.Need-returns
-returns c = let s = c .before .before .before .before .before .before in let a = s .args in (
-  does-nothing (venueOf (a .b .now)) (a .out .now) (a .at)
-      ∙ ap (λ (e : Effect). seen (a .out .now) (a .at) does e) (clear-free (a .n) (venueOf (a .b .now)) _ (legging-at (a .b .now) (a .n) (s .pre .1) ∙ sym (c .before .before .legging-at .ensures)) (a .cause) (c .if1 .taken)),
-  record { regulars = refl; complexes = refl },
-)
+returns c =
+    let p2 = c .before .before in
+    let s = p2 .before .before .before .before in
+    let a = s .args in (
+      does-nothing (venueOf (a .b .now)) (a .out .now) (a .at)
+          ∙ ap (λ (e : Effect). seen (a .out .now) (a .at) does e)
+          (clear-free (a .n) (venueOf (a .b .now)) _ (legging-at (a .b .now) (a .n) (s .pre .1) ∙ sym (p2 .legging-at .ensures)) (a .cause) (c .if1 .taken)),
+      record { regulars = refl; complexes = refl },
+    )
 
 put-legging-requires : tie.Need-put-legging-requires
 put-legging-requires c κs = search needs
@@ -42,11 +46,19 @@ same-length-3 : tie.Need-same-length-3
 same-length-3 c = search needs
 
 returns-2 : tie.Need-returns-2
-returns-2 c = let s = c .before .before .before .before .before .before .before .before .before .before .before .before .before .before in let a = s .args in (
-  does-report _ _ _ _ _ _ (c .before .before .emit-removed .ensures)
-      ∙ ap (λ (e : Effect). seen (a .out .now) (a .at) does e) (ap (report _) (c .before .before .before .before .before .before .put-legging .ensures .0) ∙ clear-held (a .n) (venueOf (a .b .now)) _ (legging-at (a .b .now) (a .n) (s .pre .1) ∙ sym (c .before .before .before .before .before .before .before .before .before .before .legging-at .ensures)) (a .cause) (c .before .before .before .before .before .before .before .before .if1 .left)),
-  c .before .before .before .before .before .before .put-legging .ensures .1,
-)
+returns-2 c =
+    let p2 = c .before .before in
+    let p6 = p2 .before .before .before .before in
+    let p8 = p6 .before .before in
+    let p10 = p8 .before .before in
+    let s = p10 .before .before .before .before in
+    let a = s .args in (
+      does-report _ _ _ _ _ _ (p2 .emit-removed .ensures)
+          ∙ ap (λ (e : Effect). seen (a .out .now) (a .at) does e)
+          (ap (report _) (p6 .put-legging .ensures .0)
+          ∙ clear-held (a .n) (venueOf (a .b .now)) _ (legging-at (a .b .now) (a .n) (s .pre .1) ∙ sym (p10 .legging-at .ensures)) (a .cause) (p8 .if1 .left)),
+      p6 .put-legging .ensures .1,
+    )
 
 pub clear-spec : {M : Type 1} → statement M
 clear-spec =

@@ -28,7 +28,12 @@ loop-less : tie.Need-loop-less Inv-loop μ-loop
 loop-less c = search needs
 
 loop-again : tie.Need-loop-again Inv-loop μ-loop
-loop-again c = removing-turn _ (c .before .before .before .before .before .before .before .before .before .loop .inv) _ _ _ _ (c .before .before .before .before .before .before .before .before .loop-test .taken) (at-one _ _ _ _ (c .before .before .before .before .before .before .before .if1 .taken)) (c .before .before .before .before .clear .kept .0) (c .before .before .before .before .clear .ensures)
+loop-again c =
+    let p4 = c .before .before .before .before in
+    let p7 = p4 .before .before .before in
+    let p8 = p7 .before in
+    let p9 = p8 .before in
+    removing-turn _ (p9 .loop .inv) _ _ _ _ (p8 .loop-test .taken) (at-one _ _ _ _ (p7 .if1 .taken)) (p4 .clear .kept .0) (p4 .clear .ensures)
 
 clear-requires-2 : tie.Need-clear-requires-2 Inv-loop μ-loop
 clear-requires-2 c κs = search needs
@@ -37,13 +42,21 @@ loop-less-2 : tie.Need-loop-less-2 Inv-loop μ-loop
 loop-less-2 c = search needs
 
 loop-again-2 : tie.Need-loop-again-2 Inv-loop μ-loop
-loop-again-2 c = removing-turn _ (c .before .before .before .before .before .before .before .before .before .before .loop .inv) _ _ _ _ (c .before .before .before .before .before .before .before .before .before .loop-test .taken) (at-two _ _ _ _ (c .before .before .before .before .before .before .before .if2 .taken)) (c .before .before .before .before .clear2 .kept .0) (c .before .before .before .before .clear2 .ensures)
+loop-again-2 c =
+    let p4 = c .before .before .before .before in
+    let p7 = p4 .before .before .before in
+    let p9 = p7 .before .before in
+    let p10 = p9 .before in
+    removing-turn _ (p10 .loop .inv) _ _ _ _ (p9 .loop-test .taken) (at-two _ _ _ _ (p7 .if2 .taken)) (p4 .clear2 .kept .0) (p4 .clear2 .ensures)
 
 loop-less-3 : tie.Need-loop-less-3 Inv-loop μ-loop
 loop-less-3 c = search needs
 
 loop-again-3 : tie.Need-loop-again-3 Inv-loop μ-loop
-loop-again-3 c = removing-past _ (c .before .before .before .loop .inv) (c .before .before .loop-test .taken) (at-neither _ _ _ _ (c .before .if1 .left) (c .if2 .left))
+loop-again-3 c =
+    let p2 = c .before .before in
+    let p3 = p2 .before in
+    removing-past _ (p3 .loop .inv) (p2 .loop-test .taken) (at-neither _ _ _ _ (c .before .if1 .left) (c .if2 .left))
 
 same-length : tie.Need-same-length Inv-loop μ-loop
 same-length c = c .before .loop .inv .whole ∙ sym (c .before .before .before .before .pre)

@@ -36,7 +36,11 @@ loop-less c = search needs
 
 loop-again : tie.Need-loop-again Inv-loop μ-loop
 unfolding markedBy
-loop-again c = removing-past _ (c .before .before .before .before .loop .inv) (c .before .before .before .loop-test .taken) (sym (c .before .before .verdict-by .ensures) ∙ c .enum-told .given .1)
+loop-again c =
+    let p2 = c .before .before in
+    let p3 = p2 .before in
+    let p4 = p3 .before in
+    removing-past _ (p4 .loop .inv) (p3 .loop-test .taken) (sym (p2 .verdict-by .ensures) ∙ c .enum-told .given .1)
 
 clear-requires : tie.Need-clear-requires Inv-loop μ-loop
 clear-requires c κs = search needs
@@ -46,7 +50,14 @@ loop-less-2 c = search needs
 
 loop-again-2 : tie.Need-loop-again-2 Inv-loop μ-loop
 unfolding markedBy
-loop-again-2 c = removing-turn _ (c .before .before .before .before .before .before .before .before .before .before .before .before .loop .inv) _ _ _ _ (c .before .before .before .before .before .before .before .before .before .before .before .loop-test .taken) (sym (c .before .before .before .before .before .before .before .before .before .before .verdict-by .ensures) ∙ c .before .before .before .before .before .before .before .before .found .given .1) (c .before .before .before .before .clear .kept .0) (c .before .before .before .before .clear .ensures)
+loop-again-2 c =
+    let p4 = c .before .before .before .before in
+    let p8 = p4 .before .before .before .before in
+    let p10 = p8 .before .before in
+    let p11 = p10 .before in
+    let p12 = p11 .before in
+    removing-turn _ (p12 .loop .inv) _ _ _ _ (p11 .loop-test .taken) (sym (p10 .verdict-by .ensures) ∙ p8 .found .given .1) (p4 .clear .kept .0)
+    (p4 .clear .ensures)
 
 same-length : tie.Need-same-length Inv-loop μ-loop
 same-length c = c .before .loop .inv .whole ∙ sym (c .before .before .before .before .pre)

@@ -27,7 +27,11 @@ loop-less : tie.Need-loop-less Inv-loop μ-loop
 loop-less c = search needs
 
 loop-again : tie.Need-loop-again Inv-loop μ-loop
-loop-again c = removing-past _ (c .before .before .before .before .before .loop .inv) (c .before .before .before .before .loop-test .taken) (not-parent _ _ (c .before .before .legging-at .ensures) (c .if1 .taken))
+loop-again c =
+    let p2 = c .before .before in
+    let p4 = p2 .before .before in
+    let p5 = p4 .before in
+    removing-past _ (p5 .loop .inv) (p4 .loop-test .taken) (not-parent _ _ (p2 .legging-at .ensures) (c .if1 .taken))
 
 clear-requires : tie.Need-clear-requires Inv-loop μ-loop
 clear-requires c κs = search needs
@@ -36,7 +40,14 @@ loop-less-2 : tie.Need-loop-less-2 Inv-loop μ-loop
 loop-less-2 c = search needs
 
 loop-again-2 : tie.Need-loop-again-2 Inv-loop μ-loop
-loop-again-2 c = removing-turn _ (c .before .before .before .before .before .before .before .before .before .before .before .before .loop .inv) _ _ _ _ (c .before .before .before .before .before .before .before .before .before .before .before .loop-test .taken) (by-parent _ _ (c .before .before .before .before .before .before .before .before .before .legging-at .ensures) (c .before .before .before .before .before .before .before .if1 .left)) (c .before .before .before .before .clear .kept .0) (c .before .before .before .before .clear .ensures)
+loop-again-2 c =
+    let p4 = c .before .before .before .before in
+    let p7 = p4 .before .before .before in
+    let p9 = p7 .before .before in
+    let p11 = p9 .before .before in
+    let p12 = p11 .before in
+    removing-turn _ (p12 .loop .inv) _ _ _ _ (p11 .loop-test .taken) (by-parent _ _ (p9 .legging-at .ensures) (p7 .if1 .left)) (p4 .clear .kept .0)
+    (p4 .clear .ensures)
 
 same-length : tie.Need-same-length Inv-loop μ-loop
 same-length c = c .before .loop .inv .whole ∙ sym (c .before .before .before .before .pre)

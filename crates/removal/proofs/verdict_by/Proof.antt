@@ -39,7 +39,20 @@ returns-8 c = sym (ap verdictBy (c .if8 .taken))
 
 returns-9 : tie.Need-returns-9
 unfolding verdictBy
-returns-9 c = simp (ne-eqb _ _ (c .before .before .before .before .before .before .before .if1 .left), ne-eqb _ _ (c .before .before .before .before .before .before .if2 .left), ne-eqb _ _ (c .before .before .before .before .before .if3 .left), ne-eqb _ _ (c .before .before .before .before .if4 .left), ne-eqb _ _ (c .before .before .before .if5 .left), ne-eqb _ _ (c .before .before .if6 .left), ne-eqb _ _ (c .before .if7 .left), ne-eqb _ _ (c .if8 .left))
+returns-9 c =
+    let p2 = c .before .before in
+    let p4 = p2 .before .before in
+    let p6 = p4 .before .before in
+    simp (
+      ne-eqb _ _ (p6 .before .if1 .left),
+      ne-eqb _ _ (p6 .if2 .left),
+      ne-eqb _ _ (p4 .before .if3 .left),
+      ne-eqb _ _ (p4 .if4 .left),
+      ne-eqb _ _ (p2 .before .if5 .left),
+      ne-eqb _ _ (p2 .if6 .left),
+      ne-eqb _ _ (c .before .if7 .left),
+      ne-eqb _ _ (c .if8 .left),
+    )
 
 pub verdict-by-spec : {M : Type 1} → statement M
 verdict-by-spec =
