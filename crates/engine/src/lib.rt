@@ -1,6 +1,7 @@
 // The engine: a message upon the venue in its slice, refused or accepted, with its answer; and the run of a message list.
 use book::Found;
 use rules::Complex;
+use rules::Decoded;
 use rules::Listed;
 use rules::Message;
 use rules::Regular;
@@ -9,13 +10,19 @@ ghost use mathlib.Core.Bool.{true, _||_};
 ghost use Prim.Native.Nat.{ℕ, _<_};
 ghost use lib.ListN.{length};
 ghost use Rattle.rules.specs.declared.Message.the-variants.{Order, TwoLeg, Cancel};
-ghost use Rattle.rules.specs.Complex.{restsRegular, restsComplex};
+ghost use Rattle.rules.specs.Words.{withLast};
+ghost use Rattle.rules.specs.Effects.{nothing};
+ghost use Rattle.rules.specs.Order.{order};
+ghost use Rattle.rules.specs.Complex.{complex, restsRegular, restsComplex};
 ghost use Rattle.rules.specs.Refusals.{regularInRange, complexInRange, inRange, refusalOf};
-ghost use Rattle.rules.specs.Step.{setAway, setStatus};
+ghost use Rattle.rules.specs.Step.{setAway, setStatus, answered};
+ghost use Rattle.rules.specs.Step as step;
 ghost use Rattle.rules.specs.Standing.{settle};
 ghost use Rattle.wire.specs.Seen.{seen};
 ghost use Rattle.wire.specs.Stage.{stage, _does_};
-ghost use Rattle.places.specs.Layout.{size, venueOf, SameCounts, Dense};
+ghost use Rattle.places.specs.Layout.{size, regularsUsed, complexesUsed, venueOf, SameCounts, Dense};
+ghost use Rattle.levels.specs.Grid.{LegsIn};
+ghost use Rattle.engine.specs.Steps.{answeredBy, Steps};
 
 // Refusals 5 to 8 -----------------------------------------------------------------------------
 
@@ -128,4 +135,107 @@ fn set_status(b: &mut [u32], s: u8, status: u8, out: &mut [u8], at: usize) -> us
     };
     places::put_listed(b, s as usize, x);
     legging::settle_all(b, out, at)
+}
+
+// An order arrives, and its id is the last accepted.
+fn enter_order(b: &mut [u32], o: Regular, out: &mut [u8], at: usize) -> usize
+    requires { ⌜ (length (now b) ≡ size) × (Dense (now b)) × (regularsUsed (now b) < 128) × (o .series < 8) × (o .side < 2) ⌝ }
+    ensures { λ r. ⌜ stage (venueOf (now (b .exit))) (now (out .exit)) r ≡ seen (now (out .entry)) at does order o (withLast (venueOf (now (b .entry))) (o .id)) ⌝ }
+{
+    places::put_last(b, o.id);
+    complexes::order(b, o, out, at)
+}
+
+// A complex order arrives, and its id is the last accepted.
+fn enter_complex(b: &mut [u32], c: Complex, out: &mut [u8], at: usize) -> usize
+    requires { ⌜ (length (now b) ≡ size) × (Dense (now b)) × (complexesUsed (now b) < 32) × (LegsIn c) ⌝ }
+    ensures { λ r. ⌜ stage (venueOf (now (b .exit))) (now (out .exit)) r ≡ seen (now (out .entry)) at does complex c (withLast (venueOf (now (b .entry))) (c .id)) ⌝ }
+{
+    places::put_last(b, c.id);
+    complexes::complex_order(b, c, out, at)
+}
+
+// What a message that is not refused does, by its kind.
+fn perform(b: &mut [u32], m: Message, out: &mut [u8], at: usize) -> usize
+    requires { ⌜ (length (now b) ≡ size) × (Dense (now b)) × (inRange m ≡ true) × (refusalOf (venueOf (now b)) m ≡ 0) ⌝ }
+    ensures { λ r. ⌜ stage (venueOf (now (b .exit))) (now (out .exit)) r ≡ seen (now (out .entry)) at does step.perform m (venueOf (now (b .entry))) ⌝ }
+{
+    match m {
+        Message::Order(o) => enter_order(b, o, out, at),
+        Message::TwoLeg(c) => enter_complex(b, c, out, at),
+        Message::Cancel(id) => complexes::cancel(b, id, out, at),
+        Message::Away(series, bid, offer) => set_away(b, series, bid, offer, out, at),
+        Message::Status(series, status) => set_status(b, series, status, out, at),
+        Message::Sweep => complexes::sweep(b, out, at),
+    }
+}
+
+// The same, and then the gaps that it left are closed.
+fn accept(b: &mut [u32], m: Message, out: &mut [u8], at: usize) -> usize
+    requires { ⌜ (length (now b) ≡ size) × (Dense (now b)) × (inRange m ≡ true) × (refusalOf (venueOf (now b)) m ≡ 0) ⌝ }
+    ensures { λ r. ⌜ stage (venueOf (now (b .exit))) (now (out .exit)) r ≡ seen (now (out .entry)) at does step.accept m (venueOf (now (b .entry))) ⌝ }
+    ensures dense { λ _. ⌜ Dense (now (b .exit)) ⌝ }
+{
+    let end = perform(b, m, out, at);
+    places::close_gaps(b);
+    end
+}
+
+// One message ---------------------------------------------------------------------------------
+
+// A message's refusal (0: accepted), and the position after its records.
+pub struct Stepped {
+    pub refused: u8,
+    pub written: usize,
+}
+
+// A refused message: its answer, and nothing else.
+fn refuse(b: &[u32], number: u32, refused: u8, out: &mut [u8]) -> Stepped
+    requires { ⌜ (length (now b) ≡ size) × (Dense (now b)) ⌝ }
+    ensures { λ r. ⌜ Steps (answered number refused (nothing (venueOf (now (b .entry))))) (now (out .entry)) r (now (b .entry)) (now (out .exit)) ⌝ }
+{
+    let mask = book::mask_of(b);
+    let count = book::count_of(mask);
+    let written = wire::emit_answer(out, 0, number, refused, mask, count);
+    Stepped { refused, written }
+}
+
+// An accepted message: the answer's record first, then its effects; mask and count are set last.
+fn answer_accepted(b: &mut [u32], number: u32, m: Message, out: &mut [u8]) -> Stepped
+    requires { ⌜ (length (now b) ≡ size) × (Dense (now b)) × (inRange m ≡ true) × (refusalOf (venueOf (now b)) m ≡ 0) ⌝ }
+    ensures { λ r. ⌜ Steps (answered number 0 (step.accept m (venueOf (now (b .entry))))) (now (out .entry)) r (now (b .exit)) (now (out .exit)) ⌝ }
+{
+    let at = wire::emit_answer(out, 0, number, 0, 0, 0);
+    let written = accept(b, m, out, at);
+    let mask = book::mask_of(b);
+    let count = book::count_of(mask);
+    wire::set_answer(out, 0, number, 0, mask, count);
+    Stepped {
+        refused: 0,
+        written,
+    }
+}
+
+// A message whose fields are in range.
+fn answer(b: &mut [u32], number: u32, m: Message, out: &mut [u8]) -> Stepped
+    requires { ⌜ (length (now b) ≡ size) × (Dense (now b)) × (inRange m ≡ true) ⌝ }
+    ensures { λ r. ⌜ Steps (answeredBy (venueOf (now (b .entry))) number m) (now (out .entry)) r (now (b .exit)) (now (out .exit)) ⌝ }
+{
+    let refused = refusal_of(b, m);
+    if refused == 0 {
+        return answer_accepted(b, number, m, out);
+    }
+    refuse(b, number, refused, out)
+}
+
+// The message at the front of `message`, of this number: its answer and its records from the start of `out`.
+pub fn step(b: &mut [u32], number: u32, message: &[u8], out: &mut [u8]) -> Stepped
+    requires { ⌜ (length (now b) ≡ size) × (Dense (now b)) ⌝ }
+    ensures { λ r. ⌜ Steps (step.step (venueOf (now (b .entry))) number (now (message .entry))) (now (out .entry)) r (now (b .exit)) (now (out .exit)) ⌝ }
+{
+    let decoded = wire::decode(message);
+    match decoded {
+        Decoded::Taken(m) => answer(b, number, m, out),
+        Decoded::Refused(x) => refuse(b, number, x, out),
+    }
 }
