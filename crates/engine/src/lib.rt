@@ -5,9 +5,10 @@ use rules::Decoded;
 use rules::Listed;
 use rules::Message;
 use rules::Regular;
+use rules::Returned;
 ghost use mathlib.Core.Path.{_≡_};
 ghost use mathlib.Core.Bool.{true, _||_};
-ghost use Prim.Native.Nat.{ℕ, _<_};
+ghost use Prim.Native.Nat.{ℕ, _≤_, _<_};
 ghost use lib.ListN.{length};
 ghost use Rattle.rules.specs.declared.Message.the-variants.{Order, TwoLeg, Cancel};
 ghost use Rattle.rules.specs.Words.{withLast};
@@ -17,12 +18,15 @@ ghost use Rattle.rules.specs.Complex.{complex, restsRegular, restsComplex};
 ghost use Rattle.rules.specs.Refusals.{regularInRange, complexInRange, inRange, refusalOf};
 ghost use Rattle.rules.specs.Step.{setAway, setStatus, answered};
 ghost use Rattle.rules.specs.Step as step;
+ghost use Rattle.rules.specs.Calls as calls;
+ghost use Rattle.demands.specs.Kept.{SoundVenue};
 ghost use Rattle.rules.specs.Standing.{settle};
 ghost use Rattle.wire.specs.Seen.{seen};
 ghost use Rattle.wire.specs.Stage.{stage, _does_};
 ghost use Rattle.places.specs.Layout.{size, regularsUsed, complexesUsed, venueOf, SameCounts, Dense};
 ghost use Rattle.levels.specs.Grid.{LegsIn};
 ghost use Rattle.engine.specs.Steps.{answeredBy, Steps};
+ghost use Rattle.engine.specs.Runs.{Tries, Turns, callOf};
 
 // Refusals 5 to 8 -----------------------------------------------------------------------------
 
@@ -238,4 +242,132 @@ pub fn step(b: &mut [u32], number: u32, message: &[u8], out: &mut [u8]) -> Stepp
         Decoded::Taken(m) => answer(b, number, m, out),
         Decoded::Refused(x) => refuse(b, number, x, out),
     }
+}
+
+// A run -----------------------------------------------------------------------------------------
+
+// All numbers of `from` in the place of those of `to`.
+fn copy(from: &[u32], to: &mut [u32])
+    requires { ⌜ length (now to) ≡ length (now from) ⌝ }
+    ensures { λ _. ⌜ now (to .exit) ≡ now (from .entry) ⌝ }
+{
+    let mut i = 0;
+    while i < from.len() {
+        to[i] = from[i];
+        i += 1;
+    }
+}
+
+// A step whose records may not fit: where they do not, the numbers are as they were.
+fn step_or_leave(b: &mut [u32], number: u32, message: &[u8], out: &mut [u8]) -> Stepped
+    requires { ⌜ (length (now b) ≡ size) × (Dense (now b)) ⌝ }
+    ensures { λ r. ⌜ Tries (step.step (venueOf (now (b .entry))) number (now (message .entry))) (now (b .entry)) (now (out .entry)) r (now (b .exit)) (now (out .exit)) ⌝ }
+{
+    let mut kept = [0u32; 779];
+    copy(b, &mut kept);
+    let r = step(b, number, message, out);
+    if r.written <= out.len() {
+        return r;
+    }
+    copy(&kept, b);
+    r
+}
+
+// The same; with room for the most that a message upon a sound venue writes, the numbers need not be kept.
+fn try_step(b: &mut [u32], number: u32, message: &[u8], out: &mut [u8]) -> Stepped
+    requires { ⌜ (length (now b) ≡ size) × (Dense (now b)) × (SoundVenue (venueOf (now b))) ⌝ }
+    ensures { λ r. ⌜ Tries (step.step (venueOf (now (b .entry))) number (now (message .entry))) (now (b .entry)) (now (out .entry)) r (now (b .exit)) (now (out .exit)) ⌝ }
+{
+    if out.len() < 10112 {
+        return step_or_leave(b, number, message, out);
+    }
+    step(b, number, message, out)
+}
+
+// Where a run stands: its number, the messages done, the position in them, and the bytes written.
+pub struct Turn {
+    pub number: u8,
+    pub done: u32,
+    pub at: usize,
+    pub written: usize,
+}
+
+// One message more.
+fn advance(t: Turn, b: &mut [u32], messages: &[u8], report: &mut [u8]) -> Turn
+    requires { ⌜ (length (now b) ≡ size) × (Dense (now b)) × (SoundVenue (venueOf (now b))) × (t .at < length (now messages)) × (t .written ≤ length (now report)) ⌝ }
+    ensures { λ r. ⌜ Turns (now (messages .entry)) t (now (b .entry)) (now (report .entry)) r (now (b .exit)) (now (report .exit)) ⌝ }
+{
+    let at = t.at;
+    let pos = t.written;
+    let done = t.done;
+    if done == 4294967295 {
+        return Turn {
+            number: 10,
+            done,
+            at,
+            written: pos,
+        };
+    }
+    let rest = &messages[at..];
+    let r = try_step(b, done + 1, rest, &mut report[pos..]);
+    let written = r.written;
+    if report.len() - pos < written {
+        return Turn {
+            number: 10,
+            done,
+            at,
+            written: pos,
+        };
+    }
+    if r.refused == 1 {
+        return Turn {
+            number: 1,
+            done: done + 1,
+            at,
+            written: pos + written,
+        };
+    }
+    let length = wire::u16_at(rest, 0);
+    Turn {
+        number: 0,
+        done: done + 1,
+        at: at + length as usize,
+        written: pos + written,
+    }
+}
+
+// The messages one by one, from a fresh venue. The report holds their records, then zeros.
+pub fn run(messages: &[u8], report: &mut [u8]) -> Returned
+    ensures { λ r. ⌜ callOf r (now (report .exit)) ≡ calls.run (length (now (report .entry))) (now (messages .entry)) ⌝ }
+{
+    let mut b = [0u32; 779];
+    let mut t = Turn {
+        number: 0,
+        done: 0,
+        at: 0,
+        written: 0,
+    };
+    while t.at < messages.len() {
+        t = advance(t, &mut b, messages, report);
+        if t.number != 0 {
+            break;
+        }
+    }
+    wire::zero_from(report, t.written);
+    let venue = places::venue_of(&b);
+    Returned {
+        number: t.number,
+        done: t.done,
+        written: t.written,
+        venue,
+    }
+}
+
+// The run, for a host: messages in, the report out, and the number that ended it returned.
+#[no_mangle]
+pub extern "C" fn legging_run(messages: &[u8], report: &mut [u8]) -> u8
+    ensures { λ r. ⌜ (r ≡ calls.run (length (now (report .entry))) (now (messages .entry)) .returned .number) × (now (report .exit) ≡ calls.run (length (now (report .entry))) (now (messages .entry)) .report) ⌝ }
+{
+    let r = run(messages, report);
+    r.number
 }
