@@ -1,0 +1,73 @@
+-- `engine::run` meets its contract.
+use mathlib.Core.Logic.{⊎-elim}
+use Rattle.engine.proofs.Running.{Ended, running-end, running-stop, ran}
+use mathlib.Core.Path.{_≡_, refl, sym, ap, _∙_}
+use borrow.Author.Needs.{needs}
+use native.Mathlib.Omega.{arith}
+use Prim.Native.Nat.{_-_}
+use lib.ListN.{length}
+use Rattle.engine.proofs.Running.{Running, running-start, running-again}
+use Rattle.engine.proofs.run.Statement.{statement}
+use Rattle.engine.proofs.run.Tie as tie
+
+abbrev Inv-loop : tie.InvT-loop
+Inv-loop messages report₀ b₀ t₀ report b t = Running messages report₀ b report t
+
+abbrev μ-loop : tie.MeasureT-loop
+μ-loop messages report₀ b₀ t₀ report b t = length messages - t .at
+
+loop-holds : tie.Need-loop-holds Inv-loop μ-loop
+loop-holds c = running-start _ _
+
+slice-aggregate-advance : tie.Need-slice-aggregate-advance Inv-loop μ-loop
+slice-aggregate-advance c = let e = c .before .before .before .loop .inv .slice in search needs
+
+advance-requires : tie.Need-advance-requires Inv-loop μ-loop
+advance-requires c κs = let g = c .before .before .before .before .loop .inv in let w = g .within in let e = g .len in (g .slice, g .dense, g .sound, c .before .before .if1 .taken, omega arith)
+
+loop-less : tie.Need-loop-less Inv-loop μ-loop
+loop-less c = let v = c .before .before .before .before .before .advance .ensures .moved (c .if2 .left) in let p = v .0 in let q = v .1 in omega arith
+
+loop-again : tie.Need-loop-again Inv-loop μ-loop
+loop-again c = let k = c .before .before .before .before .before .advance in running-again _ _ _ _ _ (c .before .before .before .before .before .before .before .before .before .before .loop .inv) (k .result) (k .last .1 .0) (k .last .1 .1 .1 .0) (c .before .before .before .before .before .before .before .before .if1 .taken) (k .kept .1 .0) (k .kept .1 .1 .1 .0) (k .ensures) (c .if2 .left)
+
+-- either way out of the loop
+ended : (c : tie.Joined1 Inv-loop μ-loop) → let a = c .before .before .before .before .before .args in Ended (a .messages .now) (a .report .now) (c .if1 .b) (c .if1 .report) (c .if1 .t)
+ended c =
+    let head = c .before .before in
+    ⊎-elim
+    (λ w. rw (w .1, w .2, w .3) (running-end _ _ _ _ _ (head .loop .inv) (w .0 .left)))
+    (λ w. rw (w .9, w .10, w .11) (running-stop _ _ _ _ _ (head .loop .inv) (w .3 .result) (w .3 .last .1 .0) (w .3 .last .1 .1 .1 .0) (w .0 .taken) (w .3 .kept .1 .0) (w .3 .kept .1 .1 .1 .0) (w .3 .ensures) (w .8 .taken)))
+    (c .if1 .came)
+
+zero-from-requires : tie.Need-zero-from-requires Inv-loop μ-loop
+zero-from-requires c κs = tt
+
+slice-aggregate-venue-of : tie.Need-slice-aggregate-venue-of Inv-loop μ-loop
+slice-aggregate-venue-of c = let e = ended (c .before .before .before .before .before) .slice in search needs
+
+venue-of-requires : tie.Need-venue-of-requires Inv-loop μ-loop
+venue-of-requires c κs = ended (c .before .before .before .before .before) .slice
+
+same-length : tie.Need-same-length Inv-loop μ-loop
+same-length c = c .before .before .before .before .zero-from .kept .0 ∙ ended (c .before .before .before .before .before .before) .len
+
+returns : tie.Need-returns Inv-loop μ-loop
+returns c = let s = c .before .before .before .before .before .before .before .before .before .before .before in let j = c .before .before .before .before .before .before in ran (s .args .messages .now) (s .args .report .now) (j .if1 .b) (j .if1 .report) (c .before .before .before .before .zero-from .last .0) (j .if1 .t) (c .venue-of .result) (ended j) (c .before .before .before .before .zero-from .ensures) (c .venue-of .ensures)
+
+pub run-spec : {M : Type 1} → statement M
+run-spec =
+    tie.close
+    (tie.spec
+    Inv-loop
+    μ-loop
+    loop-holds
+    slice-aggregate-advance
+    advance-requires
+    loop-less
+    loop-again
+    zero-from-requires
+    slice-aggregate-venue-of
+    venue-of-requires
+    same-length
+    returns)
