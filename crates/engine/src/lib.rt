@@ -233,7 +233,7 @@ fn answer(b: &mut [u32], number: u32, m: Message, out: &mut [u8]) -> Stepped
 }
 
 // The message at the front of `message`, of this number: its answer and its records from the start of `out`.
-pub fn step(b: &mut [u32], number: u32, message: &[u8], out: &mut [u8]) -> Stepped
+fn step(b: &mut [u32], number: u32, message: &[u8], out: &mut [u8]) -> Stepped
     requires { ⌜ (length (now b) ≡ size) × (Dense (now b)) ⌝ }
     ensures { λ r. ⌜ Steps (step.step (venueOf (now (b .entry))) number (now (message .entry))) (now (out .entry)) r (now (b .exit)) (now (out .exit)) ⌝ }
 {
