@@ -5,7 +5,7 @@ use Rattle.reader.proofs.head_at.Statement.{statement}
 use Rattle.reader.proofs.head_at.Tie as tie
 
 returns : tie.Need-returns
-returns c = at-end _ _ (c .if1 .taken)
+returns c = let s = c .before .before .args in at-end (s .messages .now) (s .at) (omega arith)
 
 sub-left : tie.Need-sub-left
 sub-left c = search needs
