@@ -1,5 +1,6 @@
 // The engine: a message upon the venue in its slice, refused or accepted, with its answer; and the run of a message list.
 use book::Found;
+use reader::Head;
 use rules::Complex;
 use rules::Decoded;
 use rules::Listed;
@@ -23,6 +24,7 @@ ghost use Rattle.demands.specs.Kept.{SoundVenue};
 ghost use Rattle.rules.specs.Standing.{settle};
 ghost use Rattle.wire.specs.Seen.{seen};
 ghost use Rattle.wire.specs.Stage.{stage, _does_};
+ghost use Rattle.reader.specs.Head.{headAt};
 ghost use Rattle.places.specs.Layout.{size, regularsUsed, complexesUsed, venueOf, SameCounts, Dense};
 ghost use Rattle.levels.specs.Grid.{LegsIn};
 ghost use Rattle.engine.specs.Steps.{answeredBy, Steps};
@@ -292,9 +294,9 @@ pub struct Turn {
     pub written: usize,
 }
 
-// One message more.
-fn advance(t: Turn, b: &mut [u32], messages: &[u8], report: &mut [u8]) -> Turn
-    requires { ⌜ (length (now b) ≡ size) × (Dense (now b)) × (SoundVenue (venueOf (now b))) × (t .at < length (now messages)) × (t .written ≤ length (now report)) ⌝ }
+// One message more, or what is torn: `head` stands at the position.
+fn advance(t: Turn, head: Head, b: &mut [u32], messages: &[u8], report: &mut [u8]) -> Turn
+    requires { ⌜ (length (now b) ≡ size) × (Dense (now b)) × (SoundVenue (venueOf (now b))) × (t .at < length (now messages)) × (t .written ≤ length (now report)) × (head ≡ headAt (now messages) (t .at)) ⌝ }
     ensures { λ r. ⌜ Turns (now (messages .entry)) t (now (b .entry)) (now (report .entry)) r (now (b .exit)) (now (report .exit)) ⌝ }
 {
     let at = t.at;
@@ -308,8 +310,7 @@ fn advance(t: Turn, b: &mut [u32], messages: &[u8], report: &mut [u8]) -> Turn
             written: pos,
         };
     }
-    let rest = &messages[at..];
-    let r = try_step(b, done + 1, rest, &mut report[pos..]);
+    let r = try_step(b, done + 1, &messages[at..], &mut report[pos..]);
     let written = r.written;
     if report.len() - pos < written {
         return Turn {
@@ -319,17 +320,10 @@ fn advance(t: Turn, b: &mut [u32], messages: &[u8], report: &mut [u8]) -> Turn
             written: pos,
         };
     }
-    if r.refused == 1 {
-        return Turn {
-            number: 1,
-            done: done + 1,
-            at,
-            written: pos + written,
-        };
-    }
-    let length = wire::u16_at(rest, 0);
+    let number = reader::head_number(head);
+    let length = reader::head_length(head);
     Turn {
-        number: 0,
+        number,
         done: done + 1,
         at: at + length as usize,
         written: pos + written,
@@ -347,8 +341,12 @@ pub fn run(messages: &[u8], report: &mut [u8]) -> Returned
         at: 0,
         written: 0,
     };
-    while t.at < messages.len() {
-        t = advance(t, &mut b, messages, report);
+    loop {
+        let head = reader::message_head(messages, t.at);
+        if let Head::End = head {
+            break;
+        }
+        t = advance(t, head, &mut b, messages, report);
         if t.number != 0 {
             break;
         }
