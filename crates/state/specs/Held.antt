@@ -1,0 +1,83 @@
+-- A venue as bytes, which a host holds between calls: 2,604 of them, each number as in a message, little-endian.
+--
+--   from   a row                                                                                      bytes   rows
+--      0   id u32, series u8, side u8, price u32, quantity u32                                           14   128 regular
+--   1792   id u32, series1 u8, side1 u8, series2 u8, side2 u8, class u8, limit i32, quantity u32         17   32 complex
+--   2336   parent u32, price u32, quantity u32                                                           12   16 legging
+--   2528   status u8, bid u32, offer u32                                                                  9   8 series
+--   2600   last id u32                                                                                    4
+use mathlib.Core.List.{List, [], _∷_, _++_}
+use Prim.Native.Nat.{ℕ, _+_, _*_}
+use lib.ListN.{drop}
+use Rattle.rules.specs.declared.Regular.{Regular}
+use Rattle.rules.specs.declared.Complex.{Complex}
+use Rattle.rules.specs.declared.Legging.{Legging}
+use Rattle.rules.specs.declared.Listed.{Listed}
+use Rattle.rules.specs.declared.Venue.{Venue}
+use Rattle.rules.specs.Bytes.{u8At, u32At, asSigned, u8, u32, i32}
+use Rattle.places.specs.Layout.{upto}
+
+abbrev pub venueSize : ℕ
+venueSize = 2604
+
+-- Writing -------------------------------------------------------------------------------------
+
+-- a row's bytes
+unfoldable pub regularBytes : Regular → List ℕ
+regularBytes o = u32 (o .id) ++ u8 (o .series) ++ u8 (o .side) ++ u32 (o .price) ++ u32 (o .quantity)
+
+unfoldable pub complexBytes : Complex → List ℕ
+complexBytes c =
+    u32 (c .id) ++ u8 (c .series1) ++ u8 (c .side1) ++ u8 (c .series2) ++ u8 (c .side2) ++ u8 (c .class) ++ i32 (c .limit) ++ u32 (c .quantity)
+
+unfoldable pub leggingBytes : Legging → List ℕ
+leggingBytes l = u32 (l .parent) ++ u32 (l .price) ++ u32 (l .quantity)
+
+unfoldable pub listedBytes : Listed → List ℕ
+listedBytes x = u8 (x .status) ++ u32 (x .bid) ++ u32 (x .offer)
+
+-- a table's: row after row
+unfoldable pub rows : {A : Type 0} → (A → List ℕ) → List A → List ℕ
+rows row [] = []
+rows row (x ∷ xs) = row x ++ rows row xs
+
+unfoldable pub venueBytes : Venue → List ℕ
+venueBytes v =
+    rows regularBytes (v .regular) ++ rows complexBytes (v .complex) ++ rows leggingBytes (v .legging) ++ rows listedBytes (v .series) ++ u32 (v .last)
+
+-- Reading -------------------------------------------------------------------------------------
+
+-- the row at the front of bs
+unfoldable pub regularFrom : List ℕ → Regular
+regularFrom bs = record { id = u32At bs 0; series = u8At bs 4; side = u8At bs 5; price = u32At bs 6; quantity = u32At bs 10 }
+
+unfoldable pub complexFrom : List ℕ → Complex
+complexFrom bs = record {
+  id = u32At bs 0;
+  series1 = u8At bs 4;
+  side1 = u8At bs 5;
+  series2 = u8At bs 6;
+  side2 = u8At bs 7;
+  class = u8At bs 8;
+  limit = asSigned (u32At bs 9);
+  quantity = u32At bs 13;
+}
+
+unfoldable pub leggingFrom : List ℕ → Legging
+leggingFrom bs = record { parent = u32At bs 0; price = u32At bs 4; quantity = u32At bs 8 }
+
+unfoldable pub listedFrom : List ℕ → Listed
+listedFrom bs = record { status = u8At bs 0; bid = u32At bs 1; offer = u32At bs 5 }
+
+-- row i of a table whose rows are `width` bytes each, from a position on
+unfoldable pub rowAt : {A : Type 0} → (List ℕ → A) → (from width : ℕ) → List ℕ → (i : ℕ) → A
+rowAt row from width bs i = row (drop (width * i + from) bs)
+
+unfoldable pub venueFrom : List ℕ → Venue
+venueFrom bs = record {
+  regular = upto (rowAt regularFrom 0 14 bs) 0 128;
+  complex = upto (rowAt complexFrom 1792 17 bs) 0 32;
+  legging = upto (rowAt leggingFrom 2336 12 bs) 0 16;
+  series = upto (rowAt listedFrom 2528 9 bs) 0 8;
+  last = u32At bs 2600;
+}
