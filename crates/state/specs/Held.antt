@@ -6,15 +6,18 @@
 --   2336   parent u32, price u32, quantity u32                                                           12   16 legging
 --   2528   status u8, bid u32, offer u32                                                                  9   8 series
 --   2600   last id u32                                                                                    4
+use mathlib.Core.Path.{_≡_}
 use mathlib.Core.List.{List, [], _∷_, _++_}
 use Prim.Native.Nat.{ℕ, _+_, _*_}
-use lib.ListN.{drop}
+use lib.ListN.{length, getD, drop, replicate}
 use Rattle.rules.specs.declared.Regular.{Regular}
 use Rattle.rules.specs.declared.Complex.{Complex}
 use Rattle.rules.specs.declared.Legging.{Legging}
 use Rattle.rules.specs.declared.Listed.{Listed}
 use Rattle.rules.specs.declared.Venue.{Venue}
+use Rattle.rules.specs.Words.{noRegular, noComplex, noLegging, notListed, freshVenue}
 use Rattle.rules.specs.Bytes.{u8At, u32At, asSigned, u8, u32, i32}
+use Rattle.rules.specs.Records.{U8, U32, I32}
 use Rattle.places.specs.Layout.{upto}
 
 abbrev pub venueSize : ℕ
@@ -81,3 +84,52 @@ venueFrom bs = record {
   series = upto (rowAt listedFrom 2528 9 bs) 0 8;
   last = u32At bs 2600;
 }
+
+-- What is held is read back -------------------------------------------------------------------
+
+-- each field has its width
+pub record RegularFits (o : Regular) : Type 0 where
+  pub id : U32 (o .id)
+  pub series : U8 (o .series)
+  pub side : U8 (o .side)
+  pub price : U32 (o .price)
+  pub quantity : U32 (o .quantity)
+
+pub record ComplexFits (c : Complex) : Type 0 where
+  pub id : U32 (c .id)
+  pub series1 : U8 (c .series1)
+  pub side1 : U8 (c .side1)
+  pub series2 : U8 (c .series2)
+  pub side2 : U8 (c .side2)
+  pub class : U8 (c .class)
+  pub limit : I32 (c .limit)
+  pub quantity : U32 (c .quantity)
+
+pub record LeggingFits (l : Legging) : Type 0 where
+  pub parent : U32 (l .parent)
+  pub price : U32 (l .price)
+  pub quantity : U32 (l .quantity)
+
+pub record ListedFits (x : Listed) : Type 0 where
+  pub status : U8 (x .status)
+  pub bid : U32 (x .bid)
+  pub offer : U32 (x .offer)
+
+-- a venue of the declared type: its arrays have their lengths, and each field its width
+pub record Declared (v : Venue) : Type 0 where
+  pub regulars : length (v .regular) ≡ 128
+  pub complexes : length (v .complex) ≡ 32
+  pub leggings : length (v .legging) ≡ 16
+  pub eight : length (v .series) ≡ 8
+  pub regular : (i : ℕ) → RegularFits (getD (v .regular) i noRegular)
+  pub complex : (i : ℕ) → ComplexFits (getD (v .complex) i noComplex)
+  pub legging : (i : ℕ) → LeggingFits (getD (v .legging) i noLegging)
+  pub series : (i : ℕ) → ListedFits (getD (v .series) i notListed)
+  pub last : U32 (v .last)
+
+abbrev pub HeldWhole : Type 0
+HeldWhole = (v : Venue) → Declared v → venueFrom (venueBytes v) ≡ v
+
+-- zeros hold the fresh venue
+abbrev pub FreshHeld : Type 0
+FreshHeld = venueFrom (replicate venueSize 0) ≡ freshVenue
