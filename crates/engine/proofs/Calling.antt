@@ -32,14 +32,14 @@ module _ (v : Venue) (n room : ℕ) (m : List ℕ) where
   one-unsound e = rw e
 
   module _ (fine : sound v ≡ true) where
-    one-ends : exceeds (suc n) room (step v (suc n) m .effect .reports) ≡ true → called room (ends 10 v) ≡ one v n room m
+    pub one-ends : exceeds (suc n) room (step v (suc n) m .effect .reports) ≡ true → called room (ends 10 v) ≡ one v n room m
     unfolding one oneFrom
     one-ends e = rw (fine, e)
 
     pub one-no-number : n ≡ 4294967295 → called room (ends 10 v) ≡ one v n room m
     one-no-number e = one-ends (no-number (suc n) room _ (omega arith))
 
-    one-does : exceeds (suc n) room (step v (suc n) m .effect .reports) ≡ false →
+    pub one-does : exceeds (suc n) room (step v (suc n) m .effect .reports) ≡ false →
         called room (after (step v (suc n) m .effect) (ends (step v (suc n) m .refused) (step v (suc n) m .effect .venue))) ≡ one v n room m
     unfolding one oneFrom
     one-does e = rw (fine, e)

@@ -2,3 +2,4 @@ pub mod Refusing
 pub mod Stepping
 pub mod Running
 pub mod Calling
+pub mod Hosting

@@ -29,6 +29,7 @@ ghost use Rattle.places.specs.Layout.{size, regularsUsed, complexesUsed, venueO
 ghost use Rattle.levels.specs.Grid.{LegsIn};
 ghost use Rattle.engine.specs.Steps.{answeredBy, Steps};
 ghost use Rattle.engine.specs.Runs.{Tries, Turns, callOf};
+ghost use Rattle.engine.specs.Hosts.{hosted, oneHosted};
 
 // Refusals 5 to 8 -----------------------------------------------------------------------------
 
@@ -414,5 +415,29 @@ pub extern "C" fn legging_run(messages: &[u8], report: &mut [u8]) -> u8
     ensures { λ r. ⌜ (r ≡ calls.run (length (now (report .entry))) (now (messages .entry)) .returned .number) × (now (report .exit) ≡ calls.run (length (now (report .entry))) (now (messages .entry)) .report) ⌝ }
 {
     let r = run(messages, report);
+    r.number
+}
+
+// One message upon the venue in a host's memory, as `state` holds it; the number is returned. A memory of another length holds none.
+#[no_mangle]
+pub extern "C" fn legging_message(
+    venue: &mut [u8],
+    before: u32,
+    message: &[u8],
+    report: &mut [u8],
+) -> u8
+    ensures { λ r. ⌜ hosted r (now (venue .exit)) (now (report .exit)) ≡ oneHosted (now (venue .entry)) before (length (now (report .entry))) (now (message .entry)) ⌝ }
+{
+    if venue.len() != 2604 {
+        wire::zero_from(report, 0);
+        return 9;
+    }
+    let given = state::venue_from(venue);
+    let r = one_message(given, before, message, report);
+    if r.done == 0 {
+        return r.number;
+    }
+    let after = r.venue;
+    state::put_venue(venue, after);
     r.number
 }

@@ -3,13 +3,12 @@ use mathlib.Core.Path.{_≡_, refl, sym, ap, _∙_}
 use mathlib.Core.List.{List, [], _++_, append-assoc}
 use Prim.Native.Nat.{ℕ, suc, _+_, _*_, _<_}
 use native.Mathlib.Omega.{arith}
-use lib.ListN.{length, getD, take, drop, replicate, length-append, take-append-drop}
+use lib.ListN.{length, getD, take, drop, length-append, take-append-drop}
 use lib.Seq.{ext-getD, drop-cons, drop-at, length-take-le}
 use Rattle.rules.specs.declared.Regular.{Regular}
 use Rattle.rules.specs.declared.Complex.{Complex}
 use Rattle.rules.specs.declared.Legging.{Legging}
 use Rattle.rules.specs.declared.Listed.{Listed}
-use Rattle.rules.specs.declared.Venue.{Venue}
 use Rattle.rules.specs.Words.{noRegular, noComplex, noLegging, notListed, freshVenue}
 use Rattle.rules.specs.Bytes.{u8At, u16At, u32At, asSigned, asUnsigned, bytes, u32}
 use Rattle.rules.specs.Records.{U32}
@@ -20,10 +19,10 @@ use Rattle.places.proofs.Tables.{upto-length, upto-at}
 use Rattle.places.proofs.Parts.{venue-is}
 use Rattle.state.specs.Held.{regularBytes, complexBytes, leggingBytes, listedBytes, rows, venueBytes, rowAt, venueFrom}
 use Rattle.state.specs.Held.{regularFrom, complexFrom, leggingFrom, listedFrom}
-use Rattle.state.specs.Held.{RegularFits, ComplexFits, LeggingFits, ListedFits, Declared, HeldWhole, FreshHeld}
+use Rattle.state.specs.Held.{RegularFits, ComplexFits, LeggingFits, ListedFits, HeldWhole, FreshHeld}
 use Rattle.state.proofs.Rows.{rows-append, rows-length}
 use Rattle.state.proofs.Widths.{regular-width, complex-width, legging-width, listed-width}
-use Rattle.state.proofs.Whole.{Sized, regular-part, complex-part, legging-part, series-part}
+use Rattle.state.proofs.Whole.{regular-part, complex-part, legging-part, series-part}
 
 -- A row ---------------------------------------------------------------------------------------
 
@@ -100,15 +99,15 @@ held-whole v d =
     let L : List ℕ = rows leggingBytes (v .legging) in
     let S : List ℕ = rows listedBytes (v .series) in
     let E : List ℕ = u32 (v .last) in
-    let s : Sized v = record { regular = d .regulars; complex = d .complexes; legging = d .leggings; series = d .eight } in
+    let s = d .sized in
     venue-is _ _
-    (table-back regularBytes 14 regular-width noRegular regularFrom 0 128 (venueBytes v) [] (C ++ L ++ S ++ E) (v .regular) (simp append-assoc) refl (d .regulars)
+    (table-back regularBytes 14 regular-width noRegular regularFrom 0 128 (venueBytes v) [] (C ++ L ++ S ++ E) (v .regular) (simp append-assoc) refl (s .regular)
     (λ i r. regular-back _ (d .regular i) r))
-    (table-back complexBytes 17 complex-width noComplex complexFrom 1792 32 (venueBytes v) R (L ++ S ++ E) (v .complex) (simp append-assoc) (regular-part v s) (d .complexes)
+    (table-back complexBytes 17 complex-width noComplex complexFrom 1792 32 (venueBytes v) R (L ++ S ++ E) (v .complex) (simp append-assoc) (regular-part v s) (s .complex)
     (λ i r. complex-back _ (d .complex i) r))
-    (table-back leggingBytes 12 legging-width noLegging leggingFrom 2336 16 (venueBytes v) (R ++ C) (S ++ E) (v .legging) (simp append-assoc) (complex-part v s) (d .leggings)
+    (table-back leggingBytes 12 legging-width noLegging leggingFrom 2336 16 (venueBytes v) (R ++ C) (S ++ E) (v .legging) (simp append-assoc) (complex-part v s) (s .legging)
     (λ i r. legging-back _ (d .legging i) r))
-    (table-back listedBytes 9 listed-width notListed listedFrom 2528 8 (venueBytes v) (R ++ C ++ L) E (v .series) refl (legging-part v s) (d .eight)
+    (table-back listedBytes 9 listed-width notListed listedFrom 2528 8 (venueBytes v) (R ++ C ++ L) E (v .series) refl (legging-part v s) (s .series)
     (λ i r. listed-back _ (d .series i) r))
     (u32-here 2600 (venueBytes v) ∙ ap (λ (x : List ℕ). u32At x 0) (drop-at (R ++ C ++ L ++ S) E 2600 (series-part v s)) ∙ last-back (v .last) (d .last))
 

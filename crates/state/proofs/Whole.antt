@@ -3,12 +3,12 @@ use mathlib.Core.Path.{_≡_, ap, ap₂, _∙_}
 use mathlib.Core.List.{List, _++_, append-nil}
 use Prim.Native.Nat.{ℕ, _+_, _≤_}
 use native.Mathlib.Omega.{arith}
-use lib.ListN.{length, take, drop, length-append, drop-of-length-le}
+use lib.ListN.{length, length-append, drop-of-length-le}
 use Rattle.rules.specs.declared.Venue.{Venue}
 use Rattle.rules.specs.Bytes.{u32, bytes}
 use Rattle.wire.specs.Seen.{Seen, seen, pasted, _plus_}
 use Rattle.wire.proofs.Writes.{plus-in, pasted-length, pasted-pasted}
-use Rattle.state.specs.Held.{venueSize, regularBytes, complexBytes, leggingBytes, listedBytes, rows, venueBytes}
+use Rattle.state.specs.Held.{venueSize, regularBytes, complexBytes, leggingBytes, listedBytes, rows, venueBytes, Sized}
 use Rattle.state.proofs.Rows.{rows-length}
 use Rattle.state.proofs.Widths.{regular-width, complex-width, legging-width, listed-width}
 
@@ -22,12 +22,6 @@ then : (l a b x y : List ℕ) (at : ℕ) → a ≡ pasted l 0 x → b ≡ pasted
 then l a b x y at p q e h =
     let z : at ≡ 0 + length x = omega arith in
     q ∙ ap₂ (λ (w : List ℕ) (k : ℕ). pasted w k y) p z ∙ pasted-pasted l x y 0 (omega arith)
-
-pub record Sized (v : Venue) : Type 0 where
-  pub regular : length (v .regular) ≡ 128
-  pub complex : length (v .complex) ≡ 32
-  pub legging : length (v .legging) ≡ 16
-  pub series : length (v .series) ≡ 8
 
 module _ (v : Venue) (sized : Sized v) where
   abbrev R : List ℕ

@@ -115,12 +115,16 @@ pub record ListedFits (x : Listed) : Type 0 where
   pub bid : U32 (x .bid)
   pub offer : U32 (x .offer)
 
--- a venue of the declared type: its arrays have their lengths, and each field its width
+-- each array has its length
+pub record Sized (v : Venue) : Type 0 where
+  pub regular : length (v .regular) ≡ 128
+  pub complex : length (v .complex) ≡ 32
+  pub legging : length (v .legging) ≡ 16
+  pub series : length (v .series) ≡ 8
+
+-- a venue of the declared type
 pub record Declared (v : Venue) : Type 0 where
-  pub regulars : length (v .regular) ≡ 128
-  pub complexes : length (v .complex) ≡ 32
-  pub leggings : length (v .legging) ≡ 16
-  pub eight : length (v .series) ≡ 8
+  pub sized : Sized v
   pub regular : (i : ℕ) → RegularFits (getD (v .regular) i noRegular)
   pub complex : (i : ℕ) → ComplexFits (getD (v .complex) i noComplex)
   pub legging : (i : ℕ) → LeggingFits (getD (v .legging) i noLegging)

@@ -4,7 +4,8 @@ use mathlib.Core.List.{List, map}
 use Prim.Native.Nat.{ℕ}
 use lib.ListN.{length, length-map}
 use Rattle.wire.specs.Seen.{seen, _plus_}
-use Rattle.state.proofs.Whole.{Sized, venue-put}
+use Rattle.state.specs.Held.{Sized}
+use Rattle.state.proofs.Whole.{venue-put}
 use borrow.Author.Needs.{needs}
 use Rattle.state.proofs.put_venue.Statement.{statement}
 use Rattle.state.proofs.put_venue.Tie as tie
