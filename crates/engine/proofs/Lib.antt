@@ -1,3 +1,4 @@
 pub mod Refusing
 pub mod Stepping
 pub mod Running
+pub mod Calling
