@@ -3,30 +3,22 @@ use Rattle.lines.proofs.Typing.{types-in, types-out}
 use borrow.Author.Needs.{needs}
 use Rattle.lines.proofs.put_byte.Statement.{statement}
 use Rattle.lines.proofs.put_byte.Tie as tie
-use Rattle.lines.proofs.put_byte.Reads as reads
-use Rattle.lines.proofs.put_byte.Lts as lts
 
--- src/lib.rt:19:16
 add-result : tie.Need-add-result
 add-result c = search needs
 
--- src/lib.rt:19:9
 returns : tie.Need-returns
 returns c = types-out _ _ _ (omega arith)
 
--- src/lib.rt:21:5
 slice-write-out : tie.Need-slice-write-out
 slice-write-out c = search needs
 
--- src/lib.rt:22:5
 add-result-2 : tie.Need-add-result-2
 add-result-2 c = search needs
 
--- src/lib.rt:14:1
 same-length : tie.Need-same-length
 same-length c = search needs
 
--- src/lib.rt:14:1
 returns-2 : tie.Need-returns-2
 returns-2 c = types-in _ _ _ (omega arith)
 
