@@ -11,7 +11,7 @@ use borrow.Author.Tests.{eqb-true, eqb-false, ne-eqb}
 use Rattle.rules.specs.declared.Venue.{Venue}
 use Rattle.rules.specs.Words.{freshVenue}
 use Rattle.rules.specs.Bytes.{lengthField}
-use Rattle.rules.specs.Records.{Each, Fits, Report, encodeAll}
+use Rattle.rules.specs.Records.{Each, Fits, Report, encodeAll, records}
 use Rattle.rules.specs.Step.{step}
 use Rattle.rules.specs.Calls.{Outcome, after, called, ends, run, runFrom}
 use Rattle.rules.proofs.Calling.{not-exceeds, run-room, runFrom-by, torn-not}
@@ -23,7 +23,7 @@ use Rattle.demands.specs.Most.{most}
 use Rattle.demands.proofs.Calls.{fresh-sound, kept, step-fits}
 use Rattle.demands.proofs.Most.{writes-at-most}
 use Rattle.lines.specs.Lines.{lineOf, textOf}
-use Rattle.sheet.specs.Sheet.{left, sheetText, started, textFrom}
+use Rattle.sheet.specs.Sheet.{AnyMemory, left, sheetText, started, textFrom}
 
 pub text-append : (a b : List Report) → textOf (a ++ b) ≡ textOf a ++ textOf b
 unfolding textOf
@@ -99,6 +99,32 @@ same (suc f) (suc g) v n r s bs is few a b c d =
         let t = eqb-false (step v (suc n) bs .refused) 1 y in
         run-on v n bs is some few f r c t ∙ ap (λ (l : List Report). step v (suc n) bs .effect .reports ++ l) (on some t) ∙ sym (run-on v n bs is some few g s d t)
 
+-- a run that was not ended by 10 has the records of one that is lent enough
+filled-not : (fuel : ℕ) (v : Venue) (n r s : ℕ) (bs : List ℕ) → SoundVenue v → n + length bs ≤ 4294967295 → length bs ≤ fuel → most * length bs ≤ s →
+    runFrom fuel v n r bs .number ≢ 10 → runFrom fuel v n r bs .reports ≡ runFrom fuel v n s bs .reports
+unfolding ends after
+filled-not zero v n r s bs is few le enough = unfold runFrom in (λ _. refl)
+filled-not (suc fuel) v n r s bs is few le enough =
+    go (eqb (length bs) 0) refl
+    (λ some t h.
+    filled-not fuel (step v (suc n) bs .effect .venue) (suc n) _ _ (drop (lengthField bs) bs) (kept v is (suc n) bs) (fewer v n bs is some few t) (shorter v n bs is some few t fuel le)
+    (roomy v n bs is some few t s enough) h)
+  where
+    rest : (room : ℕ) → Outcome
+    rest room = runFrom fuel (step v (suc n) bs .effect .venue) (suc n) (room - length (encodeAll (step v (suc n) bs .effect .reports))) (drop (lengthField bs) bs)
+
+    go : (p : Bool) → eqb (length bs) 0 ≡ p → (length bs ≢ 0 → step v (suc n) bs .refused ≢ 1 → rest r .number ≢ 10 → rest r .reports ≡ rest s .reports) →
+        runFrom (suc fuel) v n r bs .number ≢ 10 → runFrom (suc fuel) v n r bs .reports ≡ runFrom (suc fuel) v n s bs .reports
+    go true x on = λ _. let z = eqb-true (length bs) 0 x in none (suc fuel) v n r bs z ∙ sym (none (suc fuel) v n s bs z)
+    go false x on =
+        let some = eqb-false (length bs) 0 x in
+        let rs = step v (suc n) bs .effect .reports in
+        runFrom-by (λ (o : Outcome). o .number ≢ 10 → o .reports ≡ runFrom (suc fuel) v n s bs .reports) v n r bs fuel
+        (λ z _. absurd (some z))
+        (λ _ _ h. absurd (h refl))
+        (λ d t _. append-nil rs ∙ sym (run-last v n bs is some few fuel s enough t))
+        (λ d t h. ap (λ (l : List Report). rs ++ l) (on some t h) ∙ sym (run-on v n bs is some few fuel s enough t))
+
 -- The text ------------------------------------------------------------------------------------
 
 module _ (v : Venue) (n : ℕ) (bs : List ℕ) (s : SoundVenue v) (some : length bs ≢ 0) (few : n + length bs ≤ 4294967295) where
@@ -137,6 +163,16 @@ run-fits (suc fuel) v n room bs s =
     (λ d _. each-append Fits rs [] (step-fits v s (suc n) (d .0) bs) tt)
     (λ d _. each-append Fits rs more (step-fits v s (suc n) (d .0) bs) (run-fits fuel _ (suc n) _ (drop (lengthField bs) bs) (kept v s (suc n) bs)))
 
+-- a run's report memory reads back
+read-back : (room : ℕ) (m : List ℕ) → records (run room m .report) ≡ runFrom (length m) freshVenue 0 room m .reports
+unfolding run called
+read-back room m = reads-back room _ (run-fits (length m) freshVenue 0 room m fresh-sound) (run-room (length m) freshVenue 0 room m)
+
 pub begins : (m : List ℕ) → left m started ≡ sheetText m
-unfolding left textFrom sheetText run called
-begins m = ap textOf (sym (reads-back _ _ (run-fits (length m) freshVenue 0 _ m fresh-sound) (run-room (length m) freshVenue 0 _ m)))
+unfolding left textFrom sheetText
+begins m = ap textOf (sym (read-back (most * length m) m))
+
+pub any-memory : AnyMemory
+unfolding sheetText run called
+any-memory room m few h =
+    ap textOf (read-back room m ∙ filled-not (length m) freshVenue 0 room (most * length m) m fresh-sound (omega arith) (omega arith) (omega arith) h ∙ sym (read-back (most * length m) m))

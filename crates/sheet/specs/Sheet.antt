@@ -1,6 +1,7 @@
 -- Document 01, "Trials": "The printing program reads a message file on standard input, its first 65,536 bytes at most, and prints a line per record of
 -- a run whose report memory never fills".
 use mathlib.Core.Path.{_≡_}
+use mathlib.Core.Logic.{_≢_}
 use mathlib.Core.List.{List, [], _++_}
 use Prim.Native.Nat.{ℕ, _*_, _≤_, _<_}
 use lib.Dec.{eqb}
@@ -26,6 +27,10 @@ mostText = 25280
 -- The sheet of a message list. The run is lent so much that it is not ended by 10: `NeverFills` of the demands.
 unfoldable pub sheetText : (messages : List ℕ) → List ℕ
 sheetText m = textOf (records (run (most * length m) m .report))
+
+-- It is the sheet of any run that was not ended by 10, whatever its report memory.
+abbrev pub AnyMemory : Type 0
+AnyMemory = (room : ℕ) (m : List ℕ) → length m ≤ 4294967295 → run room m .returned .number ≢ 10 → textOf (records (run room m .report)) ≡ sheetText m
 
 -- Message by message --------------------------------------------------------------------------
 

@@ -132,11 +132,20 @@ fn print_input(fd: i32, name: &[u8]) -> bool {
     print_list(&input[..n])
 }
 
-// A line that names a file, and its sheet.
+// A line that names a file.
+fn print_name(name: &[u8]) -> bool {
+    if !io::write_all(libc::STDOUT_FILENO, b"# ") {
+        return false;
+    }
+    if !io::write_all(libc::STDOUT_FILENO, name) {
+        return false;
+    }
+    io::write_all(libc::STDOUT_FILENO, b"\n")
+}
+
+// That line, and the file's sheet.
 fn print_named(fd: i32, name: &[u8]) -> bool {
-    io::write_all(libc::STDOUT_FILENO, b"# ");
-    io::write_all(libc::STDOUT_FILENO, name);
-    if !io::write_all(libc::STDOUT_FILENO, b"\n") {
+    if !print_name(name) {
         os::fail(b"sheet: standard output");
         return false;
     }
