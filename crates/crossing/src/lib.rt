@@ -3,7 +3,7 @@ use levels::Level;
 use rules::Cause;
 use rules::Complex;
 ghost use mathlib.Core.Path.{_≡_};
-ghost use mathlib.Core.Bool.{_&&_};
+ghost use mathlib.Core.Bool.{_&&_, _||_};
 ghost use Prim.Native.Nat.{ℕ, _≤_, _<_, min};
 ghost use lib.Dec.{eqb};
 ghost use lib.IntN.{ℤ, pos, natAbs, negℤ, _+ℤ_};
@@ -17,7 +17,7 @@ ghost use Rattle.wire.specs.Seen.{seen};
 ghost use Rattle.wire.specs.Stage.{stage, _does_};
 ghost use Rattle.places.specs.Layout.{size, complexesUsed, venueOf, SameCounts};
 ghost use Rattle.levels.specs.Grid.{GridOf, LegsIn};
-ghost use Rattle.crossing.specs.Picks.{pickedOf};
+ghost use Rattle.crossing.specs.Picks.{pickedOf, facingKey};
 
 // A complex order with its place, or none.
 pub enum Pick {
@@ -126,15 +126,38 @@ fn better_pick(best: Pick, n: usize, m: Complex) -> Pick
     }
 }
 
-// The resting order that c crosses with first.
+// The key of an order whose legs face these two: the same series, at the opposite sides.
+fn facing_key(s: u8, d: u8, t: u8, e: u8) -> usize
+    ensures { λ r. ⌜ r ≡ facingKey s d t e ⌝ }
+{
+    let one = rules::place_of(s, rules::opposite_of(d));
+    let two = rules::place_of(t, rules::opposite_of(e));
+    16 * one + two
+}
+
+fn is_either(key: usize, one: usize, two: usize) -> bool
+    ensures { λ r. ⌜ r ≡ (eqb key one || eqb key two) ⌝ }
+{
+    if key == one {
+        return true;
+    }
+    key == two
+}
+
+// The resting order that c crosses with first. Of the others only those whose legs have the key are read.
 pub fn first_cross(b: &[u32], g: [[Level; 2]; 8], c: Complex) -> Pick
     requires { ⌜ (length (now b) ≡ size) × (GridOf g (venueOf (now b) .regular)) × (LegsIn c) ⌝ }
     ensures { λ r. ⌜ pickedOf r ≡ first (crosses (venueOf (now (b .entry))) c) limitThenId (venueOf (now (b .entry)) .complex) ⌝ }
 {
+    let straight = facing_key(c.series1, c.side1, c.series2, c.side2);
+    let turned = facing_key(c.series2, c.side2, c.series1, c.side1);
     let mut best = Pick::Nobody;
     let mut i = places::complexes_used(b);
     while 0 < i {
         i -= 1;
+        if !is_either(places::legs_at(b, i), straight, turned) {
+            continue;
+        }
         let m = places::complex_at(b, i);
         if !can_cross(b, g, c, m) {
             continue;
