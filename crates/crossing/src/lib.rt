@@ -2,9 +2,11 @@
 use levels::Level;
 use rules::Cause;
 use rules::Complex;
+use rules::lesser;
+use rules::limit_of;
 ghost use mathlib.Core.Path.{_≡_};
 ghost use mathlib.Core.Bool.{_&&_, _||_};
-ghost use Prim.Native.Nat.{ℕ, _≤_, _<_, min};
+ghost use Prim.Native.Nat.{ℕ, _≤_, _<_};
 ghost use lib.Dec.{eqb};
 ghost use lib.IntN.{ℤ, pos, natAbs, negℤ, _+ℤ_};
 ghost use lib.ListN.{length};
@@ -23,14 +25,6 @@ ghost use Rattle.crossing.specs.Picks.{pickedOf, facingKey};
 pub enum Pick {
     Nobody,
     At(usize, Complex),
-}
-
-// A complex order's limit, in 64 bits.
-pub fn limit_of(c: Complex) -> i64
-    ensures { λ r. ⌜ (r ≡ c .limit) × (natAbs r ≤ 2147483648) ⌝ }
-{
-    let n = c.limit;
-    n as i64
 }
 
 // What an order pays in a cross with m, at m's limit.
@@ -180,15 +174,6 @@ pub fn cross(b: &mut [u32], i: usize, j: usize, k: u32, out: &mut [u8], at: usiz
     let told = wire::emit_crossed(out, at, c.id, m.id, net_against(m), k);
     let gone = removal::remove_of(b, c.id, Cause::Executed, out, told);
     removal::remove_of(b, m.id, Cause::Executed, out, gone)
-}
-
-fn lesser(a: u32, b: u32) -> u32
-    ensures { λ r. ⌜ r ≡ min a b ⌝ }
-{
-    if a < b {
-        return a;
-    }
-    b
 }
 
 // The order at place i crosses while there is one that it crosses with.
