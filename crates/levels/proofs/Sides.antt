@@ -9,6 +9,7 @@ use native.Mathlib.Decide.{decLt}
 use borrow.Author.Tests.{eq-eqb, ne-eqb}
 use lib.Dec.{eqb}
 use lib.IntN.{ℤ, _+ℤ_}
+use Rattle.rules.specs.declared.Regular.{Regular}
 use Rattle.rules.specs.declared.Complex.{Complex}
 use Rattle.rules.specs.declared.Legging.{Legging}
 use Rattle.rules.specs.declared.Listed.{Listed}
@@ -22,7 +23,9 @@ use Rattle.places.specs.Layout.{upto, complexesUsed, complexIn, leggingIn, list
 use Rattle.places.proofs.Tables.{upto-at}
 use Rattle.places.proofs.Parts.{complex-at, complex-past}
 use Rattle.levels.specs.declared.Level.{Level}
-use Rattle.levels.specs.Grid.{levelOf, LegsIn}
+use Rattle.levels.specs.declared.Taken.{Taken}
+use Rattle.levels.specs.declared.LegSides.{LegSides}
+use Rattle.levels.specs.Grid.{levelOf, GridOf, LegsIn, takenIn, sidesIn, TakenOf, SidesOf}
 use Rattle.levels.proofs.Scans.{find-used}
 
 -- What stands at a place ----------------------------------------------------------------------
@@ -35,6 +38,25 @@ legging-read b s d n l hs hd en el =
 pub listed-read : (b : List ℕ) (s : ℕ) (x : Listed) → s < 8 → x ≡ listedIn b s → x ≡ listedAt (venueOf b) s
 unfolding venueOf
 listed-read b s x h e = e ∙ sym (upto-at (listedIn b) notListed 0 8 s h ∙ ap (listedIn b) (zero-add s))
+
+-- The levels that a test asks for -------------------------------------------------------------
+
+opposite-in : (d : ℕ) → opposite d < 2
+unfolding opposite
+opposite-in d = omega arith
+
+module _ (g : List (List Level)) (os : List Regular) (h : GridOf g os) (c : Complex) (k : LegsIn c) where
+  taken-in : TakenOf (takenIn g c) c os
+  taken-in = record {
+    first = h (c .series1) (opposite (c .side1)) (k .first) (opposite-in (c .side1));
+    second = h (c .series2) (opposite (c .side2)) (k .second) (opposite-in (c .side2));
+  }
+
+  pub taken-right : (t : Taken) → t ≡ takenIn g c → TakenOf t c os
+  taken-right t e = rw e taken-in
+
+  pub sides-right : (s d : ℕ) → s < 8 → d < 2 → (x : LegSides) → x ≡ sidesIn g c s d → SidesOf x c s d os
+  sides-right s d hs hd x e = rw e (record { own = h s d hs hd; facing = h s (opposite d) hs (opposite-in d); taken = taken-in })
 
 -- Own, clear and market prices ----------------------------------------------------------------
 

@@ -6,12 +6,12 @@ ghost use mathlib.Core.Path.{_≡_};
 ghost use Prim.Native.Nat.{_+_, _≤_, _<_};
 ghost use lib.IntN.{natAbs};
 ghost use lib.ListN.{length};
-ghost use Rattle.rules.specs.Words.{leggingAt, statusOf, isComplexOf};
+ghost use Rattle.rules.specs.Words.{sell, leggingAt, statusOf, isComplexOf};
 ghost use Rattle.rules.specs.Prices.{better, betterOf, reaches, ownPrice, bestOwn, clearPrice, away, marketBest, inBand};
 ghost use Rattle.rules.specs.Standing.{otherLeg, parentOf, bothOpen};
 ghost use Rattle.rules.specs.Complex.{anyClosed};
 ghost use Rattle.places.specs.Layout.{size, venueOf};
-ghost use Rattle.levels.specs.Grid.{joinedOf, cellOf, GridOf, LegsIn};
+ghost use Rattle.levels.specs.Grid.{cellOf, takenIn, sidesIn, GridOf, LegsIn};
 
 // The best price of a side, and its total size; both 0 where there is none.
 pub struct Level {
@@ -19,13 +19,10 @@ pub struct Level {
     pub size: u64,
 }
 
-// a is strictly better than b at this side; any price is better than none.
-pub fn is_better_wide(side: u8, a: u64, b: u64) -> bool
-    ensures { λ r. ⌜ r ≡ better side a b ⌝ }
+// a is strictly better than b to sell: lower, and any price is better than none.
+fn is_lower(a: u64, b: u64) -> bool
+    ensures { λ r. ⌜ r ≡ better sell a b ⌝ }
 {
-    if side == 0 {
-        return b < a;
-    }
     if a == 0 {
         return false;
     }
@@ -33,6 +30,18 @@ pub fn is_better_wide(side: u8, a: u64, b: u64) -> bool
         return true;
     }
     a < b
+}
+
+// a is strictly better than b at this side; any price is better than none. Both comparisons are made, so that the side only selects.
+pub fn is_better_wide(side: u8, a: u64, b: u64) -> bool
+    ensures { λ r. ⌜ r ≡ better side a b ⌝ }
+{
+    let higher = b < a;
+    let lower = is_lower(a, b);
+    if side == 0 {
+        return higher;
+    }
+    lower
 }
 
 pub fn is_better(side: u8, a: u32, b: u32) -> bool
@@ -61,25 +70,7 @@ pub fn reaches_price(side: u8, p: u32, q: u32) -> bool
     p <= q
 }
 
-// A level with k contracts more at a price.
-fn joined(side: u8, price: u32, k: u32, l: Level) -> Level
-    requires { ⌜ l .size ≤ 549755813760 ⌝ }
-    ensures { λ r. ⌜ r ≡ joinedOf side price k l ⌝ }
-{
-    let size = k as u64;
-    if price == l.price {
-        return Level {
-            price,
-            size: size + l.size,
-        };
-    }
-    if is_better(side, price, l.price) {
-        return Level { price, size };
-    }
-    l
-}
-
-// The levels of all series and sides, in one pass over the places in use.
+// The levels of all series and sides, in one pass over the places in use. A cell is stored only where it changes.
 pub fn levels(b: &[u32]) -> [[Level; 2]; 8]
     requires { ⌜ length (now b) ≡ size ⌝ }
     ensures { λ r. ⌜ GridOf r (venueOf (now (b .entry)) .regular) ⌝ }
@@ -96,10 +87,35 @@ pub fn levels(b: &[u32]) -> [[Level; 2]; 8]
         let s = o.series as usize;
         let d = o.side as usize;
         let l = g[s][d];
-        let m = joined(o.side, o.price, o.quantity, l);
-        g[s][d] = m;
+        let size = o.quantity as u64;
+        if o.price == l.price {
+            g[s][d] = Level {
+                price: l.price,
+                size: size + l.size,
+            };
+            continue;
+        }
+        if is_better(o.side, o.price, l.price) {
+            g[s][d] = Level {
+                price: o.price,
+                size,
+            };
+        }
     }
     g
+}
+
+// The levels that the legs of a complex order take.
+pub struct Taken {
+    pub first: Level,
+    pub second: Level,
+}
+
+// The levels that the test of a leg asks for: of its own side, of the side that faces it, and those that the legs of its order take.
+pub struct LegSides {
+    pub own: Level,
+    pub facing: Level,
+    pub taken: Taken,
 }
 
 // The level of a series and side.
@@ -111,6 +127,40 @@ pub fn level_at(g: [[Level; 2]; 8], s: u8, d: u8) -> Level
     let j = d as usize;
     let l = g[i][j];
     l
+}
+
+// The levels that the legs of c take.
+pub fn taken_of(g: [[Level; 2]; 8], c: Complex) -> Taken
+    requires { ⌜ LegsIn c ⌝ }
+    ensures { λ r. ⌜ r ≡ takenIn g c ⌝ }
+{
+    let s1 = c.series1 as usize;
+    let d1 = rules::opposite_of(c.side1) as usize;
+    let s2 = c.series2 as usize;
+    let d2 = rules::opposite_of(c.side2) as usize;
+    let first = g[s1][d1];
+    let second = g[s2][d2];
+    Taken { first, second }
+}
+
+// The levels that the test of the leg of c at side d of series s asks for.
+pub fn sides_of(g: [[Level; 2]; 8], c: Complex, s: u8, d: u8) -> LegSides
+    requires { ⌜ (LegsIn c) × (s < 8) × (d < 2) ⌝ }
+    ensures { λ r. ⌜ r ≡ sidesIn g c s d ⌝ }
+{
+    let s1 = c.series1 as usize;
+    let d1 = rules::opposite_of(c.side1) as usize;
+    let s2 = c.series2 as usize;
+    let d2 = rules::opposite_of(c.side2) as usize;
+    let first = g[s1][d1];
+    let second = g[s2][d2];
+    let i = s as usize;
+    let j = d as usize;
+    let k = rules::opposite_of(d) as usize;
+    let own = g[i][j];
+    let facing = g[i][k];
+    let taken = Taken { first, second };
+    LegSides { own, facing, taken }
 }
 
 // The own price of the legging order of a series and side; 0 where there is none.
