@@ -1,12 +1,10 @@
 -- The best regular price and its total size, for each series and side.
 use mathlib.Core.Path.{_≡_}
 use mathlib.Core.List.{List, []}
-use Prim.Native.Nat.{ℕ, _+_, _<_}
-use lib.Dec.{eqb}
+use Prim.Native.Nat.{ℕ, _<_}
 use lib.ListN.{getD}
 use Rattle.rules.specs.declared.Regular.{Regular}
 use Rattle.rules.specs.declared.Complex.{Complex}
-use Rattle.rules.specs.Base.{if_then_else_}
 use Rattle.rules.specs.Words.{opposite}
 use Rattle.rules.specs.Prices.{bestIn, sizeIn}
 use Rattle.levels.specs.declared.Level.{Level}
@@ -38,17 +36,17 @@ pub record LegsIn (c : Complex) : Type 0 where
 abbrev pub takenIn : List (List Level) → Complex → Taken
 takenIn g c = record { first = cellOf g (c .series1) (opposite (c .side1)); second = cellOf g (c .series2) (opposite (c .side2)) }
 
--- the levels that the test of the leg of c at side d of series s asks for
+-- what the test of the leg of c at side d of series s asks of the orders
 abbrev pub sidesIn : List (List Level) → Complex → (series side : ℕ) → LegSides
-sidesIn g c s d = record { own = cellOf g s d; facing = cellOf g s (opposite d); taken = takenIn g c }
+sidesIn g c s d = record { own = cellOf g s d .price; facing = cellOf g s (opposite d) .price; taken = takenIn g c }
 
 -- t has the levels of these orders that the legs of c take
 pub record TakenOf (t : Taken) (c : Complex) (os : List Regular) : Type 0 where
   pub first : t .first ≡ levelOf (c .series1) (opposite (c .side1)) os
   pub second : t .second ≡ levelOf (c .series2) (opposite (c .side2)) os
 
--- x has the levels of these orders that the test of the leg of c at side d of series s asks for
+-- x has what the test of the leg of c at side d of series s asks of these orders
 pub record SidesOf (x : LegSides) (c : Complex) (s d : ℕ) (os : List Regular) : Type 0 where
-  pub own : x .own ≡ levelOf s d os
-  pub facing : x .facing ≡ levelOf s (opposite d) os
+  pub own : x .own ≡ bestIn s d os
+  pub facing : x .facing ≡ bestIn s (opposite d) os
   pub taken : TakenOf (x .taken) c os
