@@ -20,7 +20,8 @@ use Rattle.wire.specs.Stage.{stage, _does_}
 use Rattle.wire.proofs.Stages.{follow, does-nothing, stage-venue}
 use Rattle.places.specs.Layout.{venueOf, Counts, SameCounts}
 use Rattle.levels.specs.declared.Level.{Level}
-use Rattle.levels.specs.Grid.{GridOf}
+use Rattle.levels.specs.declared.Taken.{Taken}
+use Rattle.levels.specs.Grid.{GridOf, TakenOf}
 use Rattle.complexes.specs.Grids.{SameBook}
 
 -- an effect that leaves the regular orders as they are
@@ -64,6 +65,21 @@ touch-quiet i v = go (touches v (complexAt v i))
     go : (t : Bool) → Quiet (if t then remove (λ n _. failIf (takenSide (complexAt v i) n) Touched) v else nothing v) v
     go true = refl
     go false = refl
+
+-- nor does a touch change the levels that an order's legs take
+touch-keeps : (t : Taken) (i : ℕ) (v : Venue) → TakenOf t (complexAt v i) (v .regular) → TakenOf t (complexAt (touch i v .venue) i) (touch i v .venue .regular)
+unfolding touch remove withLegging nothing complexAt
+touch-keeps t i v h = go (touches v (complexAt v i))
+  where
+    go : (k : Bool) →
+        TakenOf t (complexAt ((if k then remove (λ n _. failIf (takenSide (complexAt v i) n) Touched) v else nothing v) .venue) i)
+        ((if k then remove (λ n _. failIf (takenSide (complexAt v i) n) Touched) v else nothing v) .venue .regular)
+    go true = h
+    go false = h
+
+pub touch-taken : (t : Taken) (i : ℕ) (v w : Venue) (l m : List ℕ) (a d : ℕ) → stage w l a ≡ seen m d does touch i v →
+    TakenOf t (complexAt v i) (v .regular) → TakenOf t (complexAt w i) (w .regular)
+touch-taken t i v w l m a d e h = subst (λ (x : Venue). TakenOf t (complexAt x i) (x .regular)) (sym (stage-venue w l m a d (touch i v) e)) (touch-keeps t i v h)
 
 -- the regular orders after a quiet effect, and the grid
 module _ (v w : Venue) (l m : List ℕ) (a d : ℕ) (e : Effect) (t : stage w l a ≡ seen m d does e) (q : Quiet e v) where

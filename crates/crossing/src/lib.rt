@@ -1,5 +1,6 @@
 // Complex orders with one another: who crosses with whom, the cross, and the touch of legging orders.
 use levels::Level;
+use levels::Taken;
 use rules::Cause;
 use rules::Complex;
 use rules::lesser;
@@ -18,7 +19,7 @@ ghost use Rattle.rules.specs.Complex.{reversed, crosses, limitThenId, cross, cr
 ghost use Rattle.wire.specs.Seen.{seen};
 ghost use Rattle.wire.specs.Stage.{stage, _does_};
 ghost use Rattle.places.specs.Layout.{size, complexesUsed, venueOf, SameCounts};
-ghost use Rattle.levels.specs.Grid.{GridOf, LegsIn};
+ghost use Rattle.levels.specs.Grid.{GridOf, LegsIn, TakenOf};
 ghost use Rattle.crossing.specs.Picks.{pickedOf, facingKey};
 
 // A complex order with its place, or none.
@@ -84,10 +85,12 @@ pub fn can_cross(b: &[u32], g: [[Level; 2]; 8], c: Complex, m: Complex) -> bool
     if !limits_meet(c, m) {
         return false;
     }
-    if !levels::in_band(b, g, c, net_against(m)) {
+    let by_taker = levels::taken_of(g, c);
+    if !levels::in_band(b, by_taker, c, net_against(m)) {
         return false;
     }
-    levels::in_band(b, g, m, limit_of(m))
+    let by_maker = levels::taken_of(g, m);
+    levels::in_band(b, by_maker, m, limit_of(m))
 }
 
 // a goes before m: the higher limit, then the earlier.
@@ -201,18 +204,20 @@ pub fn cross_all(b: &mut [u32], g: [[Level; 2]; 8], i: usize, out: &mut [u8], at
 }
 
 // The best own prices that c would take net to its limit or less.
-fn can_touch(b: &[u32], g: [[Level; 2]; 8], c: Complex) -> bool
-    requires { ⌜ (length (now b) ≡ size) × (GridOf g (venueOf (now b) .regular)) × (LegsIn c) ⌝ }
+fn can_touch(b: &[u32], taken: Taken, c: Complex) -> bool
+    requires { ⌜ (length (now b) ≡ size) × (TakenOf taken c (venueOf (now b) .regular)) × (LegsIn c) ⌝ }
     ensures { λ r. ⌜ r ≡ touches (venueOf (now (b .entry))) c ⌝ }
 {
     if c.quantity == 0 {
         return false;
     }
-    let first = levels::best_own(b, g, c.series1, rules::opposite_of(c.side1));
+    let one = taken.first;
+    let first = levels::best_own(b, one.price, c.series1, rules::opposite_of(c.side1));
     if first == 0 {
         return false;
     }
-    let second = levels::best_own(b, g, c.series2, rules::opposite_of(c.side2));
+    let two = taken.second;
+    let second = levels::best_own(b, two.price, c.series2, rules::opposite_of(c.side2));
     if second == 0 {
         return false;
     }
@@ -221,13 +226,13 @@ fn can_touch(b: &[u32], g: [[Level; 2]; 8], c: Complex) -> bool
 }
 
 // The legging orders at the two sides that the order at place i would take go, where it touches.
-pub fn touch(b: &mut [u32], g: [[Level; 2]; 8], i: usize, out: &mut [u8], at: usize) -> usize
-    requires { ⌜ (length (now b) ≡ size) × (GridOf g (venueOf (now b) .regular)) × (i < complexesUsed (now b)) ⌝ }
+pub fn touch(b: &mut [u32], taken: Taken, i: usize, out: &mut [u8], at: usize) -> usize
+    requires { ⌜ (length (now b) ≡ size) × (TakenOf taken (complexAt (venueOf (now b)) i) (venueOf (now b) .regular)) × (i < complexesUsed (now b)) ⌝ }
     ensures { λ r. ⌜ stage (venueOf (now (b .exit))) (now (out .exit)) r ≡ seen (now (out .entry)) at does touch i (venueOf (now (b .entry))) ⌝ }
     ensures counts { λ _. ⌜ SameCounts (now (b .entry)) (now (b .exit)) ⌝ }
 {
     let c = places::complex_at(b, i);
-    if !can_touch(b, g, c) {
+    if !can_touch(b, taken, c) {
         return at;
     }
     let one = rules::place_of(c.series1, rules::opposite_of(c.side1));

@@ -119,8 +119,9 @@ fn pairing_of(b: &[u32], l: Legging, series: u8, side: u8) -> Pairing
 {
     let c = levels::parent_of(b, l);
     let leg = levels::other_leg(c, series);
-    let g = levels::levels(b);
-    let clear = levels::clear_price(b, g, leg.series, rules::opposite_of(leg.side));
+    let other = rules::opposite_of(leg.side);
+    let best = levels::best_regular(b, leg.series, other);
+    let clear = levels::clear_price(b, best, leg.series, other);
     let net = rules::net_of(rules::opposite_of(side), l.price, leg.side, clear);
     Pairing {
         id: c.id,
