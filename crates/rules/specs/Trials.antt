@@ -1,5 +1,5 @@
--- Document 01, "Trials": the starred ones, the printed session, the wrongs named there, and the example of each row of the refusals' table,
--- all in one statement over a list. A session's messages go in as bytes and its records are read from the report memory's bytes.
+-- Document 01, "Trials": the starred ones, the printed session, the wrongs named there, sessions for what these and the theorems leave open, the bytes
+-- of each kind of message and record, and the example of each row of the refusals' table, all in one statement over a list. A session's messages go in as bytes and its records are read from the report memory's bytes.
 use mathlib.Core.Bool.{Bool, true, false}
 use mathlib.Core.Path.{_≡_, refl}
 use mathlib.Core.List.{List, [], _∷_, _++_, map}
@@ -9,12 +9,17 @@ use lib.ListN.{set}
 use Rattle.rules.specs.declared.Regular.{Regular}
 use Rattle.rules.specs.declared.Complex.{Complex}
 use Rattle.rules.specs.declared.Venue.{Venue}
+use Rattle.rules.specs.declared.Cause.{Cause}
+use Rattle.rules.specs.declared.Decoded.{Decoded}
+use Rattle.rules.specs.declared.Decoded.the-variants.{Taken}
+use Rattle.rules.specs.declared.Message.{Message}
 use Rattle.rules.specs.declared.Message.the-variants.{Order, TwoLeg, Cancel, Away, Status, Sweep}
-use Rattle.rules.specs.declared.Cause.the-variants.{Unpaired, Executed, OutOfBand}
+use Rattle.rules.specs.declared.Cause.the-variants.{Worse, Unpaired, Executed, Withdrawn, OutOfBand, NotOpen, Replaced, Touched}
 use Rattle.rules.specs.Words.{buy, sell, opened, freshVenue, withRegular, withLast}
 use Rattle.rules.specs.Messages.{encodeMessage}
-use Rattle.rules.specs.Records.{Report, answer, trade, pair, generated, removed, records, sheet}
+use Rattle.rules.specs.Records.{Report, answer, trade, pair, generated, removed, crossed, cancelled, encode, recordOf, records, sheet}
 use Rattle.rules.specs.Prices.{inBand}
+use Rattle.rules.specs.Refusals.{decoded}
 use Rattle.rules.specs.Step.{setAway}
 use Rattle.rules.specs.Calls.{run, one}
 use Rattle.rules.specs.Opened.{opened-rules}
@@ -28,11 +33,16 @@ pub data Trial : Type 0 where
   upon : (v : Venue) (before room : ℕ) (bytes : List ℕ) (number done : ℕ) → List Report → (w : Venue) → Trial
   -- a net t against O, which is the offer of series 1 less the bid of series 0
   band : (bid offer : ℕ) (t : ℤ) → Bool → Trial
+  -- the bytes of a message, both ways, and of a record
+  taken : (bytes : List ℕ) → Message → Trial
+  told : Report → (bytes : List ℕ) → Trial
 
 pub data Outcome : Type 0 where
   ended : (number done : ℕ) → (read : List Report) → (report : List ℕ) → Outcome
   returned : (number done : ℕ) → (read : List Report) → (report : List ℕ) → Venue → Outcome
   near : Bool → Outcome
+  read : Decoded → (bytes : List ℕ) → Outcome
+  laid : (bytes : List ℕ) → Report → Outcome
 
 -- a complex order that sells series 0 and buys series 1
 spread : Complex
@@ -46,11 +56,15 @@ outcome (upon v before room bytes number done rs w) =
     let c = one v before room bytes in
     returned (c .returned .number) (c .returned .done) (records (c .report)) (c .report) (c .returned .venue)
 outcome (band bid offer t b) = near (inBand (setAway 1 0 offer (setAway 0 bid 0 freshVenue)) spread t)
+outcome (taken bytes m) = read (decoded bytes) (encodeMessage m)
+outcome (told r bytes) = laid (encode r) (recordOf bytes)
 
 pub expected : Trial → Outcome
 expected (session room bytes number done rs) = ended number done rs (sheet room rs)
 expected (upon v before room bytes number done rs w) = returned number done rs (sheet room rs) w
 expected (band bid offer t b) = near b
+expected (taken bytes m) = read (Taken m) bytes
+expected (told r bytes) = laid bytes r
 
 -- Messages ------------------------------------------------------------------------------------
 
@@ -166,6 +180,114 @@ wrongs =
     ∷ band 300 100 (negsuc 199) true
     ∷ []
 
+-- What no starred trial and no theorem tells ------------------------------------------------------
+
+-- Choices that keep every venue sound and every account even, whichever way they fall: who goes first, what is in band, what is asked of a price. One
+-- session for each, at the edge where there is one.
+
+-- any two legs, of a class
+twoLeg : (id s d t e class : ℕ) (n : ℤ) (quantity : ℕ) → List ℕ
+twoLeg id s d t e k n q =
+    encodeMessage (TwoLeg (record { id = id; series1 = s; side1 = d; series2 = t; side2 = e; class = k; limit = n; quantity = q }))
+
+-- complex order 3 has legging orders at 115 and 75
+legged : List ℕ
+legged = opening ++ buysBoth 3 (pos 205) 8
+
+leggedSheet : List Report
+leggedSheet = accepted 1 4 ++ (answer 5 0 5 2 ∷ generated 3 0 0 115 115 8 ∷ generated 3 1 0 75 75 8 ∷ [])
+
+-- no regular orders, a market of 95 to 105 in series 0 and 1
+quoted : List ℕ
+quoted = opens 0 ++ opens 1 ++ encodeMessage (Away 0 95 105) ++ encodeMessage (Away 1 95 105)
+
+-- order 2's legging order sells at 110 in series 1, with the bid of 90 in series 0 for its other leg; order 4 would buy in series 0 at N less 50
+relying : (n : ℤ) → List ℕ
+relying n =
+    opens 0 ++ opens 1 ++ opens 2 ++ enters 1 0 buy 90 10 ++ encodeMessage (Away 1 80 0)
+    ++ pairUp 2 0 1 sell (negsuc 199) 5
+    ++ enters 3 2 sell 50 5 ++ encodeMessage (Away 0 0 120)
+    ++ pairUp 4 0 2 buy n 5
+
+-- orders 5 and 6 are reversed and their limits meet, but at 215 out of band until order 7 takes the offer at 100 in the first sweep
+keptApart : List ℕ
+keptApart =
+    opens 0 ++ opens 1 ++ opens 2 ++ encodeMessage (Away 1 0 100)
+    ++ enters 1 0 sell 100 5 ++ enters 2 0 sell 130 15 ++ enters 3 0 buy 90 20 ++ enters 4 1 buy 60 20
+    ++ pairUp 5 0 1 sell (negsuc 210) 4
+    ++ pairUp 6 1 0 buy (pos 215) 3
+    ++ pairUp 7 0 2 buy (pos 150) 7
+    ++ enters 8 2 sell 50 6
+
+pub choices : List Trial
+choices =
+    -- "best own price first, then regular by id"
+    session 150 (opens 0 ++ enters 1 0 sell 110 5 ++ enters 2 0 sell 105 5 ++ enters 3 0 sell 105 5 ++ enters 4 0 buy 110 12) 0 5
+    (accepted 1 4 ++ (answer 5 0 0 0 ∷ trade 0 0 105 5 4 2 ∷ trade 0 0 105 5 4 3 ∷ trade 0 0 110 2 4 1 ∷ []))
+    -- "with the lowest cause that applies": 2 and 5 do at place 0, 5 alone at place 2
+    ∷ session 200 (legged ++ cancels 2) 0 6
+    (leggedSheet ++ (answer 6 0 0 0 ∷ cancelled 2 12 ∷ removed 3 0 0 Unpaired ∷ removed 3 1 0 OutOfBand ∷ []))
+    -- "take the highest N, then earliest, at the resting limit", "whichever leg is named first"
+    ∷ session 200 (quoted ++ buysBoth 1 (pos 190) 5 ++ buysBoth 2 (pos 195) 5 ++ twoLeg 3 1 buy 0 buy 0 (pos 195) 5 ++ pairUp 4 0 1 sell (negsuc 189) 12) 0 8
+    (accepted 1 8 ++ (crossed 4 2 (negsuc 194) 5 ∷ crossed 4 3 (negsuc 194) 5 ∷ crossed 4 1 (negsuc 189) 2 ∷ []))
+    -- "both nets in band": 221 is not in the maker's
+    ∷ session 150 (quoted ++ buysBoth 1 (pos 221) 5 ++ buysBoth 2 (pos 220) 5 ++ pairUp 3 0 1 sell (negsuc 189) 5) 0 7
+    (accepted 1 7 ++ (crossed 3 2 (negsuc 219) 5 ∷ []))
+    -- "the best own prices, legging included, net ≤ N": 115 and 75 are -190 to a seller
+    ∷ session 200 (legged ++ pairUp 4 0 1 sell (negsuc 189) 5) 0 6 (leggedSheet ++ (answer 6 0 0 0 ∷ removed 3 0 0 Touched ∷ removed 3 1 0 Touched ∷ []))
+    ∷ session 200 (legged ++ pairUp 4 0 1 sell (negsuc 190) 5) 0 6 (leggedSheet ++ (answer 6 0 5 2 ∷ []))
+    -- "while best regular prices net ≤ N and in band": 220 is out of the band of 190, and in that of 210, where N 240 is not
+    ∷ session 150 (opening ++ encodeMessage (Away 0 0 100) ++ buysBoth 3 (pos 220) 8) 0 6 (accepted 1 6)
+    ∷ session 200 (opening ++ encodeMessage (Away 0 0 120) ++ buysBoth 3 (pos 240) 8) 0 6
+    (accepted 1 6 ++ (trade 0 0 130 8 3 1 ∷ trade 1 0 90 8 3 2 ∷ pair 3 (pos 220) 8 ∷ []))
+    -- "nor the away price opposite": p is 100
+    ∷ session 150 (opens 0 ++ opens 1 ++ enters 1 1 sell 90 12 ++ encodeMessage (Away 0 0 100) ++ buysBoth 2 (pos 190) 3) 0 5 (accepted 1 5)
+    ∷ session 150 (opens 0 ++ opens 1 ++ enters 1 1 sell 90 12 ++ encodeMessage (Away 0 0 101) ++ buysBoth 2 (pos 190) 3) 0 5
+    (accepted 1 4 ++ (answer 5 0 1 1 ∷ generated 2 0 0 100 100 3 ∷ []))
+    -- "or at equal price by class 1 while this is class 0"
+    ∷ session 300 (legged ++ twoLeg 4 0 buy 1 buy 0 (pos 205) 9) 0 6
+    (leggedSheet ++ (answer 6 0 5 2 ∷ removed 3 0 0 Replaced ∷ generated 4 0 0 115 115 9 ∷ removed 3 1 0 Replaced ∷ generated 4 1 0 75 75 9 ∷ []))
+    ∷ session 200 (legged ++ buysBoth 4 (pos 205) 9) 0 6 (leggedSheet ++ (answer 6 0 5 2 ∷ []))
+    -- "no other standing order would then fail its test": a bid of 91 would hide that of 90
+    ∷ session 200 (relying (pos 141)) 0 9 (accepted 1 5 ++ (answer 6 0 8 1 ∷ generated 2 1 1 110 110 5 ∷ answer 7 0 8 1 ∷ answer 8 0 8 1 ∷ answer 9 0 8 1 ∷ []))
+    ∷ session 200 (relying (pos 140)) 0 9
+    (accepted 1 5 ++ (answer 6 0 8 1 ∷ generated 2 1 1 110 110 5 ∷ answer 7 0 8 1 ∷ answer 8 0 8 1 ∷ answer 9 0 9 2 ∷ generated 4 0 0 90 90 5 ∷ []))
+    -- "Sweep: all this for each resting order, earliest first, but settle once and then generate"; "the taker's first"
+    ∷ session 400 (keptApart ++ sweeps ++ sweeps) 0 14
+    (accepted 1 8 ++ (answer 9 0 8 1 ∷ generated 5 1 1 121 125 4 ∷ answer 10 0 8 1 ∷ answer 11 0 8 1 ∷ answer 12 0 8 1
+    ∷ answer 13 0 28 3 ∷ trade 0 0 100 5 7 1 ∷ trade 2 0 50 5 7 8 ∷ pair 7 (pos 150) 5 ∷ generated 6 1 0 85 85 3 ∷ generated 7 2 0 20 20 2
+    ∷ answer 14 0 24 2 ∷ crossed 5 6 (negsuc 214) 3 ∷ removed 5 1 1 Executed ∷ removed 6 1 0 Executed ∷ generated 5 1 1 121 125 1 ∷ []))
+    ∷ []
+
+-- Bytes ---------------------------------------------------------------------------------------
+
+-- a legging order of complex order 67,305,985 gone from side 1 of series 6, by the cause's number
+gone : Cause → (number : ℕ) → Trial
+gone c n = told (removed 67305985 6 1 c) (11 ∷ 0 ∷ 68 ∷ 0 ∷ 1 ∷ 2 ∷ 3 ∷ 4 ∷ 6 ∷ 1 ∷ n ∷ [])
+
+-- the table's rows, byte for byte: the id 67,305,985 is 01 02 03 04, 134,678,021 is 05 06 07 08, 100,000 is A0 86 01 00, 10,000 is 10 27 00 00
+pub layouts : List Trial
+layouts =
+    taken (18 ∷ 0 ∷ 1 ∷ 0 ∷ 1 ∷ 2 ∷ 3 ∷ 4 ∷ 5 ∷ 1 ∷ 160 ∷ 134 ∷ 1 ∷ 0 ∷ 16 ∷ 39 ∷ 0 ∷ 0 ∷ [])
+    (Order (record { id = 67305985; series = 5; side = 1; price = 100000; quantity = 10000 }))
+    ∷ taken (21 ∷ 0 ∷ 2 ∷ 0 ∷ 1 ∷ 2 ∷ 3 ∷ 4 ∷ 7 ∷ 1 ∷ 6 ∷ 0 ∷ 1 ∷ 254 ∷ 255 ∷ 255 ∷ 255 ∷ 16 ∷ 39 ∷ 0 ∷ 0 ∷ [])
+    (TwoLeg (record { id = 67305985; series1 = 7; side1 = 1; series2 = 6; side2 = 0; class = 1; limit = negsuc 1; quantity = 10000 }))
+    ∷ taken (8 ∷ 0 ∷ 3 ∷ 0 ∷ 1 ∷ 2 ∷ 3 ∷ 4 ∷ []) (Cancel 67305985)
+    ∷ taken (13 ∷ 0 ∷ 4 ∷ 0 ∷ 3 ∷ 44 ∷ 1 ∷ 0 ∷ 0 ∷ 160 ∷ 134 ∷ 1 ∷ 0 ∷ []) (Away 3 300 100000)
+    ∷ taken (6 ∷ 0 ∷ 5 ∷ 0 ∷ 7 ∷ 2 ∷ []) (Status 7 2)
+    ∷ taken (4 ∷ 0 ∷ 6 ∷ 0 ∷ []) Sweep
+    ∷ told (answer 67305985 7 513 2) (12 ∷ 0 ∷ 64 ∷ 0 ∷ 1 ∷ 2 ∷ 3 ∷ 4 ∷ 7 ∷ 1 ∷ 2 ∷ 2 ∷ [])
+    ∷ told (trade 5 1 100000 10000 67305985 134678021)
+    (22 ∷ 0 ∷ 65 ∷ 0 ∷ 5 ∷ 1 ∷ 160 ∷ 134 ∷ 1 ∷ 0 ∷ 16 ∷ 39 ∷ 0 ∷ 0 ∷ 1 ∷ 2 ∷ 3 ∷ 4 ∷ 5 ∷ 6 ∷ 7 ∷ 8 ∷ [])
+    ∷ told (pair 67305985 (negsuc 1) 10000) (16 ∷ 0 ∷ 66 ∷ 0 ∷ 1 ∷ 2 ∷ 3 ∷ 4 ∷ 254 ∷ 255 ∷ 255 ∷ 255 ∷ 16 ∷ 39 ∷ 0 ∷ 0 ∷ [])
+    ∷ told (generated 67305985 6 1 99999 100000 10000)
+    (22 ∷ 0 ∷ 67 ∷ 0 ∷ 1 ∷ 2 ∷ 3 ∷ 4 ∷ 6 ∷ 1 ∷ 159 ∷ 134 ∷ 1 ∷ 0 ∷ 160 ∷ 134 ∷ 1 ∷ 0 ∷ 16 ∷ 39 ∷ 0 ∷ 0 ∷ [])
+    ∷ gone Worse 1 ∷ gone Unpaired 2 ∷ gone Executed 3 ∷ gone Withdrawn 4 ∷ gone OutOfBand 5 ∷ gone NotOpen 6 ∷ gone Replaced 7 ∷ gone Touched 8
+    ∷ told (crossed 67305985 134678021 (negsuc 1) 10000)
+    (20 ∷ 0 ∷ 70 ∷ 0 ∷ 1 ∷ 2 ∷ 3 ∷ 4 ∷ 5 ∷ 6 ∷ 7 ∷ 8 ∷ 254 ∷ 255 ∷ 255 ∷ 255 ∷ 16 ∷ 39 ∷ 0 ∷ 0 ∷ [])
+    ∷ told (cancelled 67305985 10000) (12 ∷ 0 ∷ 71 ∷ 0 ∷ 1 ∷ 2 ∷ 3 ∷ 4 ∷ 16 ∷ 39 ∷ 0 ∷ 0 ∷ [])
+    ∷ []
+
 -- The refusals' table -------------------------------------------------------------------------
 
 -- offers of one contract, with ids from n on
@@ -208,8 +330,8 @@ refused =
     ∷ []
 
 pub trials : List Trial
-trials = starred ++ wrongs ++ refused
+trials = starred ++ wrongs ++ choices ++ layouts ++ refused
 
 pub trials-hold : map outcome trials ≡ map expected trials
-unfolding opened-rules outcome expected spread opens enters pairUp buysBoth cancels sweeps opening accepted awayAdded starred together wrongs offers twice refused trials
+unfolding opened-rules outcome expected spread opens enters pairUp buysBoth cancels sweeps opening accepted awayAdded starred together wrongs twoLeg legged leggedSheet quoted relying keptApart choices gone layouts offers twice refused trials
 trials-hold = refl
