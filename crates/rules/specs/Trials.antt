@@ -1,5 +1,5 @@
 -- Document 01, "Trials": the starred ones, the printed session, the wrongs named there, sessions for what these and the theorems leave open, the bytes
--- of each kind of message and record, and the example of each row of the refusals' table, all in one statement over a list. A session's messages go in as bytes and its records are read from the report memory's bytes.
+-- of each kind of message and record, the ends of each range, and the refusals by the examples of their table, all in one statement over a list. A session's messages go in as bytes and its records are read from the report memory's bytes.
 use mathlib.Core.Bool.{Bool, true, false}
 use mathlib.Core.Path.{_≡_, refl}
 use mathlib.Core.List.{List, [], _∷_, _++_, map}
@@ -19,7 +19,7 @@ use Rattle.rules.specs.Words.{buy, sell, opened, freshVenue, withRegular
 use Rattle.rules.specs.Messages.{encodeMessage}
 use Rattle.rules.specs.Records.{Report, answer, trade, pair, generated, removed, crossed, cancelled, encode, recordOf, records, sheet}
 use Rattle.rules.specs.Prices.{inBand}
-use Rattle.rules.specs.Refusals.{decoded}
+use Rattle.rules.specs.Refusals.{decoded, inRange}
 use Rattle.rules.specs.Step.{setAway}
 use Rattle.rules.specs.Calls.{run, one}
 use Rattle.rules.specs.Opened.{opened-rules}
@@ -33,6 +33,8 @@ pub data Trial : Type 0 where
   upon : (v : Venue) (before room : ℕ) (bytes : List ℕ) (number done : ℕ) → List Report → (w : Venue) → Trial
   -- a net t against O, which is the offer of series 1 less the bid of series 0
   band : (bid offer : ℕ) (t : ℤ) → Bool → Trial
+  -- a message's fields in their ranges
+  ranged : Message → Bool → Trial
   -- the bytes of a message, both ways, and of a record
   taken : (bytes : List ℕ) → Message → Trial
   told : Report → (bytes : List ℕ) → Trial
@@ -56,6 +58,7 @@ outcome (upon v before room bytes number done rs w) =
     let c = one v before room bytes in
     returned (c .returned .number) (c .returned .done) (records (c .report)) (c .report) (c .returned .venue)
 outcome (band bid offer t b) = near (inBand (setAway 1 0 offer (setAway 0 bid 0 freshVenue)) spread t)
+outcome (ranged m b) = near (inRange m)
 outcome (taken bytes m) = read (decoded bytes) (encodeMessage m)
 outcome (told r bytes) = laid (encode r) (recordOf bytes)
 
@@ -63,6 +66,7 @@ pub expected : Trial → Outcome
 expected (session room bytes number done rs) = ended number done rs (sheet room rs)
 expected (upon v before room bytes number done rs w) = returned number done rs (sheet room rs) w
 expected (band bid offer t b) = near b
+expected (ranged m b) = near b
 expected (taken bytes m) = read (Taken m) bytes
 expected (told r bytes) = laid bytes r
 
@@ -209,6 +213,13 @@ relying n =
     ++ enters 3 2 sell 50 5 ++ encodeMessage (Away 0 0 120)
     ++ pairUp 4 0 2 buy n 5
 
+inAuction : (series : ℕ) → List ℕ
+inAuction s = encodeMessage (Status s 2)
+
+-- complex order 1 rested before there were offers; it would leg in
+restingBefore : List ℕ
+restingBefore = opens 0 ++ opens 1 ++ buysBoth 1 (pos 220) 2 ++ enters 2 0 sell 130 5 ++ enters 3 1 sell 90 5
+
 -- orders 5 and 6 are reversed and their limits meet, but at 215 out of band until order 7 takes the offer at 100 in the first sweep
 keptApart : List ℕ
 keptApart =
@@ -252,6 +263,24 @@ choices =
     ∷ session 200 (relying (pos 141)) 0 9 (accepted 1 5 ++ (answer 6 0 8 1 ∷ generated 2 1 1 110 110 5 ∷ answer 7 0 8 1 ∷ answer 8 0 8 1 ∷ answer 9 0 8 1 ∷ []))
     ∷ session 200 (relying (pos 140)) 0 9
     (accepted 1 5 ++ (answer 6 0 8 1 ∷ generated 2 1 1 110 110 5 ∷ answer 7 0 8 1 ∷ answer 8 0 8 1 ∷ answer 9 0 9 2 ∷ generated 4 0 0 90 90 5 ∷ []))
+    -- a series in auction: orders trade and leg in, no legging order is made; a sweep passes over a closed one alone
+    ∷ session 200 (inAuction 0 ++ opens 1 ++ enters 1 0 sell 130 15 ++ enters 2 1 sell 90 12 ++ buysBoth 3 (pos 205) 8 ++ enters 4 0 buy 130 1) 0 6
+    (accepted 1 6 ++ (trade 0 0 130 1 4 1 ∷ []))
+    ∷ session 200 (restingBefore ++ inAuction 0 ++ sweeps) 0 7 (accepted 1 7 ++ (trade 0 0 130 2 1 2 ∷ trade 1 0 90 2 1 3 ∷ pair 1 (pos 220) 2 ∷ []))
+    ∷ session 200 (restingBefore ++ encodeMessage (Status 0 0) ++ sweeps) 0 7 (accepted 1 7)
+    -- a status leaves the away prices: N 105 as above, 15 in series 0 alone
+    ∷ session 200 (opening ++ awayAdded ++ opens 0 ++ opens 1 ++ buysBoth 3 (pos 105) 8) 0 9
+    (accepted 1 8 ++ (answer 9 0 1 1 ∷ generated 3 0 0 15 15 8 ∷ []))
+    -- "held at a worse price": its own, after a better offer in series 1; the other leg's p is as it was, and stays
+    ∷ session 200 (legged ++ enters 4 1 sell 85 12 ++ sweeps) 0 7
+    (leggedSheet ++ (answer 6 0 5 2 ∷ answer 7 0 5 2 ∷ removed 3 0 0 Replaced ∷ generated 3 0 0 120 120 8 ∷ []))
+    -- in a sweep the order whose turn it is takes, at the other's limit
+    ∷ session 150 (opens 0 ++ opens 1 ++ buysBoth 1 (pos 200) 5 ++ pairUp 2 0 1 sell (negsuc 194) 3 ++ encodeMessage (Away 0 95 105) ++ encodeMessage (Away 1 95 105) ++ sweeps) 0 7
+    (accepted 1 7 ++ (crossed 1 2 (pos 195) 3 ∷ []))
+    -- sells, by tens: 145 is shown at 150, and a hit's other leg takes the bid
+    ∷ session 250 (opens 6 ++ opens 7 ++ enters 1 6 buy 130 15 ++ enters 2 7 buy 90 12 ++ pairUp 3 6 7 sell (negsuc 234) 8 ++ enters 4 6 buy 150 3) 0 6
+    (accepted 1 4 ++ (answer 5 0 40960 2 ∷ generated 3 6 1 145 150 8 ∷ generated 3 7 1 105 110 8
+    ∷ answer 6 0 0 0 ∷ trade 6 0 145 3 4 3 ∷ trade 7 1 90 3 3 2 ∷ pair 3 (negsuc 234) 3 ∷ removed 3 6 1 Executed ∷ removed 3 7 1 Executed ∷ []))
     -- "Sweep: all this for each resting order, earliest first, but settle once and then generate"; "the taker's first"
     ∷ session 400 (keptApart ++ sweeps ++ sweeps) 0 14
     (accepted 1 8 ++ (answer 9 0 8 1 ∷ generated 5 1 1 121 125 4 ∷ answer 10 0 8 1 ∷ answer 11 0 8 1 ∷ answer 12 0 8 1
@@ -288,12 +317,41 @@ layouts =
     ∷ told (cancelled 67305985 10000) (12 ∷ 0 ∷ 71 ∷ 0 ∷ 1 ∷ 2 ∷ 3 ∷ 4 ∷ 16 ∷ 39 ∷ 0 ∷ 0 ∷ [])
     ∷ []
 
+-- Ranges --------------------------------------------------------------------------------------
+
+single : (id series side price quantity : ℕ) → Message
+single i s d p q = Order (record { id = i; series = s; side = d; price = p; quantity = q })
+
+double : (s d t e class : ℕ) (n : ℤ) (quantity : ℕ) → Message
+double s d t e k n q = TwoLeg (record { id = 1; series1 = s; side1 = d; series2 = t; side2 = e; class = k; limit = n; quantity = q })
+
+-- each range at its ends and one beyond
+pub edges : List Trial
+edges =
+    ranged (single 1 0 0 5 1) true ∷ ranged (single 4294967295 7 1 100000 10000) true
+    ∷ ranged (single 0 0 0 5 1) false ∷ ranged (single 1 8 0 10 1) false ∷ ranged (single 1 0 2 5 1) false ∷ ranged (single 1 0 0 0 1) false
+    ∷ ranged (single 1 0 0 100005 1) false ∷ ranged (single 1 0 0 5 0) false ∷ ranged (single 1 0 0 5 10001) false
+    ∷ ranged (single 1 5 0 15 1) true ∷ ranged (single 1 6 0 15 1) false ∷ ranged (single 1 0 0 6 1) false
+    ∷ ranged (double 0 0 7 1 1 (pos 200000) 10000) true ∷ ranged (double 7 1 0 0 0 (negsuc 199999) 1) true
+    ∷ ranged (double 0 0 1 0 0 (pos 200001) 1) false ∷ ranged (double 0 0 1 0 0 (negsuc 200000) 1) false ∷ ranged (double 0 0 1 0 2 (pos 0) 1) false
+    ∷ ranged (double 8 0 1 0 0 (pos 0) 1) false ∷ ranged (double 0 0 8 0 0 (pos 0) 1) false ∷ ranged (double 0 2 1 0 0 (pos 0) 1) false ∷ ranged (double 0 0 1 2 0 (pos 0) 1) false
+    ∷ ranged (double 3 0 3 1 0 (pos 0) 1) false ∷ ranged (double 0 0 1 0 0 (pos 0) 0) false ∷ ranged (double 0 0 1 0 0 (pos 0) 10001) false
+    ∷ ranged (Cancel 0) false ∷ ranged (Cancel 1) true
+    ∷ ranged (Away 7 100000 0) true ∷ ranged (Away 8 0 0) false ∷ ranged (Away 0 100001 0) false ∷ ranged (Away 0 0 100001) false
+    ∷ ranged (Status 7 2) true ∷ ranged (Status 8 0) false ∷ ranged (Status 0 3) false
+    ∷ []
+
 -- The refusals' table -------------------------------------------------------------------------
 
 -- offers of one contract, with ids from n on
 offers : (count n : ℕ) → List ℕ
 offers zero n = []
 offers (suc count) n = enters n 0 sell 100 1 ++ offers count (suc n)
+
+-- complex orders that rest, with ids from n on
+pairs : (count n : ℕ) → List ℕ
+pairs zero n = []
+pairs (suc count) n = buysBoth n (pos 100) 1 ++ pairs count (suc n)
 
 -- a venue with "two orders with id 1"
 twice : Venue
@@ -306,22 +364,37 @@ refused =
     -- 1: "bytes 09 00 06"; in a one-message call also no bytes
     session 100 (9 ∷ 0 ∷ 6 ∷ []) 1 1 (answer 1 1 0 0 ∷ [])
     ∷ upon freshVenue 0 100 [] 1 1 (answer 1 1 0 0 ∷ []) freshVenue
+    -- a length below 4, whatever the kind; a length above what is left; messages before it are done
+    ∷ session 100 (3 ∷ 0 ∷ 99 ∷ 0 ∷ []) 1 1 (answer 1 1 0 0 ∷ [])
+    ∷ session 100 (5 ∷ 0 ∷ 6 ∷ 0 ∷ []) 1 1 (answer 1 1 0 0 ∷ [])
+    ∷ session 100 (sweeps ++ (4 ∷ 0 ∷ 6 ∷ [])) 1 2 (answer 1 0 0 0 ∷ answer 2 1 0 0 ∷ [])
     -- 2: "04 00 63 00"
     ∷ session 100 (4 ∷ 0 ∷ 99 ∷ 0 ∷ []) 0 1 (answer 1 2 0 0 ∷ [])
+    ∷ session 100 ((5 ∷ 0 ∷ 0 ∷ 0 ∷ 7 ∷ []) ++ (4 ∷ 0 ∷ 7 ∷ 0 ∷ []) ++ (4 ∷ 0 ∷ 64 ∷ 0 ∷ [])) 0 3 (answer 1 2 0 0 ∷ answer 2 2 0 0 ∷ answer 3 2 0 0 ∷ [])
     -- 3: "05 00 06 00 00"
     ∷ session 100 (5 ∷ 0 ∷ 6 ∷ 0 ∷ 0 ∷ []) 0 1 (answer 1 3 0 0 ∷ [])
     -- 4: "order at 113, series 0"
     ∷ session 100 (opens 0 ++ enters 1 0 sell 113 1) 0 2 (answer 1 0 0 0 ∷ answer 2 4 0 0 ∷ [])
     -- 5: "id 1 twice"
     ∷ session 100 (opens 0 ++ enters 1 0 sell 115 1 ++ enters 1 0 sell 115 1) 0 3 (accepted 1 2 ++ (answer 3 5 0 0 ∷ []))
+    -- in number order: 4, then 5, then 6; a refused order does not move the last id
+    ∷ session 100 (enters 9 0 sell 113 1 ++ opens 0 ++ enters 1 0 sell 115 1 ++ encodeMessage (Status 0 0) ++ enters 1 0 sell 115 1 ++ enters 2 0 sell 115 1) 0 6
+    (answer 1 4 0 0 ∷ answer 2 0 0 0 ∷ answer 3 0 0 0 ∷ answer 4 0 0 0 ∷ answer 5 5 0 0 ∷ answer 6 6 0 0 ∷ [])
     -- 6: "order, fresh venue"
     ∷ session 100 (enters 1 0 sell 115 1) 0 1 (answer 1 6 0 0 ∷ [])
-    -- 7: "the 129th resting"
-    ∷ session 1600 (opens 0 ++ offers 129 1) 0 130 (accepted 1 129 ++ (answer 130 7 0 0 ∷ []))
+    -- 7: "the 129th resting", after 6 and "even if the order would trade"; the 33rd complex order
+    ∷ session 1600 (opens 0 ++ offers 129 1 ++ enters 130 1 buy 100 1 ++ enters 131 0 buy 100 1) 0 132
+    (accepted 1 129 ++ (answer 130 7 0 0 ∷ answer 131 6 0 0 ∷ answer 132 7 0 0 ∷ []))
+    ∷ session 500 (opens 0 ++ opens 1 ++ pairs 33 1) 0 35 (accepted 1 34 ++ (answer 35 7 0 0 ∷ []))
     -- 8: "cancel 9, fresh"
     ∷ session 100 (cancels 9) 0 1 (answer 1 8 0 0 ∷ [])
+    -- a refused message tells the mask and the count of the venue as it stands
+    ∷ session 200 (legged ++ cancels 9) 0 6 (leggedSheet ++ (answer 6 8 5 2 ∷ []))
     -- 9: "two orders with id 1": "the venue as given, all report bytes 0"
     ∷ upon twice 7 100 sweeps 9 0 [] twice
+    -- "9 before all"; and 10 before 1, where the number would pass
+    ∷ upon twice 4294967295 3 [] 9 0 [] twice
+    ∷ upon freshVenue 4294967295 100 [] 10 0 [] freshVenue
     -- 10: "11 report bytes, one sweep"; a number that would pass 4,294,967,295; "call ends before that message"
     ∷ session 11 sweeps 10 0 []
     ∷ upon freshVenue 4294967295 100 sweeps 10 0 [] freshVenue
@@ -330,8 +403,8 @@ refused =
     ∷ []
 
 pub trials : List Trial
-trials = starred ++ wrongs ++ choices ++ layouts ++ refused
+trials = starred ++ wrongs ++ choices ++ layouts ++ edges ++ refused
 
 pub trials-hold : map outcome trials ≡ map expected trials
-unfolding opened-rules outcome expected spread opens enters pairUp buysBoth cancels sweeps opening accepted awayAdded starred together wrongs twoLeg legged leggedSheet quoted relying keptApart choices gone layouts offers twice refused trials
+unfolding opened-rules outcome expected spread opens enters pairUp buysBoth cancels sweeps opening accepted awayAdded starred together wrongs twoLeg legged leggedSheet quoted relying inAuction restingBefore keptApart choices gone layouts single double edges offers pairs twice refused trials
 trials-hold = refl
