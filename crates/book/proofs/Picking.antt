@@ -1,5 +1,5 @@
 -- Laws of scans that pick the first in rank. For a candidate and a ranking: what `first` picks of a table in use, and how a loop that counts down keeps it.
-use mathlib.Core.Path.{_≡_, refl, sym, ap, _∙_}
+use mathlib.Core.Path.{_≡_, refl, sym, ap, ap₂, _∙_}
 use mathlib.Core.Bool.{Bool, true, false, _&&_, _||_, true≢false}
 use mathlib.Core.List.{List, [], _∷_, _++_}
 use Prim.Native.Nat.{ℕ, zero, suc, _+_, _-_, _≤_, _<_}
@@ -7,16 +7,17 @@ use native.Mathlib.Omega.{arith}
 use native.Mathlib.Decide.{decLt}
 use borrow.Author.Tests.{lt-leb, eqb-true, eq-eqb, ne-eqb}
 use Rattle.rules.proofs.Tests.{and-l, and-r}
+use Rattle.rules.proofs.Better.{is-false}
 use lib.Dec.{ltb, eqb}
 use lib.ListN.{length, replicate}
 use Rattle.rules.specs.declared.Regular.{Regular}
 use Rattle.rules.specs.declared.Complex.{Complex}
 use Rattle.rules.specs.Base.{if_then_else_, held, Picked, nobody, picked, ranked, firstFrom, first}
-use Rattle.rules.specs.Words.{opposite, noRegular, noComplex, earlier, earlierComplex}
+use Rattle.rules.specs.Words.{opposite, placeOf, noRegular, noComplex, earlier, earlierComplex}
 use Rattle.rules.specs.Prices.{better, restsAt, shown, showsAt, showsFor, reaches}
 use Rattle.rules.specs.Order.{isMet, priceThenId}
 use Rattle.rules.proofs.Picking.{At, Chosen, first-chosen}
-use Rattle.places.specs.Layout.{upto, inUse, regularsUsed, complexesUsed, regularIn, complexIn, venueOf}
+use Rattle.places.specs.Layout.{upto, inUse, regularsUsed, complexesUsed, regularIn, complexIn, regularKey, venueOf}
 use Rattle.places.proofs.Tables.{upto-length, used-at, used-free}
 use Rattle.places.proofs.Parts.{regulars-few, complexes-few}
 use Rattle.levels.proofs.Scans.{upto-back, upto-end}
@@ -186,6 +187,25 @@ above-free id = refl
 pub met-side : (s d p : ℕ) (m : Regular) → isMet s d p m ≡ true → m .side ≡ opposite d
 unfolding isMet restsAt
 met-side s d p m h = eqb-true _ _ (and-r (held (m .quantity) && eqb (m .series) s) (eqb (m .side) (opposite d)) (and-l _ (reaches d p (m .price)) h))
+
+-- orders with another key are no candidates
+other-key : (t : Bool) (s d : ℕ) (o : Regular) → (regularKey o ≡ placeOf s d → ⊥) → (t && eqb (o .series) s && eqb (o .side) d) ≡ false
+unfolding regularKey
+other-key t s d o n = is-false _ (λ h. n (ap₂ placeOf (series h) (side h)))
+  where
+    side : (t && eqb (o .series) s && eqb (o .side) d) ≡ true → o .side ≡ d
+    side h = eqb-true _ _ (and-r (t && eqb (o .series) s) (eqb (o .side) d) h)
+
+    series : (t && eqb (o .series) s && eqb (o .side) d) ≡ true → o .series ≡ s
+    series h = eqb-true _ _ (and-r t (eqb (o .series) s) (and-l (t && eqb (o .series) s) (eqb (o .side) d) h))
+
+pub met-key : (s d p : ℕ) (o : Regular) → (regularKey o ≡ placeOf s (opposite d) → ⊥) → isMet s d p o ≡ false
+unfolding isMet restsAt
+met-key s d p o n = rw (other-key (held (o .quantity)) s (opposite d) o n)
+
+pub for-key : (s d p : ℕ) (o : Regular) → (regularKey o ≡ placeOf s d → ⊥) → showsFor s d p o ≡ false
+unfolding showsFor showsAt shown
+for-key s d p o n = rw (other-key (held (o .quantity)) s d o n)
 
 -- The answers ---------------------------------------------------------------------------------
 

@@ -1,5 +1,6 @@
 // Scans of the places in use: who is met or taken first, where an order rests, and which legging places are filled.
 // A scan counts down and keeps the place, price and id of the first in rank; what it answers is read from the place at its end.
+// One for a series and side reads the orders with their key only.
 ghost use mathlib.Core.Path.{_≡_};
 ghost use Prim.Native.Nat.{ℕ, _<_, _≤_};
 ghost use lib.Count.{ones};
@@ -113,6 +114,7 @@ pub fn first_met(b: &[u32], series: u8, side: u8, price: u32) -> Pick
     ensures { λ r. ⌜ r ≡ pickOf (first (isMet series side price) priceThenId (venueOf (now (b .entry)) .regular)) ⌝ }
 {
     let other = rules::opposite_of(side);
+    let key = rules::place_of(series, other);
     let n = places::regulars_used(b);
     let mut best = Best {
         at: 128,
@@ -122,6 +124,9 @@ pub fn first_met(b: &[u32], series: u8, side: u8, price: u32) -> Pick
     let mut i = n;
     while 0 < i {
         i -= 1;
+        if places::key_at(b, i) != key {
+            continue;
+        }
         let o = places::regular_at(b, i);
         if !is_met(o, series, side, price) {
             continue;
@@ -151,6 +156,7 @@ pub fn first_for(b: &[u32], series: u8, side: u8, price: u32) -> Pick
     requires { ⌜ length (now b) ≡ size ⌝ }
     ensures { λ r. ⌜ r ≡ pickOf (first (showsFor series side price) earlier (venueOf (now (b .entry)) .regular)) ⌝ }
 {
+    let key = rules::place_of(series, side);
     let n = places::regulars_used(b);
     let mut best = Best {
         at: 128,
@@ -160,6 +166,9 @@ pub fn first_for(b: &[u32], series: u8, side: u8, price: u32) -> Pick
     let mut i = n;
     while 0 < i {
         i -= 1;
+        if places::key_at(b, i) != key {
+            continue;
+        }
         let o = places::regular_at(b, i);
         if !shows_for(o, series, side, price) {
             continue;

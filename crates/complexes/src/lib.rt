@@ -42,7 +42,7 @@ fn can_leg_in(b: &[u32], g: [[Level; 2]; 8], c: Complex, a: u32, p: u32) -> bool
         return false;
     }
     let net = rules::net_of(c.side1, a, c.side2, p);
-    let limit = crossing::limit_of(c);
+    let limit = rules::limit_of(c);
     if limit < net {
         return false;
     }

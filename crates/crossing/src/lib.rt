@@ -2,9 +2,11 @@
 use levels::Level;
 use rules::Cause;
 use rules::Complex;
+use rules::lesser;
+use rules::limit_of;
 ghost use mathlib.Core.Path.{_≡_};
-ghost use mathlib.Core.Bool.{_&&_};
-ghost use Prim.Native.Nat.{ℕ, _≤_, _<_, min};
+ghost use mathlib.Core.Bool.{_&&_, _||_};
+ghost use Prim.Native.Nat.{ℕ, _≤_, _<_};
 ghost use lib.Dec.{eqb};
 ghost use lib.IntN.{ℤ, pos, natAbs, negℤ, _+ℤ_};
 ghost use lib.ListN.{length};
@@ -17,20 +19,12 @@ ghost use Rattle.wire.specs.Seen.{seen};
 ghost use Rattle.wire.specs.Stage.{stage, _does_};
 ghost use Rattle.places.specs.Layout.{size, complexesUsed, venueOf, SameCounts};
 ghost use Rattle.levels.specs.Grid.{GridOf, LegsIn};
-ghost use Rattle.crossing.specs.Picks.{pickedOf};
+ghost use Rattle.crossing.specs.Picks.{pickedOf, facingKey};
 
 // A complex order with its place, or none.
 pub enum Pick {
     Nobody,
     At(usize, Complex),
-}
-
-// A complex order's limit, in 64 bits.
-pub fn limit_of(c: Complex) -> i64
-    ensures { λ r. ⌜ (r ≡ c .limit) × (natAbs r ≤ 2147483648) ⌝ }
-{
-    let n = c.limit;
-    n as i64
 }
 
 // What an order pays in a cross with m, at m's limit.
@@ -126,15 +120,38 @@ fn better_pick(best: Pick, n: usize, m: Complex) -> Pick
     }
 }
 
-// The resting order that c crosses with first.
+// The key of an order whose legs face these two: the same series, at the opposite sides.
+fn facing_key(s: u8, d: u8, t: u8, e: u8) -> usize
+    ensures { λ r. ⌜ r ≡ facingKey s d t e ⌝ }
+{
+    let one = rules::place_of(s, rules::opposite_of(d));
+    let two = rules::place_of(t, rules::opposite_of(e));
+    16 * one + two
+}
+
+fn is_either(key: usize, one: usize, two: usize) -> bool
+    ensures { λ r. ⌜ r ≡ (eqb key one || eqb key two) ⌝ }
+{
+    if key == one {
+        return true;
+    }
+    key == two
+}
+
+// The resting order that c crosses with first. Of the others only those whose legs have the key are read.
 pub fn first_cross(b: &[u32], g: [[Level; 2]; 8], c: Complex) -> Pick
     requires { ⌜ (length (now b) ≡ size) × (GridOf g (venueOf (now b) .regular)) × (LegsIn c) ⌝ }
     ensures { λ r. ⌜ pickedOf r ≡ first (crosses (venueOf (now (b .entry))) c) limitThenId (venueOf (now (b .entry)) .complex) ⌝ }
 {
+    let straight = facing_key(c.series1, c.side1, c.series2, c.side2);
+    let turned = facing_key(c.series2, c.side2, c.series1, c.side1);
     let mut best = Pick::Nobody;
     let mut i = places::complexes_used(b);
     while 0 < i {
         i -= 1;
+        if !is_either(places::legs_at(b, i), straight, turned) {
+            continue;
+        }
         let m = places::complex_at(b, i);
         if !can_cross(b, g, c, m) {
             continue;
@@ -157,15 +174,6 @@ pub fn cross(b: &mut [u32], i: usize, j: usize, k: u32, out: &mut [u8], at: usiz
     let told = wire::emit_crossed(out, at, c.id, m.id, net_against(m), k);
     let gone = removal::remove_of(b, c.id, Cause::Executed, out, told);
     removal::remove_of(b, m.id, Cause::Executed, out, gone)
-}
-
-fn lesser(a: u32, b: u32) -> u32
-    ensures { λ r. ⌜ r ≡ min a b ⌝ }
-{
-    if a < b {
-        return a;
-    }
-    b
 }
 
 // The order at place i crosses while there is one that it crosses with.

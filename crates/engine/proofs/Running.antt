@@ -38,15 +38,15 @@ use Rattle.engine.specs.Runs.{Tries, onto, goesOn, Turns, callOf}
 -- Refusal 10 ----------------------------------------------------------------------------------
 
 module _ (n room : ℕ) (rs : List Report) where
-  no-number : 4294967295 < n → exceeds n room rs ≡ true
+  pub no-number : 4294967295 < n → exceeds n room rs ≡ true
   unfolding exceeds
   no-number h = rw (lt-ltb 4294967295 n h)
 
-  no-room : n ≤ 4294967295 → room < length (encodeAll rs) → exceeds n room rs ≡ true
+  pub no-room : n ≤ 4294967295 → room < length (encodeAll rs) → exceeds n room rs ≡ true
   unfolding exceeds
   no-room d h = rw (le-ltb 4294967295 n d, lt-ltb room (length (encodeAll rs)) h)
 
-  has-room : n ≤ 4294967295 → length (encodeAll rs) ≤ room → exceeds n room rs ≡ false
+  pub has-room : n ≤ 4294967295 → length (encodeAll rs) ≤ room → exceeds n room rs ≡ false
   unfolding exceeds
   has-room d h = rw (le-ltb 4294967295 n d, le-ltb room (length (encodeAll rs)) h)
 

@@ -1,4 +1,4 @@
-// The engine: a message upon the venue in its slice, refused or accepted, with its answer; and the run of a message list.
+// The engine: a message upon the venue in its slice, refused or accepted, with its answer; the run of a message list; one message upon a venue held by value.
 use book::Found;
 use reader::Head;
 use rules::Complex;
@@ -7,6 +7,7 @@ use rules::Listed;
 use rules::Message;
 use rules::Regular;
 use rules::Returned;
+use rules::Venue;
 ghost use mathlib.Core.Path.{_≡_};
 ghost use mathlib.Core.Bool.{true, _||_};
 ghost use Prim.Native.Nat.{ℕ, _≤_, _<_};
@@ -19,6 +20,7 @@ ghost use Rattle.rules.specs.Complex.{complex, restsRegular, restsComplex};
 ghost use Rattle.rules.specs.Refusals.{regularInRange, complexInRange, inRange, refusalOf};
 ghost use Rattle.rules.specs.Step.{setAway, setStatus, answered};
 ghost use Rattle.rules.specs.Step as step;
+ghost use Rattle.rules.specs.Calls.{called, ends};
 ghost use Rattle.rules.specs.Calls as calls;
 ghost use Rattle.demands.specs.Kept.{SoundVenue};
 ghost use Rattle.rules.specs.Standing.{settle};
@@ -29,6 +31,7 @@ ghost use Rattle.places.specs.Layout.{size, regularsUsed, complexesUsed, venueO
 ghost use Rattle.levels.specs.Grid.{LegsIn};
 ghost use Rattle.engine.specs.Steps.{answeredBy, Steps};
 ghost use Rattle.engine.specs.Runs.{Tries, Turns, callOf};
+ghost use Rattle.engine.specs.Hosts.{hosted, oneHosted};
 
 // Refusals 5 to 8 -----------------------------------------------------------------------------
 
@@ -361,11 +364,78 @@ pub fn run(messages: &[u8], report: &mut [u8]) -> Returned
     }
 }
 
+// One message upon a venue -----------------------------------------------------------------------
+
+// A call that ends before its message: the venue as it was given, and a report of zeros.
+fn end_call(number: u8, venue: Venue, report: &mut [u8]) -> Returned
+    ensures { λ r. ⌜ callOf r (now (report .exit)) ≡ called (length (now (report .entry))) (ends number venue) ⌝ }
+{
+    wire::zero_from(report, 0);
+    Returned {
+        number,
+        done: 0,
+        written: 0,
+        venue,
+    }
+}
+
+// One message upon a venue, `before` messages having gone before it. The report holds its records, then zeros.
+pub fn one_message(venue: Venue, before: u32, message: &[u8], report: &mut [u8]) -> Returned
+    ensures { λ r. ⌜ callOf r (now (report .exit)) ≡ calls.one venue before (length (now (report .entry))) (now (message .entry)) ⌝ }
+{
+    let mut b = [0u32; 779];
+    if !soundness::load_sound(&mut b, venue) {
+        return end_call(9, venue, report);
+    }
+    if before == 4294967295 {
+        return end_call(10, venue, report);
+    }
+    let r = step(&mut b, before + 1, message, report);
+    let written = r.written;
+    if report.len() < written {
+        return end_call(10, venue, report);
+    }
+    wire::zero_from(report, written);
+    let after = places::venue_of(&b);
+    Returned {
+        number: r.refused,
+        done: 1,
+        written,
+        venue: after,
+    }
+}
+
+// For a host -------------------------------------------------------------------------------------
+
 // The run, for a host: messages in, the report out, and the number that ended it returned.
 #[no_mangle]
 pub extern "C" fn legging_run(messages: &[u8], report: &mut [u8]) -> u8
     ensures { λ r. ⌜ (r ≡ calls.run (length (now (report .entry))) (now (messages .entry)) .returned .number) × (now (report .exit) ≡ calls.run (length (now (report .entry))) (now (messages .entry)) .report) ⌝ }
 {
     let r = run(messages, report);
+    r.number
+}
+
+// One message upon the venue in a host's memory, as `state` holds it; the number is returned. A memory of another length holds none.
+#[no_mangle]
+pub extern "C" fn legging_message(
+    venue: &mut [u8],
+    before: u32,
+    message: &[u8],
+    report: &mut [u8],
+) -> u8
+    ensures { λ r. ⌜ hosted r (now (venue .exit)) (now (report .exit)) ≡ oneHosted (now (venue .entry)) before (length (now (report .entry))) (now (message .entry)) ⌝ }
+{
+    if venue.len() != 2604 {
+        wire::zero_from(report, 0);
+        return 9;
+    }
+    let given = state::venue_from(venue);
+    let r = one_message(given, before, message, report);
+    if r.done == 0 {
+        return r.number;
+    }
+    let after = r.venue;
+    state::put_venue(venue, after);
     r.number
 }

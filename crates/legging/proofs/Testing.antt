@@ -1,16 +1,13 @@
 -- Laws of the standing test, as the code makes it.
 use mathlib.Core.Path.{_≡_, refl, sym, ap, ap₂, _∙_}
 use mathlib.Core.Bool.{Bool, true, false, not, _&&_, true≢false}
-use Prim.Native.Nat.{ℕ, _+_, _≤_, _<_, _/_, _%_}
+use Prim.Native.Nat.{ℕ, _+_, _<_, _/_, _%_}
 use native.Mathlib.Omega.{arith}
 use native.Mathlib.Nat.{one-mul}
 use borrow.Author.Tests.{eq-eqb, ne-eqb}
 use lib.Dec.{eqb, leb}
-use lib.IntN.{ℤ, pos, negsuc, natAbs, _+ℤ_}
+use lib.IntN.{ℤ, pos, _+ℤ_}
 use lib.Signed.{leZ}
-use mir.Syntax.{w32, w64}
-use mir.Val.{SFits, toZ, ofZ}
-use mir.ValLaws.{toZ-ofZ}
 use Rattle.rules.specs.declared.Complex.{Complex}
 use Rattle.rules.specs.declared.Legging.{Legging}
 use Rattle.rules.specs.declared.Leg.{Leg}
@@ -34,26 +31,6 @@ off r false e h = refl
 pub on : (r x : Bool) → r ≡ x → not r ≡ false → x ≡ true
 on r true e h = refl
 on r false e h = absurd (true≢false (rw e at h))
-
--- A limit of 32 bits in 64 --------------------------------------------------------------------
-
-widen : (z : ℤ) → SFits w32 z → SFits w64 z
-widen (pos n) f = let h : n < 2147483648 = f .sfits in record { sfits = omega arith }
-widen (negsuc n) f = let h : n < 2147483648 = f .sfits in record { sfits = omega arith }
-
-limit-abs : (z : ℤ) → SFits w32 z → natAbs z ≤ 2147483648
-limit-abs (pos n) f = let h : n < 2147483648 = f .sfits in omega arith
-limit-abs (negsuc n) f = let h : n < 2147483648 = f .sfits in omega arith
-
-module _ (z : ℤ) (f : SFits w32 z) where
-  pub cast-fits : SFits w64 (toZ w32 (ofZ w32 z))
-  cast-fits = rw (toZ-ofZ w32 z f) (widen z f)
-
-  cast-back : toZ w64 (ofZ w64 (toZ w32 (ofZ w32 z))) ≡ z
-  cast-back = rw (toZ-ofZ w32 z f) (toZ-ofZ w64 z (widen z f))
-
-  pub cast-is : (toZ w64 (ofZ w64 (toZ w32 (ofZ w32 z))) ≡ z) × (natAbs (toZ w64 (ofZ w64 (toZ w32 (ofZ w32 z)))) ≤ 2147483648)
-  cast-is = (cast-back, rw cast-back (limit-abs z f))
 
 -- Prices --------------------------------------------------------------------------------------
 

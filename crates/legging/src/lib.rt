@@ -4,6 +4,7 @@ use rules::Cause;
 use rules::Complex;
 use rules::Legging;
 use rules::Verdict;
+use rules::limit_of;
 ghost use mathlib.Core.Path.{_≡_};
 ghost use Prim.Native.Nat.{ℕ, _+_, _≤_, _<_, min};
 ghost use lib.IntN.{natAbs};
@@ -19,14 +20,6 @@ ghost use Rattle.wire.specs.Stage.{stage, _does_};
 ghost use Rattle.places.specs.Layout.{size, leggingIn, venueOf, SameCounts};
 ghost use Rattle.levels.specs.Grid.{GridOf, LegsIn};
 ghost use Rattle.legging.specs.Parts.{rangedPrice, pricedLeg, marketOpen, standsClear, mayStand, plannedLeg, madeBy};
-
-// A complex order's limit, in 64 bits.
-fn limit_of(c: Complex) -> i64
-    ensures { λ r. ⌜ (r ≡ c .limit) × (natAbs r ≤ 2147483648) ⌝ }
-{
-    let n = c.limit;
-    n as i64
-}
 
 // A price p at side d of series s, displayed, is no worse than the best regular of its side.
 pub fn shown_well(b: &[u32], g: [[Level; 2]; 8], s: u8, d: u8, p: u32) -> bool

@@ -1,7 +1,7 @@
 // Matching: what an order, a pair and a cancel do to the venue in its slice, with their records.
 // Each function says in one equation the venue that it leaves and all that it writes: those of its definition.
 ghost use mathlib.Core.Path.{_≡_};
-ghost use Prim.Native.Nat.{ℕ, suc, min, _≤_, _<_};
+ghost use Prim.Native.Nat.{ℕ, suc, _≤_, _<_};
 ghost use lib.IntN.{natAbs};
 ghost use lib.ListN.{length};
 ghost use Rattle.rules.specs.Words.{opposite, leggingAt};
@@ -21,15 +21,7 @@ use book::Pick;
 use rules::Cause;
 use rules::Legging;
 use rules::Regular;
-
-fn lesser(a: u32, b: u32) -> u32
-    ensures { λ r. ⌜ r ≡ min a b ⌝ }
-{
-    if a < b {
-        return a;
-    }
-    b
-}
+use rules::lesser;
 
 // A taker of a side trades k contracts with the regular order at place j.
 fn trade_with(

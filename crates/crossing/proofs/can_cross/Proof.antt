@@ -11,7 +11,6 @@ use Rattle.crossing.proofs.can_cross.Tie as tie
 use Rattle.crossing.proofs.can_cross.Reads as reads
 use Rattle.crossing.proofs.can_cross.Lts as lts
 use Rattle.crossing.proofs.is_reversed.Reads as is-reversed-reads
-use Rattle.crossing.proofs.limit_of.Reads as limit-of-reads
 use Rattle.crossing.proofs.limits_meet.Reads as limits-meet-reads
 use Rattle.crossing.proofs.net_against.Reads as net-against-reads
 use Rattle.levels.proofs.in_band.Reads as in-band-reads

@@ -9,7 +9,6 @@ use Rattle.crossing.proofs.can_touch.Statement.{statement}
 use Rattle.crossing.proofs.can_touch.Tie as tie
 use Rattle.crossing.proofs.can_touch.Reads as reads
 use Rattle.crossing.proofs.can_touch.Lts as lts
-use Rattle.crossing.proofs.limit_of.Reads as limit-of-reads
 use Rattle.levels.proofs.best_own.Reads as best-own-reads
 use Rattle.rules.proofs.net_of.Reads as net-of-reads
 use Rattle.rules.proofs.opposite_of.Reads as opposite-of-reads
