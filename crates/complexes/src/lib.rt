@@ -150,20 +150,22 @@ pub fn complex_order(b: &mut [u32], c: Complex, out: &mut [u8], at: usize) -> us
 }
 
 // Each resting complex order is worked, earliest first.
-fn work_each(b: &mut [u32], out: &mut [u8], at: usize) -> usize
-    requires { ⌜ length (now b) ≡ size ⌝ }
-    ensures { λ r. ⌜ stage (venueOf (now (b .exit))) (now (out .exit)) r ≡ seen (now (out .entry)) at does each 32 complex.work 0 (venueOf (now (b .entry))) ⌝ }
+fn work_each(b: &mut [u32], g: [[Level; 2]; 8], out: &mut [u8], at: usize) -> Worked
+    requires { ⌜ (length (now b) ≡ size) × (GridOf g (venueOf (now b) .regular)) ⌝ }
+    ensures { λ r. ⌜ stage (venueOf (now (b .exit))) (now (out .exit)) (r .at) ≡ seen (now (out .entry)) at does each 32 complex.work 0 (venueOf (now (b .entry))) ⌝ }
     ensures counts { λ _. ⌜ SameCounts (now (b .entry)) (now (b .exit)) ⌝ }
+    ensures book { λ r. ⌜ SameBook (r .traded) (now (b .entry)) (now (b .exit)) ⌝ }
 {
-    let mut grid = levels::levels(b);
+    let mut grid = g;
     let mut pos = at;
+    let mut traded = false;
     let mut id: u32 = 0;
     let mut turns: u32 = 32;
     while 0 < turns {
         turns -= 1;
         let found = book::next_above(b, id);
         let PickComplex::At(i, c) = found else {
-            return pos;
+            return Worked { at: pos, traded };
         };
         let w = work(b, grid, i, out, pos);
         pos = w.at;
@@ -171,10 +173,11 @@ fn work_each(b: &mut [u32], out: &mut [u8], at: usize) -> usize
         if !w.traded {
             continue;
         }
+        traded = true;
         let anew = levels::levels(b);
         grid = anew;
     }
-    pos
+    Worked { at: pos, traded }
 }
 
 // Generation for each resting complex order, earliest first.
@@ -204,10 +207,11 @@ pub fn sweep(b: &mut [u32], out: &mut [u8], at: usize) -> usize
     ensures { λ r. ⌜ stage (venueOf (now (b .exit))) (now (out .exit)) r ≡ seen (now (out .entry)) at does complex.sweep (venueOf (now (b .entry))) ⌝ }
     ensures counts { λ _. ⌜ SameCounts (now (b .entry)) (now (b .exit)) ⌝ }
 {
-    let worked = work_each(b, out, at);
     let g = levels::levels(b);
-    let settled = legging::settle_with(b, g, out, worked);
-    generate_each(b, g, out, settled)
+    let w = work_each(b, g, out, at);
+    let h = grid_after(b, g, w.traded);
+    let settled = legging::settle_with(b, h, out, w.at);
+    generate_each(b, h, out, settled)
 }
 
 // The resting complex order with an id is cancelled.
