@@ -3,6 +3,7 @@ use mathlib.Core.Path.{_∙_}
 use Rattle.removal.proofs.Removing.{counts-on}
 use Rattle.complexes.proofs.Working.{quiet-grid, kept-grid, settle-quiet}
 use Rattle.complexes.proofs.Sweeping.{sweep-law}
+use Rattle.complexes.proofs.Walking.{swept-rising}
 use borrow.Author.Needs.{needs}
 use Rattle.complexes.proofs.sweep.Statement.{statement}
 use Rattle.complexes.proofs.sweep.Tie as tie
@@ -21,13 +22,13 @@ work-each-requires : tie.Need-work-each-requires
 work-each-requires c κs = search needs
 
 grid-after-requires : tie.Need-grid-after-requires
-grid-after-requires c κs = (c .before .before .before .before .before .work-each .kept .0 ∙ c .before .before .before .before .before .before .before .before .before .before .before .before .pre, record { right = λ e. kept-grid (c .before .before .before .before .before .before .before .before .levels .result) _ _ _ e (c .before .before .before .before .before .work-each .ensures .1 .1) (c .before .before .before .before .before .before .before .before .levels .ensures) })
+grid-after-requires c κs = (c .before .before .before .before .before .work-each .kept .0 ∙ c .before .before .before .before .before .before .before .before .before .before .before .before .pre .0, record { right = λ e. kept-grid (c .before .before .before .before .before .before .before .before .levels .result) _ _ _ e (c .before .before .before .before .before .work-each .ensures .1 .1) (c .before .before .before .before .before .before .before .before .levels .ensures) })
 
 settle-with-requires : tie.Need-settle-with-requires
 settle-with-requires c κs = search needs
 
 generate-each-requires : tie.Need-generate-each-requires
-generate-each-requires c κs = (c .before .before .before .before .before .before .settle-with .kept .0 ∙ c .before .before .before .before .before .before .before .before .before .before .before .before .before .before .before .work-each .kept .0 ∙ c .before .before .before .before .before .before .before .before .before .before .before .before .before .before .before .before .before .before .before .before .before .before .pre, quiet-grid _ _ _ _ _ _ _ (c .before .before .before .before .before .before .settle-with .ensures .0) (settle-quiet _) (c .before .before .before .before .before .before .before .before .before .grid-after .result) (c .before .before .before .before .before .before .before .before .before .grid-after .ensures))
+generate-each-requires c κs = (c .before .before .before .before .before .before .settle-with .kept .0 ∙ c .before .before .before .before .before .before .before .before .before .before .before .before .before .before .before .work-each .kept .0 ∙ c .before .before .before .before .before .before .before .before .before .before .before .before .before .before .before .before .before .before .before .before .before .before .pre .0, quiet-grid _ _ _ _ _ _ _ (c .before .before .before .before .before .before .settle-with .ensures .0) (settle-quiet _) (c .before .before .before .before .before .before .before .before .before .grid-after .result) (c .before .before .before .before .before .before .before .before .before .grid-after .ensures), swept-rising _ _ _ _ _ _ _ _ _ (c .before .before .before .before .before .before .before .before .before .before .before .before .before .before .before .work-each .ensures .0) (c .before .before .before .before .before .before .settle-with .ensures .0) (c .before .before .before .before .before .before .before .before .before .before .before .before .before .before .before .before .before .before .before .before .before .before .pre .1))
 
 same-length : tie.Need-same-length
 same-length c = search needs
