@@ -1,5 +1,5 @@
 -- A sweep by place: where ids rise with the places, each resting order, earliest first, is each held place, from the first on.
-use mathlib.Core.Path.{_≡_, refl, sym, ap, subst, _∙_}
+use mathlib.Core.Path.{_≡_, refl, sym, ap, _∙_}
 use mathlib.Core.Bool.{Bool, true, false, not, _&&_, true≢false}
 use mathlib.Core.Logic.{inl, inr}
 use mathlib.Core.List.{List, [], _∷_}
@@ -12,20 +12,18 @@ use borrow.Author.Tests.{lt-ltb, le-ltb, ne-eqb}
 use Rattle.rules.specs.declared.Complex.{Complex}
 use Rattle.rules.specs.declared.Venue.{Venue}
 use Rattle.rules.specs.Base.{if_then_else_, held, Picked, nobody, picked, ranked, firstFrom}
-use Rattle.rules.specs.Words.{noComplex, complexAt, earlierComplex, withLegging, withRegular}
+use Rattle.rules.specs.Words.{noComplex, complexAt, earlierComplex, withLegging}
 use Rattle.rules.specs.Effects.{Effect, nothing, _⟫_}
 use Rattle.rules.specs.Removal.{remove}
 use Rattle.rules.specs.Standing.{settle}
-use Rattle.rules.specs.Trading.{fillRegular}
-use Rattle.rules.specs.Generation.{generateLeg, generate}
 use Rattle.rules.specs.Complex.{work, nextAbove, each}
 use Rattle.rules.specs.Places.{holdsComplex, blankComplex}
 use Rattle.rules.specs.Sound.{complexesSound, sound}
 use Rattle.rules.proofs.Tests.{and-l, and-r, and-in, decide}
 use Rattle.rules.proofs.Cases.{each-on, isAbove}
-use Rattle.rules.proofs.Filling.{FewerC, fewerC-refl, fewerC-trans, fill-fewerC, still-heldC, held-fitsC}
-use Rattle.rules.proofs.Keeping.{Lasts, keeps-each, keeps-settle, keeps-work}
-use Rattle.rules.proofs.Sweeping.{leg-same}
+use Rattle.rules.proofs.Filling.{FewerC, fewerC-refl, fewerC-trans, still-heldC, held-fitsC}
+use Rattle.rules.proofs.Keeping.{keeps-each}
+use Rattle.rules.proofs.Sweeping.{then-same, work-fewer}
 use Rattle.rules.proofs.Arranging.{arranged-out, blank-freeC}
 use Rattle.wire.specs.Seen.{seen}
 use Rattle.wire.specs.Stage.{stage, _does_}
@@ -148,33 +146,15 @@ module _ (a b : List Complex) (f : FewerC a b) where
     ahead = λ i q h. (let z = r .ahead i q (was i h) in let e = f .lesser i .id in omega arith);
   }
 
-fewer-lasts : (v : Venue) → Lasts (λ w. FewerC (w .complex) (v .complex))
-fewer-lasts v = record {
-  fillR = λ i k w h. unfold fillRegular withRegular in h;
-  fillC = λ i k w h. fewerC-trans (fill-fewerC i k w) h;
-  gone = λ f w h. unfold remove withLegging in h;
-}
-
-pub work-fewer : (i : ℕ) (v : Venue) → FewerC (work i v .venue .complex) (v .complex)
-work-fewer i v = keeps-work (fewer-lasts v) i v (fewerC-refl _)
-
-pub generate-fewer : (i : ℕ) (v : Venue) → FewerC (generate i v .venue .complex) (v .complex)
-unfolding generate complexAt _⟫_
-generate-fewer i v =
-    let c = getD (v .complex) i noComplex in
-    rw (leg-same (generateLeg c (c .series1) (c .side1) v .venue) c (c .series2) (c .side2), leg-same v c (c .series1) (c .side1)) (fewerC-refl _)
-
 -- ids still rise after the orders are worked and settling is done
 pub swept-rising : (v v₁ v₂ : Venue) (l₀ l₁ l₂ : List ℕ) (a₀ a₁ a₂ : ℕ) →
     stage v₁ l₁ a₁ ≡ seen l₀ a₀ does each 32 work 0 v → stage v₂ l₂ a₂ ≡ seen l₁ a₁ does settle v₁ → Rising (v .complex) → Rising (v₂ .complex)
-swept-rising v v₁ v₂ l₀ l₁ l₂ a₀ a₁ a₂ p q s = fewer-rising (v₂ .complex) (v .complex) settled s
+unfolding settle remove withLegging
+swept-rising v v₁ v₂ l₀ l₁ l₂ a₀ a₁ a₂ p q s =
+    rw (stage-venue v₂ l₂ l₁ a₂ a₁ (settle v₁) q, stage-venue v₁ l₁ l₀ a₁ a₀ (each 32 work 0 v) p) (fewer-rising (each 32 work 0 v .venue .complex) (v .complex) worked s)
   where
-    worked : FewerC (v₁ .complex) (v .complex)
-    worked = subst (λ (w : Venue). FewerC (w .complex) (v .complex)) (sym (stage-venue v₁ l₁ l₀ a₁ a₀ (each 32 work 0 v) p))
-        (keeps-each (λ w. FewerC (w .complex) (v .complex)) work (λ i w h. keeps-work (fewer-lasts v) i w h) 32 0 v (fewerC-refl _))
-
-    settled : FewerC (v₂ .complex) (v .complex)
-    settled = subst (λ (w : Venue). FewerC (w .complex) (v .complex)) (sym (stage-venue v₂ l₂ l₁ a₂ a₁ (settle v₁) q)) (keeps-settle (fewer-lasts v) v₁ worked)
+    worked : FewerC (each 32 work 0 v .venue .complex) (v .complex)
+    worked = keeps-each (λ w. FewerC (w .complex) (v .complex)) work (λ i w h. fewerC-trans (work-fewer i w) h) 32 0 v (fewerC-refl _)
 
 -- By place --------------------------------------------------------------------------------------
 
@@ -182,10 +162,6 @@ swept-rising v v₁ v₂ l₀ l₁ l₂ a₀ a₁ a₂ p q s = fewer-rising (v�
 unfoldable pub walked : (places : ℕ) → (ℕ → Venue → Effect) → (k : ℕ) → Venue → Effect
 walked zero f k v = nothing v
 walked (suc n) f k v = if held (complexAt v k .quantity) then f k v ⟫ walked n f (k + 1) else walked n f (k + 1) v
-
-then-same : (e : Effect) (f g : Venue → Effect) → f (e .venue) ≡ g (e .venue) → (e ⟫ f) ≡ (e ⟫ g)
-unfolding _⟫_
-then-same e f g h = rw h
 
 module _ (f : ℕ → Venue → Effect) (v : Venue) where
   pub walked-none : (n k : ℕ) → n ≡ 0 → nothing v ≡ walked n f k v

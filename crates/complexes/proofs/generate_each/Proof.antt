@@ -4,13 +4,14 @@ use Prim.Native.Nat.{_+_, _-_}
 use native.Mathlib.Omega.{arith}
 use Rattle.rules.specs.Complex.{each}
 use Rattle.rules.specs.Generation.{generate}
+use Rattle.rules.proofs.Sweeping.{generate-fewer}
 use Rattle.places.specs.Layout.{venueOf}
 use Rattle.places.proofs.Parts.{complex-at}
 use Rattle.levels.specs.Grid.{GridOf}
 use Rattle.crossing.proofs.Loops.{Doing, doing-start, doing-turn, doing-end, doing-room}
 use Rattle.complexes.proofs.Working.{quiet-grid}
 use Rattle.complexes.proofs.Sweeping.{generate-quiet}
-use Rattle.complexes.proofs.Walking.{generate-fewer, walked, walked-none, walked-past, walked-turn, each-walked, doing-past}
+use Rattle.complexes.proofs.Walking.{walked, walked-none, walked-past, walked-turn, each-walked, doing-past}
 use borrow.Author.Needs.{needs}
 use Rattle.complexes.proofs.generate_each.Statement.{statement}
 use Rattle.complexes.proofs.generate_each.Tie as tie

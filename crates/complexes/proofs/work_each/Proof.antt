@@ -5,13 +5,14 @@ use Prim.Native.Nat.{_+_, _-_}
 use native.Mathlib.Omega.{arith}
 use Rattle.rules.specs.Complex.{work, each}
 use Rattle.rules.proofs.Tests.{not-out}
+use Rattle.rules.proofs.Sweeping.{work-fewer}
 use Rattle.places.specs.Layout.{venueOf}
 use Rattle.places.proofs.Parts.{complex-at}
 use Rattle.levels.specs.Grid.{GridOf}
 use Rattle.crossing.proofs.Loops.{Doing, doing-start, doing-turn, doing-end, doing-room}
 use Rattle.complexes.specs.Grids.{SameBook}
 use Rattle.complexes.proofs.Working.{kept-grid, book-kept}
-use Rattle.complexes.proofs.Walking.{work-fewer, walked, walked-none, walked-past, walked-turn, each-walked, doing-past}
+use Rattle.complexes.proofs.Walking.{walked, walked-none, walked-past, walked-turn, each-walked, doing-past}
 use borrow.Author.Needs.{needs}
 use Rattle.complexes.proofs.work_each.Statement.{statement}
 use Rattle.complexes.proofs.work_each.Tie as tie
