@@ -97,6 +97,10 @@ kept-grid g t a b e s h = subst (λ (os : List Regular). GridOf g os) (sym (s .s
 pub book-on : (t : Bool) (a b c : List ℕ) → venueOf b .regular ≡ venueOf a .regular → SameBook t b c → SameBook t a c
 book-on t a b c e s = record { same = λ h. s .same h ∙ e }
 
+-- a step without a trade tells no more of the regular orders than was told before it
+pub book-kept : (t u : Bool) (a b c : List ℕ) → u ≡ false → SameBook t a b → SameBook u b c → SameBook t a c
+book-kept t u a b c e s r = record { same = λ h. r .same e ∙ s .same h }
+
 -- The steps -----------------------------------------------------------------------------------
 
 module _ (i : ℕ) (v : Venue) (c : Complex) (ec : c ≡ complexAt v i) where

@@ -1,7 +1,6 @@
 // What the messages do: an order, a complex order, a sweep and a cancel, each with its settling; and how a complex order is worked.
 // Each function says in one equation the venue that it leaves and all that it writes: those of its definition.
 use book::Found;
-use book::PickComplex;
 use levels::Level;
 use levels::Taken;
 use rules::Complex;
@@ -22,6 +21,7 @@ ghost use Rattle.places.specs.Layout.{size, regularsUsed, complexesUsed, venueO
 ghost use Rattle.levels.specs.Grid.{GridOf, LegsIn, TakenOf};
 ghost use Rattle.complexes.specs.Effects.{withdrawn};
 ghost use Rattle.complexes.specs.Grids.{SameBook, RightUnless};
+ghost use Rattle.complexes.specs.Rising.{Rising};
 
 // Where the report stands, and whether regular orders were traded with: if not, a grid of their prices is still right.
 pub struct Worked {
@@ -161,50 +161,53 @@ pub fn complex_order(b: &mut [u32], c: Complex, out: &mut [u8], at: usize) -> us
     legging::generate_order(b, h, i, out, settled)
 }
 
-// Each resting complex order is worked, earliest first.
-fn work_each(b: &mut [u32], out: &mut [u8], at: usize) -> usize
-    requires { ⌜ length (now b) ≡ size ⌝ }
-    ensures { λ r. ⌜ stage (venueOf (now (b .exit))) (now (out .exit)) r ≡ seen (now (out .entry)) at does each 32 complex.work 0 (venueOf (now (b .entry))) ⌝ }
+// Each resting complex order is worked, earliest first: ids rise with the places.
+fn work_each(b: &mut [u32], g: [[Level; 2]; 8], out: &mut [u8], at: usize) -> Worked
+    requires { ⌜ (length (now b) ≡ size) × (GridOf g (venueOf (now b) .regular)) × (Rising (venueOf (now b) .complex)) ⌝ }
+    ensures { λ r. ⌜ stage (venueOf (now (b .exit))) (now (out .exit)) (r .at) ≡ seen (now (out .entry)) at does each 32 complex.work 0 (venueOf (now (b .entry))) ⌝ }
     ensures counts { λ _. ⌜ SameCounts (now (b .entry)) (now (b .exit)) ⌝ }
+    ensures book { λ r. ⌜ SameBook (r .traded) (now (b .entry)) (now (b .exit)) ⌝ }
 {
-    let mut grid = levels::levels(b);
+    let used = places::complexes_used(b);
+    let mut grid = g;
     let mut pos = at;
-    let mut id: u32 = 0;
-    let mut turns: u32 = 32;
-    while 0 < turns {
-        turns -= 1;
-        let found = book::next_above(b, id);
-        let PickComplex::At(i, c) = found else {
-            return pos;
-        };
+    let mut traded = false;
+    let mut k: usize = 0;
+    while k < used {
+        let i = k;
+        k += 1;
+        let c = places::complex_at(b, i);
+        if c.quantity == 0 {
+            continue;
+        }
         let w = work(b, grid, i, out, pos);
         pos = w.at;
-        id = c.id;
         if !w.traded {
             continue;
         }
+        traded = true;
         let anew = levels::levels(b);
         grid = anew;
     }
-    pos
+    Worked { at: pos, traded }
 }
 
 // Generation for each resting complex order, earliest first.
 fn generate_each(b: &mut [u32], g: [[Level; 2]; 8], out: &mut [u8], at: usize) -> usize
-    requires { ⌜ (length (now b) ≡ size) × (GridOf g (venueOf (now b) .regular)) ⌝ }
+    requires { ⌜ (length (now b) ≡ size) × (GridOf g (venueOf (now b) .regular)) × (Rising (venueOf (now b) .complex)) ⌝ }
     ensures { λ r. ⌜ stage (venueOf (now (b .exit))) (now (out .exit)) r ≡ seen (now (out .entry)) at does each 32 generate 0 (venueOf (now (b .entry))) ⌝ }
     ensures counts { λ _. ⌜ SameCounts (now (b .entry)) (now (b .exit)) ⌝ }
 {
+    let used = places::complexes_used(b);
     let mut pos = at;
-    let mut id: u32 = 0;
-    let mut turns: u32 = 32;
-    while 0 < turns {
-        turns -= 1;
-        let found = book::next_above(b, id);
-        let PickComplex::At(i, c) = found else {
-            return pos;
-        };
-        id = c.id;
+    let mut k: usize = 0;
+    while k < used {
+        let i = k;
+        k += 1;
+        let c = places::complex_at(b, i);
+        if c.quantity == 0 {
+            continue;
+        }
         pos = legging::generate_order(b, g, i, out, pos);
     }
     pos
@@ -212,14 +215,15 @@ fn generate_each(b: &mut [u32], g: [[Level; 2]; 8], out: &mut [u8], at: usize) -
 
 // All resting complex orders are worked; then settling, once, and generation.
 pub fn sweep(b: &mut [u32], out: &mut [u8], at: usize) -> usize
-    requires { ⌜ length (now b) ≡ size ⌝ }
+    requires { ⌜ (length (now b) ≡ size) × (Rising (venueOf (now b) .complex)) ⌝ }
     ensures { λ r. ⌜ stage (venueOf (now (b .exit))) (now (out .exit)) r ≡ seen (now (out .entry)) at does complex.sweep (venueOf (now (b .entry))) ⌝ }
     ensures counts { λ _. ⌜ SameCounts (now (b .entry)) (now (b .exit)) ⌝ }
 {
-    let worked = work_each(b, out, at);
     let g = levels::levels(b);
-    let settled = legging::settle_with(b, g, out, worked);
-    generate_each(b, g, out, settled)
+    let w = work_each(b, g, out, at);
+    let h = grid_after(b, g, w.traded);
+    let settled = legging::settle_with(b, h, out, w.at);
+    generate_each(b, h, out, settled)
 }
 
 // The resting complex order with an id is cancelled.
