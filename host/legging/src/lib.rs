@@ -1,0 +1,34 @@
+//! The legging order engine for Rust hosts: a safe wrapper over the archive that
+//! `rt staticlib engine` writes.
+//!
+//! [`run`] takes a whole message list from a fresh venue. After a call the report
+//! memory is the records done, then zeros to its end; what it held before is not
+//! read. A call keeps nothing, allocates nothing and shares no state with another,
+//! so calls may run on any number of threads at once.
+//!
+//! The bytes of messages and records are told in `include/legging.h`.
+//!
+//! ```
+//! use legging::{run, Number};
+//!
+//! // A sweep of the fresh venue: one answer, then zeros.
+//! let mut report = [0xFF; 16];
+//! let number = run(&[4, 0, 6, 0], &mut report);
+//! assert_eq!(number, Number::DONE);
+//! assert_eq!(report[..4], [12, 0, 64, 0]);
+//! assert_eq!(report[12..], [0; 4]);
+//! ```
+
+mod archive;
+mod number;
+
+pub use archive::run;
+pub use number::Number;
+
+#[cfg(feature = "message")]
+mod venue;
+
+#[cfg(feature = "message")]
+pub use archive::{one_message, one_message_in};
+#[cfg(feature = "message")]
+pub use venue::{VenueBytes, VENUE_BYTES};
