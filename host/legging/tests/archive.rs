@@ -1,0 +1,103 @@
+//! The wrapper over the archive: what its callers are promised.
+
+use legging::{run, Number};
+use sessions::record::{print_sheet, read_report};
+use sessions::text::encode_session;
+
+const SESSION: &str = include_str!("../../venue/tests/sessions/printed.txt");
+
+const SHEET: &str = "\
+64 1 0 0 0
+64 2 0 0 0
+64 3 0 0 0
+64 4 0 0 0
+64 5 0 5 2
+67 3 0 0 115 115 8
+67 3 1 0 75 75 8
+64 6 0 0 0
+65 0 1 115 5 4 3
+65 1 0 90 5 3 2
+66 3 205 5
+68 3 0 0 3
+68 3 1 0 3
+";
+
+fn messages() -> Vec<u8> {
+    encode_session(SESSION).expect("the stored session is good")
+}
+
+fn sheet(report: &[u8]) -> String {
+    print_sheet(&read_report(report).expect("whole records"))
+}
+
+#[test]
+fn the_printed_session() {
+    let mut report = [0xC3; 400];
+    assert_eq!(run(&messages(), &mut report), Number::DONE);
+    assert_eq!(sheet(&report), SHEET);
+}
+
+#[test]
+fn a_run_ends_before_the_message_that_does_not_fit() {
+    let mut report = [0xC3; 35];
+    assert_eq!(run(&messages(), &mut report), Number::NO_ROOM);
+    assert_eq!(sheet(&report), "64 1 0 0 0\n64 2 0 0 0\n");
+    assert_eq!(report[24..], [0; 11]);
+}
+
+#[test]
+fn a_torn_list_is_answered() {
+    let mut report = [0xC3; 20];
+    assert_eq!(run(&[9, 0, 6], &mut report), Number::TORN);
+    assert_eq!(sheet(&report), "64 1 1 0 0\n");
+}
+
+#[test]
+fn empty_slices() {
+    assert_eq!(run(&[], &mut []), Number::DONE);
+    assert_eq!(run(&[4, 0, 6, 0], &mut []), Number::NO_ROOM);
+    let mut report = [0xC3; 3];
+    assert_eq!(run(&[], &mut report), Number::DONE);
+    assert_eq!(report, [0; 3]);
+}
+
+#[test]
+fn null_with_length_0() {
+    extern "C" {
+        fn legging_run(messages: *const u8, n: usize, report: *mut u8, m: usize) -> u8;
+    }
+    let (nothing, nowhere) = (std::ptr::null(), std::ptr::null_mut());
+    let sweep = [4, 0, 6, 0];
+    let mut report = [0xC3; 3];
+    // SAFETY: each pointer is null with the length 0, or an array with its length.
+    unsafe {
+        assert_eq!(legging_run(nothing, 0, nowhere, 0), 0);
+        assert_eq!(legging_run(sweep.as_ptr(), 4, nowhere, 0), 10);
+        assert_eq!(legging_run(nothing, 0, report.as_mut_ptr(), 3), 0);
+    }
+    assert_eq!(report, [0; 3]);
+}
+
+#[test]
+fn calls_at_once_do_not_meet() {
+    let messages = messages();
+    std::thread::scope(|scope| {
+        for _ in 0..4 {
+            scope.spawn(|| {
+                for _ in 0..500 {
+                    let mut report = [0xC3; 400];
+                    run(&messages, &mut report);
+                    assert_eq!(sheet(&report), SHEET);
+                }
+            });
+        }
+    });
+}
+
+#[test]
+fn numbers_have_words() {
+    assert_eq!(Number::DONE.to_string(), "0: done");
+    assert_eq!(Number::UNSOUND.to_string(), "9: the venue is unsound");
+    assert!(Number::NO_SUCH_ORDER.is_done() && !Number::UNSOUND.is_done());
+    assert_eq!(Number::NO_ROOM.get(), 10);
+}
