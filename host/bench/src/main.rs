@@ -1,6 +1,8 @@
 //! `bench`: the engine timed beside the reference, on the same bytes in one
 //! process. Tables go to standard output as Markdown.
 
+#[cfg(feature = "message")]
+mod calls;
 mod clock;
 mod layers;
 mod lists;
@@ -20,7 +22,7 @@ bench: the engine timed beside the reference, in ns
   bench [TABLE ...] [--rounds N] [--seeds N] [--sessions N] [--only NAME] [--quick]
   bench spin NAME [--book N] [--times N] [--who engine|reference]
 
-Tables: profiles, blocks, growing, books, layers; all of them where none is named.
+Tables: profiles, blocks, growing, books, layers, calls, call-layers; all of them where none is named.
 Each cell is the least and the median of the rounds (default 15), the ratio is
 reference / engine of the least: above 1 the engine is faster.
 
@@ -31,6 +33,10 @@ reference / engine of the least: above 1 the engine is faster.
   books      an order that rests and its cancel, on books from 1 to 128 orders
   layers     one piece of work at a time on books of 8, 32 and 128 orders: the run of
              a prefix and 1,000 units, less the run of the prefix, by 1,000
+  calls      each message of the generator's sessions as a one-message call upon the
+             venue before it, with report memory of 10,112 bytes: eight calls are
+             timed together, least of the rounds for each message
+  call-layers  the messages of a unit as such calls
 
 --only keeps the profiles and layers of that name. --quick is 5 rounds, 10 seeds and
 200 sessions. Times are processor times of the thread. Both contenders run in turn,
@@ -114,7 +120,7 @@ pub fn value<T: std::str::FromStr>(option: &str, word: Option<&String>) -> Resul
 
 type Make = fn(&Options) -> Result<String, String>;
 
-const TABLES: [(&str, &str, Make); 5] = [
+const TABLES: &[(&str, &str, Make)] = &[
     (
         "profiles",
         "Run, ns for a message: whole sessions",
@@ -136,6 +142,18 @@ const TABLES: [(&str, &str, Make); 5] = [
         runs::books,
     ),
     ("layers", "Run, ns for a unit: layers", runs::layers),
+    #[cfg(feature = "message")]
+    (
+        "calls",
+        "One-message call, ns: each message of the sessions",
+        calls::profiles,
+    ),
+    #[cfg(feature = "message")]
+    (
+        "call-layers",
+        "One-message calls, ns for a unit: layers",
+        calls::layers,
+    ),
 ];
 
 fn perform(arguments: &[String]) -> Result<(), String> {

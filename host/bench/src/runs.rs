@@ -10,11 +10,11 @@ use sessions::profile::Profile;
 
 type Table = Result<String, String>;
 
-const CONTENDERS: [&str; 3] = ["engine", "reference", "ratio"];
+pub const CONTENDERS: [&str; 3] = ["engine", "reference", "ratio"];
 
 /// The cells of both contenders' least and median times, and the ratio of the
 /// least.
-fn cells(times: &Both<Times>) -> Vec<String> {
+pub fn cells(times: &Both<Times>) -> Vec<String> {
     let least = times.least();
     let median = times.median();
     vec![
@@ -102,7 +102,7 @@ pub fn blocks(options: &Options) -> Table {
 }
 
 /// Median, 99 percent and worst of both, and the ratio of the medians.
-fn spread(all: &Both<Vec<f64>>) -> Vec<String> {
+pub fn spread(all: &Both<Vec<f64>>) -> Vec<String> {
     let parts = |values: &[f64]| [0.5, 0.99, 1.0].map(|part| quantile(values, part));
     let (engine, reference) = (parts(&all.engine), parts(&all.reference));
     let medians = Both {
