@@ -135,8 +135,7 @@ pub fn growing(options: &Options) -> Table {
     let mut table = header(&[&["messages in a list", "lists"], &CONTENDERS[..]].concat());
     let sessions = closed_sessions(Profile::Mixed, options.sessions);
     let messages = messages_in(&sessions);
-    for parts in [1, 10, 100, 1_000].map(|part| options.sessions / part) {
-        let part = sessions.len().div_ceil(parts.max(1));
+    for part in [1, 10, 100, sessions.len()] {
         let lists = sessions.chunks(part).map(joined);
         let count = lists.len();
         let times = race_all(lists, messages, options.rounds)?;
