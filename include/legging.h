@@ -12,6 +12,7 @@
  *   All memory is the host's. A call keeps no pointer after it returns, allocates
  *   nothing, reads and writes no file, and needs less than 32 KiB of stack.
  *   - `messages` (or `message`) is only read. Bytes past its length are not.
+ *   - `venue` is read, and written where the message was accepted.
  *   - `report` is written from its first byte to its last, whatever the call
  *     ends with: the records done, then zeros. What it held before is not read.
  *   - A pointer with the length 0 may be NULL; otherwise it points to as many
@@ -69,6 +70,9 @@
 #define LEGGING_UNSOUND       9u /* the venue given is no sound venue */
 #define LEGGING_NO_ROOM      10u /* the next message's records do not fit, or its number would pass 4,294,967,295 */
 
+#define LEGGING_VENUE_BYTES 2604u /* a venue held by a host */
+#define LEGGING_MOST_BYTES 10112u /* no message upon a sound venue writes more */
+
 #ifdef __cplusplus
 extern "C" {
 #endif
@@ -88,6 +92,37 @@ extern "C" {
  */
 uint8_t legging_run(const uint8_t *messages, size_t messages_len,
                     uint8_t *report, size_t report_len);
+
+/*
+ * Takes one message upon a venue that the host holds; `before` messages went
+ * before it, and its own number is one more.
+ *
+ * `venue` is LEGGING_VENUE_BYTES bytes. The fresh venue is all zeros; after that,
+ * hand over what the last call left. Its bytes, without padding:
+ *
+ *     128 regular orders   id u32, series u8, side u8, price u32, quantity u32
+ *      32 complex orders   id u32, series u8, side u8, series u8, side u8, class u8,
+ *                          limit i32, quantity u32
+ *      16 legging orders   parent's id u32, price u32, quantity u32; at 2 * series + side
+ *       8 series           status u8, away bid u32, away offer u32
+ *         last id u32
+ *
+ * Held places come first, in rising id; free places are zero. Equal states are
+ * equal bytes, so a venue may be copied, kept and compared as bytes.
+ *
+ * Only the first message of `message` is read. Returns
+ *   LEGGING_DONE     accepted: `venue` is the venue that follows, `report` the
+ *                    message's answer and records;
+ *   1 to 8           refused: `venue` as it was, `report` the answer;
+ *   LEGGING_UNSOUND  `venue_len` is not LEGGING_VENUE_BYTES, or the bytes are no sound
+ *                    venue: `venue` as it was, `report` all zeros. A venue that
+ *                    a call left is always sound;
+ *   LEGGING_NO_ROOM  the records do not fit, or `before` is 4,294,967,295: `venue` as
+ *                    it was, `report` all zeros. LEGGING_MOST_BYTES are always enough.
+ */
+uint8_t legging_message(uint8_t *venue, size_t venue_len, uint32_t before,
+                        const uint8_t *message, size_t message_len,
+                        uint8_t *report, size_t report_len);
 
 #ifdef __cplusplus
 }

@@ -1,8 +1,8 @@
 /*
- * A host of the legging order engine in C: runs a message list and prints the
- * number that ended the run and a line for each record.
+ * A host of the legging order engine in C: does a message list, by one run or
+ * message by message, and prints a line for each record and the number at the end.
  *
- *     host [--hex] [--room BYTES] [FILE]
+ *     host [--each] [--hex] [--room BYTES] [FILE]
  */
 #include "legging.h"
 
@@ -13,26 +13,27 @@
 #include <stdlib.h>
 #include <string.h>
 
-enum { ENDED_EARLY = 3 }; /* exit status: the run did not reach the list's end */
+enum { ENDED_EARLY = 3 }; /* exit status: the list's end was not reached */
 
 static const char USAGE[] =
-    "usage: host [--hex] [--room BYTES] [FILE]\n"
+    "usage: host [--each] [--hex] [--room BYTES] [FILE]\n"
     "\n"
-    "Runs the message list in FILE, or on standard input where FILE is left out or -,\n"
-    "from a fresh venue. Prints the number that ended the run, then a line for each\n"
-    "record: its kind and its fields in table order.\n"
+    "Does the message list in FILE, or on standard input where FILE is left out or -,\n"
+    "from a fresh venue. Prints a line for each record, its kind and its fields in\n"
+    "table order, and last the number that ended it.\n"
     "\n"
+    "  --each        message by message, upon a venue held here; otherwise by one run\n"
     "  --hex         print each record's bytes in hexadecimal\n"
-    "  --room BYTES  run with report memory of this length; otherwise it grows until\n"
-    "                the whole list fits\n"
+    "  --room BYTES  report memory of this length; otherwise it is always enough\n"
     "  --help        this text\n"
     "\n"
-    "The exit status is 0 when the whole list was done, 3 when the run ended early\n"
+    "The exit status is 0 when the whole list was done, 3 when it ended early\n"
     "(number 1 or 10), 1 when the input was not read or memory not had, 2 for a wrong\n"
     "command line.\n";
 
 struct options {
     const char *file;
+    bool each;
     bool hex;
     bool has_room;
     size_t room;
@@ -63,12 +64,14 @@ static size_t room_of(const char *word)
 
 static struct options options_of(int count, char **words)
 {
-    struct options options = {.file = NULL, .hex = false, .has_room = false, .room = 0};
+    struct options options = {.file = NULL, .each = false, .hex = false, .has_room = false, .room = 0};
     for (int i = 1; i < count; i++) {
         const char *word = words[i];
         if (strcmp(word, "--help") == 0) {
             fputs(USAGE, stdout);
             exit(0);
+        } else if (strcmp(word, "--each") == 0) {
+            options.each = true;
         } else if (strcmp(word, "--hex") == 0) {
             options.hex = true;
         } else if (strcmp(word, "--room") == 0) {
@@ -136,37 +139,6 @@ static struct bytes read_messages(const char *file)
     struct bytes messages = read_all(opened, file);
     fclose(opened);
     return messages;
-}
-
-/* The run ---------------------------------------------------------------------- */
-
-/* A run starts from a fresh venue, so where the memory was too short it is made
- * again with more. */
-static uint8_t run(struct options options, struct bytes messages, struct bytes *report)
-{
-    report->length = options.has_room ? options.room : 65536;
-    for (;;) {
-        report->at = resized(report->at, report->length);
-        uint8_t number = legging_run(messages.at, messages.length, report->at, report->length);
-        bool is_short = number == LEGGING_NO_ROOM && report->length <= PTRDIFF_MAX / 2;
-        if (options.has_room || !is_short)
-            return number;
-        report->length *= 2;
-    }
-}
-
-static const char *meaning(uint8_t number)
-{
-    switch (number) {
-    case LEGGING_DONE:
-        return "the whole list was done";
-    case LEGGING_TORN:
-        return "the list ends in the middle of a message";
-    case LEGGING_NO_ROOM:
-        return "the report memory is full, or the message numbers are used up";
-    default:
-        return "not a number of a run";
-    }
 }
 
 /* Records ---------------------------------------------------------------------- */
@@ -243,16 +215,75 @@ static void print_records(struct bytes report, bool hex)
     }
 }
 
+/* The calls -------------------------------------------------------------------- */
+
+/* A run starts from a fresh venue, so where the memory was too short it is made
+ * again with more. */
+static uint8_t run(struct options options, struct bytes messages)
+{
+    struct bytes report = {NULL, options.has_room ? options.room : 65536};
+    uint8_t number = LEGGING_DONE;
+    for (;;) {
+        report.at = resized(report.at, report.length);
+        number = legging_run(messages.at, messages.length, report.at, report.length);
+        bool is_short = number == LEGGING_NO_ROOM && report.length <= PTRDIFF_MAX / 2;
+        if (options.has_room || !is_short)
+            break;
+        report.length *= 2;
+    }
+    print_records(report, options.hex);
+    free(report.at);
+    return number;
+}
+
+/* The same list by one-message calls: the venue is held here, and each message is
+ * told how many went before it. */
+static uint8_t run_each(struct options options, struct bytes messages)
+{
+    uint8_t venue[LEGGING_VENUE_BYTES] = {0};
+    struct bytes report = {NULL, options.has_room ? options.room : LEGGING_MOST_BYTES};
+    uint8_t number = LEGGING_DONE;
+    uint32_t before = 0;
+    size_t at = 0;
+    report.at = resized(report.at, report.length);
+    while (at < messages.length) {
+        const uint8_t *message = messages.at + at;
+        number = legging_message(venue, sizeof venue, before, message, messages.length - at,
+                                 report.at, report.length);
+        print_records(report, options.hex);
+        if (number == LEGGING_TORN || number >= LEGGING_UNSOUND)
+            break;
+        number = LEGGING_DONE; /* a message refused with 2 to 8 is passed over */
+        before += 1;
+        at += number_at(message, 2);
+    }
+    free(report.at);
+    return number;
+}
+
+static const char *meaning(uint8_t number)
+{
+    switch (number) {
+    case LEGGING_DONE:
+        return "the whole list was done";
+    case LEGGING_TORN:
+        return "the list ends in the middle of a message";
+    case LEGGING_UNSOUND:
+        return "the venue is unsound";
+    case LEGGING_NO_ROOM:
+        return "the report memory is full, or the message numbers are used up";
+    default:
+        return "not a number that ends a list";
+    }
+}
+
 int main(int count, char **words)
 {
     struct options options = options_of(count, words);
     struct bytes messages = read_messages(options.file);
-    struct bytes report = {NULL, 0};
-    uint8_t number = run(options, messages, &report);
+    uint8_t number = options.each ? run_each(options, messages) : run(options, messages);
     printf("number %u: %s\n", (unsigned)number, meaning(number));
-    print_records(report, options.hex);
     free(messages.at);
-    free(report.at);
     if (fflush(stdout) != 0) {
         fprintf(stderr, "host: the output was not written: %s\n", strerror(errno));
         return 1;

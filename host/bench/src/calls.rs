@@ -7,15 +7,14 @@ use crate::race::{Both, Times};
 use crate::runs::{cells, spread, CONTENDERS};
 use crate::table::{header, number, row};
 use crate::Options;
-use legging::VenueBytes;
+use legging::{VenueBytes, MOST_BYTES};
 use reference::Venue;
 use sessions::held::to_bytes;
 use sessions::message::split;
 use sessions::profile::Profile;
 use std::hint::black_box;
 
-/// The most that a message upon a sound venue writes.
-const ROOM: usize = 10_112;
+const ROOM: usize = MOST_BYTES;
 
 /// Calls timed together; the engine's are each upon a copy of the venue, made
 /// beforehand.

@@ -1,7 +1,6 @@
 //! `bench`: the engine timed beside the reference, on the same bytes in one
 //! process. Tables go to standard output as Markdown.
 
-#[cfg(feature = "message")]
 mod calls;
 mod clock;
 mod layers;
@@ -142,13 +141,11 @@ const TABLES: &[(&str, &str, Make)] = &[
         runs::books,
     ),
     ("layers", "Run, ns for a unit: layers", runs::layers),
-    #[cfg(feature = "message")]
     (
         "calls",
         "One-message call, ns: each message of the sessions",
         calls::profiles,
     ),
-    #[cfg(feature = "message")]
     (
         "call-layers",
         "One-message calls, ns for a unit: layers",

@@ -17,10 +17,7 @@ impl Engine for Archive {
     }
 
     fn message(&self, venue: &mut [u8], before: u32, message: &[u8], report: &mut [u8]) -> u8 {
-        #[cfg(feature = "message")]
-        return legging::one_message_in(venue, before, message, report).get();
-        #[cfg(not(feature = "message"))]
-        Reference.message(venue, before, message, report)
+        legging::one_message_in(venue, before, message, report).get()
     }
 }
 

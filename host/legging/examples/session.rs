@@ -1,9 +1,10 @@
-//! The printed session of document 01, by the run: opens two series, offers in
-//! both, a complex order that is shown in both books, and an order that hits it.
+//! The printed session of document 01: opens two series, offers in both, a complex
+//! order that is shown in both books, and an order that hits it. First by one run,
+//! then message by message upon a venue held here: the records are the same.
 //!
 //!     cargo run --release --offline -p legging --example session
 
-use legging::{run, Number};
+use legging::{one_message, run, Number, VenueBytes, MOST_BYTES};
 
 /// A message: its length, its kind, its fields.
 fn message(kind: u16, fields: &[&[u8]]) -> Vec<u8> {
@@ -63,8 +64,21 @@ fn main() {
     let mut report = [0; 4_096];
     let number = run(&messages.concat(), &mut report);
     println!("{number}");
-    assert_eq!(number, Number::DONE);
     for record in records(&report) {
         println!("kind {}: {:02x?}", record[2], &record[4..]);
     }
+
+    let mut venue = VenueBytes::fresh();
+    let mut told = Vec::new();
+    for (message, before) in messages.iter().zip(0..) {
+        let mut report = [0; MOST_BYTES];
+        let number = one_message(&mut venue, before, message, &mut report);
+        assert_eq!(number, Number::DONE);
+        told.extend(records(&report).concat());
+    }
+    assert_eq!(told, records(&report).concat());
+    println!(
+        "the same message by message; the last id is {}",
+        venue.last_id()
+    );
 }

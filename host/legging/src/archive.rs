@@ -1,7 +1,6 @@
 //! The calls of the archive. All of the wrapper's unsafe code is here.
 
 use crate::number::Number;
-#[cfg(feature = "message")]
 use crate::venue::VenueBytes;
 
 extern "C" {
@@ -12,7 +11,6 @@ extern "C" {
         report_len: usize,
     ) -> u8;
 
-    #[cfg(feature = "message")]
     fn legging_message(
         venue: *mut u8,
         venue_len: usize,
@@ -52,7 +50,6 @@ pub fn run(messages: &[u8], report: &mut [u8]) -> Number {
 /// 8) leaves the venue as it was. Both are answered in `report`. With
 /// [`Number::UNSOUND`] and [`Number::NO_ROOM`] nothing was done: the venue is as
 /// given and `report` all zeros.
-#[cfg(feature = "message")]
 pub fn one_message(
     venue: &mut VenueBytes,
     before: u32,
@@ -64,7 +61,6 @@ pub fn one_message(
 
 /// As [`one_message`], upon venue memory of any length: with other than
 /// [`VENUE_BYTES`](crate::VENUE_BYTES) bytes the number is [`Number::UNSOUND`].
-#[cfg(feature = "message")]
 pub fn one_message_in(venue: &mut [u8], before: u32, message: &[u8], report: &mut [u8]) -> Number {
     // SAFETY: the three slices are whole for their lengths and cannot overlap; the
     // call reads `message`, writes the other two, and keeps none.

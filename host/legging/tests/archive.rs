@@ -1,6 +1,7 @@
 //! The wrapper over the archive: what its callers are promised.
 
-use legging::{run, Number};
+use legging::{one_message, one_message_in, run, Number, VenueBytes, MOST_BYTES, VENUE_BYTES};
+use sessions::message::split;
 use sessions::record::{print_sheet, read_report};
 use sessions::text::encode_session;
 
@@ -62,20 +63,92 @@ fn empty_slices() {
 }
 
 #[test]
-fn null_with_length_0() {
-    extern "C" {
-        fn legging_run(messages: *const u8, n: usize, report: *mut u8, m: usize) -> u8;
+fn the_printed_session_message_by_message() {
+    let mut venue = VenueBytes::fresh();
+    let mut told = String::new();
+    for (message, before) in split(&messages()).into_iter().zip(0..) {
+        let mut report = [0xC3; MOST_BYTES];
+        let number = one_message(&mut venue, before, message, &mut report);
+        assert_eq!(number, Number::DONE);
+        told += &sheet(&report);
     }
+    assert_eq!(told, SHEET);
+    assert_eq!(venue.last_id(), 4);
+}
+
+#[test]
+fn a_message_that_was_not_done_leaves_the_venue() {
+    let fresh = VenueBytes::fresh();
+    let mut venue = fresh.clone();
+    let mut report = [0xC3; 20];
+    let sweep = [4, 0, 6, 0];
+    let number = one_message(&mut venue, u32::MAX, &sweep, &mut report);
+    assert_eq!((number, &venue, report), (Number::NO_ROOM, &fresh, [0; 20]));
+    let mut short = [0xC3; 11];
+    let number = one_message(&mut venue, 0, &sweep, &mut short);
+    assert_eq!((number, &venue, short), (Number::NO_ROOM, &fresh, [0; 11]));
+    let number = one_message(&mut venue, 0, &[8, 0, 3, 0, 9, 0, 0, 0], &mut report);
+    assert_eq!((number, &venue), (Number::NO_SUCH_ORDER, &fresh));
+    assert_eq!(sheet(&report), "64 1 8 0 0\n");
+    let number = one_message(&mut venue, 0, &[], &mut report);
+    assert_eq!((number, &venue), (Number::TORN, &fresh));
+}
+
+#[test]
+fn an_unsound_venue_is_left_as_given() {
+    let mut bytes = [0; VENUE_BYTES];
+    bytes[0] = 1; // an id in a free place
+    let unsound = VenueBytes::from_bytes(bytes);
+    let mut venue = unsound.clone();
+    let mut report = [0xC3; 20];
+    let number = one_message(&mut venue, 0, &[4, 0, 6, 0], &mut report);
+    assert_eq!(number, Number::UNSOUND);
+    assert_eq!((venue, report), (unsound, [0; 20]));
+}
+
+#[test]
+fn venue_memory_of_another_length_is_unsound() {
+    for length in [0, 1, VENUE_BYTES - 1, VENUE_BYTES + 1] {
+        let mut venue = vec![0x77; length];
+        let mut report = [0xC3; 20];
+        let number = one_message_in(&mut venue, 0, &[4, 0, 6, 0], &mut report);
+        assert_eq!((number, report), (Number::UNSOUND, [0; 20]));
+        assert_eq!(venue, vec![0x77; length]);
+    }
+}
+
+extern "C" {
+    fn legging_run(messages: *const u8, n: usize, report: *mut u8, m: usize) -> u8;
+
+    fn legging_message(
+        venue: *mut u8,
+        venue_len: usize,
+        before: u32,
+        message: *const u8,
+        n: usize,
+        report: *mut u8,
+        m: usize,
+    ) -> u8;
+}
+
+#[test]
+fn null_with_length_0() {
     let (nothing, nowhere) = (std::ptr::null(), std::ptr::null_mut());
     let sweep = [4, 0, 6, 0];
+    let mut venue = [0; VENUE_BYTES];
+    let at = venue.as_mut_ptr();
     let mut report = [0xC3; 3];
     // SAFETY: each pointer is null with the length 0, or an array with its length.
     unsafe {
         assert_eq!(legging_run(nothing, 0, nowhere, 0), 0);
         assert_eq!(legging_run(sweep.as_ptr(), 4, nowhere, 0), 10);
         assert_eq!(legging_run(nothing, 0, report.as_mut_ptr(), 3), 0);
+        assert_eq!(legging_message(nowhere, 0, 0, nothing, 0, nowhere, 0), 9);
+        let torn = legging_message(at, VENUE_BYTES, 0, nothing, 0, nowhere, 0);
+        assert_eq!(torn, 10);
     }
     assert_eq!(report, [0; 3]);
+    assert_eq!(venue, [0; VENUE_BYTES]);
 }
 
 #[test]

@@ -59,17 +59,22 @@ fn host(arguments: &[&str], input: &[u8]) -> (i32, String, String) {
     (status.code().expect("a status"), text(stdout), text(stderr))
 }
 
+/// The list by one run and message by message: the same output.
+fn both_ways(arguments: &[&str], input: &[u8]) -> (i32, String) {
+    let (status, told, _) = host(arguments, input);
+    let each = host(&[&["--each"], arguments].concat(), input);
+    assert_eq!((each.0, &each.1), (status, &told));
+    (status, told)
+}
+
 #[test]
 fn the_printed_session() {
     let messages = encode_session(SESSION).expect("the stored session is good");
-    let (status, told, _) = host(&[], &messages);
+    let (status, told) = both_ways(&[], &messages);
     assert_eq!(status, 0);
-    let expected = "number 0: the whole list was done\n64 1 0 0 0\n";
-    assert!(told.starts_with(expected), "{told}");
-    assert!(
-        told.ends_with("66 3 205 5\n68 3 0 0 3\n68 3 1 0 3\n"),
-        "{told}"
-    );
+    assert!(told.starts_with("64 1 0 0 0\n64 2 0 0 0\n"), "{told}");
+    let end = "66 3 205 5\n68 3 0 0 3\n68 3 1 0 3\nnumber 0: the whole list was done\n";
+    assert!(told.ends_with(end), "{told}");
     assert_eq!(told.lines().count(), 14);
 }
 
@@ -79,28 +84,31 @@ fn short_memory_and_hexadecimal() {
     let (status, told, _) = host(&["--room", "30", "--hex", "-"], &messages);
     assert_eq!(status, 3);
     let lines: Vec<&str> = told.lines().collect();
-    assert!(lines[0].starts_with("number 10: "), "{told}");
-    assert_eq!(lines[1], "0c 00 40 00 01 00 00 00 00 00 00 00");
+    assert_eq!(lines[0], "0c 00 40 00 01 00 00 00 00 00 00 00");
+    assert!(lines[2].starts_with("number 10: "), "{told}");
     assert_eq!(lines.len(), 3);
+    let (status, told, _) = host(&["--each", "--room", "55"], &messages);
+    assert_eq!((status, told.lines().count()), (3, 5), "{told}");
 }
 
 #[test]
 fn a_list_whose_report_is_longer_than_the_first_memory() {
-    let (status, told, _) = host(&[], &[4, 0, 6, 0].repeat(10_000));
+    let (status, told) = both_ways(&[], &[4, 0, 6, 0].repeat(10_000));
     assert_eq!(status, 0);
-    assert!(told.ends_with("\n64 10000 0 0 0\n"));
+    assert!(told.contains("\n64 10000 0 0 0\nnumber 0: "));
 }
 
 #[test]
-fn a_negative_net_and_a_torn_end() {
+fn refused_messages_a_negative_net_and_a_torn_end() {
     let text = "open 0\nopen 1\norder 1 buy 5 series 0 at 100\norder 2 buy 5 series 1 at 50\n\
-                complex 3 sell 0 sell 1 class 0 net -150 quantity 2\n";
+                cancel 9\ncomplex 3 sell 0 sell 1 class 0 net -150 quantity 2\n";
     let mut messages = encode_session(text).expect("a good session");
     messages.extend([9, 0, 6]);
-    let (status, told, _) = host(&[], &messages);
+    let (status, told) = both_ways(&[], &messages);
     assert_eq!(status, 3);
-    assert!(told.starts_with("number 1: "), "{told}");
+    assert!(told.contains("\n64 5 8 0 0\n"), "{told}");
     assert!(told.contains("\n66 3 -150 2\n"), "{told}");
+    assert!(told.contains("\nnumber 1: "), "{told}");
 }
 
 #[test]
