@@ -31,6 +31,6 @@ fn said_by(program: &str, arguments: &[&str]) -> String {
     let text = output.map(|output| String::from_utf8_lossy(&output.stdout).trim().to_string());
     match text {
         Ok(text) if !text.is_empty() => text,
-        _ => format!("{program} not found"),
+        _ => "not known".to_string(),
     }
 }

@@ -2,7 +2,9 @@
 
 use legging::{one_message, one_message_in, run, Number, VenueBytes, MOST_BYTES, VENUE_BYTES};
 use sessions::message::split;
+use sessions::profile::Profile;
 use sessions::record::{print_sheet, read_report};
+use sessions::soak::generate;
 use sessions::text::encode_session;
 
 const SESSION: &str = include_str!("../../venue/tests/sessions/printed.txt");
@@ -165,6 +167,22 @@ fn calls_at_once_do_not_meet() {
             });
         }
     });
+}
+
+#[test]
+fn a_stack_of_32_kibibytes_is_enough() {
+    let list = generate(Profile::Sweeps, 3, 600);
+    let mut report = vec![0xC3; 1 << 20];
+    let work = move || {
+        let mut venue = VenueBytes::fresh();
+        for (message, before) in list.iter().zip(0..) {
+            one_message(&mut venue, before, message, &mut report);
+        }
+        run(&list.concat(), &mut report)
+    };
+    let thread = std::thread::Builder::new().stack_size(32 << 10);
+    let ended = thread.spawn(work).expect("a thread").join();
+    assert_eq!(ended.expect("it ends"), Number::DONE);
 }
 
 #[test]
