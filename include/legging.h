@@ -12,7 +12,8 @@
  *   All memory is the host's. A call keeps no pointer after it returns, allocates
  *   nothing, reads and writes no file, and needs less than 32 KiB of stack.
  *   - `messages` (or `message`) is only read. Bytes past its length are not.
- *   - `venue` is read, and written where the message was accepted.
+ *   - `venue` is read and written. Unless the message was accepted, it holds after
+ *     the call what it held before.
  *   - `report` is written from its first byte to its last, whatever the call
  *     ends with: the records done, then zeros. What it held before is not read.
  *   - A pointer with the length 0 may be NULL; otherwise it points to as many
