@@ -118,7 +118,9 @@ impl Request {
         match option {
             "--seed" => self.seed = number?,
             "--messages" => self.until = Until::Messages(number?),
-            "--minutes" => self.until = Until::Time(Duration::from_secs(60 * number?)),
+            "--minutes" => {
+                self.until = Until::Time(Duration::from_secs(number?.saturating_mul(60)))
+            }
             "--profile" => {
                 let profile = Profile::from_name(value);
                 let names = Profile::ALL.map(Profile::name).join(", ");
@@ -144,15 +146,11 @@ fn compare_all(request: &Request) -> Result<Counts, String> {
         let count = request.profiles.len() as u64;
         let profile = request.profiles[(comparer.counts.sessions % count) as usize];
         let seed = request.seed.wrapping_add(comparer.counts.sessions / count);
-        compare_session(&mut comparer, profile, seed)
-            .map_err(|difference| difference.to_string())?;
-        if shown.elapsed() >= Duration::from_secs(5) {
+        let compared = compare_session(&mut comparer, profile, seed);
+        compared.map_err(|difference| difference.to_string())?;
+        if shown.elapsed() >= Duration::from_secs(5).max(start.elapsed() / 20) {
             shown = Instant::now();
-            let seconds = start.elapsed().as_secs();
-            let Counts {
-                sessions, messages, ..
-            } = comparer.counts;
-            eprintln!("{seconds} s: {sessions} sessions, {messages} messages, no difference");
+            eprintln!("{}", request.until.progress(&comparer.counts, start));
         }
     }
     Ok(comparer.counts)
@@ -165,6 +163,23 @@ impl Until {
             Until::Messages(messages) => counts.messages >= *messages,
             Until::Time(time) => start.elapsed() >= *time,
         }
+    }
+
+    /// How far it is, of how much.
+    fn progress(&self, counts: &Counts, start: Instant) -> String {
+        let of = |whole: u64| format!(" of {whole}");
+        let [mut time, mut sessions, mut messages] = [const { String::new() }; 3];
+        match self {
+            Until::Sessions(whole) => sessions = of(*whole),
+            Until::Messages(whole) => messages = of(*whole),
+            Until::Time(whole) => time = of(whole.as_secs()),
+        }
+        format!(
+            "{}{time} s: {}{sessions} sessions, {}{messages} messages, no difference",
+            start.elapsed().as_secs(),
+            counts.sessions,
+            counts.messages
+        )
     }
 }
 
