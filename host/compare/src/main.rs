@@ -24,7 +24,8 @@ bytes; and message by message, each upon the venue that the last one left, with 
 beside them upon short memory, the last message numbers, torn bytes, changed venues
 and venue memory of other lengths. Compared are the number, every byte of the report
 memory (lent full of junk) and of the venue, and the bytes around both. The first
-difference ends it with exit status 1, and names what repeats it.
+difference ends it with exit status 1, and names what repeats it. A soak tries report
+memory that ends near one in ten messages' records; the others try all of them.
 ";
 
 /// When to stop.
@@ -39,6 +40,8 @@ struct Request {
     profiles: Vec<Profile>,
     seed: u64,
     until: Until,
+    /// Short report memory is tried at one in so many messages.
+    one_in: u64,
     fault: Option<Fault>,
 }
 
@@ -78,6 +81,7 @@ fn parse(arguments: &[String]) -> Result<Request, String> {
         profiles: Profile::ALL.to_vec(),
         seed: 0,
         until: Until::Sessions(GATE_SEEDS * Profile::ALL.len() as u64),
+        one_in: 1,
         fault: None,
     };
     let Some((command, rest)) = arguments.split_first() else {
@@ -87,6 +91,7 @@ fn parse(arguments: &[String]) -> Result<Request, String> {
         "gate" => &["--fault"],
         "soak" => {
             request.until = Until::Messages(1_000_000);
+            request.one_in = 10;
             &["--minutes", "--messages", "--seed", "--fault"]
         }
         "session" => {
@@ -146,7 +151,7 @@ fn compare_all(request: &Request) -> Result<Counts, String> {
         let count = request.profiles.len() as u64;
         let profile = request.profiles[(comparer.counts.sessions % count) as usize];
         let seed = request.seed.wrapping_add(comparer.counts.sessions / count);
-        let compared = compare_session(&mut comparer, profile, seed);
+        let compared = compare_session(&mut comparer, profile, seed, request.one_in);
         compared.map_err(|difference| difference.to_string())?;
         if shown.elapsed() >= Duration::from_secs(5).max(start.elapsed() / 20) {
             shown = Instant::now();

@@ -43,15 +43,21 @@ struct Session<'a, 'b> {
     ends: Vec<usize>,
     /// Draws messages and bytes of its own.
     generator: Generator,
+    /// Draws the messages whose ends are tried; apart from the other draws, so
+    /// that they are the same however many ends are tried.
+    chosen: Random,
+    one_in: u64,
 }
 
 type Checked = Result<(), (Check, String)>;
 
-/// Compares all of a session.
+/// Compares all of a session, with short report memory at one in so many messages:
+/// such a run does again all that went before, so they take most of the time.
 pub fn compare_session(
     comparer: &mut Comparer,
     profile: Profile,
     seed: u64,
+    one_in: u64,
 ) -> Result<(), Difference> {
     let pieces = generate(profile, seed, session_length(profile, seed));
     let messages = pieces.len() as u64;
@@ -60,6 +66,8 @@ pub fn compare_session(
         list: pieces.concat(),
         ends: Vec::new(),
         generator: Generator::new(profile, !seed),
+        chosen: Random::new(seed),
+        one_in,
         pieces,
     };
     let checked = session.compare_all();
@@ -109,11 +117,14 @@ impl Session<'_, '_> {
         Ok(())
     }
 
-    /// Report memory that ends at, just before and just after the records of
-    /// each message.
+    /// Report memory that ends at, just before and just after the records of a
+    /// message.
     fn short_runs(&mut self) -> Checked {
         let list = std::mem::take(&mut self.list);
         for end in std::mem::take(&mut self.ends) {
+            if self.chosen.below(self.one_in) > 0 {
+                continue;
+            }
             for length in [end - 1, end, end + 1] {
                 self.run(Check::RunShort, &list, length)?;
             }

@@ -7,13 +7,13 @@ use compare::engine::{Archive, Engine, Reference};
 use compare::session::compare_session;
 use sessions::profile::Profile;
 
-/// Two short sessions, which together make every kind of call.
+/// Short sessions, which together make every kind of call.
 const SEEDS: [u64; 3] = [0, 3, 5];
 
 fn found(engine: &dyn Engine, fault: Option<Fault>) -> Option<(Check, String)> {
     let mut comparer = Comparer::new(engine, fault);
     SEEDS.into_iter().find_map(|seed| {
-        let compared = compare_session(&mut comparer, Profile::Mixed, seed);
+        let compared = compare_session(&mut comparer, Profile::Mixed, seed, 5);
         compared
             .err()
             .map(|difference| (difference.check, difference.to_string()))
