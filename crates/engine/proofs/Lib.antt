@@ -1,3 +1,5 @@
 pub mod Refusing
 pub mod Stepping
 pub mod Running
+pub mod Calling
+pub mod Hosting

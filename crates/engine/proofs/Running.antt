@@ -13,19 +13,22 @@ use borrow.Rule.Slice.PartMut.{putMid}
 use Rattle.rules.specs.declared.Venue.{Venue}
 use Rattle.rules.specs.declared.Returned.{Returned}
 use Rattle.rules.specs.Words.{freshVenue}
-use Rattle.rules.specs.Bytes.{u16At, lengthField}
+use Rattle.rules.specs.Bytes.{lengthField}
 use Rattle.rules.specs.Records.{Report, encodeAll, sheet}
-use Rattle.rules.specs.Refusals.{refusal}
+use Rattle.rules.specs.Refusals.{torn}
 use Rattle.rules.specs.Step.{Answered, answered, step}
 use Rattle.rules.specs.Calls.{Outcome, Call, called, exceeds, ends, after, runFrom, run}
 use Rattle.rules.proofs.Calling.{encode-append}
-use Rattle.rules.proofs.Refusing.{not-torn, whole}
+use Rattle.rules.proofs.Refusing.{whole}
 use Rattle.demands.specs.Kept.{SoundVenue}
 use Rattle.demands.proofs.Calls.{kept, fresh-sound}
 use Rattle.demands.proofs.Most.{writes-at-most}
 use Rattle.wire.specs.Seen.{Seen, seen, pasted, _writes_}
 use Rattle.wire.proofs.Stages.{stage-venue, stage-written}
 use Rattle.wire.proofs.Writes.{writes-in, wrote, overflowed, pasted-to, part-all, tail-front, tail-more}
+use Rattle.reader.specs.declared.Head.{Head}
+use Rattle.reader.specs.Head.{headAt, headNumber, headLength}
+use Rattle.reader.proofs.Heads.{head-torn, head-message, torn-refused, whole-refused}
 use Rattle.places.specs.Layout.{size, upto, inUse, regularsUsed, complexesUsed, leggingIn, listedIn, venueOf, Dense}
 use Rattle.engine.specs.declared.Stepped.{Stepped}
 use Rattle.engine.specs.declared.Turn.{Turn}
@@ -35,15 +38,15 @@ use Rattle.engine.specs.Runs.{Tries, onto, goesOn, Turns, callOf}
 -- Refusal 10 ----------------------------------------------------------------------------------
 
 module _ (n room : ℕ) (rs : List Report) where
-  no-number : 4294967295 < n → exceeds n room rs ≡ true
+  pub no-number : 4294967295 < n → exceeds n room rs ≡ true
   unfolding exceeds
   no-number h = rw (lt-ltb 4294967295 n h)
 
-  no-room : n ≤ 4294967295 → room < length (encodeAll rs) → exceeds n room rs ≡ true
+  pub no-room : n ≤ 4294967295 → room < length (encodeAll rs) → exceeds n room rs ≡ true
   unfolding exceeds
   no-room d h = rw (le-ltb 4294967295 n d, lt-ltb room (length (encodeAll rs)) h)
 
-  has-room : n ≤ 4294967295 → length (encodeAll rs) ≤ room → exceeds n room rs ≡ false
+  pub has-room : n ≤ 4294967295 → length (encodeAll rs) ≤ room → exceeds n room rs ≡ false
   unfolding exceeds
   has-room d h = rw (le-ltb 4294967295 n d, le-ltb room (length (encodeAll rs)) h)
 
@@ -192,14 +195,15 @@ module _ (t : Turn) (m b₀ b l ys : List ℕ) (r : Stepped) (a : t .at < length
     one : t .done + 1 - t .done ≡ 1
     one = omega arith
 
-    pub turn-torn : r .refused ≡ 1 → Turns m t b₀ l (record { number = 1; done = t .done + 1; at = t .at; written = t .written + r .written }) b back
-    unfolding goesOn
-    turn-torn e =
+    -- what is torn ends the run
+    turn-torn : torn bs ≡ true → (n : ℕ) → Turns m t b₀ l (record { number = 1; done = t .done + 1; at = t .at + n; written = t .written + r .written }) b back
+    unfolding goesOn step answered
+    turn-torn e n =
         record {
           records = rs;
           bytes = all-bytes;
           within = omega arith;
-          is = λ fuel. run-torn fuel v (t .done) (length l - t .written) bs some roomy (eq-eqb _ _ (sym (tried .refused) ∙ e))
+          is = λ fuel. run-torn fuel v (t .done) (length l - t .written) bs some roomy (torn-refused v bs e)
               ∙ onto-one (t .done + 1 - t .done) (done .effect .venue) rs (ends 1 (done .effect .venue)) one
               ∙ ap (λ (x : Venue). onto (t .done + 1 - t .done) rs (ends 1 x)) (sym venue-is);
           counted = omega arith;
@@ -208,26 +212,21 @@ module _ (t : Turn) (m b₀ b l ys : List ℕ) (r : Stepped) (a : t .at < length
           sound = sound-still;
         }
 
-    entire : (r .refused ≡ 1 → ⊥) → (4 ≤ lengthField bs) × (lengthField bs ≤ length bs)
-    unfolding step answered
-    entire e = whole bs (not-torn v bs (ne-eqb (refusal v bs) 1 (λ z. e (tried .refused ∙ z))))
-
-    pub turn-more : (r .refused ≡ 1 → ⊥) → (n : ℕ) → n ≡ u16At (take (length m - t .at) (drop (t .at) m)) 0 →
-        Turns m t b₀ l (record { number = 0; done = t .done + 1; at = t .at + n; written = t .written + r .written }) b back
-    unfolding goesOn lengthField
-    turn-more e n z =
-        let n-is : n ≡ lengthField bs = z ∙ ap (λ (x : List ℕ). u16At x 0) (part-all m (t .at)) in
-        let g = entire e in
+    -- after a message that is whole it goes on
+    turn-more : torn bs ≡ false → Turns m t b₀ l (record { number = 0; done = t .done + 1; at = t .at + lengthField bs; written = t .written + r .written }) b back
+    unfolding goesOn step answered
+    turn-more e =
+        let g = whole bs e in
         let least = g .0 in
         let most = g .1 in
         let k = length-drop (t .at) m in
         let room : length l - t .written - length (encodeAll rs) ≡ length l - (t .written + r .written) = (let q = length-is in omega arith) in
-        let rest : drop (lengthField bs) bs ≡ drop (t .at + n) m = ap (λ (j : ℕ). drop j bs) (sym n-is) ∙ drop-drop n (t .at) m in
+        let rest : drop (lengthField bs) bs ≡ drop (t .at + lengthField bs) m = drop-drop (lengthField bs) (t .at) m in
         record {
           records = rs;
           bytes = all-bytes;
           within = omega arith;
-          is = λ fuel. run-on fuel v (t .done) (length l - t .written) bs some roomy (ne-eqb _ _ (λ f. e (tried .refused ∙ f)))
+          is = λ fuel. run-on fuel v (t .done) (length l - t .written) bs some roomy (whole-refused v bs e)
               ∙ onto-one (t .done + 1 - t .done) (done .effect .venue) rs _ one
               ∙ ap₂ (λ (x : Venue) (j : ℕ). onto (t .done + 1 - t .done) rs (runFrom fuel x j (length l - t .written - length (encodeAll rs)) (drop (lengthField bs) bs)))
               (sym venue-is) (sym (add-one (t .done)))
@@ -237,6 +236,15 @@ module _ (t : Turn) (m b₀ b l ys : List ℕ) (r : Stepped) (a : t .at < length
           dense = tried .dense;
           sound = sound-still;
         }
+
+    -- what stood at the position tells which
+    pub turn-done : (h : Head) → h ≡ headAt m (t .at) → (x n : ℕ) → x ≡ headNumber h → n ≡ headLength h →
+        Turns m t b₀ l (record { number = x; done = t .done + 1; at = t .at + n; written = t .written + r .written }) b back
+    turn-done h e x n x-is n-is = go (torn bs) refl
+      where
+        go : (f : Bool) → torn bs ≡ f → Turns m t b₀ l (record { number = x; done = t .done + 1; at = t .at + n; written = t .written + r .written }) b back
+        go true f = let k = e ∙ head-torn bs some f in rw (x-is ∙ ap headNumber k) (turn-torn f n)
+        go false f = let k = e ∙ head-message bs some f in rw (x-is ∙ ap headNumber k, n-is ∙ ap headLength k) (turn-more f)
 
 -- The loop ------------------------------------------------------------------------------------
 

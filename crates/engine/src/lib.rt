@@ -1,11 +1,13 @@
-// The engine: a message upon the venue in its slice, refused or accepted, with its answer; and the run of a message list.
+// The engine: a message upon the venue in its slice, refused or accepted, with its answer; the run of a message list; one message upon a venue held by value.
 use book::Found;
+use reader::Head;
 use rules::Complex;
 use rules::Decoded;
 use rules::Listed;
 use rules::Message;
 use rules::Regular;
 use rules::Returned;
+use rules::Venue;
 ghost use mathlib.Core.Path.{_≡_};
 ghost use mathlib.Core.Bool.{true, _||_};
 ghost use Prim.Native.Nat.{ℕ, _≤_, _<_};
@@ -18,15 +20,18 @@ ghost use Rattle.rules.specs.Complex.{complex, restsRegular, restsComplex};
 ghost use Rattle.rules.specs.Refusals.{regularInRange, complexInRange, inRange, refusalOf};
 ghost use Rattle.rules.specs.Step.{setAway, setStatus, answered};
 ghost use Rattle.rules.specs.Step as step;
+ghost use Rattle.rules.specs.Calls.{called, ends};
 ghost use Rattle.rules.specs.Calls as calls;
 ghost use Rattle.demands.specs.Kept.{SoundVenue};
 ghost use Rattle.rules.specs.Standing.{settle};
 ghost use Rattle.wire.specs.Seen.{seen};
 ghost use Rattle.wire.specs.Stage.{stage, _does_};
+ghost use Rattle.reader.specs.Head.{headAt};
 ghost use Rattle.places.specs.Layout.{size, regularsUsed, complexesUsed, venueOf, SameCounts, Dense};
 ghost use Rattle.levels.specs.Grid.{LegsIn};
 ghost use Rattle.engine.specs.Steps.{answeredBy, Steps};
 ghost use Rattle.engine.specs.Runs.{Tries, Turns, callOf};
+ghost use Rattle.engine.specs.Hosts.{hosted, oneHosted};
 
 // Refusals 5 to 8 -----------------------------------------------------------------------------
 
@@ -292,9 +297,9 @@ pub struct Turn {
     pub written: usize,
 }
 
-// One message more.
-fn advance(t: Turn, b: &mut [u32], messages: &[u8], report: &mut [u8]) -> Turn
-    requires { ⌜ (length (now b) ≡ size) × (Dense (now b)) × (SoundVenue (venueOf (now b))) × (t .at < length (now messages)) × (t .written ≤ length (now report)) ⌝ }
+// One message more, or what is torn: `head` stands at the position.
+fn advance(t: Turn, head: Head, b: &mut [u32], messages: &[u8], report: &mut [u8]) -> Turn
+    requires { ⌜ (length (now b) ≡ size) × (Dense (now b)) × (SoundVenue (venueOf (now b))) × (t .at < length (now messages)) × (t .written ≤ length (now report)) × (head ≡ headAt (now messages) (t .at)) ⌝ }
     ensures { λ r. ⌜ Turns (now (messages .entry)) t (now (b .entry)) (now (report .entry)) r (now (b .exit)) (now (report .exit)) ⌝ }
 {
     let at = t.at;
@@ -308,8 +313,7 @@ fn advance(t: Turn, b: &mut [u32], messages: &[u8], report: &mut [u8]) -> Turn
             written: pos,
         };
     }
-    let rest = &messages[at..];
-    let r = try_step(b, done + 1, rest, &mut report[pos..]);
+    let r = try_step(b, done + 1, &messages[at..], &mut report[pos..]);
     let written = r.written;
     if report.len() - pos < written {
         return Turn {
@@ -319,17 +323,10 @@ fn advance(t: Turn, b: &mut [u32], messages: &[u8], report: &mut [u8]) -> Turn
             written: pos,
         };
     }
-    if r.refused == 1 {
-        return Turn {
-            number: 1,
-            done: done + 1,
-            at,
-            written: pos + written,
-        };
-    }
-    let length = wire::u16_at(rest, 0);
+    let number = reader::head_number(head);
+    let length = reader::head_length(head);
     Turn {
-        number: 0,
+        number,
         done: done + 1,
         at: at + length as usize,
         written: pos + written,
@@ -347,8 +344,12 @@ pub fn run(messages: &[u8], report: &mut [u8]) -> Returned
         at: 0,
         written: 0,
     };
-    while t.at < messages.len() {
-        t = advance(t, &mut b, messages, report);
+    loop {
+        let head = reader::message_head(messages, t.at);
+        if let Head::End = head {
+            break;
+        }
+        t = advance(t, head, &mut b, messages, report);
         if t.number != 0 {
             break;
         }
@@ -363,11 +364,78 @@ pub fn run(messages: &[u8], report: &mut [u8]) -> Returned
     }
 }
 
+// One message upon a venue -----------------------------------------------------------------------
+
+// A call that ends before its message: the venue as it was given, and a report of zeros.
+fn end_call(number: u8, venue: Venue, report: &mut [u8]) -> Returned
+    ensures { λ r. ⌜ callOf r (now (report .exit)) ≡ called (length (now (report .entry))) (ends number venue) ⌝ }
+{
+    wire::zero_from(report, 0);
+    Returned {
+        number,
+        done: 0,
+        written: 0,
+        venue,
+    }
+}
+
+// One message upon a venue, `before` messages having gone before it. The report holds its records, then zeros.
+pub fn one_message(venue: Venue, before: u32, message: &[u8], report: &mut [u8]) -> Returned
+    ensures { λ r. ⌜ callOf r (now (report .exit)) ≡ calls.one venue before (length (now (report .entry))) (now (message .entry)) ⌝ }
+{
+    let mut b = [0u32; 779];
+    if !soundness::load_sound(&mut b, venue) {
+        return end_call(9, venue, report);
+    }
+    if before == 4294967295 {
+        return end_call(10, venue, report);
+    }
+    let r = step(&mut b, before + 1, message, report);
+    let written = r.written;
+    if report.len() < written {
+        return end_call(10, venue, report);
+    }
+    wire::zero_from(report, written);
+    let after = places::venue_of(&b);
+    Returned {
+        number: r.refused,
+        done: 1,
+        written,
+        venue: after,
+    }
+}
+
+// For a host -------------------------------------------------------------------------------------
+
 // The run, for a host: messages in, the report out, and the number that ended it returned.
 #[no_mangle]
 pub extern "C" fn legging_run(messages: &[u8], report: &mut [u8]) -> u8
     ensures { λ r. ⌜ (r ≡ calls.run (length (now (report .entry))) (now (messages .entry)) .returned .number) × (now (report .exit) ≡ calls.run (length (now (report .entry))) (now (messages .entry)) .report) ⌝ }
 {
     let r = run(messages, report);
+    r.number
+}
+
+// One message upon the venue in a host's memory, as `state` holds it; the number is returned. A memory of another length holds none.
+#[no_mangle]
+pub extern "C" fn legging_message(
+    venue: &mut [u8],
+    before: u32,
+    message: &[u8],
+    report: &mut [u8],
+) -> u8
+    ensures { λ r. ⌜ hosted r (now (venue .exit)) (now (report .exit)) ≡ oneHosted (now (venue .entry)) before (length (now (report .entry))) (now (message .entry)) ⌝ }
+{
+    if venue.len() != 2604 {
+        wire::zero_from(report, 0);
+        return 9;
+    }
+    let given = state::venue_from(venue);
+    let r = one_message(given, before, message, report);
+    if r.done == 0 {
+        return r.number;
+    }
+    let after = r.venue;
+    state::put_venue(venue, after);
     r.number
 }

@@ -279,7 +279,7 @@ pub fn decode(s: &[u8]) -> Decoded
 // Writing -------------------------------------------------------------------------------------
 
 // The bytes of `src` at `at`, and the position after them. Where they do not fit nothing is written, and the position is past the end.
-fn put(out: &mut [u8], at: usize, src: &[u8]) -> usize
+pub fn put(out: &mut [u8], at: usize, src: &[u8]) -> usize
     ensures { λ r. ⌜ seen (now (out .exit)) r ≡ seen (now (out .entry)) at plus now (src .entry) ⌝ }
 {
     let n = out.len();
@@ -304,7 +304,7 @@ fn bytes2(x: u16) -> [u8; 2]
     [(x % 256) as u8, (x / 256 % 256) as u8]
 }
 
-fn bytes4(x: u32) -> [u8; 4]
+pub fn bytes4(x: u32) -> [u8; 4]
     ensures { λ r. ⌜ r ≡ bytes 4 x ⌝ }
 {
     [
@@ -339,7 +339,7 @@ fn store_words(out: &mut [u8], at: usize, words: &[u32])
 }
 
 // The bytes of `head` and then those of each of `words`, as one write.
-fn put_words(out: &mut [u8], at: usize, head: &[u8], words: &[u32]) -> usize
+pub fn put_words(out: &mut [u8], at: usize, head: &[u8], words: &[u32]) -> usize
     requires { ⌜ (length (now head) ≤ 16) × (length (now words) ≤ 4) ⌝ }
     ensures { λ r. ⌜ seen (now (out .exit)) r ≡ seen (now (out .entry)) at plus (now (head .entry) ++ wordBytes (now (words .entry))) ⌝ }
 {
@@ -356,7 +356,7 @@ fn put_words(out: &mut [u8], at: usize, head: &[u8], words: &[u32]) -> usize
 }
 
 // The 32 bits of a net, in two's complement.
-fn bits(x: i64) -> u32
+pub fn bits(x: i64) -> u32
     ensures { λ r. ⌜ bytes 4 r ≡ i32 x ⌝ }
 {
     if x < 0 {

@@ -1,12 +1,17 @@
 -- `engine::run` meets its contract.
 use mathlib.Core.Logic.{⊎-elim}
-use Rattle.engine.proofs.Running.{Ended, running-end, running-stop, ran}
-use mathlib.Core.Path.{_≡_, refl, sym, ap, _∙_}
+use mathlib.Core.Path.{sym, subst, _∙_}
+use mathlib.Core.List.{[], _∷_}
 use borrow.Author.Needs.{needs}
 use native.Mathlib.Omega.{arith}
-use Prim.Native.Nat.{_-_}
+use Prim.Native.Nat.{_-_, _<_}
 use lib.ListN.{length}
-use Rattle.engine.proofs.Running.{Running, running-start, running-again}
+use types.Run.{OneOf}
+use denote.Enum.Declared.{tagOf}
+use Rattle.reader.specs.declared.Head.{Head}
+use Rattle.reader.proofs.Head as head
+use Rattle.reader.proofs.Heads.{at-none, at-some}
+use Rattle.engine.proofs.Running.{Running, Ended, running-start, running-again, running-end, running-stop, ran}
 use Rattle.engine.proofs.run.Statement.{statement}
 use Rattle.engine.proofs.run.Tie as tie
 
@@ -19,26 +24,38 @@ abbrev μ-loop : tie.MeasureT-loop
 loop-holds : tie.Need-loop-holds Inv-loop μ-loop
 loop-holds c = running-start _ _
 
+message-head-requires : tie.Need-message-head-requires Inv-loop μ-loop
+message-head-requires c κs = tt
+
+enum-told : tie.Need-enum-told Inv-loop μ-loop
+enum-told c = search needs
+
+-- where the head is not `End`, a message or a torn one stands ahead
+ahead : (c : tie.At-match-keys2 Inv-loop μ-loop) → let a = c .before .before .before .before .before .args in c .before .before .loop .t .at < length (a .messages .now)
+ahead c =
+    let k = c .before .message-head in
+    at-some _ _ (λ e. ⊎-elim (λ z. omega arith) (λ z. omega arith) (subst (λ (h : Head). OneOf (1 ∷ 2 ∷ []) (tagOf head.the-type h)) (k .ensures ∙ e) (c .match .keys2)))
+
 slice-aggregate-advance : tie.Need-slice-aggregate-advance Inv-loop μ-loop
 slice-aggregate-advance c = let e = c .before .before .before .loop .inv .slice in search needs
 
 advance-requires : tie.Need-advance-requires Inv-loop μ-loop
-advance-requires c κs = let g = c .before .before .before .before .loop .inv in let w = g .within in let e = g .len in (g .slice, g .dense, g .sound, c .before .before .if1 .taken, omega arith)
+advance-requires c κs = let g = c .before .before .before .before .loop .inv in let w = g .within in let e = g .len in (g .slice, g .dense, g .sound, ahead (c .before .before), omega arith, c .before .before .before .message-head .ensures)
 
 loop-less : tie.Need-loop-less Inv-loop μ-loop
-loop-less c = let v = c .before .before .before .before .before .advance .ensures .moved (c .if2 .left) in let p = v .0 in let q = v .1 in omega arith
+loop-less c = let v = c .before .before .before .before .before .advance .ensures .moved (c .if1 .left) in let p = v .0 in let q = v .1 in omega arith
 
 loop-again : tie.Need-loop-again Inv-loop μ-loop
-loop-again c = let k = c .before .before .before .before .before .advance in running-again _ _ _ _ _ (c .before .before .before .before .before .before .before .before .before .before .loop .inv) (k .result) (k .last .1 .0) (k .last .1 .1 .1 .0) (c .before .before .before .before .before .before .before .before .if1 .taken) (k .kept .1 .0) (k .kept .1 .1 .1 .0) (k .ensures) (c .if2 .left)
+loop-again c = let k = c .before .before .before .before .before .advance in running-again _ _ _ _ _ (c .before .before .before .before .before .before .before .before .before .before .loop .inv) (k .result) (k .last .1 .1 .0) (k .last .1 .1 .1 .1 .0) (ahead (c .before .before .before .before .before .before .before .before)) (k .kept .1 .1 .0) (k .kept .1 .1 .1 .1 .0) (k .ensures) (c .if1 .left)
 
 -- either way out of the loop
-ended : (c : tie.Joined1 Inv-loop μ-loop) → let a = c .before .before .before .before .before .args in Ended (a .messages .now) (a .report .now) (c .if1 .b) (c .if1 .report) (c .if1 .t)
+ended : (c : tie.At-match-came Inv-loop μ-loop) → let a = c .before .before .before .before .before .args in Ended (a .messages .now) (a .report .now) (c .match .b) (c .match .report) (c .match .t)
 ended c =
-    let head = c .before .before in
+    let top = c .before .before in
     ⊎-elim
-    (λ w. rw (w .1, w .2, w .3) (running-end _ _ _ _ _ (head .loop .inv) (w .0 .left)))
-    (λ w. rw (w .9, w .10, w .11) (running-stop _ _ _ _ _ (head .loop .inv) (w .3 .result) (w .3 .last .1 .0) (w .3 .last .1 .1 .1 .0) (w .0 .taken) (w .3 .kept .1 .0) (w .3 .kept .1 .1 .1 .0) (w .3 .ensures) (w .8 .taken)))
-    (c .if1 .came)
+    (λ w. rw (w .2, w .3, w .4) (running-end _ _ _ _ _ (top .loop .inv) (at-none _ _ (sym (c .before .message-head .ensures) ∙ w .1 .given .1))))
+    (λ w. rw (w .9, w .10, w .11) (running-stop _ _ _ _ _ (top .loop .inv) (w .3 .result) (w .3 .last .1 .1 .0) (w .3 .last .1 .1 .1 .1 .0) (ahead (record { before = c .before; match = w .0 })) (w .3 .kept .1 .1 .0) (w .3 .kept .1 .1 .1 .1 .0) (w .3 .ensures) (w .8 .taken)))
+    (c .match .came)
 
 zero-from-requires : tie.Need-zero-from-requires Inv-loop μ-loop
 zero-from-requires c κs = tt
@@ -53,7 +70,7 @@ same-length : tie.Need-same-length Inv-loop μ-loop
 same-length c = c .before .before .before .before .zero-from .kept .0 ∙ ended (c .before .before .before .before .before .before) .len
 
 returns : tie.Need-returns Inv-loop μ-loop
-returns c = let s = c .before .before .before .before .before .before .before .before .before .before .before in let j = c .before .before .before .before .before .before in ran (s .args .messages .now) (s .args .report .now) (j .if1 .b) (j .if1 .report) (c .before .before .before .before .zero-from .last .0) (j .if1 .t) (c .venue-of .result) (ended j) (c .before .before .before .before .zero-from .ensures) (c .venue-of .ensures)
+returns c = let s = c .before .before .before .before .before .before .before .before .before .before .before in let j = c .before .before .before .before .before .before in ran (s .args .messages .now) (s .args .report .now) (j .match .b) (j .match .report) (c .before .before .before .before .zero-from .last .0) (j .match .t) (c .venue-of .result) (ended j) (c .before .before .before .before .zero-from .ensures) (c .venue-of .ensures)
 
 pub run-spec : {M : Type 1} → statement M
 run-spec =
@@ -62,6 +79,8 @@ run-spec =
     Inv-loop
     μ-loop
     loop-holds
+    message-head-requires
+    enum-told
     slice-aggregate-advance
     advance-requires
     loop-less

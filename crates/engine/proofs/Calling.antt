@@ -1,0 +1,80 @@
+-- The laws of a one-message call, by the ways that it ends.
+use mathlib.Core.Path.{_≡_, refl, sym, ap, ap₂, _∙_}
+use mathlib.Core.Bool.{true, false}
+use mathlib.Core.List.{List, _++_, append-nil}
+use Prim.Native.Nat.{ℕ, suc, _+_, _-_, _≤_, _<_}
+use native.Mathlib.Omega.{arith}
+use native.Mathlib.Numerals.{add-one}
+use lib.ListN.{length, take, replicate}
+use Rattle.rules.specs.declared.Venue.{Venue}
+use Rattle.rules.specs.Records.{Report, encodeAll, sheet}
+use Rattle.rules.specs.Step.{Answered, step}
+use Rattle.rules.specs.Sound.{sound}
+use Rattle.rules.specs.Calls.{called, exceeds, ends, after, oneFrom, one}
+use Rattle.wire.proofs.Stages.{stage-venue, stage-written}
+use Rattle.wire.specs.Seen.{seen, _writes_}
+use Rattle.wire.proofs.Writes.{wrote, overflowed, seen-room, sheet-left}
+use Rattle.places.specs.Layout.{venueOf}
+use Rattle.engine.specs.declared.Stepped.{Stepped}
+use Rattle.engine.specs.Steps.{Steps}
+use Rattle.engine.specs.Runs.{callOf}
+use Rattle.engine.proofs.Running.{no-number, no-room, has-room}
+
+-- the report zeroed from its start
+pub call-ends : (l z : List ℕ) (number : ℕ) (v : Venue) → z ≡ take 0 l ++ replicate (length l - 0) 0 →
+    callOf (record { number = number; done = 0; written = 0; venue = v }) z ≡ called (length l) (ends number v)
+unfolding called ends sheet encodeAll
+call-ends l z number v e = ap (callOf (record { number = number; done = 0; written = 0; venue = v })) e
+
+module _ (v : Venue) (n room : ℕ) (m : List ℕ) where
+  pub one-unsound : sound v ≡ false → called room (ends 9 v) ≡ one v n room m
+  unfolding one oneFrom
+  one-unsound e = rw e
+
+  module _ (fine : sound v ≡ true) where
+    pub one-ends : exceeds (suc n) room (step v (suc n) m .effect .reports) ≡ true → called room (ends 10 v) ≡ one v n room m
+    unfolding one oneFrom
+    one-ends e = rw (fine, e)
+
+    pub one-no-number : n ≡ 4294967295 → called room (ends 10 v) ≡ one v n room m
+    one-no-number e = one-ends (no-number (suc n) room _ (omega arith))
+
+    pub one-does : exceeds (suc n) room (step v (suc n) m .effect .reports) ≡ false →
+        called room (after (step v (suc n) m .effect) (ends (step v (suc n) m .refused) (step v (suc n) m .effect .venue))) ≡ one v n room m
+    unfolding one oneFrom
+    one-does e = rw (fine, e)
+
+-- the message was done upon b₀, which stands for v: r is what its step returned, b and o what it left
+module _ (v : Venue) (n : ℕ) (m b₀ b l o : List ℕ) (r : Stepped) (fine : sound v ≡ true) (stands : venueOf b₀ ≡ v) (few : n < 4294967295)
+    (steps : Steps (step (venueOf b₀) (n + 1) m) l r b o) where
+  abbrev a : Answered
+  a = step v (suc n) m
+
+  abbrev rs : List Report
+  rs = a .effect .reports
+
+  stepped : Steps a l r b o
+  stepped = rw (ap₂ (λ (x : Venue) (k : ℕ). step x k m) stands (add-one n)) at steps
+
+  written : seen o (r .written) ≡ seen l 0 writes rs
+  written = stage-written (venueOf b) o l (r .written) 0 (a .effect) (stepped .staged)
+
+  -- its records do not fit
+  pub one-no-room : length l < r .written → called (length o) (ends 10 v) ≡ one v n (length l) m
+  one-no-room h =
+      let over = overflowed l o 0 (r .written) rs written h in
+      ap (λ (k : ℕ). called k (ends 10 v)) (seen-room l o 0 (r .written) rs written)
+      ∙ one-ends v n (length l) m fine (no-room (suc n) (length l) rs (omega arith) (omega arith))
+
+  -- they do: the rest of the report is zeroed, and the venue read
+  pub one-done : (z : List ℕ) (w : Venue) → r .written ≤ length l → z ≡ take (r .written) o ++ replicate (length o - r .written) 0 → w ≡ venueOf b →
+      callOf (record { number = r .refused; done = 1; written = r .written; venue = w }) z ≡ one v n (length l) m
+  unfolding called after ends
+  one-done z w h e u =
+      let end : r .written ≡ length (encodeAll rs) = wrote l o 0 (r .written) rs written h .end-is ∙ omega arith in
+      let venue : w ≡ a .effect .venue = u ∙ stage-venue (venueOf b) o l (r .written) 0 (a .effect) (stepped .staged) in
+      let memory : z ≡ sheet (length l) rs = e ∙ sheet-left l o o (r .written) rs written h refl refl in
+      ap₂ (λ (x : ℕ) (y : Venue). callOf (record { number = x; done = 1; written = r .written; venue = y }) z) (stepped .refused) venue
+      ∙ ap₂ (λ (k : ℕ) (y : List ℕ). callOf (record { number = a .refused; done = 1; written = k; venue = a .effect .venue }) y) end memory
+      ∙ ap (λ (x : List Report). callOf (record { number = a .refused; done = 1; written = length (encodeAll x); venue = a .effect .venue }) (sheet (length l) x)) (sym (append-nil rs))
+      ∙ one-does v n (length l) m fine (has-room (suc n) (length l) rs (omega arith) (omega arith))

@@ -1,0 +1,135 @@
+-- The laws of one message upon the venue in a host's memory.
+use mathlib.Core.Path.{_≡_, refl, subst, ap, _∙_}
+use mathlib.Core.Bool.{Bool, true, false}
+use mathlib.Core.List.{List, _++_}
+use Prim.Native.Nat.{ℕ, suc, _-_, _≤_}
+use native.Mathlib.Omega.{arith}
+use lib.IntN.{ℤ, pos, negsuc}
+use lib.ListN.{length, getD, take, replicate}
+use borrow.Author.Tests.{leb-true, eqb-true, eq-eqb, ne-eqb}
+use Rattle.rules.specs.declared.Complex.{Complex}
+use Rattle.rules.specs.declared.Listed.{Listed}
+use Rattle.rules.specs.declared.Venue.{Venue}
+use Rattle.rules.specs.declared.Returned.{Returned}
+use Rattle.rules.specs.Base.{held}
+use Rattle.rules.specs.Words.{within, isClass, isStatus, isAway, notListed}
+use Rattle.rules.specs.Records.{U8, I32, encodeAll, sheet}
+use Rattle.rules.specs.Effects.{Effect}
+use Rattle.rules.specs.Places.{blankComplex}
+use Rattle.rules.specs.Refusals.{complexInRange}
+use Rattle.rules.specs.Step.{step}
+use Rattle.rules.specs.Sound.{listedInRange, sound}
+use Rattle.rules.specs.Calls.{Call, called, exceeds, ends, after, one}
+use Rattle.rules.proofs.Filling.{cx}
+use Rattle.rules.proofs.Integers.{plus, minus}
+use Rattle.rules.proofs.Tests.{and-l, and-r}
+use Rattle.demands.specs.Kept.{Shaped, SoundVenue}
+use Rattle.demands.proofs.Calls.{kept}
+use Rattle.demands.proofs.Soundness.{sound-out}
+use Rattle.places.proofs.Tables.{upto-length}
+use Rattle.state.specs.Held.{venueSize, venueBytes, venueFrom, ListedFits, Declared}
+use Rattle.state.proofs.Back.{held-whole}
+use Rattle.engine.specs.Runs.{callOf}
+use Rattle.engine.specs.Hosts.{hosted, leaves, oneHosted, HeldNext}
+use Rattle.engine.proofs.Calling.{one-unsound, one-ends, one-does}
+
+module _ (memory : List ℕ) (n : ℕ) (l bs : List ℕ) where
+  -- the memory is of another length, and the report zeroed from its start
+  pub none-held : (z : List ℕ) → (length memory ≡ venueSize → ⊥) → z ≡ take 0 l ++ replicate (length l - 0) 0 → hosted 9 memory z ≡ oneHosted memory n (length l) bs
+  unfolding oneHosted sheet encodeAll
+  none-held z h e = ap (hosted 9 memory) e ∙ rw (ne-eqb (length memory) venueSize h)
+
+  module _ (size : length memory ≡ venueSize) (v : Venue) (given : v ≡ venueFrom memory) (r : Returned) (z : List ℕ) (call : callOf r z ≡ one v n (length l) bs) where
+    call-held : leaves memory (callOf r z) ≡ oneHosted memory n (length l) bs
+    unfolding oneHosted
+    call-held = ap (leaves memory) (call ∙ ap (λ (w : Venue). one w n (length l) bs) given) ∙ rw (eq-eqb (length memory) venueSize size)
+
+    -- the message was not done
+    pub left-held : r .done ≡ 0 → hosted (r .number) memory z ≡ oneHosted memory n (length l) bs
+    unfolding leaves
+    left-held e = rw (eq-eqb (r .done) 0 e) at call-held
+
+    -- it was, and the memory is written anew
+    pub done-held : (m : List ℕ) → (r .done ≡ 0 → ⊥) → m ≡ venueBytes (r .venue) → hosted (r .number) m z ≡ oneHosted memory n (length l) bs
+    unfolding leaves
+    done-held m e p = ap (λ (x : List ℕ). hosted (r .number) x z) p ∙ (rw (ne-eqb (r .done) 0 e) at call-held)
+
+-- The next call -------------------------------------------------------------------------------
+
+limit-fits : (z : ℤ) → plus z ≤ 200000 → minus z ≤ 200000 → I32 z
+unfolding plus minus
+limit-fits (pos n) a b = omega arith
+limit-fits (negsuc n) a b = omega arith
+
+class-fits : (c : Complex) (t : Bool) → held (c .quantity) ≡ t → (held (c .quantity) ≡ true → complexInRange c ≡ true) →
+    (held (c .quantity) ≡ false → blankComplex c ≡ true) → U8 (c .class)
+unfolding complexInRange isClass within blankComplex
+class-fits c true h asked blank = let z = asked h in let k = leb-true (c .class) 1 (search (and-l, and-r, z) depth 12) in omega arith
+class-fits c false h asked blank = let z = blank h in let k = eqb-true (c .class) 0 (search (and-l, and-r, z) depth 12) in omega arith
+
+-- the fields of a sound venue have their widths
+declared : (v : Venue) → SoundVenue v → Declared v
+declared v s =
+    let k = sound-out v s in
+    let g = k .ranged in
+    record {
+      sized = record { regular = s .shaped .regular; complex = s .shaped .complex; legging = s .shaped .legging; series = s .shaped .series };
+      regular = λ i. let f = g .regular i in record { id = f .id; series = omega arith; side = omega arith; price = omega arith; quantity = omega arith };
+      complex = λ i. let f = g .complex i in record {
+        id = f .id;
+        series1 = omega arith;
+        side1 = omega arith;
+        series2 = omega arith;
+        side2 = omega arith;
+        class = class-fits (cx v i) (held (cx v i .quantity)) refl (f .ok) (k .tidy .blank2 i);
+        limit = limit-fits (cx v i .limit) (f .high) (f .low);
+        quantity = omega arith;
+      };
+      legging = λ i. let f = g .legging i in record { parent = f .parent; price = omega arith; quantity = omega arith };
+      series = λ i. listed-fits (getD (v .series) i notListed) (g .listed i);
+      last = omega arith;
+    }
+  where
+    listed-fits : (x : Listed) → listedInRange x ≡ true → ListedFits x
+    listed-fits x z = unfold listedInRange isStatus isAway within in (
+        let a = leb-true (x .status) 2 (search (and-l, and-r, z) depth 8) in
+        let b = leb-true (x .bid) 100000 (search (and-l, and-r, z) depth 8) in
+        let c = leb-true (x .offer) 100000 (search (and-l, and-r, z) depth 8) in
+        record { status = omega arith; bid = omega arith; offer = omega arith }
+        )
+
+-- what is held has the arrays of its type
+held-shaped : (memory : List ℕ) → Shaped (venueFrom memory)
+unfolding venueFrom
+held-shaped memory = record { regular = upto-length _ 0 128; complex = upto-length _ 0 32; legging = upto-length _ 0 16; series = upto-length _ 0 8 }
+
+module _ (memory : List ℕ) (room : ℕ) where
+  -- what a call leaves in the memory is the venue that it returned
+  abbrev Next : Call → Type 0
+  Next c = venueFrom (leaves memory c .venue) ≡ c .returned .venue
+
+  next-ended : (number : ℕ) → Next (called room (ends number (venueFrom memory)))
+  unfolding leaves called ends
+  next-ended number = refl
+
+  next-done : (e : Effect) (refused : ℕ) → venueFrom (venueBytes (e .venue)) ≡ e .venue → Next (called room (after e (ends refused (e .venue))))
+  unfolding leaves called ends after
+  next-done e refused p = p
+
+pub held-next : HeldNext
+unfolding oneHosted
+held-next memory n room bs size = rw (eq-eqb (length memory) venueSize size) (go (sound v) refl)
+  where
+    v : Venue
+    v = venueFrom memory
+
+    does : (t : Bool) → sound v ≡ true → exceeds (suc n) room (step v (suc n) bs .effect .reports) ≡ t → Next memory room (one v n room bs)
+    does true fine e = subst (Next memory room) (one-ends v n room bs fine e) (next-ended memory room 10)
+    does false fine e =
+        let w : Venue = step v (suc n) bs .effect .venue in
+        let s : SoundVenue w = kept v (record { shaped = held-shaped memory; is = fine }) (suc n) bs in
+        subst (Next memory room) (one-does v n room bs fine e) (next-done memory room (step v (suc n) bs .effect) (step v (suc n) bs .refused) (held-whole w (declared w s)))
+
+    go : (t : Bool) → sound v ≡ t → Next memory room (one v n room bs)
+    go true fine = does (exceeds (suc n) room (step v (suc n) bs .effect .reports)) fine refl
+    go false e = subst (Next memory room) (one-unsound v n room bs e) (next-ended memory room 9)

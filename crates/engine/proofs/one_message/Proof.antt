@@ -1,0 +1,100 @@
+-- `engine::one_message` meets its contract.
+use mathlib.Core.Path.{_≡_, sym, _∙_}
+use mathlib.Core.Bool.{true}
+use Prim.Native.Nat.{_<_}
+use native.Mathlib.Omega.{arith}
+use borrow.Author.Tests.{not-true, not-false}
+use Rattle.rules.specs.Sound.{sound}
+use Rattle.engine.proofs.Calling.{one-unsound, one-no-number, one-no-room, one-done}
+use borrow.Author.Needs.{needs}
+use Rattle.engine.proofs.one_message.Statement.{statement}
+use Rattle.engine.proofs.one_message.Tie as tie
+
+-- the venue is sound
+passed : (c : tie.Else1) → sound (c .before .before .before .before .before .before .args .venue) ≡ true
+passed c = sym (c .before .before .load-sound .ensures .answer) ∙ not-false _ (c .if1 .left)
+
+-- a number is left for its message
+numbered : (c : tie.Else2) → c .before .before .before .before .before .before .before .args .before < 4294967295
+numbered c = omega arith
+
+slice-aggregate-load-sound : tie.Need-slice-aggregate-load-sound
+slice-aggregate-load-sound c = search needs
+
+load-sound-requires : tie.Need-load-sound-requires
+load-sound-requires c κs = search needs
+
+end-call-requires : tie.Need-end-call-requires
+end-call-requires c κs = search needs
+
+same-length : tie.Need-same-length
+same-length c = search needs
+
+returns : tie.Need-returns
+returns c = let s = c .before .before .before .before .before .before .before .before .before .before in c .before .before .end-call .ensures ∙ one-unsound (s .args .venue) (s .args .before) _ (s .args .message .now) (sym (c .before .before .before .before .before .before .load-sound .ensures .answer) ∙ not-true _ (c .before .before .before .before .if1 .taken))
+
+end-call-requires-2 : tie.Need-end-call-requires-2
+end-call-requires-2 c κs = search needs
+
+same-length-2 : tie.Need-same-length-2
+same-length-2 c = search needs
+
+returns-2 : tie.Need-returns-2
+returns-2 c = let s = c .before .before .before .before .before .before .before .before .before .before .before in c .before .before .end-call2 .ensures ∙ one-no-number (s .args .venue) (s .args .before) _ (s .args .message .now) (passed (c .before .before .before .before .before)) (c .before .before .before .before .if2 .taken)
+
+slice-aggregate-step : tie.Need-slice-aggregate-step
+slice-aggregate-step c = search needs
+
+add-step : tie.Need-add-step
+add-step c = search needs
+
+step-requires : tie.Need-step-requires
+step-requires c κs = (search needs, c .before .before .before .before .before .load-sound .ensures .loaded (not-false _ (c .before .before .before .if1 .left)) .dense)
+
+end-call-requires-3 : tie.Need-end-call-requires-3
+end-call-requires-3 c κs = search needs
+
+same-length-3 : tie.Need-same-length-3
+same-length-3 c = search needs
+
+returns-3 : tie.Need-returns-3
+returns-3 c = let s = c .before .before .before .before .before .before .before .before .before .before .before .before .before .before .before .before .before .before in let k = c .before .before .before .before .before .before .before .before .step in c .before .before .end-call3 .ensures ∙ one-no-room (s .args .venue) (s .args .before) (s .args .message .now) _ (k .last .0) (s .args .report .now) (k .last .1 .1 .1 .0) (k .result) (passed (c .before .before .before .before .before .before .before .before .before .before .before .before)) (c .before .before .before .before .before .before .before .before .before .before .before .before .before .before .load-sound .ensures .loaded (not-false _ (c .before .before .before .before .before .before .before .before .before .before .before .before .if1 .left)) .venue) (numbered (c .before .before .before .before .before .before .before .before .before .before .before)) (k .ensures) (omega arith)
+
+zero-from-requires : tie.Need-zero-from-requires
+zero-from-requires c κs = search needs
+
+slice-aggregate-venue-of : tie.Need-slice-aggregate-venue-of
+slice-aggregate-venue-of c = search needs
+
+venue-of-requires : tie.Need-venue-of-requires
+venue-of-requires c κs = search needs
+
+same-length-4 : tie.Need-same-length-4
+same-length-4 c = search needs
+
+returns-4 : tie.Need-returns-4
+returns-4 c = let s = c .before .before .before .before .before .before .before .before .before .before .before .before .before .before .before .before .before .before .before .before in let k = c .before .before .before .before .before .before .before .before .before .before .step in one-done (s .args .venue) (s .args .before) (s .args .message .now) _ (k .last .0) (s .args .report .now) (k .last .1 .1 .1 .0) (k .result) (passed (c .before .before .before .before .before .before .before .before .before .before .before .before .before .before)) (c .before .before .before .before .before .before .before .before .before .before .before .before .before .before .before .before .load-sound .ensures .loaded (not-false _ (c .before .before .before .before .before .before .before .before .before .before .before .before .before .before .if1 .left)) .venue) (numbered (c .before .before .before .before .before .before .before .before .before .before .before .before .before)) (k .ensures) _ _ (omega arith) (c .before .before .before .before .zero-from .ensures) (c .venue-of .ensures)
+
+pub one-message-spec : {M : Type 1} → statement M
+one-message-spec =
+    tie.close
+    (tie.spec
+    slice-aggregate-load-sound
+    load-sound-requires
+    end-call-requires
+    same-length
+    returns
+    end-call-requires-2
+    same-length-2
+    returns-2
+    slice-aggregate-step
+    add-step
+    step-requires
+    end-call-requires-3
+    same-length-3
+    returns-3
+    zero-from-requires
+    slice-aggregate-venue-of
+    venue-of-requires
+    same-length-4
+    returns-4)

@@ -1,0 +1,33 @@
+-- What a host sees of one message upon the venue in its memory.
+use mathlib.Core.Path.{_≡_}
+use mathlib.Core.List.{List, []}
+use Prim.Native.Nat.{ℕ}
+use lib.Dec.{eqb}
+use lib.ListN.{length}
+use Rattle.rules.specs.Base.{if_then_else_}
+use Rattle.rules.specs.Records.{sheet}
+use Rattle.rules.specs.Calls.{Call, one}
+use Rattle.state.specs.Held.{venueSize, venueBytes, venueFrom}
+
+pub record Hosted : Type 0 where
+  pub number : ℕ
+  pub venue : List ℕ
+  pub report : List ℕ
+
+abbrev pub hosted : (number : ℕ) (venue report : List ℕ) → Hosted
+hosted n v l = record { number = n; venue = v; report = l }
+
+-- a call upon the venue that the memory holds: with its message done the memory holds the venue after it, and else is as it was
+unfoldable pub leaves : (memory : List ℕ) → Call → Hosted
+leaves memory c =
+    hosted (c .returned .number) (if eqb (c .returned .done) 0 then memory else venueBytes (c .returned .venue)) (c .report)
+
+-- a memory of another length holds no venue: 9, "venue unsound"
+unfoldable pub oneHosted : (memory : List ℕ) (n room : ℕ) → List ℕ → Hosted
+oneHosted memory n room bs =
+    if eqb (length memory) venueSize then leaves memory (one (venueFrom memory) n room bs) else hosted 9 memory (sheet room [])
+
+-- so the next call is upon the venue that this one returned
+abbrev pub HeldNext : Type 0
+HeldNext = (memory : List ℕ) (n room : ℕ) (bs : List ℕ) → length memory ≡ venueSize →
+    venueFrom (oneHosted memory n room bs .venue) ≡ one (venueFrom memory) n room bs .returned .venue

@@ -1,0 +1,3 @@
+pub mod Typing
+pub mod Sheets
+pub mod Widths

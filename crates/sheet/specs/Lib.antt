@@ -1,0 +1,3 @@
+-- What is printed, and where the printing stands between two messages.
+pub mod Sheet
+pub mod Inputs

@@ -1,0 +1,116 @@
+-- A venue is read back from its bytes.
+use mathlib.Core.Path.{_≡_, refl, sym, ap, _∙_}
+use mathlib.Core.List.{List, [], _++_, append-assoc}
+use Prim.Native.Nat.{ℕ, suc, _+_, _*_, _<_}
+use native.Mathlib.Omega.{arith}
+use lib.ListN.{length, getD, take, drop, length-append, take-append-drop}
+use lib.Seq.{ext-getD, drop-cons, drop-at, length-take-le}
+use Rattle.rules.specs.declared.Regular.{Regular}
+use Rattle.rules.specs.declared.Complex.{Complex}
+use Rattle.rules.specs.declared.Legging.{Legging}
+use Rattle.rules.specs.declared.Listed.{Listed}
+use Rattle.rules.specs.Words.{noRegular, noComplex, noLegging, notListed, freshVenue}
+use Rattle.rules.specs.Bytes.{u8At, u16At, u32At, asSigned, asUnsigned, bytes, u32}
+use Rattle.rules.specs.Records.{U32}
+use Rattle.rules.proofs.Reading.{byte, word, signed-back, signed-small}
+use Rattle.wire.proofs.Numbers.{u32-here}
+use Rattle.places.specs.Layout.{upto}
+use Rattle.places.proofs.Tables.{upto-length, upto-at}
+use Rattle.places.proofs.Parts.{venue-is}
+use Rattle.state.specs.Held.{regularBytes, complexBytes, leggingBytes, listedBytes, rows, venueBytes, rowAt, venueFrom}
+use Rattle.state.specs.Held.{regularFrom, complexFrom, leggingFrom, listedFrom}
+use Rattle.state.specs.Held.{RegularFits, ComplexFits, LeggingFits, ListedFits, HeldWhole, FreshHeld}
+use Rattle.state.proofs.Rows.{rows-append, rows-length}
+use Rattle.state.proofs.Widths.{regular-width, complex-width, legging-width, listed-width}
+use Rattle.state.proofs.Whole.{regular-part, complex-part, legging-part, series-part}
+
+-- A row ---------------------------------------------------------------------------------------
+
+regular-back : (o : Regular) → RegularFits o → (rest : List ℕ) → regularFrom (regularBytes o ++ rest) ≡ o
+unfolding regularFrom regularBytes bytes u8At u16At u32At
+regular-back o f rest =
+    rw (word (o .id) (f .id), byte (o .series) (f .series), byte (o .side) (f .side), word (o .price) (f .price), word (o .quantity) (f .quantity))
+
+complex-back : (c : Complex) → ComplexFits c → (rest : List ℕ) → complexFrom (complexBytes c ++ rest) ≡ c
+unfolding complexFrom complexBytes bytes u8At u16At u32At
+complex-back c f rest =
+    rw (
+      word (c .id) (f .id),
+      byte (c .series1) (f .series1),
+      byte (c .side1) (f .side1),
+      byte (c .series2) (f .series2),
+      byte (c .side2) (f .side2),
+      byte (c .class) (f .class),
+      word (asUnsigned (c .limit)) (signed-small (c .limit) (f .limit)),
+      signed-back (c .limit) (f .limit),
+      word (c .quantity) (f .quantity),
+    )
+
+legging-back : (l : Legging) → LeggingFits l → (rest : List ℕ) → leggingFrom (leggingBytes l ++ rest) ≡ l
+unfolding leggingFrom leggingBytes bytes u8At u16At u32At
+legging-back l f rest = rw (word (l .parent) (f .parent), word (l .price) (f .price), word (l .quantity) (f .quantity))
+
+listed-back : (x : Listed) → ListedFits x → (rest : List ℕ) → listedFrom (listedBytes x ++ rest) ≡ x
+unfolding listedFrom listedBytes bytes u8At u16At u32At
+listed-back x f rest = rw (byte (x .status) (f .status), word (x .bid) (f .bid), word (x .offer) (f .offer))
+
+last-back : (x : ℕ) → U32 x → u32At (u32 x) 0 ≡ x
+unfolding bytes u8At u16At u32At
+last-back x f = word x f
+
+-- A table -------------------------------------------------------------------------------------
+
+module _ {A : Type 0} (row : A → List ℕ) (width : ℕ) (even : (x : A) → length (row x) ≡ width) (none : A) where
+  -- from row i on
+  row-here : (front rest : List ℕ) (l : List A) (i : ℕ) → i < length l →
+      drop (width * i + length front) (front ++ rows row l ++ rest) ≡ row (getD l i none) ++ (rows row (drop (suc i) l) ++ rest)
+  unfolding rows
+  row-here front rest l i h =
+      let before : List ℕ = rows row (take i l) in
+      let after : List ℕ = rows row (drop (suc i) l) in
+      let x : A = getD l i none in
+      let split : rows row l ≡ before ++ (row x ++ after) =
+      ap (rows row) (sym (take-append-drop i l) ∙ ap (λ (y : List A). take i l ++ y) (drop-cons l i none h)) ∙ rows-append row (take i l) _ in
+      let n : length before ≡ width * i = rows-length row width even (take i l) ∙ ap (λ (k : ℕ). width * k) (length-take-le i l (omega arith)) in
+      let m : length (front ++ before) ≡ width * i + length front = length-append front before ∙ omega arith in
+      ap (λ (y : List ℕ). drop (width * i + length front) (front ++ y ++ rest)) split
+      ∙ ap (drop (width * i + length front)) (simp append-assoc)
+      ∙ drop-at (front ++ before) (row x ++ (after ++ rest)) (width * i + length front) m
+
+  table-back : (read : List ℕ → A) (from n : ℕ) (bs front rest : List ℕ) (l : List A) → bs ≡ front ++ rows row l ++ rest → length front ≡ from → length l ≡ n →
+      ((i : ℕ) (r : List ℕ) → read (row (getD l i none) ++ r) ≡ getD l i none) → upto (rowAt read from width bs) 0 n ≡ l
+  unfolding rowAt
+  table-back read from n bs front rest l e f k back =
+      ext-getD none (upto (rowAt read from width bs) 0 n) l (upto-length (rowAt read from width bs) 0 n ∙ sym k)
+      (λ i h. let j : i < n = omega (arith, upto-length (rowAt read from width bs) 0 n) in
+      let z : 0 + i ≡ i = omega arith in
+      upto-at (rowAt read from width bs) none 0 n i j
+      ∙ ap (rowAt read from width bs) z
+      ∙ ap read (ap (drop (width * i + from)) e ∙ ap (λ (q : ℕ). drop (width * i + q) (front ++ rows row l ++ rest)) (sym f) ∙ row-here front rest l i (omega arith))
+      ∙ back i _)
+
+-- The venue -----------------------------------------------------------------------------------
+
+pub held-whole : HeldWhole
+unfolding venueFrom venueBytes
+held-whole v d =
+    let R : List ℕ = rows regularBytes (v .regular) in
+    let C : List ℕ = rows complexBytes (v .complex) in
+    let L : List ℕ = rows leggingBytes (v .legging) in
+    let S : List ℕ = rows listedBytes (v .series) in
+    let E : List ℕ = u32 (v .last) in
+    let s = d .sized in
+    venue-is _ _
+    (table-back regularBytes 14 regular-width noRegular regularFrom 0 128 (venueBytes v) [] (C ++ L ++ S ++ E) (v .regular) (simp append-assoc) refl (s .regular)
+    (λ i r. regular-back _ (d .regular i) r))
+    (table-back complexBytes 17 complex-width noComplex complexFrom 1792 32 (venueBytes v) R (L ++ S ++ E) (v .complex) (simp append-assoc) (regular-part v s) (s .complex)
+    (λ i r. complex-back _ (d .complex i) r))
+    (table-back leggingBytes 12 legging-width noLegging leggingFrom 2336 16 (venueBytes v) (R ++ C) (S ++ E) (v .legging) (simp append-assoc) (complex-part v s) (s .legging)
+    (λ i r. legging-back _ (d .legging i) r))
+    (table-back listedBytes 9 listed-width notListed listedFrom 2528 8 (venueBytes v) (R ++ C ++ L) E (v .series) refl (legging-part v s) (s .series)
+    (λ i r. listed-back _ (d .series i) r))
+    (u32-here 2600 (venueBytes v) ∙ ap (λ (x : List ℕ). u32At x 0) (drop-at (R ++ C ++ L ++ S) E 2600 (series-part v s)) ∙ last-back (v .last) (d .last))
+
+pub fresh-held : FreshHeld
+unfolding venueFrom rowAt upto regularFrom complexFrom leggingFrom listedFrom u8At u16At u32At asSigned freshVenue
+fresh-held = refl

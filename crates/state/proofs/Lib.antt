@@ -1,0 +1,4 @@
+pub mod Rows
+pub mod Widths
+pub mod Whole
+pub mod Back

@@ -1,0 +1,61 @@
+-- A venue's bytes from its tables written one after another.
+use mathlib.Core.Path.{_≡_, ap, ap₂, _∙_}
+use mathlib.Core.List.{List, _++_, append-nil}
+use Prim.Native.Nat.{ℕ, _+_, _≤_}
+use native.Mathlib.Omega.{arith}
+use lib.ListN.{length, length-append, drop-of-length-le}
+use Rattle.rules.specs.declared.Venue.{Venue}
+use Rattle.rules.specs.Bytes.{u32, bytes}
+use Rattle.wire.specs.Seen.{Seen, seen, pasted, _plus_}
+use Rattle.wire.proofs.Writes.{plus-in, pasted-length, pasted-pasted}
+use Rattle.state.specs.Held.{venueSize, regularBytes, complexBytes, leggingBytes, listedBytes, rows, venueBytes, Sized}
+use Rattle.state.proofs.Rows.{rows-length}
+use Rattle.state.proofs.Widths.{regular-width, complex-width, legging-width, listed-width}
+
+-- bytes in the place of all
+all : (l x : List ℕ) → length l ≤ length x → pasted l 0 x ≡ x
+unfolding pasted
+all l x h = ap (λ (y : List ℕ). x ++ y) (drop-of-length-le l {i = 0 + length x} (omega arith)) ∙ append-nil x
+
+-- the first bytes are x, and y is written right after them
+then : (l a b x y : List ℕ) (at : ℕ) → a ≡ pasted l 0 x → b ≡ pasted a at y → at ≡ length x → at ≤ length l → b ≡ pasted l 0 (x ++ y)
+then l a b x y at p q e h =
+    let z : at ≡ 0 + length x = omega arith in
+    q ∙ ap₂ (λ (w : List ℕ) (k : ℕ). pasted w k y) p z ∙ pasted-pasted l x y 0 (omega arith)
+
+module _ (v : Venue) (sized : Sized v) where
+  abbrev R : List ℕ
+  R = rows regularBytes (v .regular)
+
+  abbrev C : List ℕ
+  C = rows complexBytes (v .complex)
+
+  abbrev L : List ℕ
+  L = rows leggingBytes (v .legging)
+
+  abbrev S : List ℕ
+  S = rows listedBytes (v .series)
+
+  pub regular-part : length R ≡ 1792
+  regular-part = let n = sized .regular in rows-length regularBytes 14 regular-width (v .regular) ∙ omega arith
+
+  pub complex-part : length (R ++ C) ≡ 2336
+  complex-part = let n = sized .complex in let k = regular-part in length-append R C ∙ omega (arith, rows-length complexBytes 17 complex-width (v .complex))
+
+  pub legging-part : length (R ++ C ++ L) ≡ 2528
+  legging-part = let n = sized .legging in let k = complex-part in length-append (R ++ C) L ∙ omega (arith, rows-length leggingBytes 12 legging-width (v .legging))
+
+  pub series-part : length (R ++ C ++ L ++ S) ≡ 2600
+  series-part = let n = sized .series in let k = legging-part in length-append (R ++ C ++ L) S ∙ omega (arith, rows-length listedBytes 9 listed-width (v .series))
+
+  pub venue-put : (l a b c d e : List ℕ) (end : ℕ) → length l ≡ venueSize → a ≡ pasted l 0 R → b ≡ pasted a 1792 C → c ≡ pasted b 2336 L → d ≡ pasted c 2528 S →
+      seen e end ≡ seen d 2600 plus u32 (v .last) → e ≡ venueBytes v
+  unfolding venueBytes seen bytes
+  venue-put l a b c d e end n p q r s t =
+      let rc = then l a b R C 1792 p q (omega (arith, regular-part)) (omega arith) in
+      let rcl = then l b c (R ++ C) L 2336 rc r (omega (arith, complex-part)) (omega arith) in
+      let rcls = then l c d (R ++ C ++ L) S 2528 rcl s (omega (arith, legging-part)) (omega arith) in
+      let same : length d ≡ length l = ap length rcls ∙ pasted-length l (R ++ C ++ L ++ S) 0 (omega (arith, series-part)) in
+      let last : e ≡ pasted d 2600 (u32 (v .last)) = ap (λ (w : Seen). w .memory) (t ∙ plus-in d (u32 (v .last)) 2600 (omega arith)) in
+      then l d e (R ++ C ++ L ++ S) (u32 (v .last)) 2600 rcls last (omega (arith, series-part)) (omega arith)
+      ∙ all l (R ++ C ++ L ++ S ++ u32 (v .last)) (omega (arith, series-part, length-append (R ++ C ++ L ++ S) (u32 (v .last))))

@@ -1,0 +1,68 @@
+-- `state::put_venue` meets its contract.
+use mathlib.Core.Path.{_≡_, sym, ap, _∙_}
+use mathlib.Core.List.{List, map}
+use Prim.Native.Nat.{ℕ}
+use lib.ListN.{length, length-map}
+use Rattle.wire.specs.Seen.{seen, _plus_}
+use Rattle.state.specs.Held.{Sized}
+use Rattle.state.proofs.Whole.{venue-put}
+use borrow.Author.Needs.{needs}
+use Rattle.state.proofs.put_venue.Statement.{statement}
+use Rattle.state.proofs.put_venue.Tie as tie
+
+-- an array's length
+long : {A B : Type 0} (f : A → B) (l : List A) {n : ℕ} → length (map f l) ≡ n → length l ≡ n
+long f l e = sym (length-map l f) ∙ e
+
+sized : (s : tie.Start) → Sized (s .args .v)
+sized s =
+    record {
+      regular = long _ (s .args .v .regular) (s .good .1 .0 .1 .1 .0 .1 .0 .1);
+      complex = long _ (s .args .v .complex) (s .good .1 .0 .1 .1 .1 .0 .1 .0 .1);
+      legging = long _ (s .args .v .legging) (s .good .1 .0 .1 .1 .1 .1 .0 .1 .0 .1);
+      series = long _ (s .args .v .series) (s .good .1 .0 .1 .1 .1 .1 .1 .0 .1 .0 .1);
+    }
+
+put-regulars-requires : tie.Need-put-regulars-requires
+put-regulars-requires c κs = search needs
+
+put-complexes-requires : tie.Need-put-complexes-requires
+put-complexes-requires c κs = search needs
+
+put-leggings-requires : tie.Need-put-leggings-requires
+put-leggings-requires c κs = search needs
+
+put-series-requires : tie.Need-put-series-requires
+put-series-requires c κs = search needs
+
+bytes4-requires : tie.Need-bytes4-requires
+bytes4-requires c κs = search needs
+
+slice-aggregate-put : tie.Need-slice-aggregate-put
+slice-aggregate-put c = search needs
+
+put-requires : tie.Need-put-requires
+put-requires c κs = search needs
+
+same-length : tie.Need-same-length
+same-length c = search needs
+
+returns : tie.Need-returns
+returns c =
+    let s = c .before .before .before .before .before .before .before .before .before .before .before .before .before .before .before .before .before .before .before .before .before .before .before .before .before .before .before in
+    venue-put (s .args .v) (sized s) (s .args .out .now) _ _ _ _ _ _ (s .pre) (c .before .before .before .before .before .before .before .before .before .before .before .before .before .before .before .before .before .before .before .before .before .before .before .put-regulars .ensures) (c .before .before .before .before .before .before .before .before .before .before .before .before .before .before .before .before .before .before .put-complexes .ensures)
+    (c .before .before .before .before .before .before .before .before .before .before .before .before .before .put-leggings .ensures) (c .before .before .before .before .before .before .before .before .put-series .ensures) (c .before .before .put .ensures ∙ ap (λ (x : List ℕ). seen (c .before .before .before .before .before .before .before .before .put-series .last .0) 2600 plus x) (c .before .before .before .before .before .bytes4 .ensures))
+
+pub put-venue-spec : {M : Type 1} → statement M
+put-venue-spec =
+    tie.close
+    (tie.spec
+    put-regulars-requires
+    put-complexes-requires
+    put-leggings-requires
+    put-series-requires
+    bytes4-requires
+    slice-aggregate-put
+    put-requires
+    same-length
+    returns)

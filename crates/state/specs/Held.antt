@@ -1,0 +1,139 @@
+-- A venue as bytes, which a host holds between calls: 2,604 of them, each number as in a message, little-endian.
+--
+--   from   a row                                                                                      bytes   rows
+--      0   id u32, series u8, side u8, price u32, quantity u32                                           14   128 regular
+--   1792   id u32, series1 u8, side1 u8, series2 u8, side2 u8, class u8, limit i32, quantity u32         17   32 complex
+--   2336   parent u32, price u32, quantity u32                                                           12   16 legging
+--   2528   status u8, bid u32, offer u32                                                                  9   8 series
+--   2600   last id u32                                                                                    4
+use mathlib.Core.Path.{_≡_}
+use mathlib.Core.List.{List, [], _∷_, _++_}
+use Prim.Native.Nat.{ℕ, _+_, _*_}
+use lib.ListN.{length, getD, drop, replicate}
+use Rattle.rules.specs.declared.Regular.{Regular}
+use Rattle.rules.specs.declared.Complex.{Complex}
+use Rattle.rules.specs.declared.Legging.{Legging}
+use Rattle.rules.specs.declared.Listed.{Listed}
+use Rattle.rules.specs.declared.Venue.{Venue}
+use Rattle.rules.specs.Words.{noRegular, noComplex, noLegging, notListed, freshVenue}
+use Rattle.rules.specs.Bytes.{u8At, u32At, asSigned, u8, u32, i32}
+use Rattle.rules.specs.Records.{U8, U32, I32}
+use Rattle.places.specs.Layout.{upto}
+
+abbrev pub venueSize : ℕ
+venueSize = 2604
+
+-- Writing -------------------------------------------------------------------------------------
+
+-- a row's bytes
+unfoldable pub regularBytes : Regular → List ℕ
+regularBytes o = u32 (o .id) ++ u8 (o .series) ++ u8 (o .side) ++ u32 (o .price) ++ u32 (o .quantity)
+
+unfoldable pub complexBytes : Complex → List ℕ
+complexBytes c =
+    u32 (c .id) ++ u8 (c .series1) ++ u8 (c .side1) ++ u8 (c .series2) ++ u8 (c .side2) ++ u8 (c .class) ++ i32 (c .limit) ++ u32 (c .quantity)
+
+unfoldable pub leggingBytes : Legging → List ℕ
+leggingBytes l = u32 (l .parent) ++ u32 (l .price) ++ u32 (l .quantity)
+
+unfoldable pub listedBytes : Listed → List ℕ
+listedBytes x = u8 (x .status) ++ u32 (x .bid) ++ u32 (x .offer)
+
+-- a table's: row after row
+unfoldable pub rows : {A : Type 0} → (A → List ℕ) → List A → List ℕ
+rows row [] = []
+rows row (x ∷ xs) = row x ++ rows row xs
+
+unfoldable pub venueBytes : Venue → List ℕ
+venueBytes v =
+    rows regularBytes (v .regular) ++ rows complexBytes (v .complex) ++ rows leggingBytes (v .legging) ++ rows listedBytes (v .series) ++ u32 (v .last)
+
+-- Reading -------------------------------------------------------------------------------------
+
+-- the row at the front of bs
+unfoldable pub regularFrom : List ℕ → Regular
+regularFrom bs = record { id = u32At bs 0; series = u8At bs 4; side = u8At bs 5; price = u32At bs 6; quantity = u32At bs 10 }
+
+unfoldable pub complexFrom : List ℕ → Complex
+complexFrom bs = record {
+  id = u32At bs 0;
+  series1 = u8At bs 4;
+  side1 = u8At bs 5;
+  series2 = u8At bs 6;
+  side2 = u8At bs 7;
+  class = u8At bs 8;
+  limit = asSigned (u32At bs 9);
+  quantity = u32At bs 13;
+}
+
+unfoldable pub leggingFrom : List ℕ → Legging
+leggingFrom bs = record { parent = u32At bs 0; price = u32At bs 4; quantity = u32At bs 8 }
+
+unfoldable pub listedFrom : List ℕ → Listed
+listedFrom bs = record { status = u8At bs 0; bid = u32At bs 1; offer = u32At bs 5 }
+
+-- row i of a table whose rows are `width` bytes each, from a position on
+unfoldable pub rowAt : {A : Type 0} → (List ℕ → A) → (from width : ℕ) → List ℕ → (i : ℕ) → A
+rowAt row from width bs i = row (drop (width * i + from) bs)
+
+unfoldable pub venueFrom : List ℕ → Venue
+venueFrom bs = record {
+  regular = upto (rowAt regularFrom 0 14 bs) 0 128;
+  complex = upto (rowAt complexFrom 1792 17 bs) 0 32;
+  legging = upto (rowAt leggingFrom 2336 12 bs) 0 16;
+  series = upto (rowAt listedFrom 2528 9 bs) 0 8;
+  last = u32At bs 2600;
+}
+
+-- What is held is read back -------------------------------------------------------------------
+
+-- each field has its width
+pub record RegularFits (o : Regular) : Type 0 where
+  pub id : U32 (o .id)
+  pub series : U8 (o .series)
+  pub side : U8 (o .side)
+  pub price : U32 (o .price)
+  pub quantity : U32 (o .quantity)
+
+pub record ComplexFits (c : Complex) : Type 0 where
+  pub id : U32 (c .id)
+  pub series1 : U8 (c .series1)
+  pub side1 : U8 (c .side1)
+  pub series2 : U8 (c .series2)
+  pub side2 : U8 (c .side2)
+  pub class : U8 (c .class)
+  pub limit : I32 (c .limit)
+  pub quantity : U32 (c .quantity)
+
+pub record LeggingFits (l : Legging) : Type 0 where
+  pub parent : U32 (l .parent)
+  pub price : U32 (l .price)
+  pub quantity : U32 (l .quantity)
+
+pub record ListedFits (x : Listed) : Type 0 where
+  pub status : U8 (x .status)
+  pub bid : U32 (x .bid)
+  pub offer : U32 (x .offer)
+
+-- each array has its length
+pub record Sized (v : Venue) : Type 0 where
+  pub regular : length (v .regular) ≡ 128
+  pub complex : length (v .complex) ≡ 32
+  pub legging : length (v .legging) ≡ 16
+  pub series : length (v .series) ≡ 8
+
+-- a venue of the declared type
+pub record Declared (v : Venue) : Type 0 where
+  pub sized : Sized v
+  pub regular : (i : ℕ) → RegularFits (getD (v .regular) i noRegular)
+  pub complex : (i : ℕ) → ComplexFits (getD (v .complex) i noComplex)
+  pub legging : (i : ℕ) → LeggingFits (getD (v .legging) i noLegging)
+  pub series : (i : ℕ) → ListedFits (getD (v .series) i notListed)
+  pub last : U32 (v .last)
+
+abbrev pub HeldWhole : Type 0
+HeldWhole = (v : Venue) → Declared v → venueFrom (venueBytes v) ≡ v
+
+-- zeros hold the fresh venue
+abbrev pub FreshHeld : Type 0
+FreshHeld = venueFrom (replicate venueSize 0) ≡ freshVenue

@@ -1,0 +1,281 @@
+// A venue as bytes (specs/Held.antt), for a host that holds it between calls: read, and written anew.
+use rules::Complex;
+use rules::Legging;
+use rules::Listed;
+use rules::Regular;
+use rules::Venue;
+ghost use mathlib.Core.Path.{_≡_};
+ghost use lib.ListN.{length};
+ghost use Rattle.wire.specs.Seen.{seen, pasted, _plus_};
+ghost use Rattle.state.specs.Held.{venueSize, regularBytes, complexBytes, leggingBytes, listedBytes, rows, venueBytes};
+ghost use Rattle.state.specs.Held.{regularFrom, complexFrom, leggingFrom, listedFrom, venueFrom};
+
+// A row read ----------------------------------------------------------------------------------
+
+fn regular_from(row: &[u8]) -> Regular
+    ensures { λ r. ⌜ r ≡ regularFrom (now (row .entry)) ⌝ }
+{
+    Regular {
+        id: wire::u32_at(row, 0),
+        series: wire::u8_at(row, 4),
+        side: wire::u8_at(row, 5),
+        price: wire::u32_at(row, 6),
+        quantity: wire::u32_at(row, 10),
+    }
+}
+
+fn complex_from(row: &[u8]) -> Complex
+    ensures { λ r. ⌜ r ≡ complexFrom (now (row .entry)) ⌝ }
+{
+    Complex {
+        id: wire::u32_at(row, 0),
+        series1: wire::u8_at(row, 4),
+        side1: wire::u8_at(row, 5),
+        series2: wire::u8_at(row, 6),
+        side2: wire::u8_at(row, 7),
+        class: wire::u8_at(row, 8),
+        limit: wire::i32_at(row, 9),
+        quantity: wire::u32_at(row, 13),
+    }
+}
+
+fn legging_from(row: &[u8]) -> Legging
+    ensures { λ r. ⌜ r ≡ leggingFrom (now (row .entry)) ⌝ }
+{
+    Legging {
+        parent: wire::u32_at(row, 0),
+        price: wire::u32_at(row, 4),
+        quantity: wire::u32_at(row, 8),
+    }
+}
+
+fn listed_from(row: &[u8]) -> Listed
+    ensures { λ r. ⌜ r ≡ listedFrom (now (row .entry)) ⌝ }
+{
+    Listed {
+        status: wire::u8_at(row, 0),
+        bid: wire::u32_at(row, 1),
+        offer: wire::u32_at(row, 5),
+    }
+}
+
+// The venue read, table by table --------------------------------------------------------------
+
+fn regulars_from(bytes: &[u8]) -> [Regular; 128]
+    requires { ⌜ length (now bytes) ≡ venueSize ⌝ }
+    ensures { λ r. ⌜ r ≡ venueFrom (now (bytes .entry)) .regular ⌝ }
+{
+    let free = Regular {
+        id: 0,
+        series: 0,
+        side: 0,
+        price: 0,
+        quantity: 0,
+    };
+    let mut r = [free; 128];
+    let mut i: usize = 0;
+    while i < 128 {
+        let at = 14 * i;
+        let x = regular_from(&bytes[at..]);
+        r[i] = x;
+        i += 1;
+    }
+    r
+}
+
+fn complexes_from(bytes: &[u8]) -> [Complex; 32]
+    requires { ⌜ length (now bytes) ≡ venueSize ⌝ }
+    ensures { λ r. ⌜ r ≡ venueFrom (now (bytes .entry)) .complex ⌝ }
+{
+    let free = Complex {
+        id: 0,
+        series1: 0,
+        side1: 0,
+        series2: 0,
+        side2: 0,
+        class: 0,
+        limit: 0,
+        quantity: 0,
+    };
+    let mut r = [free; 32];
+    let mut i: usize = 0;
+    while i < 32 {
+        let at = 17 * i + 1792;
+        let x = complex_from(&bytes[at..]);
+        r[i] = x;
+        i += 1;
+    }
+    r
+}
+
+fn leggings_from(bytes: &[u8]) -> [Legging; 16]
+    requires { ⌜ length (now bytes) ≡ venueSize ⌝ }
+    ensures { λ r. ⌜ r ≡ venueFrom (now (bytes .entry)) .legging ⌝ }
+{
+    let free = Legging {
+        parent: 0,
+        price: 0,
+        quantity: 0,
+    };
+    let mut r = [free; 16];
+    let mut i: usize = 0;
+    while i < 16 {
+        let at = 12 * i + 2336;
+        let x = legging_from(&bytes[at..]);
+        r[i] = x;
+        i += 1;
+    }
+    r
+}
+
+fn series_from(bytes: &[u8]) -> [Listed; 8]
+    requires { ⌜ length (now bytes) ≡ venueSize ⌝ }
+    ensures { λ r. ⌜ r ≡ venueFrom (now (bytes .entry)) .series ⌝ }
+{
+    let free = Listed {
+        status: 0,
+        bid: 0,
+        offer: 0,
+    };
+    let mut r = [free; 8];
+    let mut i: usize = 0;
+    while i < 8 {
+        let at = 9 * i + 2528;
+        let x = listed_from(&bytes[at..]);
+        r[i] = x;
+        i += 1;
+    }
+    r
+}
+
+// The venue that the bytes hold.
+pub fn venue_from(bytes: &[u8]) -> Venue
+    requires { ⌜ length (now bytes) ≡ venueSize ⌝ }
+    ensures { λ r. ⌜ r ≡ venueFrom (now (bytes .entry)) ⌝ }
+{
+    let regular = regulars_from(bytes);
+    let complex = complexes_from(bytes);
+    let legging = leggings_from(bytes);
+    let series = series_from(bytes);
+    let last = wire::u32_at(bytes, 2600);
+    Venue {
+        regular,
+        complex,
+        legging,
+        series,
+        last,
+    }
+}
+
+// A row written -------------------------------------------------------------------------------
+
+fn put_regular(out: &mut [u8], at: usize, o: Regular)
+    ensures { λ _. ⌜ now (out .exit) ≡ (seen (now (out .entry)) at plus regularBytes o) .memory ⌝ }
+{
+    let i = wire::bytes4(o.id);
+    let head = [i[0], i[1], i[2], i[3], o.series, o.side];
+    let words = [o.price, o.quantity];
+    wire::put_words(out, at, &head, &words);
+}
+
+fn put_complex(out: &mut [u8], at: usize, c: Complex)
+    ensures { λ _. ⌜ now (out .exit) ≡ (seen (now (out .entry)) at plus complexBytes c) .memory ⌝ }
+{
+    let i = wire::bytes4(c.id);
+    let head = [
+        i[0],
+        i[1],
+        i[2],
+        i[3],
+        c.series1,
+        c.side1,
+        c.series2,
+        c.side2,
+        c.class,
+    ];
+    let words = [wire::bits(c.limit as i64), c.quantity];
+    wire::put_words(out, at, &head, &words);
+}
+
+fn put_legging(out: &mut [u8], at: usize, l: Legging)
+    ensures { λ _. ⌜ now (out .exit) ≡ (seen (now (out .entry)) at plus leggingBytes l) .memory ⌝ }
+{
+    let head = wire::bytes4(l.parent);
+    let words = [l.price, l.quantity];
+    wire::put_words(out, at, &head, &words);
+}
+
+fn put_listed(out: &mut [u8], at: usize, x: Listed)
+    ensures { λ _. ⌜ now (out .exit) ≡ (seen (now (out .entry)) at plus listedBytes x) .memory ⌝ }
+{
+    let head = [x.status];
+    let words = [x.bid, x.offer];
+    wire::put_words(out, at, &head, &words);
+}
+
+// The venue written, table by table -----------------------------------------------------------
+
+fn put_regulars(out: &mut [u8], l: [Regular; 128])
+    requires { ⌜ length (now out) ≡ venueSize ⌝ }
+    ensures { λ _. ⌜ now (out .exit) ≡ pasted (now (out .entry)) 0 (rows regularBytes l) ⌝ }
+{
+    let mut i: usize = 0;
+    while i < 128 {
+        let o = l[i];
+        put_regular(out, 14 * i, o);
+        i += 1;
+    }
+}
+
+fn put_complexes(out: &mut [u8], l: [Complex; 32])
+    requires { ⌜ length (now out) ≡ venueSize ⌝ }
+    ensures { λ _. ⌜ now (out .exit) ≡ pasted (now (out .entry)) 1792 (rows complexBytes l) ⌝ }
+{
+    let mut i: usize = 0;
+    while i < 32 {
+        let c = l[i];
+        put_complex(out, 17 * i + 1792, c);
+        i += 1;
+    }
+}
+
+fn put_leggings(out: &mut [u8], l: [Legging; 16])
+    requires { ⌜ length (now out) ≡ venueSize ⌝ }
+    ensures { λ _. ⌜ now (out .exit) ≡ pasted (now (out .entry)) 2336 (rows leggingBytes l) ⌝ }
+{
+    let mut i: usize = 0;
+    while i < 16 {
+        let x = l[i];
+        put_legging(out, 12 * i + 2336, x);
+        i += 1;
+    }
+}
+
+fn put_series(out: &mut [u8], l: [Listed; 8])
+    requires { ⌜ length (now out) ≡ venueSize ⌝ }
+    ensures { λ _. ⌜ now (out .exit) ≡ pasted (now (out .entry)) 2528 (rows listedBytes l) ⌝ }
+{
+    let mut i: usize = 0;
+    while i < 8 {
+        let x = l[i];
+        put_listed(out, 9 * i + 2528, x);
+        i += 1;
+    }
+}
+
+// The venue's bytes in the place of what stood there.
+pub fn put_venue(out: &mut [u8], v: Venue)
+    requires { ⌜ length (now out) ≡ venueSize ⌝ }
+    ensures { λ _. ⌜ now (out .exit) ≡ venueBytes v ⌝ }
+{
+    let regular = v.regular;
+    put_regulars(out, regular);
+    let complex = v.complex;
+    put_complexes(out, complex);
+    let legging = v.legging;
+    put_leggings(out, legging);
+    let series = v.series;
+    put_series(out, series);
+    let last = wire::bytes4(v.last);
+    wire::put(out, 2600, &last);
+}
