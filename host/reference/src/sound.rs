@@ -7,7 +7,7 @@ use crate::price::{
     Place,
 };
 use crate::types::{Complex, Legging, Listed, Regular, Venue};
-use crate::types::{BUY, COMPLEX_PLACES, LEGGING_PLACES, OTHER, REGULAR_PLACES, SERIES};
+use crate::types::{BUY, LEGGING_PLACES, OTHER, SERIES};
 use crate::wire::{valid_away, valid_leg, valid_status};
 
 /// Whether a one-message call takes this venue.
@@ -19,8 +19,9 @@ pub fn is_sound(venue: &Venue) -> bool {
 pub fn lay_out(venue: &Venue) -> Option<Books> {
     let mut books = Books::fresh();
     books.last = venue.last;
-    lay_out_regular(&mut books, &venue.regular)?;
-    lay_out_complex(&mut books, &venue.complex)?;
+    books.add_regular(held(&venue.regular, venue.last)?);
+    let complex = held(&venue.complex, venue.last)?;
+    complex.iter().for_each(|order| books.add_complex(order));
     lay_out_series(&mut books, &venue.series)?;
     lay_out_legging(&mut books, &venue.legging)?;
     let sound = ids_are_distinct(venue)
@@ -29,51 +30,62 @@ pub fn lay_out(venue: &Venue) -> Option<Books> {
     sound.then_some(books)
 }
 
-fn lay_out_regular(books: &mut Books, orders: &[Regular; REGULAR_PLACES]) -> Option<()> {
-    let held = orders.iter().position(|order| order.quantity == 0);
-    let (held, free) = orders.split_at(held.unwrap_or(orders.len()));
+/// An order as it rests: the two books are read alike.
+trait Rests: Copy + Default + PartialEq {
+    fn id(&self) -> u32;
+    fn quantity(&self) -> u32;
+    /// Whether its fields are in range.
+    fn is_valid(&self) -> bool;
+}
+
+impl Rests for Regular {
+    fn id(&self) -> u32 {
+        self.id
+    }
+
+    fn quantity(&self) -> u32 {
+        self.quantity
+    }
+
+    fn is_valid(&self) -> bool {
+        valid_leg(self.series, self.side)
+            && valid_regular_price(self.series, self.price)
+            && valid_quantity(self.quantity)
+    }
+}
+
+impl Rests for Complex {
+    fn id(&self) -> u32 {
+        self.id
+    }
+
+    fn quantity(&self) -> u32 {
+        self.quantity
+    }
+
+    fn is_valid(&self) -> bool {
+        valid_leg(self.series1, self.side1)
+            && valid_leg(self.series2, self.side2)
+            && self.series1 != self.series2
+            && self.class <= OTHER
+            && valid_limit(self.limit)
+            && valid_quantity(self.quantity)
+    }
+}
+
+/// The orders held in a book: first, valid, in rising id up to the last; the
+/// free places after them all zero.
+fn held<Order: Rests>(orders: &[Order], last: u32) -> Option<&[Order]> {
+    let count = orders.iter().position(|order| order.quantity() == 0);
+    let (held, free) = orders.split_at(count.unwrap_or(orders.len()));
     let mut before = 0;
     let valid = held.iter().all(|order| {
-        let rises = order.id > before;
-        before = order.id;
-        rises && valid_regular(order)
+        let rises = order.id() > before;
+        before = order.id();
+        rises && order.is_valid()
     });
-    if !valid || before > books.last || free.iter().any(|order| *order != Regular::default()) {
-        return None;
-    }
-    books.add_regular(held);
-    Some(())
-}
-
-fn valid_regular(order: &Regular) -> bool {
-    valid_leg(order.series, order.side)
-        && valid_regular_price(order.series, order.price)
-        && valid_quantity(order.quantity)
-}
-
-fn lay_out_complex(books: &mut Books, orders: &[Complex; COMPLEX_PLACES]) -> Option<()> {
-    let held = orders.iter().position(|order| order.quantity == 0);
-    let (held, free) = orders.split_at(held.unwrap_or(orders.len()));
-    let mut before = 0;
-    let valid = held.iter().all(|order| {
-        let rises = order.id > before;
-        before = order.id;
-        rises && valid_complex(order)
-    });
-    if !valid || before > books.last || free.iter().any(|order| *order != Complex::default()) {
-        return None;
-    }
-    held.iter().for_each(|order| books.add_complex(order));
-    Some(())
-}
-
-fn valid_complex(order: &Complex) -> bool {
-    valid_leg(order.series1, order.side1)
-        && valid_leg(order.series2, order.side2)
-        && order.series1 != order.series2
-        && order.class <= OTHER
-        && valid_limit(order.limit)
-        && valid_quantity(order.quantity)
+    let sound = valid && before <= last && free.iter().all(|order| *order == Order::default());
+    sound.then_some(held)
 }
 
 fn lay_out_series(books: &mut Books, series: &[Listed; SERIES]) -> Option<()> {

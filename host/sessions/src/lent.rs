@@ -32,13 +32,26 @@ impl Lent {
         &self.buffer[GUARD..GUARD + self.length]
     }
 
+    /// Whether the bytes before and after the memory are as they were.
+    pub fn is_guarded(&self) -> bool {
+        let before = &self.buffer[..GUARD];
+        let after = &self.buffer[GUARD + self.length..];
+        before.iter().chain(after).all(|byte| *byte == GUARD_BYTE)
+    }
+
+    /// Spoils a byte as a wrong call might, to see that it is found; negative
+    /// places are before the memory.
+    pub fn spoil(&mut self, at: isize) {
+        let place = GUARD.checked_add_signed(at);
+        if let Some(byte) = place.and_then(|place| self.buffer.get_mut(place)) {
+            *byte ^= 1;
+        }
+    }
+
     /// What a call wrote, after checking what it must leave: the guards, and
     /// zeros from the bytes written to the end.
     pub fn written(&self, written: usize) -> Result<&[u8], String> {
-        let guards = self.buffer[..GUARD]
-            .iter()
-            .chain(&self.buffer[GUARD + self.length..]);
-        if guards.into_iter().any(|byte| *byte != GUARD_BYTE) {
+        if !self.is_guarded() {
             return Err("bytes outside the report memory were written".to_string());
         }
         if written > self.length {

@@ -9,6 +9,7 @@ pub mod corrupt;
 pub mod coverage;
 pub mod explain;
 pub mod generator;
+pub mod held;
 pub mod ledger;
 pub mod lent;
 pub mod message;

@@ -168,6 +168,12 @@ impl Record {
             Record::Cancelled { .. } => 71,
         }
     }
+
+    /// How many bytes it takes.
+    pub fn length(&self) -> usize {
+        let widths = layout(self.kind()).unwrap_or_default();
+        4 + widths.iter().map(|width| width.bytes()).sum::<usize>()
+    }
 }
 
 /// A line of the sheet: the kind, then the fields in table order.

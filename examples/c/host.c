@@ -1,0 +1,292 @@
+/*
+ * A host of the legging order engine in C: does a message list, by one run or
+ * message by message, and prints a line for each record and the number at the end.
+ *
+ *     host [--each] [--hex] [--room BYTES] [FILE]
+ */
+#include "legging.h"
+
+#include <errno.h>
+#include <inttypes.h>
+#include <stdbool.h>
+#include <stdio.h>
+#include <stdlib.h>
+#include <string.h>
+
+enum { ENDED_EARLY = 3 }; /* exit status: the list's end was not reached */
+
+static const char USAGE[] =
+    "usage: host [--each] [--hex] [--room BYTES] [FILE]\n"
+    "\n"
+    "Does the message list in FILE, or on standard input where FILE is left out or -,\n"
+    "from a fresh venue. Prints a line for each record, its kind and its fields in\n"
+    "table order, and last the number that ended it.\n"
+    "\n"
+    "  --each        message by message, upon a venue held here; otherwise by one run\n"
+    "  --hex         print each record's bytes in hexadecimal\n"
+    "  --room BYTES  report memory of this length; otherwise it is always enough\n"
+    "  --help        this text\n"
+    "\n"
+    "The exit status is 0 when the whole list was done, 3 when it ended early\n"
+    "(number 1 or 10), 1 when the input was not read or memory not had, 2 for a wrong\n"
+    "command line.\n";
+
+struct options {
+    const char *file;
+    bool each;
+    bool hex;
+    bool has_room;
+    size_t room;
+};
+
+struct bytes {
+    uint8_t *at;
+    size_t length;
+};
+
+/* Command line ----------------------------------------------------------------- */
+
+static void wrong_usage(const char *what, const char *word)
+{
+    fprintf(stderr, "host: %s: %s\ntry: host --help\n", what, word);
+    exit(2);
+}
+
+static size_t room_of(const char *word)
+{
+    char *end = NULL;
+    errno = 0;
+    unsigned long long value = strtoull(word, &end, 10);
+    if (word[0] < '0' || word[0] > '9' || *end != '\0' || errno != 0 || value > PTRDIFF_MAX)
+        wrong_usage("expected a number of bytes after --room, found", word);
+    return (size_t)value;
+}
+
+static struct options options_of(int count, char **words)
+{
+    struct options options = {.file = NULL, .each = false, .hex = false, .has_room = false, .room = 0};
+    for (int i = 1; i < count; i++) {
+        const char *word = words[i];
+        if (strcmp(word, "--help") == 0) {
+            fputs(USAGE, stdout);
+            exit(0);
+        } else if (strcmp(word, "--each") == 0) {
+            options.each = true;
+        } else if (strcmp(word, "--hex") == 0) {
+            options.hex = true;
+        } else if (strcmp(word, "--room") == 0) {
+            if (++i == count)
+                wrong_usage("expected a number of bytes after", word);
+            options.has_room = true;
+            options.room = room_of(words[i]);
+        } else if (strncmp(word, "--", 2) == 0) {
+            wrong_usage("option not known", word);
+        } else if (options.file != NULL) {
+            wrong_usage("one argument too many", word);
+        } else {
+            options.file = word;
+        }
+    }
+    return options;
+}
+
+/* Memory ----------------------------------------------------------------------- */
+
+/* Memory of another length; of none, NULL. */
+static uint8_t *resized(uint8_t *memory, size_t length)
+{
+    if (length == 0) {
+        free(memory);
+        return NULL;
+    }
+    uint8_t *moved = realloc(memory, length);
+    if (moved == NULL) {
+        fprintf(stderr, "host: no memory of %zu bytes\n", length);
+        exit(1);
+    }
+    return moved;
+}
+
+static struct bytes read_all(FILE *from, const char *name)
+{
+    struct bytes read = {NULL, 0};
+    size_t room = 0;
+    size_t count = 0;
+    do {
+        if (read.length == room) {
+            room = room == 0 ? 65536 : 2 * room;
+            read.at = resized(read.at, room);
+        }
+        count = fread(read.at + read.length, 1, room - read.length, from);
+        read.length += count;
+    } while (count > 0);
+    if (ferror(from)) {
+        fprintf(stderr, "host: %s was not read: %s\n", name, strerror(errno));
+        exit(1);
+    }
+    return read;
+}
+
+static struct bytes read_messages(const char *file)
+{
+    if (file == NULL || strcmp(file, "-") == 0)
+        return read_all(stdin, "standard input");
+    FILE *opened = fopen(file, "rb");
+    if (opened == NULL) {
+        fprintf(stderr, "host: %s was not opened: %s\n", file, strerror(errno));
+        exit(1);
+    }
+    struct bytes messages = read_all(opened, file);
+    fclose(opened);
+    return messages;
+}
+
+/* Records ---------------------------------------------------------------------- */
+
+/* The fields of a record kind: b u8, h u16, w u32, i i32. */
+static const char *fields_of(unsigned kind)
+{
+    switch (kind) {
+    case 64:
+        return "wbhb";
+    case 65:
+        return "bbwwww";
+    case 66:
+        return "wiw";
+    case 67:
+        return "wbbwww";
+    case 68:
+        return "wbbb";
+    case 70:
+        return "wwiw";
+    case 71:
+        return "ww";
+    default:
+        return "";
+    }
+}
+
+static uint32_t number_at(const uint8_t *at, size_t width)
+{
+    uint32_t value = 0;
+    for (size_t i = 0; i < width; i++)
+        value |= (uint32_t)at[i] << (8 * i);
+    return value;
+}
+
+static void print_fields(const uint8_t *record)
+{
+    unsigned kind = number_at(record + 2, 2);
+    const uint8_t *at = record + 4;
+    printf("%u", kind);
+    for (const char *field = fields_of(kind); *field != '\0'; field++) {
+        size_t width = *field == 'b' ? 1 : *field == 'h' ? 2 : 4;
+        uint32_t value = number_at(at, width);
+        if (*field == 'i' && value > INT32_MAX)
+            printf(" -%" PRIu32, UINT32_MAX - value + 1);
+        else
+            printf(" %" PRIu32, value);
+        at += width;
+    }
+    putchar('\n');
+}
+
+static void print_bytes(const uint8_t *record, size_t length)
+{
+    for (size_t i = 0; i < length; i++)
+        printf(i == 0 ? "%02x" : " %02x", record[i]);
+    putchar('\n');
+}
+
+/* The records end at the first zero length, or at the end of the memory. */
+static void print_records(struct bytes report, bool hex)
+{
+    size_t at = 0;
+    while (report.length - at >= 4) {
+        const uint8_t *record = report.at + at;
+        size_t length = number_at(record, 2);
+        if (length == 0)
+            return;
+        if (hex)
+            print_bytes(record, length);
+        else
+            print_fields(record);
+        at += length;
+    }
+}
+
+/* The calls -------------------------------------------------------------------- */
+
+/* A run starts from a fresh venue, so where the memory was too short it is made
+ * again with more. */
+static uint8_t run(struct options options, struct bytes messages)
+{
+    struct bytes report = {NULL, options.has_room ? options.room : 65536};
+    uint8_t number = LEGGING_DONE;
+    for (;;) {
+        report.at = resized(report.at, report.length);
+        number = legging_run(messages.at, messages.length, report.at, report.length);
+        bool is_short = number == LEGGING_NO_ROOM && report.length <= PTRDIFF_MAX / 2;
+        if (options.has_room || !is_short)
+            break;
+        report.length *= 2;
+    }
+    print_records(report, options.hex);
+    free(report.at);
+    return number;
+}
+
+/* The same list by one-message calls: the venue is held here, and each message is
+ * told how many went before it. */
+static uint8_t run_each(struct options options, struct bytes messages)
+{
+    uint8_t venue[LEGGING_VENUE_BYTES] = {0};
+    struct bytes report = {NULL, options.has_room ? options.room : LEGGING_MOST_BYTES};
+    uint8_t number = LEGGING_DONE;
+    uint32_t before = 0;
+    size_t at = 0;
+    report.at = resized(report.at, report.length);
+    while (at < messages.length) {
+        const uint8_t *message = messages.at + at;
+        number = legging_message(venue, sizeof venue, before, message, messages.length - at,
+                                 report.at, report.length);
+        print_records(report, options.hex);
+        if (number == LEGGING_TORN || number >= LEGGING_UNSOUND)
+            break;
+        number = LEGGING_DONE; /* a message refused with 2 to 8 is passed over */
+        before += 1;
+        at += number_at(message, 2);
+    }
+    free(report.at);
+    return number;
+}
+
+static const char *meaning(uint8_t number)
+{
+    switch (number) {
+    case LEGGING_DONE:
+        return "the whole list was done";
+    case LEGGING_TORN:
+        return "the list ends in the middle of a message";
+    case LEGGING_UNSOUND:
+        return "the venue is unsound";
+    case LEGGING_NO_ROOM:
+        return "the report memory is full, or the message numbers are used up";
+    default:
+        return "not a number that ends a list";
+    }
+}
+
+int main(int count, char **words)
+{
+    struct options options = options_of(count, words);
+    struct bytes messages = read_messages(options.file);
+    uint8_t number = options.each ? run_each(options, messages) : run(options, messages);
+    printf("number %u: %s\n", (unsigned)number, meaning(number));
+    free(messages.at);
+    if (fflush(stdout) != 0) {
+        fprintf(stderr, "host: the output was not written: %s\n", strerror(errno));
+        return 1;
+    }
+    return number == LEGGING_DONE ? 0 : ENDED_EARLY;
+}

@@ -1,0 +1,309 @@
+//! One piece of work at a time: a prefix of messages makes the state, then a unit
+//! of a few messages that leave the state as it was is repeated.
+
+use sessions::message::{Leg, Message};
+
+/// What a unit does.
+#[derive(Clone, Copy, Debug, PartialEq, Eq)]
+pub enum Layer {
+    Rests,
+    TakesTwo,
+    Generates,
+    Hit,
+    Cross,
+    CrossWithLegging,
+    SweepIdle,
+    SweepWorking,
+    Settles,
+}
+
+impl Layer {
+    pub const ALL: [Layer; 9] = [
+        Layer::Rests,
+        Layer::TakesTwo,
+        Layer::Generates,
+        Layer::Hit,
+        Layer::Cross,
+        Layer::CrossWithLegging,
+        Layer::SweepIdle,
+        Layer::SweepWorking,
+        Layer::Settles,
+    ];
+
+    /// One word, to choose it by.
+    pub fn name(self) -> &'static str {
+        match self {
+            Layer::Rests => "rests",
+            Layer::TakesTwo => "takes-two",
+            Layer::Generates => "generates",
+            Layer::Hit => "hit",
+            Layer::Cross => "cross",
+            Layer::CrossWithLegging => "cross-legging",
+            Layer::SweepIdle => "sweep-32",
+            Layer::SweepWorking => "sweep-32-working",
+            Layer::Settles => "settles",
+        }
+    }
+
+    pub fn from_name(name: &str) -> Option<Layer> {
+        Layer::ALL.into_iter().find(|layer| layer.name() == name)
+    }
+
+    /// The messages of a unit in words.
+    pub fn unit(self) -> &'static str {
+        match self {
+            Layer::Rests => "an order that rests; its cancel",
+            Layer::TakesTwo => "an order that takes two; the two again",
+            Layer::Generates => "a complex order that generates both legs; its cancel",
+            Layer::Hit => "a complex order that generates both legs; the order that hits one",
+            Layer::Cross => "a complex order that rests; the one that crosses it",
+            Layer::CrossWithLegging => "the same, its two legging orders removed",
+            Layer::SweepIdle => "a sweep of 32, eight legging orders standing, none made",
+            Layer::SweepWorking => "two sweeps of 32 that generate, an away price before each",
+            Layer::Settles => "an away price, eight legging orders tested",
+        }
+    }
+}
+
+/// A layer upon a book of some regular orders.
+pub struct Case {
+    pub prefix: Vec<u8>,
+    /// The prefix and then the units.
+    pub list: Vec<u8>,
+    pub messages_in_unit: usize,
+}
+
+/// Prices of the quotes: offers and bids of the first two series.
+const OFFERS: [u32; 2] = [130, 90];
+const BIDS: [u32; 2] = [110, 70];
+const MOST: u32 = 10_000;
+
+impl Case {
+    /// Upon `book` regular orders, an arriving one counted among them.
+    pub fn new(layer: Layer, book: usize, units: usize) -> Self {
+        let mut script = Script::default();
+        script.open(layer);
+        script.quote(layer);
+        let arriving = [Layer::Rests, Layer::TakesTwo, Layer::Hit].contains(&layer);
+        script.fill(book.saturating_sub(script.resting + usize::from(arriving)));
+        script.complex_book(layer);
+        let prefix = script.bytes.clone();
+        let before = script.messages;
+        script.unit(layer);
+        let messages_in_unit = script.messages - before;
+        for _ in 1..units {
+            script.unit(layer);
+        }
+        Case {
+            prefix,
+            list: script.bytes,
+            messages_in_unit,
+        }
+    }
+}
+
+/// Messages with rising ids.
+#[derive(Default)]
+struct Script {
+    bytes: Vec<u8>,
+    messages: usize,
+    resting: usize,
+    last: u32,
+}
+
+impl Script {
+    fn send(&mut self, message: Message) {
+        self.bytes.extend(message.encode());
+        self.messages += 1;
+    }
+
+    fn order(&mut self, series: u8, side: u8, price: u32, quantity: u32) {
+        self.last += 1;
+        self.send(Message::Order {
+            id: self.last,
+            leg: Leg { series, side },
+            price,
+            quantity,
+        });
+    }
+
+    fn rest(&mut self, series: u8, side: u8, price: u32, quantity: u32) {
+        self.order(series, side, price, quantity);
+        self.resting += 1;
+    }
+
+    fn complex(&mut self, series: [u8; 2], side: u8, limit: i32, quantity: u32) {
+        self.last += 1;
+        self.send(Message::Complex {
+            id: self.last,
+            legs: series.map(|series| Leg { series, side }),
+            class: 1,
+            limit,
+            quantity,
+        });
+    }
+
+    fn cancel_last(&mut self) {
+        self.send(Message::Cancel { id: self.last });
+    }
+
+    fn away_offer(&mut self, series: u8, offer: u32) {
+        let bid = 0;
+        self.send(Message::Away { series, bid, offer });
+    }
+
+    /// Opens all series; those of a plain cross are in auction, where no legging
+    /// order is made.
+    fn open(&mut self, layer: Layer) {
+        let status = if layer == Layer::Cross { 2 } else { 1 };
+        for series in 0..8 {
+            self.send(Message::Status { series, status });
+        }
+    }
+
+    /// The orders that the units need.
+    fn quote(&mut self, layer: Layer) {
+        match layer {
+            Layer::Rests => {}
+            Layer::TakesTwo => (0..2).for_each(|_| self.rest(0, 1, OFFERS[0], 1)),
+            Layer::Generates | Layer::Hit => self.offers(),
+            Layer::Cross | Layer::CrossWithLegging => {
+                self.offers();
+                self.rest(0, 0, BIDS[0], MOST);
+                self.rest(1, 0, BIDS[1], MOST);
+            }
+            Layer::SweepIdle | Layer::SweepWorking | Layer::Settles => {
+                (0..8).for_each(|series| self.rest(series, 1, OFFERS[0], MOST));
+            }
+        }
+    }
+
+    fn offers(&mut self) {
+        self.rest(0, 1, OFFERS[0], MOST);
+        self.rest(1, 1, OFFERS[1], MOST);
+    }
+
+    /// Orders on all sides, far from the quotes, several at a price.
+    fn fill(&mut self, count: usize) {
+        for index in 0..count {
+            let (series, side) = ((index / 2 % 8) as u8, (index % 2) as u8);
+            let step = 10 * (index / 16 % 4) as u32;
+            let price = if side == 0 { 10 + step } else { 50_000 + step };
+            self.rest(series, side, price, 5);
+        }
+    }
+
+    /// 32 complex orders over all pairs of series next to each other; the first
+    /// eight get the legging places.
+    fn complex_book(&mut self, layer: Layer) {
+        let sweeps = [Layer::SweepIdle, Layer::SweepWorking, Layer::Settles];
+        if !sweeps.contains(&layer) {
+            return;
+        }
+        for index in 0..32u8 {
+            let first = index % 8;
+            let second = (first + 1 + index / 8) % 8;
+            self.complex([first, second], 0, 235, 10);
+        }
+        self.send(Message::Sweep);
+    }
+
+    fn unit(&mut self, layer: Layer) {
+        match layer {
+            Layer::Rests => {
+                self.order(0, 0, 100, 5);
+                self.cancel_last();
+            }
+            Layer::TakesTwo => {
+                self.order(0, 0, OFFERS[0], 2);
+                (0..2).for_each(|_| self.order(0, 1, OFFERS[0], 1));
+            }
+            Layer::Generates => {
+                self.complex([0, 1], 0, 205, 8);
+                self.cancel_last();
+            }
+            Layer::Hit => {
+                self.complex([0, 1], 0, 205, 1);
+                self.order(0, 1, 115, 1);
+            }
+            Layer::Cross | Layer::CrossWithLegging => {
+                self.complex([0, 1], 0, 200, 8);
+                self.complex([0, 1], 1, -200, 8);
+            }
+            Layer::SweepIdle => self.send(Message::Sweep),
+            Layer::SweepWorking => {
+                for offer in [80, 0] {
+                    self.away_offer(0, offer);
+                    self.send(Message::Sweep);
+                }
+            }
+            Layer::Settles => self.away_offer(0, 50_000),
+        }
+    }
+}
+
+#[cfg(test)]
+mod tests {
+    use super::*;
+    use crate::race::Track;
+    use sessions::record::{read_report, Record};
+
+    /// The kinds of the records of the last unit.
+    fn kinds(layer: Layer, book: usize) -> Vec<u16> {
+        let case = Case::new(layer, book, 3);
+        let mut track = Track::new();
+        track.list(case.list).expect("both agree");
+        let records = read_report(track.memory()).expect("whole records");
+        let answers = records.iter().rev();
+        let answered = |record: &&Record| matches!(record, Record::Answer { .. });
+        let mut left = case.messages_in_unit;
+        let from = answers
+            .enumerate()
+            .filter(|(_, record)| answered(record))
+            .find_map(|(at, _)| {
+                left -= 1;
+                (left == 0).then_some(at + 1)
+            })
+            .expect("a unit has answers");
+        let unit = &records[records.len() - from..];
+        for record in unit {
+            if let Record::Answer { refusal, .. } = record {
+                assert_eq!(*refusal, 0, "{layer:?} {book}");
+            }
+        }
+        unit.iter().map(Record::kind).collect()
+    }
+
+    #[test]
+    fn each_unit_does_what_it_is_said_to_do() {
+        for book in [8, 32, 128] {
+            assert_eq!(kinds(Layer::Rests, book), [64, 64, 71]);
+            assert_eq!(kinds(Layer::TakesTwo, book), [64, 65, 65, 64, 64]);
+            assert_eq!(kinds(Layer::Generates, book), [64, 67, 67, 64, 71, 68, 68]);
+            let hit = [64, 67, 67, 64, 65, 65, 66, 68, 68];
+            assert_eq!(kinds(Layer::Hit, book), hit);
+            assert_eq!(kinds(Layer::Cross, book), [64, 64, 70]);
+            let crossed = [64, 67, 67, 64, 70, 68, 68];
+            assert_eq!(kinds(Layer::CrossWithLegging, book), crossed);
+            assert_eq!(kinds(Layer::SweepIdle, book), [64]);
+            assert_eq!(kinds(Layer::Settles, book), [64]);
+            let working = kinds(Layer::SweepWorking, book);
+            assert!(
+                working.contains(&67) && working.contains(&68),
+                "{working:?}"
+            );
+        }
+    }
+
+    #[test]
+    fn eight_legging_orders_stand_in_the_sweeps() {
+        let case = Case::new(Layer::SweepIdle, 8, 1);
+        let mut track = Track::new();
+        track.list(case.list).expect("both agree");
+        let records = read_report(track.memory()).expect("whole records");
+        let Some(Record::Answer { count, .. }) = records.last() else {
+            panic!("the sweep's answer is last");
+        };
+        assert_eq!(*count, 8);
+    }
+}

@@ -1,0 +1,80 @@
+//! Lists to be timed: sessions of the generator, alone and one after another.
+
+use reference::Venue;
+use sessions::message::Message;
+use sessions::profile::Profile;
+use sessions::soak::{generate, session_length};
+use sessions::view::{held_complex, held_regular};
+
+/// The messages of the generator's own session.
+pub fn session(profile: Profile, seed: u64) -> Vec<Vec<u8>> {
+    generate(profile, seed, session_length(profile, seed))
+}
+
+/// A session that takes back what it leaves, so that another can follow.
+pub struct Closed(Vec<Message>);
+
+/// No id of a closed session is above this.
+const HIGHEST: u32 = 4_000;
+
+/// The first sessions whose ids stay low, closed.
+pub fn closed_sessions(profile: Profile, count: usize) -> Vec<Closed> {
+    (0..)
+        .filter_map(|seed| closed(profile, seed))
+        .take(count)
+        .collect()
+}
+
+fn closed(profile: Profile, seed: u64) -> Option<Closed> {
+    let pieces = session(profile, seed);
+    let left = reference::run(&pieces.concat(), &mut vec![0; 1 << 18]);
+    if left.number != 0 || left.venue.last > HIGHEST {
+        return None;
+    }
+    let messages = pieces.iter().map(|piece| Message::decode(piece));
+    Some(Closed(messages.chain(taken_back(&left.venue)).collect()))
+}
+
+/// Cancels every order, takes back the away prices and closes the series.
+fn taken_back(venue: &Venue) -> Vec<Message> {
+    let complex = held_complex(venue).map(|order| order.id);
+    let regular = held_regular(venue).map(|order| order.id);
+    let cancels = complex.chain(regular).map(|id| Message::Cancel { id });
+    let series = (0..8).flat_map(|series| {
+        let (bid, offer, status) = (0, 0, 0);
+        [
+            Message::Away { series, bid, offer },
+            Message::Status { series, status },
+        ]
+    });
+    cancels.chain(series).collect()
+}
+
+/// One list of closed sessions, the ids of each above those before.
+pub fn joined(sessions: &[Closed]) -> Vec<u8> {
+    let mut list = Vec::new();
+    for (session, base) in sessions.iter().zip((0..).step_by(HIGHEST as usize)) {
+        for message in &session.0 {
+            list.extend(moved(message, base).encode());
+        }
+    }
+    list
+}
+
+pub fn messages_in(sessions: &[Closed]) -> usize {
+    sessions.iter().map(|session| session.0.len()).sum()
+}
+
+/// The message with its id moved up; an id of 0 is refused and stays.
+fn moved(message: &Message, base: u32) -> Message {
+    let mut message = message.clone();
+    match &mut message {
+        Message::Order { id, .. } | Message::Complex { id, .. } | Message::Cancel { id }
+            if *id > 0 =>
+        {
+            *id = id.saturating_add(base);
+        }
+        _ => {}
+    }
+    message
+}

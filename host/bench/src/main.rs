@@ -1,0 +1,186 @@
+//! `bench`: the engine timed beside the reference, on the same bytes in one
+//! process. Tables go to standard output as Markdown.
+
+mod calls;
+mod clock;
+mod layers;
+mod lists;
+mod machine;
+mod race;
+mod runs;
+mod spin;
+mod table;
+
+use layers::Layer;
+use sessions::profile::Profile;
+use std::process::ExitCode;
+
+const HELP: &str = "\
+bench: the engine timed beside the reference, in ns
+
+  bench [TABLE ...] [--rounds N] [--seeds N] [--sessions N] [--only NAME] [--quick]
+  bench spin NAME [--book N] [--times N] [--who engine|reference]
+
+Tables: profiles, blocks, growing, books, layers, calls, call-layers; all of them where none is named.
+Each cell is the least and the median of the rounds (default 15), the ratio is
+reference / engine of the least: above 1 the engine is faster.
+
+  profiles   the generator's sessions of seeds 0 to N-1 (default 40), each one run
+  blocks     the same lists in blocks of 16 messages: the least time of the run over
+             the prefix that ends with the block, less that of the one before it
+  growing    the same mixed sessions (default 2500) in lists of 1, 10, 100 and all
+  books      an order that rests and its cancel, on books from 1 to 128 orders
+  layers     one piece of work at a time on books of 8, 32 and 128 orders: the run of
+             a prefix and 1,000 units, less the run of the prefix, by 1,000
+  calls      each message of the generator's sessions as a one-message call upon the
+             venue before it, with report memory of 10,112 bytes: eight calls are
+             timed together, least of the rounds for each message
+  call-layers  the messages of a unit as such calls
+
+--only keeps the profiles and layers of that name. --quick is 5 rounds, 10 seeds and
+200 sessions. Times are processor times of the thread. Both contenders run in turn,
+each first in every other round, upon report memory with 16,384 bytes more than the
+records; before anything is timed, their reports must be equal.
+
+`bench spin` repeats the run of a profile (seed 0) or layer, for a profiler.
+";
+
+/// What is timed, and how often.
+pub struct Options {
+    pub tables: Vec<String>,
+    pub rounds: usize,
+    pub seeds: u64,
+    pub sessions: usize,
+    pub only: Option<String>,
+}
+
+impl Options {
+    fn wants(&self, name: &str) -> bool {
+        self.only.as_deref().is_none_or(|only| only == name)
+    }
+
+    pub fn profiles(&self) -> impl Iterator<Item = Profile> + '_ {
+        let all = Profile::ALL.into_iter();
+        all.filter(|profile| self.wants(profile.name()))
+    }
+
+    pub fn layers(&self) -> impl Iterator<Item = Layer> + '_ {
+        let all = Layer::ALL.into_iter();
+        all.filter(|layer| self.wants(layer.name()))
+    }
+
+    fn parse(arguments: &[String]) -> Result<Options, String> {
+        let mut options = Options {
+            tables: Vec::new(),
+            rounds: 15,
+            seeds: 40,
+            sessions: 2_500,
+            only: None,
+        };
+        let mut rest = arguments.iter();
+        while let Some(word) = rest.next() {
+            match word.as_str() {
+                "--rounds" => options.rounds = value(word, rest.next())?,
+                "--seeds" => options.seeds = value(word, rest.next())?,
+                "--sessions" => options.sessions = value(word, rest.next())?,
+                "--only" => options.only = rest.next().cloned(),
+                "--quick" => {
+                    (options.rounds, options.seeds, options.sessions) = (5, 10, 200);
+                }
+                name if TABLES.iter().any(|(known, ..)| *known == name) => {
+                    options.tables.push(name.to_string());
+                }
+                other => return Err(format!("{other:?} is not known")),
+            }
+        }
+        if options.rounds == 0 || options.seeds == 0 || options.sessions == 0 {
+            return Err("rounds, seeds and sessions are 1 or more".to_string());
+        }
+        options.checked()
+    }
+
+    /// A name given with --only must be one.
+    fn checked(self) -> Result<Options, String> {
+        let Some(name) = &self.only else {
+            return Ok(self);
+        };
+        if Profile::from_name(name).is_none() && Layer::from_name(name).is_none() {
+            return Err(format!("{name:?} is no profile and no layer"));
+        }
+        Ok(self)
+    }
+}
+
+/// The number after an option.
+pub fn value<T: std::str::FromStr>(option: &str, word: Option<&String>) -> Result<T, String> {
+    let parsed = word.and_then(|word| word.parse().ok());
+    parsed.ok_or_else(|| format!("expected a number after {option}"))
+}
+
+type Make = fn(&Options) -> Result<String, String>;
+
+const TABLES: &[(&str, &str, Make)] = &[
+    (
+        "profiles",
+        "Run, ns for a message: whole sessions",
+        runs::profiles,
+    ),
+    (
+        "blocks",
+        "Run, ns for a message: spread over blocks of 16",
+        runs::blocks,
+    ),
+    (
+        "growing",
+        "Run, ns for a message: lists of growing length",
+        runs::growing,
+    ),
+    (
+        "books",
+        "Run, ns for an order that rests and its cancel: books from empty to full",
+        runs::books,
+    ),
+    ("layers", "Run, ns for a unit: layers", runs::layers),
+    (
+        "calls",
+        "One-message call, ns: each message of the sessions",
+        calls::profiles,
+    ),
+    (
+        "call-layers",
+        "One-message calls, ns for a unit: layers",
+        calls::layers,
+    ),
+];
+
+fn perform(arguments: &[String]) -> Result<(), String> {
+    if arguments
+        .iter()
+        .any(|word| word == "help" || word == "--help")
+    {
+        print!("{HELP}");
+        return Ok(());
+    }
+    if arguments.first().is_some_and(|word| word == "spin") {
+        return spin::spin(&arguments[1..]);
+    }
+    let options = Options::parse(arguments)?;
+    println!("{}", machine::described());
+    for (name, title, make) in TABLES {
+        if options.tables.is_empty() || options.tables.iter().any(|table| table == name) {
+            println!("### {title}\n\n{}", make(&options)?);
+        }
+    }
+    Ok(())
+}
+
+fn main() -> ExitCode {
+    let arguments: Vec<String> = std::env::args().skip(1).collect();
+    match perform(&arguments) {
+        Ok(()) => ExitCode::SUCCESS,
+        Err(what) => {
+            eprintln!("bench: {what}\ntry: bench help");
+            ExitCode::FAILURE
+        }
+    }
+}

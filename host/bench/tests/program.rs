@@ -1,0 +1,61 @@
+//! The program: its tables, its errors, its exit status.
+
+use std::process::Command;
+
+fn bench(arguments: &[&str]) -> (bool, String, String) {
+    let output = Command::new(env!("CARGO_BIN_EXE_bench"))
+        .args(arguments)
+        .output()
+        .expect("the program starts");
+    let text = |bytes: Vec<u8>| String::from_utf8(bytes).expect("text");
+    (
+        output.status.success(),
+        text(output.stdout),
+        text(output.stderr),
+    )
+}
+
+#[test]
+fn every_table_has_its_rows() {
+    let sizes = ["--rounds", "1", "--seeds", "1", "--sessions", "2"];
+    for (table, rows) in [
+        ("profiles", 13),
+        ("blocks", 13),
+        ("growing", 4),
+        ("books", 8),
+        ("layers", 27),
+        ("calls", 13),
+        ("call-layers", 27),
+    ] {
+        let (succeeded, told, error) = bench(&[&[table], &sizes[..]].concat());
+        assert!(succeeded, "{error}");
+        let lines = told.lines().filter(|line| line.starts_with("| "));
+        assert_eq!(lines.count(), rows + 1, "{told}");
+        assert!(!told.contains("NaN") && !told.contains("inf"), "{told}");
+    }
+}
+
+#[test]
+fn one_contender_alone() {
+    let (succeeded, told, _) = bench(&["spin", "hit", "--times", "1", "--who", "reference"]);
+    assert!(
+        succeeded && told.starts_with("hit: 1 runs by the reference"),
+        "{told}"
+    );
+}
+
+#[test]
+fn a_wrong_command_line_is_told() {
+    for (arguments, word) in [
+        (&["what"][..], "\"what\""),
+        (&["--rounds"], "number after --rounds"),
+        (&["--rounds", "0"], "1 or more"),
+        (&["--only", "what"], "no profile and no layer"),
+        (&["spin"], "to spin"),
+        (&["spin", "hit", "--who", "me"], "\"me\""),
+    ] {
+        let (succeeded, told, error) = bench(arguments);
+        assert!(!succeeded && told.is_empty());
+        assert!(error.contains(word), "{error}");
+    }
+}

@@ -1,0 +1,199 @@
+//! One call of the engine beside the same call of the reference.
+
+use crate::check::{Check, Fault, Part};
+use crate::engine::Engine;
+use sessions::held::{from_bytes, to_bytes, VENUE_BYTES};
+use sessions::lent::Lent;
+use sessions::record::{read_report_into, Record};
+
+/// How much was compared.
+#[derive(Clone, Debug, Default)]
+pub struct Counts {
+    pub sessions: u64,
+    pub messages: u64,
+    pub runs: u64,
+    pub calls: u64,
+    pub bytes: u64,
+    /// How often each number was returned.
+    pub numbers: [u64; 11],
+}
+
+/// What a one-message call has to return and leave.
+pub struct Expected {
+    pub number: u8,
+    pub done: u32,
+    pub written: usize,
+    pub venue: Vec<u8>,
+}
+
+/// The reference's one-message call upon venue bytes; the report is written.
+pub fn expected(venue: &[u8], before: u32, message: &[u8], report: &mut [u8]) -> Expected {
+    let Ok(bytes) = <&[u8; VENUE_BYTES]>::try_from(venue) else {
+        report.fill(0);
+        return Expected {
+            number: 9,
+            done: 0,
+            written: 0,
+            venue: venue.to_vec(),
+        };
+    };
+    let returned = reference::one_message(&from_bytes(bytes), before, message, report);
+    Expected {
+        number: returned.number,
+        done: returned.done,
+        written: returned.written,
+        venue: to_bytes(&returned.venue).to_vec(),
+    }
+}
+
+/// Calls of both, compared as they are made.
+pub struct Comparer<'a> {
+    engine: &'a dyn Engine,
+    fault: Option<Fault>,
+    /// The engine's report memory and venue memory.
+    report: Lent,
+    venue: Lent,
+    /// The reference's report memory.
+    wanted: Lent,
+    records: Vec<Record>,
+    pub counts: Counts,
+}
+
+impl<'a> Comparer<'a> {
+    pub fn new(engine: &'a dyn Engine, fault: Option<Fault>) -> Self {
+        Comparer {
+            engine,
+            fault,
+            report: Lent::new(),
+            venue: Lent::new(),
+            wanted: Lent::new(),
+            records: Vec::new(),
+            counts: Counts::default(),
+        }
+    }
+
+    /// A run of both with report memory of this length.
+    pub fn run(&mut self, check: Check, messages: &[u8], length: usize) -> Result<(), String> {
+        let wanted = reference::run(messages, self.wanted.lend(length));
+        let number = self.engine.run(messages, self.report.lend(length));
+        let number = self.spoiled(check, number);
+        self.counts.runs += 1;
+        let same = self
+            .same_number(number, wanted.number)
+            .and_then(|()| self.same_report(wanted.done, wanted.written));
+        same.map_err(|what| format!("report memory of {length} bytes: {what}"))
+    }
+
+    /// A one-message call of both. Tells the number and the venue left.
+    pub fn call(
+        &mut self,
+        check: Check,
+        venue: &[u8],
+        before: u32,
+        message: &[u8],
+        length: usize,
+    ) -> Result<Expected, String> {
+        let wanted = expected(venue, before, message, self.wanted.lend(length));
+        let held = self.venue.lend(venue.len());
+        held.copy_from_slice(venue);
+        let report = self.report.lend(length);
+        let number = self.engine.message(held, before, message, report);
+        let number = self.spoiled(check, number);
+        self.counts.calls += 1;
+        let same = self
+            .same_number(number, wanted.number)
+            .and_then(|()| self.same_report(wanted.done, wanted.written))
+            .and_then(|()| self.same_venue(&wanted.venue));
+        match same {
+            Ok(()) => Ok(wanted),
+            Err(what) => Err(format!(
+                "{before} messages before, report memory of {length} bytes, message {}: {what}",
+                hexadecimal(message)
+            )),
+        }
+    }
+
+    /// The number, with a part of the answer spoiled if that was asked for.
+    fn spoiled(&mut self, check: Check, number: u8) -> u8 {
+        let part = match self.fault {
+            Some(fault) if fault.check == check => fault.part,
+            _ => return number,
+        };
+        let report = self.report.memory().len() as isize;
+        let venue = self.venue.memory().len() as isize;
+        match part {
+            Part::Number => return number ^ 1,
+            Part::Report => self.report.spoil((report - 1).max(0)),
+            Part::BeforeReport => self.report.spoil(-1),
+            Part::AfterReport => self.report.spoil(report),
+            Part::Venue => self.venue.spoil((venue - 1).max(0)),
+            Part::BeforeVenue => self.venue.spoil(-1),
+            Part::AfterVenue => self.venue.spoil(venue),
+        }
+        number
+    }
+
+    fn same_number(&mut self, number: u8, wanted: u8) -> Result<(), String> {
+        if number != wanted {
+            return Err(format!("number {number}, expected {wanted}"));
+        }
+        if let Some(count) = self.counts.numbers.get_mut(usize::from(number)) {
+            *count += 1;
+        }
+        Ok(())
+    }
+
+    /// Every byte of the memory, the guards, and what the records tell of the
+    /// messages done and the bytes written.
+    fn same_report(&mut self, done: u32, written: usize) -> Result<(), String> {
+        if !self.report.is_guarded() {
+            return Err("bytes outside the report memory were written".to_string());
+        }
+        same_bytes("report", self.report.memory(), self.wanted.memory())?;
+        self.counts.bytes += self.report.memory().len() as u64;
+        read_report_into(self.report.memory(), &mut self.records)?;
+        let bytes: usize = self.records.iter().map(Record::length).sum();
+        let is_answer = |record: &&Record| matches!(record, Record::Answer { .. });
+        let answers = self.records.iter().filter(is_answer).count();
+        if bytes != written || answers != done as usize {
+            return Err(format!(
+                "{answers} messages done and {bytes} bytes written, expected {done} and {written}"
+            ));
+        }
+        Ok(())
+    }
+
+    fn same_venue(&mut self, wanted: &[u8]) -> Result<(), String> {
+        if !self.venue.is_guarded() {
+            return Err("bytes outside the venue memory were written".to_string());
+        }
+        self.counts.bytes += wanted.len() as u64;
+        same_bytes("venue", self.venue.memory(), wanted)
+    }
+}
+
+fn same_bytes(name: &str, found: &[u8], wanted: &[u8]) -> Result<(), String> {
+    if found == wanted {
+        return Ok(());
+    }
+    let at = found.iter().zip(wanted).position(|(a, b)| a != b);
+    match at {
+        Some(at) => Err(format!(
+            "{name} byte {at} is {:02x}, expected {:02x}",
+            found[at], wanted[at]
+        )),
+        None => Err(format!(
+            "{name} of {} bytes, expected {}",
+            found.len(),
+            wanted.len()
+        )),
+    }
+}
+
+fn hexadecimal(bytes: &[u8]) -> String {
+    let shown: Vec<String> = bytes.iter().map(|byte| format!("{byte:02x}")).collect();
+    match shown.is_empty() {
+        true => "of no bytes".to_string(),
+        false => shown.join(" "),
+    }
+}

@@ -1,0 +1,140 @@
+//! The names of what is compared, and of the parts of an answer.
+
+/// A kind of call that is compared.
+#[derive(Clone, Copy, Debug, PartialEq, Eq)]
+pub enum Check {
+    RunWhole,
+    RunShort,
+    RunEveryLength,
+    RunTorn,
+    RunChanged,
+    RunNoise,
+    Call,
+    CallShort,
+    CallNumber,
+    CallBytes,
+    CallVenue,
+    CallVenueLength,
+}
+
+impl Check {
+    pub const ALL: [Check; 12] = [
+        Check::RunWhole,
+        Check::RunShort,
+        Check::RunEveryLength,
+        Check::RunTorn,
+        Check::RunChanged,
+        Check::RunNoise,
+        Check::Call,
+        Check::CallShort,
+        Check::CallNumber,
+        Check::CallBytes,
+        Check::CallVenue,
+        Check::CallVenueLength,
+    ];
+
+    pub fn name(self) -> &'static str {
+        match self {
+            Check::RunWhole => "run-whole",
+            Check::RunShort => "run-short",
+            Check::RunEveryLength => "run-every-length",
+            Check::RunTorn => "run-torn",
+            Check::RunChanged => "run-changed",
+            Check::RunNoise => "run-noise",
+            Check::Call => "call",
+            Check::CallShort => "call-short",
+            Check::CallNumber => "call-number",
+            Check::CallBytes => "call-bytes",
+            Check::CallVenue => "call-venue",
+            Check::CallVenueLength => "call-venue-length",
+        }
+    }
+
+    /// What it is, in words.
+    pub fn words(self) -> &'static str {
+        match self {
+            Check::RunWhole => "a run with room for all",
+            Check::RunShort => "a run with report memory that ends near a message's records",
+            Check::RunEveryLength => "a run with report memory of every length",
+            Check::RunTorn => "a run of a list cut off",
+            Check::RunChanged => "a run of a list with changed bytes",
+            Check::RunNoise => "a run of a list with random bytes after it",
+            Check::Call => "a one-message call",
+            Check::CallShort => "a one-message call with short report memory",
+            Check::CallNumber => "a one-message call with the last numbers",
+            Check::CallBytes => "a one-message call with torn, random or further bytes",
+            Check::CallVenue => "a one-message call upon a changed venue",
+            Check::CallVenueLength => "a one-message call upon venue memory of another length",
+        }
+    }
+
+    pub fn from_name(name: &str) -> Option<Check> {
+        Check::ALL.into_iter().find(|check| check.name() == name)
+    }
+
+    pub fn is_call(self) -> bool {
+        self.name().starts_with("call")
+    }
+}
+
+/// A part of an answer.
+#[derive(Clone, Copy, Debug, PartialEq, Eq)]
+pub enum Part {
+    Number,
+    Report,
+    BeforeReport,
+    AfterReport,
+    Venue,
+    BeforeVenue,
+    AfterVenue,
+}
+
+impl Part {
+    pub const ALL: [Part; 7] = [
+        Part::Number,
+        Part::Report,
+        Part::BeforeReport,
+        Part::AfterReport,
+        Part::Venue,
+        Part::BeforeVenue,
+        Part::AfterVenue,
+    ];
+
+    pub fn name(self) -> &'static str {
+        match self {
+            Part::Number => "number",
+            Part::Report => "report",
+            Part::BeforeReport => "before-report",
+            Part::AfterReport => "after-report",
+            Part::Venue => "venue",
+            Part::BeforeVenue => "before-venue",
+            Part::AfterVenue => "after-venue",
+        }
+    }
+
+    pub fn from_name(name: &str) -> Option<Part> {
+        Part::ALL.into_iter().find(|part| part.name() == name)
+    }
+
+    pub fn is_of_venue(self) -> bool {
+        matches!(self, Part::Venue | Part::BeforeVenue | Part::AfterVenue)
+    }
+}
+
+/// A part spoiled in every answer of a check, to see that it is found.
+#[derive(Clone, Copy, Debug, PartialEq, Eq)]
+pub struct Fault {
+    pub check: Check,
+    pub part: Part,
+}
+
+impl Fault {
+    /// `CHECK:PART`.
+    pub fn from_name(name: &str) -> Option<Fault> {
+        let (check, part) = name.split_once(':')?;
+        Some(Fault {
+            check: Check::from_name(check)?,
+            part: Part::from_name(part)?,
+        })
+    }
+}

@@ -1,0 +1,207 @@
+//! `compare`: the engine against the reference.
+
+#![forbid(unsafe_code)]
+
+use compare::calls::{Comparer, Counts};
+use compare::check::Fault;
+use compare::engine::Archive;
+use compare::session::compare_session;
+use sessions::profile::Profile;
+use std::process::ExitCode;
+use std::time::{Duration, Instant};
+
+const HELP: &str = "\
+compare: the engine against the reference, byte for byte
+
+  compare gate                                    a fixed set of sessions, every profile
+  compare soak [--minutes M | --messages N] [--seed S]
+                                                  sessions from seed S (default 0) on
+  compare session --profile P --seed S            one session again
+
+Each session of the generator is run whole, with report memory that ends near each
+message's records and of every short length, cut off, with changed and with random
+bytes; and message by message, each upon the venue that the last one left, with calls
+beside them upon short memory, the last message numbers, torn bytes, changed venues
+and venue memory of other lengths. Compared are the number, every byte of the report
+memory (lent full of junk) and of the venue, and the bytes around both. The first
+difference ends it with exit status 1, and names what repeats it. A soak tries report
+memory that ends near one in ten messages' records; the others try all of them.
+";
+
+/// When to stop.
+enum Until {
+    Sessions(u64),
+    Messages(u64),
+    Time(Duration),
+}
+
+/// What was asked for.
+struct Request {
+    profiles: Vec<Profile>,
+    seed: u64,
+    until: Until,
+    /// Short report memory is tried at one in so many messages.
+    one_in: u64,
+    fault: Option<Fault>,
+}
+
+/// Seeds of each profile in the gate.
+const GATE_SEEDS: u64 = 10;
+
+fn main() -> ExitCode {
+    let arguments: Vec<String> = std::env::args().skip(1).collect();
+    if arguments
+        .iter()
+        .any(|word| word == "help" || word == "--help")
+    {
+        print!("{HELP}");
+        return ExitCode::SUCCESS;
+    }
+    let request = match parse(&arguments) {
+        Ok(request) => request,
+        Err(what) => {
+            eprintln!("compare: {what}\ntry: compare help");
+            return ExitCode::from(2);
+        }
+    };
+    match compare_all(&request) {
+        Ok(counts) => {
+            print!("{}", told(&counts));
+            ExitCode::SUCCESS
+        }
+        Err(difference) => {
+            eprintln!("compare: {difference}");
+            ExitCode::FAILURE
+        }
+    }
+}
+
+fn parse(arguments: &[String]) -> Result<Request, String> {
+    let mut request = Request {
+        profiles: Profile::ALL.to_vec(),
+        seed: 0,
+        until: Until::Sessions(GATE_SEEDS * Profile::ALL.len() as u64),
+        one_in: 1,
+        fault: None,
+    };
+    let Some((command, rest)) = arguments.split_first() else {
+        return Err("expected a command".to_string());
+    };
+    let options: &[&str] = match command.as_str() {
+        "gate" => &["--fault"],
+        "soak" => {
+            request.until = Until::Messages(1_000_000);
+            request.one_in = 10;
+            &["--minutes", "--messages", "--seed", "--fault"]
+        }
+        "session" => {
+            request.until = Until::Sessions(1);
+            &["--profile", "--seed", "--fault"]
+        }
+        other => return Err(format!("command {other:?} is not known")),
+    };
+    for pair in rest.chunks(2) {
+        let [option, value] = pair else {
+            return Err(format!("expected a value after {}", pair[0]));
+        };
+        if !options.contains(&option.as_str()) {
+            return Err(format!("option {option} is not known here"));
+        }
+        request.set(option, value)?;
+    }
+    if command == "session" && request.profiles.len() > 1 {
+        return Err("expected --profile P and --seed S".to_string());
+    }
+    Ok(request)
+}
+
+impl Request {
+    fn set(&mut self, option: &str, value: &str) -> Result<(), String> {
+        let number = value.parse::<u64>();
+        let number =
+            number.map_err(|_| format!("expected a number after {option}, found {value:?}"));
+        match option {
+            "--seed" => self.seed = number?,
+            "--messages" => self.until = Until::Messages(number?),
+            "--minutes" => {
+                self.until = Until::Time(Duration::from_secs(number?.saturating_mul(60)))
+            }
+            "--profile" => {
+                let profile = Profile::from_name(value);
+                let names = Profile::ALL.map(Profile::name).join(", ");
+                let what = format!("expected a profile ({names}), found {value:?}");
+                self.profiles = vec![profile.ok_or(what)?];
+            }
+            // Spoils a part of the answers of a check, to see that it is found.
+            _ => {
+                let what = format!("expected CHECK:PART after {option}, found {value:?}");
+                self.fault = Some(Fault::from_name(value).ok_or(what)?);
+            }
+        }
+        Ok(())
+    }
+}
+
+/// Compares session after session, and shows from time to time how far it is.
+fn compare_all(request: &Request) -> Result<Counts, String> {
+    let start = Instant::now();
+    let mut shown = start;
+    let mut comparer = Comparer::new(&Archive, request.fault);
+    while !request.until.is_reached(&comparer.counts, start) {
+        let count = request.profiles.len() as u64;
+        let profile = request.profiles[(comparer.counts.sessions % count) as usize];
+        let seed = request.seed.wrapping_add(comparer.counts.sessions / count);
+        let compared = compare_session(&mut comparer, profile, seed, request.one_in);
+        compared.map_err(|difference| difference.to_string())?;
+        if shown.elapsed() >= Duration::from_secs(5).max(start.elapsed() / 20) {
+            shown = Instant::now();
+            eprintln!("{}", request.until.progress(&comparer.counts, start));
+        }
+    }
+    Ok(comparer.counts)
+}
+
+impl Until {
+    fn is_reached(&self, counts: &Counts, start: Instant) -> bool {
+        match self {
+            Until::Sessions(sessions) => counts.sessions >= *sessions,
+            Until::Messages(messages) => counts.messages >= *messages,
+            Until::Time(time) => start.elapsed() >= *time,
+        }
+    }
+
+    /// How far it is, of how much.
+    fn progress(&self, counts: &Counts, start: Instant) -> String {
+        let of = |whole: u64| format!(" of {whole}");
+        let [mut time, mut sessions, mut messages] = [const { String::new() }; 3];
+        match self {
+            Until::Sessions(whole) => sessions = of(*whole),
+            Until::Messages(whole) => messages = of(*whole),
+            Until::Time(whole) => time = of(whole.as_secs()),
+        }
+        format!(
+            "{}{time} s: {}{sessions} sessions, {}{messages} messages, no difference",
+            start.elapsed().as_secs(),
+            counts.sessions,
+            counts.messages
+        )
+    }
+}
+
+fn told(counts: &Counts) -> String {
+    let mut text = String::from("no difference\n");
+    let lines = [
+        (counts.sessions, "sessions"),
+        (counts.messages, "messages"),
+        (counts.runs, "runs"),
+        (counts.calls, "one-message calls"),
+        (counts.bytes, "bytes of reports and venues"),
+    ];
+    for (count, name) in lines {
+        text += &format!("{count:>14}  {name}\n");
+    }
+    for (number, count) in counts.numbers.iter().enumerate() {
+        text += &format!("{count:>14}  number {number}\n");
+    }
+    text
+}

@@ -1,0 +1,303 @@
+//! Everything that is compared on one session of the generator.
+
+use crate::calls::{Comparer, Expected};
+use crate::check::Check;
+use sessions::corrupt::corrupt;
+use sessions::generator::Generator;
+use sessions::held::{from_bytes, to_bytes, VENUE_BYTES};
+use sessions::profile::Profile;
+use sessions::random::Random;
+use sessions::soak::{generate, session_length};
+use std::fmt::{self, Display};
+
+/// More than the records of any one message take.
+const ROOM: usize = 16_384;
+
+/// A difference, with what repeats it.
+#[derive(Clone, Debug)]
+pub struct Difference {
+    pub profile: Profile,
+    pub seed: u64,
+    pub check: Check,
+    pub what: String,
+}
+
+impl Display for Difference {
+    fn fmt(&self, f: &mut fmt::Formatter) -> fmt::Result {
+        let (name, seed) = (self.profile.name(), self.seed);
+        writeln!(f, "profile {name} seed {seed}: {}", self.check.words())?;
+        writeln!(f, "  {}", self.what)?;
+        write!(
+            f,
+            "repeat it in host/ with\n  cargo run --release --offline -q -p compare -- session --profile {name} --seed {seed}"
+        )
+    }
+}
+
+/// A session and the numbers that are drawn for it.
+struct Session<'a, 'b> {
+    comparer: &'a mut Comparer<'b>,
+    pieces: Vec<Vec<u8>>,
+    list: Vec<u8>,
+    /// Report bytes after each message, by the reference.
+    ends: Vec<usize>,
+    /// Draws messages and bytes of its own.
+    generator: Generator,
+    /// Draws the messages whose ends are tried; apart from the other draws, so
+    /// that they are the same however many ends are tried.
+    chosen: Random,
+    one_in: u64,
+}
+
+type Checked = Result<(), (Check, String)>;
+
+/// Compares all of a session, with short report memory at one in so many messages:
+/// such a run does again all that went before, so they take most of the time.
+pub fn compare_session(
+    comparer: &mut Comparer,
+    profile: Profile,
+    seed: u64,
+    one_in: u64,
+) -> Result<(), Difference> {
+    let pieces = generate(profile, seed, session_length(profile, seed));
+    let messages = pieces.len() as u64;
+    let mut session = Session {
+        comparer,
+        list: pieces.concat(),
+        ends: Vec::new(),
+        generator: Generator::new(profile, !seed),
+        chosen: Random::new(seed),
+        one_in,
+        pieces,
+    };
+    let checked = session.compare_all();
+    session.comparer.counts.sessions += 1;
+    session.comparer.counts.messages += messages;
+    checked.map_err(|(check, what)| Difference {
+        profile,
+        seed,
+        check,
+        what,
+    })
+}
+
+impl Session<'_, '_> {
+    fn compare_all(&mut self) -> Checked {
+        let kept = self.list.clone();
+        self.calls()?;
+        self.whole_runs()?;
+        self.short_runs()?;
+        self.every_length()?;
+        self.torn_runs()?;
+        self.changed_runs()?;
+        self.noisy_runs()?;
+        if self.list != kept {
+            return Err((Check::RunWhole, "the messages were written".to_string()));
+        }
+        Ok(())
+    }
+
+    fn random(&mut self) -> &mut Random {
+        self.generator.random()
+    }
+
+    fn run(&mut self, check: Check, list: &[u8], length: usize) -> Checked {
+        let same = self.comparer.run(check, list, length);
+        same.map_err(|what| (check, what))
+    }
+
+    /// The whole list, with just enough memory and with more.
+    fn whole_runs(&mut self) -> Checked {
+        let list = std::mem::take(&mut self.list);
+        let whole = self.ends.last().copied().unwrap_or(0);
+        for more in [0, 1, 2, 11, 12, 500, ROOM] {
+            self.run(Check::RunWhole, &list, whole + more)?;
+        }
+        self.list = list;
+        Ok(())
+    }
+
+    /// Report memory that ends at, just before and just after the records of a
+    /// message.
+    fn short_runs(&mut self) -> Checked {
+        let list = std::mem::take(&mut self.list);
+        for end in std::mem::take(&mut self.ends) {
+            if self.chosen.below(self.one_in) > 0 {
+                continue;
+            }
+            for length in [end - 1, end, end + 1] {
+                self.run(Check::RunShort, &list, length)?;
+            }
+        }
+        self.list = list;
+        Ok(())
+    }
+
+    /// The first messages with memory of every length from none to enough.
+    fn every_length(&mut self) -> Checked {
+        const MESSAGES: usize = 40;
+        let list = self.pieces[..MESSAGES.min(self.pieces.len())].concat();
+        let mut report = vec![0; MESSAGES * ROOM];
+        let whole = reference::run(&list, &mut report).written;
+        for length in 0..=whole.min(1_500) + 13 {
+            self.run(Check::RunEveryLength, &list, length)?;
+        }
+        Ok(())
+    }
+
+    /// The list cut off at each of its last bytes, and anywhere.
+    fn torn_runs(&mut self) -> Checked {
+        let list = std::mem::take(&mut self.list);
+        let last = list.len().saturating_sub(48);
+        let room = 2 * list.len() + ROOM;
+        for cut in last..list.len() {
+            self.run(Check::RunTorn, &list[..cut], room)?;
+        }
+        for _ in 0..12 {
+            let cut = self.random().below(list.len() as u64) as usize;
+            self.run(Check::RunTorn, &list[..cut], room)?;
+        }
+        self.list = list;
+        Ok(())
+    }
+
+    /// The list with one to three bytes changed.
+    fn changed_runs(&mut self) -> Checked {
+        for _ in 0..16 {
+            let mut list = self.list.clone();
+            for _ in 0..self.random().between(1, 3) {
+                let at = self.random().below(list.len() as u64) as usize;
+                list[at] = changed(list[at], self.random());
+            }
+            let room = 2 * list.len() + ROOM;
+            self.run(Check::RunChanged, &list, room)?;
+        }
+        Ok(())
+    }
+
+    /// The list and then bytes that may look like messages.
+    fn noisy_runs(&mut self) -> Checked {
+        for _ in 0..8 {
+            let mut list = self.list.clone();
+            list.extend(self.generator.noise());
+            let room = 2 * list.len() + ROOM;
+            self.run(Check::RunNoise, &list, room)?;
+        }
+        Ok(())
+    }
+
+    fn call(
+        &mut self,
+        check: Check,
+        venue: &[u8],
+        before: u32,
+        message: &[u8],
+        length: usize,
+    ) -> Result<Expected, (Check, String)> {
+        let same = self.comparer.call(check, venue, before, message, length);
+        same.map_err(|what| (check, what))
+    }
+
+    /// The messages one by one, each upon the venue that the last one left, with
+    /// calls beside them.
+    fn calls(&mut self) -> Checked {
+        let mut venue = vec![0; VENUE_BYTES];
+        let pieces = std::mem::take(&mut self.pieces);
+        let mut end = 0;
+        for (message, before) in pieces.iter().zip(0..) {
+            if self.random().chance(12) {
+                self.beside(&venue, before, message)?;
+            }
+            let left = self.call(Check::Call, &venue, before, message, ROOM)?;
+            end += left.written;
+            self.ends.push(end);
+            venue = left.venue;
+        }
+        self.pieces = pieces;
+        Ok(())
+    }
+
+    /// Calls that leave the session as it is.
+    fn beside(&mut self, venue: &[u8], before: u32, message: &[u8]) -> Checked {
+        match self.random().below(5) {
+            0 => self.short_calls(venue, before, message),
+            1 => self.last_numbers(venue, message),
+            2 => self.odd_bytes(venue, before, message),
+            3 => self.venue_lengths(venue, before, message),
+            _ => self.changed_venues(venue, message),
+        }
+    }
+
+    /// Report memory of every short length.
+    fn short_calls(&mut self, venue: &[u8], before: u32, message: &[u8]) -> Checked {
+        let whole = self.call(Check::CallShort, venue, before, message, ROOM)?;
+        for length in 0..=whole.written + 2 {
+            self.call(Check::CallShort, venue, before, message, length)?;
+        }
+        Ok(())
+    }
+
+    fn last_numbers(&mut self, venue: &[u8], message: &[u8]) -> Checked {
+        for before in [u32::MAX, u32::MAX - 1, u32::MAX - 2, 1 << 31] {
+            for (message, length) in [(message, ROOM), (message, 11), (&[], ROOM)] {
+                self.call(Check::CallNumber, venue, before, message, length)?;
+            }
+        }
+        Ok(())
+    }
+
+    /// Torn and random bytes, and a message with others after it.
+    fn odd_bytes(&mut self, venue: &[u8], before: u32, message: &[u8]) -> Checked {
+        let mut followed = message.to_vec();
+        followed.extend(self.generator.noise());
+        let mut lists = vec![followed, self.generator.noise(), self.generator.noise()];
+        if let Ok(held) = <&[u8; VENUE_BYTES]>::try_from(venue) {
+            lists.push(self.generator.torn(&from_bytes(held)));
+        }
+        lists.extend((0..message.len()).map(|cut| message[..cut].to_vec()));
+        for bytes in lists {
+            self.call(Check::CallBytes, venue, before, &bytes, ROOM)?;
+        }
+        Ok(())
+    }
+
+    /// Venue memory that is too short or too long.
+    fn venue_lengths(&mut self, venue: &[u8], before: u32, message: &[u8]) -> Checked {
+        let doubled = [venue, venue].concat();
+        let odd = self.random().below(VENUE_BYTES as u64) as usize;
+        for length in [0, 1, odd, VENUE_BYTES - 1, VENUE_BYTES + 1, doubled.len()] {
+            let venue = &doubled[..length];
+            self.call(Check::CallVenueLength, venue, before, message, 64)?;
+        }
+        Ok(())
+    }
+
+    /// Venues with a field changed, and with any byte changed; many are unsound.
+    fn changed_venues(&mut self, venue: &[u8], message: &[u8]) -> Checked {
+        let Ok(held) = <&[u8; VENUE_BYTES]>::try_from(venue) else {
+            return Ok(());
+        };
+        let held = from_bytes(held);
+        for _ in 0..8 {
+            let unsound = to_bytes(&corrupt(&held, self.random()));
+            self.call(Check::CallVenue, &unsound, 0, message, ROOM)?;
+        }
+        for _ in 0..8 {
+            let mut bytes = venue.to_vec();
+            let at = self.random().below(bytes.len() as u64) as usize;
+            bytes[at] = changed(bytes[at], self.random());
+            self.call(Check::CallVenue, &bytes, 0, message, ROOM)?;
+        }
+        Ok(())
+    }
+}
+
+/// Another value for a byte: near it, or any.
+fn changed(byte: u8, random: &mut Random) -> u8 {
+    match random.below(4) {
+        0 => byte.wrapping_add(1),
+        1 => byte.wrapping_sub(1),
+        2 => byte ^ (1 << random.below(8)),
+        _ => random.below(256) as u8,
+    }
+}

@@ -1,0 +1,79 @@
+//! The calls of the archive. All of the wrapper's unsafe code is here.
+
+use crate::number::Number;
+use crate::venue::VenueBytes;
+
+extern "C" {
+    fn legging_run(
+        messages: *const u8,
+        messages_len: usize,
+        report: *mut u8,
+        report_len: usize,
+    ) -> u8;
+
+    fn legging_message(
+        venue: *mut u8,
+        venue_len: usize,
+        before: u32,
+        message: *const u8,
+        message_len: usize,
+        report: *mut u8,
+        report_len: usize,
+    ) -> u8;
+}
+
+/// Runs a message list from a fresh venue.
+///
+/// Messages are taken one by one; one that is refused with 2 to 8 is answered and
+/// passed over. The number is [`Number::DONE`] when all were done,
+/// [`Number::TORN`] when the list ends in the middle of a message, and
+/// [`Number::NO_ROOM`] when the run ended before the first message whose records
+/// do not fit into the rest of `report`.
+pub fn run(messages: &[u8], report: &mut [u8]) -> Number {
+    // SAFETY: both slices are whole for their lengths and cannot overlap; the
+    // call reads the one, writes the other, and keeps neither.
+    let number = unsafe {
+        legging_run(
+            messages.as_ptr(),
+            messages.len(),
+            report.as_mut_ptr(),
+            report.len(),
+        )
+    };
+    Number::new(number)
+}
+
+/// Takes the first message of `message` upon a venue; `before` messages went
+/// before it, and its own number is one more.
+///
+/// An accepted message leaves the venue that follows from it. A refused one (1 to
+/// 8) leaves the venue as it was. Both are answered in `report`. With
+/// [`Number::UNSOUND`] and [`Number::NO_ROOM`] nothing was done: the venue is as
+/// given and `report` all zeros.
+pub fn one_message(
+    venue: &mut VenueBytes,
+    before: u32,
+    message: &[u8],
+    report: &mut [u8],
+) -> Number {
+    one_message_in(venue.as_mut_bytes(), before, message, report)
+}
+
+/// As [`one_message`], upon venue memory of any length: with other than
+/// [`VENUE_BYTES`](crate::VENUE_BYTES) bytes the number is [`Number::UNSOUND`].
+pub fn one_message_in(venue: &mut [u8], before: u32, message: &[u8], report: &mut [u8]) -> Number {
+    // SAFETY: the three slices are whole for their lengths and cannot overlap; the
+    // call reads `message`, writes the other two, and keeps none.
+    let number = unsafe {
+        legging_message(
+            venue.as_mut_ptr(),
+            venue.len(),
+            before,
+            message.as_ptr(),
+            message.len(),
+            report.as_mut_ptr(),
+            report.len(),
+        )
+    };
+    Number::new(number)
+}

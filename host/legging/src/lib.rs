@@ -1,0 +1,43 @@
+//! The legging order engine for Rust hosts: a safe wrapper over the archive that
+//! `rt staticlib engine` writes.
+//!
+//! [`run`] takes a whole message list from a fresh venue. [`one_message`] takes one
+//! message upon a venue that the host holds as [`VenueBytes`]. After a call the
+//! report memory is the records done, then zeros to its end; what it held before is
+//! not read. A call keeps nothing, allocates nothing and shares no state with
+//! another, so calls may run on any number of threads at once.
+//!
+//! The bytes of messages and records are told in `include/legging.h`.
+//!
+//! ```
+//! use legging::{run, Number};
+//!
+//! // A sweep of the fresh venue: one answer, then zeros.
+//! let mut report = [0xFF; 16];
+//! let number = run(&[4, 0, 6, 0], &mut report);
+//! assert_eq!(number, Number::DONE);
+//! assert_eq!(report[..4], [12, 0, 64, 0]);
+//! assert_eq!(report[12..], [0; 4]);
+//! ```
+//!
+//! ```
+//! use legging::{one_message, Number, VenueBytes, MOST_BYTES};
+//!
+//! // Opens series 2 of the fresh venue; no message went before.
+//! let mut venue = VenueBytes::fresh();
+//! let mut report = [0; MOST_BYTES];
+//! let number = one_message(&mut venue, 0, &[6, 0, 5, 0, 2, 1], &mut report);
+//! assert_eq!(number, Number::DONE);
+//! assert_ne!(venue, VenueBytes::fresh());
+//! ```
+
+mod archive;
+mod number;
+mod venue;
+
+pub use archive::{one_message, one_message_in, run};
+pub use number::Number;
+pub use venue::{VenueBytes, VENUE_BYTES};
+
+/// No message upon a sound venue writes more bytes.
+pub const MOST_BYTES: usize = 10_112;

@@ -1,0 +1,73 @@
+//! The number that a call ends with.
+
+use std::fmt::{self, Display};
+
+/// What a call returned, 0 to 10.
+#[derive(Clone, Copy, Debug, PartialEq, Eq, PartialOrd, Ord, Hash)]
+pub struct Number(u8);
+
+impl Number {
+    /// Accepted; of a run: the whole list was done.
+    pub const DONE: Number = Number(0);
+    /// Fewer bytes left than the message's length tells, or a length below 4.
+    pub const TORN: Number = Number(1);
+    /// The kind is not 1 to 6.
+    pub const UNKNOWN_KIND: Number = Number(2);
+    /// The length is not its kind's.
+    pub const WRONG_LENGTH: Number = Number(3);
+    /// A field is outside its range.
+    pub const OUT_OF_RANGE: Number = Number(4);
+    /// The id is not above the last accepted.
+    pub const ID_NOT_ABOVE: Number = Number(5);
+    /// A series of the order is closed.
+    pub const CLOSED: Number = Number(6);
+    /// 128 regular or 32 complex orders rest already.
+    pub const BOOK_FULL: Number = Number(7);
+    /// No resting order has the id.
+    pub const NO_SUCH_ORDER: Number = Number(8);
+    /// The venue given is no sound venue.
+    pub const UNSOUND: Number = Number(9);
+    /// The next message's records do not fit, or its number would pass
+    /// 4,294,967,295.
+    pub const NO_ROOM: Number = Number(10);
+
+    pub(crate) fn new(number: u8) -> Self {
+        Number(number)
+    }
+
+    /// The number itself.
+    pub fn get(self) -> u8 {
+        self.0
+    }
+
+    /// Whether a message was done, refused or not: of a one-message call the
+    /// messages done are then 1, else 0.
+    pub fn is_done(self) -> bool {
+        self < Number::UNSOUND
+    }
+
+    /// The number in words.
+    pub fn meaning(self) -> &'static str {
+        match self.0 {
+            0 => "done",
+            1 => "a torn message",
+            2 => "kind not known",
+            3 => "length not its kind's",
+            4 => "a field out of range",
+            5 => "id not above the last accepted",
+            6 => "a series is closed",
+            7 => "the book is full",
+            8 => "no resting order has the id",
+            9 => "the venue is unsound",
+            10 => "the report memory is full, or the message numbers are used up",
+            _ => "not a number of the engine",
+        }
+    }
+}
+
+/// The number and its meaning.
+impl Display for Number {
+    fn fmt(&self, f: &mut fmt::Formatter) -> fmt::Result {
+        write!(f, "{}: {}", self.0, self.meaning())
+    }
+}

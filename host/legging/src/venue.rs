@@ -1,0 +1,58 @@
+//! A venue held by a host between one-message calls.
+
+use std::fmt;
+
+/// The length of a venue.
+pub const VENUE_BYTES: usize = 2_604;
+
+/// A venue held as bytes: one value for one state.
+///
+/// Without padding, numbers little-endian: 128 regular orders (id u32, series u8,
+/// side u8, price u32, quantity u32), 32 complex orders (id u32, series u8, side
+/// u8, series u8, side u8, class u8, limit i32, quantity u32), 16 legging orders at
+/// place 2 × series + side (parent u32, price u32, quantity u32), 8 series (status
+/// u8, bid u32, offer u32), the last id u32. Held places come first, in rising id;
+/// free places are zero.
+#[derive(Clone, PartialEq, Eq)]
+pub struct VenueBytes([u8; VENUE_BYTES]);
+
+impl VenueBytes {
+    /// No orders, all series closed, no away prices, last id 0.
+    pub const fn fresh() -> Self {
+        VenueBytes([0; VENUE_BYTES])
+    }
+
+    /// A venue kept as bytes. Whether it is sound is tested by the call.
+    pub const fn from_bytes(bytes: [u8; VENUE_BYTES]) -> Self {
+        VenueBytes(bytes)
+    }
+
+    /// The bytes, to keep or to compare.
+    pub const fn as_bytes(&self) -> &[u8; VENUE_BYTES] {
+        &self.0
+    }
+
+    pub(crate) fn as_mut_bytes(&mut self) -> &mut [u8] {
+        &mut self.0
+    }
+
+    /// The id of the last order accepted; the next must be above it.
+    pub fn last_id(&self) -> u32 {
+        let [.., a, b, c, d] = self.0;
+        u32::from_le_bytes([a, b, c, d])
+    }
+}
+
+impl Default for VenueBytes {
+    fn default() -> Self {
+        VenueBytes::fresh()
+    }
+}
+
+impl fmt::Debug for VenueBytes {
+    fn fmt(&self, f: &mut fmt::Formatter) -> fmt::Result {
+        f.debug_struct("VenueBytes")
+            .field("last_id", &self.last_id())
+            .finish_non_exhaustive()
+    }
+}

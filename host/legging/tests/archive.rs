@@ -1,0 +1,194 @@
+//! The wrapper over the archive: what its callers are promised.
+
+use legging::{one_message, one_message_in, run, Number, VenueBytes, MOST_BYTES, VENUE_BYTES};
+use sessions::message::split;
+use sessions::profile::Profile;
+use sessions::record::{print_sheet, read_report};
+use sessions::soak::generate;
+use sessions::text::encode_session;
+
+const SESSION: &str = include_str!("../../venue/tests/sessions/printed.txt");
+
+const SHEET: &str = "\
+64 1 0 0 0
+64 2 0 0 0
+64 3 0 0 0
+64 4 0 0 0
+64 5 0 5 2
+67 3 0 0 115 115 8
+67 3 1 0 75 75 8
+64 6 0 0 0
+65 0 1 115 5 4 3
+65 1 0 90 5 3 2
+66 3 205 5
+68 3 0 0 3
+68 3 1 0 3
+";
+
+fn messages() -> Vec<u8> {
+    encode_session(SESSION).expect("the stored session is good")
+}
+
+fn sheet(report: &[u8]) -> String {
+    print_sheet(&read_report(report).expect("whole records"))
+}
+
+#[test]
+fn the_printed_session() {
+    let mut report = [0xC3; 400];
+    assert_eq!(run(&messages(), &mut report), Number::DONE);
+    assert_eq!(sheet(&report), SHEET);
+}
+
+#[test]
+fn a_run_ends_before_the_message_that_does_not_fit() {
+    let mut report = [0xC3; 35];
+    assert_eq!(run(&messages(), &mut report), Number::NO_ROOM);
+    assert_eq!(sheet(&report), "64 1 0 0 0\n64 2 0 0 0\n");
+    assert_eq!(report[24..], [0; 11]);
+}
+
+#[test]
+fn a_torn_list_is_answered() {
+    let mut report = [0xC3; 20];
+    assert_eq!(run(&[9, 0, 6], &mut report), Number::TORN);
+    assert_eq!(sheet(&report), "64 1 1 0 0\n");
+}
+
+#[test]
+fn empty_slices() {
+    assert_eq!(run(&[], &mut []), Number::DONE);
+    assert_eq!(run(&[4, 0, 6, 0], &mut []), Number::NO_ROOM);
+    let mut report = [0xC3; 3];
+    assert_eq!(run(&[], &mut report), Number::DONE);
+    assert_eq!(report, [0; 3]);
+}
+
+#[test]
+fn the_printed_session_message_by_message() {
+    let mut venue = VenueBytes::fresh();
+    let mut told = String::new();
+    for (message, before) in split(&messages()).into_iter().zip(0..) {
+        let mut report = [0xC3; MOST_BYTES];
+        let number = one_message(&mut venue, before, message, &mut report);
+        assert_eq!(number, Number::DONE);
+        told += &sheet(&report);
+    }
+    assert_eq!(told, SHEET);
+    assert_eq!(venue.last_id(), 4);
+}
+
+#[test]
+fn a_message_that_was_not_done_leaves_the_venue() {
+    let fresh = VenueBytes::fresh();
+    let mut venue = fresh.clone();
+    let mut report = [0xC3; 20];
+    let sweep = [4, 0, 6, 0];
+    let number = one_message(&mut venue, u32::MAX, &sweep, &mut report);
+    assert_eq!((number, &venue, report), (Number::NO_ROOM, &fresh, [0; 20]));
+    let mut short = [0xC3; 11];
+    let number = one_message(&mut venue, 0, &sweep, &mut short);
+    assert_eq!((number, &venue, short), (Number::NO_ROOM, &fresh, [0; 11]));
+    let number = one_message(&mut venue, 0, &[8, 0, 3, 0, 9, 0, 0, 0], &mut report);
+    assert_eq!((number, &venue), (Number::NO_SUCH_ORDER, &fresh));
+    assert_eq!(sheet(&report), "64 1 8 0 0\n");
+    let number = one_message(&mut venue, 0, &[], &mut report);
+    assert_eq!((number, &venue), (Number::TORN, &fresh));
+}
+
+#[test]
+fn an_unsound_venue_is_left_as_given() {
+    let mut bytes = [0; VENUE_BYTES];
+    bytes[0] = 1; // an id in a free place
+    let unsound = VenueBytes::from_bytes(bytes);
+    let mut venue = unsound.clone();
+    let mut report = [0xC3; 20];
+    let number = one_message(&mut venue, 0, &[4, 0, 6, 0], &mut report);
+    assert_eq!(number, Number::UNSOUND);
+    assert_eq!((venue, report), (unsound, [0; 20]));
+}
+
+#[test]
+fn venue_memory_of_another_length_is_unsound() {
+    for length in [0, 1, VENUE_BYTES - 1, VENUE_BYTES + 1] {
+        let mut venue = vec![0x77; length];
+        let mut report = [0xC3; 20];
+        let number = one_message_in(&mut venue, 0, &[4, 0, 6, 0], &mut report);
+        assert_eq!((number, report), (Number::UNSOUND, [0; 20]));
+        assert_eq!(venue, vec![0x77; length]);
+    }
+}
+
+extern "C" {
+    fn legging_run(messages: *const u8, n: usize, report: *mut u8, m: usize) -> u8;
+
+    fn legging_message(
+        venue: *mut u8,
+        venue_len: usize,
+        before: u32,
+        message: *const u8,
+        n: usize,
+        report: *mut u8,
+        m: usize,
+    ) -> u8;
+}
+
+#[test]
+fn null_with_length_0() {
+    let (nothing, nowhere) = (std::ptr::null(), std::ptr::null_mut());
+    let sweep = [4, 0, 6, 0];
+    let mut venue = [0; VENUE_BYTES];
+    let at = venue.as_mut_ptr();
+    let mut report = [0xC3; 3];
+    // SAFETY: each pointer is null with the length 0, or an array with its length.
+    unsafe {
+        assert_eq!(legging_run(nothing, 0, nowhere, 0), 0);
+        assert_eq!(legging_run(sweep.as_ptr(), 4, nowhere, 0), 10);
+        assert_eq!(legging_run(nothing, 0, report.as_mut_ptr(), 3), 0);
+        assert_eq!(legging_message(nowhere, 0, 0, nothing, 0, nowhere, 0), 9);
+        let torn = legging_message(at, VENUE_BYTES, 0, nothing, 0, nowhere, 0);
+        assert_eq!(torn, 10);
+    }
+    assert_eq!(report, [0; 3]);
+    assert_eq!(venue, [0; VENUE_BYTES]);
+}
+
+#[test]
+fn calls_at_once_do_not_meet() {
+    let messages = messages();
+    std::thread::scope(|scope| {
+        for _ in 0..4 {
+            scope.spawn(|| {
+                for _ in 0..500 {
+                    let mut report = [0xC3; 400];
+                    run(&messages, &mut report);
+                    assert_eq!(sheet(&report), SHEET);
+                }
+            });
+        }
+    });
+}
+
+#[test]
+fn a_stack_of_32_kibibytes_is_enough() {
+    let list = generate(Profile::Sweeps, 3, 600);
+    let mut report = vec![0xC3; 1 << 20];
+    let work = move || {
+        let mut venue = VenueBytes::fresh();
+        for (message, before) in list.iter().zip(0..) {
+            one_message(&mut venue, before, message, &mut report);
+        }
+        run(&list.concat(), &mut report)
+    };
+    let thread = std::thread::Builder::new().stack_size(32 << 10);
+    let ended = thread.spawn(work).expect("a thread").join();
+    assert_eq!(ended.expect("it ends"), Number::DONE);
+}
+
+#[test]
+fn numbers_have_words() {
+    assert_eq!(Number::DONE.to_string(), "0: done");
+    assert_eq!(Number::UNSOUND.to_string(), "9: the venue is unsound");
+    assert!(Number::NO_SUCH_ORDER.is_done() && !Number::UNSOUND.is_done());
+    assert_eq!(Number::NO_ROOM.get(), 10);
+}

@@ -1,0 +1,148 @@
+//! A venue as hosts hold it: 2,604 bytes, without padding, in the order of the
+//! venue's fields. Any value goes to bytes and back, sound or not.
+
+use reference::{Complex, Legging, Listed, Regular, Venue};
+
+pub const VENUE_BYTES: usize = 2_604;
+
+/// The bytes of a venue.
+pub fn to_bytes(venue: &Venue) -> [u8; VENUE_BYTES] {
+    let mut writer = Writer {
+        bytes: [0; VENUE_BYTES],
+        at: 0,
+    };
+    for order in &venue.regular {
+        writer.u32(order.id);
+        writer.all(&[order.series, order.side]);
+        writer.u32(order.price);
+        writer.u32(order.quantity);
+    }
+    for order in &venue.complex {
+        writer.u32(order.id);
+        writer.all(&[order.series1, order.side1, order.series2, order.side2]);
+        writer.all(&[order.class]);
+        writer.u32(order.limit as u32);
+        writer.u32(order.quantity);
+    }
+    for order in &venue.legging {
+        writer.u32(order.parent);
+        writer.u32(order.price);
+        writer.u32(order.quantity);
+    }
+    for listed in &venue.series {
+        writer.all(&[listed.status]);
+        writer.u32(listed.bid);
+        writer.u32(listed.offer);
+    }
+    writer.u32(venue.last);
+    writer.bytes
+}
+
+/// The venue that bytes stand for.
+pub fn from_bytes(bytes: &[u8; VENUE_BYTES]) -> Venue {
+    let mut reader = Reader { bytes, at: 0 };
+    Venue {
+        regular: std::array::from_fn(|_| reader.regular()),
+        complex: std::array::from_fn(|_| reader.complex()),
+        legging: std::array::from_fn(|_| Legging {
+            parent: reader.u32(),
+            price: reader.u32(),
+            quantity: reader.u32(),
+        }),
+        series: std::array::from_fn(|_| Listed {
+            status: reader.u8(),
+            bid: reader.u32(),
+            offer: reader.u32(),
+        }),
+        last: reader.u32(),
+    }
+}
+
+struct Writer {
+    bytes: [u8; VENUE_BYTES],
+    at: usize,
+}
+
+impl Writer {
+    fn all(&mut self, bytes: &[u8]) {
+        self.bytes[self.at..self.at + bytes.len()].copy_from_slice(bytes);
+        self.at += bytes.len();
+    }
+
+    fn u32(&mut self, number: u32) {
+        self.all(&number.to_le_bytes());
+    }
+}
+
+struct Reader<'a> {
+    bytes: &'a [u8],
+    at: usize,
+}
+
+impl Reader<'_> {
+    fn u8(&mut self) -> u8 {
+        self.at += 1;
+        self.bytes[self.at - 1]
+    }
+
+    fn u32(&mut self) -> u32 {
+        u32::from_le_bytes([self.u8(), self.u8(), self.u8(), self.u8()])
+    }
+
+    fn regular(&mut self) -> Regular {
+        Regular {
+            id: self.u32(),
+            series: self.u8(),
+            side: self.u8(),
+            price: self.u32(),
+            quantity: self.u32(),
+        }
+    }
+
+    fn complex(&mut self) -> Complex {
+        Complex {
+            id: self.u32(),
+            series1: self.u8(),
+            side1: self.u8(),
+            series2: self.u8(),
+            side2: self.u8(),
+            class: self.u8(),
+            limit: self.u32() as i32,
+            quantity: self.u32(),
+        }
+    }
+}
+
+#[cfg(test)]
+mod tests {
+    use super::*;
+    use crate::random::Random;
+
+    #[test]
+    fn bytes_go_to_a_venue_and_back() {
+        let mut random = Random::new(1);
+        let bytes: [u8; VENUE_BYTES] = std::array::from_fn(|_| random.below(256) as u8);
+        assert_eq!(to_bytes(&from_bytes(&bytes)), bytes);
+    }
+
+    #[test]
+    fn the_fresh_venue_is_all_zero() {
+        assert_eq!(to_bytes(&Venue::fresh()), [0; VENUE_BYTES]);
+    }
+
+    #[test]
+    fn fields_stand_at_their_places() {
+        let mut venue = Venue::fresh();
+        venue.regular[1].price = 0x0403_0201;
+        venue.complex[31].limit = -2;
+        venue.legging[15].quantity = 7;
+        venue.series[7].offer = 9;
+        venue.last = 1;
+        let bytes = to_bytes(&venue);
+        assert_eq!(bytes[14 + 6..14 + 10], [1, 2, 3, 4]);
+        assert_eq!(bytes[1_792 + 31 * 17 + 9..][..4], [0xFE, 0xFF, 0xFF, 0xFF]);
+        assert_eq!(bytes[2_336 + 15 * 12 + 8], 7);
+        assert_eq!(bytes[2_528 + 7 * 9 + 5], 9);
+        assert_eq!(bytes[2_600..], [1, 0, 0, 0]);
+    }
+}

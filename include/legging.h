@@ -1,0 +1,132 @@
+/*
+ * The legging order engine, for hosts in C and C++.
+ *
+ * Link with the archive that `rt staticlib engine` writes:
+ *
+ *     cc -Iinclude host.c target/staticlib/libengine.a
+ *
+ * The archive is for x86-64 Linux. It calls memcpy and memset of the C library
+ * and nothing else.
+ *
+ * MEMORY
+ *   All memory is the host's. A call keeps no pointer after it returns, allocates
+ *   nothing, reads and writes no file, and needs less than 32 KiB of stack.
+ *   - `messages` (or `message`) is only read. Bytes past its length are not.
+ *   - `venue` is read and written. Unless the message was accepted, it holds after
+ *     the call what it held before.
+ *   - `report` is written from its first byte to its last, whatever the call
+ *     ends with: the records done, then zeros. What it held before is not read.
+ *   - A pointer with the length 0 may be NULL; otherwise it points to as many
+ *     bytes as its length says, no more than PTRDIFF_MAX of them, at any alignment.
+ *   - Memory that a call writes overlaps no other memory of the same call, and
+ *     no other thread reads or writes it meanwhile.
+ *
+ * THREADS
+ *   There is no state outside the memory lent: no global or static variable. Any
+ *   number of calls may run at once, each upon memory of its own; they may share
+ *   messages.
+ *
+ * BYTES
+ *   Numbers are little-endian, without padding. A message or record is its length
+ *   (u16, of the whole), its kind (u16), and its fields:
+ *
+ *     messages   1 order      id u32, series u8, side u8, price u32, quantity u32           18 bytes
+ *                2 complex    id u32, series u8, side u8, series u8, side u8, class u8,
+ *                             limit i32, quantity u32                                       21
+ *                3 cancel     id u32                                                         8
+ *                4 away       series u8, bid u32, offer u32                                 13
+ *                5 status     series u8, status u8                                           6
+ *                6 sweep                                                                     4
+ *     records   64 answer     message number u32, refusal u8, place mask u16, count u8      12
+ *               65 trade      series u8, taker's side u8, price u32, quantity u32,
+ *                             taker id u32, maker id u32                                    22
+ *               66 pair       complex id u32, net i32, quantity u32                         16
+ *               67 generated  complex id u32, series u8, side u8, price u32,
+ *                             displayed u32, quantity u32                                   22
+ *               68 removed    complex id u32, series u8, side u8, cause u8                  11
+ *               70 cross      taker id u32, maker id u32, taker's net i32, quantity u32     20
+ *               71 cancelled  id u32, quantity u32                                          12
+ *
+ *   The records end at the first zero length, or at the end of the report memory.
+ *   Each message done has one answer, and after it what it did.
+ *
+ * NUMBERS
+ *   Each call returns one of these, and fails in no other way.
+ */
+#ifndef LEGGING_H
+#define LEGGING_H
+
+#include <stddef.h>
+#include <stdint.h>
+
+#define LEGGING_DONE          0u /* accepted; of a run: the whole list was done */
+#define LEGGING_TORN          1u /* fewer bytes left than the message's length tells, or a length below 4 */
+#define LEGGING_UNKNOWN_KIND  2u /* kind not 1 to 6 */
+#define LEGGING_WRONG_LENGTH  3u /* length not its kind's */
+#define LEGGING_OUT_OF_RANGE  4u /* a field outside its range */
+#define LEGGING_ID_NOT_ABOVE  5u /* id not above the last accepted */
+#define LEGGING_CLOSED        6u /* a series of the order is closed */
+#define LEGGING_BOOK_FULL     7u /* 128 regular or 32 complex orders rest already */
+#define LEGGING_NO_SUCH_ORDER 8u /* no resting order has the id */
+#define LEGGING_UNSOUND       9u /* the venue given is no sound venue */
+#define LEGGING_NO_ROOM      10u /* the next message's records do not fit, or its number would pass 4,294,967,295 */
+
+#define LEGGING_VENUE_BYTES 2604u /* a venue held by a host */
+#define LEGGING_MOST_BYTES 10112u /* no message upon a sound venue writes more */
+
+#ifdef __cplusplus
+extern "C" {
+#endif
+
+/*
+ * Runs a message list from a fresh venue: no orders, all series closed, no away
+ * prices.
+ *
+ * Messages are taken one by one. One that is refused with 2 to 8 is answered and
+ * passed over. Returns
+ *   LEGGING_DONE     all messages were done, the refused ones included;
+ *   LEGGING_TORN     the list ends in the middle of a message: all before it were
+ *                    done, and the torn rest was answered;
+ *   LEGGING_NO_ROOM  the run ended before the first message whose records do not
+ *                    fit into the rest of `report`; nothing of that message was
+ *                    written. Run it again with more memory for the whole list.
+ */
+uint8_t legging_run(const uint8_t *messages, size_t messages_len,
+                    uint8_t *report, size_t report_len);
+
+/*
+ * Takes one message upon a venue that the host holds; `before` messages went
+ * before it, and its own number is one more.
+ *
+ * `venue` is LEGGING_VENUE_BYTES bytes. The fresh venue is all zeros; after that,
+ * hand over what the last call left. Its bytes, without padding:
+ *
+ *     128 regular orders   id u32, series u8, side u8, price u32, quantity u32
+ *      32 complex orders   id u32, series u8, side u8, series u8, side u8, class u8,
+ *                          limit i32, quantity u32
+ *      16 legging orders   parent's id u32, price u32, quantity u32; at 2 * series + side
+ *       8 series           status u8, away bid u32, away offer u32
+ *         last id u32
+ *
+ * Held places come first, in rising id; free places are zero. Equal states are
+ * equal bytes, so a venue may be copied, kept and compared as bytes.
+ *
+ * Only the first message of `message` is read. Returns
+ *   LEGGING_DONE     accepted: `venue` is the venue that follows, `report` the
+ *                    message's answer and records;
+ *   1 to 8           refused: `venue` as it was, `report` the answer;
+ *   LEGGING_UNSOUND  `venue_len` is not LEGGING_VENUE_BYTES, or the bytes are no sound
+ *                    venue: `venue` as it was, `report` all zeros. A venue that
+ *                    a call left is always sound;
+ *   LEGGING_NO_ROOM  the records do not fit, or `before` is 4,294,967,295: `venue` as
+ *                    it was, `report` all zeros. LEGGING_MOST_BYTES are always enough.
+ */
+uint8_t legging_message(uint8_t *venue, size_t venue_len, uint32_t before,
+                        const uint8_t *message, size_t message_len,
+                        uint8_t *report, size_t report_len);
+
+#ifdef __cplusplus
+}
+#endif
+
+#endif
