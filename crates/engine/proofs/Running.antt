@@ -1,29 +1,28 @@
 -- The laws of a run: one turn of it, its loop, and its end.
 use mathlib.Core.Path.{_≡_, refl, sym, ap, ap₂, _∙_}
 use mathlib.Core.Bool.{Bool, true, false}
-use mathlib.Core.List.{List, [], _∷_, _++_, append-assoc, append-nil}
+use mathlib.Core.List.{List, [], _++_, append-assoc, append-nil}
 use Prim.Native.Nat.{ℕ, zero, suc, _+_, _-_, _≤_, _<_, zero-le}
 use native.Mathlib.Omega.{arith}
 use native.Mathlib.Numerals.{add-one}
-use lib.Dec.{eqb, ltb}
-use lib.ListN.{length, getD, set, take, drop, replicate, length-append, length-drop, drop-of-length-le}
+use lib.Dec.{eqb}
+use lib.ListN.{length, getD, set, take, drop, replicate, length-drop, drop-of-length-le}
 use lib.Seq.{paste, paste-suc, take-all, length-take-le, drop-drop}
 use borrow.Author.Tests.{eq-eqb, ne-eqb, lt-ltb, le-ltb}
 use borrow.Rule.Slice.PartMut.{putMid}
 use Rattle.rules.specs.declared.Venue.{Venue}
-use Rattle.rules.specs.declared.Returned.{Returned}
 use Rattle.rules.specs.Words.{freshVenue}
 use Rattle.rules.specs.Bytes.{lengthField}
 use Rattle.rules.specs.Records.{Report, encodeAll, sheet}
 use Rattle.rules.specs.Refusals.{torn}
 use Rattle.rules.specs.Step.{Answered, answered, step}
-use Rattle.rules.specs.Calls.{Outcome, Call, called, exceeds, ends, after, runFrom, run}
+use Rattle.rules.specs.Calls.{Outcome, called, exceeds, ends, after, runFrom, run}
 use Rattle.rules.proofs.Calling.{encode-append}
 use Rattle.rules.proofs.Refusing.{whole}
 use Rattle.demands.specs.Kept.{SoundVenue}
 use Rattle.demands.proofs.Calls.{kept, fresh-sound}
 use Rattle.demands.proofs.Most.{writes-at-most}
-use Rattle.wire.specs.Seen.{Seen, seen, pasted, _writes_}
+use Rattle.wire.specs.Seen.{Seen, seen}
 use Rattle.wire.proofs.Stages.{stage-venue, stage-written}
 use Rattle.wire.proofs.Writes.{writes-in, wrote, overflowed, pasted-to, part-all, tail-front, tail-more}
 use Rattle.reader.specs.declared.Head.{Head}

@@ -1,8 +1,8 @@
 -- A message upon the venue of a slice: what an accepted one has passed, its effects and closing, and its answer set last.
 use mathlib.Core.Path.{_≡_, refl, sym, ap, ap₂, _∙_}
-use mathlib.Core.Bool.{Bool, true, false, not, _||_}
+use mathlib.Core.Bool.{Bool, true, false, _||_}
 use mathlib.Core.List.{List, [], _∷_}
-use Prim.Native.Nat.{ℕ, _≤_, _<_}
+use Prim.Native.Nat.{ℕ, _<_}
 use native.Mathlib.Omega.{arith}
 use lib.Count.{ones}
 use lib.Dec.{eqb}
@@ -17,16 +17,16 @@ use Rattle.rules.specs.declared.Decoded.the-variants.{Taken, Refused}
 use Rattle.rules.specs.Base.{if_then_else_}
 use Rattle.rules.specs.Words.{withLast}
 use Rattle.rules.specs.Messages.{messageOf}
-use Rattle.rules.specs.Records.{Report, answer}
+use Rattle.rules.specs.Records.{answer}
 use Rattle.rules.specs.Effects.{Effect, nothing}
 use Rattle.rules.specs.Trading.{freeRegular, freeComplex}
 use Rattle.rules.specs.Complex.{restsRegular, restsComplex}
 use Rattle.rules.specs.Places.{closeGaps}
 use Rattle.rules.specs.Refusals.{inRange, decoded, full, unknown, refusalOf, refusal}
-use Rattle.rules.specs.Step.{perform, accept, mask, filled, Answered, answered, step}
+use Rattle.rules.specs.Step.{perform, accept, mask, Answered, answered, step}
 use Rattle.rules.proofs.Refusing.{decoded-by, refusalOf-by}
 use Rattle.wire.specs.Seen.{Seen, seen, _writes_}
-use Rattle.wire.specs.Stage.{Stage, stage, _does_}
+use Rattle.wire.specs.Stage.{stage, _does_}
 use Rattle.wire.proofs.Writes.{answer-last}
 use Rattle.wire.proofs.Stages.{does-nothing, follow, stage-venue, stage-written}
 use Rattle.places.specs.Layout.{regularsUsed, complexesUsed, venueOf, SameCounts, Dense}

@@ -8,11 +8,10 @@ use lib.ListN.{length, length-set}
 use Rattle.rules.specs.declared.Complex.{Complex}
 use Rattle.rules.specs.declared.Legging.{Legging}
 use Rattle.rules.specs.declared.Venue.{Venue}
-use Rattle.rules.specs.declared.Verdict.{Verdict}
 use Rattle.rules.specs.declared.Message.{Message}
 use Rattle.rules.specs.declared.Message.the-variants.{Order, TwoLeg, Cancel, Away, Status, Sweep}
 use Rattle.rules.specs.Base.{held}
-use Rattle.rules.specs.Words.{noRegular, noComplex, withRegular, withComplex, withLegging, withSeries, withLast, complexAt}
+use Rattle.rules.specs.Words.{noRegular, noComplex, withRegular, withComplex, withLegging, withSeries, withLast}
 use Rattle.rules.specs.Messages.{messageOf}
 use Rattle.rules.specs.Effects.{Effect, nothing, report, _⟫_}
 use Rattle.rules.specs.Removal.{remove}
