@@ -1,5 +1,5 @@
 -- Laws of scans that pick the first in rank. For a candidate and a ranking: what `first` picks of a table in use, and how a loop that counts down keeps it.
-use mathlib.Core.Path.{_≡_, refl, sym, ap, _∙_}
+use mathlib.Core.Path.{_≡_, refl, sym, ap, ap₂, _∙_}
 use mathlib.Core.Bool.{Bool, true, false, _&&_, _||_, true≢false}
 use mathlib.Core.List.{List, [], _∷_, _++_}
 use Prim.Native.Nat.{ℕ, zero, suc, _+_, _-_, _≤_, _<_}
@@ -7,23 +7,22 @@ use native.Mathlib.Omega.{arith}
 use native.Mathlib.Decide.{decLt}
 use borrow.Author.Tests.{lt-leb, eqb-true, eq-eqb, ne-eqb}
 use Rattle.rules.proofs.Tests.{and-l, and-r}
+use Rattle.rules.proofs.Better.{is-false}
 use lib.Dec.{ltb, eqb}
 use lib.ListN.{length, replicate}
 use Rattle.rules.specs.declared.Regular.{Regular}
-use Rattle.rules.specs.declared.Complex.{Complex}
 use Rattle.rules.specs.Base.{if_then_else_, held, Picked, nobody, picked, ranked, firstFrom, first}
-use Rattle.rules.specs.Words.{opposite, noRegular, noComplex, earlier, earlierComplex}
+use Rattle.rules.specs.Words.{opposite, placeOf, noRegular, earlier}
 use Rattle.rules.specs.Prices.{better, restsAt, shown, showsAt, showsFor, reaches}
 use Rattle.rules.specs.Order.{isMet, priceThenId}
 use Rattle.rules.proofs.Picking.{At, Chosen, first-chosen}
-use Rattle.places.specs.Layout.{upto, inUse, regularsUsed, complexesUsed, regularIn, complexIn, venueOf}
+use Rattle.places.specs.Layout.{upto, inUse, regularsUsed, regularIn, regularKey, venueOf}
 use Rattle.places.proofs.Tables.{upto-length, used-at, used-free}
-use Rattle.places.proofs.Parts.{regulars-few, complexes-few}
+use Rattle.places.proofs.Parts.{regulars-few}
 use Rattle.levels.proofs.Scans.{upto-back, upto-end}
 use Rattle.book.specs.declared.Best.{Best}
 use Rattle.book.specs.declared.Pick.{Pick}
-use Rattle.book.specs.declared.PickComplex.{PickComplex}
-use Rattle.book.specs.Picks.{pickOf, pickComplexOf, isAbove, bestAt, noBest, byId, byPrice, pickedAt, complexPickedAt}
+use Rattle.book.specs.Picks.{pickOf, bestAt, noBest, byId, byPrice, pickedAt}
 
 -- what a loop keeps of a pick
 unfoldable pub kept : {A S : Type 0} → S → (ℕ → A → S) → Picked A → S
@@ -137,9 +136,6 @@ module _ {A : Type 0} (candidate : A → Bool) (before : A → A → Bool) where
 abbrev pub keepRegular : ℕ → Regular → Best
 keepRegular n o = bestAt n (o .price) (o .id)
 
-abbrev pub keepComplex : ℕ → Complex → Best
-keepComplex n c = bestAt n 0 (c .id)
-
 kept-if : {A S : Type 0} (none : S) (keep : ℕ → A → S) (t : Bool) (j n : ℕ) (m a : A) → kept none keep (if t then picked j m else picked n a) ≡ (if t then keep j m else keep n a)
 unfolding kept
 kept-if none keep true j n m a = refl
@@ -151,12 +147,6 @@ pub rank-earlier : (candidate : Regular → Bool) (n : ℕ) (o : Regular) (x : P
 unfolding ranked kept byId earlier
 rank-earlier candidate n o nobody g = refl
 rank-earlier candidate n o (picked j m) g = rw (lt-leb 128 j (g .0)) (kept-if noBest keepRegular (ltb (m .id) (o .id)) j n m o)
-
-pub rank-complex : (candidate : Complex → Bool) (n : ℕ) (c : Complex) (x : Picked Complex) → Good candidate earlierComplex 128 x →
-    kept noBest keepComplex (ranked earlierComplex n c x) ≡ byId n 0 (c .id) (kept noBest keepComplex x)
-unfolding ranked kept byId earlierComplex
-rank-complex candidate n c nobody g = refl
-rank-complex candidate n c (picked j m) g = rw (lt-leb 128 j (g .0)) (kept-if noBest keepComplex (ltb (m .id) (c .id)) j n m c)
 
 -- by price, then id: the candidates are of one side
 pub rank-price : (candidate : Regular → Bool) (d : ℕ) → ((m : Regular) → candidate m ≡ true → m .side ≡ d) → (n : ℕ) (o : Regular) (x : Picked Regular) → Good candidate priceThenId 128 x →
@@ -178,14 +168,29 @@ pub for-free : (s d p : ℕ) → showsFor s d p noRegular ≡ false
 unfolding showsFor showsAt shown
 for-free s d p = refl
 
-pub above-free : (id : ℕ) → isAbove id noComplex ≡ false
-unfolding isAbove
-above-free id = refl
-
 -- whoever is met is of the other side
 pub met-side : (s d p : ℕ) (m : Regular) → isMet s d p m ≡ true → m .side ≡ opposite d
 unfolding isMet restsAt
 met-side s d p m h = eqb-true _ _ (and-r (held (m .quantity) && eqb (m .series) s) (eqb (m .side) (opposite d)) (and-l _ (reaches d p (m .price)) h))
+
+-- orders with another key are no candidates
+other-key : (t : Bool) (s d : ℕ) (o : Regular) → (regularKey o ≡ placeOf s d → ⊥) → (t && eqb (o .series) s && eqb (o .side) d) ≡ false
+unfolding regularKey
+other-key t s d o n = is-false _ (λ h. n (ap₂ placeOf (series h) (side h)))
+  where
+    side : (t && eqb (o .series) s && eqb (o .side) d) ≡ true → o .side ≡ d
+    side h = eqb-true _ _ (and-r (t && eqb (o .series) s) (eqb (o .side) d) h)
+
+    series : (t && eqb (o .series) s && eqb (o .side) d) ≡ true → o .series ≡ s
+    series h = eqb-true _ _ (and-r t (eqb (o .series) s) (and-l (t && eqb (o .series) s) (eqb (o .side) d) h))
+
+pub met-key : (s d p : ℕ) (o : Regular) → (regularKey o ≡ placeOf s (opposite d) → ⊥) → isMet s d p o ≡ false
+unfolding isMet restsAt
+met-key s d p o n = rw (other-key (held (o .quantity)) s (opposite d) o n)
+
+pub for-key : (s d p : ℕ) (o : Regular) → (regularKey o ≡ placeOf s d → ⊥) → showsFor s d p o ≡ false
+unfolding showsFor showsAt shown
+for-key s d p o n = rw (other-key (held (o .quantity)) s d o n)
 
 -- The answers ---------------------------------------------------------------------------------
 
@@ -204,21 +209,6 @@ module _ (candidate : Regular → Bool) (before : Regular → Regular → Bool) 
           let c = regular-used i o h in
           let w : i < 128 = omega (arith, c .used, regulars-few b) in
           unfold pickedAt in unfold pickOf in unfold kept in rw (lt-leb 128 i w, c .at)
-
-module _ (candidate : Complex → Bool) (before : Complex → Complex → Bool) (off : candidate noComplex ≡ false) (b : List ℕ) where
-  pub complex-used : (i : ℕ) (c : Complex) → first candidate before (venueOf b .complex) ≡ picked i c → Chooses candidate before noComplex off (complexIn b) (complexesUsed b) i c
-  unfolding venueOf
-  complex-used i c e = picked-used candidate before noComplex off (complexIn b) (complexesUsed b) 32 i c e
-
-  pub complex-answer : (k : Best) (r : PickComplex) → k ≡ kept noBest keepComplex (first candidate before (venueOf b .complex)) → r ≡ complexPickedAt b (k .at) → r ≡ pickComplexOf (first candidate before (venueOf b .complex))
-  complex-answer k r e q = q ∙ ap (λ (x : Best). complexPickedAt b (x .at)) e ∙ go (first candidate before (venueOf b .complex)) refl
-    where
-      go : (x : Picked Complex) → first candidate before (venueOf b .complex) ≡ x → complexPickedAt b (kept noBest keepComplex x .at) ≡ pickComplexOf x
-      go nobody h = unfold complexPickedAt in unfold pickComplexOf in unfold kept in refl
-      go (picked i c) h =
-          let z = complex-used i c h in
-          let w : i < 32 = omega (arith, z .used, complexes-few b) in
-          unfold complexPickedAt in unfold pickComplexOf in unfold kept in rw (lt-leb 32 i w, z .at)
 
 -- The tests -----------------------------------------------------------------------------------
 

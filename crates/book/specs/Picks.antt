@@ -1,23 +1,20 @@
 -- What a scan of the places in use picks or finds, and how it keeps the first in rank.
-use mathlib.Core.Bool.{Bool, _&&_, _||_}
+use mathlib.Core.Bool.{_&&_, _||_}
 use mathlib.Core.List.{List}
 use Prim.Native.Nat.{ℕ}
 use lib.Dec.{leb, ltb, eqb}
 use Rattle.rules.specs.declared.Regular.{Regular}
-use Rattle.rules.specs.declared.Complex.{Complex}
 use Rattle.rules.specs.declared.Legging.{Legging}
 use Rattle.rules.specs.declared.Venue.{Venue}
 use Rattle.rules.specs.Base.{if_then_else_, held, Picked, nobody, picked}
 use Rattle.rules.specs.Prices.{better}
 use Rattle.rules.specs.Complex.{regularPlace, complexPlace, restsRegular, restsComplex}
-use Rattle.places.specs.Layout.{regularIn, complexIn}
+use Rattle.places.specs.Layout.{regularIn}
 use Rattle.book.specs.declared.Best.{Best}
 use Rattle.book.specs.declared.Found.{Found}
 use Rattle.book.specs.declared.Found.the-variants as found
 use Rattle.book.specs.declared.Pick.{Pick}
 use Rattle.book.specs.declared.Pick.the-variants as pick
-use Rattle.book.specs.declared.PickComplex.{PickComplex}
-use Rattle.book.specs.declared.PickComplex.the-variants as pick-complex
 
 -- What is answered ----------------------------------------------------------------------------
 
@@ -25,20 +22,12 @@ unfoldable pub pickOf : Picked Regular → Pick
 pickOf nobody = pick.Nobody
 pickOf (picked i o) = pick.At i o
 
-unfoldable pub pickComplexOf : Picked Complex → PickComplex
-pickComplexOf nobody = pick-complex.Nobody
-pickComplexOf (picked i c) = pick-complex.At i c
-
 -- the place of the resting order with an id
 unfoldable pub regularFound : Venue → (id : ℕ) → Found
 regularFound v id = if restsRegular v id then found.At (regularPlace v id) else found.Nothing
 
 unfoldable pub complexFound : Venue → (id : ℕ) → Found
 complexFound v id = if restsComplex v id then found.At (complexPlace v id) else found.Nothing
-
--- a resting complex order above an id
-unfoldable pub isAbove : (id : ℕ) → Complex → Bool
-isAbove id c = held (c .quantity) && ltb id (c .id)
 
 -- What a scan keeps ---------------------------------------------------------------------------
 
@@ -66,9 +55,6 @@ byPrice d n p x k =
 -- what a place is answered as
 unfoldable pub pickedAt : List ℕ → (place : ℕ) → Pick
 pickedAt b i = if leb 128 i then pick.Nobody else pick.At i (regularIn b i)
-
-unfoldable pub complexPickedAt : List ℕ → (place : ℕ) → PickComplex
-complexPickedAt b i = if leb 32 i then pick-complex.Nobody else pick-complex.At i (complexIn b i)
 
 -- 1 where a legging place is filled
 unfoldable pub bitOf : Legging → ℕ

@@ -1,5 +1,6 @@
 // Scans of the places in use: who is met or taken first, where an order rests, and which legging places are filled.
 // A scan counts down and keeps the place, price and id of the first in rank; what it answers is read from the place at its end.
+// One for a series and side reads the orders with their key only.
 ghost use mathlib.Core.Path.{_≡_};
 ghost use Prim.Native.Nat.{ℕ, _<_, _≤_};
 ghost use lib.Count.{ones};
@@ -8,11 +9,9 @@ ghost use Rattle.rules.specs.Base.{first};
 ghost use Rattle.rules.specs.Words.{isRegularOf, earlier};
 ghost use Rattle.rules.specs.Prices.{restsAt, showsFor};
 ghost use Rattle.rules.specs.Order.{isMet, priceThenId};
-ghost use Rattle.rules.specs.Complex.{nextAbove};
 ghost use Rattle.rules.specs.Step.{mask};
 ghost use Rattle.places.specs.Layout.{size, venueOf};
-ghost use Rattle.book.specs.Picks.{pickOf, pickComplexOf, regularFound, complexFound, isAbove, bestAt, byId, byPrice, pickedAt, complexPickedAt, bitOf};
-use rules::Complex;
+ghost use Rattle.book.specs.Picks.{pickOf, regularFound, complexFound, bestAt, byId, byPrice, pickedAt, bitOf};
 use rules::Legging;
 use rules::Regular;
 
@@ -20,12 +19,6 @@ use rules::Regular;
 pub enum Pick {
     Nobody,
     At(usize, Regular),
-}
-
-// A complex order picked, with its place.
-pub enum PickComplex {
-    Nobody,
-    At(usize, Complex),
 }
 
 // The place of an order.
@@ -113,6 +106,7 @@ pub fn first_met(b: &[u32], series: u8, side: u8, price: u32) -> Pick
     ensures { λ r. ⌜ r ≡ pickOf (first (isMet series side price) priceThenId (venueOf (now (b .entry)) .regular)) ⌝ }
 {
     let other = rules::opposite_of(side);
+    let key = rules::place_of(series, other);
     let n = places::regulars_used(b);
     let mut best = Best {
         at: 128,
@@ -122,6 +116,9 @@ pub fn first_met(b: &[u32], series: u8, side: u8, price: u32) -> Pick
     let mut i = n;
     while 0 < i {
         i -= 1;
+        if places::key_at(b, i) != key {
+            continue;
+        }
         let o = places::regular_at(b, i);
         if !is_met(o, series, side, price) {
             continue;
@@ -151,6 +148,7 @@ pub fn first_for(b: &[u32], series: u8, side: u8, price: u32) -> Pick
     requires { ⌜ length (now b) ≡ size ⌝ }
     ensures { λ r. ⌜ r ≡ pickOf (first (showsFor series side price) earlier (venueOf (now (b .entry)) .regular)) ⌝ }
 {
+    let key = rules::place_of(series, side);
     let n = places::regulars_used(b);
     let mut best = Best {
         at: 128,
@@ -160,6 +158,9 @@ pub fn first_for(b: &[u32], series: u8, side: u8, price: u32) -> Pick
     let mut i = n;
     while 0 < i {
         i -= 1;
+        if places::key_at(b, i) != key {
+            continue;
+        }
         let o = places::regular_at(b, i);
         if !shows_for(o, series, side, price) {
             continue;
@@ -167,50 +168,6 @@ pub fn first_for(b: &[u32], series: u8, side: u8, price: u32) -> Pick
         best = by_id(best, i, o.price, o.id);
     }
     pick_at(b, best.at)
-}
-
-fn is_above(c: Complex, id: u32) -> bool
-    ensures { λ r. ⌜ r ≡ isAbove id c ⌝ }
-{
-    if c.quantity == 0 {
-        return false;
-    }
-    id < c.id
-}
-
-// The complex order at a place; from place 32 on, nobody.
-fn pick_complex_at(b: &[u32], at: usize) -> PickComplex
-    requires { ⌜ length (now b) ≡ size ⌝ }
-    ensures { λ r. ⌜ r ≡ complexPickedAt (now (b .entry)) at ⌝ }
-{
-    if 32 <= at {
-        return PickComplex::Nobody;
-    }
-    let c = places::complex_at(b, at);
-    PickComplex::At(at, c)
-}
-
-// The earliest resting complex order above an id.
-pub fn next_above(b: &[u32], id: u32) -> PickComplex
-    requires { ⌜ length (now b) ≡ size ⌝ }
-    ensures { λ r. ⌜ r ≡ pickComplexOf (nextAbove id (venueOf (now (b .entry)))) ⌝ }
-{
-    let n = places::complexes_used(b);
-    let mut best = Best {
-        at: 128,
-        price: 0,
-        id: 0,
-    };
-    let mut i = n;
-    while 0 < i {
-        i -= 1;
-        let c = places::complex_at(b, i);
-        if !is_above(c, id) {
-            continue;
-        }
-        best = by_id(best, i, 0, c.id);
-    }
-    pick_complex_at(b, best.at)
 }
 
 fn is_regular_of(o: Regular, id: u32) -> bool

@@ -1,4 +1,5 @@
 pub mod Pairing
 pub mod Working
+pub mod Walking
 pub mod Sweeping
 pub mod Finding

@@ -1,5 +1,5 @@
 -- Legging in, test by test and step by step.
-use mathlib.Core.Path.{_≡_, refl, sym, ap, _∙_}
+use mathlib.Core.Path.{_≡_, refl, sym, ap, subst, _∙_}
 use mathlib.Core.Bool.{Bool, true, false, not}
 use mathlib.Core.List.{List}
 use Prim.Native.Nat.{ℕ, min}
@@ -19,8 +19,8 @@ use Rattle.wire.specs.Seen.{seen}
 use Rattle.wire.specs.Stage.{stage, _does_}
 use Rattle.wire.proofs.Stages.{follow}
 use Rattle.wire.proofs.Decoding.{leZ-not}
-use Rattle.levels.specs.declared.Level.{Level}
-use Rattle.levels.specs.Grid.{levelOf}
+use Rattle.levels.specs.declared.Taken.{Taken}
+use Rattle.levels.specs.Grid.{TakenOf}
 use Rattle.levels.proofs.Sides.{level-price, level-size}
 
 -- The test ------------------------------------------------------------------------------------
@@ -83,35 +83,38 @@ turn-for : (i : ℕ) (v : Venue) → turnFor i v (complexAt v i) ≡ legInTurn i
 unfolding turnFor legInTurn
 turn-for i v = refl
 
-module _ (i : ℕ) (v : Venue) (c : Complex) (e : c ≡ complexAt v i) (f g : ℕ) (ef : f ≡ opposite (c .side1)) (eg : g ≡ opposite (c .side2))
-    (x y : Level) (ex : x ≡ levelOf (c .series1) f (v .regular)) (ey : y ≡ levelOf (c .series2) g (v .regular)) where
-  price1 : x .price ≡ bestRegular v (c .series1) (opposite (c .side1))
-  price1 = level-price v (c .series1) f x ex ∙ ap (bestRegular v (c .series1)) ef
+-- t has the levels that the order's legs take
+module _ (i : ℕ) (v : Venue) (c : Complex) (e : c ≡ complexAt v i) (t : Taken) (h : TakenOf t (complexAt v i) (v .regular)) where
+  pub taken-now : TakenOf t c (v .regular)
+  taken-now = subst (λ (x : Complex). TakenOf t x (v .regular)) (sym e) h
 
-  price2 : y .price ≡ bestRegular v (c .series2) (opposite (c .side2))
-  price2 = level-price v (c .series2) g y ey ∙ ap (bestRegular v (c .series2)) eg
+  price1 : t .first .price ≡ bestRegular v (c .series1) (opposite (c .side1))
+  price1 = level-price v (c .series1) (opposite (c .side1)) (t .first) (taken-now .first)
 
-  size1 : x .size ≡ bestSize v (c .series1) (opposite (c .side1))
-  size1 = level-size v (c .series1) f x ex ∙ ap (bestSize v (c .series1)) ef
+  price2 : t .second .price ≡ bestRegular v (c .series2) (opposite (c .side2))
+  price2 = level-price v (c .series2) (opposite (c .side2)) (t .second) (taken-now .second)
 
-  size2 : y .size ≡ bestSize v (c .series2) (opposite (c .side2))
-  size2 = level-size v (c .series2) g y ey ∙ ap (bestSize v (c .series2)) eg
+  size1 : t .first .size ≡ bestSize v (c .series1) (opposite (c .side1))
+  size1 = level-size v (c .series1) (opposite (c .side1)) (t .first) (taken-now .first)
+
+  size2 : t .second .size ≡ bestSize v (c .series2) (opposite (c .side2))
+  size2 = level-size v (c .series2) (opposite (c .side2)) (t .second) (taken-now .second)
 
   here : turnFor i v c ≡ legInTurn i v
   here = ap (turnFor i v) e ∙ turn-for i v
 
-  stops : legsIn v c (x .price) (y .price) ≡ false → ended ≡ turnFor i v c
+  stops : legsIn v c (t .first .price) (t .second .price) ≡ false → ended ≡ turnFor i v c
   unfolding turnFor
-  stops h = rw (← price1, ← price2, h)
+  stops q = rw (← price1, ← price2, q)
 
-  pub leg-stop : legsIn v c (x .price) (y .price) ≡ false → ended ≡ legInTurn i v
-  leg-stop h = stops h ∙ here
+  pub leg-stop : legsIn v c (t .first .price) (t .second .price) ≡ false → ended ≡ legInTurn i v
+  leg-stop q = stops q ∙ here
 
-  turns : (k : ℕ) → legsIn v c (x .price) (y .price) ≡ true → k ≡ min (c .quantity) (min (x .size) (y .size)) →
-      turned (legIn i (x .price) (y .price) k v) ≡ turnFor i v c
+  turns : (k : ℕ) → legsIn v c (t .first .price) (t .second .price) ≡ true → k ≡ min (c .quantity) (min (t .first .size) (t .second .size)) →
+      turned (legIn i (t .first .price) (t .second .price) k v) ≡ turnFor i v c
   unfolding turnFor
-  turns k h q = rw (← price1, ← price2, h, ← size1, ← size2, q)
+  turns k n q = rw (← price1, ← price2, n, ← size1, ← size2, q)
 
-  pub leg-turn : (q k : ℕ) → legsIn v c (x .price) (y .price) ≡ true → q ≡ min (c .quantity) (x .size) → k ≡ min q (y .size) →
-      turned (legIn i (x .price) (y .price) k v) ≡ legInTurn i v
-  leg-turn q k h r s = turns k h (omega arith) ∙ here
+  pub leg-turn : (q k : ℕ) → legsIn v c (t .first .price) (t .second .price) ≡ true → q ≡ min (c .quantity) (t .first .size) → k ≡ min q (t .second .size) →
+      turned (legIn i (t .first .price) (t .second .price) k v) ≡ legInTurn i v
+  leg-turn q k n r w = turns k n (omega arith) ∙ here

@@ -20,7 +20,8 @@ use Rattle.wire.specs.Stage.{stage, _does_}
 use Rattle.wire.proofs.Stages.{follow, does-nothing, stage-venue}
 use Rattle.places.specs.Layout.{venueOf, Counts, SameCounts}
 use Rattle.levels.specs.declared.Level.{Level}
-use Rattle.levels.specs.Grid.{GridOf}
+use Rattle.levels.specs.declared.Taken.{Taken}
+use Rattle.levels.specs.Grid.{GridOf, TakenOf}
 use Rattle.complexes.specs.Grids.{SameBook}
 
 -- an effect that leaves the regular orders as they are
@@ -65,6 +66,21 @@ touch-quiet i v = go (touches v (complexAt v i))
     go true = refl
     go false = refl
 
+-- nor does a touch change the levels that an order's legs take
+touch-keeps : (t : Taken) (i : ℕ) (v : Venue) → TakenOf t (complexAt v i) (v .regular) → TakenOf t (complexAt (touch i v .venue) i) (touch i v .venue .regular)
+unfolding touch remove withLegging nothing complexAt
+touch-keeps t i v h = go (touches v (complexAt v i))
+  where
+    go : (k : Bool) →
+        TakenOf t (complexAt ((if k then remove (λ n _. failIf (takenSide (complexAt v i) n) Touched) v else nothing v) .venue) i)
+        ((if k then remove (λ n _. failIf (takenSide (complexAt v i) n) Touched) v else nothing v) .venue .regular)
+    go true = h
+    go false = h
+
+pub touch-taken : (t : Taken) (i : ℕ) (v w : Venue) (l m : List ℕ) (a d : ℕ) → stage w l a ≡ seen m d does touch i v →
+    TakenOf t (complexAt v i) (v .regular) → TakenOf t (complexAt w i) (w .regular)
+touch-taken t i v w l m a d e h = subst (λ (x : Venue). TakenOf t (complexAt x i) (x .regular)) (sym (stage-venue w l m a d (touch i v) e)) (touch-keeps t i v h)
+
 -- the regular orders after a quiet effect, and the grid
 module _ (v w : Venue) (l m : List ℕ) (a d : ℕ) (e : Effect) (t : stage w l a ≡ seen m d does e) (q : Quiet e v) where
   pub quiet-book : w .regular ≡ v .regular
@@ -80,6 +96,10 @@ kept-grid g t a b e s h = subst (λ (os : List Regular). GridOf g os) (sym (s .s
 
 pub book-on : (t : Bool) (a b c : List ℕ) → venueOf b .regular ≡ venueOf a .regular → SameBook t b c → SameBook t a c
 book-on t a b c e s = record { same = λ h. s .same h ∙ e }
+
+-- a step without a trade tells no more of the regular orders than was told before it
+pub book-kept : (t u : Bool) (a b c : List ℕ) → u ≡ false → SameBook t a b → SameBook u b c → SameBook t a c
+book-kept t u a b c e s r = record { same = λ h. r .same e ∙ s .same h }
 
 -- The steps -----------------------------------------------------------------------------------
 

@@ -1,14 +1,15 @@
 // What the messages do: an order, a complex order, a sweep and a cancel, each with its settling; and how a complex order is worked.
 // Each function says in one equation the venue that it leaves and all that it writes: those of its definition.
 use book::Found;
-use book::PickComplex;
 use levels::Level;
+use levels::Taken;
 use rules::Complex;
 use rules::Regular;
 ghost use mathlib.Core.Path.{_≡_};
 ghost use mathlib.Core.Bool.{true, false, _||_};
 ghost use Prim.Native.Nat.{ℕ, suc, min, _≤_, _<_};
 ghost use lib.ListN.{length};
+ghost use Rattle.rules.specs.Words.{complexAt};
 ghost use Rattle.rules.specs.Effects.{repeat};
 ghost use Rattle.rules.specs.Order as order;
 ghost use Rattle.rules.specs.Generation.{generate};
@@ -17,9 +18,10 @@ ghost use Rattle.rules.specs.Complex as complex;
 ghost use Rattle.wire.specs.Seen.{seen};
 ghost use Rattle.wire.specs.Stage.{stage, _does_};
 ghost use Rattle.places.specs.Layout.{size, regularsUsed, complexesUsed, venueOf, Counts, SameCounts, Dense};
-ghost use Rattle.levels.specs.Grid.{GridOf, LegsIn};
+ghost use Rattle.levels.specs.Grid.{GridOf, LegsIn, TakenOf};
 ghost use Rattle.complexes.specs.Effects.{withdrawn};
 ghost use Rattle.complexes.specs.Grids.{SameBook, RightUnless};
+ghost use Rattle.complexes.specs.Rising.{Rising};
 
 // Where the report stands, and whether regular orders were traded with: if not, a grid of their prices is still right.
 pub struct Worked {
@@ -28,8 +30,8 @@ pub struct Worked {
 }
 
 // The best regular prices a and p that c would take net to its limit or less, and that net is in band.
-fn can_leg_in(b: &[u32], g: [[Level; 2]; 8], c: Complex, a: u32, p: u32) -> bool
-    requires { ⌜ (length (now b) ≡ size) × (GridOf g (venueOf (now b) .regular)) × (LegsIn c) ⌝ }
+fn can_leg_in(b: &[u32], taken: Taken, c: Complex, a: u32, p: u32) -> bool
+    requires { ⌜ (length (now b) ≡ size) × (TakenOf taken c (venueOf (now b) .regular)) × (LegsIn c) ⌝ }
     ensures { λ r. ⌜ r ≡ legsIn (venueOf (now (b .entry))) c a p ⌝ }
 {
     if c.quantity == 0 {
@@ -42,11 +44,11 @@ fn can_leg_in(b: &[u32], g: [[Level; 2]; 8], c: Complex, a: u32, p: u32) -> bool
         return false;
     }
     let net = rules::net_of(c.side1, a, c.side2, p);
-    let limit = crossing::limit_of(c);
+    let limit = rules::limit_of(c);
     if limit < net {
         return false;
     }
-    levels::in_band(b, g, c, net)
+    levels::in_band(b, taken, c, net)
 }
 
 // k contracts of each leg of the order at place i, at prices a and p: the first leg's trades, the second's, the pair.
@@ -72,37 +74,46 @@ fn at_most(q: u32, n: u64) -> u32
     q
 }
 
-// The order at place i legs in while the best prices allow it, in at most `quantity` turns.
+// The levels that the legs of the order at place i take.
+fn taken_at(b: &[u32], g: [[Level; 2]; 8], i: usize) -> Taken
+    requires { ⌜ (length (now b) ≡ size) × (GridOf g (venueOf (now b) .regular)) × (i < complexesUsed (now b)) ⌝ }
+    ensures { λ r. ⌜ TakenOf r (complexAt (venueOf (now (b .entry))) i) (venueOf (now (b .entry)) .regular) ⌝ }
+{
+    let c = places::complex_at(b, i);
+    levels::taken_of(g, c)
+}
+
+// The order at place i legs in while the best prices allow it, in at most `quantity` turns; taken has the levels of the first.
 pub fn leg_in_all(
     b: &mut [u32],
-    g: [[Level; 2]; 8],
+    taken: Taken,
     i: usize,
     quantity: u32,
     out: &mut [u8],
     at: usize,
 ) -> Worked
-    requires { ⌜ (length (now b) ≡ size) × (GridOf g (venueOf (now b) .regular)) × (i < complexesUsed (now b)) ⌝ }
+    requires { ⌜ (length (now b) ≡ size) × (TakenOf taken (complexAt (venueOf (now b)) i) (venueOf (now b) .regular)) × (i < complexesUsed (now b)) ⌝ }
     ensures { λ r. ⌜ stage (venueOf (now (b .exit))) (now (out .exit)) (r .at) ≡ seen (now (out .entry)) at does repeat quantity (legInTurn i) (venueOf (now (b .entry))) ⌝ }
     ensures counts { λ _. ⌜ SameCounts (now (b .entry)) (now (b .exit)) ⌝ }
     ensures book { λ r. ⌜ SameBook (r .traded) (now (b .entry)) (now (b .exit)) ⌝ }
 {
-    let mut grid = g;
+    let mut best = taken;
     let mut pos = at;
     let mut traded = false;
     let mut turns = quantity;
     while 0 < turns {
         turns -= 1;
         let c = places::complex_at(b, i);
-        let first = levels::level_at(grid, c.series1, rules::opposite_of(c.side1));
-        let second = levels::level_at(grid, c.series2, rules::opposite_of(c.side2));
-        if !can_leg_in(b, grid, c, first.price, second.price) {
+        let first = best.first;
+        let second = best.second;
+        if !can_leg_in(b, best, c, first.price, second.price) {
             return Worked { at: pos, traded };
         }
         let k = at_most(at_most(c.quantity, first.size), second.size);
         pos = leg_in(b, i, first.price, second.price, k, out, pos);
         traded = true;
-        let anew = levels::levels(b);
-        grid = anew;
+        let grid = levels::levels(b);
+        best = taken_at(b, grid, i);
     }
     Worked { at: pos, traded }
 }
@@ -119,8 +130,9 @@ pub fn work(b: &mut [u32], g: [[Level; 2]; 8], i: usize, out: &mut [u8], at: usi
         return Worked { at, traded: false };
     }
     let crossed = crossing::cross_all(b, g, i, out, at);
-    let touched = crossing::touch(b, g, i, out, crossed);
-    leg_in_all(b, g, i, c.quantity, out, touched)
+    let taken = taken_at(b, g, i);
+    let touched = crossing::touch(b, taken, i, out, crossed);
+    leg_in_all(b, taken, i, c.quantity, out, touched)
 }
 
 // A grid that is right now: g, unless there was a trade.
@@ -149,50 +161,53 @@ pub fn complex_order(b: &mut [u32], c: Complex, out: &mut [u8], at: usize) -> us
     legging::generate_order(b, h, i, out, settled)
 }
 
-// Each resting complex order is worked, earliest first.
-fn work_each(b: &mut [u32], out: &mut [u8], at: usize) -> usize
-    requires { ⌜ length (now b) ≡ size ⌝ }
-    ensures { λ r. ⌜ stage (venueOf (now (b .exit))) (now (out .exit)) r ≡ seen (now (out .entry)) at does each 32 complex.work 0 (venueOf (now (b .entry))) ⌝ }
+// Each resting complex order is worked, earliest first: ids rise with the places.
+fn work_each(b: &mut [u32], g: [[Level; 2]; 8], out: &mut [u8], at: usize) -> Worked
+    requires { ⌜ (length (now b) ≡ size) × (GridOf g (venueOf (now b) .regular)) × (Rising (venueOf (now b) .complex)) ⌝ }
+    ensures { λ r. ⌜ stage (venueOf (now (b .exit))) (now (out .exit)) (r .at) ≡ seen (now (out .entry)) at does each 32 complex.work 0 (venueOf (now (b .entry))) ⌝ }
     ensures counts { λ _. ⌜ SameCounts (now (b .entry)) (now (b .exit)) ⌝ }
+    ensures book { λ r. ⌜ SameBook (r .traded) (now (b .entry)) (now (b .exit)) ⌝ }
 {
-    let mut grid = levels::levels(b);
+    let used = places::complexes_used(b);
+    let mut grid = g;
     let mut pos = at;
-    let mut id: u32 = 0;
-    let mut turns: u32 = 32;
-    while 0 < turns {
-        turns -= 1;
-        let found = book::next_above(b, id);
-        let PickComplex::At(i, c) = found else {
-            return pos;
-        };
+    let mut traded = false;
+    let mut k: usize = 0;
+    while k < used {
+        let i = k;
+        k += 1;
+        let c = places::complex_at(b, i);
+        if c.quantity == 0 {
+            continue;
+        }
         let w = work(b, grid, i, out, pos);
         pos = w.at;
-        id = c.id;
         if !w.traded {
             continue;
         }
+        traded = true;
         let anew = levels::levels(b);
         grid = anew;
     }
-    pos
+    Worked { at: pos, traded }
 }
 
 // Generation for each resting complex order, earliest first.
 fn generate_each(b: &mut [u32], g: [[Level; 2]; 8], out: &mut [u8], at: usize) -> usize
-    requires { ⌜ (length (now b) ≡ size) × (GridOf g (venueOf (now b) .regular)) ⌝ }
+    requires { ⌜ (length (now b) ≡ size) × (GridOf g (venueOf (now b) .regular)) × (Rising (venueOf (now b) .complex)) ⌝ }
     ensures { λ r. ⌜ stage (venueOf (now (b .exit))) (now (out .exit)) r ≡ seen (now (out .entry)) at does each 32 generate 0 (venueOf (now (b .entry))) ⌝ }
     ensures counts { λ _. ⌜ SameCounts (now (b .entry)) (now (b .exit)) ⌝ }
 {
+    let used = places::complexes_used(b);
     let mut pos = at;
-    let mut id: u32 = 0;
-    let mut turns: u32 = 32;
-    while 0 < turns {
-        turns -= 1;
-        let found = book::next_above(b, id);
-        let PickComplex::At(i, c) = found else {
-            return pos;
-        };
-        id = c.id;
+    let mut k: usize = 0;
+    while k < used {
+        let i = k;
+        k += 1;
+        let c = places::complex_at(b, i);
+        if c.quantity == 0 {
+            continue;
+        }
         pos = legging::generate_order(b, g, i, out, pos);
     }
     pos
@@ -200,14 +215,15 @@ fn generate_each(b: &mut [u32], g: [[Level; 2]; 8], out: &mut [u8], at: usize) -
 
 // All resting complex orders are worked; then settling, once, and generation.
 pub fn sweep(b: &mut [u32], out: &mut [u8], at: usize) -> usize
-    requires { ⌜ length (now b) ≡ size ⌝ }
+    requires { ⌜ (length (now b) ≡ size) × (Rising (venueOf (now b) .complex)) ⌝ }
     ensures { λ r. ⌜ stage (venueOf (now (b .exit))) (now (out .exit)) r ≡ seen (now (out .entry)) at does complex.sweep (venueOf (now (b .entry))) ⌝ }
     ensures counts { λ _. ⌜ SameCounts (now (b .entry)) (now (b .exit)) ⌝ }
 {
-    let worked = work_each(b, out, at);
     let g = levels::levels(b);
-    let settled = legging::settle_with(b, g, out, worked);
-    generate_each(b, g, out, settled)
+    let w = work_each(b, g, out, at);
+    let h = grid_after(b, g, w.traded);
+    let settled = legging::settle_with(b, h, out, w.at);
+    generate_each(b, h, out, settled)
 }
 
 // The resting complex order with an id is cancelled.

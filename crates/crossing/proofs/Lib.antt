@@ -1,6 +1,7 @@
 pub mod Scanning
 pub mod Limits
 pub mod Candidates
+pub mod Keys
 pub mod Loops
 pub mod Turns
 pub mod Touches

@@ -1,30 +1,15 @@
--- Limits of 32 bits in 64: widened, negated, compared.
+-- Limits of 32 bits in 64: negated, compared.
 use mathlib.Core.Path.{_≡_, sym, ap, ap₂, _∙_}
 use mathlib.Core.Bool.{Bool}
-use Prim.Native.Nat.{_≤_, _<_}
+use Prim.Native.Nat.{_≤_}
 use native.Mathlib.Omega.{arith}
-use lib.IntN.{ℤ, pos, negsuc, natAbs, negℤ, _-ℤ_, +ℤ-idl}
+use lib.IntN.{ℤ, pos, natAbs, negℤ, _-ℤ_, +ℤ-idl}
 use lib.Signed.{ltZ}
 use mir.Syntax.{w32, w64}
 use mir.Val.{SFits, toZ, ofZ}
 use mir.ValLaws.{toZ-ofZ}
 use Rattle.rules.proofs.Integers.{abs-neg}
 use Rattle.rules.proofs.Machine.{fits-of, back}
-
--- a number of 32 bits is at most 2^31 in size
-abs-small : (z : ℤ) → SFits w32 z → natAbs z ≤ 2147483648
-abs-small (pos n) f = let h : n < 2147483648 = f .sfits in omega arith
-abs-small (negsuc n) f = let h : n < 2147483648 = f .sfits in omega arith
-
-module _ (z : ℤ) (f : SFits w32 z) where
-  pub wide-fits : SFits w64 (toZ w32 (ofZ w32 z))
-  wide-fits = rw (toZ-ofZ w32 z f) (fits-of z (omega (arith, abs-small z f)))
-
-  pub wide-is : toZ w64 (ofZ w64 (toZ w32 (ofZ w32 z))) ≡ z
-  wide-is = back wide-fits ∙ toZ-ofZ w32 z f
-
-  pub wide-small : natAbs (toZ w64 (ofZ w64 (toZ w32 (ofZ w32 z)))) ≤ 2147483648
-  wide-small = rw wide-is (abs-small z f)
 
 module _ {z : ℤ} (f : SFits w64 z) (h : natAbs z ≤ 2147483648) where
   pub minus-fits : SFits w64 (pos 0 -ℤ toZ w64 (ofZ w64 z))

@@ -1,10 +1,13 @@
 // Complex orders with one another: who crosses with whom, the cross, and the touch of legging orders.
 use levels::Level;
+use levels::Taken;
 use rules::Cause;
 use rules::Complex;
+use rules::lesser;
+use rules::limit_of;
 ghost use mathlib.Core.Path.{_≡_};
-ghost use mathlib.Core.Bool.{_&&_};
-ghost use Prim.Native.Nat.{ℕ, _≤_, _<_, min};
+ghost use mathlib.Core.Bool.{_&&_, _||_};
+ghost use Prim.Native.Nat.{ℕ, _≤_, _<_};
 ghost use lib.Dec.{eqb};
 ghost use lib.IntN.{ℤ, pos, natAbs, negℤ, _+ℤ_};
 ghost use lib.ListN.{length};
@@ -16,21 +19,13 @@ ghost use Rattle.rules.specs.Complex.{reversed, crosses, limitThenId, cross, cr
 ghost use Rattle.wire.specs.Seen.{seen};
 ghost use Rattle.wire.specs.Stage.{stage, _does_};
 ghost use Rattle.places.specs.Layout.{size, complexesUsed, venueOf, SameCounts};
-ghost use Rattle.levels.specs.Grid.{GridOf, LegsIn};
-ghost use Rattle.crossing.specs.Picks.{pickedOf};
+ghost use Rattle.levels.specs.Grid.{GridOf, LegsIn, TakenOf};
+ghost use Rattle.crossing.specs.Picks.{pickedOf, facingKey};
 
 // A complex order with its place, or none.
 pub enum Pick {
     Nobody,
     At(usize, Complex),
-}
-
-// A complex order's limit, in 64 bits.
-pub fn limit_of(c: Complex) -> i64
-    ensures { λ r. ⌜ (r ≡ c .limit) × (natAbs r ≤ 2147483648) ⌝ }
-{
-    let n = c.limit;
-    n as i64
 }
 
 // What an order pays in a cross with m, at m's limit.
@@ -90,10 +85,12 @@ pub fn can_cross(b: &[u32], g: [[Level; 2]; 8], c: Complex, m: Complex) -> bool
     if !limits_meet(c, m) {
         return false;
     }
-    if !levels::in_band(b, g, c, net_against(m)) {
+    let by_taker = levels::taken_of(g, c);
+    if !levels::in_band(b, by_taker, c, net_against(m)) {
         return false;
     }
-    levels::in_band(b, g, m, limit_of(m))
+    let by_maker = levels::taken_of(g, m);
+    levels::in_band(b, by_maker, m, limit_of(m))
 }
 
 // a goes before m: the higher limit, then the earlier.
@@ -126,15 +123,38 @@ fn better_pick(best: Pick, n: usize, m: Complex) -> Pick
     }
 }
 
-// The resting order that c crosses with first.
+// The key of an order whose legs face these two: the same series, at the opposite sides.
+fn facing_key(s: u8, d: u8, t: u8, e: u8) -> usize
+    ensures { λ r. ⌜ r ≡ facingKey s d t e ⌝ }
+{
+    let one = rules::place_of(s, rules::opposite_of(d));
+    let two = rules::place_of(t, rules::opposite_of(e));
+    16 * one + two
+}
+
+fn is_either(key: usize, one: usize, two: usize) -> bool
+    ensures { λ r. ⌜ r ≡ (eqb key one || eqb key two) ⌝ }
+{
+    if key == one {
+        return true;
+    }
+    key == two
+}
+
+// The resting order that c crosses with first. Of the others only those whose legs have the key are read.
 pub fn first_cross(b: &[u32], g: [[Level; 2]; 8], c: Complex) -> Pick
     requires { ⌜ (length (now b) ≡ size) × (GridOf g (venueOf (now b) .regular)) × (LegsIn c) ⌝ }
     ensures { λ r. ⌜ pickedOf r ≡ first (crosses (venueOf (now (b .entry))) c) limitThenId (venueOf (now (b .entry)) .complex) ⌝ }
 {
+    let straight = facing_key(c.series1, c.side1, c.series2, c.side2);
+    let turned = facing_key(c.series2, c.side2, c.series1, c.side1);
     let mut best = Pick::Nobody;
     let mut i = places::complexes_used(b);
     while 0 < i {
         i -= 1;
+        if !is_either(places::legs_at(b, i), straight, turned) {
+            continue;
+        }
         let m = places::complex_at(b, i);
         if !can_cross(b, g, c, m) {
             continue;
@@ -157,15 +177,6 @@ pub fn cross(b: &mut [u32], i: usize, j: usize, k: u32, out: &mut [u8], at: usiz
     let told = wire::emit_crossed(out, at, c.id, m.id, net_against(m), k);
     let gone = removal::remove_of(b, c.id, Cause::Executed, out, told);
     removal::remove_of(b, m.id, Cause::Executed, out, gone)
-}
-
-fn lesser(a: u32, b: u32) -> u32
-    ensures { λ r. ⌜ r ≡ min a b ⌝ }
-{
-    if a < b {
-        return a;
-    }
-    b
 }
 
 // The order at place i crosses while there is one that it crosses with.
@@ -193,18 +204,20 @@ pub fn cross_all(b: &mut [u32], g: [[Level; 2]; 8], i: usize, out: &mut [u8], at
 }
 
 // The best own prices that c would take net to its limit or less.
-fn can_touch(b: &[u32], g: [[Level; 2]; 8], c: Complex) -> bool
-    requires { ⌜ (length (now b) ≡ size) × (GridOf g (venueOf (now b) .regular)) × (LegsIn c) ⌝ }
+fn can_touch(b: &[u32], taken: Taken, c: Complex) -> bool
+    requires { ⌜ (length (now b) ≡ size) × (TakenOf taken c (venueOf (now b) .regular)) × (LegsIn c) ⌝ }
     ensures { λ r. ⌜ r ≡ touches (venueOf (now (b .entry))) c ⌝ }
 {
     if c.quantity == 0 {
         return false;
     }
-    let first = levels::best_own(b, g, c.series1, rules::opposite_of(c.side1));
+    let one = taken.first;
+    let first = levels::best_own(b, one.price, c.series1, rules::opposite_of(c.side1));
     if first == 0 {
         return false;
     }
-    let second = levels::best_own(b, g, c.series2, rules::opposite_of(c.side2));
+    let two = taken.second;
+    let second = levels::best_own(b, two.price, c.series2, rules::opposite_of(c.side2));
     if second == 0 {
         return false;
     }
@@ -213,13 +226,13 @@ fn can_touch(b: &[u32], g: [[Level; 2]; 8], c: Complex) -> bool
 }
 
 // The legging orders at the two sides that the order at place i would take go, where it touches.
-pub fn touch(b: &mut [u32], g: [[Level; 2]; 8], i: usize, out: &mut [u8], at: usize) -> usize
-    requires { ⌜ (length (now b) ≡ size) × (GridOf g (venueOf (now b) .regular)) × (i < complexesUsed (now b)) ⌝ }
+pub fn touch(b: &mut [u32], taken: Taken, i: usize, out: &mut [u8], at: usize) -> usize
+    requires { ⌜ (length (now b) ≡ size) × (TakenOf taken (complexAt (venueOf (now b)) i) (venueOf (now b) .regular)) × (i < complexesUsed (now b)) ⌝ }
     ensures { λ r. ⌜ stage (venueOf (now (b .exit))) (now (out .exit)) r ≡ seen (now (out .entry)) at does touch i (venueOf (now (b .entry))) ⌝ }
     ensures counts { λ _. ⌜ SameCounts (now (b .entry)) (now (b .exit)) ⌝ }
 {
     let c = places::complex_at(b, i);
-    if !can_touch(b, g, c) {
+    if !can_touch(b, taken, c) {
         return at;
     }
     let one = rules::place_of(c.series1, rules::opposite_of(c.side1));

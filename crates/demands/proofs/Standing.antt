@@ -1,22 +1,26 @@
 -- Demand 3, the legging orders: where all stand, each is best displayed, in band, and its hits find their contracts.
-use mathlib.Core.Path.{_∙_, _≡_, refl, sym}
+use mathlib.Core.Path.{_∙_, _≡_, ap, refl, sym}
 use mathlib.Core.Bool.{false, true, true≢false}
 use mathlib.Core.Logic.{_≢_}
-use mathlib.Core.List.{_++_, _∷_}
+use mathlib.Core.List.{List, _++_, _∷_}
 use Prim.Native.Nat.{_%_, _/_, _<_, _≤_, ℕ}
 use native.Mathlib.Omega.{arith}
 use lib.Dec.{leb}
+use lib.ListN.{length}
+use lib.Seq.{getD-set-same}
 use borrow.Author.Tests.{eq-eqb, leb-true, not-true}
 use Rattle.rules.specs.declared.Cause.the-variants.{Executed}
 use Rattle.rules.specs.declared.Complex.{Complex}
 use Rattle.rules.specs.declared.Legging.{Legging}
+use Rattle.rules.specs.declared.Regular.{Regular}
 use Rattle.rules.specs.declared.Venue.{Venue}
 use Rattle.rules.specs.Base.{all, held}
-use Rattle.rules.specs.Words.{increment, isComplexOf, leggingAt, opposite, placeOf, regularAt}
-use Rattle.rules.specs.Prices.{bestIn, bestRegular, bestSize, better, clearPrice, displayed, restsAt, sizeIn}
-use Rattle.rules.specs.Records.{pair, trade}
-use Rattle.rules.specs.Removal.{removeOf}
+use Rattle.rules.specs.Words.{increment, isComplexOf, leggingAt, noRegular, opposite, placeOf, regularAt, withRegular}
+use Rattle.rules.specs.Prices.{bestIn, bestRegular, bestSize, better, clearPrice, displayed, restsAt, showsAt, sizeIn}
+use Rattle.rules.specs.Records.{Report, pair, trade}
+use Rattle.rules.specs.Removal.{remove, removeOf}
 use Rattle.rules.specs.Standing.{hasLeg, legNet, otherClear, otherLeg, otherSize, pairs, parentOf, shownWell, verdict}
+use Rattle.rules.specs.Trading.{putRegular, take}
 use Rattle.rules.specs.Order.{hit}
 use Rattle.rules.specs.Calls.{one}
 use Rattle.demands.specs.Demand.{Hit, Standing, otherTrades}
@@ -26,8 +30,8 @@ use Rattle.rules.proofs.Finding.{leg-in}
 use Rattle.rules.proofs.Generating.{AllStand, place-series, place-side}
 use Rattle.rules.proofs.Hitting.{hit-is}
 use Rattle.rules.proofs.Settling.{clear-best}
-use Rattle.rules.proofs.Sizes.{rests-shows}
-use Rattle.rules.proofs.Taking.{chain-at, take-chain, take-total}
+use Rattle.rules.proofs.Sizes.{best-set, free-shows, no-price, not-there, rests-shows}
+use Rattle.rules.proofs.Taking.{chain-at, take-chain, take-put, take-total}
 use Rattle.rules.proofs.Tests.{and-in, and-l, and-r}
 use Rattle.rules.proofs.Verdicts.{Passes, passed}
 use Rattle.demands.proofs.Homes.{Fine, Home, home-held, other-apart, parent-found}
@@ -35,6 +39,71 @@ use Rattle.demands.proofs.Homes.{Fine, Home, home-held, other-apart, pa
 opposite-twice : (d : ℕ) → d < 2 → opposite (opposite d) ≡ d
 unfolding opposite
 opposite-twice d d2 = omega arith
+
+-- The hit of `Order`, record by record, of a legging order of c ---------------------------------
+
+module _ (c : Complex) (s d : ℕ) (l : Legging) (apart : s ≢ otherLeg c s .series) (d2 : d < 2) where
+  -- its own trade by an order of this id, the other leg's trades, the 66 and the removals, upon the venue as it stands
+  abbrev written : Venue → (k id : ℕ) → List Report
+  written v k id =
+      trade s (opposite d) (l .price) k id (c .id)
+      ∷ (otherTrades v c s k ++ (pair (c .id) (legNet c s d (l .price) (otherClear v c s)) k ∷ removeOf (c .id) Executed v .reports))
+
+  -- by an order of the other side
+  writes : (v : Venue) → parentOf v l ≡ c → (k i : ℕ) → regularAt v i .series ≡ s → regularAt v i .side ≡ opposite d → hit i l k v .reports ≡ written v k (regularAt v i .id)
+  unfolding regularAt
+  writes v is k i at of =
+      let q = parentOf v l in
+      let t = reg v i .series in
+      let other : t ≢ otherLeg q t .series = rw (is, at) apart in
+      let h : hit i l k v .reports ≡
+      trade t (reg v i .side) (l .price) k (reg v i .id) (q .id)
+      ∷ (otherTrades v q t k ++ (pair (q .id) (legNet q t (opposite (reg v i .side)) (l .price) (otherClear v q t)) k ∷ removeOf (q .id) Executed v .reports)) =
+      hit-is v i k l other in
+      rw (is, at, of, opposite-twice d d2) at h
+
+  -- by one that arrives at a free place: the other leg finds what it found before
+  module _ (v : Venue) (i : ℕ) (o : Regular) (fits : i < length (v .regular)) (free : held (regularAt v i .quantity) ≡ false) (at : o .series ≡ s) where
+    abbrev t : ℕ
+    t = otherLeg c s .series
+
+    abbrev w : Venue
+    w = putRegular i o v
+
+    none-before : (e : ℕ) → showsAt t e (reg v i) ≡ false
+    unfolding regularAt
+    none-before e = free-shows t e (reg v i) free
+
+    none-after : (e : ℕ) → showsAt t e o ≡ false
+    none-after e = not-there t e o (λ z. apart (sym at ∙ z))
+
+    placed-there : regularAt w i ≡ o
+    unfolding regularAt putRegular withRegular
+    placed-there = getD-set-same (v .regular) i o noRegular fits
+
+    same-clear : otherClear w c s ≡ otherClear v c s
+    unfolding otherClear clearPrice bestRegular leggingAt putRegular withRegular
+    same-clear = rw (best-set t (opposite (otherLeg c s .side)) (v .regular) i o (none-before _) (none-after _))
+
+    same-trades : (k : ℕ) → otherTrades w c s k ≡ otherTrades v c s k
+    same-trades k =
+        let e = otherLeg c s .side in
+        let p = otherClear v c s in
+        ap (λ (y : ℕ). take k (c .id) t e y k w .reports) same-clear
+        ∙ take-put (c .id) t e p i o k k v (no-price t (opposite e) p _ (none-before _)) (no-price t (opposite e) p o (none-after _))
+
+    same-removals : removeOf (c .id) Executed w .reports ≡ removeOf (c .id) Executed v .reports
+    unfolding removeOf remove putRegular withRegular
+    same-removals = refl
+
+    same-parent : parentOf w l ≡ parentOf v l
+    unfolding parentOf putRegular withRegular
+    same-parent = refl
+
+    arrives : parentOf v l ≡ c → (k : ℕ) → o .side ≡ opposite d → hit i l k w .reports ≡ written v k (o .id)
+    arrives is k of =
+        rw (placed-there, same-trades k, same-clear, same-removals) at
+        (writes w (same-parent ∙ is) k i (ap (λ (y : Regular). y .series) placed-there ∙ at) (ap (λ (y : Regular). y .side) placed-there ∙ of))
 
 module _ (v : Venue) (c : Complex) (s d : ℕ) (l : Legging) (p : Passes v c s d l) where
   -- no regular order is better than what is displayed
@@ -44,21 +113,6 @@ module _ (v : Venue) (c : Complex) (s d : ℕ) (l : Legging) (p : Passes v c s d
       is-false _ (λ b. true≢false
       (sym (better-past d (reg v i .price) (bestIn s d (v .regular)) (displayed (increment s) d (l .price)) b (best-best s d (v .regular) i (rests-shows s d _ r)))
       ∙ not-true _ (p .shown)))
-
-  -- the hit of `Order`, by an order of the other side
-  writes : parentOf v l ≡ c → s ≢ otherLeg c s .series → d < 2 → (k i : ℕ) → regularAt v i .series ≡ s → regularAt v i .side ≡ opposite d → hit i l k v .reports ≡
-      trade s (opposite d) (l .price) k (regularAt v i .id) (c .id)
-      ∷ (otherTrades v c s k ++ (pair (c .id) (legNet c s d (l .price) (otherClear v c s)) k ∷ removeOf (c .id) Executed v .reports))
-  unfolding regularAt
-  writes is apart d2 k i at of =
-      let q = parentOf v l in
-      let t = reg v i .series in
-      let other : t ≢ otherLeg q t .series = rw (is, at) apart in
-      let h : hit i l k v .reports ≡
-      trade t (reg v i .side) (l .price) k (reg v i .id) (q .id)
-      ∷ (otherTrades v q t k ++ (pair (q .id) (legNet q t (opposite (reg v i .side)) (l .price) (otherClear v q t)) k ∷ removeOf (q .id) Executed v .reports)) =
-      hit-is v i k l other in
-      rw (is, at, of, opposite-twice d d2) at h
 
   -- the size at the clear price is at least its quantity, so k contracts are there
   hits : parentOf v l ≡ c → s ≢ otherLeg c s .series → d < 2 → (k : ℕ) → k ≤ l .quantity → Hit v c s d l k
@@ -75,7 +129,8 @@ module _ (v : Venue) (c : Complex) (s d : ℕ) (l : Legging) (p : Passes v c s d
         net = search (and-l, and-r, q);
         found = chain-at (c .id) t (take-chain (c .id) t e (clearPrice v t (opposite e)) k k v)
             ∙ take-total (c .id) t e (clearPrice v t (opposite e)) k k v (omega arith) (rw (clear-best v t (opposite e) a) (omega arith));
-        written = writes is apart d2 k;
+        written = writes c s d l apart d2 v is k;
+        arrives = λ i o fits free at of. arrives c s d l apart d2 v i o fits free at is k of;
       }
 
 module _ (v : Venue) (f : Fine v) (all : AllStand v) (s d : ℕ) (d2 : d < 2) where

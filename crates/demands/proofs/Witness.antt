@@ -8,7 +8,7 @@ use borrow.Author.Tests.{ltb-true}
 use Rattle.rules.specs.Records.{Report, answer, cancelled}
 use Rattle.rules.specs.Opened.{opened-rules}
 use Rattle.demands.specs.Demand.{calls, extend, opening, parts, start}
-use Rattle.demands.specs.Witness.{Witness, atEnd, bytesOf, causes, kindOf, later, ofKind, session, sums}
+use Rattle.demands.specs.Witness.{Witness, arriving, atEnd, bytesOf, causes, kindOf, later, ofKind, regularSums, session, sums}
 
 -- what stands at a place of a list is one of it
 at-mem : (l : List Report) (n : ℕ) (d r : Report) → n < length l → getD l n d ≡ r → List·Memᴰ r l
@@ -20,8 +20,12 @@ told : List·Memᴰ (answer 5 0 5 2) (atEnd .reports)
 unfolding opened-rules bytesOf session later atEnd start extend parts opening calls
 told = at-mem (atEnd .reports) 4 (cancelled 0 0) (answer 5 0 5 2) (ltb-true 4 (length (atEnd .reports)) refl) refl
 
+told-regular : List·Memᴰ (answer 4 0 0 0) (atEnd .reports)
+unfolding opened-rules bytesOf session later atEnd start extend parts opening calls
+told-regular = at-mem (atEnd .reports) 3 (cancelled 0 0) (answer 4 0 0 0) (ltb-true 3 (length (atEnd .reports)) refl) refl
+
 pub witness : Witness
-unfolding opened-rules bytesOf session later atEnd kindOf ofKind causes sums start extend parts opening calls
+unfolding opened-rules bytesOf session later atEnd kindOf ofKind causes sums regularSums arriving start extend parts opening calls
 witness = record {
   done = refl;
   standing = refl;
@@ -34,4 +38,8 @@ witness = record {
   removals = refl;
   accepted = record { before = 4; is = refl; mask = 5; count = 2; told = told };
   account = refl;
+  regularAccepted = record { before = 3; is = refl; mask = 0; count = 0; told = told-regular };
+  regularAccount = refl;
+  free = refl;
+  hits = refl;
 }

@@ -8,7 +8,7 @@ use mathlib.Core.Path.{_≡_}
 use mathlib.Core.Bool.{false, true}
 use mathlib.Core.List.{List, List·Memᴰ, [], _++_, _∷_}
 use Prim.Native.Nat.{_%_, _+_, _/_, _<_, _≤_, suc, zero, ℕ}
-use lib.ListN.{drop, getD}
+use lib.ListN.{drop, getD, length}
 use lib.Signed.{leZ}
 use Rattle.rules.specs.declared.Cause.the-variants.{Executed}
 use Rattle.rules.specs.declared.Complex.{Complex}
@@ -25,7 +25,7 @@ use Rattle.rules.specs.Records.{Report, answer, pair, records, trade}
 use Rattle.rules.specs.Removal.{removeOf}
 use Rattle.rules.specs.Prices.{better, displayed, inBand, restsAt}
 use Rattle.rules.specs.Standing.{hasLeg, legNet, otherClear, otherLeg, parentOf}
-use Rattle.rules.specs.Trading.{take}
+use Rattle.rules.specs.Trading.{putRegular, take}
 use Rattle.rules.specs.Order.{hit}
 use Rattle.rules.specs.Calls.{Call, one, run}
 use Rattle.rules.specs.Sums.{cancelledOf, contracts, contractsAt, crossedFor, openComplex, openRegular, paired, total}
@@ -96,6 +96,11 @@ pub record Hit (v : Venue) (c : Complex) (s d : ℕ) (l : Legging) (k : ℕ) : T
   -- it is `Order.hit`: by the order at place i, of the same series and the other side, that writes its own trade, these trades, the 66 and the removals
   pub written : (i : ℕ) → regularAt v i .series ≡ s → regularAt v i .side ≡ opposite d → hit i l k v .reports ≡
       trade s (opposite d) (l .price) k (regularAt v i .id) (c .id)
+      ∷ (otherTrades v c s k ++ (pair (c .id) (legNet c s d (l .price) (otherClear v c s)) k ∷ removeOf (c .id) Executed v .reports))
+  -- and by an order that arrives at a free place i
+  pub arrives : (i : ℕ) (o : Regular) → i < length (v .regular) → held (regularAt v i .quantity) ≡ false → o .series ≡ s → o .side ≡ opposite d →
+      hit i l k (putRegular i o v) .reports ≡
+      trade s (opposite d) (l .price) k (o .id) (c .id)
       ∷ (otherTrades v c s k ++ (pair (c .id) (legNet c s d (l .price) (otherClear v c s)) k ∷ removeOf (c .id) Executed v .reports))
 
 -- of the legging order l that stands at side d of series s

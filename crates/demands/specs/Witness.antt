@@ -6,13 +6,17 @@ use Prim.Native.Nat.{ℕ}
 use lib.Dec.{eqb}
 use lib.IntN.{negsuc, pos, ℤ}
 use lib.ListN.{getD}
+use Rattle.rules.specs.declared.Cause.the-variants.{Executed}
 use Rattle.rules.specs.declared.Message.{Message}
 use Rattle.rules.specs.declared.Message.the-variants.{Away, Cancel, Order, Status, Sweep, TwoLeg}
+use Rattle.rules.specs.declared.Venue.{Venue}
 use Rattle.rules.specs.Base.{if_then_else_}
-use Rattle.rules.specs.Words.{leggingAt}
+use Rattle.rules.specs.Words.{leggingAt, noRegular, regularAt}
 use Rattle.rules.specs.Messages.{encodeMessage}
 use Rattle.rules.specs.Records.{Report, answer, cancelled, causeNumber, crossed, generated, pair, removed, trade}
-use Rattle.rules.specs.Sums.{cancelledOf, contracts, crossedFor, openComplex, paired, total}
+use Rattle.rules.specs.Trading.{putRegular}
+use Rattle.rules.specs.Order.{hit}
+use Rattle.rules.specs.Sums.{cancelledOf, contracts, crossedFor, openComplex, openRegular, paired, total}
 use Rattle.demands.specs.Demand.{Accepted, Given, Seen, byRun, calls, opening}
 
 -- The calls -----------------------------------------------------------------------------------
@@ -103,6 +107,14 @@ sums s =
     total (contracts 3 0) (s .reports) ∷ total (contracts 3 1) (s .reports) ∷ total (paired 3) (s .reports)
     ∷ total (crossedFor 3) (s .reports) ∷ total (cancelledOf 3) (s .reports) ∷ openComplex 3 (s .venue .complex) ∷ []
 
+-- of regular order 2: contracts in its series, cancelled, still open
+unfoldable pub regularSums : Seen → List ℕ
+regularSums s = total (contracts 2 1) (s .reports) ∷ total (cancelledOf 2) (s .reports) ∷ openRegular 2 (s .venue .regular) ∷ []
+
+-- the venue at the end with an order to sell 2 at 115 in series 0 that arrives at a free place
+unfoldable pub arriving : Venue
+arriving = putRegular 2 (record { id = 10; series = 0; side = 1; price = 115; quantity = 2 }) (atEnd .venue)
+
 pub record Witness : Type 0 where
   -- 22 messages of the run and 9 later ones; the call with 11 bytes did none
   pub done : atEnd .done ≡ 31
@@ -121,3 +133,10 @@ pub record Witness : Type 0 where
   pub accepted : Accepted atEnd (both 3 0 1 (pos 205) 8)
   -- 8 entered = 5 paired + 1 crossed + 0 cancelled + 2 still open
   pub account : sums atEnd ≡ 5 ∷ 5 ∷ 5 ∷ 1 ∷ 0 ∷ 2 ∷ []
+  -- regular order 2 was accepted: 12 entered = 5 traded + 7 cancelled + 0 still open
+  pub regularAccepted : Accepted atEnd (order 2 1 1 90 12)
+  pub regularAccount : regularSums atEnd ≡ 5 ∷ 7 ∷ 0 ∷ []
+  -- the hit for 2 of what stands in series 0: the place is free, and the records are those that Demand 3 says
+  pub free : regularAt (atEnd .venue) 2 ≡ noRegular
+  pub hits : hit 2 (leggingAt (atEnd .venue) 0 0) 2 arriving .reports ≡
+      trade 0 1 115 2 10 3 ∷ trade 1 0 90 2 3 9 ∷ pair 3 (pos 205) 2 ∷ removed 3 0 0 Executed ∷ removed 3 1 0 Executed ∷ []

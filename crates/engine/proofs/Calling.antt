@@ -15,10 +15,28 @@ use Rattle.wire.proofs.Stages.{stage-venue, stage-written}
 use Rattle.wire.specs.Seen.{seen, _writes_}
 use Rattle.wire.proofs.Writes.{wrote, overflowed, seen-room, sheet-left}
 use Rattle.places.specs.Layout.{venueOf}
+use Rattle.places.proofs.Parts.{regulars-few, complexes-few}
+use Rattle.places.proofs.Tables.{upto-length, used-length}
+use Rattle.demands.specs.Kept.{Shaped, SoundVenue}
 use Rattle.engine.specs.declared.Stepped.{Stepped}
 use Rattle.engine.specs.Steps.{Steps}
 use Rattle.engine.specs.Runs.{callOf}
 use Rattle.engine.proofs.Running.{no-number, no-room, has-room}
+
+-- numbers stand for a venue of the declared type
+shaped : (b : List ℕ) → Shaped (venueOf b)
+unfolding venueOf
+shaped b =
+    record {
+      regular = used-length _ _ _ 128 (regulars-few b);
+      complex = used-length _ _ _ 32 (complexes-few b);
+      legging = upto-length _ 0 16;
+      series = upto-length _ 0 8;
+    }
+
+-- the numbers of a venue that is sound
+pub laid-sound : (v : Venue) (b : List ℕ) → sound v ≡ true → venueOf b ≡ v → SoundVenue (venueOf b)
+laid-sound v b fine stands = record { shaped = shaped b; is = ap sound stands ∙ fine }
 
 -- the report zeroed from its start
 pub call-ends : (l z : List ℕ) (number : ℕ) (v : Venue) → z ≡ take 0 l ++ replicate (length l - 0) 0 →

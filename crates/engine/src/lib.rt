@@ -166,7 +166,7 @@ fn enter_complex(b: &mut [u32], c: Complex, out: &mut [u8], at: usize) -> usize
 
 // What a message that is not refused does, by its kind.
 fn perform(b: &mut [u32], m: Message, out: &mut [u8], at: usize) -> usize
-    requires { ⌜ (length (now b) ≡ size) × (Dense (now b)) × (inRange m ≡ true) × (refusalOf (venueOf (now b)) m ≡ 0) ⌝ }
+    requires { ⌜ (length (now b) ≡ size) × (Dense (now b)) × (inRange m ≡ true) × (refusalOf (venueOf (now b)) m ≡ 0) × (SoundVenue (venueOf (now b))) ⌝ }
     ensures { λ r. ⌜ stage (venueOf (now (b .exit))) (now (out .exit)) r ≡ seen (now (out .entry)) at does step.perform m (venueOf (now (b .entry))) ⌝ }
 {
     match m {
@@ -181,7 +181,7 @@ fn perform(b: &mut [u32], m: Message, out: &mut [u8], at: usize) -> usize
 
 // The same, and then the gaps that it left are closed.
 fn accept(b: &mut [u32], m: Message, out: &mut [u8], at: usize) -> usize
-    requires { ⌜ (length (now b) ≡ size) × (Dense (now b)) × (inRange m ≡ true) × (refusalOf (venueOf (now b)) m ≡ 0) ⌝ }
+    requires { ⌜ (length (now b) ≡ size) × (Dense (now b)) × (inRange m ≡ true) × (refusalOf (venueOf (now b)) m ≡ 0) × (SoundVenue (venueOf (now b))) ⌝ }
     ensures { λ r. ⌜ stage (venueOf (now (b .exit))) (now (out .exit)) r ≡ seen (now (out .entry)) at does step.accept m (venueOf (now (b .entry))) ⌝ }
     ensures dense { λ _. ⌜ Dense (now (b .exit)) ⌝ }
 {
@@ -211,7 +211,7 @@ fn refuse(b: &[u32], number: u32, refused: u8, out: &mut [u8]) -> Stepped
 
 // An accepted message: the answer's record first, then its effects; mask and count are set last.
 fn answer_accepted(b: &mut [u32], number: u32, m: Message, out: &mut [u8]) -> Stepped
-    requires { ⌜ (length (now b) ≡ size) × (Dense (now b)) × (inRange m ≡ true) × (refusalOf (venueOf (now b)) m ≡ 0) ⌝ }
+    requires { ⌜ (length (now b) ≡ size) × (Dense (now b)) × (inRange m ≡ true) × (refusalOf (venueOf (now b)) m ≡ 0) × (SoundVenue (venueOf (now b))) ⌝ }
     ensures { λ r. ⌜ Steps (answered number 0 (step.accept m (venueOf (now (b .entry))))) (now (out .entry)) r (now (b .exit)) (now (out .exit)) ⌝ }
 {
     let at = wire::emit_answer(out, 0, number, 0, 0, 0);
@@ -227,7 +227,7 @@ fn answer_accepted(b: &mut [u32], number: u32, m: Message, out: &mut [u8]) -> St
 
 // A message whose fields are in range.
 fn answer(b: &mut [u32], number: u32, m: Message, out: &mut [u8]) -> Stepped
-    requires { ⌜ (length (now b) ≡ size) × (Dense (now b)) × (inRange m ≡ true) ⌝ }
+    requires { ⌜ (length (now b) ≡ size) × (Dense (now b)) × (inRange m ≡ true) × (SoundVenue (venueOf (now b))) ⌝ }
     ensures { λ r. ⌜ Steps (answeredBy (venueOf (now (b .entry))) number m) (now (out .entry)) r (now (b .exit)) (now (out .exit)) ⌝ }
 {
     let refused = refusal_of(b, m);
@@ -239,7 +239,7 @@ fn answer(b: &mut [u32], number: u32, m: Message, out: &mut [u8]) -> Stepped
 
 // The message at the front of `message`, of this number: its answer and its records from the start of `out`.
 fn step(b: &mut [u32], number: u32, message: &[u8], out: &mut [u8]) -> Stepped
-    requires { ⌜ (length (now b) ≡ size) × (Dense (now b)) ⌝ }
+    requires { ⌜ (length (now b) ≡ size) × (Dense (now b)) × (SoundVenue (venueOf (now b))) ⌝ }
     ensures { λ r. ⌜ Steps (step.step (venueOf (now (b .entry))) number (now (message .entry))) (now (out .entry)) r (now (b .exit)) (now (out .exit)) ⌝ }
 {
     let decoded = wire::decode(message);
@@ -265,7 +265,7 @@ fn copy(from: &[u32], to: &mut [u32])
 
 // A step whose records may not fit: where they do not, the numbers are as they were.
 fn step_or_leave(b: &mut [u32], number: u32, message: &[u8], out: &mut [u8]) -> Stepped
-    requires { ⌜ (length (now b) ≡ size) × (Dense (now b)) ⌝ }
+    requires { ⌜ (length (now b) ≡ size) × (Dense (now b)) × (SoundVenue (venueOf (now b))) ⌝ }
     ensures { λ r. ⌜ Tries (step.step (venueOf (now (b .entry))) number (now (message .entry))) (now (b .entry)) (now (out .entry)) r (now (b .exit)) (now (out .exit)) ⌝ }
 {
     let mut kept = [0u32; 779];

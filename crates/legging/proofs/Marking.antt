@@ -8,7 +8,7 @@ use native.Mathlib.Numerals.{add-one}
 use native.Mathlib.Decide.{ℕ-discrete}
 use borrow.Author.Tests.{eq-eqb, ne-eqb, eqb-true, eqb-false}
 use lib.Dec.{eqb}
-use lib.ListN.{length, getD, set, length-set}
+use lib.ListN.{length, getD, set, replicate, getD-replicate, length-set}
 use lib.Seq.{getD-set-same, getD-set-other}
 use Rattle.rules.specs.declared.Legging.{Legging}
 use Rattle.rules.specs.declared.Verdict.{Verdict}
@@ -22,17 +22,32 @@ use Rattle.rules.specs.Step.{mask}
 use Rattle.places.specs.Layout.{upto, leggingIn, venueOf}
 use Rattle.levels.proofs.Scans.{upto-on, upto-end}
 use Rattle.removal.proofs.Removing.{legging-at}
+use Rattle.legging.proofs.Testing.{verdict-free}
 
 -- Marks ---------------------------------------------------------------------------------------
 
--- the places below n have the numbers of their verdicts
+-- the places below n have the numbers of their verdicts, and the others 0
 pub record Marked (b marks : List ℕ) (n : ℕ) : Type 0 where
   pub few : n ≤ 16
   pub long : length marks ≡ 16
   pub below : (k : ℕ) → k < n → getD marks k 0 ≡ verdictNumber (verdict (venueOf b) k (leggingIn b k))
+  pub above : (k : ℕ) → n ≤ k → k < 16 → getD marks k 0 ≡ 0
 
-pub marked-none : (b marks : List ℕ) → length marks ≡ 16 → Marked b marks 0
-marked-none b marks h = record { few = omega arith; long = h; below = λ k q. absurd (omega arith) }
+pub marked-none : (b : List ℕ) → Marked b (replicate 16 0) 0
+marked-none b = record { few = omega arith; long = refl; below = λ k q. absurd (omega arith); above = λ k h q. getD-replicate 16 k 0 0 q }
+
+-- a free place stands
+pub marked-free : (b marks : List ℕ) (n : ℕ) → Marked b marks n → n < 16 → (l : Legging) → l ≡ leggingIn b n → l .quantity ≡ 0 → Marked b marks (n + 1)
+marked-free b marks n i h l el q = record {
+  few = omega arith;
+  long = i .long;
+  below = λ k p. go k p (ℕ-discrete k n);
+  above = λ k p r. i .above k (omega arith) r;
+}
+  where
+    go : (k : ℕ) → k < n + 1 → Dec (k ≡ n) → getD marks k 0 ≡ verdictNumber (verdict (venueOf b) k (leggingIn b k))
+    go k p (yes e) = rw e (i .above n (omega arith) h ∙ ap verdictNumber (verdict-free (venueOf b) n l (leggingIn b n) el q))
+    go k p (no e) = i .below k (omega arith)
 
 pub marked-on : (b marks : List ℕ) (n x : ℕ) (r : Verdict) → Marked b marks n → n < 16 → x ≡ verdictNumber r →
     r ≡ verdict (venueOf b) n (getD (venueOf b .legging) n noLegging) → Marked b (set marks n x) (n + 1)
@@ -40,6 +55,7 @@ marked-on b marks n x r i h ex er = record {
   few = omega arith;
   long = length-set marks n x ∙ i .long;
   below = λ k q. go k q (ℕ-discrete k n);
+  above = λ k p q. getD-set-other marks n k x 0 (λ e. absurd (omega arith)) ∙ i .above k (omega arith) q;
 }
   where
     go : (k : ℕ) → k < n + 1 → Dec (k ≡ n) → getD (set marks n x) k 0 ≡ verdictNumber (verdict (venueOf b) k (leggingIn b k))
@@ -114,6 +130,10 @@ module _ (b : List ℕ) (m n : ℕ) where
     pub stand-fails : (c : Cause) → x ≡ Fails c → false ≡ standFrom
     unfolding stands
     stand-fails c e = sym (stand-on h ∙ rw (ne-eqb n m k, here, e))
+
+  pub stand-free : n < 16 → (n ≡ m → ⊥) → (l : Legging) → l ≡ leggingIn b n → l .quantity ≡ 0 →
+      othersStand (venueOf b) m (n + 1) (upto (leggingIn b) (n + 1) (16 - (n + 1))) ≡ standFrom
+  stand-free h k l el q = stand-past h k Stands (verdict-free (venueOf b) n l (getD (venueOf b .legging) n noLegging) (el ∙ sym (legging-at b n h)) q) refl
 
   pub stand-end : 16 ≤ n → true ≡ standFrom
   unfolding othersStand

@@ -1,16 +1,13 @@
 -- Laws of the standing test, as the code makes it.
 use mathlib.Core.Path.{_≡_, refl, sym, ap, ap₂, _∙_}
 use mathlib.Core.Bool.{Bool, true, false, not, _&&_, true≢false}
-use Prim.Native.Nat.{ℕ, _+_, _≤_, _<_, _/_, _%_}
+use Prim.Native.Nat.{ℕ, _<_, _/_, _%_}
 use native.Mathlib.Omega.{arith}
 use native.Mathlib.Nat.{one-mul}
 use borrow.Author.Tests.{eq-eqb, ne-eqb}
 use lib.Dec.{eqb, leb}
-use lib.IntN.{ℤ, pos, negsuc, natAbs, _+ℤ_}
+use lib.IntN.{ℤ, pos, _+ℤ_}
 use lib.Signed.{leZ}
-use mir.Syntax.{w32, w64}
-use mir.Val.{SFits, toZ, ofZ}
-use mir.ValLaws.{toZ-ofZ}
 use Rattle.rules.specs.declared.Complex.{Complex}
 use Rattle.rules.specs.declared.Legging.{Legging}
 use Rattle.rules.specs.declared.Leg.{Leg}
@@ -19,11 +16,13 @@ use Rattle.rules.specs.declared.Verdict.{Verdict}
 use Rattle.rules.specs.declared.Verdict.the-variants.{Stands}
 use Rattle.rules.specs.Base.{if_then_else_}
 use Rattle.rules.specs.Words.{opposite, signed, increment}
-use Rattle.rules.specs.Prices.{better, displayed, clearPrice, weighed}
+use Rattle.rules.specs.Prices.{better, bestRegular, displayed, clearPrice, weighed}
 use Rattle.rules.specs.Standing.{otherLeg, otherClear, otherSize, parentOf, shownWell, pairs, verdictOf, verdict}
 use Rattle.levels.specs.declared.Level.{Level}
-use Rattle.levels.specs.Grid.{levelOf, LegsIn}
+use Rattle.levels.specs.declared.Taken.{Taken}
+use Rattle.levels.specs.Grid.{levelOf, LegsIn, TakenOf}
 use Rattle.levels.proofs.Sides.{level-price, level-size}
+use Rattle.legging.specs.Parts.{otherTaken}
 
 -- A flag and its negation ---------------------------------------------------------------------
 
@@ -35,32 +34,11 @@ pub on : (r x : Bool) → r ≡ x → not r ≡ false → x ≡ true
 on r true e h = refl
 on r false e h = absurd (true≢false (rw e at h))
 
--- A limit of 32 bits in 64 --------------------------------------------------------------------
-
-widen : (z : ℤ) → SFits w32 z → SFits w64 z
-widen (pos n) f = let h : n < 2147483648 = f .sfits in record { sfits = omega arith }
-widen (negsuc n) f = let h : n < 2147483648 = f .sfits in record { sfits = omega arith }
-
-limit-abs : (z : ℤ) → SFits w32 z → natAbs z ≤ 2147483648
-limit-abs (pos n) f = let h : n < 2147483648 = f .sfits in omega arith
-limit-abs (negsuc n) f = let h : n < 2147483648 = f .sfits in omega arith
-
-module _ (z : ℤ) (f : SFits w32 z) where
-  pub cast-fits : SFits w64 (toZ w32 (ofZ w32 z))
-  cast-fits = rw (toZ-ofZ w32 z f) (widen z f)
-
-  cast-back : toZ w64 (ofZ w64 (toZ w32 (ofZ w32 z))) ≡ z
-  cast-back = rw (toZ-ofZ w32 z f) (toZ-ofZ w64 z (widen z f))
-
-  pub cast-is : (toZ w64 (ofZ w64 (toZ w32 (ofZ w32 z))) ≡ z) × (natAbs (toZ w64 (ofZ w64 (toZ w32 (ofZ w32 z)))) ≤ 2147483648)
-  cast-is = (cast-back, rw cast-back (limit-abs z f))
-
 -- Prices --------------------------------------------------------------------------------------
 
-pub shown-is : (v : Venue) (s d p q : ℕ) (l : Level) (t : Bool) → l ≡ levelOf s d (v .regular) → q ≡ displayed (increment s) d p → t ≡ better d (l .price) q →
-    not t ≡ shownWell v s d p
+pub shown-is : (v : Venue) (s d p best : ℕ) (t : Bool) → best ≡ bestRegular v s d → t ≡ not (better d best (displayed (increment s) d p)) → t ≡ shownWell v s d p
 unfolding shownWell
-shown-is v s d p q l t el eq e = ap not (e ∙ ap₂ (better d) (level-price v s d l el) eq)
+shown-is v s d p best t eb e = e ∙ ap (λ (x : ℕ). not (better d x (displayed (increment s) d p))) eb
 
 pub opposite-in : (d f : ℕ) → f ≡ opposite d → f < 2
 unfolding opposite
@@ -78,16 +56,34 @@ module _ (c : Complex) (s : ℕ) (o : Leg) (eo : o ≡ otherLeg c s) where
       go true = h .second
       go false = h .first
 
-  module _ (v : Venue) (f : ℕ) (ef : f ≡ opposite (o .side)) where
-    pub clear-is : (r : ℕ) → r ≡ clearPrice v (o .series) f → r ≡ otherClear v c s
-    unfolding otherClear
-    clear-is r e = e ∙ ap (clearPrice v (o .series)) ef ∙ ap (λ (x : Leg). clearPrice v (x .series) (opposite (x .side))) eo
+  pub clear-is : (v : Venue) (f r : ℕ) → f ≡ opposite (o .side) → r ≡ clearPrice v (o .series) f → r ≡ otherClear v c s
+  unfolding otherClear
+  clear-is v f r ef e = e ∙ ap (clearPrice v (o .series)) ef ∙ ap (λ (x : Leg). clearPrice v (x .series) (opposite (x .side))) eo
 
-    pub size-is : (l : Level) → l ≡ levelOf (o .series) f (v .regular) → l .size ≡ otherSize v c s
+-- the level that the other leg takes
+module _ (v : Venue) (t : Taken) (c : Complex) (s : ℕ) (h : TakenOf t c (v .regular)) where
+  other-right : otherTaken t c s ≡ levelOf (otherLeg c s .series) (opposite (otherLeg c s .side)) (v .regular)
+  unfolding otherTaken otherLeg
+  other-right = go (eqb (c .series1) s)
+    where
+      leg : ℕ → ℕ → Leg
+      leg x y = record { series = x; side = y }
+
+      go : (k : Bool) → (if k then t .second else t .first) ≡
+          levelOf ((if k then leg (c .series2) (c .side2) else leg (c .series1) (c .side1)) .series)
+          (opposite ((if k then leg (c .series2) (c .side2) else leg (c .series1) (c .side1)) .side)) (v .regular)
+      go true = h .second
+      go false = h .first
+
+  module _ (l : Level) (el : l ≡ otherTaken t c s) where
+    pub other-price : (o : Leg) → o ≡ otherLeg c s → (f : ℕ) → f ≡ opposite (o .side) → l .price ≡ bestRegular v (o .series) f
+    other-price o eo f ef =
+        level-price v (otherLeg c s .series) (opposite (otherLeg c s .side)) l (el ∙ other-right)
+        ∙ ap (λ (x : Leg). bestRegular v (x .series) (opposite (x .side))) (sym eo) ∙ ap (bestRegular v (o .series)) (sym ef)
+
+    pub size-is : l .size ≡ otherSize v c s
     unfolding otherSize
-    size-is l e =
-        level-size v (o .series) f l e
-        ∙ rw (ef, eo) refl
+    size-is = level-size v (otherLeg c s .series) (opposite (otherLeg c s .side)) l (el ∙ other-right)
 
 -- The other leg can be had --------------------------------------------------------------------
 

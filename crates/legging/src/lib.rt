@@ -1,67 +1,62 @@
 // Legging orders: the test by which they stand, settling, and generation.
+use levels::LegSides;
 use levels::Level;
+use levels::Taken;
 use rules::Cause;
 use rules::Complex;
 use rules::Legging;
 use rules::Verdict;
+use rules::limit_of;
 ghost use mathlib.Core.Path.{_≡_};
+ghost use mathlib.Core.Bool.{not};
 ghost use Prim.Native.Nat.{ℕ, _+_, _≤_, _<_, min};
 ghost use lib.IntN.{natAbs};
 ghost use lib.Dec.{eqb};
 ghost use lib.ListN.{length, getD};
 ghost use Rattle.rules.specs.Step.{mask};
-ghost use Rattle.rules.specs.Words.{noLegging, signed, increment, leggingAt};
-ghost use Rattle.rules.specs.Prices.{displayed};
-ghost use Rattle.rules.specs.Standing.{otherClear, otherSize, shownWell, pairs, verdictOf, verdict, verdictNumber, settle};
+ghost use Rattle.rules.specs.Words.{noLegging, opposite, signed, increment, leggingAt};
+ghost use Rattle.rules.specs.Prices.{better, bestRegular, displayed};
+ghost use Rattle.rules.specs.Standing.{otherClear, pairs, verdictOf, verdict, verdictNumber, settle};
 ghost use Rattle.rules.specs.Generation.{asPrice, reachesAny, givesWay, placed, othersStand, generateLeg, generate};
 ghost use Rattle.wire.specs.Seen.{seen};
 ghost use Rattle.wire.specs.Stage.{stage, _does_};
 ghost use Rattle.places.specs.Layout.{size, leggingIn, venueOf, SameCounts};
-ghost use Rattle.levels.specs.Grid.{GridOf, LegsIn};
-ghost use Rattle.legging.specs.Parts.{rangedPrice, pricedLeg, marketOpen, standsClear, mayStand, plannedLeg, madeBy};
+ghost use Rattle.levels.specs.Grid.{GridOf, LegsIn, TakenOf, SidesOf};
+ghost use Rattle.legging.specs.Parts.{otherTaken, rangedPrice, pricedLeg, marketOpen, standsClear, mayStand, plannedLeg, madeBy};
 
-// A complex order's limit, in 64 bits.
-fn limit_of(c: Complex) -> i64
-    ensures { λ r. ⌜ (r ≡ c .limit) × (natAbs r ≤ 2147483648) ⌝ }
+// A price p at side d of series s, displayed, is no worse than best, the best regular of its side.
+pub fn shown_well(best: u32, s: u8, d: u8, p: u32) -> bool
+    ensures { λ r. ⌜ r ≡ not (better d best (displayed (increment s) d p)) ⌝ }
 {
-    let n = c.limit;
-    n as i64
+    !levels::is_better_wide(d, best as u64, rules::displayed_price(s, d, p))
 }
 
-// A price p at side d of series s, displayed, is no worse than the best regular of its side.
-pub fn shown_well(b: &[u32], g: [[Level; 2]; 8], s: u8, d: u8, p: u32) -> bool
-    requires { ⌜ (length (now b) ≡ size) × (GridOf g (venueOf (now b) .regular)) × (s < 8) × (d < 2) ⌝ }
-    ensures { λ r. ⌜ r ≡ shownWell (venueOf (now (b .entry))) s d p ⌝ }
+// The level that the leg of c takes that is not in series s.
+fn other_level(taken: Taken, c: Complex, s: u8) -> Level
+    ensures { λ r. ⌜ r ≡ otherTaken taken c s ⌝ }
 {
-    let best = levels::level_at(g, s, d);
-    !levels::is_better_wide(d, best.price as u64, rules::displayed_price(s, d, p))
+    if c.series1 == s {
+        return taken.second;
+    }
+    taken.first
 }
 
-// The clear price of the leg of c that is not in series s.
-fn other_clear(b: &[u32], g: [[Level; 2]; 8], c: Complex, s: u8) -> u32
-    requires { ⌜ (length (now b) ≡ size) × (GridOf g (venueOf (now b) .regular)) × (LegsIn c) ⌝ }
+// The clear price of that leg.
+fn other_clear(b: &[u32], taken: Taken, c: Complex, s: u8) -> u32
+    requires { ⌜ (length (now b) ≡ size) × (TakenOf taken c (venueOf (now b) .regular)) × (LegsIn c) ⌝ }
     ensures { λ r. ⌜ r ≡ otherClear (venueOf (now (b .entry))) c s ⌝ }
 {
     let other = levels::other_leg(c, s);
-    levels::clear_price(b, g, other.series, rules::opposite_of(other.side))
-}
-
-// The size at that price.
-fn other_size(b: &[u32], g: [[Level; 2]; 8], c: Complex, s: u8) -> u64
-    requires { ⌜ (length (now b) ≡ size) × (GridOf g (venueOf (now b) .regular)) × (LegsIn c) ⌝ }
-    ensures { λ r. ⌜ r ≡ otherSize (venueOf (now (b .entry))) c s ⌝ }
-{
-    let other = levels::other_leg(c, s);
-    let best = levels::level_at(g, other.series, rules::opposite_of(other.side));
-    best.size
+    let best = other_level(taken, c, s);
+    levels::clear_price(b, best.price, other.series, rules::opposite_of(other.side))
 }
 
 // The other leg of c has a clear price, its net with the legging order's is no more than N, and its size is enough.
-pub fn can_pair(b: &[u32], g: [[Level; 2]; 8], c: Complex, s: u8, d: u8, l: Legging) -> bool
-    requires { ⌜ (length (now b) ≡ size) × (GridOf g (venueOf (now b) .regular)) × (LegsIn c) ⌝ }
+pub fn can_pair(b: &[u32], taken: Taken, c: Complex, s: u8, d: u8, l: Legging) -> bool
+    requires { ⌜ (length (now b) ≡ size) × (TakenOf taken c (venueOf (now b) .regular)) × (LegsIn c) ⌝ }
     ensures { λ r. ⌜ r ≡ pairs (venueOf (now (b .entry))) c s d (l .price) (l .quantity) ⌝ }
 {
-    let clear = other_clear(b, g, c, s);
+    let clear = other_clear(b, taken, c, s);
     if clear == 0 {
         return false;
     }
@@ -69,24 +64,25 @@ pub fn can_pair(b: &[u32], g: [[Level; 2]; 8], c: Complex, s: u8, d: u8, l: Legg
     let net = rules::net_of(d, l.price, other.side, clear);
     let limit = limit_of(c);
     if net <= limit {
-        let k = l.quantity as u64;
-        return k <= other_size(b, g, c, s);
+        let best = other_level(taken, c, s);
+        return (l.quantity as u64) <= best.size;
     }
     false
 }
 
 // The test of a legging order of c at side d of series s, by rising cause.
-pub fn test_order(b: &[u32], g: [[Level; 2]; 8], c: Complex, s: u8, d: u8, l: Legging) -> Verdict
-    requires { ⌜ (length (now b) ≡ size) × (GridOf g (venueOf (now b) .regular)) × (LegsIn c) × (s < 8) × (d < 2) ⌝ }
+pub fn test_order(b: &[u32], sides: LegSides, c: Complex, s: u8, d: u8, l: Legging) -> Verdict
+    requires { ⌜ (length (now b) ≡ size) × (SidesOf sides c s d (venueOf (now b) .regular)) × (LegsIn c) ⌝ }
     ensures { λ r. ⌜ r ≡ verdictOf (venueOf (now (b .entry))) c s d l ⌝ }
 {
-    if !shown_well(b, g, s, d, l.price) {
+    if !shown_well(sides.own, s, d, l.price) {
         return Verdict::Fails(Cause::Worse);
     }
-    if !can_pair(b, g, c, s, d, l) {
+    let taken = sides.taken;
+    if !can_pair(b, taken, c, s, d, l) {
         return Verdict::Fails(Cause::Unpaired);
     }
-    if !levels::in_band(b, g, c, limit_of(c)) {
+    if !levels::in_band(b, taken, c, limit_of(c)) {
         return Verdict::Fails(Cause::OutOfBand);
     }
     if !levels::both_open(b, c) {
@@ -105,10 +101,13 @@ pub fn judge(b: &[u32], g: [[Level; 2]; 8], n: usize) -> Verdict
         return Verdict::Stands;
     }
     let c = levels::parent_of(b, l);
-    test_order(b, g, c, (n / 2) as u8, (n % 2) as u8, l)
+    let s = (n / 2) as u8;
+    let d = (n % 2) as u8;
+    let sides = levels::sides_of(g, c, s, d);
+    test_order(b, sides, c, s, d, l)
 }
 
-// The number of each place's verdict.
+// The number of each place's verdict; that of a free place is 0.
 fn verdicts(b: &[u32], g: [[Level; 2]; 8]) -> [u8; 16]
     requires { ⌜ (length (now b) ≡ size) × (GridOf g (venueOf (now b) .regular)) ⌝ }
     ensures { λ r. ⌜ ((n : ℕ) → n < 16 → getD r n 0 ≡ verdictNumber (verdict (venueOf (now (b .entry))) n (leggingIn (now (b .entry)) n))) ⌝ }
@@ -116,8 +115,13 @@ fn verdicts(b: &[u32], g: [[Level; 2]; 8]) -> [u8; 16]
     let mut marks = [0u8; 16];
     let mut n: usize = 0;
     while n < 16 {
-        marks[n] = rules::verdict_number(judge(b, g, n));
+        let place = n;
         n += 1;
+        let l = places::legging_at(b, place);
+        if l.quantity == 0 {
+            continue;
+        }
+        marks[place] = rules::verdict_number(judge(b, g, place));
     }
     marks
 }
@@ -173,6 +177,10 @@ pub fn others_stand(b: &[u32], g: [[Level; 2]; 8], m: usize) -> bool
         if place == m {
             continue;
         }
+        let l = places::legging_at(b, place);
+        if l.quantity == 0 {
+            continue;
+        }
         let Verdict::Stands = judge(b, g, place) else {
             return false;
         };
@@ -220,11 +228,11 @@ fn ranged(s: u8, d: u8, p: u64) -> u32
 }
 
 // The price of the leg of c at side d of series s: sign × (N - the other leg's sign × its clear price); 0 where there is none in range.
-pub fn leg_price(b: &[u32], g: [[Level; 2]; 8], c: Complex, s: u8, d: u8) -> u32
-    requires { ⌜ (length (now b) ≡ size) × (GridOf g (venueOf (now b) .regular)) × (LegsIn c) ⌝ }
+pub fn leg_price(b: &[u32], taken: Taken, c: Complex, s: u8, d: u8) -> u32
+    requires { ⌜ (length (now b) ≡ size) × (TakenOf taken c (venueOf (now b) .regular)) × (LegsIn c) ⌝ }
     ensures { λ r. ⌜ r ≡ pricedLeg (venueOf (now (b .entry))) c s d ⌝ }
 {
-    let clear = other_clear(b, g, c, s);
+    let clear = other_clear(b, taken, c, s);
     if clear == 0 {
         return 0;
     }
@@ -235,14 +243,14 @@ pub fn leg_price(b: &[u32], g: [[Level; 2]; 8], c: Complex, s: u8, d: u8) -> u32
 }
 
 // Both series of c are open, and N is in band.
-fn market_open(b: &[u32], g: [[Level; 2]; 8], c: Complex) -> bool
-    requires { ⌜ (length (now b) ≡ size) × (GridOf g (venueOf (now b) .regular)) × (LegsIn c) ⌝ }
+fn market_open(b: &[u32], taken: Taken, c: Complex) -> bool
+    requires { ⌜ (length (now b) ≡ size) × (TakenOf taken c (venueOf (now b) .regular)) × (LegsIn c) ⌝ }
     ensures { λ r. ⌜ r ≡ marketOpen (venueOf (now (b .entry))) c ⌝ }
 {
     if !levels::both_open(b, c) {
         return false;
     }
-    levels::in_band(b, g, c, limit_of(c))
+    levels::in_band(b, taken, c, limit_of(c))
 }
 
 // A price p of side d reaches a price q that is there.
@@ -255,16 +263,16 @@ fn reaches_any(d: u8, p: u32, q: u32) -> bool
     levels::reaches_price(d, p, q)
 }
 
-// A price p at side d of series s is no worse than the best regular of its side, and reaches nothing opposite.
-fn stands_clear(b: &[u32], g: [[Level; 2]; 8], s: u8, d: u8, p: u32) -> bool
-    requires { ⌜ (length (now b) ≡ size) × (GridOf g (venueOf (now b) .regular)) × (s < 8) × (d < 2) ⌝ }
+// A price p at side d of series s is no worse than own, the best regular of its side, and reaches nothing opposite; facing is the best regular there.
+fn stands_clear(b: &[u32], own: u32, facing: u32, s: u8, d: u8, p: u32) -> bool
+    requires { ⌜ (length (now b) ≡ size) × (own ≡ bestRegular (venueOf (now b)) s d) × (facing ≡ bestRegular (venueOf (now b)) s (opposite d)) × (s < 8) ⌝ }
     ensures { λ r. ⌜ r ≡ standsClear (venueOf (now (b .entry))) s d p ⌝ }
 {
-    if !shown_well(b, g, s, d, p) {
+    if !shown_well(own, s, d, p) {
         return false;
     }
     let f = rules::opposite_of(d);
-    if reaches_any(d, p, levels::best_own(b, g, s, f)) {
+    if reaches_any(d, p, levels::best_own(b, facing, s, f)) {
         return false;
     }
     !reaches_any(d, p, levels::away_price(b, s, f))
@@ -290,30 +298,30 @@ pub fn gives_way(b: &[u32], c: Complex, s: u8, d: u8, p: u32) -> bool
 }
 
 // All that is asked of a legging order of c at price p but that the others stand.
-fn may_stand(b: &[u32], g: [[Level; 2]; 8], c: Complex, s: u8, d: u8, p: u32) -> bool
-    requires { ⌜ (length (now b) ≡ size) × (GridOf g (venueOf (now b) .regular)) × (LegsIn c) × (s < 8) × (d < 2) ⌝ }
+fn may_stand(b: &[u32], sides: LegSides, c: Complex, s: u8, d: u8, p: u32) -> bool
+    requires { ⌜ (length (now b) ≡ size) × (SidesOf sides c s d (venueOf (now b) .regular)) × (LegsIn c) × (s < 8) × (d < 2) ⌝ }
     ensures { λ r. ⌜ r ≡ mayStand (venueOf (now (b .entry))) c s d p ⌝ }
 {
-    if !market_open(b, g, c) {
+    let taken = sides.taken;
+    if !market_open(b, taken, c) {
         return false;
     }
-    if !stands_clear(b, g, s, d, p) {
+    if !stands_clear(b, sides.own, sides.facing, s, d, p) {
         return false;
     }
     gives_way(b, c, s, d, p)
 }
 
 // The lesser of an order's open quantity and the size at the other leg's clear price.
-fn leg_quantity(b: &[u32], g: [[Level; 2]; 8], c: Complex, s: u8) -> u32
-    requires { ⌜ (length (now b) ≡ size) × (GridOf g (venueOf (now b) .regular)) × (LegsIn c) ⌝ }
-    ensures { λ r. ⌜ r ≡ min (c .quantity) (otherSize (venueOf (now (b .entry))) c s) ⌝ }
+fn leg_quantity(taken: Taken, c: Complex, s: u8) -> u32
+    ensures { λ r. ⌜ r ≡ min (c .quantity) (otherTaken taken c s .size) ⌝ }
 {
     let open = c.quantity as u64;
-    let there = other_size(b, g, c, s);
-    if open < there {
+    let best = other_level(taken, c, s);
+    if open < best.size {
         return c.quantity;
     }
-    there as u32
+    best.size as u32
 }
 
 // With l at place n every other legging order passes its test. The venue is left as it was.
@@ -343,14 +351,16 @@ fn plan_leg(b: &[u32], g: [[Level; 2]; 8], c: Complex, s: u8, d: u8) -> Legging
     if c.quantity == 0 {
         return none;
     }
-    let price = leg_price(b, g, c, s, d);
+    let sides = levels::sides_of(g, c, s, d);
+    let taken = sides.taken;
+    let price = leg_price(b, taken, c, s, d);
     if price == 0 {
         return none;
     }
-    if !may_stand(b, g, c, s, d, price) {
+    if !may_stand(b, sides, c, s, d, price) {
         return none;
     }
-    let quantity = leg_quantity(b, g, c, s);
+    let quantity = leg_quantity(taken, c, s);
     Legging {
         parent: c.id,
         price,

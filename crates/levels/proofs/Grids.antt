@@ -16,10 +16,31 @@ use Rattle.rules.specs.Prices.{better, betterOf, shown, showsAt, showsFor, best
 use Rattle.rules.proofs.Better.{better-irrefl, own-of, of-other}
 use Rattle.places.specs.Layout.{upto, regularsUsed, regularIn, venueOf}
 use Rattle.levels.specs.declared.Level.{Level}
-use Rattle.levels.specs.Grid.{levelOf, joinedOf, noLevel, cellOf, GridOf}
+use Rattle.levels.specs.Grid.{levelOf, noLevel, cellOf, GridOf}
 use Rattle.levels.proofs.Scans.{upto-back, upto-end, best-used, size-used}
 
 -- One order more ------------------------------------------------------------------------------
+
+-- a level of side d with k contracts more at price p
+unfoldable pub joinedOf : (side p k : ℕ) → Level → Level
+joinedOf d p k l =
+    if eqb p (l .price) then record { price = p; size = k + l .size }
+    else if better d p (l .price) then record { price = p; size = k }
+    else l
+
+module _ (d p k : ℕ) (l : Level) where
+  pub joined-same : p ≡ l .price → record { price = l .price; size = k + l .size } ≡ joinedOf d p k l
+  unfolding joinedOf
+  joined-same h = simp (eq-eqb _ _ h) (ap (λ (x : ℕ). record { price = x; size = k + l .size }) (sym h))
+
+  module _ (n : p ≡ l .price → ⊥) where
+    pub joined-better : better d p (l .price) ≡ true → record { price = p; size = k } ≡ joinedOf d p k l
+    unfolding joinedOf
+    joined-better h = simp (ne-eqb _ _ n, h)
+
+    pub joined-not : better d p (l .price) ≡ false → l ≡ joinedOf d p k l
+    unfolding joinedOf
+    joined-not h = simp (ne-eqb _ _ n, h)
 
 -- a level of series s and side d with the order o
 unfoldable putIn : (series side : ℕ) → Regular → Level → Level
@@ -130,6 +151,20 @@ module _ (g : List (List Level)) (o : Regular) (r : Level) (hs : o .series < len
           ap (λ (x : List Level). getD x d noLevel) (getD-set-other g (o .series) s (set (getD g (o .series) []) (o .side) r) [] p)
           ∙ put-series s d o (cellOf g s d) (λ z. p (sym z))
 
+-- an order that leaves its level as it is
+put-kept : (g : List (List Level)) (o : Regular) → (o .quantity ≡ 0 → ⊥)
+    → cellOf g (o .series) (o .side) ≡ joinedOf (o .side) (o .price) (o .quantity) (cellOf g (o .series) (o .side))
+    → (s d : ℕ) → cellOf g s d ≡ putIn s d o (cellOf g s d)
+put-kept g o full e s d = go (ℕ-discrete (o .series) s) (ℕ-discrete (o .side) d)
+  where
+    go : Dec (o .series ≡ s) → Dec (o .side ≡ d) → cellOf g s d ≡ putIn s d o (cellOf g s d)
+    go (yes p) (yes q) =
+        ap₂ (cellOf g) (sym p) (sym q) ∙ e ∙ ap₂ (λ (a b : ℕ). joinedOf b (o .price) (o .quantity) (cellOf g a b)) p q
+        ∙ put-here s d o (cellOf g s d) full p q
+    go (yes p) (no q) = put-side s d o (cellOf g s d) q
+    go (no p) (yes q) = put-series s d o (cellOf g s d) p
+    go (no p) (no q) = put-series s d o (cellOf g s d) p
+
 rows-set : (g : List (List Level)) (k : ℕ) (row : List Level) → k < length g → length row ≡ 2 → ((s : ℕ) → s < 8 → length (getD g s []) ≡ 2)
     → (s : ℕ) → s < 8 → length (getD (set g k row) s []) ≡ 2
 rows-set g k row h n f s hs = go (ℕ-discrete s k)
@@ -172,15 +207,22 @@ module _ (b : List ℕ) (n : ℕ) (g : List (List Level)) (i : ℕ) (x : Built b
       q ∙ ap₂ (putIn s d) eo e ∙ sym (level-cons s d (regularIn b (i - 1)) (upto (regularIn b) i (n - i)))
       ∙ sym (ap (levelOf s d) (upto-back (regularIn b) i n p (x .below)))
 
-  pub turn-off : o .quantity ≡ 0 → Built b n g (i - 1)
-  turn-off h = record {
+  -- the order changes no cell
+  turn-past : ((s d : ℕ) → cellOf g s d ≡ putIn s d o (cellOf g s d)) → Built b n g (i - 1)
+  turn-past e = record {
     below = omega (arith, x .below);
     few = x .few;
     long = x .long;
     rows = x .rows;
-    cells = λ s d hs hd. level-back s d (x .cells s d hs hd) (put-free s d o (cellOf g s d) h);
+    cells = λ s d hs hd. level-back s d (x .cells s d hs hd) (e s d);
     sizes = λ s d hs hd. omega (arith, x .sizes s d hs hd, x .below);
   }
+
+  pub turn-free : o .quantity ≡ 0 → Built b n g (i - 1)
+  turn-free h = turn-past (λ s d. put-free s d o (cellOf g s d) h)
+
+  pub turn-off : (o .quantity ≡ 0 → ⊥) → cellOf g (o .series) (o .side) ≡ joinedOf (o .side) (o .price) (o .quantity) (cellOf g (o .series) (o .side)) → Built b n g (i - 1)
+  turn-off full e = turn-past (put-kept g o full e)
 
   pub turn-on : (r : Level) → o .quantity < 4294967296 → o .series < 8 → o .side < 2 → (o .quantity ≡ 0 → ⊥)
       → r ≡ joinedOf (o .side) (o .price) (o .quantity) (cellOf g (o .series) (o .side))

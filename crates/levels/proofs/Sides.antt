@@ -2,27 +2,30 @@
 use mathlib.Core.Path.{_≡_, sym, ap, ap₂, _∙_}
 use mathlib.Core.Bool.{Bool, true, false}
 use mathlib.Core.List.{List}
-use Prim.Native.Nat.{ℕ, zero, suc, _+_, _*_, _-_, _<_}
+use Prim.Native.Nat.{ℕ, zero, suc, _+_, _*_, _<_}
 use native.Mathlib.Omega.{arith}
 use native.Mathlib.Nat.{zero-add}
 use native.Mathlib.Decide.{decLt}
 use borrow.Author.Tests.{eq-eqb, ne-eqb}
 use lib.Dec.{eqb}
 use lib.IntN.{ℤ, _+ℤ_}
+use Rattle.rules.specs.declared.Regular.{Regular}
 use Rattle.rules.specs.declared.Complex.{Complex}
 use Rattle.rules.specs.declared.Legging.{Legging}
 use Rattle.rules.specs.declared.Listed.{Listed}
 use Rattle.rules.specs.declared.Venue.{Venue}
 use Rattle.rules.specs.Base.{if_then_else_}
 use Rattle.rules.specs.Words.{opposite, noComplex, noLegging, notListed, placeOf, complexAt, leggingAt, listedAt, statusOf, isComplexOf}
-use Rattle.rules.specs.Prices.{better, betterOf, bestRegular, bestSize, ownPrice, bestOwn, clearPrice, away, marketBest, ratio1, ratio2, weighed, net, taken1, taken2, percent, nearNet, inBand}
+use Rattle.rules.specs.Prices.{better, betterOf, bestIn, bestRegular, bestSize, ownPrice, bestOwn, clearPrice, away, marketBest, ratio1, ratio2, weighed, net, taken1, taken2, percent, nearNet, inBand}
 use Rattle.rules.specs.Standing.{findComplex, parentOf, bothOpen}
 use Rattle.rules.specs.Complex.{anyClosed}
 use Rattle.places.specs.Layout.{upto, complexesUsed, complexIn, leggingIn, listedIn, venueOf}
 use Rattle.places.proofs.Tables.{upto-at}
 use Rattle.places.proofs.Parts.{complex-at, complex-past}
 use Rattle.levels.specs.declared.Level.{Level}
-use Rattle.levels.specs.Grid.{levelOf, LegsIn}
+use Rattle.levels.specs.declared.Taken.{Taken}
+use Rattle.levels.specs.declared.LegSides.{LegSides}
+use Rattle.levels.specs.Grid.{levelOf, GridOf, LegsIn, takenIn, sidesIn, TakenOf, SidesOf}
 use Rattle.levels.proofs.Scans.{find-used}
 
 -- What stands at a place ----------------------------------------------------------------------
@@ -36,15 +39,7 @@ pub listed-read : (b : List ℕ) (s : ℕ) (x : Listed) → s < 8 → x ≡ list
 unfolding venueOf
 listed-read b s x h e = e ∙ sym (upto-at (listedIn b) notListed 0 8 s h ∙ ap (listedIn b) (zero-add s))
 
--- Own, clear and market prices ----------------------------------------------------------------
-
-pub own-free : (l m : Legging) → l ≡ m → l .quantity ≡ 0 → 0 ≡ ownPrice m
-unfolding ownPrice
-own-free l m e h = rw (← e) (simp (eq-eqb _ _ h))
-
-pub own-held : (l m : Legging) → l ≡ m → (l .quantity ≡ 0 → ⊥) → l .price ≡ ownPrice m
-unfolding ownPrice
-own-held l m e h = rw (← e) (simp (ne-eqb _ _ h))
+-- Levels --------------------------------------------------------------------------------------
 
 module _ (v : Venue) (s d : ℕ) (l : Level) (e : l ≡ levelOf s d (v .regular)) where
   pub level-price : l .price ≡ bestRegular v s d
@@ -55,22 +50,75 @@ module _ (v : Venue) (s d : ℕ) (l : Level) (e : l ≡ levelOf s d (v .regular)
   unfolding levelOf bestSize bestRegular
   level-size = ap (λ (x : Level). x .size) e
 
+pub opposite-in : (d : ℕ) → opposite d < 2
+unfolding opposite
+opposite-in d = omega arith
+
+-- what a look at the grid finds
+module _ (g : List (List Level)) (os : List Regular) (h : GridOf g os) (c : Complex) (k : LegsIn c) where
+  taken-in : TakenOf (takenIn g c) c os
+  taken-in = record {
+    first = h (c .series1) (opposite (c .side1)) (k .first) (opposite-in (c .side1));
+    second = h (c .series2) (opposite (c .side2)) (k .second) (opposite-in (c .side2));
+  }
+
+  pub taken-right : (t : Taken) → t ≡ takenIn g c → TakenOf t c os
+  taken-right t e = rw e taken-in
+
+  pub sides-right : (s d : ℕ) → s < 8 → d < 2 → (x : LegSides) → x ≡ sidesIn g c s d → SidesOf x c s d os
+  unfolding levelOf
+  sides-right s d hs hd x e =
+      rw e
+      (record {
+        own = ap (λ (l : Level). l .price) (h s d hs hd);
+        facing = ap (λ (l : Level). l .price) (h s (opposite d) hs (opposite-in d));
+        taken = taken-in;
+      })
+
+-- and what it says of the sides
+module _ (v : Venue) (t : Taken) (c : Complex) (h : TakenOf t c (v .regular)) (f : ℕ) where
+  pub first-best : f ≡ opposite (c .side1) → t .first .price ≡ bestRegular v (c .series1) f
+  first-best e = level-price v (c .series1) (opposite (c .side1)) (t .first) (h .first) ∙ ap (bestRegular v (c .series1)) (sym e)
+
+  pub second-best : f ≡ opposite (c .side2) → t .second .price ≡ bestRegular v (c .series2) f
+  second-best e = level-price v (c .series2) (opposite (c .side2)) (t .second) (h .second) ∙ ap (bestRegular v (c .series2)) (sym e)
+
+module _ (v : Venue) (x : LegSides) (c : Complex) (s d : ℕ) (h : SidesOf x c s d (v .regular)) where
+  pub own-is : x .own ≡ bestRegular v s d
+  unfolding bestRegular
+  own-is = h .own
+
+  pub facing-is : (f : ℕ) → f ≡ opposite d → x .facing ≡ bestRegular v s f
+  unfolding bestRegular
+  facing-is f e = h .facing ∙ ap (λ (k : ℕ). bestIn s k (v .regular)) (sym e)
+
+-- Own, clear and market prices ----------------------------------------------------------------
+
+pub own-free : (l m : Legging) → l ≡ m → l .quantity ≡ 0 → 0 ≡ ownPrice m
+unfolding ownPrice
+own-free l m e h = rw (← e) (simp (eq-eqb _ _ h))
+
+pub own-held : (l m : Legging) → l ≡ m → (l .quantity ≡ 0 → ⊥) → l .price ≡ ownPrice m
+unfolding ownPrice
+own-held l m e h = rw (← e) (simp (ne-eqb _ _ h))
+
+module _ (v : Venue) (s d best : ℕ) (eb : best ≡ bestRegular v s d) where
   module _ (own : ℕ) (ew : own ≡ ownPrice (leggingAt v s d)) where
-    pub own-best : (r : ℕ) → r ≡ betterOf d own (l .price) → r ≡ bestOwn v s d
+    pub own-best : (r : ℕ) → r ≡ betterOf d own best → r ≡ bestOwn v s d
     unfolding bestOwn
-    own-best r q = q ∙ ap₂ (betterOf d) ew level-price
+    own-best r q = q ∙ ap₂ (betterOf d) ew eb
 
-    pub clear-none : better d own (l .price) ≡ true → 0 ≡ clearPrice v s d
+    pub clear-none : better d own best ≡ true → 0 ≡ clearPrice v s d
     unfolding clearPrice
-    clear-none t = rw (← ew, ← level-price, t)
+    clear-none t = rw (← ew, ← eb, t)
 
-    pub clear-best : better d own (l .price) ≡ false → l .price ≡ clearPrice v s d
+    pub clear-best : better d own best ≡ false → best ≡ clearPrice v s d
     unfolding clearPrice
-    clear-best t = rw (← ew, ← level-price, t)
+    clear-best t = rw (← ew, ← eb, t)
 
-  pub market-is : (out r : ℕ) → out ≡ away v s d → r ≡ betterOf d out (l .price) → r ≡ marketBest v s d
+  pub market-is : (out r : ℕ) → out ≡ away v s d → r ≡ betterOf d out best → r ≡ marketBest v s d
   unfolding marketBest
-  market-is out r eo q = q ∙ ap₂ (betterOf d) eo level-price
+  market-is out r eo q = q ∙ ap₂ (betterOf d) eo eb
 
 module _ (v : Venue) (s d : ℕ) (x : Listed) (e : x ≡ listedAt v s) where
   pub away-bid : d ≡ 0 → x .bid ≡ away v s d

@@ -1,25 +1,19 @@
 -- The best regular price and its total size, for each series and side.
 use mathlib.Core.Path.{_≡_}
 use mathlib.Core.List.{List, []}
-use Prim.Native.Nat.{ℕ, _+_, _<_}
-use lib.Dec.{eqb}
+use Prim.Native.Nat.{ℕ, _<_}
 use lib.ListN.{getD}
 use Rattle.rules.specs.declared.Regular.{Regular}
 use Rattle.rules.specs.declared.Complex.{Complex}
-use Rattle.rules.specs.Base.{if_then_else_}
-use Rattle.rules.specs.Prices.{better, bestIn, sizeIn}
+use Rattle.rules.specs.Words.{opposite}
+use Rattle.rules.specs.Prices.{bestIn, sizeIn}
 use Rattle.levels.specs.declared.Level.{Level}
+use Rattle.levels.specs.declared.Taken.{Taken}
+use Rattle.levels.specs.declared.LegSides.{LegSides}
 
 -- of a series and side, over a list of orders
 unfoldable pub levelOf : (series side : ℕ) → List Regular → Level
 levelOf s d os = record { price = bestIn s d os; size = sizeIn s d (bestIn s d os) os }
-
--- a level of side d with k contracts more at price p
-unfoldable pub joinedOf : (side p k : ℕ) → Level → Level
-joinedOf d p k l =
-    if eqb p (l .price) then record { price = p; size = k + l .size }
-    else if better d p (l .price) then record { price = p; size = k }
-    else l
 
 abbrev pub noLevel : Level
 noLevel = record { price = 0; size = 0 }
@@ -37,3 +31,22 @@ pub record LegsIn (c : Complex) : Type 0 where
   pub side1 : c .side1 < 2
   pub second : c .series2 < 8
   pub side2 : c .side2 < 2
+
+-- the levels that the legs of c take
+abbrev pub takenIn : List (List Level) → Complex → Taken
+takenIn g c = record { first = cellOf g (c .series1) (opposite (c .side1)); second = cellOf g (c .series2) (opposite (c .side2)) }
+
+-- what the test of the leg of c at side d of series s asks of the orders
+abbrev pub sidesIn : List (List Level) → Complex → (series side : ℕ) → LegSides
+sidesIn g c s d = record { own = cellOf g s d .price; facing = cellOf g s (opposite d) .price; taken = takenIn g c }
+
+-- t has the levels of these orders that the legs of c take
+pub record TakenOf (t : Taken) (c : Complex) (os : List Regular) : Type 0 where
+  pub first : t .first ≡ levelOf (c .series1) (opposite (c .side1)) os
+  pub second : t .second ≡ levelOf (c .series2) (opposite (c .side2)) os
+
+-- x has what the test of the leg of c at side d of series s asks of these orders
+pub record SidesOf (x : LegSides) (c : Complex) (s d : ℕ) (os : List Regular) : Type 0 where
+  pub own : x .own ≡ bestIn s d os
+  pub facing : x .facing ≡ bestIn s (opposite d) os
+  pub taken : TakenOf (x .taken) c os

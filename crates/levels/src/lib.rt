@@ -2,16 +2,17 @@
 use rules::Complex;
 use rules::Leg;
 use rules::Legging;
+use rules::Regular;
 ghost use mathlib.Core.Path.{_≡_};
 ghost use Prim.Native.Nat.{_+_, _≤_, _<_};
 ghost use lib.IntN.{natAbs};
 ghost use lib.ListN.{length};
-ghost use Rattle.rules.specs.Words.{leggingAt, statusOf, isComplexOf};
-ghost use Rattle.rules.specs.Prices.{better, betterOf, reaches, ownPrice, bestOwn, clearPrice, away, marketBest, inBand};
+ghost use Rattle.rules.specs.Words.{sell, leggingAt, statusOf, isComplexOf};
+ghost use Rattle.rules.specs.Prices.{better, betterOf, reaches, showsAt, bestRegular, ownPrice, bestOwn, clearPrice, away, marketBest, inBand};
 ghost use Rattle.rules.specs.Standing.{otherLeg, parentOf, bothOpen};
 ghost use Rattle.rules.specs.Complex.{anyClosed};
 ghost use Rattle.places.specs.Layout.{size, venueOf};
-ghost use Rattle.levels.specs.Grid.{joinedOf, cellOf, GridOf, LegsIn};
+ghost use Rattle.levels.specs.Grid.{cellOf, takenIn, sidesIn, GridOf, LegsIn, TakenOf};
 
 // The best price of a side, and its total size; both 0 where there is none.
 pub struct Level {
@@ -19,13 +20,10 @@ pub struct Level {
     pub size: u64,
 }
 
-// a is strictly better than b at this side; any price is better than none.
-pub fn is_better_wide(side: u8, a: u64, b: u64) -> bool
-    ensures { λ r. ⌜ r ≡ better side a b ⌝ }
+// a is strictly better than b to sell: lower, and any price is better than none.
+fn is_lower(a: u64, b: u64) -> bool
+    ensures { λ r. ⌜ r ≡ better sell a b ⌝ }
 {
-    if side == 0 {
-        return b < a;
-    }
     if a == 0 {
         return false;
     }
@@ -33,6 +31,18 @@ pub fn is_better_wide(side: u8, a: u64, b: u64) -> bool
         return true;
     }
     a < b
+}
+
+// a is strictly better than b at this side; any price is better than none. Both comparisons are made, so that the side only selects.
+pub fn is_better_wide(side: u8, a: u64, b: u64) -> bool
+    ensures { λ r. ⌜ r ≡ better side a b ⌝ }
+{
+    let higher = b < a;
+    let lower = is_lower(a, b);
+    if side == 0 {
+        return higher;
+    }
+    lower
 }
 
 pub fn is_better(side: u8, a: u32, b: u32) -> bool
@@ -61,25 +71,7 @@ pub fn reaches_price(side: u8, p: u32, q: u32) -> bool
     p <= q
 }
 
-// A level with k contracts more at a price.
-fn joined(side: u8, price: u32, k: u32, l: Level) -> Level
-    requires { ⌜ l .size ≤ 549755813760 ⌝ }
-    ensures { λ r. ⌜ r ≡ joinedOf side price k l ⌝ }
-{
-    let size = k as u64;
-    if price == l.price {
-        return Level {
-            price,
-            size: size + l.size,
-        };
-    }
-    if is_better(side, price, l.price) {
-        return Level { price, size };
-    }
-    l
-}
-
-// The levels of all series and sides, in one pass over the places in use.
+// The levels of all series and sides, in one pass over the places in use. A cell is stored only where it changes.
 pub fn levels(b: &[u32]) -> [[Level; 2]; 8]
     requires { ⌜ length (now b) ≡ size ⌝ }
     ensures { λ r. ⌜ GridOf r (venueOf (now (b .entry)) .regular) ⌝ }
@@ -96,10 +88,65 @@ pub fn levels(b: &[u32]) -> [[Level; 2]; 8]
         let s = o.series as usize;
         let d = o.side as usize;
         let l = g[s][d];
-        let m = joined(o.side, o.price, o.quantity, l);
-        g[s][d] = m;
+        let size = o.quantity as u64;
+        if o.price == l.price {
+            g[s][d] = Level {
+                price: l.price,
+                size: size + l.size,
+            };
+            continue;
+        }
+        if is_better(o.side, o.price, l.price) {
+            g[s][d] = Level {
+                price: o.price,
+                size,
+            };
+        }
     }
     g
+}
+
+// A regular order shows some size in series s at side d.
+fn shows_at(o: Regular, s: u8, d: u8) -> bool
+    ensures { λ r. ⌜ r ≡ showsAt s d o ⌝ }
+{
+    if o.quantity == 0 {
+        return false;
+    }
+    if o.series != s {
+        return false;
+    }
+    o.side == d
+}
+
+// The best regular price of one series and side.
+pub fn best_regular(b: &[u32], s: u8, d: u8) -> u32
+    requires { ⌜ length (now b) ≡ size ⌝ }
+    ensures { λ r. ⌜ r ≡ bestRegular (venueOf (now (b .entry))) s d ⌝ }
+{
+    let mut best: u32 = 0;
+    let mut i = places::regulars_used(b);
+    while 0 < i {
+        i -= 1;
+        let o = places::regular_at(b, i);
+        if shows_at(o, s, d) {
+            best = better_of(d, o.price, best);
+        }
+    }
+    best
+}
+
+// The levels that the legs of a complex order take.
+pub struct Taken {
+    pub first: Level,
+    pub second: Level,
+}
+
+// What the test of a leg asks of the regular orders: the best price of its own side and of the side that faces it, and the levels that the legs of its order take.
+pub struct LegSides {
+    pub own: u32,
+    pub facing: u32,
+    pub taken: Taken,
 }
 
 // The level of a series and side.
@@ -111,6 +158,44 @@ pub fn level_at(g: [[Level; 2]; 8], s: u8, d: u8) -> Level
     let j = d as usize;
     let l = g[i][j];
     l
+}
+
+// The levels that the legs of c take.
+pub fn taken_of(g: [[Level; 2]; 8], c: Complex) -> Taken
+    requires { ⌜ LegsIn c ⌝ }
+    ensures { λ r. ⌜ r ≡ takenIn g c ⌝ }
+{
+    let s1 = c.series1 as usize;
+    let d1 = rules::opposite_of(c.side1) as usize;
+    let s2 = c.series2 as usize;
+    let d2 = rules::opposite_of(c.side2) as usize;
+    let first = g[s1][d1];
+    let second = g[s2][d2];
+    Taken { first, second }
+}
+
+// What the test of the leg of c at side d of series s asks of the regular orders.
+pub fn sides_of(g: [[Level; 2]; 8], c: Complex, s: u8, d: u8) -> LegSides
+    requires { ⌜ (LegsIn c) × (s < 8) × (d < 2) ⌝ }
+    ensures { λ r. ⌜ r ≡ sidesIn g c s d ⌝ }
+{
+    let s1 = c.series1 as usize;
+    let d1 = rules::opposite_of(c.side1) as usize;
+    let s2 = c.series2 as usize;
+    let d2 = rules::opposite_of(c.side2) as usize;
+    let first = g[s1][d1];
+    let second = g[s2][d2];
+    let i = s as usize;
+    let j = d as usize;
+    let k = rules::opposite_of(d) as usize;
+    let own = g[i][j];
+    let facing = g[i][k];
+    let taken = Taken { first, second };
+    LegSides {
+        own: own.price,
+        facing: facing.price,
+        taken,
+    }
 }
 
 // The own price of the legging order of a series and side; 0 where there is none.
@@ -125,27 +210,25 @@ pub fn own_price(b: &[u32], s: u8, d: u8) -> u32
     l.price
 }
 
-// The best own price of a side, legging included.
-pub fn best_own(b: &[u32], g: [[Level; 2]; 8], s: u8, d: u8) -> u32
-    requires { ⌜ (length (now b) ≡ size) × (GridOf g (venueOf (now b) .regular)) × (s < 8) × (d < 2) ⌝ }
+// The best own price of a side, legging included; best is its best regular price.
+pub fn best_own(b: &[u32], best: u32, s: u8, d: u8) -> u32
+    requires { ⌜ (length (now b) ≡ size) × (best ≡ bestRegular (venueOf (now b)) s d) × (s < 8) × (d < 2) ⌝ }
     ensures { λ r. ⌜ r ≡ bestOwn (venueOf (now (b .entry))) s d ⌝ }
 {
     let own = own_price(b, s, d);
-    let best = level_at(g, s, d);
-    better_of(d, own, best.price)
+    better_of(d, own, best)
 }
 
 // The best regular price, 0 if there is none or if the legging order has a strictly better own price.
-pub fn clear_price(b: &[u32], g: [[Level; 2]; 8], s: u8, d: u8) -> u32
-    requires { ⌜ (length (now b) ≡ size) × (GridOf g (venueOf (now b) .regular)) × (s < 8) × (d < 2) ⌝ }
+pub fn clear_price(b: &[u32], best: u32, s: u8, d: u8) -> u32
+    requires { ⌜ (length (now b) ≡ size) × (best ≡ bestRegular (venueOf (now b)) s d) × (s < 8) × (d < 2) ⌝ }
     ensures { λ r. ⌜ r ≡ clearPrice (venueOf (now (b .entry))) s d ⌝ }
 {
     let own = own_price(b, s, d);
-    let best = level_at(g, s, d);
-    if is_better(d, own, best.price) {
+    if is_better(d, own, best) {
         return 0;
     }
-    best.price
+    best
 }
 
 // The away price of a side.
@@ -161,25 +244,26 @@ pub fn away_price(b: &[u32], s: u8, d: u8) -> u32
 }
 
 // The better of away and best regular price.
-pub fn market_best(b: &[u32], g: [[Level; 2]; 8], s: u8, d: u8) -> u32
-    requires { ⌜ (length (now b) ≡ size) × (GridOf g (venueOf (now b) .regular)) × (s < 8) × (d < 2) ⌝ }
+pub fn market_best(b: &[u32], best: u32, s: u8, d: u8) -> u32
+    requires { ⌜ (length (now b) ≡ size) × (best ≡ bestRegular (venueOf (now b)) s d) × (s < 8) ⌝ }
     ensures { λ r. ⌜ r ≡ marketBest (venueOf (now (b .entry))) s d ⌝ }
 {
     let out = away_price(b, s, d);
-    let best = level_at(g, s, d);
-    better_of(d, out, best.price)
+    better_of(d, out, best)
 }
 
-// The net t of a complex order is in band.
-pub fn in_band(b: &[u32], g: [[Level; 2]; 8], c: Complex, t: i64) -> bool
-    requires { ⌜ (length (now b) ≡ size) × (GridOf g (venueOf (now b) .regular)) × (LegsIn c) × (natAbs t ≤ 8589934590) ⌝ }
+// The net t of a complex order is in band; taken has the levels that its legs take.
+pub fn in_band(b: &[u32], taken: Taken, c: Complex, t: i64) -> bool
+    requires { ⌜ (length (now b) ≡ size) × (TakenOf taken c (venueOf (now b) .regular)) × (LegsIn c) × (natAbs t ≤ 8589934590) ⌝ }
     ensures { λ r. ⌜ r ≡ inBand (venueOf (now (b .entry))) c t ⌝ }
 {
-    let first = market_best(b, g, c.series1, rules::opposite_of(c.side1));
+    let one = taken.first;
+    let first = market_best(b, one.price, c.series1, rules::opposite_of(c.side1));
     if first == 0 {
         return false;
     }
-    let second = market_best(b, g, c.series2, rules::opposite_of(c.side2));
+    let two = taken.second;
+    let second = market_best(b, two.price, c.series2, rules::opposite_of(c.side2));
     if second == 0 {
         return false;
     }

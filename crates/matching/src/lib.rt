@@ -1,7 +1,7 @@
 // Matching: what an order, a pair and a cancel do to the venue in its slice, with their records.
 // Each function says in one equation the venue that it leaves and all that it writes: those of its definition.
 ghost use mathlib.Core.Path.{_≡_};
-ghost use Prim.Native.Nat.{ℕ, suc, min, _≤_, _<_};
+ghost use Prim.Native.Nat.{ℕ, suc, _≤_, _<_};
 ghost use lib.IntN.{natAbs};
 ghost use lib.ListN.{length};
 ghost use Rattle.rules.specs.Words.{opposite, leggingAt};
@@ -21,15 +21,7 @@ use book::Pick;
 use rules::Cause;
 use rules::Legging;
 use rules::Regular;
-
-fn lesser(a: u32, b: u32) -> u32
-    ensures { λ r. ⌜ r ≡ min a b ⌝ }
-{
-    if a < b {
-        return a;
-    }
-    b
-}
+use rules::lesser;
 
 // A taker of a side trades k contracts with the regular order at place j.
 fn trade_with(
@@ -127,8 +119,9 @@ fn pairing_of(b: &[u32], l: Legging, series: u8, side: u8) -> Pairing
 {
     let c = levels::parent_of(b, l);
     let leg = levels::other_leg(c, series);
-    let g = levels::levels(b);
-    let clear = levels::clear_price(b, g, leg.series, rules::opposite_of(leg.side));
+    let other = rules::opposite_of(leg.side);
+    let best = levels::best_regular(b, leg.series, other);
+    let clear = levels::clear_price(b, best, leg.series, other);
     let net = rules::net_of(rules::opposite_of(side), l.price, leg.side, clear);
     Pairing {
         id: c.id,

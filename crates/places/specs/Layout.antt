@@ -70,6 +70,13 @@ leggingIn b n = record { parent = getD b (3 * n + 704) 0; price = getD b (3 * n 
 unfoldable pub listedIn : List ℕ → ℕ → Listed
 listedIn b s = record { status = getD b (3 * s + 752) 0 % 256; bid = getD b (3 * s + 753) 0; offer = getD b (3 * s + 754) 0 }
 
+-- an order's series and side as one number, by which a scan passes over the others, and so the legs of a complex order
+unfoldable pub regularKey : Regular → ℕ
+regularKey o = placeOf (o .series) (o .side)
+
+unfoldable pub legsKey : Complex → ℕ
+legsKey c = 16 * placeOf (c .series1) (c .side1) + placeOf (c .series2) (c .side2)
+
 -- the venue that the numbers stand for
 unfoldable pub venueOf : List ℕ → Venue
 venueOf b = record {

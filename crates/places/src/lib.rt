@@ -9,7 +9,7 @@ ghost use Rattle.rules.specs.Words.{placeOf, withLegging, withSeries, withLast}
 ghost use Rattle.rules.specs.Trading.{fillRegular, fillComplex, putRegular, putComplex};
 ghost use Rattle.rules.specs.Generation.{placed};
 ghost use Rattle.rules.specs.Places.{holdsRegular, holdsComplex};
-ghost use Rattle.places.specs.Layout.{size, regularsUsed, complexesUsed, regularIn, complexIn, leggingIn, listedIn, venueOf, regularRow, limitNumber, complexRow, Kept, Counts, SameCounts};
+ghost use Rattle.places.specs.Layout.{size, regularsUsed, complexesUsed, regularIn, complexIn, leggingIn, listedIn, regularKey, legsKey, venueOf, regularRow, limitNumber, complexRow, Kept, Counts, SameCounts};
 ghost use Rattle.places.specs.Layout.{Filled, RegularsClosed, ComplexesClosed, GapsClosed};
 ghost use Rattle.places.specs.Layout.{RegularsPlaced, ComplexesPlaced, Loadable, RegularsLoaded, ComplexesLoaded, Loaded};
 use rules::Complex;
@@ -65,6 +65,14 @@ pub fn regular_at(b: &[u32], i: usize) -> Regular
     }
 }
 
+// The series and side of what stands at a regular place, as one number.
+pub fn key_at(b: &[u32], i: usize) -> usize
+    requires { ⌜ (length (now b) ≡ size) × (i < 128) ⌝ }
+    ensures { λ r. ⌜ r ≡ regularKey (regularIn (now (b .entry)) i) ⌝ }
+{
+    wide(b[4 * i + 1] % 16)
+}
+
 // What stands at a legging place.
 pub fn legging_at(b: &[u32], n: usize) -> Legging
     requires { ⌜ (length (now b) ≡ size) × (n < 16) ⌝ }
@@ -116,6 +124,14 @@ pub fn complex_at(b: &[u32], i: usize) -> Complex
         limit,
         quantity: b[6 * i + 517],
     }
+}
+
+// The legs of what stands at a complex place, as one number.
+pub fn legs_at(b: &[u32], i: usize) -> usize
+    requires { ⌜ (length (now b) ≡ size) × (i < 32) ⌝ }
+    ensures { λ r. ⌜ r ≡ legsKey (complexIn (now (b .entry)) i) ⌝ }
+{
+    16 * wide(b[6 * i + 513] % 16) + wide(b[6 * i + 514] % 16)
 }
 
 // The last id accepted.

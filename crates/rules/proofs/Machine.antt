@@ -7,7 +7,7 @@ use native.Mathlib.Nat.{mul-add}
 use lib.Dec.{leb, ltb, eqb}
 use lib.IntN.{ℤ, pos, negsuc, natAbs, negℤ, _+ℤ_, _-ℤ_, _*ℤ_, +ℤ-idl}
 use lib.Signed.{leZ}
-use mir.Syntax.{w64}
+use mir.Syntax.{w32, w64}
 use mir.Val.{SFits, toZ, ofZ}
 use mir.ValLaws.{toZ-ofZ}
 use Rattle.rules.specs.Base.{if_then_else_}
@@ -34,6 +34,21 @@ neg-fits n h = rw (cast-of n h, +ℤ-idl (negℤ (pos n))) (fits-of (negℤ (pos
 
 pub neg-ok : (n : ℕ) → n < 9223372036854775808 → toZ w64 (ofZ w64 (pos 0 -ℤ toZ w64 n)) ≡ negℤ (pos n)
 neg-ok n h = back (neg-fits n h) ∙ ap (λ (z : ℤ). pos 0 -ℤ z) (cast-of n h) ∙ +ℤ-idl (negℤ (pos n))
+
+-- a number of 32 bits, in 64
+abs-small : (z : ℤ) → SFits w32 z → natAbs z ≤ 2147483648
+abs-small (pos n) f = let h : n < 2147483648 = f .sfits in omega arith
+abs-small (negsuc n) f = let h : n < 2147483648 = f .sfits in omega arith
+
+module _ (z : ℤ) (f : SFits w32 z) where
+  pub wide-fits : SFits w64 (toZ w32 (ofZ w32 z))
+  wide-fits = rw (toZ-ofZ w32 z f) (fits-of z (omega (arith, abs-small z f)))
+
+  wide-back : toZ w64 (ofZ w64 (toZ w32 (ofZ w32 z))) ≡ z
+  wide-back = back wide-fits ∙ toZ-ofZ w32 z f
+
+  pub wide-is : (toZ w64 (ofZ w64 (toZ w32 (ofZ w32 z))) ≡ z) × (natAbs (toZ w64 (ofZ w64 (toZ w32 (ofZ w32 z)))) ≤ 2147483648)
+  wide-is = (wide-back, rw wide-back (abs-small z f))
 
 -- a sum of two results
 module _ {a b : ℤ} (fa : SFits w64 a) (fb : SFits w64 b) where

@@ -93,7 +93,7 @@ count-fewer x (c ∷ a) (d ∷ b) f =
     let w = count-fewer x a b (record { same = (let e = f .same in omega arith); lesser = λ i. f .lesser (suc i) }) in
     omega arith
 
-then-same : (e : Effect) (f g : Venue → Effect) → f (e .venue) ≡ g (e .venue) → (e ⟫ f) ≡ (e ⟫ g)
+pub then-same : (e : Effect) (f g : Venue → Effect) → f (e .venue) ≡ g (e .venue) → (e ⟫ f) ≡ (e ⟫ g)
 unfolding _⟫_
 then-same e f g h = rw h
 
@@ -115,7 +115,7 @@ each-more f ok (suc fuel) more id v le =
         let w = count-less id (c .id) (v .complex) i (ltb-true id (c .id) (and-r (held (c .quantity)) _ (a .is))) (unfold above in (rw (a .at) (a .is))) (ap (λ (x : Complex). x .id) (a .at)) in
         each-on (fuel + more) f id v i c e ∙ then-same (f i v) (each (fuel + more) f (c .id)) (each fuel f (c .id)) (ih (c .id) (f i v .venue) (omega arith)) ∙ sym (each-on fuel f id v i c e)
 
-work-fewer : (i : ℕ) (v : Venue) → FewerC (work i v .venue .complex) (v .complex)
+pub work-fewer : (i : ℕ) (v : Venue) → FewerC (work i v .venue .complex) (v .complex)
 work-fewer i v =
     keeps-work {P = λ w. FewerC (w .complex) (v .complex)} (record {
       fillR = λ i k w h. unfold fillRegular withRegular in h;
@@ -127,7 +127,7 @@ pub leg-same : (v : Venue) (c : Complex) (s d : ℕ) → generateLeg c s d v .ve
 unfolding generateLeg make report remove withLegging placed nothing _⟫_
 leg-same v c s d = if-by (λ (e : Effect). e .venue .complex ≡ v .complex) (held (c .quantity) && makes v c s d) (λ _. refl) (λ _. refl)
 
-generate-fewer : (i : ℕ) (v : Venue) → FewerC (generate i v .venue .complex) (v .complex)
+pub generate-fewer : (i : ℕ) (v : Venue) → FewerC (generate i v .venue .complex) (v .complex)
 unfolding generate complexAt _⟫_
 generate-fewer i v =
     let c = cx v i in

@@ -1,6 +1,6 @@
 -- Taking k contracts at a price, by id: where the size there is at least k, exactly k are had; and `take` as a chain of trades.
 use mathlib.Core.Path.{_∙_, _≡_, ap, refl, subst, sym}
-use mathlib.Core.Bool.{Bool, false, true}
+use mathlib.Core.Bool.{Bool, false, true, true≢false}
 use mathlib.Core.Logic.{_≢_}
 use mathlib.Core.List.{List, [], _∷_}
 use Prim.Native.Nat.{_+_, _-_, _<_, _≤_, min, suc, zero, ℕ}
@@ -15,7 +15,7 @@ use Rattle.rules.specs.Words.{earlier, noRegular, opposite, regularAt, w
 use Rattle.rules.specs.Records.{Report, trade}
 use Rattle.rules.specs.Effects.{Effect, _⟫_, nothing, report}
 use Rattle.rules.specs.Prices.{shown, showsAt, showsFor, sizeIn}
-use Rattle.rules.specs.Trading.{fillRegular, lessRegular, take, tradeWith}
+use Rattle.rules.specs.Trading.{fillRegular, lessRegular, putRegular, take, tradeWith}
 use Rattle.rules.specs.Sums.{contracts, contractsAt, total}
 use Rattle.rules.proofs.Adding.{count-elsewhere, count-taker}
 use Rattle.rules.proofs.Cases.{take-by}
@@ -151,63 +151,71 @@ module _ {x s d p : ℕ} where
   chain-at y t no-more = refl
   chain-at y t (traded {v = v} i q f z e le c) = rw (eq-eqb (regularAt v i .price) p e, chain-at y t c)
 
--- A fill of an order of another series --------------------------------------------------------
+-- Another order at a place --------------------------------------------------------------------
 
-fill-comm : (i q j m : ℕ) (v : Venue) → i ≢ j → fillRegular j m (fillRegular i q v) ≡ fillRegular i q (fillRegular j m v)
-unfolding fillRegular withRegular regularAt
-fill-comm i q j m v ne =
-    rw (getD-set-other (v .regular) i j _ noRegular (λ e. ne (sym e)), getD-set-other (v .regular) j i _ noRegular ne)
-    (ap (λ (l : List Regular). withRegular v l) (set-comm (v .regular) i j _ _ ne))
-
--- the order at place i is of another series: what is taken in series s is the same whether or not it has been filled
-module _ (x s d p i q : ℕ) where
+-- o at place i shows nothing at the price that is taken, and what stood there did not either: the same is taken with it as without
+module _ (x s d p i : ℕ) (o : Regular) where
   abbrev there : Regular → Bool
   there = showsFor s (opposite d) p
 
-  abbrev filled : Venue → Venue
-  filled v = fillRegular i q v
+  abbrev with-it : Venue → Venue
+  with-it v = putRegular i o v
 
-  same-first : (v : Venue) → reg v i .series ≢ s → first there earlier (filled v .regular) ≡ first there earlier (v .regular)
-  unfolding fillRegular withRegular regularAt lessRegular
-  same-first v ne = first-set noRegular there earlier 0 (v .regular) i _ (no-price s (opposite d) p _ (not-there s (opposite d) _ ne)) (no-price s (opposite d) p _ (not-there s (opposite d) _ ne))
+  same-first : (v : Venue) → there (reg v i) ≡ false → there o ≡ false → first there earlier (with-it v .regular) ≡ first there earlier (v .regular)
+  unfolding putRegular withRegular
+  same-first v a b = first-set noRegular there earlier 0 (v .regular) i o a b
 
   -- the order that is taken from is another one
-  apart : (v : Venue) (j : ℕ) (o : Regular) → At noRegular there (v .regular) j o → reg v i .series ≢ s → i ≢ j
-  unfolding regularAt
-  apart v j o h ne e = ne (ap (λ (n : ℕ). reg v n .series) e ∙ taken-series x s d p j o v h)
+  apart : (v : Venue) (j : ℕ) (y : Regular) → At noRegular there (v .regular) j y → there (reg v i) ≡ false → i ≢ j
+  apart v j y h a e = true≢false (sym (h .is) ∙ ap there (sym (h .at)) ∙ ap (λ (n : ℕ). there (reg v n)) (sym e) ∙ a)
 
-  same-order : (v : Venue) (j : ℕ) → i ≢ j → regularAt (filled v) j ≡ regularAt v j
-  unfolding fillRegular withRegular regularAt
+  same-order : (v : Venue) (j : ℕ) → i ≢ j → regularAt (with-it v) j ≡ regularAt v j
+  unfolding putRegular withRegular regularAt
   same-order v j ne = getD-set-other (v .regular) i j _ noRegular (λ e. ne (sym e))
+
+  put-fill : (j m : ℕ) (v : Venue) → i ≢ j → fillRegular j m (with-it v) ≡ with-it (fillRegular j m v)
+  unfolding fillRegular putRegular withRegular regularAt
+  put-fill j m v ne =
+      rw (getD-set-other (v .regular) i j _ noRegular (λ e. ne (sym e))) (ap (λ (l : List Regular). withRegular v l) (set-comm (v .regular) i j _ _ ne))
+
+  still : (j m : ℕ) (v : Venue) → i ≢ j → there (reg v i) ≡ false → there (reg (fillRegular j m v) i) ≡ false
+  unfolding fillRegular withRegular
+  still j m v ne a = rw (getD-set-other (v .regular) j i _ noRegular ne) a
 
   -- one turn of taking, by what is picked
   abbrev turn : (fuel k : ℕ) → Bool → Picked Regular → Venue → Effect
   turn fuel k b y v = elim b [
     | false ↦ nothing v
-    | true ↦ elim y [ nobody ↦ nothing v | picked j o ↦ tradeWith x d j (min k (shown o)) v ⟫ take fuel x s d p (k - min k (shown o)) ]
+    | true ↦ elim y [ nobody ↦ nothing v | picked j z ↦ tradeWith x d j (min k (shown z)) v ⟫ take fuel x s d p (k - min k (shown z)) ]
   ]
 
   abbrev Same : (fuel : ℕ) → Type 0
-  Same fuel = (k : ℕ) (v : Venue) → reg v i .series ≢ s → take fuel x s d p k (filled v) .reports ≡ take fuel x s d p k v .reports
+  Same fuel = (k : ℕ) (v : Venue) → there (reg v i) ≡ false → there o ≡ false → take fuel x s d p k (with-it v) .reports ≡ take fuel x s d p k v .reports
 
-  same-turn : (fuel : ℕ) → Same fuel → (k : ℕ) (v : Venue) → reg v i .series ≢ s → (b : Bool) (y : Picked Regular) → Chosen noRegular there (v .regular) y →
-      turn fuel k b y (filled v) .reports ≡ turn fuel k b y v .reports
+  same-turn : (fuel : ℕ) → Same fuel → (k : ℕ) (v : Venue) → there (reg v i) ≡ false → there o ≡ false → (b : Bool) (y : Picked Regular) → Chosen noRegular there (v .regular) y →
+      turn fuel k b y (with-it v) .reports ≡ turn fuel k b y v .reports
   unfolding nothing _⟫_ tradeWith report
-  same-turn fuel ih k v ne false y c = refl
-  same-turn fuel ih k v ne true nobody c = refl
-  same-turn fuel ih k v ne true (picked j o) c =
-      let m = min k (shown o) in
-      let a = apart v j o c ne in
-      let z = fill-fewer j m v .lesser i .series in
-      rw (same-order v j a, fill-comm i q j m v a, ih (k - m) (fillRegular j m v) (λ e. ne (sym z ∙ e)))
+  same-turn fuel ih k v a b false y c = refl
+  same-turn fuel ih k v a b true nobody c = refl
+  same-turn fuel ih k v a b true (picked j z) c =
+      let m = min k (shown z) in
+      let ne = apart v j z c a in
+      rw (same-order v j ne, put-fill j m v ne, ih (k - m) (fillRegular j m v) (still j m v ne a) b)
 
   same-more : (fuel : ℕ) → Same fuel → Same (suc fuel)
   unfolding take
-  same-more fuel ih k v ne =
-      subst (λ (y : Picked Regular). turn fuel k (held k) y (filled v) .reports ≡ turn fuel k (held k) (first there earlier (v .regular)) v .reports) (sym (same-first v ne))
-      (same-turn fuel ih k v ne (held k) (first there earlier (v .regular)) (first-chosen noRegular there earlier (v .regular)))
+  same-more fuel ih k v a b =
+      subst (λ (y : Picked Regular). turn fuel k (held k) y (with-it v) .reports ≡ turn fuel k (held k) (first there earlier (v .regular)) v .reports) (sym (same-first v a b))
+      (same-turn fuel ih k v a b (held k) (first there earlier (v .regular)) (first-chosen noRegular there earlier (v .regular)))
 
-  pub take-apart : (fuel : ℕ) → Same fuel
+  pub take-put : (fuel : ℕ) → Same fuel
   unfolding nothing
-  take-apart zero = λ k v ne. unfold take in refl
-  take-apart (suc fuel) = same-more fuel (take-apart fuel)
+  take-put zero = λ k v a b. unfold take in refl
+  take-put (suc fuel) = same-more fuel (take-put fuel)
+
+-- the order at place i is of another series: what is taken in series s is the same whether or not it has been filled
+pub take-apart : (x s d p i q fuel k : ℕ) (v : Venue) → reg v i .series ≢ s → take fuel x s d p k (fillRegular i q v) .reports ≡ take fuel x s d p k v .reports
+unfolding fillRegular putRegular regularAt lessRegular
+take-apart x s d p i q fuel k v ne =
+    let none : showsFor s (opposite d) p (reg v i) ≡ false = no-price s (opposite d) p (reg v i) (not-there s (opposite d) (reg v i) ne) in
+    take-put x s d p i (lessRegular q (reg v i)) fuel k v none (no-price s (opposite d) p _ (not-there s (opposite d) _ ne))

@@ -1,5 +1,5 @@
--- Document 01, "Trials": the starred ones, the printed session, the wrongs named there, and the example of each row of the refusals' table,
--- all in one statement over a list. A session's messages go in as bytes and its records are read from the report memory's bytes.
+-- Document 01, "Trials": the starred ones, the printed session, the wrongs named there, sessions for what these and the theorems leave open, the bytes
+-- of each kind of message and record, the ends of each range, and the refusals by the examples of their table, all in one statement over a list. A session's messages go in as bytes and its records are read from the report memory's bytes.
 use mathlib.Core.Bool.{Bool, true, false}
 use mathlib.Core.Path.{_≡_, refl}
 use mathlib.Core.List.{List, [], _∷_, _++_, map}
@@ -9,12 +9,17 @@ use lib.ListN.{set}
 use Rattle.rules.specs.declared.Regular.{Regular}
 use Rattle.rules.specs.declared.Complex.{Complex}
 use Rattle.rules.specs.declared.Venue.{Venue}
+use Rattle.rules.specs.declared.Cause.{Cause}
+use Rattle.rules.specs.declared.Decoded.{Decoded}
+use Rattle.rules.specs.declared.Decoded.the-variants.{Taken}
+use Rattle.rules.specs.declared.Message.{Message}
 use Rattle.rules.specs.declared.Message.the-variants.{Order, TwoLeg, Cancel, Away, Status, Sweep}
-use Rattle.rules.specs.declared.Cause.the-variants.{Unpaired, Executed, OutOfBand}
+use Rattle.rules.specs.declared.Cause.the-variants.{Worse, Unpaired, Executed, Withdrawn, OutOfBand, NotOpen, Replaced, Touched}
 use Rattle.rules.specs.Words.{buy, sell, opened, freshVenue, withRegular, withLast}
 use Rattle.rules.specs.Messages.{encodeMessage}
-use Rattle.rules.specs.Records.{Report, answer, trade, pair, generated, removed, records, sheet}
+use Rattle.rules.specs.Records.{Report, answer, trade, pair, generated, removed, crossed, cancelled, encode, recordOf, records, sheet}
 use Rattle.rules.specs.Prices.{inBand}
+use Rattle.rules.specs.Refusals.{decoded, inRange}
 use Rattle.rules.specs.Step.{setAway}
 use Rattle.rules.specs.Calls.{run, one}
 use Rattle.rules.specs.Opened.{opened-rules}
@@ -28,11 +33,18 @@ pub data Trial : Type 0 where
   upon : (v : Venue) (before room : ℕ) (bytes : List ℕ) (number done : ℕ) → List Report → (w : Venue) → Trial
   -- a net t against O, which is the offer of series 1 less the bid of series 0
   band : (bid offer : ℕ) (t : ℤ) → Bool → Trial
+  -- a message's fields in their ranges
+  ranged : Message → Bool → Trial
+  -- the bytes of a message, both ways, and of a record
+  taken : (bytes : List ℕ) → Message → Trial
+  told : Report → (bytes : List ℕ) → Trial
 
 pub data Outcome : Type 0 where
   ended : (number done : ℕ) → (read : List Report) → (report : List ℕ) → Outcome
   returned : (number done : ℕ) → (read : List Report) → (report : List ℕ) → Venue → Outcome
   near : Bool → Outcome
+  read : Decoded → (bytes : List ℕ) → Outcome
+  laid : (bytes : List ℕ) → Report → Outcome
 
 -- a complex order that sells series 0 and buys series 1
 spread : Complex
@@ -46,11 +58,17 @@ outcome (upon v before room bytes number done rs w) =
     let c = one v before room bytes in
     returned (c .returned .number) (c .returned .done) (records (c .report)) (c .report) (c .returned .venue)
 outcome (band bid offer t b) = near (inBand (setAway 1 0 offer (setAway 0 bid 0 freshVenue)) spread t)
+outcome (ranged m b) = near (inRange m)
+outcome (taken bytes m) = read (decoded bytes) (encodeMessage m)
+outcome (told r bytes) = laid (encode r) (recordOf bytes)
 
 pub expected : Trial → Outcome
 expected (session room bytes number done rs) = ended number done rs (sheet room rs)
 expected (upon v before room bytes number done rs w) = returned number done rs (sheet room rs) w
 expected (band bid offer t b) = near b
+expected (ranged m b) = near b
+expected (taken bytes m) = read (Taken m) bytes
+expected (told r bytes) = laid bytes r
 
 -- Messages ------------------------------------------------------------------------------------
 
@@ -166,12 +184,174 @@ wrongs =
     ∷ band 300 100 (negsuc 199) true
     ∷ []
 
+-- What no starred trial and no theorem tells ------------------------------------------------------
+
+-- Choices that keep every venue sound and every account even, whichever way they fall: who goes first, what is in band, what is asked of a price. One
+-- session for each, at the edge where there is one.
+
+-- any two legs, of a class
+twoLeg : (id s d t e class : ℕ) (n : ℤ) (quantity : ℕ) → List ℕ
+twoLeg id s d t e k n q =
+    encodeMessage (TwoLeg (record { id = id; series1 = s; side1 = d; series2 = t; side2 = e; class = k; limit = n; quantity = q }))
+
+-- complex order 3 has legging orders at 115 and 75
+legged : List ℕ
+legged = opening ++ buysBoth 3 (pos 205) 8
+
+leggedSheet : List Report
+leggedSheet = accepted 1 4 ++ (answer 5 0 5 2 ∷ generated 3 0 0 115 115 8 ∷ generated 3 1 0 75 75 8 ∷ [])
+
+-- no regular orders, a market of 95 to 105 in series 0 and 1
+quoted : List ℕ
+quoted = opens 0 ++ opens 1 ++ encodeMessage (Away 0 95 105) ++ encodeMessage (Away 1 95 105)
+
+-- order 2's legging order sells at 110 in series 1, with the bid of 90 in series 0 for its other leg; order 4 would buy in series 0 at N less 50
+relying : (n : ℤ) → List ℕ
+relying n =
+    opens 0 ++ opens 1 ++ opens 2 ++ enters 1 0 buy 90 10 ++ encodeMessage (Away 1 80 0)
+    ++ pairUp 2 0 1 sell (negsuc 199) 5
+    ++ enters 3 2 sell 50 5 ++ encodeMessage (Away 0 0 120)
+    ++ pairUp 4 0 2 buy n 5
+
+inAuction : (series : ℕ) → List ℕ
+inAuction s = encodeMessage (Status s 2)
+
+-- complex order 1 rested before there were offers; it would leg in
+restingBefore : List ℕ
+restingBefore = opens 0 ++ opens 1 ++ buysBoth 1 (pos 220) 2 ++ enters 2 0 sell 130 5 ++ enters 3 1 sell 90 5
+
+-- orders 5 and 6 are reversed and their limits meet, but at 215 out of band until order 7 takes the offer at 100 in the first sweep
+keptApart : List ℕ
+keptApart =
+    opens 0 ++ opens 1 ++ opens 2 ++ encodeMessage (Away 1 0 100)
+    ++ enters 1 0 sell 100 5 ++ enters 2 0 sell 130 15 ++ enters 3 0 buy 90 20 ++ enters 4 1 buy 60 20
+    ++ pairUp 5 0 1 sell (negsuc 210) 4
+    ++ pairUp 6 1 0 buy (pos 215) 3
+    ++ pairUp 7 0 2 buy (pos 150) 7
+    ++ enters 8 2 sell 50 6
+
+pub choices : List Trial
+choices =
+    -- "best own price first, then regular by id"
+    session 150 (opens 0 ++ enters 1 0 sell 110 5 ++ enters 2 0 sell 105 5 ++ enters 3 0 sell 105 5 ++ enters 4 0 buy 110 12) 0 5
+    (accepted 1 4 ++ (answer 5 0 0 0 ∷ trade 0 0 105 5 4 2 ∷ trade 0 0 105 5 4 3 ∷ trade 0 0 110 2 4 1 ∷ []))
+    -- "with the lowest cause that applies": 2 and 5 do at place 0, 5 alone at place 2
+    ∷ session 200 (legged ++ cancels 2) 0 6
+    (leggedSheet ++ (answer 6 0 0 0 ∷ cancelled 2 12 ∷ removed 3 0 0 Unpaired ∷ removed 3 1 0 OutOfBand ∷ []))
+    -- "take the highest N, then earliest, at the resting limit", "whichever leg is named first"
+    ∷ session 200 (quoted ++ buysBoth 1 (pos 190) 5 ++ buysBoth 2 (pos 195) 5 ++ twoLeg 3 1 buy 0 buy 0 (pos 195) 5 ++ pairUp 4 0 1 sell (negsuc 189) 12) 0 8
+    (accepted 1 8 ++ (crossed 4 2 (negsuc 194) 5 ∷ crossed 4 3 (negsuc 194) 5 ∷ crossed 4 1 (negsuc 189) 2 ∷ []))
+    -- "both nets in band": 221 is not in the maker's
+    ∷ session 150 (quoted ++ buysBoth 1 (pos 221) 5 ++ buysBoth 2 (pos 220) 5 ++ pairUp 3 0 1 sell (negsuc 189) 5) 0 7
+    (accepted 1 7 ++ (crossed 3 2 (negsuc 219) 5 ∷ []))
+    -- "the best own prices, legging included, net ≤ N": 115 and 75 are -190 to a seller
+    ∷ session 200 (legged ++ pairUp 4 0 1 sell (negsuc 189) 5) 0 6 (leggedSheet ++ (answer 6 0 0 0 ∷ removed 3 0 0 Touched ∷ removed 3 1 0 Touched ∷ []))
+    ∷ session 200 (legged ++ pairUp 4 0 1 sell (negsuc 190) 5) 0 6 (leggedSheet ++ (answer 6 0 5 2 ∷ []))
+    -- "while best regular prices net ≤ N and in band": 220 is out of the band of 190, and in that of 210, where N 240 is not
+    ∷ session 150 (opening ++ encodeMessage (Away 0 0 100) ++ buysBoth 3 (pos 220) 8) 0 6 (accepted 1 6)
+    ∷ session 200 (opening ++ encodeMessage (Away 0 0 120) ++ buysBoth 3 (pos 240) 8) 0 6
+    (accepted 1 6 ++ (trade 0 0 130 8 3 1 ∷ trade 1 0 90 8 3 2 ∷ pair 3 (pos 220) 8 ∷ []))
+    -- "nor the away price opposite": p is 100
+    ∷ session 150 (opens 0 ++ opens 1 ++ enters 1 1 sell 90 12 ++ encodeMessage (Away 0 0 100) ++ buysBoth 2 (pos 190) 3) 0 5 (accepted 1 5)
+    ∷ session 150 (opens 0 ++ opens 1 ++ enters 1 1 sell 90 12 ++ encodeMessage (Away 0 0 101) ++ buysBoth 2 (pos 190) 3) 0 5
+    (accepted 1 4 ++ (answer 5 0 1 1 ∷ generated 2 0 0 100 100 3 ∷ []))
+    -- "or at equal price by class 1 while this is class 0"
+    ∷ session 300 (legged ++ twoLeg 4 0 buy 1 buy 0 (pos 205) 9) 0 6
+    (leggedSheet ++ (answer 6 0 5 2 ∷ removed 3 0 0 Replaced ∷ generated 4 0 0 115 115 9 ∷ removed 3 1 0 Replaced ∷ generated 4 1 0 75 75 9 ∷ []))
+    ∷ session 200 (legged ++ buysBoth 4 (pos 205) 9) 0 6 (leggedSheet ++ (answer 6 0 5 2 ∷ []))
+    -- "no other standing order would then fail its test": a bid of 91 would hide that of 90
+    ∷ session 200 (relying (pos 141)) 0 9 (accepted 1 5 ++ (answer 6 0 8 1 ∷ generated 2 1 1 110 110 5 ∷ answer 7 0 8 1 ∷ answer 8 0 8 1 ∷ answer 9 0 8 1 ∷ []))
+    ∷ session 200 (relying (pos 140)) 0 9
+    (accepted 1 5 ++ (answer 6 0 8 1 ∷ generated 2 1 1 110 110 5 ∷ answer 7 0 8 1 ∷ answer 8 0 8 1 ∷ answer 9 0 9 2 ∷ generated 4 0 0 90 90 5 ∷ []))
+    -- a series in auction: orders trade and leg in, no legging order is made; a sweep passes over a closed one alone
+    ∷ session 200 (inAuction 0 ++ opens 1 ++ enters 1 0 sell 130 15 ++ enters 2 1 sell 90 12 ++ buysBoth 3 (pos 205) 8 ++ enters 4 0 buy 130 1) 0 6
+    (accepted 1 6 ++ (trade 0 0 130 1 4 1 ∷ []))
+    ∷ session 200 (restingBefore ++ inAuction 0 ++ sweeps) 0 7 (accepted 1 7 ++ (trade 0 0 130 2 1 2 ∷ trade 1 0 90 2 1 3 ∷ pair 1 (pos 220) 2 ∷ []))
+    ∷ session 200 (restingBefore ++ encodeMessage (Status 0 0) ++ sweeps) 0 7 (accepted 1 7)
+    -- a status leaves the away prices: N 105 as above, 15 in series 0 alone
+    ∷ session 200 (opening ++ awayAdded ++ opens 0 ++ opens 1 ++ buysBoth 3 (pos 105) 8) 0 9
+    (accepted 1 8 ++ (answer 9 0 1 1 ∷ generated 3 0 0 15 15 8 ∷ []))
+    -- "held at a worse price": its own, after a better offer in series 1; the other leg's p is as it was, and stays
+    ∷ session 200 (legged ++ enters 4 1 sell 85 12 ++ sweeps) 0 7
+    (leggedSheet ++ (answer 6 0 5 2 ∷ answer 7 0 5 2 ∷ removed 3 0 0 Replaced ∷ generated 3 0 0 120 120 8 ∷ []))
+    -- in a sweep the order whose turn it is takes, at the other's limit
+    ∷ session 150 (opens 0 ++ opens 1 ++ buysBoth 1 (pos 200) 5 ++ pairUp 2 0 1 sell (negsuc 194) 3 ++ encodeMessage (Away 0 95 105) ++ encodeMessage (Away 1 95 105) ++ sweeps) 0 7
+    (accepted 1 7 ++ (crossed 1 2 (pos 195) 3 ∷ []))
+    -- sells, by tens: 145 is shown at 150, and a hit's other leg takes the bid
+    ∷ session 250 (opens 6 ++ opens 7 ++ enters 1 6 buy 130 15 ++ enters 2 7 buy 90 12 ++ pairUp 3 6 7 sell (negsuc 234) 8 ++ enters 4 6 buy 150 3) 0 6
+    (accepted 1 4 ++ (answer 5 0 40960 2 ∷ generated 3 6 1 145 150 8 ∷ generated 3 7 1 105 110 8
+    ∷ answer 6 0 0 0 ∷ trade 6 0 145 3 4 3 ∷ trade 7 1 90 3 3 2 ∷ pair 3 (negsuc 234) 3 ∷ removed 3 6 1 Executed ∷ removed 3 7 1 Executed ∷ []))
+    -- "Sweep: all this for each resting order, earliest first, but settle once and then generate"; "the taker's first"
+    ∷ session 400 (keptApart ++ sweeps ++ sweeps) 0 14
+    (accepted 1 8 ++ (answer 9 0 8 1 ∷ generated 5 1 1 121 125 4 ∷ answer 10 0 8 1 ∷ answer 11 0 8 1 ∷ answer 12 0 8 1
+    ∷ answer 13 0 28 3 ∷ trade 0 0 100 5 7 1 ∷ trade 2 0 50 5 7 8 ∷ pair 7 (pos 150) 5 ∷ generated 6 1 0 85 85 3 ∷ generated 7 2 0 20 20 2
+    ∷ answer 14 0 24 2 ∷ crossed 5 6 (negsuc 214) 3 ∷ removed 5 1 1 Executed ∷ removed 6 1 0 Executed ∷ generated 5 1 1 121 125 1 ∷ []))
+    ∷ []
+
+-- Bytes ---------------------------------------------------------------------------------------
+
+-- a legging order of complex order 67,305,985 gone from side 1 of series 6, by the cause's number
+gone : Cause → (number : ℕ) → Trial
+gone c n = told (removed 67305985 6 1 c) (11 ∷ 0 ∷ 68 ∷ 0 ∷ 1 ∷ 2 ∷ 3 ∷ 4 ∷ 6 ∷ 1 ∷ n ∷ [])
+
+-- the table's rows, byte for byte: the id 67,305,985 is 01 02 03 04, 134,678,021 is 05 06 07 08, 100,000 is A0 86 01 00, 10,000 is 10 27 00 00
+pub layouts : List Trial
+layouts =
+    taken (18 ∷ 0 ∷ 1 ∷ 0 ∷ 1 ∷ 2 ∷ 3 ∷ 4 ∷ 5 ∷ 1 ∷ 160 ∷ 134 ∷ 1 ∷ 0 ∷ 16 ∷ 39 ∷ 0 ∷ 0 ∷ [])
+    (Order (record { id = 67305985; series = 5; side = 1; price = 100000; quantity = 10000 }))
+    ∷ taken (21 ∷ 0 ∷ 2 ∷ 0 ∷ 1 ∷ 2 ∷ 3 ∷ 4 ∷ 7 ∷ 1 ∷ 6 ∷ 0 ∷ 1 ∷ 254 ∷ 255 ∷ 255 ∷ 255 ∷ 16 ∷ 39 ∷ 0 ∷ 0 ∷ [])
+    (TwoLeg (record { id = 67305985; series1 = 7; side1 = 1; series2 = 6; side2 = 0; class = 1; limit = negsuc 1; quantity = 10000 }))
+    ∷ taken (8 ∷ 0 ∷ 3 ∷ 0 ∷ 1 ∷ 2 ∷ 3 ∷ 4 ∷ []) (Cancel 67305985)
+    ∷ taken (13 ∷ 0 ∷ 4 ∷ 0 ∷ 3 ∷ 44 ∷ 1 ∷ 0 ∷ 0 ∷ 160 ∷ 134 ∷ 1 ∷ 0 ∷ []) (Away 3 300 100000)
+    ∷ taken (6 ∷ 0 ∷ 5 ∷ 0 ∷ 7 ∷ 2 ∷ []) (Status 7 2)
+    ∷ taken (4 ∷ 0 ∷ 6 ∷ 0 ∷ []) Sweep
+    ∷ told (answer 67305985 7 513 2) (12 ∷ 0 ∷ 64 ∷ 0 ∷ 1 ∷ 2 ∷ 3 ∷ 4 ∷ 7 ∷ 1 ∷ 2 ∷ 2 ∷ [])
+    ∷ told (trade 5 1 100000 10000 67305985 134678021)
+    (22 ∷ 0 ∷ 65 ∷ 0 ∷ 5 ∷ 1 ∷ 160 ∷ 134 ∷ 1 ∷ 0 ∷ 16 ∷ 39 ∷ 0 ∷ 0 ∷ 1 ∷ 2 ∷ 3 ∷ 4 ∷ 5 ∷ 6 ∷ 7 ∷ 8 ∷ [])
+    ∷ told (pair 67305985 (negsuc 1) 10000) (16 ∷ 0 ∷ 66 ∷ 0 ∷ 1 ∷ 2 ∷ 3 ∷ 4 ∷ 254 ∷ 255 ∷ 255 ∷ 255 ∷ 16 ∷ 39 ∷ 0 ∷ 0 ∷ [])
+    ∷ told (generated 67305985 6 1 99999 100000 10000)
+    (22 ∷ 0 ∷ 67 ∷ 0 ∷ 1 ∷ 2 ∷ 3 ∷ 4 ∷ 6 ∷ 1 ∷ 159 ∷ 134 ∷ 1 ∷ 0 ∷ 160 ∷ 134 ∷ 1 ∷ 0 ∷ 16 ∷ 39 ∷ 0 ∷ 0 ∷ [])
+    ∷ gone Worse 1 ∷ gone Unpaired 2 ∷ gone Executed 3 ∷ gone Withdrawn 4 ∷ gone OutOfBand 5 ∷ gone NotOpen 6 ∷ gone Replaced 7 ∷ gone Touched 8
+    ∷ told (crossed 67305985 134678021 (negsuc 1) 10000)
+    (20 ∷ 0 ∷ 70 ∷ 0 ∷ 1 ∷ 2 ∷ 3 ∷ 4 ∷ 5 ∷ 6 ∷ 7 ∷ 8 ∷ 254 ∷ 255 ∷ 255 ∷ 255 ∷ 16 ∷ 39 ∷ 0 ∷ 0 ∷ [])
+    ∷ told (cancelled 67305985 10000) (12 ∷ 0 ∷ 71 ∷ 0 ∷ 1 ∷ 2 ∷ 3 ∷ 4 ∷ 16 ∷ 39 ∷ 0 ∷ 0 ∷ [])
+    ∷ []
+
+-- Ranges --------------------------------------------------------------------------------------
+
+single : (id series side price quantity : ℕ) → Message
+single i s d p q = Order (record { id = i; series = s; side = d; price = p; quantity = q })
+
+double : (s d t e class : ℕ) (n : ℤ) (quantity : ℕ) → Message
+double s d t e k n q = TwoLeg (record { id = 1; series1 = s; side1 = d; series2 = t; side2 = e; class = k; limit = n; quantity = q })
+
+-- each range at its ends and one beyond
+pub edges : List Trial
+edges =
+    ranged (single 1 0 0 5 1) true ∷ ranged (single 4294967295 7 1 100000 10000) true
+    ∷ ranged (single 0 0 0 5 1) false ∷ ranged (single 1 8 0 10 1) false ∷ ranged (single 1 0 2 5 1) false ∷ ranged (single 1 0 0 0 1) false
+    ∷ ranged (single 1 0 0 100005 1) false ∷ ranged (single 1 0 0 5 0) false ∷ ranged (single 1 0 0 5 10001) false
+    ∷ ranged (single 1 5 0 15 1) true ∷ ranged (single 1 6 0 15 1) false ∷ ranged (single 1 0 0 6 1) false
+    ∷ ranged (double 0 0 7 1 1 (pos 200000) 10000) true ∷ ranged (double 7 1 0 0 0 (negsuc 199999) 1) true
+    ∷ ranged (double 0 0 1 0 0 (pos 200001) 1) false ∷ ranged (double 0 0 1 0 0 (negsuc 200000) 1) false ∷ ranged (double 0 0 1 0 2 (pos 0) 1) false
+    ∷ ranged (double 8 0 1 0 0 (pos 0) 1) false ∷ ranged (double 0 0 8 0 0 (pos 0) 1) false ∷ ranged (double 0 2 1 0 0 (pos 0) 1) false ∷ ranged (double 0 0 1 2 0 (pos 0) 1) false
+    ∷ ranged (double 3 0 3 1 0 (pos 0) 1) false ∷ ranged (double 0 0 1 0 0 (pos 0) 0) false ∷ ranged (double 0 0 1 0 0 (pos 0) 10001) false
+    ∷ ranged (Cancel 0) false ∷ ranged (Cancel 1) true
+    ∷ ranged (Away 7 100000 0) true ∷ ranged (Away 8 0 0) false ∷ ranged (Away 0 100001 0) false ∷ ranged (Away 0 0 100001) false
+    ∷ ranged (Status 7 2) true ∷ ranged (Status 8 0) false ∷ ranged (Status 0 3) false
+    ∷ []
+
 -- The refusals' table -------------------------------------------------------------------------
 
 -- offers of one contract, with ids from n on
 offers : (count n : ℕ) → List ℕ
 offers zero n = []
 offers (suc count) n = enters n 0 sell 100 1 ++ offers count (suc n)
+
+-- complex orders that rest, with ids from n on
+pairs : (count n : ℕ) → List ℕ
+pairs zero n = []
+pairs (suc count) n = buysBoth n (pos 100) 1 ++ pairs count (suc n)
 
 -- a venue with "two orders with id 1"
 twice : Venue
@@ -184,22 +364,37 @@ refused =
     -- 1: "bytes 09 00 06"; in a one-message call also no bytes
     session 100 (9 ∷ 0 ∷ 6 ∷ []) 1 1 (answer 1 1 0 0 ∷ [])
     ∷ upon freshVenue 0 100 [] 1 1 (answer 1 1 0 0 ∷ []) freshVenue
+    -- a length below 4, whatever the kind; a length above what is left; messages before it are done
+    ∷ session 100 (3 ∷ 0 ∷ 99 ∷ 0 ∷ []) 1 1 (answer 1 1 0 0 ∷ [])
+    ∷ session 100 (5 ∷ 0 ∷ 6 ∷ 0 ∷ []) 1 1 (answer 1 1 0 0 ∷ [])
+    ∷ session 100 (sweeps ++ (4 ∷ 0 ∷ 6 ∷ [])) 1 2 (answer 1 0 0 0 ∷ answer 2 1 0 0 ∷ [])
     -- 2: "04 00 63 00"
     ∷ session 100 (4 ∷ 0 ∷ 99 ∷ 0 ∷ []) 0 1 (answer 1 2 0 0 ∷ [])
+    ∷ session 100 ((5 ∷ 0 ∷ 0 ∷ 0 ∷ 7 ∷ []) ++ (4 ∷ 0 ∷ 7 ∷ 0 ∷ []) ++ (4 ∷ 0 ∷ 64 ∷ 0 ∷ [])) 0 3 (answer 1 2 0 0 ∷ answer 2 2 0 0 ∷ answer 3 2 0 0 ∷ [])
     -- 3: "05 00 06 00 00"
     ∷ session 100 (5 ∷ 0 ∷ 6 ∷ 0 ∷ 0 ∷ []) 0 1 (answer 1 3 0 0 ∷ [])
     -- 4: "order at 113, series 0"
     ∷ session 100 (opens 0 ++ enters 1 0 sell 113 1) 0 2 (answer 1 0 0 0 ∷ answer 2 4 0 0 ∷ [])
     -- 5: "id 1 twice"
     ∷ session 100 (opens 0 ++ enters 1 0 sell 115 1 ++ enters 1 0 sell 115 1) 0 3 (accepted 1 2 ++ (answer 3 5 0 0 ∷ []))
+    -- in number order: 4, then 5, then 6; a refused order does not move the last id
+    ∷ session 100 (enters 9 0 sell 113 1 ++ opens 0 ++ enters 1 0 sell 115 1 ++ encodeMessage (Status 0 0) ++ enters 1 0 sell 115 1 ++ enters 2 0 sell 115 1) 0 6
+    (answer 1 4 0 0 ∷ answer 2 0 0 0 ∷ answer 3 0 0 0 ∷ answer 4 0 0 0 ∷ answer 5 5 0 0 ∷ answer 6 6 0 0 ∷ [])
     -- 6: "order, fresh venue"
     ∷ session 100 (enters 1 0 sell 115 1) 0 1 (answer 1 6 0 0 ∷ [])
-    -- 7: "the 129th resting"
-    ∷ session 1600 (opens 0 ++ offers 129 1) 0 130 (accepted 1 129 ++ (answer 130 7 0 0 ∷ []))
+    -- 7: "the 129th resting", after 6 and "even if the order would trade"; the 33rd complex order
+    ∷ session 1600 (opens 0 ++ offers 129 1 ++ enters 130 1 buy 100 1 ++ enters 131 0 buy 100 1) 0 132
+    (accepted 1 129 ++ (answer 130 7 0 0 ∷ answer 131 6 0 0 ∷ answer 132 7 0 0 ∷ []))
+    ∷ session 500 (opens 0 ++ opens 1 ++ pairs 33 1) 0 35 (accepted 1 34 ++ (answer 35 7 0 0 ∷ []))
     -- 8: "cancel 9, fresh"
     ∷ session 100 (cancels 9) 0 1 (answer 1 8 0 0 ∷ [])
+    -- a refused message tells the mask and the count of the venue as it stands
+    ∷ session 200 (legged ++ cancels 9) 0 6 (leggedSheet ++ (answer 6 8 5 2 ∷ []))
     -- 9: "two orders with id 1": "the venue as given, all report bytes 0"
     ∷ upon twice 7 100 sweeps 9 0 [] twice
+    -- "9 before all"; and 10 before 1, where the number would pass
+    ∷ upon twice 4294967295 3 [] 9 0 [] twice
+    ∷ upon freshVenue 4294967295 100 [] 10 0 [] freshVenue
     -- 10: "11 report bytes, one sweep"; a number that would pass 4,294,967,295; "call ends before that message"
     ∷ session 11 sweeps 10 0 []
     ∷ upon freshVenue 4294967295 100 sweeps 10 0 [] freshVenue
@@ -208,8 +403,8 @@ refused =
     ∷ []
 
 pub trials : List Trial
-trials = starred ++ wrongs ++ refused
+trials = starred ++ wrongs ++ choices ++ layouts ++ edges ++ refused
 
 pub trials-hold : map outcome trials ≡ map expected trials
-unfolding opened-rules outcome expected spread opens enters pairUp buysBoth cancels sweeps opening accepted awayAdded starred together wrongs offers twice refused trials
+unfolding opened-rules outcome expected spread opens enters pairUp buysBoth cancels sweeps opening accepted awayAdded starred together wrongs twoLeg legged leggedSheet quoted relying inAuction restingBefore keptApart choices gone layouts single double edges offers pairs twice refused trials
 trials-hold = refl

@@ -1,7 +1,7 @@
 // The venue of document 01 and what rests in it, a message, and why a legging order goes; then the leaf functions on numbers.
 // The definitions (specs/) use these types as their records: an array is a list, an unsigned number a natural one, an i32 an integer.
 ghost use mathlib.Core.Path.{_≡_};
-ghost use Prim.Native.Nat.{ℕ, _+_, _≤_};
+ghost use Prim.Native.Nat.{ℕ, min, _+_, _≤_};
 ghost use lib.IntN.{ℤ, pos, natAbs, _+ℤ_};
 ghost use Rattle.rules.specs.Words.{opposite, signed, increment, placeOf, freshVenue};
 ghost use Rattle.rules.specs.Messages.{lengthOf};
@@ -178,6 +178,24 @@ pub fn place_of(series: u8, side: u8) -> usize
     ensures { λ r. ⌜ r ≡ placeOf series side ⌝ }
 {
     2 * (series as usize) + (side as usize)
+}
+
+// The lesser of two quantities.
+pub fn lesser(a: u32, b: u32) -> u32
+    ensures { λ r. ⌜ r ≡ min a b ⌝ }
+{
+    if a < b {
+        return a;
+    }
+    b
+}
+
+// A complex order's limit, in 64 bits.
+pub fn limit_of(c: Complex) -> i64
+    ensures { λ r. ⌜ (r ≡ c .limit) × (natAbs r ≤ 2147483648) ⌝ }
+{
+    let n = c.limit;
+    n as i64
 }
 
 // Sign × price of a leg.

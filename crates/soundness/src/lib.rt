@@ -234,11 +234,13 @@ fn is_apart(b: &[u32], g: [[Level; 2]; 8], s: u8) -> bool
     requires { ⌜ (length (now b) ≡ size) × (GridOf g (venueOf (now b) .regular)) × (s < 8) ⌝ }
     ensures { λ r. ⌜ r ≡ apart (venueOf (now (b .entry))) s ⌝ }
 {
-    let bid = levels::best_own(b, g, s, 0);
+    let bids = levels::level_at(g, s, 0);
+    let bid = levels::best_own(b, bids.price, s, 0);
     if bid == 0 {
         return true;
     }
-    let offer = levels::best_own(b, g, s, 1);
+    let offers = levels::level_at(g, s, 1);
+    let offer = levels::best_own(b, offers.price, s, 1);
     if offer == 0 {
         return true;
     }

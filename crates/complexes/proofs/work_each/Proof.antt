@@ -1,81 +1,78 @@
 -- `complexes::work_each` meets its contract.
 use mathlib.Core.Path.{refl, sym, _∙_}
+use mathlib.Core.Bool.{true≢false}
+use Prim.Native.Nat.{_+_, _-_}
 use native.Mathlib.Omega.{arith}
+use Rattle.rules.specs.Complex.{work, each}
+use Rattle.rules.proofs.Tests.{not-out}
+use Rattle.rules.proofs.Sweeping.{work-fewer}
 use Rattle.places.specs.Layout.{venueOf}
+use Rattle.places.proofs.Parts.{complex-at}
 use Rattle.levels.specs.Grid.{GridOf}
 use Rattle.crossing.proofs.Loops.{Doing, doing-start, doing-turn, doing-end, doing-room}
-use Rattle.complexes.proofs.Sweeping.{next-is, next-none, next-used, each-zero, each-none, each-turn}
-use Rattle.complexes.proofs.Working.{kept-grid}
-use Rattle.rules.proofs.Tests.{not-out}
-use Rattle.rules.specs.Complex.{work, each}
+use Rattle.complexes.specs.Grids.{SameBook}
+use Rattle.complexes.proofs.Working.{kept-grid, book-kept}
+use Rattle.complexes.proofs.Walking.{walked, walked-none, walked-past, walked-turn, each-walked, doing-past}
 use borrow.Author.Needs.{needs}
 use Rattle.complexes.proofs.work_each.Statement.{statement}
 use Rattle.complexes.proofs.work_each.Tie as tie
 use Rattle.complexes.proofs.work_each.Reads as reads
 use Rattle.complexes.proofs.work_each.Lts as lts
-use Rattle.book.proofs.next_above.Reads as next-above-reads
 use Rattle.complexes.proofs.work.Reads as work-reads
 use Rattle.levels.proofs.levels.Reads as levels-reads
+use Rattle.places.proofs.complex_at.Reads as complex-at-reads
+use Rattle.places.proofs.complexes_used.Reads as complexes-used-reads
 
 abbrev Inv-loop : tie.InvT-loop
-Inv-loop b₀ out₀ at grid₀ pos₀ id₀ turns₀ b out grid pos id turns = (Doing (each 32 work 0 (venueOf b₀)) (each turns work id) b₀ out₀ at b out pos) × (GridOf grid (venueOf b .regular))
+Inv-loop b₀ out₀ at used grid₀ pos₀ traded₀ k₀ b out grid pos traded k = (Doing (each 32 work 0 (venueOf b₀)) (walked (used - k) work k) b₀ out₀ at b out pos) × (GridOf grid (venueOf b .regular)) × (SameBook traded b₀ b)
 
 abbrev μ-loop : tie.MeasureT-loop
-μ-loop b₀ out₀ at grid₀ pos₀ id₀ turns₀ b out grid pos id turns = turns
+μ-loop b₀ out₀ at used grid₀ pos₀ traded₀ k₀ b out grid pos traded k = used - k
 
-levels-requires : tie.Need-levels-requires Inv-loop μ-loop
-levels-requires c κs = search needs
+complexes-used-requires : tie.Need-complexes-used-requires Inv-loop μ-loop
+complexes-used-requires c κs = c .before .before .before .pre .0
 
 loop-holds : tie.Need-loop-holds Inv-loop μ-loop
-loop-holds c = (doing-start _ _ _ _ _ (c .before .before .before .before .pre) refl, c .levels .ensures)
+loop-holds c = (doing-start _ _ _ _ _ (c .before .before .before .before .pre .0) (each-walked work work-fewer (c .before .before .before .before .args .b .now) (c .complexes-used .result - 0) (omega (arith, c .complexes-used .ensures .0)) (c .before .before .before .before .pre .2)), c .before .before .before .before .pre .1, record { same = λ _. refl })
 
-sub-turns : tie.Need-sub-turns Inv-loop μ-loop
-sub-turns c = search needs
+add-k : tie.Need-add-k Inv-loop μ-loop
+add-k c = search needs
 
-next-above-requires : tie.Need-next-above-requires Inv-loop μ-loop
-next-above-requires c κs = c .before .before .loop .inv .0 .whole
-
-enum-known-found : tie.Need-enum-known-found Inv-loop μ-loop
-enum-known-found c = search needs
-
-enum-told : tie.Need-enum-told Inv-loop μ-loop
-enum-told c = search needs
-
-same-length : tie.Need-same-length Inv-loop μ-loop
-same-length c = c .before .before .before .before .before .loop .inv .0 .whole ∙ sym (c .before .before .before .before .before .before .before .before .before .before .pre)
-
-same-length-2 : tie.Need-same-length-2 Inv-loop μ-loop
-same-length-2 c = doing-room (c .before .before .before .before .before .loop .inv .0)
-
-returns : tie.Need-returns Inv-loop μ-loop
-returns c = (doing-end (c .before .before .before .before .before .loop .inv .0) (each-none _ _ _ _ (next-none _ (sym (c .enum-told .given .1) ∙ c .before .before .next-above .ensures))), c .before .before .before .before .before .loop .inv .0 .counts)
-
-work-requires : tie.Need-work-requires Inv-loop μ-loop
-work-requires c κs = (c .before .before .before .before .before .before .before .before .loop .inv .0 .whole, c .before .before .before .before .before .before .before .before .loop .inv .1, next-used (c .before .before .before .before .before .before .before .before .loop .b) _ _ _ (next-is _ _ _ (sym (c .before .before .before .found .given .1) ∙ c .before .before .before .before .before .next-above .ensures)))
+complex-at-requires : tie.Need-complex-at-requires Inv-loop μ-loop
+complex-at-requires c κs = (c .before .before .loop .inv .0 .whole, omega (arith, c .before .loop-test .taken, c .before .before .before .complexes-used .ensures .1))
 
 loop-less : tie.Need-loop-less Inv-loop μ-loop
-loop-less c = search needs
+loop-less c = omega (arith, c .before .before .before .before .loop-test .taken)
 
 loop-again : tie.Need-loop-again Inv-loop μ-loop
-loop-again c = (doing-turn (c .before .before .before .before .before .before .before .before .before .before .before .before .before .before .before .loop .inv .0) _ _ _ _ _ (each-turn _ _ _ _ _ _ _ (omega (arith, c .before .before .before .before .before .before .before .before .before .before .before .before .before .before .loop-test .taken)) (next-is _ _ _ (sym (c .before .before .before .before .before .before .before .before .before .before .found .given .1) ∙ c .before .before .before .before .before .before .before .before .before .before .before .before .next-above .ensures))) (c .before .before .before .before .before .before .work .kept .0) (c .before .before .before .before .before .before .work .ensures .0) (c .before .before .before .before .before .before .work .ensures .1 .0), kept-grid (c .before .before .before .before .before .before .before .before .before .before .before .before .before .before .before .loop .grid) _ _ _ (not-out _ (c .if1 .taken)) (c .before .before .before .before .before .before .work .ensures .1 .1) (c .before .before .before .before .before .before .before .before .before .before .before .before .before .before .before .loop .inv .1))
+loop-again c = let l = c .before .before .before .before .before .loop in let n = c .before .before .before .before .before .before .complexes-used .result in (doing-past (l .inv .0) _ (walked-past work (venueOf (l .b)) (n - l .k) (n - (l .k + 1)) (l .k) (omega (arith, c .before .before .before .before .loop-test .taken)) (c .before .before .complex-at .result) (c .before .before .complex-at .ensures ∙ sym (complex-at (l .b) (l .k) (omega (arith, c .before .before .before .before .loop-test .taken, c .before .before .before .before .before .before .complexes-used .ensures .0, l .inv .0 .counts .complexes)))) (c .if1 .taken)), l .inv .1, l .inv .2)
 
-levels-requires-2 : tie.Need-levels-requires-2 Inv-loop μ-loop
-levels-requires-2 c κs = c .before .before .before .before .before .before .before .work .kept .0 ∙ c .before .before .before .before .before .before .before .before .before .before .before .before .before .before .before .before .loop .inv .0 .whole
+work-requires : tie.Need-work-requires Inv-loop μ-loop
+work-requires c κs = (c .before .before .before .before .before .before .before .loop .inv .0 .whole, c .before .before .before .before .before .before .before .loop .inv .1, omega (arith, c .before .before .before .before .before .before .loop-test .taken, c .before .before .before .before .before .before .before .before .complexes-used .ensures .0, c .before .before .before .before .before .before .before .loop .inv .0 .counts .complexes))
 
 loop-less-2 : tie.Need-loop-less-2 Inv-loop μ-loop
-loop-less-2 c = search needs
+loop-less-2 c = omega (arith, c .before .before .before .before .before .before .before .before .before .before .before .before .before .loop-test .taken)
 
 loop-again-2 : tie.Need-loop-again-2 Inv-loop μ-loop
-loop-again-2 c = (doing-turn (c .before .before .before .before .before .before .before .before .before .before .before .before .before .before .before .before .before .loop .inv .0) _ _ _ _ _ (each-turn _ _ _ _ _ _ _ (omega (arith, c .before .before .before .before .before .before .before .before .before .before .before .before .before .before .before .before .loop-test .taken)) (next-is _ _ _ (sym (c .before .before .before .before .before .before .before .before .before .before .before .before .found .given .1) ∙ c .before .before .before .before .before .before .before .before .before .before .before .before .before .before .next-above .ensures))) (c .before .before .before .before .before .before .before .before .work .kept .0) (c .before .before .before .before .before .before .before .before .work .ensures .0) (c .before .before .before .before .before .before .before .before .work .ensures .1 .0), c .levels2 .ensures)
+loop-again-2 c = let l = c .before .before .before .before .before .before .before .before .before .before .before .before .before .before .loop in let n = c .before .before .before .before .before .before .before .before .before .before .before .before .before .before .before .complexes-used .result in (doing-turn (l .inv .0) _ _ _ _ _ (walked-turn work (venueOf (l .b)) (n - l .k) (n - (l .k + 1)) (l .k) (omega (arith, c .before .before .before .before .before .before .before .before .before .before .before .before .before .loop-test .taken)) (c .before .before .before .before .before .before .before .before .before .before .before .complex-at .result) (c .before .before .before .before .before .before .before .before .before .before .before .complex-at .ensures ∙ sym (complex-at (l .b) (l .k) (omega (arith, c .before .before .before .before .before .before .before .before .before .before .before .before .before .loop-test .taken, c .before .before .before .before .before .before .before .before .before .before .before .before .before .before .before .complexes-used .ensures .0, l .inv .0 .counts .complexes)))) (c .before .before .before .before .before .before .before .before .before .if1 .left)) (c .before .before .before .before .before .before .work .kept .0) (c .before .before .before .before .before .before .work .ensures .0) (c .before .before .before .before .before .before .work .ensures .1 .0), kept-grid (l .grid) _ _ _ (not-out _ (c .if2 .taken)) (c .before .before .before .before .before .before .work .ensures .1 .1) (l .inv .1), book-kept _ _ _ _ _ (not-out _ (c .if2 .taken)) (l .inv .2) (c .before .before .before .before .before .before .work .ensures .1 .1))
 
-same-length-3 : tie.Need-same-length-3 Inv-loop μ-loop
-same-length-3 c = c .before .loop .inv .0 .whole ∙ sym (c .before .before .before .before .before .before .pre)
+levels-requires : tie.Need-levels-requires Inv-loop μ-loop
+levels-requires c κs = c .before .before .before .before .before .before .before .work .kept .0 ∙ c .before .before .before .before .before .before .before .before .before .before .before .before .before .before .before .loop .inv .0 .whole
 
-same-length-4 : tie.Need-same-length-4 Inv-loop μ-loop
-same-length-4 c = doing-room (c .before .loop .inv .0)
+loop-less-3 : tie.Need-loop-less-3 Inv-loop μ-loop
+loop-less-3 c = omega (arith, c .before .before .before .before .before .before .before .before .before .before .before .before .before .before .before .loop-test .taken)
 
-returns-2 : tie.Need-returns-2 Inv-loop μ-loop
-returns-2 c = (doing-end (c .before .loop .inv .0) (each-zero _ _ _ _ (omega (arith, c .loop-test .left))), c .before .loop .inv .0 .counts)
+loop-again-3 : tie.Need-loop-again-3 Inv-loop μ-loop
+loop-again-3 c = let l = c .before .before .before .before .before .before .before .before .before .before .before .before .before .before .before .before .loop in let n = c .before .before .before .before .before .before .before .before .before .before .before .before .before .before .before .before .before .complexes-used .result in (doing-turn (l .inv .0) _ _ _ _ _ (walked-turn work (venueOf (l .b)) (n - l .k) (n - (l .k + 1)) (l .k) (omega (arith, c .before .before .before .before .before .before .before .before .before .before .before .before .before .before .before .loop-test .taken)) (c .before .before .before .before .before .before .before .before .before .before .before .before .before .complex-at .result) (c .before .before .before .before .before .before .before .before .before .before .before .before .before .complex-at .ensures ∙ sym (complex-at (l .b) (l .k) (omega (arith, c .before .before .before .before .before .before .before .before .before .before .before .before .before .before .before .loop-test .taken, c .before .before .before .before .before .before .before .before .before .before .before .before .before .before .before .before .before .complexes-used .ensures .0, l .inv .0 .counts .complexes)))) (c .before .before .before .before .before .before .before .before .before .before .before .if1 .left)) (c .before .before .before .before .before .before .before .before .work .kept .0) (c .before .before .before .before .before .before .before .before .work .ensures .0) (c .before .before .before .before .before .before .before .before .work .ensures .1 .0), c .levels .ensures, record { same = λ e. absurd (true≢false e) })
+
+same-length : tie.Need-same-length Inv-loop μ-loop
+same-length c = c .before .loop .inv .0 .whole ∙ sym (c .before .before .before .before .before .before .pre .0)
+
+same-length-2 : tie.Need-same-length-2 Inv-loop μ-loop
+same-length-2 c = doing-room (c .before .loop .inv .0)
+
+returns : tie.Need-returns Inv-loop μ-loop
+returns c = let l = c .before .loop in (doing-end (l .inv .0) (walked-none work (venueOf (l .b)) (c .before .before .complexes-used .result - l .k) (l .k) (omega (arith, c .loop-test .left))), (l .inv .0 .counts, l .inv .2))
 
 pub work-each-spec : {M : Type 1} → statement M
 work-each-spec =
@@ -83,21 +80,18 @@ work-each-spec =
     (tie.spec
     Inv-loop
     μ-loop
-    levels-requires
+    complexes-used-requires
     loop-holds
-    sub-turns
-    next-above-requires
-    enum-known-found
-    enum-told
-    same-length
-    same-length-2
-    returns
-    work-requires
+    add-k
+    complex-at-requires
     loop-less
     loop-again
-    levels-requires-2
+    work-requires
     loop-less-2
     loop-again-2
-    same-length-3
-    same-length-4
-    returns-2)
+    levels-requires
+    loop-less-3
+    loop-again-3
+    same-length
+    same-length-2
+    returns)

@@ -3,18 +3,12 @@ use mathlib.Core.Path.{ap, _∙_}
 use native.Mathlib.Omega.{arith}
 use lib.IntN.{natAbs}
 use Rattle.rules.specs.Prices.{inBand}
+use Rattle.levels.proofs.Sides.{taken-right}
 use Rattle.rules.proofs.Machine.{back}
 use Rattle.crossing.proofs.Candidates.{off, on, cross-free, cross-aside, cross-apart, cross-out, cross-last}
 use borrow.Author.Needs.{needs}
 use Rattle.crossing.proofs.can_cross.Statement.{statement}
 use Rattle.crossing.proofs.can_cross.Tie as tie
-use Rattle.crossing.proofs.can_cross.Reads as reads
-use Rattle.crossing.proofs.can_cross.Lts as lts
-use Rattle.crossing.proofs.is_reversed.Reads as is-reversed-reads
-use Rattle.crossing.proofs.limit_of.Reads as limit-of-reads
-use Rattle.crossing.proofs.limits_meet.Reads as limits-meet-reads
-use Rattle.crossing.proofs.net_against.Reads as net-against-reads
-use Rattle.levels.proofs.in_band.Reads as in-band-reads
 
 returns : tie.Need-returns
 returns c = cross-free _ (c .before .before .before .args .c) (c .before .before .before .args .m) (c .if1 .taken)
@@ -31,23 +25,49 @@ limits-meet-requires c κs = search needs
 returns-3 : tie.Need-returns-3
 returns-3 c = cross-apart _ (c .before .before .before .before .before .before .before .args .c) (c .before .before .before .before .before .before .before .args .m) (c .before .before .before .before .if1 .left) (on _ _ (c .before .before .before .is-reversed .ensures) (c .before .before .if2 .left)) (off _ _ (c .before .limits-meet .ensures) (c .if3 .taken))
 
+taken-of-requires : tie.Need-taken-of-requires
+taken-of-requires c κs = search needs
+
 net-against-requires : tie.Need-net-against-requires
 net-against-requires c κs = search needs
 
 in-band-requires : tie.Need-in-band-requires
-in-band-requires c κs = let p = c .before .before .before .before .before .before .before .before .pre in let u = c .net-against in (p .0, p .1, p .2, omega (arith, ap natAbs (back {z = u .result} (record { sfits = u .ok })), u .ensures .1))
+in-band-requires c κs =
+    let p = c .before .before .before .before .before .before .before .before .before .pre in
+    let a = c .before .before .before .before .before .before .before .before .before .args in
+    let u = c .net-against in
+    let t = c .before .taken-of in
+    (p .0, taken-right (a .g) _ (p .1) (a .c) (p .2) (t .result) (t .ensures), p .2, omega (arith, ap natAbs (back {z = u .result} (record { sfits = u .ok })), u .ensures .1))
 
 returns-4 : tie.Need-returns-4
-returns-4 c = cross-out _ (c .before .before .before .before .before .before .before .before .before .before .args .c) (c .before .before .before .before .before .before .before .before .before .before .args .m) (c .before .before .before .before .before .before .before .if1 .left) (on _ _ (c .before .before .before .before .before .before .is-reversed .ensures) (c .before .before .before .before .before .if2 .left)) (on _ _ (c .before .before .before .before .limits-meet .ensures) (c .before .before .before .if3 .left)) (off _ _ (c .before .in-band .ensures ∙ ap (inBand _ (c .before .before .before .before .before .before .before .before .before .before .args .c)) (back {z = c .before .before .net-against .result} (record { sfits = c .before .before .net-against .ok }) ∙ c .before .before .net-against .ensures .0)) (c .if4 .taken))
+returns-4 c =
+    let a = c .before .before .before .before .before .before .before .before .before .before .before .args in
+    let u = c .before .before .net-against in
+    cross-out _ (a .c) (a .m) (c .before .before .before .before .before .before .before .before .if1 .left) (on _ _ (c .before .before .before .before .before .before .before .is-reversed .ensures) (c .before .before .before .before .before .before .if2 .left)) (on _ _ (c .before .before .before .before .before .limits-meet .ensures) (c .before .before .before .before .if3 .left))
+    (off _ _ (c .before .in-band .ensures ∙ ap (inBand _ (a .c)) (back {z = u .result} (record { sfits = u .ok }) ∙ u .ensures .0)) (c .if4 .taken))
+
+taken-of-requires-2 : tie.Need-taken-of-requires-2
+taken-of-requires-2 c κs = search needs
 
 limit-of-requires : tie.Need-limit-of-requires
 limit-of-requires c κs = search needs
 
 in-band-requires-2 : tie.Need-in-band-requires-2
-in-band-requires-2 c κs = let p = c .before .before .before .before .before .before .before .before .before .before .before .pre in let u = c .limit-of in (p .0, p .1, p .3, omega (arith, ap natAbs (back {z = u .result} (record { sfits = u .ok })), u .ensures .1))
+in-band-requires-2 c κs =
+    let p = c .before .before .before .before .before .before .before .before .before .before .before .before .before .pre in
+    let a = c .before .before .before .before .before .before .before .before .before .before .before .before .before .args in
+    let u = c .limit-of in
+    let t = c .before .taken-of2 in
+    (p .0, taken-right (a .g) _ (p .1) (a .m) (p .3) (t .result) (t .ensures), p .3, omega (arith, ap natAbs (back {z = u .result} (record { sfits = u .ok })), u .ensures .1))
 
 returns-5 : tie.Need-returns-5
-returns-5 c = cross-last _ (c .before .before .before .before .before .before .before .before .before .before .before .before .args .c) (c .before .before .before .before .before .before .before .before .before .before .before .before .args .m) (c .before .before .before .before .before .before .before .before .before .if1 .left) (on _ _ (c .before .before .before .before .before .before .before .before .is-reversed .ensures) (c .before .before .before .before .before .before .before .if2 .left)) (on _ _ (c .before .before .before .before .before .before .limits-meet .ensures) (c .before .before .before .before .before .if3 .left)) (on _ _ (c .before .before .before .in-band .ensures ∙ ap (inBand _ (c .before .before .before .before .before .before .before .before .before .before .before .before .args .c)) (back {z = c .before .before .before .before .net-against .result} (record { sfits = c .before .before .before .before .net-against .ok }) ∙ c .before .before .before .before .net-against .ensures .0)) (c .before .before .if4 .left)) _ (c .in-band2 .ensures ∙ ap (inBand _ (c .before .before .before .before .before .before .before .before .before .before .before .before .args .m)) (back {z = c .before .limit-of .result} (record { sfits = c .before .limit-of .ok }) ∙ c .before .limit-of .ensures .0))
+returns-5 c =
+    let a = c .before .before .before .before .before .before .before .before .before .before .before .before .before .before .args in
+    let u = c .before .before .before .before .before .net-against in
+    let w = c .before .limit-of in
+    cross-last _ (a .c) (a .m) (c .before .before .before .before .before .before .before .before .before .before .before .if1 .left) (on _ _ (c .before .before .before .before .before .before .before .before .before .before .is-reversed .ensures) (c .before .before .before .before .before .before .before .before .before .if2 .left)) (on _ _ (c .before .before .before .before .before .before .before .before .limits-meet .ensures) (c .before .before .before .before .before .before .before .if3 .left))
+    (on _ _ (c .before .before .before .before .in-band .ensures ∙ ap (inBand _ (a .c)) (back {z = u .result} (record { sfits = u .ok }) ∙ u .ensures .0)) (c .before .before .before .if4 .left)) _
+    (c .in-band2 .ensures ∙ ap (inBand _ (a .m)) (back {z = w .result} (record { sfits = w .ok }) ∙ w .ensures .0))
 
 pub can-cross-spec : {M : Type 1} → statement M
 can-cross-spec =
@@ -58,9 +78,11 @@ can-cross-spec =
     returns-2
     limits-meet-requires
     returns-3
+    taken-of-requires
     net-against-requires
     in-band-requires
     returns-4
+    taken-of-requires-2
     limit-of-requires
     in-band-requires-2
     returns-5)

@@ -1,18 +1,12 @@
 -- `crossing::can_touch` meets its contract.
 use mathlib.Core.Path.{_∙_}
-use native.Mathlib.Omega.{arith}
-use Rattle.rules.specs.Words.{opposite}
+use Rattle.places.specs.Layout.{venueOf}
+use Rattle.levels.proofs.Sides.{opposite-in, first-best, second-best}
 use Rattle.rules.proofs.Machine.{back}
 use Rattle.crossing.proofs.Touches.{touch-free, touch-none1, touch-none2, touch-net}
 use borrow.Author.Needs.{needs}
 use Rattle.crossing.proofs.can_touch.Statement.{statement}
 use Rattle.crossing.proofs.can_touch.Tie as tie
-use Rattle.crossing.proofs.can_touch.Reads as reads
-use Rattle.crossing.proofs.can_touch.Lts as lts
-use Rattle.crossing.proofs.limit_of.Reads as limit-of-reads
-use Rattle.levels.proofs.best_own.Reads as best-own-reads
-use Rattle.rules.proofs.net_of.Reads as net-of-reads
-use Rattle.rules.proofs.opposite_of.Reads as opposite-of-reads
 
 returns : tie.Need-returns
 returns c = touch-free _ (c .before .before .before .args .c) (c .if1 .taken)
@@ -21,21 +15,27 @@ opposite-of-requires : tie.Need-opposite-of-requires
 opposite-of-requires c κs = search needs
 
 best-own-requires : tie.Need-best-own-requires
-unfolding opposite
-best-own-requires c κs = let p = c .before .before .before .before .pre in (p .0, p .1, p .2 .first, omega (arith, c .opposite-of .ensures))
+best-own-requires c κs =
+    let p = c .before .before .before .before .before .pre in
+    let a = c .before .before .before .before .before .args in
+    (p .0, first-best (venueOf (a .b .now)) (a .taken) (a .c) (p .1) _ (c .opposite-of .ensures), p .2 .first, rw (c .opposite-of .ensures) (opposite-in _))
 
 returns-2 : tie.Need-returns-2
-returns-2 c = touch-none1 _ (c .before .before .before .before .before .before .args .c) (c .before .before .before .if1 .left) _ _ (c .before .before .opposite-of .ensures) (c .before .best-own .ensures) (c .if2 .taken)
+returns-2 c = touch-none1 _ (c .before .before .before .before .before .before .before .args .c) (c .before .before .before .before .if1 .left) _ _ (c .before .before .opposite-of .ensures) (c .before .best-own .ensures) (c .if2 .taken)
 
 opposite-of-requires-2 : tie.Need-opposite-of-requires-2
 opposite-of-requires-2 c κs = search needs
 
 best-own-requires-2 : tie.Need-best-own-requires-2
-unfolding opposite
-best-own-requires-2 c κs = let p = c .before .before .before .before .before .before .before .pre in (p .0, p .1, p .2 .second, omega (arith, c .opposite-of2 .ensures))
+best-own-requires-2 c κs =
+    let p = c .before .before .before .before .before .before .before .before .before .pre in
+    let a = c .before .before .before .before .before .before .before .before .before .args in
+    (p .0, second-best (venueOf (a .b .now)) (a .taken) (a .c) (p .1) _ (c .opposite-of2 .ensures), p .2 .second, rw (c .opposite-of2 .ensures) (opposite-in _))
 
 returns-3 : tie.Need-returns-3
-returns-3 c = touch-none2 _ (c .before .before .before .before .before .before .before .before .before .args .c) (c .before .before .before .before .before .before .if1 .left) _ _ (c .before .before .before .before .before .opposite-of .ensures) (c .before .before .before .before .best-own .ensures) (c .before .before .before .if2 .left) _ _ (c .before .before .opposite-of2 .ensures) (c .before .best-own2 .ensures) (c .if3 .taken)
+returns-3 c =
+    touch-none2 _ (c .before .before .before .before .before .before .before .before .before .before .before .args .c) (c .before .before .before .before .before .before .before .before .if1 .left) _ _ (c .before .before .before .before .before .before .opposite-of .ensures) (c .before .before .before .before .before .best-own .ensures) (c .before .before .before .before .if2 .left) _ _
+    (c .before .before .opposite-of2 .ensures) (c .before .best-own2 .ensures) (c .if3 .taken)
 
 net-of-requires : tie.Need-net-of-requires
 net-of-requires c κs = search needs
@@ -44,7 +44,12 @@ limit-of-requires : tie.Need-limit-of-requires
 limit-of-requires c κs = search needs
 
 returns-4 : tie.Need-returns-4
-returns-4 c = touch-net _ (c .before .before .before .before .before .before .before .before .before .before .before .args .c) (c .before .before .before .before .before .before .before .before .if1 .left) _ _ (c .before .before .before .before .before .before .before .opposite-of .ensures) (c .before .before .before .before .before .before .best-own .ensures) (c .before .before .before .before .before .if2 .left) _ _ (c .before .before .before .before .opposite-of2 .ensures) (c .before .before .before .best-own2 .ensures) (c .before .before .if3 .left) _ _ (back {z = c .before .net-of .result} (record { sfits = c .before .net-of .ok }) ∙ c .before .net-of .ensures .0) (back {z = c .limit-of .result} (record { sfits = c .limit-of .ok }) ∙ c .limit-of .ensures .0)
+returns-4 c =
+    let u = c .before .net-of in
+    let w = c .limit-of in
+    touch-net _ (c .before .before .before .before .before .before .before .before .before .before .before .before .before .args .c) (c .before .before .before .before .before .before .before .before .before .before .if1 .left) _ _ (c .before .before .before .before .before .before .before .before .opposite-of .ensures) (c .before .before .before .before .before .before .before .best-own .ensures) (c .before .before .before .before .before .before .if2 .left) _ _
+    (c .before .before .before .before .opposite-of2 .ensures) (c .before .before .before .best-own2 .ensures) (c .before .before .if3 .left) _ _
+    (back {z = u .result} (record { sfits = u .ok }) ∙ u .ensures .0) (back {z = w .result} (record { sfits = w .ok }) ∙ w .ensures .0)
 
 pub can-touch-spec : {M : Type 1} → statement M
 can-touch-spec =

@@ -19,7 +19,6 @@ use Rattle.crossing.proofs.cross_all.Reads as reads
 use Rattle.crossing.proofs.cross_all.Lts as lts
 use Rattle.crossing.proofs.cross.Reads as cross-reads
 use Rattle.crossing.proofs.first_cross.Reads as first-cross-reads
-use Rattle.crossing.proofs.lesser.Reads as lesser-reads
 use Rattle.places.proofs.complex_at.Reads as complex-at-reads
 
 abbrev Inv-loop : tie.InvT-loop

@@ -9,7 +9,6 @@ use Rattle.crossing.proofs.limits_meet.Statement.{statement}
 use Rattle.crossing.proofs.limits_meet.Tie as tie
 use Rattle.crossing.proofs.limits_meet.Reads as reads
 use Rattle.crossing.proofs.limits_meet.Lts as lts
-use Rattle.crossing.proofs.limit_of.Reads as limit-of-reads
 
 limit-of-requires : tie.Need-limit-of-requires
 limit-of-requires c κs = search needs

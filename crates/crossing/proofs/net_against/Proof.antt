@@ -9,7 +9,6 @@ use Rattle.crossing.proofs.net_against.Statement.{statement}
 use Rattle.crossing.proofs.net_against.Tie as tie
 use Rattle.crossing.proofs.net_against.Reads as reads
 use Rattle.crossing.proofs.net_against.Lts as lts
-use Rattle.crossing.proofs.limit_of.Reads as limit-of-reads
 
 limit-of-requires : tie.Need-limit-of-requires
 limit-of-requires c κs = search needs

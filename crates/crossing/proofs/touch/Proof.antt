@@ -2,26 +2,27 @@
 use mathlib.Core.Path.{refl, sym, subst, _∙_}
 use native.Mathlib.Omega.{arith}
 use Rattle.places.proofs.Parts.{complexes-few, complex-at}
-use Rattle.levels.specs.Grid.{LegsIn}
+use Rattle.rules.specs.declared.Complex.{Complex}
+use Rattle.places.specs.Layout.{venueOf}
+use Rattle.levels.specs.Grid.{LegsIn, TakenOf}
 use Rattle.levels.proofs.Sides.{legs-in}
 use Rattle.crossing.proofs.Candidates.{off, on}
 use Rattle.crossing.proofs.Touches.{touch-not, touch-both}
 use borrow.Author.Needs.{needs}
 use Rattle.crossing.proofs.touch.Statement.{statement}
 use Rattle.crossing.proofs.touch.Tie as tie
-use Rattle.crossing.proofs.touch.Reads as reads
-use Rattle.crossing.proofs.touch.Lts as lts
-use Rattle.crossing.proofs.can_touch.Reads as can-touch-reads
-use Rattle.places.proofs.complex_at.Reads as complex-at-reads
-use Rattle.removal.proofs.remove_at.Reads as remove-at-reads
-use Rattle.rules.proofs.opposite_of.Reads as opposite-of-reads
-use Rattle.rules.proofs.place_of.Reads as place-of-reads
 
 complex-at-requires : tie.Need-complex-at-requires
 complex-at-requires c κs = let z = complexes-few (c .before .before .before .args .b .now) in (c .before .before .before .pre .0, omega (arith, c .before .before .before .pre .2))
 
 can-touch-requires : tie.Need-can-touch-requires
-can-touch-requires c κs = (c .before .before .before .before .before .pre .0, c .before .before .before .before .before .pre .1, subst LegsIn (sym (c .before .complex-at .ensures)) (legs-in (c .before .before .before .before .before .args .b .now) (c .before .before .before .before .before .args .i)))
+can-touch-requires c κs =
+    let a = c .before .before .before .before .before .args in
+    let z = c .before .complex-at in (
+      c .before .before .before .before .before .pre .0,
+      subst (λ (x : Complex). TakenOf (a .taken) x (venueOf (a .b .now) .regular)) (complex-at (a .b .now) (a .i) (c .before .before .before .before .before .pre .2) ∙ sym (z .ensures)) (c .before .before .before .before .before .pre .1),
+      subst LegsIn (sym (z .ensures)) (legs-in (a .b .now) (a .i)),
+    )
 
 same-length : tie.Need-same-length
 same-length c = search needs

@@ -5,7 +5,7 @@ use Prim.Native.Nat.{_<_}
 use native.Mathlib.Omega.{arith}
 use borrow.Author.Tests.{not-true, not-false}
 use Rattle.rules.specs.Sound.{sound}
-use Rattle.engine.proofs.Calling.{one-unsound, one-no-number, one-no-room, one-done}
+use Rattle.engine.proofs.Calling.{laid-sound, one-unsound, one-no-number, one-no-room, one-done}
 use borrow.Author.Needs.{needs}
 use Rattle.engine.proofs.one_message.Statement.{statement}
 use Rattle.engine.proofs.one_message.Tie as tie
@@ -49,7 +49,9 @@ add-step : tie.Need-add-step
 add-step c = search needs
 
 step-requires : tie.Need-step-requires
-step-requires c κs = (search needs, c .before .before .before .before .before .load-sound .ensures .loaded (not-false _ (c .before .before .before .if1 .left)) .dense)
+step-requires c κs =
+    let l = c .before .before .before .before .before .load-sound .ensures .loaded (not-false _ (c .before .before .before .if1 .left)) in
+    (search needs, l .dense, laid-sound _ _ (passed (c .before .before .before)) (l .venue))
 
 end-call-requires-3 : tie.Need-end-call-requires-3
 end-call-requires-3 c κs = search needs

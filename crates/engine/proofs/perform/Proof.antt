@@ -6,6 +6,7 @@ use Rattle.rules.specs.Step.{perform}
 use Rattle.wire.specs.Seen.{seen}
 use Rattle.wire.specs.Stage.{_does_}
 use Rattle.places.specs.Layout.{venueOf}
+use Rattle.complexes.proofs.Walking.{sound-rising}
 use Rattle.engine.proofs.Refusing.{regular-side, legs-in, away-series, status-series}
 use Rattle.engine.proofs.Stepping.{order-room, complex-room, cancel-known}
 use borrow.Author.Needs.{needs}
@@ -48,7 +49,7 @@ enum-told : tie.Need-enum-told
 enum-told c = search needs
 
 sweep-requires : tie.Need-sweep-requires
-sweep-requires c κs = search needs
+sweep-requires c κs = let s = c .before .before .before .before .before .before in (s .pre .0, sound-rising _ (s .pre .4 .is))
 
 same-length : tie.Need-same-length
 same-length c = search needs

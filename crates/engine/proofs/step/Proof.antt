@@ -13,7 +13,7 @@ enum-known-decoded : tie.Need-enum-known-decoded
 enum-known-decoded c = search needs
 
 answer-requires : tie.Need-answer-requires
-answer-requires c κs = let s = c .before .before .before .before .before .before .before .before .before in (s .pre .0, s .pre .1, taken-out (s .args .message .now) _ (sym (c .before .before .before .decoded .given .1) ∙ c .before .before .before .before .before .decode .ensures) .1)
+answer-requires c κs = let s = c .before .before .before .before .before .before .before .before .before in (s .pre .0, s .pre .1, taken-out (s .args .message .now) _ (sym (c .before .before .before .decoded .given .1) ∙ c .before .before .before .before .before .decode .ensures) .1, s .pre .2)
 
 enum-known-decoded-2 : tie.Need-enum-known-decoded-2
 enum-known-decoded-2 c = search needs

@@ -1,5 +1,6 @@
 -- `legging::can_pair` meets its contract.
-use Rattle.legging.proofs.Testing.{pair-none, pair-dear, pair-size}
+use Rattle.legging.proofs.Testing.{pair-none, pair-dear, pair-size, size-is}
+use Rattle.places.specs.Layout.{venueOf}
 use Rattle.rules.proofs.Machine.{back}
 use mathlib.Core.Path.{_∙_}
 use borrow.Author.Needs.{needs}
@@ -21,21 +22,39 @@ net-of-requires c κs = search needs
 limit-of-requires : tie.Need-limit-of-requires
 limit-of-requires c κs = search needs
 
+other-level-requires : tie.Need-other-level-requires
+other-level-requires c κs = search needs
+
+cast-result : tie.Need-cast-result
+cast-result c = search needs
+
 returns-2 : tie.Need-returns-2
-returns-2 c = let a = c .before .before .before .before .before .before .before .before .before .args in let u = c .before .before .before .before .net-of in let w = c .before .before .before .limit-of in
-    pair-size _ (a .c) _ _ _ _ _ (c .before .before .before .before .before .before .before .other-clear .ensures) (c .before .before .before .before .before .before .if1 .left) (c .before .before .before .before .before .other-leg .result) (c .before .before .before .before .before .other-leg .ensures) _ _
-    (back {z = u .result} (record { sfits = u .ok }) ∙ u .ensures .0) (back {z = w .result} (record { sfits = w .ok }) ∙ w .ensures .0) (c .before .before .if2 .taken) _ (c .other-size .ensures)
-
-cast-k : tie.Need-cast-k
-cast-k c = search needs
-
-other-size-requires : tie.Need-other-size-requires
-other-size-requires c κs = search needs
+returns-2 c =
+    let a = c .before .before .before .before .before .before .before .before .before .before .args in
+    let u = c .before .before .before .before .before .net-of in
+    let w = c .before .before .before .before .limit-of in
+    pair-size _ (a .c) _ _ _ _ _ (c .before .before .before .before .before .before .before .before .other-clear .ensures) (c .before .before .before .before .before .before .before .if1 .left) (c .before .before .before .before .before .before .other-leg .result) (c .before .before .before .before .before .before .other-leg .ensures) _ _
+    (back {z = u .result} (record { sfits = u .ok }) ∙ u .ensures .0) (back {z = w .result} (record { sfits = w .ok }) ∙ w .ensures .0) (c .before .before .before .if2 .taken) _
+    (size-is (venueOf (a .b .now)) (a .taken) (a .c) _ (c .before .before .before .before .before .before .before .before .before .before .pre .1) (c .before .before .other-level .result) (c .before .before .other-level .ensures))
 
 returns-3 : tie.Need-returns-3
-returns-3 c = let a = c .before .before .before .before .before .before .before .args in let u = c .before .before .net-of in let w = c .before .limit-of in
+returns-3 c =
+    let a = c .before .before .before .before .before .before .before .args in
+    let u = c .before .before .net-of in
+    let w = c .before .limit-of in
     pair-dear _ (a .c) _ _ _ _ _ (c .before .before .before .before .before .other-clear .ensures) (c .before .before .before .before .if1 .left) (c .before .before .before .other-leg .result) (c .before .before .before .other-leg .ensures) _ _
     (back {z = u .result} (record { sfits = u .ok }) ∙ u .ensures .0) (back {z = w .result} (record { sfits = w .ok }) ∙ w .ensures .0) (c .if2 .left)
 
 pub can-pair-spec : {M : Type 1} → statement M
-can-pair-spec = tie.close (tie.spec other-clear-requires returns other-leg-requires net-of-requires limit-of-requires cast-k other-size-requires returns-2 returns-3)
+can-pair-spec =
+    tie.close
+    (tie.spec
+    other-clear-requires
+    returns
+    other-leg-requires
+    net-of-requires
+    limit-of-requires
+    other-level-requires
+    cast-result
+    returns-2
+    returns-3)

@@ -1,6 +1,7 @@
 -- `legging::judge` meets its contract.
 use Rattle.legging.proofs.Testing.{verdict-free, verdict-held}
-use Rattle.levels.proofs.Sides.{parent-legs}
+use Rattle.levels.specs.Grid.{LegsIn}
+use Rattle.levels.proofs.Sides.{parent-legs, sides-right}
 use Rattle.removal.proofs.Removing.{legging-at}
 use native.Mathlib.Omega.{arith}
 use mathlib.Core.Path.{sym, _∙_}
@@ -17,17 +18,35 @@ returns c = verdict-free _ _ (c .before .before .legging-at .result) _ (c .befor
 parent-of-requires : tie.Need-parent-of-requires
 parent-of-requires c κs = search needs
 
-cast-test-order : tie.Need-cast-test-order
-cast-test-order c = search needs
+cast-s : tie.Need-cast-s
+cast-s c = search needs
 
-cast-test-order-2 : tie.Need-cast-test-order-2
-cast-test-order-2 c = search needs
+cast-d : tie.Need-cast-d
+cast-d c = search needs
+
+sides-of-requires : tie.Need-sides-of-requires
+sides-of-requires c κs = (rw (c .parent-of .ensures) (parent-legs (c .before .before .before .before .before .args .b .now) (c .before .before .before .legging-at .result)), omega arith, omega arith)
 
 test-order-requires : tie.Need-test-order-requires
-test-order-requires c κs = let p = c .before .before .before .before .before .pre in (p .0, p .1, rw (c .parent-of .ensures) (parent-legs (c .before .before .before .before .before .args .b .now) (c .before .before .before .legging-at .result)), omega arith, omega arith)
+test-order-requires c κs =
+    let p = c .before .before .before .before .before .before .pre in
+    let legs : LegsIn (c .before .parent-of .result) = rw (c .before .parent-of .ensures) (parent-legs (c .before .before .before .before .before .before .args .b .now) (c .before .before .before .before .legging-at .result)) in
+    (p .0, sides-right (c .before .before .before .before .before .before .args .g) _ (p .1) (c .before .parent-of .result) legs _ _ (omega arith) (omega arith) (c .sides-of .result) (c .sides-of .ensures), legs)
 
 returns-2 : tie.Need-returns-2
-returns-2 c = verdict-held _ _ (c .before .before .before .before .legging-at .result) _ (c .before .parent-of .result) _ (c .before .before .before .before .legging-at .ensures ∙ sym (legging-at (c .before .before .before .before .before .before .args .b .now) (c .before .before .before .before .before .before .args .n) (c .before .before .before .before .before .before .pre .2))) (c .before .before .if1 .left) (c .before .parent-of .ensures) (c .test-order .ensures)
+returns-2 c =
+    verdict-held _ _ (c .before .before .before .before .before .legging-at .result) _ (c .before .before .parent-of .result) _
+    (c .before .before .before .before .before .legging-at .ensures ∙ sym (legging-at (c .before .before .before .before .before .before .before .args .b .now) (c .before .before .before .before .before .before .before .args .n) (c .before .before .before .before .before .before .before .pre .2))) (c .before .before .before .if1 .left) (c .before .before .parent-of .ensures) (c .test-order .ensures)
 
 pub judge-spec : {M : Type 1} → statement M
-judge-spec = tie.close (tie.spec legging-at-requires returns parent-of-requires cast-test-order cast-test-order-2 test-order-requires returns-2)
+judge-spec =
+    tie.close
+    (tie.spec
+    legging-at-requires
+    returns
+    parent-of-requires
+    cast-s
+    cast-d
+    sides-of-requires
+    test-order-requires
+    returns-2)

@@ -1,5 +1,7 @@
 -- `legging::leg_quantity` meets its contract.
+use Rattle.levels.specs.declared.Level.{Level}
 use native.Mathlib.Omega.{arith}
+use mathlib.Core.Path.{ap}
 use borrow.Author.Needs.{needs}
 use Rattle.legging.proofs.leg_quantity.Statement.{statement}
 use Rattle.legging.proofs.leg_quantity.Tie as tie
@@ -7,17 +9,18 @@ use Rattle.legging.proofs.leg_quantity.Tie as tie
 cast-open : tie.Need-cast-open
 cast-open c = search needs
 
-other-size-requires : tie.Need-other-size-requires
-other-size-requires c κs = search needs
+other-level-requires : tie.Need-other-level-requires
+other-level-requires c κs = search needs
 
 returns : tie.Need-returns
-returns c = omega (arith, c .before .other-size .ensures)
+returns c = omega (arith, ap (λ (l : Level). l .size) (c .before .before .other-level .ensures))
 
 cast-result : tie.Need-cast-result
 cast-result c = search needs
 
 returns-2 : tie.Need-returns-2
-returns-2 c = omega (arith, c .before .other-size .ensures)
+returns-2 c = omega (arith, ap (λ (l : Level). l .size) (c .before .before .before .other-level .ensures))
 
 pub leg-quantity-spec : {M : Type 1} → statement M
-leg-quantity-spec = tie.close (tie.spec cast-open other-size-requires returns cast-result returns-2)
+leg-quantity-spec =
+    tie.close (tie.spec cast-open other-level-requires returns cast-result returns-2)

@@ -8,18 +8,14 @@ use Rattle.levels.proofs.clear_price.Tie as tie
 own-price-requires : tie.Need-own-price-requires
 own-price-requires c κs = search needs
 
-level-at-requires : tie.Need-level-at-requires
-level-at-requires c κs = search needs
-
 is-better-requires : tie.Need-is-better-requires
 is-better-requires c κs = search needs
 
 returns : tie.Need-returns
-returns c = let p = c .before .before .before .before .before .pre in clear-none _ _ _ (c .before .before .level-at .result) (c .before .before .level-at .ensures ∙ p .1 _ _ (p .2) (p .3)) _ (c .before .before .before .own-price .ensures) (sym (c .before .is-better .ensures) ∙ c .if1 .taken)
+returns c = clear-none _ _ _ _ (c .before .before .before .before .pre .1) _ (c .before .before .own-price .ensures) (sym (c .before .is-better .ensures) ∙ c .if1 .taken)
 
 returns-2 : tie.Need-returns-2
-returns-2 c = let p = c .before .before .before .before .before .pre in clear-best _ _ _ (c .before .before .level-at .result) (c .before .before .level-at .ensures ∙ p .1 _ _ (p .2) (p .3)) _ (c .before .before .before .own-price .ensures) (sym (c .before .is-better .ensures) ∙ c .if1 .left)
+returns-2 c = clear-best _ _ _ _ (c .before .before .before .before .pre .1) _ (c .before .before .own-price .ensures) (sym (c .before .is-better .ensures) ∙ c .if1 .left)
 
 pub clear-price-spec : {M : Type 1} → statement M
-clear-price-spec =
-    tie.close (tie.spec own-price-requires level-at-requires is-better-requires returns returns-2)
+clear-price-spec = tie.close (tie.spec own-price-requires is-better-requires returns returns-2)

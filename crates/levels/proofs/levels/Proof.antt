@@ -1,8 +1,8 @@
 -- `levels::levels` meets its contract.
 use borrow.Author.Needs.{needs}
-use Rattle.levels.proofs.Grids.{Built, built-none, built-all, turn-off, turn-on, series-in, side-in}
+use Rattle.levels.proofs.Grids.{Built, built-none, built-all, joined-same, joined-better, joined-not, turn-free, turn-off, turn-on, series-in, side-in}
 use native.Mathlib.Omega.{arith}
-use mathlib.Core.Path.{refl}
+use mathlib.Core.Path.{refl, sym, _∙_}
 use Rattle.levels.proofs.levels.Statement.{statement}
 use Rattle.levels.proofs.levels.Tie as tie
 
@@ -28,7 +28,7 @@ loop-less : tie.Need-loop-less Inv-loop μ-loop
 loop-less c = search needs
 
 loop-again : tie.Need-loop-again Inv-loop μ-loop
-loop-again c = turn-off _ _ _ _ (c .before .before .before .before .loop .inv) (search needs) (c .before .before .regular-at .result) (c .before .before .regular-at .ensures) (c .if1 .taken)
+loop-again c = turn-free _ _ _ _ (c .before .before .before .before .loop .inv) (search needs) (c .before .before .regular-at .result) (c .before .before .regular-at .ensures) (c .if1 .taken)
 
 cast-s : tie.Need-cast-s Inv-loop μ-loop
 cast-s c = search needs
@@ -48,26 +48,65 @@ index-1-l c = let o = c .before .before .before .before .regular-at in omega (ar
 index-2-l : tie.Need-index-2-l Inv-loop μ-loop
 index-2-l c = let o = c .before .before .before .before .regular-at in omega (arith, side-in _ _ (o .result) (o .ensures))
 
-joined-requires : tie.Need-joined-requires Inv-loop μ-loop
-joined-requires c κs = let o = c .before .before .before .before .before .regular-at in omega (arith, c .before .before .before .before .before .before .before .loop .inv .sizes _ _ (series-in _ _ (o .result) (o .ensures)) (side-in _ _ (o .result) (o .ensures)))
+cast-size : tie.Need-cast-size Inv-loop μ-loop
+cast-size c = search needs
 
-mul-m : tie.Need-mul-m Inv-loop μ-loop
-mul-m c = search needs
+add-t19 : tie.Need-add-t19 Inv-loop μ-loop
+add-t19 c = let o = c .before .before .before .before .before .before .before .before .before .before .regular-at in omega (arith, c .before .before .before .before .before .before .before .before .before .before .before .before .loop .inv .sizes _ _ (series-in _ _ (o .result) (o .ensures)) (side-in _ _ (o .result) (o .ensures)))
 
-mul-m-2 : tie.Need-mul-m-2 Inv-loop μ-loop
-mul-m-2 c = search needs
+mul-t21 : tie.Need-mul-t21 Inv-loop μ-loop
+mul-t21 c = search needs
 
-index-1-m : tie.Need-index-1-m Inv-loop μ-loop
-index-1-m c = let o = c .before .before .before .before .before .before .regular-at in omega (arith, series-in _ _ (o .result) (o .ensures))
+mul-t24 : tie.Need-mul-t24 Inv-loop μ-loop
+mul-t24 c = search needs
 
-index-2-m : tie.Need-index-2-m Inv-loop μ-loop
-index-2-m c = let o = c .before .before .before .before .before .before .regular-at in omega (arith, side-in _ _ (o .result) (o .ensures))
+index-1-g : tie.Need-index-1-g Inv-loop μ-loop
+index-1-g c = let o = c .before .before .before .before .before .before .before .before .before .before .regular-at in omega (arith, series-in _ _ (o .result) (o .ensures))
+
+index-2-g : tie.Need-index-2-g Inv-loop μ-loop
+index-2-g c = let o = c .before .before .before .before .before .before .before .before .before .before .regular-at in omega (arith, side-in _ _ (o .result) (o .ensures))
 
 loop-less-2 : tie.Need-loop-less-2 Inv-loop μ-loop
 loop-less-2 c = search needs
 
 loop-again-2 : tie.Need-loop-again-2 Inv-loop μ-loop
-loop-again-2 c = turn-on _ _ _ _ (c .before .before .before .before .before .before .before .before .loop .inv) (search needs) (c .before .before .before .before .before .before .regular-at .result) (c .before .before .before .before .before .before .regular-at .ensures) (c .joined .result) (search needs) (series-in _ _ (c .before .before .before .before .before .before .regular-at .result) (c .before .before .before .before .before .before .regular-at .ensures)) (side-in _ _ (c .before .before .before .before .before .before .regular-at .result) (c .before .before .before .before .before .before .regular-at .ensures)) (c .before .before .before .before .if1 .left) (c .joined .ensures)
+loop-again-2 c =
+    let o = c .before .before .before .before .before .before .before .before .before .before .regular-at in
+    turn-on _ _ _ _ (c .before .before .before .before .before .before .before .before .before .before .before .before .loop .inv) (search needs) (o .result) (o .ensures) _ (search needs) (series-in _ _ (o .result) (o .ensures))
+    (side-in _ _ (o .result) (o .ensures)) (c .before .before .before .before .before .before .before .before .if1 .left) (joined-same _ _ _ _ (c .before .if2 .taken))
+
+is-better-requires : tie.Need-is-better-requires Inv-loop μ-loop
+is-better-requires c κs = search needs
+
+mul-t29 : tie.Need-mul-t29 Inv-loop μ-loop
+mul-t29 c = search needs
+
+mul-t32 : tie.Need-mul-t32 Inv-loop μ-loop
+mul-t32 c = search needs
+
+index-1-g-2 : tie.Need-index-1-g-2 Inv-loop μ-loop
+index-1-g-2 c = let o = c .before .before .before .before .before .before .before .before .before .before .before .regular-at in omega (arith, series-in _ _ (o .result) (o .ensures))
+
+index-2-g-2 : tie.Need-index-2-g-2 Inv-loop μ-loop
+index-2-g-2 c = let o = c .before .before .before .before .before .before .before .before .before .before .before .regular-at in omega (arith, side-in _ _ (o .result) (o .ensures))
+
+loop-less-3 : tie.Need-loop-less-3 Inv-loop μ-loop
+loop-less-3 c = search needs
+
+loop-again-3 : tie.Need-loop-again-3 Inv-loop μ-loop
+loop-again-3 c =
+    let o = c .before .before .before .before .before .before .before .before .before .before .before .regular-at in
+    turn-on _ _ _ _ (c .before .before .before .before .before .before .before .before .before .before .before .before .before .loop .inv) (search needs) (o .result) (o .ensures) _ (search needs) (series-in _ _ (o .result) (o .ensures))
+    (side-in _ _ (o .result) (o .ensures)) (c .before .before .before .before .before .before .before .before .before .if1 .left) (joined-better _ _ _ _ (c .before .before .if2 .left) (sym (c .before .is-better .ensures) ∙ c .if3 .taken))
+
+loop-less-4 : tie.Need-loop-less-4 Inv-loop μ-loop
+loop-less-4 c = search needs
+
+loop-again-4 : tie.Need-loop-again-4 Inv-loop μ-loop
+loop-again-4 c =
+    let o = c .before .before .before .before .before .before .before .before .before .before .before .regular-at in
+    turn-off _ _ _ _ (c .before .before .before .before .before .before .before .before .before .before .before .before .before .loop .inv) (search needs) (o .result) (o .ensures) (c .before .before .before .before .before .before .before .before .before .if1 .left)
+    (joined-not _ _ _ _ (c .before .before .if2 .left) (sym (c .before .is-better .ensures) ∙ c .if3 .left))
 
 returns : tie.Need-returns Inv-loop μ-loop
 returns c = built-all _ _ _ _ (c .before .loop .inv) (c .before .before .regulars-used .ensures .0) (search needs)
@@ -90,11 +129,21 @@ levels-spec =
     mul-l-2
     index-1-l
     index-2-l
-    joined-requires
-    mul-m
-    mul-m-2
-    index-1-m
-    index-2-m
+    cast-size
+    add-t19
+    mul-t21
+    mul-t24
+    index-1-g
+    index-2-g
     loop-less-2
     loop-again-2
+    is-better-requires
+    mul-t29
+    mul-t32
+    index-1-g-2
+    index-2-g-2
+    loop-less-3
+    loop-again-3
+    loop-less-4
+    loop-again-4
     returns)

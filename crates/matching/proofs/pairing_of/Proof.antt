@@ -16,11 +16,11 @@ parent-of-requires c κs = search needs
 other-leg-requires : tie.Need-other-leg-requires
 other-leg-requires c κs = search needs
 
-levels-requires : tie.Need-levels-requires
-levels-requires c κs = search needs
-
 opposite-of-requires : tie.Need-opposite-of-requires
 opposite-of-requires c κs = search needs
+
+best-regular-requires : tie.Need-best-regular-requires
+best-regular-requires c κs = search needs
 
 clear-price-requires : tie.Need-clear-price-requires
 clear-price-requires c κs =
@@ -28,7 +28,7 @@ clear-price-requires c κs =
     let p3 = p2 .before in
     let p5 = p3 .before .before in
     let h = leg-in (p3 .parent-of .result) (p5 .args .series) (rw (← p3 .parent-of .ensures) at (parent-legs (p5 .args .b .now) (p5 .args .l))) in
-    (p5 .pre, c .before .levels .ensures, rw (p2 .other-leg .ensures) (h .0), rw (c .opposite-of .ensures) (opposite-in _))
+    (p5 .pre, c .best-regular .ensures, rw (p2 .other-leg .ensures) (h .0), rw (c .before .opposite-of .ensures) (opposite-in _))
 
 opposite-of-requires-2 : tie.Need-opposite-of-requires-2
 opposite-of-requires-2 c κs = search needs
@@ -39,13 +39,13 @@ net-of-requires c κs = search needs
 returns : tie.Need-returns
 returns c =
     let p2 = c .before .before in
-    let p3 = p2 .before in
-    let p5 = p3 .before .before in
+    let p4 = p2 .before .before in
+    let p5 = p4 .before in
     let p6 = p5 .before in
     let p8 = p6 .before .before in
     let q = back {z = c .net-of .result} (record { sfits = c .net-of .ok }) in (
       pairing-law (venueOf (p8 .args .b .now)) (p8 .args .l) (p8 .args .series) (p8 .args .side) _ _ _ _ _ _ _ (p6 .parent-of .ensures)
-          (p5 .other-leg .ensures) (p3 .opposite-of .ensures) (p2 .clear-price .ensures) (c .before .opposite-of2 .ensures) (c .net-of .ensures .0) q,
+          (p5 .other-leg .ensures) (p4 .opposite-of .ensures) (p2 .clear-price .ensures) (c .before .opposite-of2 .ensures) (c .net-of .ensures .0) q,
       omega (arith, ap natAbs q, c .net-of .ensures .1),
     )
 
@@ -55,8 +55,8 @@ pairing-of-spec =
     (tie.spec
     parent-of-requires
     other-leg-requires
-    levels-requires
     opposite-of-requires
+    best-regular-requires
     clear-price-requires
     opposite-of-requires-2
     net-of-requires
