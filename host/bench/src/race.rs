@@ -15,6 +15,12 @@ impl Times {
     pub fn median(&self) -> f64 {
         quantile(&self.0, 0.5)
     }
+
+    /// Each time less another, by a number of units.
+    fn each(&self, less: f64, units: usize) -> Times {
+        let times = self.0.iter().map(|time| (time - less) / units as f64);
+        Times(times.collect())
+    }
 }
 
 /// The value below which a part of the values lies; the highest for 1.
@@ -48,6 +54,14 @@ impl Both<Times> {
         }
     }
 
+    /// Each time less another, by a number of units.
+    pub fn each(&self, less: &Both<f64>, units: usize) -> Both<Times> {
+        Both {
+            engine: self.engine.each(less.engine, units),
+            reference: self.reference.each(less.reference, units),
+        }
+    }
+
     /// One round more.
     pub fn add(&mut self, round: Both<f64>) {
         self.engine.0.push(round.engine);
@@ -74,10 +88,6 @@ impl Both<f64> {
             engine: (self.engine - other.engine) / units as f64,
             reference: (self.reference - other.reference) / units as f64,
         }
-    }
-
-    pub fn by(&self, units: usize) -> Both<f64> {
-        self.less(&Both::default(), units)
     }
 }
 
@@ -121,6 +131,10 @@ impl Track {
         };
         self.agree(&list)?;
         Ok(list)
+    }
+
+    pub fn lists(&mut self, all: impl Iterator<Item = Vec<u8>>) -> Result<Vec<List>, String> {
+        all.map(|messages| self.list(messages)).collect()
     }
 
     fn agree(&mut self, list: &List) -> Result<(), String> {
@@ -172,5 +186,18 @@ impl Track {
         let reference = self.reference(list);
         let engine = self.engine(list);
         Both { engine, reference }
+    }
+    /// The times of groups of lists, each group's lists one after another. A round
+    /// goes over all groups, so that what disturbs the machine for a while does
+    /// not fall upon one of them.
+    pub fn race_groups(&mut self, groups: &[Vec<List>], rounds: usize) -> Vec<Both<Times>> {
+        let mut times = vec![Both::<Times>::default(); groups.len()];
+        for round in 0..rounds {
+            for (lists, times) in groups.iter().zip(&mut times) {
+                let each = lists.iter().map(|list| self.race(list, round));
+                times.add(each.fold(Both::default(), |sum, both| both.plus(&sum)));
+            }
+        }
+        times
     }
 }

@@ -35,12 +35,18 @@ pub fn profiles(options: &Options) -> Table {
         "reference, ns",
         "ratio",
     ]);
+    let mut track = Track::new();
+    let mut groups = Vec::new();
+    let mut counts = Vec::new();
     for profile in options.profiles() {
         let sessions = (0..options.seeds).map(|seed| session(profile, seed));
         let sessions: Vec<Vec<Vec<u8>>> = sessions.collect();
-        let messages = sessions.iter().map(Vec::len).sum();
-        let lists = sessions.iter().map(|pieces| pieces.concat());
-        let times = race_all(lists, messages, options.rounds)?;
+        counts.push(sessions.iter().map(Vec::len).sum());
+        groups.push(track.lists(sessions.iter().map(|pieces| pieces.concat()))?);
+    }
+    let all = track.race_groups(&groups, options.rounds);
+    for ((profile, messages), times) in options.profiles().zip(counts).zip(all) {
+        let times = times.each(&Both::default(), messages);
         let least = times.least();
         let mut line = vec![profile.name().to_string(), number(messages as f64)];
         line.push(number(1e9 / least.engine));
@@ -49,24 +55,6 @@ pub fn profiles(options: &Options) -> Table {
         table += &row(&line);
     }
     Ok(table)
-}
-
-/// The time for a message of all lists together, round by round.
-fn race_all(
-    lists: impl Iterator<Item = Vec<u8>>,
-    messages: usize,
-    rounds: usize,
-) -> Result<Both<Times>, String> {
-    let mut track = Track::new();
-    let lists: Result<Vec<List>, String> = lists.map(|list| track.list(list)).collect();
-    let lists = lists?;
-    let mut times = Both::<Times>::default();
-    for round in 0..rounds {
-        let each = lists.iter().map(|list| track.race(list, round));
-        let sum = each.fold(Both::default(), |sum, both| both.plus(&sum));
-        times.add(sum.by(messages));
-    }
-    Ok(times)
 }
 
 /// Messages in a block.
@@ -117,14 +105,9 @@ fn block_times(profile: Profile, seed: u64, rounds: usize) -> Result<Vec<Both<f6
     let mut track = Track::new();
     let pieces = session(profile, seed);
     let cuts = (0..=pieces.len()).step_by(BLOCK);
-    let lists = cuts.map(|cut| track.list(pieces[..cut].concat()));
-    let lists = lists.collect::<Result<Vec<List>, String>>()?;
-    let mut times = vec![Both::<Times>::default(); lists.len()];
-    for round in 0..rounds {
-        for (list, times) in lists.iter().zip(&mut times) {
-            times.add(track.race(list, round));
-        }
-    }
+    let lists = track.lists(cuts.map(|cut| pieces[..cut].concat()))?;
+    let groups: Vec<Vec<List>> = lists.into_iter().map(|list| vec![list]).collect();
+    let times = track.race_groups(&groups, rounds);
     let least: Vec<Both<f64>> = times.iter().map(Both::least).collect();
     let pairs = least.windows(2);
     Ok(pairs.map(|pair| pair[1].less(&pair[0], BLOCK)).collect())
@@ -135,12 +118,16 @@ pub fn growing(options: &Options) -> Table {
     let mut table = header(&[&["messages in a list", "lists"], &CONTENDERS[..]].concat());
     let sessions = closed_sessions(Profile::Mixed, options.sessions);
     let messages = messages_in(&sessions);
+    let mut track = Track::new();
+    let mut groups = Vec::new();
     for part in [1, 10, 100, sessions.len()] {
-        let lists = sessions.chunks(part).map(joined);
-        let count = lists.len();
-        let times = race_all(lists, messages, options.rounds)?;
-        let mut line = vec![number((messages / count) as f64), number(count as f64)];
-        line.extend(cells(&times));
+        groups.push(track.lists(sessions.chunks(part).map(joined))?);
+    }
+    let all = track.race_groups(&groups, options.rounds);
+    for (lists, times) in groups.iter().zip(all) {
+        let each = messages / lists.len();
+        let mut line = vec![number(each as f64), number(lists.len() as f64)];
+        line.extend(cells(&times.each(&Both::default(), messages)));
         table += &row(&line);
     }
     Ok(table)
@@ -149,36 +136,41 @@ pub fn growing(options: &Options) -> Table {
 /// Units of a layer's list.
 pub const UNITS: usize = 1_000;
 
-/// The time for one unit: the list's time less its prefix's, by its units.
-fn unit_times(layer: Layer, book: usize, rounds: usize) -> Result<Both<Times>, String> {
+/// The times for one unit of each case: the list's time less the least of its
+/// prefix, by its units.
+fn unit_times(cases: Vec<Case>, rounds: usize) -> Result<Vec<Both<Times>>, String> {
     let mut track = Track::new();
-    let case = Case::new(layer, book, UNITS);
-    let prefix = track.list(case.prefix)?;
-    let list = track.list(case.list)?;
-    let mut prefixes = Both::<Times>::default();
-    for round in 0..rounds {
-        prefixes.add(track.race(&prefix, round));
+    let mut groups = Vec::new();
+    for case in cases {
+        groups.push(vec![track.list(case.prefix)?]);
+        groups.push(vec![track.list(case.list)?]);
     }
-    let less = prefixes.least();
-    let mut times = Both::<Times>::default();
-    for round in 0..rounds {
-        times.add(track.race(&list, round).less(&less, UNITS));
-    }
-    Ok(times)
+    let times = track.race_groups(&groups, rounds);
+    let pairs = times.chunks(2);
+    Ok(pairs
+        .map(|pair| pair[1].each(&pair[0].least(), UNITS))
+        .collect())
 }
 
 /// Every layer on books of 8, 32 and 128 orders.
 pub fn layers(options: &Options) -> Table {
     let columns = ["unit", "messages", "book"];
     let mut table = header(&[&columns[..], &CONTENDERS[..]].concat());
-    for layer in options.layers() {
-        for book in [8, 32, 128] {
-            let messages = Case::new(layer, book, 1).messages_in_unit;
-            let mut line = vec![format!("{}: {}", layer.name(), layer.unit())];
-            line.extend([messages.to_string(), book.to_string()]);
-            line.extend(cells(&unit_times(layer, book, options.rounds)?));
-            table += &row(&line);
-        }
+    let chosen: Vec<(Layer, usize)> = options
+        .layers()
+        .flat_map(|layer| [8, 32, 128].map(|book| (layer, book)))
+        .collect();
+    let cases = chosen
+        .iter()
+        .map(|(layer, book)| Case::new(*layer, *book, UNITS));
+    let cases: Vec<Case> = cases.collect();
+    let messages: Vec<usize> = cases.iter().map(|case| case.messages_in_unit).collect();
+    let all = unit_times(cases, options.rounds)?;
+    for (((layer, book), messages), times) in chosen.iter().zip(messages).zip(all) {
+        let mut line = vec![format!("{}: {}", layer.name(), layer.unit())];
+        line.extend([messages.to_string(), book.to_string()]);
+        line.extend(cells(&times));
+        table += &row(&line);
     }
     Ok(table)
 }
@@ -186,9 +178,12 @@ pub fn layers(options: &Options) -> Table {
 /// An order that rests and its cancel, from the empty book to the full one.
 pub fn books(options: &Options) -> Table {
     let mut table = header(&[&["orders at rest"], &CONTENDERS[..]].concat());
-    for book in [1, 4, 8, 16, 32, 64, 96, 128] {
+    let books = [1, 4, 8, 16, 32, 64, 96, 128];
+    let cases = books.map(|book| Case::new(Layer::Rests, book, UNITS));
+    let all = unit_times(cases.into(), options.rounds)?;
+    for (book, times) in books.iter().zip(all) {
         let mut line = vec![book.to_string()];
-        line.extend(cells(&unit_times(Layer::Rests, book, options.rounds)?));
+        line.extend(cells(&times));
         table += &row(&line);
     }
     Ok(table)
