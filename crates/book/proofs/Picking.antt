@@ -11,7 +11,7 @@ use Rattle.rules.proofs.Better.{is-false}
 use lib.Dec.{ltb, eqb}
 use lib.ListN.{length, replicate}
 use Rattle.rules.specs.declared.Regular.{Regular}
-use Rattle.rules.specs.Base.{if_then_else_, held, Picked, nobody, picked, ranked, firstFrom, first}
+use Rattle.rules.specs.Base.{if_then_else_, held, Choice, nobody, picked, ranked, firstFrom, first}
 use Rattle.rules.specs.Words.{opposite, placeOf, noRegular, earlier}
 use Rattle.rules.specs.Prices.{better, restsAt, shown, showsAt, showsFor, reaches}
 use Rattle.rules.specs.Order.{isMet, priceThenId}
@@ -25,17 +25,17 @@ use Rattle.book.specs.declared.Pick.{Pick}
 use Rattle.book.specs.Picks.{pickOf, bestAt, noBest, byId, byPrice, pickedAt}
 
 -- what a loop keeps of a pick
-unfoldable pub kept : {A S : Type 0} → S → (ℕ → A → S) → Picked A → S
+unfoldable pub kept : {A S : Type 0} → S → (ℕ → A → S) → Choice A → S
 kept none keep nobody = none
 kept none keep (picked i a) = keep i a
 
 module _ {A : Type 0} (candidate : A → Bool) (before : A → A → Bool) where
   -- what is picked below place `top` is a candidate
-  abbrev pub Good : (top : ℕ) → Picked A → Type 0
+  abbrev pub Good : (top : ℕ) → Choice A → Type 0
   Good top nobody = Unit {0}
   Good top (picked j m) = (j < top) × (candidate m ≡ true)
 
-  rank-good : (top n : ℕ) (a : A) (x : Picked A) → n < top → candidate a ≡ true → Good top x → Good top (ranked before n a x)
+  rank-good : (top n : ℕ) (a : A) (x : Choice A) → n < top → candidate a ≡ true → Good top x → Good top (ranked before n a x)
   unfolding ranked
   rank-good top n a nobody h e g = (h, e)
   rank-good top n a (picked j m) h e g = go (before m a)
@@ -49,7 +49,7 @@ module _ {A : Type 0} (candidate : A → Bool) (before : A → A → Bool) where
   from-good top n [] h = tt
   from-good top n (a ∷ l) h = go (candidate a) refl (firstFrom candidate before (suc n) l) (from-good top (suc n) l (omega arith))
     where
-      go : (t : Bool) → candidate a ≡ t → (x : Picked A) → Good top x → Good top (if t then ranked before n a x else x)
+      go : (t : Bool) → candidate a ≡ t → (x : Choice A) → Good top x → Good top (if t then ranked before n a x else x)
       go true e x g = rank-good top n a x (omega arith) e g
       go false e x g = g
 
@@ -63,7 +63,7 @@ module _ {A : Type 0} (candidate : A → Bool) (before : A → A → Bool) where
     free-from : (n : ℕ) (l : List A) (k : ℕ) → firstFrom candidate before n (l ++ replicate k d) ≡ firstFrom candidate before n l
     unfolding firstFrom
     free-from n [] k = none-from n k
-    free-from n (a ∷ l) k = ap (λ (x : Picked A). if candidate a then ranked before n a x else x) (free-from (suc n) l k)
+    free-from n (a ∷ l) k = ap (λ (x : Choice A). if candidate a then ranked before n a x else x) (free-from (suc n) l k)
 
     used-first : (f : ℕ → A) (n all : ℕ) → first candidate before (inUse f d n all) ≡ firstFrom candidate before 0 (upto f 0 n)
     unfolding inUse
@@ -84,12 +84,12 @@ module _ {A : Type 0} (candidate : A → Bool) (before : A → A → Bool) where
           | no q ↦ absurd (true≢false (sym (x .is) ∙ ap candidate (sym (sym (used-free f d n all i (omega arith)) ∙ x .at)) ∙ off))
         ]
 
-        go : (y : Picked A) → y ≡ picked i a → Chosen d candidate (inUse f d n all) y → Chooses f n i a
+        go : (y : Choice A) → y ≡ picked i a → Chosen d candidate (inUse f d n all) y → Chooses f n i a
         go nobody r x = let z : _≡_ {A = ℕ} 0 1 = cc in absurd (omega arith)
         go (picked j b) r x = let p : j ≡ i = cc in let q : b ≡ a = cc in inside (rw (p, q) at x)
 
   -- The loop, counting down: the places from i to below n
-  abbrev pub from : (ℕ → A) → (n i : ℕ) → Picked A
+  abbrev pub from : (ℕ → A) → (n i : ℕ) → Choice A
   from f n i = firstFrom candidate before i (upto f i (n - i))
 
   from-back : (f : ℕ → A) (n i : ℕ) → 0 < i → i ≤ n → from f n (i - 1) ≡ (if candidate (f (i - 1)) then ranked before (i - 1) (f (i - 1)) (from f n i) else from f n i)
@@ -100,7 +100,7 @@ module _ {A : Type 0} (candidate : A → Bool) (before : A → A → Bool) where
       ∙ ap (λ (k : ℕ). if candidate (f (i - 1)) then ranked before (i - 1) (f (i - 1)) (firstFrom candidate before k (upto f i (n - i))) else firstFrom candidate before k (upto f i (n - i))) z
 
   module _ {S : Type 0} (none : S) (keep : ℕ → A → S) where
-    abbrev of : Picked A → S
+    abbrev of : Choice A → S
     of = kept none keep
 
     pub scan-none : (f : ℕ → A) (n : ℕ) → none ≡ of (from f n n)
@@ -120,7 +120,7 @@ module _ {A : Type 0} (candidate : A → Bool) (before : A → A → Bool) where
 
       -- it is one, and joins as its rank says
       pub scan-on : (top : ℕ) → n ≤ top → candidate a ≡ true → (join : S → S) (r : S) → r ≡ join s →
-          ((x : Picked A) → Good top x → of (ranked before (i - 1) a x) ≡ join (of x)) → r ≡ of (from f n (i - 1))
+          ((x : Choice A) → Good top x → of (ranked before (i - 1) a x) ≡ join (of x)) → r ≡ of (from f n (i - 1))
       scan-on top m q join r k law =
           k ∙ ap join e
           ∙ sym (law (from f n i) (from-good top i (upto f i (n - i)) (omega (arith, upto-length f i (n - i)))))
@@ -142,14 +142,14 @@ kept-if none keep true j n m a = refl
 kept-if none keep false j n m a = refl
 
 -- by id
-pub rank-earlier : (candidate : Regular → Bool) (n : ℕ) (o : Regular) (x : Picked Regular) → Good candidate earlier 128 x →
+pub rank-earlier : (candidate : Regular → Bool) (n : ℕ) (o : Regular) (x : Choice Regular) → Good candidate earlier 128 x →
     kept noBest keepRegular (ranked earlier n o x) ≡ byId n (o .price) (o .id) (kept noBest keepRegular x)
 unfolding ranked kept byId earlier
 rank-earlier candidate n o nobody g = refl
 rank-earlier candidate n o (picked j m) g = rw (lt-leb 128 j (g .0)) (kept-if noBest keepRegular (ltb (m .id) (o .id)) j n m o)
 
 -- by price, then id: the candidates are of one side
-pub rank-price : (candidate : Regular → Bool) (d : ℕ) → ((m : Regular) → candidate m ≡ true → m .side ≡ d) → (n : ℕ) (o : Regular) (x : Picked Regular) → Good candidate priceThenId 128 x →
+pub rank-price : (candidate : Regular → Bool) (d : ℕ) → ((m : Regular) → candidate m ≡ true → m .side ≡ d) → (n : ℕ) (o : Regular) (x : Choice Regular) → Good candidate priceThenId 128 x →
     kept noBest keepRegular (ranked priceThenId n o x) ≡ byPrice d n (o .price) (o .id) (kept noBest keepRegular x)
 unfolding ranked kept byPrice earlier priceThenId
 rank-price candidate d sides n o nobody g = refl
@@ -203,7 +203,7 @@ module _ (candidate : Regular → Bool) (before : Regular → Regular → Bool) 
   pub regular-answer : (k : Best) (r : Pick) → k ≡ kept noBest keepRegular (first candidate before (venueOf b .regular)) → r ≡ pickedAt b (k .at) → r ≡ pickOf (first candidate before (venueOf b .regular))
   regular-answer k r e q = q ∙ ap (λ (x : Best). pickedAt b (x .at)) e ∙ go (first candidate before (venueOf b .regular)) refl
     where
-      go : (x : Picked Regular) → first candidate before (venueOf b .regular) ≡ x → pickedAt b (kept noBest keepRegular x .at) ≡ pickOf x
+      go : (x : Choice Regular) → first candidate before (venueOf b .regular) ≡ x → pickedAt b (kept noBest keepRegular x .at) ≡ pickOf x
       go nobody h = unfold pickedAt in unfold pickOf in unfold kept in refl
       go (picked i o) h =
           let c = regular-used i o h in

@@ -6,7 +6,7 @@ use lib.Dec.{leb, ltb, eqb}
 use Rattle.rules.specs.declared.Regular.{Regular}
 use Rattle.rules.specs.declared.Legging.{Legging}
 use Rattle.rules.specs.declared.Venue.{Venue}
-use Rattle.rules.specs.Base.{if_then_else_, held, Picked, nobody, picked}
+use Rattle.rules.specs.Base.{if_then_else_, held, Choice, nobody, picked}
 use Rattle.rules.specs.Prices.{better}
 use Rattle.rules.specs.Complex.{regularPlace, complexPlace, restsRegular, restsComplex}
 use Rattle.places.specs.Layout.{regularIn}
@@ -18,7 +18,7 @@ use Rattle.book.specs.declared.Pick.the-variants as pick
 
 -- What is answered ----------------------------------------------------------------------------
 
-unfoldable pub pickOf : Picked Regular → Pick
+unfoldable pub pickOf : Choice Regular → Pick
 pickOf nobody = pick.Nobody
 pickOf (picked i o) = pick.At i o
 

@@ -11,7 +11,7 @@ use lib.ListN.{getD, length}
 use borrow.Author.Tests.{lt-ltb, le-ltb, ne-eqb}
 use Rattle.rules.specs.declared.Complex.{Complex}
 use Rattle.rules.specs.declared.Venue.{Venue}
-use Rattle.rules.specs.Base.{if_then_else_, held, Picked, nobody, picked, ranked, firstFrom}
+use Rattle.rules.specs.Base.{if_then_else_, held, Choice, nobody, picked, ranked, firstFrom}
 use Rattle.rules.specs.Words.{noComplex, complexAt, earlierComplex, withLegging}
 use Rattle.rules.specs.Effects.{Effect, nothing, _⟫_}
 use Rattle.rules.specs.Removal.{remove}
@@ -46,7 +46,7 @@ module _ {A : Type 0} (d : A) (candidate : A → Bool) (before : A → A → Boo
       itself : candidate x ≡ true → (if before x a then picked m x else picked n a) ≡ picked n a
       itself c = rw (h 0 c)
 
-      go : (t : Bool) → candidate x ≡ t → (o : Picked A) → ranked before n a o ≡ picked n a → ranked before n a (if t then ranked before m x o else o) ≡ picked n a
+      go : (t : Bool) → candidate x ≡ t → (o : Choice A) → ranked before n a o ≡ picked n a → ranked before n a (if t then ranked before m x o else o) ≡ picked n a
       go false c o e = e
       go true c nobody e = itself c
       go true c (picked j b) e = pick (before b x)

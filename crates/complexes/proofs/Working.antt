@@ -6,7 +6,7 @@ use Prim.Native.Nat.{ℕ, zero, suc, min}
 use Rattle.rules.specs.declared.Regular.{Regular}
 use Rattle.rules.specs.declared.Complex.{Complex}
 use Rattle.rules.specs.declared.Venue.{Venue}
-use Rattle.rules.specs.Base.{if_then_else_, held, Picked, nobody, picked, first}
+use Rattle.rules.specs.Base.{if_then_else_, held, Choice, nobody, picked, first}
 use Rattle.rules.specs.Words.{complexAt, withLegging, withComplex}
 use Rattle.rules.specs.Effects.{Effect, nothing, report, _⟫_, Turn, ended, turned, repeat}
 use Rattle.rules.specs.declared.Cause.the-variants.{Touched}
@@ -48,7 +48,7 @@ cross-quiet : (i : ℕ) (v : Venue) → QuietTurn (crossTurn i v) v
 unfolding crossTurn QuietTurn Quiet cross _⟫_ report removeOf remove withLegging fillComplex withComplex
 cross-quiet i v = go (held (complexAt v i .quantity)) (first (crosses v (complexAt v i)) limitThenId (v .complex))
   where
-    go : (t : Bool) (x : Picked Complex) →
+    go : (t : Bool) (x : Choice Complex) →
         QuietTurn (if not t then ended else elim x [ nobody ↦ ended | picked j m ↦ turned (cross i j (min (complexAt v i .quantity) (m .quantity)) v) ]) v
     go true nobody = tt
     go true (picked j m) = refl

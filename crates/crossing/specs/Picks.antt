@@ -1,12 +1,12 @@
 -- The code's pick, as the definitions', and the key that it looks for.
 use Prim.Native.Nat.{ℕ, _+_, _*_}
 use Rattle.rules.specs.declared.Complex.{Complex}
-use Rattle.rules.specs.Base.{Picked, nobody, picked}
+use Rattle.rules.specs.Base.{Choice, nobody, picked}
 use Rattle.rules.specs.Words.{opposite, placeOf}
 use Rattle.crossing.specs.declared.Pick.{Pick}
 use Rattle.crossing.specs.declared.Pick.the-variants.{Nobody, At}
 
-unfoldable pub pickedOf : Pick → Picked Complex
+unfoldable pub pickedOf : Pick → Choice Complex
 pickedOf Nobody = nobody
 pickedOf (At i c) = picked i c
 

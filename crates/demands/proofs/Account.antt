@@ -16,7 +16,7 @@ use Rattle.rules.specs.declared.Venue.{Venue}
 use Rattle.rules.specs.Base.{held}
 use Rattle.rules.specs.Words.{noComplex, noRegular}
 use Rattle.rules.specs.Messages.{messageOf}
-use Rattle.rules.specs.Records.{Each, Report, U32, answer}
+use Rattle.rules.specs.Records.{ForAll, Report, FourBytes, answer}
 use Rattle.rules.specs.Effects.{Effect}
 use Rattle.rules.specs.Prices.{ratio1, ratio2}
 use Rattle.rules.specs.Sums.{cancelledOf, contracts, crossedFor, openComplex, openRegular, paired, total}
@@ -55,7 +55,7 @@ pub record Unnamed (y : ℕ) (rs : List Report) : Type 0 where
 
 pub record Account (s : Seen) : Type 0 where
   pub invariant : Invariant (s .venue)
-  pub few : U32 (s .done)
+  pub few : FourBytes (s .done)
   pub count : length (s .messages) ≡ s .done
   pub numbers : (j x m c : ℕ) → List·Memᴰ (answer j x m c) (s .reports) → j ≤ s .done
   pub orders : (o : Regular) → Accepted s (Order o) → OrderAccount s o
@@ -95,7 +95,7 @@ onto s bs e = record {
 }
 
 -- an answer is not among a message's effects
-no-answer : (j x m c : ℕ) (qs : List Report) → Each NoAnswer qs → List·Memᴰ (answer j x m c) qs → ⊥
+no-answer : (j x m c : ℕ) (qs : List Report) → ForAll NoAnswer qs → List·Memᴰ (answer j x m c) qs → ⊥
 no-answer j x m c [] h k = List·Memᴰ·not-nil k
 no-answer j x m c (q ∷ qs) h k = elim (List·Memᴰ·cases-cons k) [
   | inl e ↦ subst NoAnswer (sym e) (h .0)
@@ -117,8 +117,8 @@ pub record Takes (v : Venue) (qs : List Report) (w : Venue) (ms : List Message) 
 
 -- the message bs, and its effect e: what it brings in, its records with its 64 first, and the venue that is returned
 module _ {s : Seen} {u : Venue} {ns : List Message} (bs : List ℕ) {e : Effect} (a : Account s) (t : Takes (s .venue) (e .reports) u ns) (z : Ends u (e .venue))
-    (x k l : ℕ) (es : List Report) (is : e .reports ≡ answer (suc (s .done)) x k l ∷ es) (quiet : Each NoAnswer es)
-    (brings : x ≡ 0 → ns ≡ messageOf bs ∷ []) (invariant : Invariant (e .venue)) (few : U32 (suc (s .done))) where
+    (x k l : ℕ) (es : List Report) (is : e .reports ≡ answer (suc (s .done)) x k l ∷ es) (quiet : ForAll NoAnswer es)
+    (brings : x ≡ 0 → ns ≡ messageOf bs ∷ []) (invariant : Invariant (e .venue)) (few : FourBytes (suc (s .done))) where
   abbrev qs : List Report
   qs = e .reports
 

@@ -8,7 +8,7 @@ use native.Mathlib.Omega.{arith}
 use Rattle.rules.specs.declared.Complex.{Complex}
 use Rattle.rules.specs.declared.Venue.{Venue}
 use Rattle.rules.specs.Words.{freshVenue}
-use Rattle.rules.specs.Records.{U32}
+use Rattle.rules.specs.Records.{FourBytes}
 use Rattle.rules.specs.Prices.{ratio1, ratio2}
 use Rattle.rules.specs.Step.{answered, step}
 use Rattle.rules.specs.Sound.{sound}
@@ -40,7 +40,7 @@ pub step-fits : StepFits
 step-fits v s n h bs = told v (sound-out v s .ranged) n bs .fits h
 
 -- and so is the account
-step-account : (s : Seen) (bs : List ℕ) → Account s → U32 (suc (s .done)) → Account (onto s bs (step (s .venue) (suc (s .done)) bs .effect))
+step-account : (s : Seen) (bs : List ℕ) → Account s → FourBytes (suc (s .done)) → Account (onto s bs (step (s .venue) (suc (s .done)) bs .effect))
 step-account s bs a few =
     let i = a .invariant in
     let n = suc (s .done) in

@@ -5,7 +5,7 @@ use native.Mathlib.Nat.{add-suc, add-zero, suc-add}
 use lib.ListN.{drop, length}
 use Rattle.rules.specs.Words.{freshVenue}
 use Rattle.rules.specs.Bytes.{lengthField}
-use Rattle.rules.specs.Records.{Each, Fits, U32, encodeAll}
+use Rattle.rules.specs.Records.{ForAll, Fits, FourBytes, encodeAll}
 use Rattle.rules.specs.Effects.{Effect}
 use Rattle.rules.specs.Step.{step}
 use Rattle.rules.specs.Calls.{Outcome, after, called, ends, one, oneFrom, run, runFrom}
@@ -27,17 +27,17 @@ went s bs r = record {
 
 -- what holds at first, of fields in range, and is kept by each message
 module _ (P : Seen → Type 0) (ranged : (s : Seen) → P s → Ranged (s .venue)) (begins : P start)
-    (more : (s : Seen) (bs : List ℕ) → P s → U32 (suc (s .done)) → P (onto s bs (step (s .venue) (suc (s .done)) bs .effect))) where
+    (more : (s : Seen) (bs : List ℕ) → P s → FourBytes (suc (s .done)) → P (onto s bs (step (s .venue) (suc (s .done)) bs .effect))) where
   -- what is kept holds after a call that was given bs, and its records fit their widths
   record Onward (s : Seen) (bs : List ℕ) (r : Outcome) : Type 0 where
     holds : P (went s bs r)
-    fits : Each Fits (r .reports)
+    fits : ForAll Fits (r .reports)
 
   onward-ends : (s : Seen) (bs : List ℕ) (k : ℕ) → P s → Onward s bs (ends k (s .venue))
   unfolding ends parts went
   onward-ends s bs k a = record { holds = rw (append-nil (s .messages), append-nil (s .reports), add-zero) a; fits = tt }
 
-  onward-after : (s : Seen) (e : Effect) (bs : List ℕ) (r : Outcome) → Each Fits (e .reports) → Onward (onto s bs e) (drop (lengthField bs) bs) r → Onward s bs (after e r)
+  onward-after : (s : Seen) (e : Effect) (bs : List ℕ) (r : Outcome) → ForAll Fits (e .reports) → Onward (onto s bs e) (drop (lengthField bs) bs) r → Onward s bs (after e r)
   unfolding after parts went onto
   onward-after s e bs r f x = record {
     holds = rw (add-suc, ← suc-add, ← append-assoc (s .messages) (bs ∷ []) (parts (r .done) (drop (lengthField bs) bs)), ← append-assoc (s .reports) (e .reports) (r .reports)) (x .holds);

@@ -12,7 +12,7 @@ use Rattle.rules.specs.declared.Venue.{Venue}
 use Rattle.rules.specs.Base.{if_then_else_}
 use Rattle.rules.specs.Words.{freshVenue}
 use Rattle.rules.specs.Messages.{messageOf}
-use Rattle.rules.specs.Records.{Each, Report, U32, answer, cancelled, crossed, generated, pair, removed, trade}
+use Rattle.rules.specs.Records.{ForAll, Report, FourBytes, answer, cancelled, crossed, generated, pair, removed, trade}
 use Rattle.rules.specs.Effects.{Effect, nothing}
 use Rattle.rules.specs.Refusals.{refusal}
 use Rattle.rules.specs.Step.{accept, answered, step}
@@ -28,7 +28,7 @@ use Rattle.demands.proofs.Soundness.{sound-out}
 
 -- Answers among records ----------------------------------------------------------------------
 
-no-answers : (rs : List Report) → Each NoAnswer rs → answers rs ≡ []
+no-answers : (rs : List Report) → ForAll NoAnswer rs → answers rs ≡ []
 unfolding answers
 no-answers [] h = refl
 no-answers (answer _ _ _ _ ∷ rs) h = absurd (h .0)
@@ -116,7 +116,7 @@ start-told : Told start
 unfolding start answers answersOf leaves
 start-told = record { told = refl; messages = refl; venue = refl; sound = fresh-sound }
 
-more-told : (s : Seen) (bs : List ℕ) → Told s → U32 (suc (s .done)) → Told (onto s bs (step (s .venue) (suc (s .done)) bs .effect))
+more-told : (s : Seen) (bs : List ℕ) → Told s → FourBytes (suc (s .done)) → Told (onto s bs (step (s .venue) (suc (s .done)) bs .effect))
 unfolding onto venueAfter
 more-told s bs t few =
     let v = s .venue in

@@ -7,7 +7,7 @@ use Prim.Native.Nat.{ℕ}
 use lib.ListN.{length}
 use Rattle.rules.specs.declared.Venue.{Venue}
 use Rattle.rules.specs.Words.{freshVenue}
-use Rattle.rules.specs.Records.{U32}
+use Rattle.rules.specs.Records.{FourBytes}
 use Rattle.rules.specs.Step.{step}
 use Rattle.rules.specs.Sound.{sound}
 use Rattle.rules.specs.Calls.{one}
@@ -43,4 +43,4 @@ NeverNine = (o : Opening) (gs : List Given) (g : Given) →
 
 -- and the messages done so far, which the next call is given, are a u32
 abbrev pub DoneFits : Type 0
-DoneFits = (o : Opening) (gs : List Given) → U32 (calls (opening o) gs .done)
+DoneFits = (o : Opening) (gs : List Given) → FourBytes (calls (opening o) gs .done)

@@ -8,7 +8,7 @@ use native.Mathlib.Numerals.{add-one}
 use lib.ListN.{length, take, replicate}
 use Rattle.rules.specs.declared.Venue.{Venue}
 use Rattle.rules.specs.Records.{Report, encodeAll, sheet}
-use Rattle.rules.specs.Step.{Answered, step}
+use Rattle.rules.specs.Step.{StepOutcome, step}
 use Rattle.rules.specs.Sound.{sound}
 use Rattle.rules.specs.Calls.{called, exceeds, ends, after, oneFrom, one}
 use Rattle.wire.proofs.Stages.{stage-venue, stage-written}
@@ -65,7 +65,7 @@ module _ (v : Venue) (n room : ℕ) (m : List ℕ) where
 -- the message was done upon b₀, which stands for v: r is what its step returned, b and o what it left
 module _ (v : Venue) (n : ℕ) (m b₀ b l o : List ℕ) (r : Stepped) (fine : sound v ≡ true) (stands : venueOf b₀ ≡ v) (few : n < 4294967295)
     (steps : Steps (step (venueOf b₀) (n + 1) m) l r b o) where
-  abbrev a : Answered
+  abbrev a : StepOutcome
   a = step v (suc n) m
 
   abbrev rs : List Report

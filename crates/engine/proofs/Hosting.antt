@@ -13,7 +13,7 @@ use Rattle.rules.specs.declared.Venue.{Venue}
 use Rattle.rules.specs.declared.Returned.{Returned}
 use Rattle.rules.specs.Base.{held}
 use Rattle.rules.specs.Words.{within, isClass, isStatus, isAway, notListed}
-use Rattle.rules.specs.Records.{U8, I32, encodeAll, sheet}
+use Rattle.rules.specs.Records.{OneByte, FourSigned, encodeAll, sheet}
 use Rattle.rules.specs.Effects.{Effect}
 use Rattle.rules.specs.Places.{blankComplex}
 use Rattle.rules.specs.Refusals.{complexInRange}
@@ -56,13 +56,13 @@ module _ (memory : List ℕ) (n : ℕ) (l bs : List ℕ) where
 
 -- The next call -------------------------------------------------------------------------------
 
-limit-fits : (z : ℤ) → plus z ≤ 200000 → minus z ≤ 200000 → I32 z
+limit-fits : (z : ℤ) → plus z ≤ 200000 → minus z ≤ 200000 → FourSigned z
 unfolding plus minus
 limit-fits (pos n) a b = omega arith
 limit-fits (negsuc n) a b = omega arith
 
 class-fits : (c : Complex) (t : Bool) → held (c .quantity) ≡ t → (held (c .quantity) ≡ true → complexInRange c ≡ true) →
-    (held (c .quantity) ≡ false → blankComplex c ≡ true) → U8 (c .class)
+    (held (c .quantity) ≡ false → blankComplex c ≡ true) → OneByte (c .class)
 unfolding complexInRange isClass within blankComplex
 class-fits c true h asked blank = let z = asked h in let k = leb-true (c .class) 1 (search (and-l, and-r, z) depth 12) in omega arith
 class-fits c false h asked blank = let z = blank h in let k = eqb-true (c .class) 0 (search (and-l, and-r, z) depth 12) in omega arith

@@ -15,7 +15,7 @@ use Rattle.rules.specs.Words.{freshVenue}
 use Rattle.rules.specs.Bytes.{lengthField}
 use Rattle.rules.specs.Records.{Report, encodeAll, sheet}
 use Rattle.rules.specs.Refusals.{torn}
-use Rattle.rules.specs.Step.{Answered, answered, step}
+use Rattle.rules.specs.Step.{StepOutcome, answered, step}
 use Rattle.rules.specs.Calls.{Outcome, called, exceeds, ends, after, runFrom, run}
 use Rattle.rules.proofs.Calling.{encode-append}
 use Rattle.rules.proofs.Refusing.{whole}
@@ -123,7 +123,7 @@ module _ (t : Turn) (m b₀ b l ys : List ℕ) (r : Stepped) (a : t .at < length
   abbrev v : Venue
   v = venueOf b₀
 
-  abbrev done : Answered
+  abbrev done : StepOutcome
   done = step v (suc (t .done)) bs
 
   abbrev rs : List Report
@@ -415,7 +415,7 @@ copy-next l from i e h =
 
 -- A step tried --------------------------------------------------------------------------------
 
-module _ (a : Answered) (b₀ l : List ℕ) (r : Stepped) (b o : List ℕ) (s : Steps a l r b o) where
+module _ (a : StepOutcome) (b₀ l : List ℕ) (r : Stepped) (b o : List ℕ) (s : Steps a l r b o) where
   pub tries-done : r .written ≤ length l → Tries a b₀ l r b o
   tries-done h =
       record {

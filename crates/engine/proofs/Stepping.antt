@@ -23,7 +23,7 @@ use Rattle.rules.specs.Trading.{freeRegular, freeComplex}
 use Rattle.rules.specs.Complex.{restsRegular, restsComplex}
 use Rattle.rules.specs.Places.{closeGaps}
 use Rattle.rules.specs.Refusals.{inRange, decoded, full, unknown, refusalOf, refusal}
-use Rattle.rules.specs.Step.{perform, accept, mask, Answered, answered, step}
+use Rattle.rules.specs.Step.{perform, accept, mask, StepOutcome, answered, step}
 use Rattle.rules.proofs.Refusing.{decoded-by, refusalOf-by}
 use Rattle.wire.specs.Seen.{Seen, seen, _writes_}
 use Rattle.wire.specs.Stage.{stage, _does_}
@@ -98,7 +98,7 @@ accepted-law w e l k m o i end number x c p s a b q =
     ∙ ap₂ (λ (y z : ℕ). seen l 0 writes (answer number 0 y z ∷ e .reports)) xe (b ∙ ap ones xe ∙ ones-mask (e .venue .legging)))
 
 -- one answer as another that equals it
-pub steps-as : (a c : Answered) (l : List ℕ) (r : Stepped) (b o : List ℕ) → a ≡ c → Steps a l r b o → Steps c l r b o
+pub steps-as : (a c : StepOutcome) (l : List ℕ) (r : Stepped) (b o : List ℕ) → a ≡ c → Steps a l r b o → Steps c l r b o
 steps-as a c l r b o e s = rw e at s
 
 module _ (v : Venue) (number : ℕ) (m : Message) where

@@ -8,20 +8,20 @@ use Rattle.rules.specs.declared.Message.{Message}
 use Rattle.rules.specs.Base.{if_then_else_}
 use Rattle.rules.specs.Effects.{nothing}
 use Rattle.rules.specs.Refusals.{refusalOf}
-use Rattle.rules.specs.Step.{Answered, answered, accept}
+use Rattle.rules.specs.Step.{StepOutcome, answered, accept}
 use Rattle.wire.specs.Seen.{seen}
 use Rattle.wire.specs.Stage.{stage, _does_}
 use Rattle.places.specs.Layout.{venueOf, Dense}
 use Rattle.engine.specs.declared.Stepped.{Stepped}
 
 -- the answer to a message whose fields are in range
-unfoldable pub answeredBy : Venue → (number : ℕ) → Message → Answered
+unfoldable pub answeredBy : Venue → (number : ℕ) → Message → StepOutcome
 answeredBy v number m =
     let x = refusalOf v m in
     answered number x (if eqb x 0 then accept m v else nothing v)
 
 -- the answered message, done: its venue, its records from the start of the memory, and no gaps left
-pub record Steps (a : Answered) (out₀ : List ℕ) (r : Stepped) (b out : List ℕ) : Type 0 where
+pub record Steps (a : StepOutcome) (out₀ : List ℕ) (r : Stepped) (b out : List ℕ) : Type 0 where
   pub refused : r .refused ≡ a .refused
   pub staged : stage (venueOf b) out (r .written) ≡ seen out₀ 0 does a .effect
   pub dense : Dense b

@@ -10,7 +10,7 @@ use lib.IntN.{ℤ, pos, negsuc}
 use lib.ListN.{length, length-append}
 use borrow.Author.Tests.{ltb-true, ltb-false}
 use Rattle.rules.specs.Lengths.{recordLength}
-use Rattle.rules.specs.Records.{Fits, I32, Report, answer, trade, pair, generated, removed, crossed, cancelled, causeNumber, encode, encodeAll}
+use Rattle.rules.specs.Records.{Fits, FourSigned, Report, answer, trade, pair, generated, removed, crossed, cancelled, causeNumber, encode, encodeAll}
 use Rattle.rules.proofs.Reading.{cause-small}
 use Rattle.rules.proofs.Worth.{lengths}
 use Rattle.lines.specs.Lines.{decimal, line, lineOf, signed, signedWord, textOf, word, words}
@@ -44,7 +44,7 @@ number-length : (n : ℕ) → n < 4294967296 → length (word n) ≤ 11
 unfolding word
 number-length n h = let i = decimal-length 9 n (omega arith) in omega arith
 
-signed-length : (z : ℤ) → I32 z → length (signedWord z) ≤ 12
+signed-length : (z : ℤ) → FourSigned z → length (signedWord z) ≤ 12
 unfolding signedWord signed
 signed-length (pos n) h = let i = decimal-length 9 n (omega arith) in omega arith
 signed-length (negsuc n) h = let i = decimal-length 9 (suc n) (omega arith) in omega arith

@@ -9,7 +9,7 @@ use lib.ListN.{length}
 use borrow.Author.Tests.{ne-eqb, eqb-false, not-true}
 use Rattle.rules.specs.declared.Regular.{Regular}
 use Rattle.rules.specs.declared.Venue.{Venue}
-use Rattle.rules.specs.Base.{held, Picked, nobody, picked, first}
+use Rattle.rules.specs.Base.{held, Choice, nobody, picked, first}
 use Rattle.rules.specs.Words.{opposite, noRegular, regularAt, earlier}
 use Rattle.rules.specs.Prices.{shown, showsAt, showsFor}
 use Rattle.rules.specs.Records.{trade}
@@ -28,12 +28,12 @@ use Rattle.removal.proofs.Removing.{counts-on}
 
 -- What a pick says ----------------------------------------------------------------------------
 
-pub picked-is : (x : Picked Regular) (i : ℕ) (o : Regular) → pick.At i o ≡ pickOf x → x ≡ picked i o
+pub picked-is : (x : Choice Regular) (i : ℕ) (o : Regular) → pick.At i o ≡ pickOf x → x ≡ picked i o
 unfolding pickOf
 picked-is nobody i o e = let z : _≡_ {A = ℕ} 0 1 = cc in absurd (omega arith)
 picked-is (picked j m) i o e = cc
 
-pub nobody-is : (x : Picked Regular) → pick.Nobody ≡ pickOf x → x ≡ nobody
+pub nobody-is : (x : Choice Regular) → pick.Nobody ≡ pickOf x → x ≡ nobody
 unfolding pickOf
 nobody-is nobody e = refl
 nobody-is (picked j m) e = let z : _≡_ {A = ℕ} 0 1 = cc in absurd (omega arith)
@@ -64,7 +64,7 @@ shows-some s d p o h =
     omega arith
 
 module _ (taker s d p : ℕ) where
-  abbrev wanted : Venue → Picked Regular
+  abbrev wanted : Venue → Choice Regular
   wanted v = first (showsFor s (opposite d) p) earlier (v .regular)
 
   pub take-done : (f : ℕ) (v : Venue) → nothing v ≡ take f taker s d p 0 v
@@ -86,7 +86,7 @@ module _ (taker s d p : ℕ) where
       some : (i : ℕ) (o : Regular) → wanted v ≡ picked i o → 0 < o .quantity
       some i o h = shows-some s (opposite d) p o ((rw h at (first-chosen noRegular (showsFor s (opposite d) p) earlier (v .regular))) .is)
 
-      go : (t : Bool) → held k ≡ t → (x : Picked Regular) → wanted v ≡ x → ((y : ℕ) (w : Venue) → y ≤ f → y ≤ g → take f taker s d p y w ≡ take g taker s d p y w) →
+      go : (t : Bool) → held k ≡ t → (x : Choice Regular) → wanted v ≡ x → ((y : ℕ) (w : Venue) → y ≤ f → y ≤ g → take f taker s d p y w ≡ take g taker s d p y w) →
           _≡_ {A = Effect}
           (elim t [ false ↦ nothing v | true ↦ elim x [ nobody ↦ nothing v | picked i o ↦ tradeWith taker d i (min k (shown o)) v ⟫ take f taker s d p (k - min k (shown o)) ] ])
           (elim t [ false ↦ nothing v | true ↦ elim x [ nobody ↦ nothing v | picked i o ↦ tradeWith taker d i (min k (shown o)) v ⟫ take g taker s d p (k - min k (shown o)) ] ])
@@ -99,12 +99,12 @@ module _ (taker s d p : ℕ) where
 
   module _ (v : Venue) where
     -- the definition, of what its tests come to
-    take-by : (f k : ℕ) (t : Bool) (x : Picked Regular) → held k ≡ t → wanted v ≡ x →
+    take-by : (f k : ℕ) (t : Bool) (x : Choice Regular) → held k ≡ t → wanted v ≡ x →
         _≡_ {A = Effect} (take (suc f) taker s d p k v)
         (elim t [ false ↦ nothing v | true ↦ elim x [ nobody ↦ nothing v | picked i o ↦ tradeWith taker d i (min k (shown o)) v ⟫ take f taker s d p (k - min k (shown o)) ] ])
     unfolding take
     take-by f k t x e h =
-        ap₂ (λ (t : Bool) (x : Picked Regular). elim t [ false ↦ nothing v | true ↦ elim x [ nobody ↦ nothing v | picked i o ↦ tradeWith taker d i (min k (shown o)) v ⟫ take f taker s d p (k - min k (shown o)) ] ]) e h
+        ap₂ (λ (t : Bool) (x : Choice Regular). elim t [ false ↦ nothing v | true ↦ elim x [ nobody ↦ nothing v | picked i o ↦ tradeWith taker d i (min k (shown o)) v ⟫ take f taker s d p (k - min k (shown o)) ] ]) e h
 
     pub take-out : (k : ℕ) → 0 < k → pick.Nobody ≡ pickOf (wanted v) → nothing v ≡ take k taker s d p k v
     take-out zero n e = absurd (omega arith)

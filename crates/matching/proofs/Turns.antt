@@ -9,7 +9,7 @@ use borrow.Author.Tests.{eq-eqb, ne-eqb}
 use Rattle.rules.specs.declared.Regular.{Regular}
 use Rattle.rules.specs.declared.Legging.{Legging}
 use Rattle.rules.specs.declared.Venue.{Venue}
-use Rattle.rules.specs.Base.{if_then_else_, held, Picked, nobody, picked, first}
+use Rattle.rules.specs.Base.{if_then_else_, held, Choice, nobody, picked, first}
 use Rattle.rules.specs.Words.{opposite, regularAt, leggingAt}
 use Rattle.rules.specs.Prices.{ownPrice, better, reaches}
 use Rattle.rules.specs.Effects.{Effect, nothing, _⟫_, Turn, ended, turned, repeat}
@@ -45,7 +45,7 @@ module _ (o : Regular) (l : Legging) (p own : ℕ) (e : own ≡ ownPrice l) wher
 
 -- the turn of the order at place i, by its parts
 module _ (i : ℕ) (v : Venue) where
-  abbrev by-pick : Regular → Legging → Picked Regular → Turn
+  abbrev by-pick : Regular → Legging → Choice Regular → Turn
   by-pick o l x = elim x [
     | nobody ↦ if leggingFirst o l 0 then turned (hit i l (min (o .quantity) (l .quantity)) v) else ended
     | picked j m ↦
@@ -68,7 +68,7 @@ module _ (i : ℕ) (v : Venue) (o : Regular) (eo : o ≡ regularAt v i) where
 
   module _ (l : Legging) (n : o .quantity ≡ 0 → ⊥) (el : l ≡ leggingAt v (o .series) (opposite (o .side))) where
     -- the definition, of this order and this legging order
-    turn-is : (x : Picked Regular) → first (isMet (o .series) (o .side) (o .price)) priceThenId (v .regular) ≡ x → by-pick i v o l x ≡ meetTurn i v
+    turn-is : (x : Choice Regular) → first (isMet (o .series) (o .side) (o .price)) priceThenId (v .regular) ≡ x → by-pick i v o l x ≡ meetTurn i v
     turn-is x e =
         sym (turn-by i v
         ∙ ap (λ (o : Regular). by-test i v (not (held (o .quantity))) (by-pick i v o (leggingAt v (o .series) (opposite (o .side))) (first (isMet (o .series) (o .side) (o .price)) priceThenId (v .regular)))) (sym eo)

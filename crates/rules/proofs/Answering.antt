@@ -11,7 +11,7 @@ use Rattle.rules.specs.declared.Legging.{Legging}
 use Rattle.rules.specs.declared.Venue.{Venue}
 use Rattle.rules.specs.Base.{held, if_then_else_}
 use Rattle.rules.specs.Messages.{messageOf}
-use Rattle.rules.specs.Records.{Each, Fits, Report, U16, U32, U8, answer}
+use Rattle.rules.specs.Records.{ForAll, Fits, Report, TwoBytes, FourBytes, OneByte, answer}
 use Rattle.rules.specs.Effects.{Effect, nothing}
 use Rattle.rules.specs.Refusals.{refusal}
 use Rattle.rules.specs.Step.{accept, answered, filled, mask, step}
@@ -41,10 +41,10 @@ filled-small (l ∷ ls) = go (held (l .quantity)) (filled-small ls)
     go true h = omega arith
     go false h = omega arith
 
-mask-fits : (ls : List Legging) → length ls ≡ 16 → U16 (mask ls)
+mask-fits : (ls : List Legging) → length ls ≡ 16 → TwoBytes (mask ls)
 mask-fits ls e = rw e at (mask-small ls)
 
-count-fits : (ls : List Legging) → length ls ≡ 16 → U8 (filled ls)
+count-fits : (ls : List Legging) → length ls ≡ 16 → OneByte (filled ls)
 count-fits ls e = let z = filled-small ls in omega arith
 
 -- The step ------------------------------------------------------------------------------------
@@ -55,11 +55,11 @@ pub record Told (v : Venue) (n : ℕ) (bs : List ℕ) : Type 0 where
   pub count : ℕ
   pub effects : List Report
   pub is : step v n bs .effect .reports ≡ answer n (step v n bs .refused) mask count ∷ effects
-  pub quiet : Each NoAnswer effects
+  pub quiet : ForAll NoAnswer effects
   pub ranged : Ranged (step v n bs .effect .venue)
-  pub fits : U32 n → Each Fits (step v n bs .effect .reports)
+  pub fits : FourBytes n → ForAll Fits (step v n bs .effect .reports)
 
-told-of : (n x : ℕ) (e : Effect) → x ≤ 8 → Writes e → U32 n → Each Fits (answered n x e .effect .reports)
+told-of : (n x : ℕ) (e : Effect) → x ≤ 8 → Writes e → FourBytes n → ForAll Fits (answered n x e .effect .reports)
 unfolding answered
 told-of n x e s w h =
     ((h, omega arith, mask-fits (e .venue .legging) (w .ranged .len), count-fits (e .venue .legging) (w .ranged .len)), w .fits)

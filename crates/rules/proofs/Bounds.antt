@@ -15,7 +15,7 @@ use Rattle.rules.specs.declared.Regular.{Regular}
 use Rattle.rules.specs.declared.Venue.{Venue}
 use Rattle.rules.specs.Base.{held}
 use Rattle.rules.specs.Words.{buy, increment, isAway, isId, isPrice, isQuantity, leggingAt, noRegular, notListed, opposite, sell, signed, within}
-use Rattle.rules.specs.Records.{I32}
+use Rattle.rules.specs.Records.{FourSigned}
 use Rattle.rules.specs.Prices.{away, bestIn, bestOwn, bestRegular, better, betterOf, clearPrice, displayed, inBand, marketBest, ownPrice, reaches, showsAt, taken1, taken2}
 use Rattle.rules.specs.Standing.{otherSize}
 use Rattle.rules.specs.Generation.{legPrice, newLegging, reachesAny}
@@ -47,7 +47,7 @@ pub clear-small : (v : Venue) → Ranged v → (s d : ℕ) → clearPrice v s d 
 unfolding clearPrice
 clear-small v r s d = if-by (λ p. p ≤ 100000) (better d (ownPrice (leggingAt v s d)) (bestRegular v s d)) (λ _. omega arith) (λ _. regular-small v r s d)
 
-small-i32 : (z : ℤ) → plus z ≤ 1000000 → minus z ≤ 1000000 → I32 z
+small-i32 : (z : ℤ) → plus z ≤ 1000000 → minus z ≤ 1000000 → FourSigned z
 unfolding plus minus
 small-i32 (pos n) p m = omega arith
 small-i32 (negsuc n) p m = omega arith
@@ -64,7 +64,7 @@ unfolding plus minus
 one-part (pos n) a b h = (omega arith, omega arith)
 one-part (negsuc n) a b h = (omega arith, omega arith)
 
-pub net-i32 : (d e a b : ℕ) → a ≤ 100000 → b ≤ 100000 → I32 (signed d (pos a) +ℤ signed e (pos b))
+pub net-i32 : (d e a b : ℕ) → a ≤ 100000 → b ≤ 100000 → FourSigned (signed d (pos a) +ℤ signed e (pos b))
 net-i32 d e a b p q =
     let x = signed d (pos a) in
     let y = signed e (pos b) in
@@ -73,7 +73,7 @@ net-i32 d e a b p q =
     let u = signed-size e b in
     small-i32 (x +ℤ y) (omega arith) (omega arith)
 
-pub neg-i32 : (z : ℤ) → plus z ≤ 200000 → minus z ≤ 200000 → I32 (negℤ z)
+pub neg-i32 : (z : ℤ) → plus z ≤ 200000 → minus z ≤ 200000 → FourSigned (negℤ z)
 neg-i32 z p m = small-i32 (negℤ z) (rw (neg-plus z) (omega arith)) (rw (neg-minus z) (omega arith))
 
 -- A new legging order -------------------------------------------------------------------------

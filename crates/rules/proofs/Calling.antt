@@ -16,7 +16,7 @@ use Rattle.rules.specs.Messages.{messageOf}
 use Rattle.rules.specs.Records.{Report, encode, encodeAll, sheet}
 use Rattle.rules.specs.Effects.{Effect, nothing}
 use Rattle.rules.specs.Refusals.{full, refusal, torn}
-use Rattle.rules.specs.Step.{Answered, accept, answered, step}
+use Rattle.rules.specs.Step.{StepOutcome, accept, answered, step}
 use Rattle.rules.specs.Sound.{sound}
 use Rattle.rules.specs.Calls.{Outcome, after, called, ends, exceeds, one, oneFrom, run, runFrom}
 use Rattle.rules.proofs.Cases.{if-by}
@@ -43,7 +43,7 @@ unfolding exceeds
 not-exceeds number room rs few enough = rw (le-ltb 4294967295 number few, le-ltb room (length (encodeAll rs)) enough)
 
 module _ {ℓ} (Q : Outcome → Type ℓ) (v : Venue) (n room : ℕ) (bs : List ℕ) where
-  abbrev x : Answered
+  abbrev x : StepOutcome
   x = step v (suc n) bs
 
   abbrev e : Effect

@@ -7,7 +7,7 @@ use Rattle.rules.specs.declared.Regular.{Regular}
 use Rattle.rules.specs.declared.Complex.{Complex}
 use Rattle.rules.specs.declared.Legging.{Legging}
 use Rattle.rules.specs.declared.Venue.{Venue}
-use Rattle.rules.specs.Base.{if_then_else_, held, Picked, nobody, picked, first}
+use Rattle.rules.specs.Base.{if_then_else_, held, Choice, nobody, picked, first}
 use Rattle.rules.specs.Words.{opposite, noRegular, noComplex, regularAt, complexAt, leggingAt, earlier, earlierComplex}
 use Rattle.rules.specs.Effects.{Effect, nothing, _⟫_, Turn, ended, turned, repeat}
 use Rattle.rules.specs.Prices.{shown, showsFor}
@@ -36,7 +36,7 @@ module _ {ℓ} (Q : Effect → Type ℓ) (fuel x s d p k : ℕ) (v : Venue) wher
   unfolding take
   take-by none empty more = go (held k) refl
     where
-      pick : (y : Picked Regular) → Chosen noRegular there (v .regular) y → held k ≡ true → Q (elim y [ nobody ↦ nothing v | picked i o ↦ goesOn i o ])
+      pick : (y : Choice Regular) → Chosen noRegular there (v .regular) y → held k ≡ true → Q (elim y [ nobody ↦ nothing v | picked i o ↦ goesOn i o ])
       pick nobody c e = empty e c
       pick (picked i o) c e = more e i o c
 
@@ -83,7 +83,7 @@ module _ {ℓ} (Q : Turn → Type ℓ) (i : ℕ) (v : Venue) where
   unfolding meetTurn firstMet
   meetTurn-by done alone hits meets = go (held (o .quantity)) refl (first met priceThenId (v .regular)) (first-chosen noRegular met priceThenId (v .regular))
     where
-      go : (b : Bool) → held (o .quantity) ≡ b → (x : Picked Regular) → Chosen noRegular met (v .regular) x →
+      go : (b : Bool) → held (o .quantity) ≡ b → (x : Choice Regular) → Chosen noRegular met (v .regular) x →
           Q (if not b then ended else elim x as (λ _. Turn) [
             | nobody ↦ if leggingFirst o l 0 then hitting else ended
             | picked j m ↦ if leggingFirst o l (m .price) then hitting else meeting j m
@@ -106,7 +106,7 @@ module _ {ℓ} (Q : Turn → Type ℓ) (i : ℕ) (v : Venue) where
   crossTurn-by done alone meets =
       go (held (c .quantity)) refl (first (crosses v c) limitThenId (v .complex)) (first-chosen noComplex (crosses v c) limitThenId (v .complex))
     where
-      go : (b : Bool) → held (c .quantity) ≡ b → (x : Picked Complex) → Chosen noComplex (crosses v c) (v .complex) x →
+      go : (b : Bool) → held (c .quantity) ≡ b → (x : Choice Complex) → Chosen noComplex (crosses v c) (v .complex) x →
           Q (if not b then ended else elim x as (λ _. Turn) [
             | nobody ↦ ended
             | picked j m ↦ turned (cross i j (min (c .quantity) (m .quantity)) v)
@@ -126,7 +126,7 @@ module _ {ℓ} (Q : Effect → Type ℓ) (fuel : ℕ) (f : ℕ → Venue → Eff
   unfolding each
   each-by none more = go (nextAbove id v) refl (unfold nextAbove in (first-chosen noComplex (isAbove id) earlierComplex (v .complex)))
     where
-      go : (x : Picked Complex) → nextAbove id v ≡ x → Chosen noComplex (isAbove id) (v .complex) x →
+      go : (x : Choice Complex) → nextAbove id v ≡ x → Chosen noComplex (isAbove id) (v .complex) x →
           Q (elim x [ nobody ↦ nothing v | picked i c ↦ f i v ⟫ each fuel f (c .id) ])
       go nobody e a = none e
       go (picked i c) e a = more i c e a

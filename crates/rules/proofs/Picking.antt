@@ -6,7 +6,7 @@ use Prim.Native.Nat.{ℕ, zero, suc, _+_, _<_}
 use native.Mathlib.Nat.{zero-add}
 use native.Mathlib.Omega.{arith}
 use lib.ListN.{getD, length, set}
-use Rattle.rules.specs.Base.{if_then_else_, Picked, nobody, picked, ranked, firstFrom, first}
+use Rattle.rules.specs.Base.{if_then_else_, Choice, nobody, picked, ranked, firstFrom, first}
 
 module _ {A : Type 0} (d : A) (candidate : A → Bool) where
   -- a is the candidate at place i of l
@@ -16,23 +16,23 @@ module _ {A : Type 0} (d : A) (candidate : A → Bool) where
     pub is : candidate a ≡ true
 
   -- what is picked from l, the places of which begin at n
-  ChosenFrom : ℕ → List A → Picked A → Type 0
+  ChosenFrom : ℕ → List A → Choice A → Type 0
   ChosenFrom n l nobody = (i : ℕ) → i < length l → candidate (getD l i d) ≡ false
   ChosenFrom n l (picked j a) = (i : ℕ) × (j ≡ n + i) × At l i a
 
-  abbrev pub Chosen : List A → Picked A → Type 0
+  abbrev pub Chosen : List A → Choice A → Type 0
   Chosen l nobody = (i : ℕ) → i < length l → candidate (getD l i d) ≡ false
   Chosen l (picked i a) = At l i a
 
   module _ (before : A → A → Bool) where
-    past : (n : ℕ) (a : A) (l : List A) (x : Picked A) → candidate a ≡ false → ChosenFrom (suc n) l x → ChosenFrom n (a ∷ l) x
+    past : (n : ℕ) (a : A) (l : List A) (x : Choice A) → candidate a ≡ false → ChosenFrom (suc n) l x → ChosenFrom n (a ∷ l) x
     unfolding ChosenFrom
     past n a l nobody e h = λ i. elim i [ zero ↦ λ _. e | suc j ↦ λ q. h j (omega arith) ]
     past n a l (picked j b) e h =
         let z = h .1 in
         (suc (h .0), omega arith, record { fits = let f = h .2 .fits in omega arith; at = h .2 .at; is = h .2 .is })
 
-    onto : (n : ℕ) (a : A) (l : List A) (x : Picked A) → candidate a ≡ true → ChosenFrom (suc n) l x → ChosenFrom n (a ∷ l) (ranked before n a x)
+    onto : (n : ℕ) (a : A) (l : List A) (x : Choice A) → candidate a ≡ true → ChosenFrom (suc n) l x → ChosenFrom n (a ∷ l) (ranked before n a x)
     unfolding ranked ChosenFrom
     onto n a l nobody e h = (0, omega arith, record { fits = omega arith; at = refl; is = e })
     onto n a l (picked j b) e h = go (before b a)
@@ -53,7 +53,7 @@ module _ {A : Type 0} (d : A) (candidate : A → Bool) where
         go true e h = onto n a l (firstFrom candidate before (suc n) l) e h
         go false e h = past n a l (firstFrom candidate before (suc n) l) e h
 
-    whole : (l : List A) (x : Picked A) → ChosenFrom 0 l x → Chosen l x
+    whole : (l : List A) (x : Choice A) → ChosenFrom 0 l x → Chosen l x
     unfolding ChosenFrom
     whole l nobody h = h
     whole l (picked j a) h = rw (h .1, zero-add) (h .2)
@@ -71,7 +71,7 @@ module _ {A : Type 0} (candidate : A → Bool) (before : A → A → Bool) where
 
 module _ {A : Type 0} (d : A) (candidate : A → Bool) (before : A → A → Bool) (ranks : Ranks candidate before) where
   -- no candidate of l ranks before what is picked
-  Least : List A → Picked A → Type 0
+  Least : List A → Choice A → Type 0
   Least l nobody = Unit {0}
   Least l (picked j a) = (candidate a ≡ true) × ((i : ℕ) → i < length l → candidate (getD l i d) ≡ true → before (getD l i d) a ≡ false)
 
@@ -82,12 +82,12 @@ module _ {A : Type 0} (d : A) (candidate : A → Bool) (before : A → A → Boo
       go true e = ranks .asym a a c c e
       go false e = e
 
-  least-past : (a : A) (l : List A) (x : Picked A) → candidate a ≡ false → Least l x → Least (a ∷ l) x
+  least-past : (a : A) (l : List A) (x : Choice A) → candidate a ≡ false → Least l x → Least (a ∷ l) x
   unfolding Least
   least-past a l nobody e h = tt
   least-past a l (picked j b) e h = (h .0, λ i. elim i [ zero ↦ λ _ c. absurd (true≢false (sym c ∙ e)) | suc k ↦ λ q c. h .1 k (omega arith) c ])
 
-  least-onto : (n : ℕ) (a : A) (l : List A) (x : Picked A) → candidate a ≡ true → ((i : ℕ) → i < length l → candidate (getD l i d) ≡ true → x ≡ nobody → ⊥) →
+  least-onto : (n : ℕ) (a : A) (l : List A) (x : Choice A) → candidate a ≡ true → ((i : ℕ) → i < length l → candidate (getD l i d) ≡ true → x ≡ nobody → ⊥) →
       Least l x → Least (a ∷ l) (ranked before n a x)
   unfolding Least ranked
   least-onto n a l nobody e some h = (e, λ i. elim i [ zero ↦ λ _ _. self a e | suc k ↦ λ q c. absurd (some k (omega arith) c refl) ])
@@ -109,7 +109,7 @@ module _ {A : Type 0} (d : A) (candidate : A → Bool) (before : A → A → Boo
   least-from n [] = tt
   least-from n (a ∷ l) = go (candidate a) refl (least-from (suc n) l) (first-from d candidate before (suc n) l)
     where
-      some : (x : Picked A) → ChosenFrom d candidate (suc n) l x → (i : ℕ) → i < length l → candidate (getD l i d) ≡ true → x ≡ nobody → ⊥
+      some : (x : Choice A) → ChosenFrom d candidate (suc n) l x → (i : ℕ) → i < length l → candidate (getD l i d) ≡ true → x ≡ nobody → ⊥
       some nobody h i q c r = true≢false (sym c ∙ h i q)
       some (picked j b) h i q c r = let z : _≡_ {A = ℕ} 0 1 = cc in omega arith
 
@@ -122,7 +122,7 @@ module _ {A : Type 0} (d : A) (candidate : A → Bool) (before : A → A → Boo
   pub first-least : (l : List A) (j : ℕ) (a : A) → first candidate before l ≡ picked j a →
       (i : ℕ) → i < length l → candidate (getD l i d) ≡ true → before (getD l i d) a ≡ false
   unfolding Least
-  first-least l j a e = (subst (λ (x : Picked A). Least l x) e (least-from 0 l)) .1
+  first-least l j a e = (subst (λ (x : Choice A). Least l x) e (least-from 0 l)) .1
 
 -- a place whose old and new element are no candidates is passed over
 module _ {A : Type 0} (d : A) (candidate : A → Bool) (before : A → A → Bool) where

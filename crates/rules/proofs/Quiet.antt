@@ -14,7 +14,7 @@ use Rattle.rules.specs.declared.Verdict.{Verdict}
 use Rattle.rules.specs.declared.Verdict.the-variants.{Stands, Fails}
 use Rattle.rules.specs.Base.{held}
 use Rattle.rules.specs.Words.{complexAt}
-use Rattle.rules.specs.Records.{Each, Report, answer, trade, pair, generated, removed, crossed, cancelled}
+use Rattle.rules.specs.Records.{ForAll, Report, answer, trade, pair, generated, removed, crossed, cancelled}
 use Rattle.rules.specs.Effects.{Effect, nothing, report, _⟫_, Turn, ended, turned, repeat}
 use Rattle.rules.specs.Removal.{goes, leavers, remove, removeOf}
 use Rattle.rules.specs.Standing.{verdict, settle}
@@ -41,7 +41,7 @@ NoAnswer (cancelled id quantity) = Unit {0}
 
 -- no answer among the records of an effect
 abbrev pub Quiet : Effect → Type 0
-Quiet e = Each NoAnswer (e .reports)
+Quiet e = ForAll NoAnswer (e .reports)
 
 pub quiet-nothing : (v : Venue) → Quiet (nothing v)
 unfolding nothing
@@ -57,12 +57,12 @@ quiet-report r h v = (h, tt)
 
 -- Removals ------------------------------------------------------------------------------------
 
-quiet-goes : (n : ℕ) (x : Verdict) (l : Legging) → Each NoAnswer (goes n x l)
+quiet-goes : (n : ℕ) (x : Verdict) (l : Legging) → ForAll NoAnswer (goes n x l)
 unfolding goes
 quiet-goes n Stands l = tt
-quiet-goes n (Fails c) l = if-by (Each NoAnswer) (held (l .quantity)) (λ _. (tt, tt)) (λ _. tt)
+quiet-goes n (Fails c) l = if-by (ForAll NoAnswer) (held (l .quantity)) (λ _. (tt, tt)) (λ _. tt)
 
-quiet-leavers : (f : ℕ → Legging → Verdict) (n : ℕ) (ls : List Legging) → Each NoAnswer (leavers f n ls)
+quiet-leavers : (f : ℕ → Legging → Verdict) (n : ℕ) (ls : List Legging) → ForAll NoAnswer (leavers f n ls)
 unfolding leavers
 quiet-leavers f n [] = tt
 quiet-leavers f n (l ∷ ls) = each-append NoAnswer (goes n (f n l) l) (leavers f (suc n) ls) (quiet-goes n (f n l) l) (quiet-leavers f (suc n) ls)

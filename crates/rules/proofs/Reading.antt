@@ -9,25 +9,25 @@ use borrow.Author.Tests.{le-ltb, lt-ltb, ne-eqb}
 use Rattle.rules.specs.declared.Cause.{Cause}
 use Rattle.rules.specs.declared.Cause.the-variants.{Executed, NotOpen, OutOfBand, Replaced, Touched, Unpaired, Withdrawn, Worse}
 use Rattle.rules.specs.Bytes.{asSigned, asUnsigned, bytes, framed, kindField, lengthField, u16At, u32At, u8At}
-use Rattle.rules.specs.Records.{Each, Fits, I32, Report, U16, U32, U8, answer, cancelled, causeNumber, causeOf, crossed, encode, encodeAll, generated, pair, recordOf, records, recordsFrom, removed, sheet, trade}
+use Rattle.rules.specs.Records.{ForAll, Fits, FourSigned, Report, TwoBytes, FourBytes, OneByte, answer, cancelled, causeNumber, causeOf, crossed, encode, encodeAll, generated, pair, recordOf, records, recordsFrom, removed, sheet, trade}
 
 -- Fields --------------------------------------------------------------------------------------
 
-pub byte : (x : ℕ) → U8 x → x % 256 ≡ x
+pub byte : (x : ℕ) → OneByte x → x % 256 ≡ x
 byte x h = omega arith
 
-pub half : (x : ℕ) → U16 x → x % 256 + 256 * (x / 256 % 256) ≡ x
+pub half : (x : ℕ) → TwoBytes x → x % 256 + 256 * (x / 256 % 256) ≡ x
 half x h = omega arith
 
-pub word : (x : ℕ) → U32 x → x % 256 + 256 * (x / 256 % 256) + 65536 * (x / 256 / 256 % 256 + 256 * (x / 256 / 256 / 256 % 256)) ≡ x
+pub word : (x : ℕ) → FourBytes x → x % 256 + 256 * (x / 256 % 256) + 65536 * (x / 256 / 256 % 256 + 256 * (x / 256 / 256 / 256 % 256)) ≡ x
 word x h = omega arith
 
-pub signed-back : (z : ℤ) → I32 z → asSigned (asUnsigned z) ≡ z
+pub signed-back : (z : ℤ) → FourSigned z → asSigned (asUnsigned z) ≡ z
 unfolding asSigned asUnsigned
 signed-back (pos n) h = rw (lt-ltb n 2147483648 h)
 signed-back (negsuc n) h = rw (le-ltb (4294967295 - n) 2147483648 (omega arith)) (ap negsuc (omega arith))
 
-pub signed-small : (z : ℤ) → I32 z → U32 (asUnsigned z)
+pub signed-small : (z : ℤ) → FourSigned z → FourBytes (asUnsigned z)
 unfolding asUnsigned
 signed-small (pos n) h = omega arith
 signed-small (negsuc n) h = omega arith
@@ -43,7 +43,7 @@ cause-back NotOpen = refl
 cause-back Replaced = refl
 cause-back Touched = refl
 
-pub cause-small : (c : Cause) → U8 (causeNumber c)
+pub cause-small : (c : Cause) → OneByte (causeNumber c)
 cause-small Worse = omega arith
 cause-small Unpaired = omega arith
 cause-small Executed = omega arith
@@ -110,7 +110,7 @@ unfolding recordsFrom
 one-more fuel r h rest =
     rw (length-back r rest, ne-eqb (length (encode r)) 0 (λ e. (let z = some-length r in omega arith)), recordsFrom, record-back r h rest, length-back r rest, drop-front (encode r) rest)
 
-reads : (fuel m : ℕ) (rs : List Report) → Each Fits rs → length (encodeAll rs) ≤ fuel → recordsFrom fuel (encodeAll rs ++ replicate m 0) ≡ rs
+reads : (fuel m : ℕ) (rs : List Report) → ForAll Fits rs → length (encodeAll rs) ≤ fuel → recordsFrom fuel (encodeAll rs ++ replicate m 0) ≡ rs
 unfolding encodeAll
 reads fuel m [] h le = ended fuel m
 reads zero m (r ∷ rs) h le = (let z = some-length r in let y = simp length-append at le in absurd (omega arith))
@@ -120,7 +120,7 @@ reads (suc fuel) m (r ∷ rs) h le =
     rw (append-assoc (encode r) (encodeAll rs) (replicate m 0), one-more fuel r (h .0) (encodeAll rs ++ replicate m 0), reads fuel m rs (h .1) (omega arith))
 
 -- "the sheet ends at the first zero length or at the end of the report memory": reading so gives back exactly the records written
-pub reads-back : (room : ℕ) (rs : List Report) → Each Fits rs → length (encodeAll rs) ≤ room → records (sheet room rs) ≡ rs
+pub reads-back : (room : ℕ) (rs : List Report) → ForAll Fits rs → length (encodeAll rs) ≤ room → records (sheet room rs) ≡ rs
 unfolding records sheet
 reads-back room rs h le =
     reads (length (encodeAll rs ++ replicate (room - length (encodeAll rs)) 0)) (room - length (encodeAll rs)) rs h

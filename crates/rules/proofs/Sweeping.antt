@@ -10,7 +10,7 @@ use lib.ListN.{getD, length}
 use borrow.Author.Tests.{le-ltb, ltb-false, ltb-true}
 use Rattle.rules.specs.declared.Complex.{Complex}
 use Rattle.rules.specs.declared.Venue.{Venue}
-use Rattle.rules.specs.Base.{Picked, held, if_then_else_, nobody, picked}
+use Rattle.rules.specs.Base.{Choice, held, if_then_else_, nobody, picked}
 use Rattle.rules.specs.Words.{complexAt, earlierComplex, noComplex, withLegging, withRegular}
 use Rattle.rules.specs.Effects.{Effect, _⟫_, nothing, report}
 use Rattle.rules.specs.Removal.{remove}
@@ -106,7 +106,7 @@ each-more f ok zero (suc more) id v le =
 each-more f ok (suc fuel) more id v le =
     rw suc-add (go (nextAbove id v) refl (unfold nextAbove in (first-chosen noComplex (isAbove id) earlierComplex (v .complex))) (each-more f ok fuel more))
   where
-    go : (x : Picked Complex) → nextAbove id v ≡ x → Chosen noComplex (isAbove id) (v .complex) x →
+    go : (x : Choice Complex) → nextAbove id v ≡ x → Chosen noComplex (isAbove id) (v .complex) x →
         ((id : ℕ) (v : Venue) → count id (v .complex) ≤ fuel → each (fuel + more) f id v ≡ each fuel f id v) →
         each (suc (fuel + more)) f id v ≡ each (suc fuel) f id v
     go nobody e a ih = each-done (fuel + more) f id v e ∙ sym (each-done fuel f id v e)

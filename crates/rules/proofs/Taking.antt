@@ -10,7 +10,7 @@ use lib.Seq.{getD-set-other, set-comm}
 use borrow.Author.Tests.{eq-eqb, eqb-true}
 use Rattle.rules.specs.declared.Regular.{Regular}
 use Rattle.rules.specs.declared.Venue.{Venue}
-use Rattle.rules.specs.Base.{Picked, first, held, nobody, picked}
+use Rattle.rules.specs.Base.{Choice, first, held, nobody, picked}
 use Rattle.rules.specs.Words.{earlier, noRegular, opposite, regularAt, withRegular}
 use Rattle.rules.specs.Records.{Report, trade}
 use Rattle.rules.specs.Effects.{Effect, _⟫_, nothing, report}
@@ -183,7 +183,7 @@ module _ (x s d p i : ℕ) (o : Regular) where
   still j m v ne a = rw (getD-set-other (v .regular) j i _ noRegular ne) a
 
   -- one turn of taking, by what is picked
-  abbrev turn : (fuel k : ℕ) → Bool → Picked Regular → Venue → Effect
+  abbrev turn : (fuel k : ℕ) → Bool → Choice Regular → Venue → Effect
   turn fuel k b y v = elim b [
     | false ↦ nothing v
     | true ↦ elim y [ nobody ↦ nothing v | picked j z ↦ tradeWith x d j (min k (shown z)) v ⟫ take fuel x s d p (k - min k (shown z)) ]
@@ -192,7 +192,7 @@ module _ (x s d p i : ℕ) (o : Regular) where
   abbrev Same : (fuel : ℕ) → Type 0
   Same fuel = (k : ℕ) (v : Venue) → there (reg v i) ≡ false → there o ≡ false → take fuel x s d p k (with-it v) .reports ≡ take fuel x s d p k v .reports
 
-  same-turn : (fuel : ℕ) → Same fuel → (k : ℕ) (v : Venue) → there (reg v i) ≡ false → there o ≡ false → (b : Bool) (y : Picked Regular) → Chosen noRegular there (v .regular) y →
+  same-turn : (fuel : ℕ) → Same fuel → (k : ℕ) (v : Venue) → there (reg v i) ≡ false → there o ≡ false → (b : Bool) (y : Choice Regular) → Chosen noRegular there (v .regular) y →
       turn fuel k b y (with-it v) .reports ≡ turn fuel k b y v .reports
   unfolding nothing _⟫_ tradeWith report
   same-turn fuel ih k v a b false y c = refl
@@ -205,7 +205,7 @@ module _ (x s d p i : ℕ) (o : Regular) where
   same-more : (fuel : ℕ) → Same fuel → Same (suc fuel)
   unfolding take
   same-more fuel ih k v a b =
-      subst (λ (y : Picked Regular). turn fuel k (held k) y (with-it v) .reports ≡ turn fuel k (held k) (first there earlier (v .regular)) v .reports) (sym (same-first v a b))
+      subst (λ (y : Choice Regular). turn fuel k (held k) y (with-it v) .reports ≡ turn fuel k (held k) (first there earlier (v .regular)) v .reports) (sym (same-first v a b))
       (same-turn fuel ih k v a b (held k) (first there earlier (v .regular)) (first-chosen noRegular there earlier (v .regular)))
 
   pub take-put : (fuel : ℕ) → Same fuel

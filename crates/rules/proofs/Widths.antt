@@ -18,7 +18,7 @@ use Rattle.rules.specs.declared.Regular.{Regular}
 use Rattle.rules.specs.declared.Venue.{Venue}
 use Rattle.rules.specs.Base.{held}
 use Rattle.rules.specs.Words.{complexAt, increment, isAway, isClass, isId, isLimit, isPrice, isQuantity, isRegularPrice, isSeries, isSide, isStatus, noComplex, noLegging, noRegular, notListed, regularAt, statusOf, withComplex, withLast, withLegging, withRegular, withSeries, within}
-use Rattle.rules.specs.Records.{Each, Report, U32}
+use Rattle.rules.specs.Records.{ForAll, Report, FourBytes}
 use Rattle.rules.specs.Trading.{fillComplex, fillRegular, lessComplex, lessRegular}
 use Rattle.rules.specs.Generation.{placed}
 use Rattle.rules.specs.Places.{blankLegging, closeGaps}
@@ -32,14 +32,14 @@ use Rattle.rules.proofs.Tests.{and-in, and-l, and-r, held-pos, pos-held
 
 -- Records -------------------------------------------------------------------------------------
 
-pub each-append : (P : Report → Type 0) (a b : List Report) → Each P a → Each P b → Each P (a ++ b)
+pub each-append : (P : Report → Type 0) (a b : List Report) → ForAll P a → ForAll P b → ForAll P (a ++ b)
 each-append P [] b h k = k
 each-append P (r ∷ a) b h k = (h .0, each-append P a b (h .1) k)
 
 -- The venue's fields --------------------------------------------------------------------------
 
 pub record RegFits (o : Regular) : Type 0 where
-  pub id : U32 (o .id)
+  pub id : FourBytes (o .id)
   pub series : o .series < 8
   pub side : o .side < 2
   pub price : o .price ≤ 100000
@@ -47,7 +47,7 @@ pub record RegFits (o : Regular) : Type 0 where
   pub ok : held (o .quantity) ≡ true → regularInRange o ≡ true
 
 pub record CxFits (c : Complex) : Type 0 where
-  pub id : U32 (c .id)
+  pub id : FourBytes (c .id)
   pub series1 : c .series1 < 8
   pub side1 : c .side1 < 2
   pub series2 : c .series2 < 8
@@ -58,7 +58,7 @@ pub record CxFits (c : Complex) : Type 0 where
   pub ok : held (c .quantity) ≡ true → complexInRange c ≡ true
 
 pub record LgFits (l : Legging) : Type 0 where
-  pub parent : U32 (l .parent)
+  pub parent : FourBytes (l .parent)
   pub price : l .price ≤ 100000
   pub quantity : l .quantity ≤ 10000
   pub ok : held (l .quantity) ≡ true → (isId (l .parent) && isPrice (l .price) && isQuantity (l .quantity)) ≡ true
@@ -158,7 +158,7 @@ module _ {v : Venue} (r : Ranged v) where
   unfolding withSeries
   with-series l h e = record { regular = r .regular; complex = r .complex; legging = r .legging; listed = h; last = r .last; len = r .len; eight = e ∙ r .eight }
 
-pub last-ranged : (n : ℕ) (v : Venue) → U32 n → Ranged v → Ranged (withLast v n)
+pub last-ranged : (n : ℕ) (v : Venue) → FourBytes n → Ranged v → Ranged (withLast v n)
 unfolding withLast
 last-ranged n v h r = record { regular = r .regular; complex = r .complex; legging = r .legging; listed = r .listed; last = omega arith; len = r .len; eight = r .eight }
 

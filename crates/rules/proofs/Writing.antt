@@ -20,7 +20,7 @@ use Rattle.rules.specs.declared.Verdict.{Verdict}
 use Rattle.rules.specs.declared.Verdict.the-variants.{Fails, Stands}
 use Rattle.rules.specs.Base.{held, if_then_else_}
 use Rattle.rules.specs.Words.{complexAt, increment, isComplexOf, leggingAt, noComplex, noLegging, opposite, regularAt, withLegging}
-use Rattle.rules.specs.Records.{Each, Fits, I32, Report, U32, removed}
+use Rattle.rules.specs.Records.{ForAll, Fits, FourSigned, Report, FourBytes, removed}
 use Rattle.rules.specs.Effects.{Effect, Turn, _⟫_, ended, nothing, repeat, report, turned}
 use Rattle.rules.specs.Prices.{clearPrice, inBand, marketBest, net, ratio1, ratio2, shown, weighed}
 use Rattle.rules.specs.Removal.{goes, leavers, remove, removeOf, stayers}
@@ -42,7 +42,7 @@ use Rattle.rules.proofs.Widths.{CxFits, LgFits, Ranged, away-ranged, cl
 
 -- an effect that writes records that fit and leaves the fields in range
 pub record Writes (e : Effect) : Type 0 where
-  pub fits : Each Fits (e .reports)
+  pub fits : ForAll Fits (e .reports)
   pub ranged : Ranged (e .venue)
 
 pub writes-nothing : (v : Venue) → Ranged v → Writes (nothing v)
@@ -61,16 +61,16 @@ writes-then e f a b =
 
 -- Removals ------------------------------------------------------------------------------------
 
-goes-fit : (n : ℕ) (x : Verdict) (l : Legging) → n < 512 → LgFits l → Each Fits (goes n x l)
+goes-fit : (n : ℕ) (x : Verdict) (l : Legging) → n < 512 → LgFits l → ForAll Fits (goes n x l)
 unfolding goes
 goes-fit n Stands l s h = tt
 goes-fit n (Fails c) l s h = go (held (l .quantity))
   where
-    go : (b : Bool) → Each Fits (if b then removed (l .parent) (n / 2) (n % 2) c ∷ [] else [])
+    go : (b : Bool) → ForAll Fits (if b then removed (l .parent) (n / 2) (n % 2) c ∷ [] else [])
     go true = ((h .parent, omega arith, omega arith), tt)
     go false = tt
 
-leavers-fit : (f : ℕ → Legging → Verdict) (n : ℕ) (ls : List Legging) → n + length ls ≤ 512 → ((i : ℕ) → LgFits (getD ls i noLegging)) → Each Fits (leavers f n ls)
+leavers-fit : (f : ℕ → Legging → Verdict) (n : ℕ) (ls : List Legging) → n + length ls ≤ 512 → ((i : ℕ) → LgFits (getD ls i noLegging)) → ForAll Fits (leavers f n ls)
 unfolding leavers
 leavers-fit f n [] s h = tt
 leavers-fit f n (l ∷ ls) s h =
@@ -94,7 +94,7 @@ writes-removeOf id c v r = writes-remove _ v r
 
 -- Trades --------------------------------------------------------------------------------------
 
-writes-trade : (taker d i k : ℕ) (v : Venue) → U32 taker → d < 2 → k ≤ 10000 → Ranged v → Writes (tradeWith taker d i k v)
+writes-trade : (taker d i k : ℕ) (v : Venue) → FourBytes taker → d < 2 → k ≤ 10000 → Ranged v → Writes (tradeWith taker d i k v)
 unfolding tradeWith regularAt
 writes-trade taker d i k v t s q r =
     let o = r .regular i in
@@ -102,7 +102,7 @@ writes-trade taker d i k v t s q r =
     let p = o .price in
     writes-report _ _ (omega arith, omega arith, omega arith, omega arith, t, o .id) (fill-ranged i k v r)
 
-pub writes-take : (taker s d p fuel k : ℕ) → U32 taker → d < 2 → k ≤ 10000 → (v : Venue) → Ranged v → Writes (take fuel taker s d p k v)
+pub writes-take : (taker s d p fuel k : ℕ) → FourBytes taker → d < 2 → k ≤ 10000 → (v : Venue) → Ranged v → Writes (take fuel taker s d p k v)
 writes-take taker s d p zero k t b q v r = unfold take in (writes-nothing v r)
 writes-take taker s d p (suc fuel) k t b q v r =
     take-by Writes fuel taker s d p k v (λ _. writes-nothing v r) (λ _ _. writes-nothing v r)
@@ -135,7 +135,7 @@ other-side c f s = go (eqb (c .series1) s)
     go true = f .side2
     go false = f .side1
 
-writes-pairOff : (i id : ℕ) (n : ℤ) (k : ℕ) → U32 id → I32 n → k ≤ 10000 → (v : Venue) → Ranged v → Writes (pairOff i id n k v)
+writes-pairOff : (i id : ℕ) (n : ℤ) (k : ℕ) → FourBytes id → FourSigned n → k ≤ 10000 → (v : Venue) → Ranged v → Writes (pairOff i id n k v)
 unfolding pairOff
 writes-pairOff i id n k u s q v r = writes-then _ _ (writes-report _ _ (u, s, omega arith) (fillC-ranged i k v r)) (writes-removeOf _ Executed)
 

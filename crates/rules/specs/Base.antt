@@ -25,23 +25,23 @@ placeWhere f [] = 0
 placeWhere f (x ∷ xs) = if f x then 0 else suc (placeWhere f xs)
 
 -- what is picked from a list: nobody, or an element with its place
-pub data Picked (A : Type 0) : Type 0 where
-  nobody : Picked A
-  picked : ℕ → A → Picked A
+pub data Choice (A : Type 0) : Type 0 where
+  nobody : Choice A
+  picked : ℕ → A → Choice A
 
 module _ {A : Type 0} where
   -- a candidate a at place n, beside the best of those after it: it is picked unless that one ranks before it
-  unfoldable pub ranked : (A → A → Bool) → ℕ → A → Picked A → Picked A
+  unfoldable pub ranked : (A → A → Bool) → ℕ → A → Choice A → Choice A
   ranked before n a nobody = picked n a
   ranked before n a (picked i b) = if before b a then picked i b else picked n a
 
   -- among the candidates of a list whose places begin at n, the one before which none ranks
-  unfoldable pub firstFrom : (A → Bool) → (A → A → Bool) → ℕ → List A → Picked A
+  unfoldable pub firstFrom : (A → Bool) → (A → A → Bool) → ℕ → List A → Choice A
   firstFrom candidate before n [] = nobody
   firstFrom candidate before n (a ∷ rest) =
       let others = firstFrom candidate before (suc n) rest in
       if candidate a then ranked before n a others else others
 
   -- the first in rank of a whole list
-  abbrev pub first : (A → Bool) → (A → A → Bool) → List A → Picked A
+  abbrev pub first : (A → Bool) → (A → A → Bool) → List A → Choice A
   first candidate before l = firstFrom candidate before 0 l

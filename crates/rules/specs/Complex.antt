@@ -7,7 +7,7 @@ use lib.Signed.{leZ, ltZ}
 use Rattle.rules.specs.declared.Complex.{Complex}
 use Rattle.rules.specs.declared.Venue.{Venue}
 use Rattle.rules.specs.declared.Cause.the-variants.{Executed, Withdrawn, Touched}
-use Rattle.rules.specs.Base.{if_then_else_, held, placeWhere, Picked, nobody, picked, first}
+use Rattle.rules.specs.Base.{if_then_else_, held, placeWhere, Choice, nobody, picked, first}
 use Rattle.rules.specs.Words.{closed, opposite, placeOf, statusOf, regularAt, complexAt, isRegularOf, isComplexOf, earlierComplex}
 use Rattle.rules.specs.Prices.{bestRegular, bestSize, bestOwn, net, inBand}
 use Rattle.rules.specs.Records.{crossed, cancelled}
@@ -123,7 +123,7 @@ complex c v =
     work i (putComplex i c v) ⟫ settle ⟫ generate i
 
 -- the earliest resting order above an id, with its place
-unfoldable pub nextAbove : (id : ℕ) → Venue → Picked Complex
+unfoldable pub nextAbove : (id : ℕ) → Venue → Choice Complex
 nextAbove id v = first (λ c. held (c .quantity) && ltb id (c .id)) earlierComplex (v .complex)
 
 -- f for each resting order above an id, "earliest first"; the fuel is the number of places

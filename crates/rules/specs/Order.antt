@@ -5,7 +5,7 @@ use lib.Dec.{eqb}
 use Rattle.rules.specs.declared.Regular.{Regular}
 use Rattle.rules.specs.declared.Legging.{Legging}
 use Rattle.rules.specs.declared.Venue.{Venue}
-use Rattle.rules.specs.Base.{if_then_else_, held, placeWhere, Picked, nobody, picked, first}
+use Rattle.rules.specs.Base.{if_then_else_, held, placeWhere, Choice, nobody, picked, first}
 use Rattle.rules.specs.Words.{opposite, regularAt, leggingAt, isComplexOf, earlier}
 use Rattle.rules.specs.Prices.{better, restsAt, reaches, ownPrice}
 use Rattle.rules.specs.Records.{trade}
@@ -24,7 +24,7 @@ unfoldable pub priceThenId : Regular → Regular → Bool
 priceThenId a b = better (a .side) (a .price) (b .price) || (eqb (a .price) (b .price) && earlier a b)
 
 -- the regular order that the order at place i meets first
-unfoldable pub firstMet : (i : ℕ) → Venue → Picked Regular
+unfoldable pub firstMet : (i : ℕ) → Venue → Choice Regular
 firstMet i v =
     let o = regularAt v i in
     first (isMet (o .series) (o .side) (o .price)) priceThenId (v .regular)

@@ -105,29 +105,29 @@ records memory = recordsFrom (length memory) memory
 
 -- Records whose fields fit their widths -------------------------------------------------------
 
-abbrev pub U8 : ℕ → Type 0
-U8 x = x < 256
+abbrev pub OneByte : ℕ → Type 0
+OneByte x = x < 256
 
-abbrev pub U16 : ℕ → Type 0
-U16 x = x < 65536
+abbrev pub TwoBytes : ℕ → Type 0
+TwoBytes x = x < 65536
 
-abbrev pub U32 : ℕ → Type 0
-U32 x = x < 4294967296
+abbrev pub FourBytes : ℕ → Type 0
+FourBytes x = x < 4294967296
 
-abbrev pub I32 : ℤ → Type 0
-I32 (pos n) = n < 2147483648
-I32 (negsuc n) = n < 2147483648
+abbrev pub FourSigned : ℤ → Type 0
+FourSigned (pos n) = n < 2147483648
+FourSigned (negsuc n) = n < 2147483648
 
 abbrev pub Fits : Report → Type 0
-Fits (answer number refusal mask count) = U32 number × U8 refusal × U16 mask × U8 count
-Fits (trade series side price quantity taker maker) = U8 series × U8 side × U32 price × U32 quantity × U32 taker × U32 maker
-Fits (pair id n quantity) = U32 id × I32 n × U32 quantity
-Fits (generated id series side price shown quantity) = U32 id × U8 series × U8 side × U32 price × U32 shown × U32 quantity
-Fits (removed id series side cause) = U32 id × U8 series × U8 side
-Fits (crossed taker maker n quantity) = U32 taker × U32 maker × I32 n × U32 quantity
-Fits (cancelled id quantity) = U32 id × U32 quantity
+Fits (answer number refusal mask count) = FourBytes number × OneByte refusal × TwoBytes mask × OneByte count
+Fits (trade series side price quantity taker maker) = OneByte series × OneByte side × FourBytes price × FourBytes quantity × FourBytes taker × FourBytes maker
+Fits (pair id n quantity) = FourBytes id × FourSigned n × FourBytes quantity
+Fits (generated id series side price shown quantity) = FourBytes id × OneByte series × OneByte side × FourBytes price × FourBytes shown × FourBytes quantity
+Fits (removed id series side cause) = FourBytes id × OneByte series × OneByte side
+Fits (crossed taker maker n quantity) = FourBytes taker × FourBytes maker × FourSigned n × FourBytes quantity
+Fits (cancelled id quantity) = FourBytes id × FourBytes quantity
 
 -- each record of a list is so
-abbrev pub Each : (Report → Type 0) → List Report → Type 0
-Each P [] = Unit {0}
-Each P (r ∷ rs) = P r × Each P rs
+abbrev pub ForAll : (Report → Type 0) → List Report → Type 0
+ForAll P [] = Unit {0}
+ForAll P (r ∷ rs) = P r × ForAll P rs

@@ -56,12 +56,12 @@ filled [] = 0
 filled (l ∷ ls) = (if held (l .quantity) then 1 else 0) + filled ls
 
 -- a message's refusal (0: accepted), and its effect
-pub record Answered : Type 0 where
+pub record StepOutcome : Type 0 where
   pub refused : ℕ
   pub effect : Effect
 
 -- "Each message yields one 64, then its effects as they happen."
-unfoldable pub answered : (number refused : ℕ) → Effect → Answered
+unfoldable pub answered : (number refused : ℕ) → Effect → StepOutcome
 answered number refused e = record {
   refused = refused;
   effect = record {
@@ -71,7 +71,7 @@ answered number refused e = record {
 }
 
 -- The message at the front of bs, of this number, upon v. "Message refusals leave the venue as it was."
-unfoldable pub step : Venue → (number : ℕ) → List ℕ → Answered
+unfoldable pub step : Venue → (number : ℕ) → List ℕ → StepOutcome
 step v number bs =
     let x = refusal v bs in
     answered number x (if eqb x 0 then accept (messageOf bs) v else nothing v)

@@ -11,7 +11,7 @@ use borrow.Author.Tests.{eqb-true, eqb-false, ne-eqb}
 use Rattle.rules.specs.declared.Venue.{Venue}
 use Rattle.rules.specs.Words.{freshVenue}
 use Rattle.rules.specs.Bytes.{lengthField}
-use Rattle.rules.specs.Records.{Each, Fits, Report, encodeAll, records}
+use Rattle.rules.specs.Records.{ForAll, Fits, Report, encodeAll, records}
 use Rattle.rules.specs.Step.{step}
 use Rattle.rules.specs.Calls.{Outcome, after, called, ends, run, runFrom}
 use Rattle.rules.proofs.Calling.{not-exceeds, run-room, runFrom-by, torn-not}
@@ -153,13 +153,13 @@ text-none v n bs h = ap textOf (none (length bs) v n _ bs h)
 -- Before the first message --------------------------------------------------------------------
 
 -- every record of a run upon a sound venue fits its widths
-run-fits : (fuel : ℕ) (v : Venue) (n room : ℕ) (bs : List ℕ) → SoundVenue v → Each Fits (runFrom fuel v n room bs .reports)
+run-fits : (fuel : ℕ) (v : Venue) (n room : ℕ) (bs : List ℕ) → SoundVenue v → ForAll Fits (runFrom fuel v n room bs .reports)
 unfolding ends after
 run-fits zero v n room bs s = unfold runFrom in tt
 run-fits (suc fuel) v n room bs s =
     let rs = step v (suc n) bs .effect .reports in
     let more = runFrom fuel (step v (suc n) bs .effect .venue) (suc n) (room - length (encodeAll rs)) (drop (lengthField bs) bs) .reports in
-    runFrom-by (λ (o : Outcome). Each Fits (o .reports)) v n room bs fuel (λ _. tt) (λ _ _. tt)
+    runFrom-by (λ (o : Outcome). ForAll Fits (o .reports)) v n room bs fuel (λ _. tt) (λ _ _. tt)
     (λ d _. each-append Fits rs [] (step-fits v s (suc n) (d .0) bs) tt)
     (λ d _. each-append Fits rs more (step-fits v s (suc n) (d .0) bs) (run-fits fuel _ (suc n) _ (drop (lengthField bs) bs) (kept v s (suc n) bs)))
 

@@ -11,7 +11,7 @@ use Rattle.rules.specs.declared.Legging.{Legging}
 use Rattle.rules.specs.declared.Listed.{Listed}
 use Rattle.rules.specs.Words.{noRegular, noComplex, noLegging, notListed, freshVenue}
 use Rattle.rules.specs.Bytes.{u8At, u16At, u32At, asSigned, asUnsigned, bytes, u32}
-use Rattle.rules.specs.Records.{U32}
+use Rattle.rules.specs.Records.{FourBytes}
 use Rattle.rules.proofs.Reading.{byte, word, signed-back, signed-small}
 use Rattle.wire.proofs.Numbers.{u32-here}
 use Rattle.places.specs.Layout.{upto}
@@ -54,7 +54,7 @@ listed-back : (x : Listed) → ListedFits x → (rest : List ℕ) → listedFrom
 unfolding listedFrom listedBytes bytes u8At u16At u32At
 listed-back x f rest = rw (byte (x .status) (f .status), word (x .bid) (f .bid), word (x .offer) (f .offer))
 
-last-back : (x : ℕ) → U32 x → u32At (u32 x) 0 ≡ x
+last-back : (x : ℕ) → FourBytes x → u32At (u32 x) 0 ≡ x
 unfolding bytes u8At u16At u32At
 last-back x f = word x f
 

@@ -17,7 +17,7 @@ use Rattle.rules.specs.declared.Listed.{Listed}
 use Rattle.rules.specs.declared.Venue.{Venue}
 use Rattle.rules.specs.Words.{noRegular, noComplex, noLegging, notListed, freshVenue}
 use Rattle.rules.specs.Bytes.{u8At, u32At, asSigned, u8, u32, i32}
-use Rattle.rules.specs.Records.{U8, U32, I32}
+use Rattle.rules.specs.Records.{OneByte, FourBytes, FourSigned}
 use Rattle.places.specs.Layout.{upto}
 
 abbrev pub venueSize : ℕ
@@ -89,31 +89,31 @@ venueFrom bs = record {
 
 -- each field has its width
 pub record RegularFits (o : Regular) : Type 0 where
-  pub id : U32 (o .id)
-  pub series : U8 (o .series)
-  pub side : U8 (o .side)
-  pub price : U32 (o .price)
-  pub quantity : U32 (o .quantity)
+  pub id : FourBytes (o .id)
+  pub series : OneByte (o .series)
+  pub side : OneByte (o .side)
+  pub price : FourBytes (o .price)
+  pub quantity : FourBytes (o .quantity)
 
 pub record ComplexFits (c : Complex) : Type 0 where
-  pub id : U32 (c .id)
-  pub series1 : U8 (c .series1)
-  pub side1 : U8 (c .side1)
-  pub series2 : U8 (c .series2)
-  pub side2 : U8 (c .side2)
-  pub class : U8 (c .class)
-  pub limit : I32 (c .limit)
-  pub quantity : U32 (c .quantity)
+  pub id : FourBytes (c .id)
+  pub series1 : OneByte (c .series1)
+  pub side1 : OneByte (c .side1)
+  pub series2 : OneByte (c .series2)
+  pub side2 : OneByte (c .side2)
+  pub class : OneByte (c .class)
+  pub limit : FourSigned (c .limit)
+  pub quantity : FourBytes (c .quantity)
 
 pub record LeggingFits (l : Legging) : Type 0 where
-  pub parent : U32 (l .parent)
-  pub price : U32 (l .price)
-  pub quantity : U32 (l .quantity)
+  pub parent : FourBytes (l .parent)
+  pub price : FourBytes (l .price)
+  pub quantity : FourBytes (l .quantity)
 
 pub record ListedFits (x : Listed) : Type 0 where
-  pub status : U8 (x .status)
-  pub bid : U32 (x .bid)
-  pub offer : U32 (x .offer)
+  pub status : OneByte (x .status)
+  pub bid : FourBytes (x .bid)
+  pub offer : FourBytes (x .offer)
 
 -- each array has its length
 pub record Sized (v : Venue) : Type 0 where
@@ -129,7 +129,7 @@ pub record Declared (v : Venue) : Type 0 where
   pub complex : (i : ℕ) → ComplexFits (getD (v .complex) i noComplex)
   pub legging : (i : ℕ) → LeggingFits (getD (v .legging) i noLegging)
   pub series : (i : ℕ) → ListedFits (getD (v .series) i notListed)
-  pub last : U32 (v .last)
+  pub last : FourBytes (v .last)
 
 abbrev pub HeldWhole : Type 0
 HeldWhole = (v : Venue) → Declared v → venueFrom (venueBytes v) ≡ v

@@ -15,7 +15,7 @@ use Rattle.rules.specs.declared.Decoded.the-variants.{Taken}
 use Rattle.rules.specs.Words.{within, isId, isSeries, isSide, isClass, isStatus, isQuantity, isAway, isPrice, isRegularPrice, isLimit, increment}
 use Rattle.rules.specs.Bytes.{u8At, u16At, u32At, asUnsigned, lengthField, kindField, bytes, framed}
 use Rattle.rules.specs.Messages.{lengthOf, orderAt, twoLegAt, messageOf, encodeMessage}
-use Rattle.rules.specs.Records.{U8, U32, I32}
+use Rattle.rules.specs.Records.{OneByte, FourBytes, FourSigned}
 use Rattle.rules.specs.Refusals.{isKind, regularInRange, complexInRange, inRange, decoded}
 use Rattle.rules.proofs.Tests.{and-l, and-r}
 use Rattle.rules.proofs.Reading.{byte, word, signed-back, signed-small}
@@ -28,40 +28,40 @@ at-most : (low high x : ℕ) → within low high x ≡ true → x ≤ high
 unfolding within
 at-most low high x h = leb-true x high (and-r (leb low x) (leb x high) h)
 
-limit-fits : (z : ℤ) → isLimit z ≡ true → I32 z
+limit-fits : (z : ℤ) → isLimit z ≡ true → FourSigned z
 unfolding isLimit
 limit-fits (pos n) h = let k = leb-true n 200000 (and-r (leZ (negsuc 199999) (pos n)) (leb n 200000) h) in omega arith
 limit-fits (negsuc n) h = let k = leb-true n 199999 (and-l (leb n 199999) (leZ (negsuc n) (pos 200000)) h) in omega arith
 
-id-fits : (x : ℕ) → isId x ≡ true → U32 x
+id-fits : (x : ℕ) → isId x ≡ true → FourBytes x
 unfolding isId
 id-fits x h = let k = at-most 1 4294967295 x h in omega arith
 
-series-fits : (x : ℕ) → isSeries x ≡ true → U8 x
+series-fits : (x : ℕ) → isSeries x ≡ true → OneByte x
 unfolding isSeries
 series-fits x h = let k = at-most 0 7 x h in omega arith
 
-side-fits : (x : ℕ) → isSide x ≡ true → U8 x
+side-fits : (x : ℕ) → isSide x ≡ true → OneByte x
 unfolding isSide
 side-fits x h = let k = at-most 0 1 x h in omega arith
 
-class-fits : (x : ℕ) → isClass x ≡ true → U8 x
+class-fits : (x : ℕ) → isClass x ≡ true → OneByte x
 unfolding isClass
 class-fits x h = let k = at-most 0 1 x h in omega arith
 
-status-fits : (x : ℕ) → isStatus x ≡ true → U8 x
+status-fits : (x : ℕ) → isStatus x ≡ true → OneByte x
 unfolding isStatus
 status-fits x h = let k = at-most 0 2 x h in omega arith
 
-quantity-fits : (x : ℕ) → isQuantity x ≡ true → U32 x
+quantity-fits : (x : ℕ) → isQuantity x ≡ true → FourBytes x
 unfolding isQuantity
 quantity-fits x h = let k = at-most 1 10000 x h in omega arith
 
-away-fits : (x : ℕ) → isAway x ≡ true → U32 x
+away-fits : (x : ℕ) → isAway x ≡ true → FourBytes x
 unfolding isAway
 away-fits x h = let k = at-most 0 100000 x h in omega arith
 
-price-fits : (i x : ℕ) → isRegularPrice i x ≡ true → U32 x
+price-fits : (i x : ℕ) → isRegularPrice i x ≡ true → FourBytes x
 unfolding isRegularPrice isPrice
 price-fits i x h = let z = h in let k = at-most 1 100000 x (search (and-l, z)) in omega arith
 

@@ -10,7 +10,7 @@ use lib.ListN.{length, drop, drop-of-length-le}
 use lib.Seq.{drop-drop}
 use borrow.Author.Tests.{ne-eqb, eqb-true, eqb-false, leb-true, leb-false, ltb-true, ltb-false}
 use Rattle.rules.specs.Bytes.{u8At, u16At, u32At, asSigned, asUnsigned, lengthField, kindField, bytes, u16, u32, i32}
-use Rattle.rules.specs.Records.{Report, encode, encodeAll, sheet, recordOf, recordsFrom, records, U16, U32, I32, Fits, Each}
+use Rattle.rules.specs.Records.{Report, encode, encodeAll, sheet, recordOf, recordsFrom, records, TwoBytes, FourBytes, FourSigned, Fits, ForAll}
 use Rattle.wire.specs.declared.Next.{Next}
 use Rattle.wire.specs.declared.Next.the-variants.{Found, End}
 use Rattle.wire.specs.Next.{nextRecord, recordsAt}
@@ -23,17 +23,17 @@ use Rattle.rules.proofs.Calling.{sheet-length}
 -- Read after write ---------------------------------------------------------------------------
 
 module _ (l : List ℕ) (at : ℕ) where
-  pub u16-read : (x : ℕ) → U16 x → at + 2 ≤ length l → u16At (pasted l at (u16 x)) at ≡ x
+  pub u16-read : (x : ℕ) → TwoBytes x → at + 2 ≤ length l → u16At (pasted l at (u16 x)) at ≡ x
   unfolding bytes u16At u8At
   u16-read x h f =
       u16-here at (pasted l at (u16 x)) ∙ ap (λ (m : List ℕ). u16At m 0) (pasted-from l (u16 x) at (omega arith)) ∙ half x h
 
-  pub u32-read : (x : ℕ) → U32 x → at + 4 ≤ length l → u32At (pasted l at (u32 x)) at ≡ x
+  pub u32-read : (x : ℕ) → FourBytes x → at + 4 ≤ length l → u32At (pasted l at (u32 x)) at ≡ x
   unfolding bytes u32At u16At u8At
   u32-read x h f =
       u32-here at (pasted l at (u32 x)) ∙ ap (λ (m : List ℕ). u32At m 0) (pasted-from l (u32 x) at (omega arith)) ∙ word x h
 
-  pub i32-read : (z : ℤ) → I32 z → at + 4 ≤ length l → asSigned (u32At (pasted l at (i32 z)) at) ≡ z
+  pub i32-read : (z : ℤ) → FourSigned z → at + 4 ≤ length l → asSigned (u32At (pasted l at (i32 z)) at) ≡ z
   i32-read z h f = ap asSigned (u32-read (asUnsigned z) (signed-small z h) f) ∙ signed-back z h
 
   pub record-read : (r : Report) → Fits r → at + length (encode r) ≤ length l → recordOf (drop at ((seen l at plus encode r) .memory)) ≡ r
@@ -143,7 +143,7 @@ walked (suc fuel) m at = go (nextRecord m at) refl (λ end. walked fuel m end)
         rw (e, recordsAt) (ap (λ (l : List Report). recordOf (drop at m) ∷ l) (rest end) ∙ sym (next-follows m at kind end e .rest-is fuel))
     go End e rest = rw (e, recordsAt) (sym (next-ends m at e (suc fuel)))
 
-pub walks-back : (room : ℕ) (rs : List Report) → Each Fits rs → length (encodeAll rs) ≤ room → recordsAt room (sheet room rs) 0 ≡ rs
+pub walks-back : (room : ℕ) (rs : List Report) → ForAll Fits rs → length (encodeAll rs) ≤ room → recordsAt room (sheet room rs) 0 ≡ rs
 unfolding records
 walks-back room rs h le =
     walked room (sheet room rs) 0 ∙ ap (λ (k : ℕ). recordsFrom k (sheet room rs)) (sym (sheet-length room rs le)) ∙ reads-back room rs h le
