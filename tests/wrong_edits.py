@@ -7,7 +7,8 @@ For each crate (all of crates.txt where none is named) K edits (4) are drawn by 
 src/lib.rt where an operator, a number, a pair of arguments, a returned truth value or a whole statement can be
 changed. Each is made in a copy of the repository, and `rt check CRATE` must refuse it. An edit that does not
 compile is not counted, and another is drawn. Contracts and proofs are never edited.
-A line is printed for each edit; the last line has the counts. The status is 1 where an edit was not refused.
+A line is printed for each edit; the last line has the counts. The status is 1 where an edit was not refused, or where
+the check ended without a verdict.
 """
 import argparse
 import os
@@ -61,16 +62,18 @@ def candidates(path):
 
 
 def verdict(root, crate):
-    """refused, compiles-not or NOT REFUSED, with the line that says why."""
+    """refused, compiles-not, NOT REFUSED or NO VERDICT, with the line that says why."""
     done = subprocess.run(["rt", "check", crate], cwd=root, capture_output=True, text=True, check=False)
     said = (done.stdout + done.stderr).split("\n")
     if done.returncode == 0:
         return "NOT REFUSED", ""
+    if done.returncode != 1:
+        return "NO VERDICT", said[-2] if len(said) > 1 else ""
     for line in said:
         if re.search(r"\.rt:\d+:\d+: error\[", line) and "not proved" not in line:
             return "compiles-not", line
-    why = [l for l in said if "error" in l or "NOT PROVED" in l]
-    return "refused", why[0] if why else said[-2] if len(said) > 1 else ""
+    why = [line for line in said if "error" in line or "NOT PROVED" in line]
+    return ("refused", why[0]) if why else ("NO VERDICT", "")
 
 
 def main():
@@ -85,7 +88,7 @@ def main():
     copy = tempfile.mkdtemp(prefix="wrong-edits-")
     tree = f"{copy}/tree"
     shutil.copytree(root, tree, ignore=shutil.ignore_patterns(".git", "host"))
-    counts = {"refused": 0, "compiles-not": 0, "NOT REFUSED": 0}
+    counts = {"refused": 0, "compiles-not": 0, "NOT REFUSED": 0, "NO VERDICT": 0}
     for crate in named:
         path = f"{tree}/crates/{crate}/src/lib.rt"
         if not os.path.exists(path):
@@ -107,8 +110,9 @@ def main():
                 print(line, file=open(given.log, "a", encoding="utf-8"))
         open(path, "w", encoding="utf-8").write("\n".join(text))
     shutil.rmtree(copy)
-    print(f"{counts['refused']} refused, {counts['NOT REFUSED']} not refused, {counts['compiles-not']} that do not compile")
-    return 1 if counts["NOT REFUSED"] else 0
+    print(f"{counts['refused']} refused, {counts['NOT REFUSED']} not refused, {counts['NO VERDICT']} without a verdict, "
+          f"{counts['compiles-not']} that do not compile")
+    return 1 if counts["NOT REFUSED"] + counts["NO VERDICT"] else 0
 
 
 if __name__ == "__main__":
