@@ -21,11 +21,16 @@ module _ {A : Type 0} (f : A → Bool) (d : A) where
   place-is (x ∷ l) zero h e k = rw e
   place-is (x ∷ l) (suc i) h e k = rw (k 0 (omega arith)) (ap suc (place-is l i (omega arith) e (λ j q. k (suc j) (omega arith))))
 
-  -- past the end if none does
-  pub place-none : (l : List A) → ((j : ℕ) → j < length l → f (getD l j d) ≡ false) → placeWhere f l ≡ length l
+  -- none before it does
+  pub where-first : (l : List A) (j : ℕ) → j < placeWhere f l → f (getD l j d) ≡ false
   unfolding placeWhere
-  place-none [] k = refl
-  place-none (x ∷ l) k = rw (k 0 (omega arith)) (ap suc (place-none l (λ j q. k (suc j) (omega arith))))
+  where-first [] j h = absurd (omega arith)
+  where-first (x ∷ l) j h = go (f x) refl j h (where-first l)
+    where
+      go : (t : Bool) → f x ≡ t → (j : ℕ) → j < (if t then 0 else suc (placeWhere f l)) → ((k : ℕ) → k < placeWhere f l → f (getD l k d) ≡ false) → f (getD (x ∷ l) j d) ≡ false
+      go true e j q ih = absurd (omega arith)
+      go false e zero q ih = e
+      go false e (suc j) q ih = ih j (omega arith)
 
   -- the place as it is answered
   unfoldable pub foundIn : List A → Found

@@ -1,3 +1,5 @@
 pub mod Picking
 pub mod Finding
+pub mod Unmet
+pub mod Earliest
 pub mod Masks

@@ -1,5 +1,5 @@
 -- Legging in, test by test and step by step.
-use mathlib.Core.Path.{_≡_, refl, sym, ap, subst, _∙_}
+use mathlib.Core.Path.{_≡_, refl, sym, ap, _∙_}
 use mathlib.Core.Bool.{Bool, true, false, not}
 use mathlib.Core.List.{List}
 use Prim.Native.Nat.{ℕ, min}
@@ -84,21 +84,18 @@ unfolding turnFor legInTurn
 turn-for i v = refl
 
 -- t has the levels that the order's legs take
-module _ (i : ℕ) (v : Venue) (c : Complex) (e : c ≡ complexAt v i) (t : Taken) (h : TakenOf t (complexAt v i) (v .regular)) where
-  pub taken-now : TakenOf t c (v .regular)
-  taken-now = subst (λ (x : Complex). TakenOf t x (v .regular)) (sym e) h
-
+module _ (i : ℕ) (v : Venue) (c : Complex) (e : c ≡ complexAt v i) (t : Taken) (h : TakenOf t c (v .regular)) where
   price1 : t .first .price ≡ bestRegular v (c .series1) (opposite (c .side1))
-  price1 = level-price v (c .series1) (opposite (c .side1)) (t .first) (taken-now .first)
+  price1 = level-price v (c .series1) (opposite (c .side1)) (t .first) (h .first)
 
   price2 : t .second .price ≡ bestRegular v (c .series2) (opposite (c .side2))
-  price2 = level-price v (c .series2) (opposite (c .side2)) (t .second) (taken-now .second)
+  price2 = level-price v (c .series2) (opposite (c .side2)) (t .second) (h .second)
 
   size1 : t .first .size ≡ bestSize v (c .series1) (opposite (c .side1))
-  size1 = level-size v (c .series1) (opposite (c .side1)) (t .first) (taken-now .first)
+  size1 = level-size v (c .series1) (opposite (c .side1)) (t .first) (h .first)
 
   size2 : t .second .size ≡ bestSize v (c .series2) (opposite (c .side2))
-  size2 = level-size v (c .series2) (opposite (c .side2)) (t .second) (taken-now .second)
+  size2 = level-size v (c .series2) (opposite (c .side2)) (t .second) (h .second)
 
   here : turnFor i v c ≡ legInTurn i v
   here = ap (turnFor i v) e ∙ turn-for i v

@@ -1,3 +1,2 @@
-pub mod Grids
 pub mod Rising
 pub mod Effects

@@ -1,15 +1,14 @@
 // What the messages do: an order, a complex order, a sweep and a cancel, each with its settling; and how a complex order is worked.
 // Each function says in one equation the venue that it leaves and all that it writes: those of its definition.
 use book::Found;
-use levels::Level;
 use levels::Taken;
 use rules::Complex;
 use rules::Regular;
 ghost use mathlib.Core.Path.{_≡_};
-ghost use mathlib.Core.Bool.{true, false, _||_};
+ghost use mathlib.Core.Bool.{true, _||_};
 ghost use Prim.Native.Nat.{ℕ, suc, min, _≤_, _<_};
 ghost use lib.ListN.{length};
-ghost use Rattle.rules.specs.Words.{complexAt};
+ghost use Rattle.rules.specs.Base.{held};
 ghost use Rattle.rules.specs.Effects.{repeat};
 ghost use Rattle.rules.specs.Order as order;
 ghost use Rattle.rules.specs.Generation.{generate};
@@ -17,17 +16,10 @@ ghost use Rattle.rules.specs.Complex.{legsIn, legInTurn, each, complexPlace, ca
 ghost use Rattle.rules.specs.Complex as complex;
 ghost use Rattle.wire.specs.Seen.{seen};
 ghost use Rattle.wire.specs.Stage.{stage, _does_};
-ghost use Rattle.places.specs.Layout.{size, regularsUsed, complexesUsed, venueOf, Counts, SameCounts, Dense};
-ghost use Rattle.levels.specs.Grid.{GridOf, LegsIn, TakenOf};
+ghost use Rattle.places.specs.Layout.{size, regularsUsed, complexesUsed, venueOf, Right, Below, Counts, SameCounts, Dense};
+ghost use Rattle.levels.specs.Grid.{LegsIn, TakenOf};
 ghost use Rattle.complexes.specs.Effects.{withdrawn};
-ghost use Rattle.complexes.specs.Grids.{SameBook, RightUnless};
 ghost use Rattle.complexes.specs.Rising.{Rising};
-
-// Where the report stands, and whether regular orders were traded with: if not, a grid of their prices is still right.
-pub struct Worked {
-    pub at: usize,
-    pub traded: bool,
-}
 
 // The best regular prices a and p that c would take net to its limit or less, and that net is in band.
 fn can_leg_in(b: &[u32], taken: Taken, c: Complex, a: u32, p: u32) -> bool
@@ -53,7 +45,7 @@ fn can_leg_in(b: &[u32], taken: Taken, c: Complex, a: u32, p: u32) -> bool
 
 // k contracts of each leg of the order at place i, at prices a and p: the first leg's trades, the second's, the pair.
 pub fn leg_in(b: &mut [u32], i: usize, a: u32, p: u32, k: u32, out: &mut [u8], at: usize) -> usize
-    requires { ⌜ (length (now b) ≡ size) × (i < complexesUsed (now b)) ⌝ }
+    requires { ⌜ (length (now b) ≡ size) × (Right (now b)) × (i < complexesUsed (now b)) ⌝ }
     ensures { λ r. ⌜ stage (venueOf (now (b .exit))) (now (out .exit)) r ≡ seen (now (out .entry)) at does complex.legIn i a p k (venueOf (now (b .entry))) ⌝ }
     ensures counts { λ _. ⌜ SameCounts (now (b .entry)) (now (b .exit)) ⌝ }
 {
@@ -74,104 +66,65 @@ fn at_most(q: u32, n: u64) -> u32
     q
 }
 
-// The levels that the legs of the order at place i take.
-fn taken_at(b: &[u32], g: [[Level; 2]; 8], i: usize) -> Taken
-    requires { ⌜ (length (now b) ≡ size) × (GridOf g (venueOf (now b) .regular)) × (i < complexesUsed (now b)) ⌝ }
-    ensures { λ r. ⌜ TakenOf r (complexAt (venueOf (now (b .entry))) i) (venueOf (now (b .entry)) .regular) ⌝ }
-{
-    let c = places::complex_at(b, i);
-    levels::taken_of(g, c)
-}
-
-// The order at place i legs in while the best prices allow it, in at most `quantity` turns; taken has the levels of the first.
-pub fn leg_in_all(
-    b: &mut [u32],
-    taken: Taken,
-    i: usize,
-    quantity: u32,
-    out: &mut [u8],
-    at: usize,
-) -> Worked
-    requires { ⌜ (length (now b) ≡ size) × (TakenOf taken (complexAt (venueOf (now b)) i) (venueOf (now b) .regular)) × (i < complexesUsed (now b)) ⌝ }
-    ensures { λ r. ⌜ stage (venueOf (now (b .exit))) (now (out .exit)) (r .at) ≡ seen (now (out .entry)) at does repeat quantity (legInTurn i) (venueOf (now (b .entry))) ⌝ }
+// The order at place i legs in while the best prices allow it, in at most `quantity` turns.
+pub fn leg_in_all(b: &mut [u32], i: usize, quantity: u32, out: &mut [u8], at: usize) -> usize
+    requires { ⌜ (length (now b) ≡ size) × (Right (now b)) × (i < complexesUsed (now b)) ⌝ }
+    ensures { λ r. ⌜ stage (venueOf (now (b .exit))) (now (out .exit)) r ≡ seen (now (out .entry)) at does repeat quantity (legInTurn i) (venueOf (now (b .entry))) ⌝ }
     ensures counts { λ _. ⌜ SameCounts (now (b .entry)) (now (b .exit)) ⌝ }
-    ensures book { λ r. ⌜ SameBook (r .traded) (now (b .entry)) (now (b .exit)) ⌝ }
 {
-    let mut best = taken;
     let mut pos = at;
-    let mut traded = false;
     let mut turns = quantity;
     while 0 < turns {
         turns -= 1;
         let c = places::complex_at(b, i);
-        let first = best.first;
-        let second = best.second;
-        if !can_leg_in(b, best, c, first.price, second.price) {
-            return Worked { at: pos, traded };
+        let taken = levels::taken_at(b, c);
+        let first = taken.first;
+        let second = taken.second;
+        if !can_leg_in(b, taken, c, first.price, second.price) {
+            return pos;
         }
         let k = at_most(at_most(c.quantity, first.size), second.size);
         pos = leg_in(b, i, first.price, second.price, k, out, pos);
-        traded = true;
-        let grid = levels::levels(b);
-        best = taken_at(b, grid, i);
     }
-    Worked { at: pos, traded }
+    pos
 }
 
 // The order at place i crosses, touches and legs in, if neither of its series is closed.
-pub fn work(b: &mut [u32], g: [[Level; 2]; 8], i: usize, out: &mut [u8], at: usize) -> Worked
-    requires { ⌜ (length (now b) ≡ size) × (GridOf g (venueOf (now b) .regular)) × (i < complexesUsed (now b)) ⌝ }
-    ensures { λ r. ⌜ stage (venueOf (now (b .exit))) (now (out .exit)) (r .at) ≡ seen (now (out .entry)) at does complex.work i (venueOf (now (b .entry))) ⌝ }
+pub fn work(b: &mut [u32], i: usize, out: &mut [u8], at: usize) -> usize
+    requires { ⌜ (length (now b) ≡ size) × (Right (now b)) × (i < complexesUsed (now b)) ⌝ }
+    ensures { λ r. ⌜ stage (venueOf (now (b .exit))) (now (out .exit)) r ≡ seen (now (out .entry)) at does complex.work i (venueOf (now (b .entry))) ⌝ }
     ensures counts { λ _. ⌜ SameCounts (now (b .entry)) (now (b .exit)) ⌝ }
-    ensures book { λ r. ⌜ SameBook (r .traded) (now (b .entry)) (now (b .exit)) ⌝ }
 {
     let c = places::complex_at(b, i);
     if levels::any_closed(b, c) {
-        return Worked { at, traded: false };
+        return at;
     }
-    let crossed = crossing::cross_all(b, g, i, out, at);
-    let taken = taken_at(b, g, i);
-    let touched = crossing::touch(b, taken, i, out, crossed);
-    leg_in_all(b, taken, i, c.quantity, out, touched)
-}
-
-// A grid that is right now: g, unless there was a trade.
-fn grid_after(b: &[u32], g: [[Level; 2]; 8], traded: bool) -> [[Level; 2]; 8]
-    requires { ⌜ (length (now b) ≡ size) × (RightUnless traded g (now b)) ⌝ }
-    ensures { λ r. ⌜ GridOf r (venueOf (now (b .entry)) .regular) ⌝ }
-{
-    if traded {
-        return levels::levels(b);
-    }
-    g
+    let crossed = crossing::cross_all(b, i, out, at);
+    let touched = crossing::touch(b, i, out, crossed);
+    leg_in_all(b, i, c.quantity, out, touched)
 }
 
 // A complex order arrives: it is given a place and worked there; then settling, and generation for its legs.
 pub fn complex_order(b: &mut [u32], c: Complex, out: &mut [u8], at: usize) -> usize
     requires { ⌜ (length (now b) ≡ size) × (Dense (now b)) × (complexesUsed (now b) < 32) × (LegsIn c) ⌝ }
     ensures { λ r. ⌜ stage (venueOf (now (b .exit))) (now (out .exit)) r ≡ seen (now (out .entry)) at does complex.complex c (venueOf (now (b .entry))) ⌝ }
-    ensures counts { λ _. ⌜ Counts (regularsUsed (now (b .entry))) (suc (complexesUsed (now (b .entry)))) (now (b .exit)) ⌝ }
+    ensures counts { λ _. ⌜ Counts (regularsUsed (now (b .entry))) (suc (complexesUsed (now (b .entry)))) (now (b .entry)) (now (b .exit)) ⌝ }
 {
     let i = places::complexes_used(b);
     places::add_complex(b, c);
-    let g = levels::levels(b);
-    let w = work(b, g, i, out, at);
-    let h = grid_after(b, g, w.traded);
-    let settled = legging::settle_with(b, h, out, w.at);
-    legging::generate_order(b, h, i, out, settled)
+    let worked = work(b, i, out, at);
+    let settled = legging::settle_all(b, out, worked);
+    legging::generate_order(b, i, out, settled)
 }
 
 // Each resting complex order is worked, earliest first: ids rise with the places.
-fn work_each(b: &mut [u32], g: [[Level; 2]; 8], out: &mut [u8], at: usize) -> Worked
-    requires { ⌜ (length (now b) ≡ size) × (GridOf g (venueOf (now b) .regular)) × (Rising (venueOf (now b) .complex)) ⌝ }
-    ensures { λ r. ⌜ stage (venueOf (now (b .exit))) (now (out .exit)) (r .at) ≡ seen (now (out .entry)) at does each 32 complex.work 0 (venueOf (now (b .entry))) ⌝ }
+fn work_each(b: &mut [u32], out: &mut [u8], at: usize) -> usize
+    requires { ⌜ (length (now b) ≡ size) × (Right (now b)) × (Rising (venueOf (now b) .complex)) ⌝ }
+    ensures { λ r. ⌜ stage (venueOf (now (b .exit))) (now (out .exit)) r ≡ seen (now (out .entry)) at does each 32 complex.work 0 (venueOf (now (b .entry))) ⌝ }
     ensures counts { λ _. ⌜ SameCounts (now (b .entry)) (now (b .exit)) ⌝ }
-    ensures book { λ r. ⌜ SameBook (r .traded) (now (b .entry)) (now (b .exit)) ⌝ }
 {
     let used = places::complexes_used(b);
-    let mut grid = g;
     let mut pos = at;
-    let mut traded = false;
     let mut k: usize = 0;
     while k < used {
         let i = k;
@@ -180,21 +133,14 @@ fn work_each(b: &mut [u32], g: [[Level; 2]; 8], out: &mut [u8], at: usize) -> Wo
         if c.quantity == 0 {
             continue;
         }
-        let w = work(b, grid, i, out, pos);
-        pos = w.at;
-        if !w.traded {
-            continue;
-        }
-        traded = true;
-        let anew = levels::levels(b);
-        grid = anew;
+        pos = work(b, i, out, pos);
     }
-    Worked { at: pos, traded }
+    pos
 }
 
 // Generation for each resting complex order, earliest first.
-fn generate_each(b: &mut [u32], g: [[Level; 2]; 8], out: &mut [u8], at: usize) -> usize
-    requires { ⌜ (length (now b) ≡ size) × (GridOf g (venueOf (now b) .regular)) × (Rising (venueOf (now b) .complex)) ⌝ }
+fn generate_each(b: &mut [u32], out: &mut [u8], at: usize) -> usize
+    requires { ⌜ (length (now b) ≡ size) × (Right (now b)) × (Rising (venueOf (now b) .complex)) ⌝ }
     ensures { λ r. ⌜ stage (venueOf (now (b .exit))) (now (out .exit)) r ≡ seen (now (out .entry)) at does each 32 generate 0 (venueOf (now (b .entry))) ⌝ }
     ensures counts { λ _. ⌜ SameCounts (now (b .entry)) (now (b .exit)) ⌝ }
 {
@@ -208,22 +154,20 @@ fn generate_each(b: &mut [u32], g: [[Level; 2]; 8], out: &mut [u8], at: usize) -
         if c.quantity == 0 {
             continue;
         }
-        pos = legging::generate_order(b, g, i, out, pos);
+        pos = legging::generate_order(b, i, out, pos);
     }
     pos
 }
 
 // All resting complex orders are worked; then settling, once, and generation.
 pub fn sweep(b: &mut [u32], out: &mut [u8], at: usize) -> usize
-    requires { ⌜ (length (now b) ≡ size) × (Rising (venueOf (now b) .complex)) ⌝ }
+    requires { ⌜ (length (now b) ≡ size) × (Right (now b)) × (Rising (venueOf (now b) .complex)) ⌝ }
     ensures { λ r. ⌜ stage (venueOf (now (b .exit))) (now (out .exit)) r ≡ seen (now (out .entry)) at does complex.sweep (venueOf (now (b .entry))) ⌝ }
     ensures counts { λ _. ⌜ SameCounts (now (b .entry)) (now (b .exit)) ⌝ }
 {
-    let g = levels::levels(b);
-    let w = work_each(b, g, out, at);
-    let h = grid_after(b, g, w.traded);
-    let settled = legging::settle_with(b, h, out, w.at);
-    generate_each(b, h, out, settled)
+    let worked = work_each(b, out, at);
+    let settled = legging::settle_all(b, out, worked);
+    generate_each(b, out, settled)
 }
 
 // The resting complex order with an id is cancelled.
@@ -241,7 +185,7 @@ fn withdraw_complex(b: &mut [u32], id: u32, out: &mut [u8], at: usize) -> usize
 
 // The resting order with an id is cancelled.
 fn withdraw(b: &mut [u32], id: u32, out: &mut [u8], at: usize) -> usize
-    requires { ⌜ (length (now b) ≡ size) × ((restsRegular (venueOf (now b)) id || restsComplex (venueOf (now b)) id) ≡ true) ⌝ }
+    requires { ⌜ (length (now b) ≡ size) × (Dense (now b)) × ((restsRegular (venueOf (now b)) id || restsComplex (venueOf (now b)) id) ≡ true) ⌝ }
     ensures { λ r. ⌜ stage (venueOf (now (b .exit))) (now (out .exit)) r ≡ seen (now (out .entry)) at does withdrawn id (venueOf (now (b .entry))) ⌝ }
     ensures counts { λ _. ⌜ SameCounts (now (b .entry)) (now (b .exit)) ⌝ }
 {
@@ -254,7 +198,7 @@ fn withdraw(b: &mut [u32], id: u32, out: &mut [u8], at: usize) -> usize
 
 // The resting order with an id is cancelled; then settling.
 pub fn cancel(b: &mut [u32], id: u32, out: &mut [u8], at: usize) -> usize
-    requires { ⌜ (length (now b) ≡ size) × ((restsRegular (venueOf (now b)) id || restsComplex (venueOf (now b)) id) ≡ true) ⌝ }
+    requires { ⌜ (length (now b) ≡ size) × (Dense (now b)) × ((restsRegular (venueOf (now b)) id || restsComplex (venueOf (now b)) id) ≡ true) ⌝ }
     ensures { λ r. ⌜ stage (venueOf (now (b .exit))) (now (out .exit)) r ≡ seen (now (out .entry)) at does complex.cancel id (venueOf (now (b .entry))) ⌝ }
     ensures counts { λ _. ⌜ SameCounts (now (b .entry)) (now (b .exit)) ⌝ }
 {
@@ -264,9 +208,9 @@ pub fn cancel(b: &mut [u32], id: u32, out: &mut [u8], at: usize) -> usize
 
 // An order arrives and meets the other side; then settling.
 pub fn order(b: &mut [u32], o: Regular, out: &mut [u8], at: usize) -> usize
-    requires { ⌜ (length (now b) ≡ size) × (Dense (now b)) × (regularsUsed (now b) < 128) × (o .series < 8) × (o .side < 2) ⌝ }
+    requires { ⌜ (length (now b) ≡ size) × (Dense (now b)) × (regularsUsed (now b) < 128) × (o .series < 8) × (o .side < 2) × (held (o .price) ≡ true) × (Below (o .id) (venueOf (now b) .regular)) ⌝ }
     ensures { λ r. ⌜ stage (venueOf (now (b .exit))) (now (out .exit)) r ≡ seen (now (out .entry)) at does order.order o (venueOf (now (b .entry))) ⌝ }
-    ensures counts { λ _. ⌜ Counts (suc (regularsUsed (now (b .entry)))) (complexesUsed (now (b .entry))) (now (b .exit)) ⌝ }
+    ensures counts { λ _. ⌜ Counts (suc (regularsUsed (now (b .entry)))) (complexesUsed (now (b .entry))) (now (b .entry)) (now (b .exit)) ⌝ }
 {
     let pos = matching::enter_regular(b, o, out, at);
     legging::settle_all(b, out, pos)

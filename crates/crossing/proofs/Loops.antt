@@ -20,7 +20,7 @@ pub record Doing (e : Effect) (rest : Venue → Effect) (b₀ out₀ : List ℕ)
 pub doing-start : (e : Effect) (rest : Venue → Effect) (b out : List ℕ) (at : ℕ) → length b ≡ size → rest (venueOf b) ≡ e → Doing e rest b out at b out at
 doing-start e rest b out at h q = record {
   whole = h;
-  counts = record { regulars = refl; complexes = refl };
+  counts = record { regulars = refl; complexes = refl; right = λ h. h };
   left = ap (λ (x : Effect). seen out at does x) q;
 }
 

@@ -1,5 +1,5 @@
 -- A cross, step by step, and the turns of crossing.
-use mathlib.Core.Path.{_≡_, refl, sym, ap, subst, _∙_}
+use mathlib.Core.Path.{_≡_, refl, sym, ap, _∙_}
 use mathlib.Core.Bool.{Bool, not, false≢true}
 use mathlib.Core.List.{List, [], _∷_}
 use Prim.Native.Nat.{ℕ, _<_, min}
@@ -7,25 +7,22 @@ use native.Mathlib.Omega.{arith}
 use native.Mathlib.Decide.{decLt}
 use borrow.Author.Tests.{eq-eqb, ne-eqb}
 use lib.IntN.{ℤ, negℤ}
-use Rattle.rules.specs.declared.Regular.{Regular}
 use Rattle.rules.specs.declared.Complex.{Complex}
 use Rattle.rules.specs.declared.Venue.{Venue}
 use Rattle.rules.specs.declared.Cause.the-variants.{Executed}
 use Rattle.rules.specs.Base.{nobody, picked, first}
-use Rattle.rules.specs.Words.{noComplex, complexAt, withComplex, withLegging}
+use Rattle.rules.specs.Words.{noComplex, complexAt}
 use Rattle.rules.specs.Records.{crossed}
 use Rattle.rules.specs.Effects.{report, _⟫_, ended, turned}
-use Rattle.rules.specs.Removal.{remove, removeOf}
+use Rattle.rules.specs.Removal.{removeOf}
 use Rattle.rules.specs.Trading.{fillComplex}
 use Rattle.rules.specs.Complex.{crosses, limitThenId, cross, crossTurn}
 use Rattle.rules.proofs.Picking.{At, first-chosen}
 use Rattle.wire.specs.Seen.{seen, _writes_}
 use Rattle.wire.specs.Stage.{stage, _does_}
-use Rattle.wire.proofs.Stages.{follow, does-report, stage-venue}
+use Rattle.wire.proofs.Stages.{follow, does-report}
 use Rattle.places.specs.Layout.{complexesUsed, venueOf}
 use Rattle.places.proofs.Parts.{complex-past}
-use Rattle.levels.specs.declared.Level.{Level}
-use Rattle.levels.specs.Grid.{GridOf}
 use Rattle.crossing.proofs.Candidates.{cross-free}
 
 -- 70, both fills, the taker's removals, the maker's
@@ -43,15 +40,6 @@ cross-law i j k v v₁ v₂ v₃ v₄ l₀ l₁ l₂ l₃ a₀ a₁ a₂ a₃ c 
     ∙ ap (λ (z : ℤ). seen l₀ a₀ does (report (crossed (c .id) (m .id) z k) (fillComplex j k (fillComplex i k v)) ⟫ removeOf (c .id) Executed ⟫ removeOf (m .id) Executed)) en
     ∙ ap (λ (x : Complex). seen l₀ a₀ does (report (crossed (x .id) (m .id) (negℤ (m .limit)) k) (fillComplex j k (fillComplex i k v)) ⟫ removeOf (x .id) Executed ⟫ removeOf (m .id) Executed)) ec
     ∙ ap (λ (x : Complex). seen l₀ a₀ does (report (crossed (complexAt v i .id) (x .id) (negℤ (x .limit)) k) (fillComplex j k (fillComplex i k v)) ⟫ removeOf (complexAt v i .id) Executed ⟫ removeOf (x .id) Executed)) em
-
--- regular orders stay as they are, and so does the grid
-cross-regular : (i j k : ℕ) (v : Venue) → cross i j k v .venue .regular ≡ v .regular
-unfolding cross _⟫_ report removeOf remove withLegging fillComplex withComplex
-cross-regular i j k v = refl
-
-pub cross-grid : (g : List (List Level)) (i j k : ℕ) (v w : Venue) (l m : List ℕ) (a d : ℕ) → stage w l a ≡ seen m d does cross i j k v → GridOf g (v .regular) → GridOf g (w .regular)
-cross-grid g i j k v w l m a d e h =
-    subst (λ (os : List Regular). GridOf g os) (sym (ap (λ (x : Venue). x .regular) (stage-venue w l m a d (cross i j k v) e) ∙ cross-regular i j k v)) h
 
 -- Turns ---------------------------------------------------------------------------------------
 

@@ -1,5 +1,4 @@
 // Complex orders with one another: who crosses with whom, the cross, and the touch of legging orders.
-use levels::Level;
 use levels::Taken;
 use rules::Cause;
 use rules::Complex;
@@ -18,8 +17,8 @@ ghost use Rattle.rules.specs.Effects.{repeat};
 ghost use Rattle.rules.specs.Complex.{reversed, crosses, limitThenId, cross, crossTurn, touches, touch};
 ghost use Rattle.wire.specs.Seen.{seen};
 ghost use Rattle.wire.specs.Stage.{stage, _does_};
-ghost use Rattle.places.specs.Layout.{size, complexesUsed, venueOf, SameCounts};
-ghost use Rattle.levels.specs.Grid.{GridOf, LegsIn, TakenOf};
+ghost use Rattle.places.specs.Layout.{size, complexesUsed, venueOf, Right, SameCounts};
+ghost use Rattle.levels.specs.Grid.{LegsIn, TakenOf};
 ghost use Rattle.crossing.specs.Picks.{pickedOf, facingKey};
 
 // A complex order with its place, or none.
@@ -72,8 +71,8 @@ fn limits_meet(c: Complex, m: Complex) -> bool
 }
 
 // The resting order m is a candidate for c.
-pub fn can_cross(b: &[u32], g: [[Level; 2]; 8], c: Complex, m: Complex) -> bool
-    requires { ⌜ (length (now b) ≡ size) × (GridOf g (venueOf (now b) .regular)) × (LegsIn c) × (LegsIn m) ⌝ }
+pub fn can_cross(b: &[u32], c: Complex, m: Complex) -> bool
+    requires { ⌜ (length (now b) ≡ size) × (Right (now b)) × (LegsIn c) × (LegsIn m) ⌝ }
     ensures { λ r. ⌜ r ≡ crosses (venueOf (now (b .entry))) c m ⌝ }
 {
     if m.quantity == 0 {
@@ -85,11 +84,11 @@ pub fn can_cross(b: &[u32], g: [[Level; 2]; 8], c: Complex, m: Complex) -> bool
     if !limits_meet(c, m) {
         return false;
     }
-    let by_taker = levels::taken_of(g, c);
+    let by_taker = levels::taken_at(b, c);
     if !levels::in_band(b, by_taker, c, net_against(m)) {
         return false;
     }
-    let by_maker = levels::taken_of(g, m);
+    let by_maker = levels::taken_at(b, m);
     levels::in_band(b, by_maker, m, limit_of(m))
 }
 
@@ -142,8 +141,8 @@ fn is_either(key: usize, one: usize, two: usize) -> bool
 }
 
 // The resting order that c crosses with first. Of the others only those whose legs have the key are read.
-pub fn first_cross(b: &[u32], g: [[Level; 2]; 8], c: Complex) -> Pick
-    requires { ⌜ (length (now b) ≡ size) × (GridOf g (venueOf (now b) .regular)) × (LegsIn c) ⌝ }
+pub fn first_cross(b: &[u32], c: Complex) -> Pick
+    requires { ⌜ (length (now b) ≡ size) × (Right (now b)) × (LegsIn c) ⌝ }
     ensures { λ r. ⌜ pickedOf r ≡ first (crosses (venueOf (now (b .entry))) c) limitThenId (venueOf (now (b .entry)) .complex) ⌝ }
 {
     let straight = facing_key(c.series1, c.side1, c.series2, c.side2);
@@ -156,7 +155,7 @@ pub fn first_cross(b: &[u32], g: [[Level; 2]; 8], c: Complex) -> Pick
             continue;
         }
         let m = places::complex_at(b, i);
-        if !can_cross(b, g, c, m) {
+        if !can_cross(b, c, m) {
             continue;
         }
         best = better_pick(best, i, m);
@@ -180,8 +179,8 @@ pub fn cross(b: &mut [u32], i: usize, j: usize, k: u32, out: &mut [u8], at: usiz
 }
 
 // The order at place i crosses while there is one that it crosses with.
-pub fn cross_all(b: &mut [u32], g: [[Level; 2]; 8], i: usize, out: &mut [u8], at: usize) -> usize
-    requires { ⌜ (length (now b) ≡ size) × (GridOf g (venueOf (now b) .regular)) × (i < complexesUsed (now b)) ⌝ }
+pub fn cross_all(b: &mut [u32], i: usize, out: &mut [u8], at: usize) -> usize
+    requires { ⌜ (length (now b) ≡ size) × (Right (now b)) × (i < complexesUsed (now b)) ⌝ }
     ensures { λ r. ⌜ stage (venueOf (now (b .exit))) (now (out .exit)) r ≡ seen (now (out .entry)) at does repeat (complexAt (venueOf (now (b .entry))) i .quantity) (crossTurn i) (venueOf (now (b .entry))) ⌝ }
     ensures counts { λ _. ⌜ SameCounts (now (b .entry)) (now (b .exit)) ⌝ }
 {
@@ -194,7 +193,7 @@ pub fn cross_all(b: &mut [u32], g: [[Level; 2]; 8], i: usize, out: &mut [u8], at
         if c.quantity == 0 {
             return pos;
         }
-        let found = first_cross(b, g, c);
+        let found = first_cross(b, c);
         let Pick::At(j, m) = found else {
             return pos;
         };
@@ -226,12 +225,13 @@ fn can_touch(b: &[u32], taken: Taken, c: Complex) -> bool
 }
 
 // The legging orders at the two sides that the order at place i would take go, where it touches.
-pub fn touch(b: &mut [u32], taken: Taken, i: usize, out: &mut [u8], at: usize) -> usize
-    requires { ⌜ (length (now b) ≡ size) × (TakenOf taken (complexAt (venueOf (now b)) i) (venueOf (now b) .regular)) × (i < complexesUsed (now b)) ⌝ }
+pub fn touch(b: &mut [u32], i: usize, out: &mut [u8], at: usize) -> usize
+    requires { ⌜ (length (now b) ≡ size) × (Right (now b)) × (i < complexesUsed (now b)) ⌝ }
     ensures { λ r. ⌜ stage (venueOf (now (b .exit))) (now (out .exit)) r ≡ seen (now (out .entry)) at does touch i (venueOf (now (b .entry))) ⌝ }
     ensures counts { λ _. ⌜ SameCounts (now (b .entry)) (now (b .exit)) ⌝ }
 {
     let c = places::complex_at(b, i);
+    let taken = levels::taken_at(b, c);
     if !can_touch(b, taken, c) {
         return at;
     }

@@ -1,12 +1,13 @@
 -- A message upon the venue of a slice: what an accepted one has passed, its effects and closing, and its answer set last.
-use mathlib.Core.Path.{_≡_, refl, sym, ap, ap₂, _∙_}
+use mathlib.Core.Path.{_≡_, refl, sym, ap, ap₂, subst, _∙_}
 use mathlib.Core.Bool.{Bool, true, false, _||_}
 use mathlib.Core.List.{List, [], _∷_}
 use Prim.Native.Nat.{ℕ, _<_}
 use native.Mathlib.Omega.{arith}
 use lib.Count.{ones}
 use lib.Dec.{eqb}
-use borrow.Author.Tests.{leb-false, ne-eqb, not-false}
+use lib.ListN.{getD}
+use borrow.Author.Tests.{leb-false, leb-true, ne-eqb, not-false}
 use Rattle.rules.specs.declared.Regular.{Regular}
 use Rattle.rules.specs.declared.Complex.{Complex}
 use Rattle.rules.specs.declared.Venue.{Venue}
@@ -15,21 +16,24 @@ use Rattle.rules.specs.declared.Message.the-variants.{Order, TwoLeg, Cancel}
 use Rattle.rules.specs.declared.Decoded.{Decoded}
 use Rattle.rules.specs.declared.Decoded.the-variants.{Taken, Refused}
 use Rattle.rules.specs.Base.{if_then_else_}
-use Rattle.rules.specs.Words.{withLast}
+use Rattle.rules.specs.Words.{withLast, noRegular}
 use Rattle.rules.specs.Messages.{messageOf}
 use Rattle.rules.specs.Records.{answer}
 use Rattle.rules.specs.Effects.{Effect, nothing}
 use Rattle.rules.specs.Trading.{freeRegular, freeComplex}
 use Rattle.rules.specs.Complex.{restsRegular, restsComplex}
-use Rattle.rules.specs.Places.{closeGaps}
-use Rattle.rules.specs.Refusals.{inRange, decoded, full, unknown, refusalOf, refusal}
+use Rattle.rules.specs.Places.{closeGaps, holdsRegular, blankRegular}
+use Rattle.rules.specs.Refusals.{regularInRange, inRange, decoded, idTooLow, full, unknown, refusalOf, refusal}
+use Rattle.rules.specs.Sound.{regularsSound, sound}
 use Rattle.rules.specs.Step.{perform, accept, mask, StepOutcome, answered, step}
+use Rattle.rules.proofs.Tests.{and-l, and-r}
+use Rattle.rules.proofs.Arranging.{arranged-out, blank-free}
 use Rattle.rules.proofs.Refusing.{decoded-by, refusalOf-by}
 use Rattle.wire.specs.Seen.{Seen, seen, _writes_}
 use Rattle.wire.specs.Stage.{stage, _does_}
 use Rattle.wire.proofs.Writes.{answer-last}
 use Rattle.wire.proofs.Stages.{does-nothing, follow, stage-venue, stage-written}
-use Rattle.places.specs.Layout.{regularsUsed, complexesUsed, venueOf, SameCounts, Dense}
+use Rattle.places.specs.Layout.{regularsUsed, complexesUsed, venueOf, Below, SameCounts, Dense}
 use Rattle.places.proofs.Closed.{dense-regular, dense-complex, dense-kept}
 use Rattle.book.proofs.Masks.{ones-mask}
 use Rattle.engine.specs.declared.Stepped.{Stepped}
@@ -65,6 +69,27 @@ cancel-known v id e = not-false _ (passed v (Cancel id) e .1)
 pub last-dense : (a b : List ℕ) (x : ℕ) → venueOf b ≡ withLast (venueOf a) x → SameCounts a b → Dense a → Dense b
 unfolding withLast
 last-dense a b x p q d = dense-kept a b (ap (λ (w : Venue). w .regular) p) (ap (λ (w : Venue). w .complex) p) q d
+
+pub last-below : (a b : List ℕ) (x : ℕ) → venueOf b ≡ withLast (venueOf a) x → {id : ℕ} → Below id (venueOf a .regular) → Below id (venueOf b .regular)
+unfolding withLast
+last-below a b x p {id = id} h = subst (λ (w : Venue). Below id (w .regular)) (sym p) h
+
+-- the ids that rest are below that of an order that is not refused
+module _ (v : Venue) (o : Regular) (e : refusalOf v (Order o) ≡ 0) where
+  order-last : v .last < o .id
+  unfolding idTooLow
+  order-last = leb-false (o .id) (v .last) (refusalOf-by (λ x. x ≡ 0 → idTooLow v (Order o) ≡ false) v (Order o)
+      (λ h. absurd (omega arith)) (λ h. absurd (omega arith)) (λ h. absurd (omega arith)) (λ h. absurd (omega arith)) (λ a _ _ _ _. a) e)
+
+  regulars-below : regularsSound v ≡ true → Below (o .id) (v .regular)
+  unfolding regularsSound
+  regulars-below h =
+      let a = arranged-out noRegular holdsRegular _ blankRegular (λ o. o .id) blank-free (unfold blankRegular in refl) 0 (v .regular) h in
+      λ i q. let z = leb-true (getD (v .regular) i noRegular .id) (v .last) (and-r (regularInRange (getD (v .regular) i noRegular)) _ (a .asks i q)) in let w = order-last in omega arith
+
+  pub order-below : sound v ≡ true → Below (o .id) (v .regular)
+  unfolding sound
+  order-below h = regulars-below (search (and-l, and-r, h) depth 10)
 
 -- Its effects, and then the gaps closed -------------------------------------------------------
 

@@ -13,6 +13,7 @@ ghost use mathlib.Core.Bool.{true, _||_};
 ghost use Prim.Native.Nat.{ℕ, _≤_, _<_};
 ghost use lib.ListN.{length};
 ghost use Rattle.rules.specs.declared.Message.the-variants.{Order, TwoLeg, Cancel};
+ghost use Rattle.rules.specs.Base.{held};
 ghost use Rattle.rules.specs.Words.{withLast};
 ghost use Rattle.rules.specs.Effects.{nothing};
 ghost use Rattle.rules.specs.Order.{order};
@@ -27,7 +28,7 @@ ghost use Rattle.rules.specs.Standing.{settle};
 ghost use Rattle.wire.specs.Seen.{seen};
 ghost use Rattle.wire.specs.Stage.{stage, _does_};
 ghost use Rattle.reader.specs.Head.{headAt};
-ghost use Rattle.places.specs.Layout.{size, regularsUsed, complexesUsed, venueOf, SameCounts, Dense};
+ghost use Rattle.places.specs.Layout.{size, regularsUsed, complexesUsed, venueOf, Right, Below, SameCounts, Dense};
 ghost use Rattle.levels.specs.Grid.{LegsIn};
 ghost use Rattle.engine.specs.Steps.{answeredBy, Steps};
 ghost use Rattle.engine.specs.Runs.{Tries, Turns, callOf};
@@ -81,7 +82,7 @@ fn complex_rests(b: &[u32], id: u32) -> bool
 
 // An order with an id rests, in one book or the other.
 fn rests(b: &[u32], id: u32) -> bool
-    requires { ⌜ length (now b) ≡ size ⌝ }
+    requires { ⌜ (length (now b) ≡ size) × (Dense (now b)) ⌝ }
     ensures { λ r. ⌜ r ≡ (restsRegular (venueOf (now (b .entry))) id || restsComplex (venueOf (now (b .entry))) id) ⌝ }
 {
     let found = book::regular_place(b, id);
@@ -92,7 +93,7 @@ fn rests(b: &[u32], id: u32) -> bool
 }
 
 fn cancel_refusal(b: &[u32], id: u32) -> u8
-    requires { ⌜ length (now b) ≡ size ⌝ }
+    requires { ⌜ (length (now b) ≡ size) × (Dense (now b)) ⌝ }
     ensures { λ r. ⌜ r ≡ refusalOf (venueOf (now (b .entry))) (Cancel id) ⌝ }
 {
     if rests(b, id) {
@@ -120,7 +121,7 @@ fn refusal_of(b: &[u32], m: Message) -> u8
 
 // A series' away prices anew; then settling.
 fn set_away(b: &mut [u32], s: u8, bid: u32, offer: u32, out: &mut [u8], at: usize) -> usize
-    requires { ⌜ (length (now b) ≡ size) × (s < 8) ⌝ }
+    requires { ⌜ (length (now b) ≡ size) × (s < 8) × (Right (now b)) ⌝ }
     ensures { λ r. ⌜ stage (venueOf (now (b .exit))) (now (out .exit)) r ≡ seen (now (out .entry)) at does settle (setAway s bid offer (venueOf (now (b .entry)))) ⌝ }
     ensures counts { λ _. ⌜ SameCounts (now (b .entry)) (now (b .exit)) ⌝ }
 {
@@ -132,7 +133,7 @@ fn set_away(b: &mut [u32], s: u8, bid: u32, offer: u32, out: &mut [u8], at: usiz
 
 // A series' status anew; then settling.
 fn set_status(b: &mut [u32], s: u8, status: u8, out: &mut [u8], at: usize) -> usize
-    requires { ⌜ (length (now b) ≡ size) × (s < 8) ⌝ }
+    requires { ⌜ (length (now b) ≡ size) × (s < 8) × (Right (now b)) ⌝ }
     ensures { λ r. ⌜ stage (venueOf (now (b .exit))) (now (out .exit)) r ≡ seen (now (out .entry)) at does settle (setStatus s status (venueOf (now (b .entry)))) ⌝ }
     ensures counts { λ _. ⌜ SameCounts (now (b .entry)) (now (b .exit)) ⌝ }
 {
@@ -148,8 +149,9 @@ fn set_status(b: &mut [u32], s: u8, status: u8, out: &mut [u8], at: usize) -> us
 
 // An order arrives, and its id is the last accepted.
 fn enter_order(b: &mut [u32], o: Regular, out: &mut [u8], at: usize) -> usize
-    requires { ⌜ (length (now b) ≡ size) × (Dense (now b)) × (regularsUsed (now b) < 128) × (o .series < 8) × (o .side < 2) ⌝ }
+    requires { ⌜ (length (now b) ≡ size) × (Dense (now b)) × (regularsUsed (now b) < 128) × (o .series < 8) × (o .side < 2) × (held (o .price) ≡ true) × (Below (o .id) (venueOf (now b) .regular)) ⌝ }
     ensures { λ r. ⌜ stage (venueOf (now (b .exit))) (now (out .exit)) r ≡ seen (now (out .entry)) at does order o (withLast (venueOf (now (b .entry))) (o .id)) ⌝ }
+    ensures right { λ _. ⌜ Right (now (b .exit)) ⌝ }
 {
     places::put_last(b, o.id);
     complexes::order(b, o, out, at)
@@ -159,6 +161,7 @@ fn enter_order(b: &mut [u32], o: Regular, out: &mut [u8], at: usize) -> usize
 fn enter_complex(b: &mut [u32], c: Complex, out: &mut [u8], at: usize) -> usize
     requires { ⌜ (length (now b) ≡ size) × (Dense (now b)) × (complexesUsed (now b) < 32) × (LegsIn c) ⌝ }
     ensures { λ r. ⌜ stage (venueOf (now (b .exit))) (now (out .exit)) r ≡ seen (now (out .entry)) at does complex c (withLast (venueOf (now (b .entry))) (c .id)) ⌝ }
+    ensures right { λ _. ⌜ Right (now (b .exit)) ⌝ }
 {
     places::put_last(b, c.id);
     complexes::complex_order(b, c, out, at)
@@ -168,6 +171,7 @@ fn enter_complex(b: &mut [u32], c: Complex, out: &mut [u8], at: usize) -> usize
 fn perform(b: &mut [u32], m: Message, out: &mut [u8], at: usize) -> usize
     requires { ⌜ (length (now b) ≡ size) × (Dense (now b)) × (inRange m ≡ true) × (refusalOf (venueOf (now b)) m ≡ 0) × (SoundVenue (venueOf (now b))) ⌝ }
     ensures { λ r. ⌜ stage (venueOf (now (b .exit))) (now (out .exit)) r ≡ seen (now (out .entry)) at does step.perform m (venueOf (now (b .entry))) ⌝ }
+    ensures right { λ _. ⌜ Right (now (b .exit)) ⌝ }
 {
     match m {
         Message::Order(o) => enter_order(b, o, out, at),
@@ -203,7 +207,7 @@ fn refuse(b: &[u32], number: u32, refused: u8, out: &mut [u8]) -> Stepped
     requires { ⌜ (length (now b) ≡ size) × (Dense (now b)) ⌝ }
     ensures { λ r. ⌜ Steps (answered number refused (nothing (venueOf (now (b .entry))))) (now (out .entry)) r (now (b .entry)) (now (out .exit)) ⌝ }
 {
-    let mask = book::mask_of(b);
+    let mask = places::mask_of(b);
     let count = book::count_of(mask);
     let written = wire::emit_answer(out, 0, number, refused, mask, count);
     Stepped { refused, written }
@@ -216,7 +220,7 @@ fn answer_accepted(b: &mut [u32], number: u32, m: Message, out: &mut [u8]) -> St
 {
     let at = wire::emit_answer(out, 0, number, 0, 0, 0);
     let written = accept(b, m, out, at);
-    let mask = book::mask_of(b);
+    let mask = places::mask_of(b);
     let count = book::count_of(mask);
     wire::set_answer(out, 0, number, 0, mask, count);
     Stepped {
@@ -268,7 +272,7 @@ fn step_or_leave(b: &mut [u32], number: u32, message: &[u8], out: &mut [u8]) -> 
     requires { ⌜ (length (now b) ≡ size) × (Dense (now b)) × (SoundVenue (venueOf (now b))) ⌝ }
     ensures { λ r. ⌜ Tries (step.step (venueOf (now (b .entry))) number (now (message .entry))) (now (b .entry)) (now (out .entry)) r (now (b .exit)) (now (out .exit)) ⌝ }
 {
-    let mut kept = [0u32; 779];
+    let mut kept = [0u32; 830];
     copy(b, &mut kept);
     let r = step(b, number, message, out);
     if r.written <= out.len() {
@@ -337,7 +341,7 @@ fn advance(t: Turn, head: Head, b: &mut [u32], messages: &[u8], report: &mut [u8
 pub fn run(messages: &[u8], report: &mut [u8]) -> Returned
     ensures { λ r. ⌜ callOf r (now (report .exit)) ≡ calls.run (length (now (report .entry))) (now (messages .entry)) ⌝ }
 {
-    let mut b = [0u32; 779];
+    let mut b = [0u32; 830];
     let mut t = Turn {
         number: 0,
         done: 0,
@@ -383,7 +387,7 @@ fn end_call(number: u8, venue: Venue, report: &mut [u8]) -> Returned
 pub fn one_message(venue: Venue, before: u32, message: &[u8], report: &mut [u8]) -> Returned
     ensures { λ r. ⌜ callOf r (now (report .exit)) ≡ calls.one venue before (length (now (report .entry))) (now (message .entry)) ⌝ }
 {
-    let mut b = [0u32; 779];
+    let mut b = [0u32; 830];
     if !soundness::load_sound(&mut b, venue) {
         return end_call(9, venue, report);
     }

@@ -18,25 +18,25 @@ use Rattle.rules.specs.declared.Leg.{Leg}
 use Rattle.rules.specs.declared.Venue.{Venue}
 use Rattle.rules.specs.declared.Cause.the-variants.{Replaced}
 use Rattle.rules.specs.Base.{if_then_else_, held}
-use Rattle.rules.specs.Words.{buy, within, opposite, signed, increment, noComplex, noLegging, placeOf, complexAt, leggingAt, withLegging}
-use Rattle.rules.specs.Prices.{better, ownPrice, bestOwn, displayed, away, inBand}
+use Rattle.rules.specs.Words.{buy, within, opposite, signed, increment, noComplex, noLegging, placeOf, leggingAt, complexAt, statusOf, withLegging}
+use Rattle.rules.specs.Prices.{better, bestRegular, ownPrice, bestOwn, displayed, away, marketBest, taken1, taken2, inBand}
 use Rattle.rules.specs.Records.{generated}
 use Rattle.rules.specs.Effects.{Effect, nothing, report, _⟫_}
 use Rattle.rules.specs.Removal.{remove, failIf}
-use Rattle.rules.specs.Standing.{otherLeg, otherClear, otherSize, parentOf, bothOpen, shownWell, settle}
+use Rattle.rules.specs.Standing.{otherLeg, otherClear, otherSize, parentOf, bothOpen, shownWell}
 use Rattle.rules.specs.Generation.{asPrice, legPrice, newLegging, placed, reachesAny, givesWay, othersStand, makes, make, generateLeg, generate}
-use Rattle.rules.proofs.Tests.{and-l, and-r, held-pos}
+use Rattle.rules.proofs.Tests.{and-l, and-r, held-pos, pos-held}
 use Rattle.rules.proofs.Better.{is-false}
 use Rattle.rules.proofs.Integers.{abs-neg, abs-add}
 use Rattle.rules.proofs.Machine.{fits-of, back}
-use Rattle.rules.proofs.Generating.{Makes, made, zero-out}
+use Rattle.rules.proofs.Generating.{Makes, made, zero-out, make-venue}
 use Rattle.wire.specs.Seen.{seen, _writes_}
 use Rattle.wire.specs.Stage.{stage, _does_}
 use Rattle.wire.proofs.Stages.{follow, does-report}
-use Rattle.places.specs.Layout.{leggingIn, complexIn, venueOf, complexesUsed}
+use Rattle.places.specs.Layout.{leggingIn, complexIn, venueOf, complexesUsed, levelOf}
 use Rattle.places.proofs.Parts.{complex-at, complex-past}
-use Rattle.levels.specs.declared.Level.{Level}
-use Rattle.levels.specs.Grid.{levelOf, GridOf, LegsIn}
+use Rattle.places.specs.declared.Level.{Level}
+use Rattle.levels.specs.Grid.{GridOf, LegsIn}
 use Rattle.levels.proofs.Sides.{legs-in}
 use Rattle.removal.proofs.Removing.{legging-at, remove-same}
 use Rattle.legging.specs.Parts.{rangedPrice, pricedLeg, marketOpen, standsClear, mayStand, plannedLeg, madeBy}
@@ -146,6 +146,11 @@ module _ (v : Venue) (c : Complex) (d p own : ℕ) (l : Legging) (ew : own ≡ o
     unfolding givesWay
     way-class k n m em = rw (← ew, h, eq-eqb p own k, eq-eqb (c .class) 0 n, ← em)
 
+-- no legging order has a part in whether the market is open
+market-beside : (n : ℕ) (l : Legging) (v : Venue) (c : Complex) → marketOpen (placed n l v) c ≡ marketOpen v c
+unfolding marketOpen bothOpen statusOf inBand taken1 taken2 marketBest away bestRegular placed withLegging
+market-beside n l v c = refl
+
 -- The order as planned ------------------------------------------------------------------------
 
 module _ (v : Venue) (c : Complex) (s d : ℕ) where
@@ -156,18 +161,14 @@ module _ (v : Venue) (c : Complex) (s d : ℕ) where
   unfolding plannedLeg asked
   planned-if t e = rw e
 
-  pub planned-gone : c .quantity ≡ 0 → noLegging ≡ plannedLeg v c s d
-  unfolding asked
-  planned-gone h = sym (planned-if false (rw (eq-eqb (c .quantity) 0 h)))
-
-  module _ (p : ℕ) (ep : p ≡ pricedLeg v c s d) where
-    pub planned-free : (c .quantity ≡ 0 → ⊥) → p ≡ 0 → noLegging ≡ plannedLeg v c s d
+  module _ (p : ℕ) (ep : p ≡ pricedLeg v c s d) (h : 0 < c .quantity) where
+    pub planned-free : p ≡ 0 → noLegging ≡ plannedLeg v c s d
     unfolding asked
-    planned-free h k = sym (planned-if false (rw (ne-eqb (c .quantity) 0 h, ← ep, k)))
+    planned-free k = sym (planned-if false (rw (pos-held (c .quantity) h, ← ep, k)))
 
-    pub planned-not : (c .quantity ≡ 0 → ⊥) → (p ≡ 0 → ⊥) → mayStand v c s d p ≡ false → noLegging ≡ plannedLeg v c s d
+    pub planned-not : (p ≡ 0 → ⊥) → mayStand v c s d p ≡ false → noLegging ≡ plannedLeg v c s d
     unfolding asked
-    planned-not h k m = sym (planned-if false (rw (ne-eqb (c .quantity) 0 h, ← ep, ne-eqb p 0 k, m)))
+    planned-not k m = sym (planned-if false (rw (pos-held (c .quantity) h, ← ep, ne-eqb p 0 k, m)))
 
   -- a price that is there is the leg's
   priced-back : (t u : Bool) → held (otherClear v c s) ≡ t → within (increment s) 100000 (displayed (increment s) d (legPrice v c s d)) ≡ u →
@@ -187,20 +188,24 @@ module _ (v : Venue) (c : Complex) (s d : ℕ) where
   unfolding pricedLeg rangedPrice
   priced-leg h k = rw (h, k)
 
-  pub planned-new : (p k : ℕ) → p ≡ pricedLeg v c s d → (c .quantity ≡ 0 → ⊥) → (p ≡ 0 → ⊥) → mayStand v c s d p ≡ true → k ≡ min (c .quantity) (otherSize v c s) →
+  pub planned-new : (p k : ℕ) → p ≡ pricedLeg v c s d → 0 < c .quantity → (p ≡ 0 → ⊥) → mayStand v c s d p ≡ true → k ≡ min (c .quantity) (otherSize v c s) →
       record { parent = c .id; price = p; quantity = k } ≡ plannedLeg v c s d
   unfolding asked newLegging
   planned-new p k ep h n m ek =
       let t : held (pricedLeg v c s d) ≡ true = rw (← ep, ne-eqb p 0 n) in
       let e : p ≡ legPrice v c s d = ep ∙ priced-leg (priced-clear t) (priced-range t) in
-      let a : asked ≡ true = rw (ne-eqb (c .quantity) 0 h, ← ep, ne-eqb p 0 n, m) in
+      let a : asked ≡ true = rw (pos-held (c .quantity) h, ← ep, ne-eqb p 0 n, m) in
       rw (e, ek) (sym (planned-if true a))
 
   -- Made or not -----------------------------------------------------------------------------
 
+  market-made : Makes v c s d → marketOpen v c ≡ true
+  unfolding marketOpen
+  market-made m = rw (m .opens, m .band)
+
   may-made : Makes v c s d → mayStand v c s d (legPrice v c s d) ≡ true
-  unfolding mayStand marketOpen standsClear
-  may-made m = rw (m .opens, m .band, m .shown, m .inside, m .outside, m .way)
+  unfolding mayStand standsClear
+  may-made m = rw (market-made m, m .shown, m .inside, m .outside, m .way)
 
   planned-made : held (c .quantity) ≡ true → Makes v c s d → plannedLeg v c s d ≡ newLegging v c s d
   unfolding asked
@@ -211,6 +216,23 @@ module _ (v : Venue) (c : Complex) (s d : ℕ) where
   not-made : (held (c .quantity) && makes v c s d) ≡ false → nothing v ≡ generateLeg c s d v
   unfolding generateLeg
   not-made h = rw h
+
+  -- nothing is made for an order that is gone, nor where the market is not open to it
+  gone-none : c .quantity ≡ 0 → nothing v ≡ generateLeg c s d v
+  gone-none h = not-made (rw (eq-eqb (c .quantity) 0 h))
+
+  shut-none : marketOpen v c ≡ false → nothing v ≡ generateLeg c s d v
+  shut-none h =
+      not-made (is-false (held (c .quantity) && makes v c s d) (λ t. true≢false (sym (market-made (made (and-r (held (c .quantity)) (makes v c s d) t))) ∙ h)))
+
+  -- what is made leaves the market as it was
+  pub market-kept : (w : Venue) → w ≡ generateLeg c s d v .venue → marketOpen w c ≡ marketOpen v c
+  unfolding generateLeg nothing
+  market-kept w e = ap (λ (x : Venue). marketOpen x c) e ∙ go (held (c .quantity) && makes v c s d)
+    where
+      go : (t : Bool) → marketOpen ((if t then make c s d v else nothing v) .venue) c ≡ marketOpen v c
+      go true = ap (λ (x : Venue). marketOpen x c) (make-venue v c s d) ∙ market-beside (placeOf s d) (newLegging v c s d) v c
+      go false = refl
 
   pub made-none : (l : Legging) → l ≡ plannedLeg v c s d → l .price ≡ 0 → nothing v ≡ generateLeg c s d v
   unfolding newLegging
@@ -329,40 +351,30 @@ made-law id s d n shown l v v₁ v₂ o₀ o₁ o₂ at mid r en es p q w =
     ∙ ap (λ (e : Effect). seen o₁ mid does e)
     (ap₂ (λ (k : ℕ) (u : Venue). report (generated id s d (l .price) k (l .quantity)) u) es (q ∙ ap (λ (k : ℕ). placed k l v₁) en)))
 
--- What is kept --------------------------------------------------------------------------------
+-- The order at a place ------------------------------------------------------------------------
 
-pub settle-regular : (v : Venue) → settle v .venue .regular ≡ v .regular
-unfolding settle remove withLegging
-settle-regular v = refl
-
-pub generateLeg-regular : (c : Complex) (s d : ℕ) (v : Venue) → generateLeg c s d v .venue .regular ≡ v .regular
-unfolding generateLeg make remove report nothing _⟫_ placed withLegging
-generateLeg-regular c s d v = go (held (c .quantity) && makes v c s d)
-  where
-    go : (t : Bool) → (if t then make c s d v else nothing v) .venue .regular ≡ v .regular
-    go true = refl
-    go false = refl
-
-pub generate-regular : (i : ℕ) (v : Venue) → generate i v .venue .regular ≡ v .regular
-unfolding generate _⟫_
-generate-regular i v =
-    generateLeg-regular (complexAt v i) (complexAt v i .series2) (complexAt v i .side2) (generateLeg (complexAt v i) (complexAt v i .series1) (complexAt v i .side1) v .venue)
-    ∙ generateLeg-regular (complexAt v i) (complexAt v i .series1) (complexAt v i .side1) v
+-- where neither leg makes anything
+neither : (v : Venue) (i : ℕ) → ((s d : ℕ) → nothing v ≡ generateLeg (complexAt v i) s d v) → nothing v ≡ generate i v
+unfolding generate _⟫_ nothing
+neither v i q =
+    let c = complexAt v i in
+    q (c .series2) (c .side2) ∙ ap (λ (e : Effect). e ⟫ generateLeg c (c .series2) (c .side2)) (q (c .series1) (c .side1))
 
 -- a place that is not in use has nothing to generate
-none-made : (s d : ℕ) (v : Venue) → generateLeg noComplex s d v ≡ nothing v
-unfolding generateLeg
-none-made s d v = refl
-
 pub generate-past : (b : List ℕ) (i : ℕ) → complexesUsed b ≤ i → nothing (venueOf b) ≡ generate i (venueOf b)
-unfolding generate _⟫_ nothing
-generate-past b i h = rw (complex-past b i h, none-made, none-made) refl
+generate-past b i h = neither (venueOf b) i (λ s d. rw (complex-past b i h) (gone-none (venueOf b) noComplex s d refl))
 
 module _ (b : List ℕ) (i : ℕ) (c : Complex) (ec : c ≡ complexIn b i) where
   pub complex-in : LegsIn c
   complex-in = rw ec (legs-in b i)
 
-  pub generate-is : i < complexesUsed b →
-      generateLeg c (c .series1) (c .side1) (venueOf b) ⟫ generateLeg c (c .series2) (c .side2) ≡ generate i (venueOf b)
-  unfolding generate
-  generate-is h = ap (λ (x : Complex). generateLeg x (x .series1) (x .side1) (venueOf b) ⟫ generateLeg x (x .series2) (x .side2)) (ec ∙ sym (complex-at b i h))
+  module _ (h : i < complexesUsed b) where
+    pub generate-gone : c .quantity ≡ 0 → nothing (venueOf b) ≡ generate i (venueOf b)
+    generate-gone k = neither (venueOf b) i (λ s d. rw (complex-at b i h, ← ec) (gone-none (venueOf b) c s d k))
+
+    pub generate-shut : marketOpen (venueOf b) c ≡ false → nothing (venueOf b) ≡ generate i (venueOf b)
+    generate-shut k = neither (venueOf b) i (λ s d. rw (complex-at b i h, ← ec) (shut-none (venueOf b) c s d k))
+
+    pub generate-is : generateLeg c (c .series1) (c .side1) (venueOf b) ⟫ generateLeg c (c .series2) (c .side2) ≡ generate i (venueOf b)
+    unfolding generate
+    generate-is = ap (λ (x : Complex). generateLeg x (x .series1) (x .side1) (venueOf b) ⟫ generateLeg x (x .series2) (x .side2)) (ec ∙ sym (complex-at b i h))

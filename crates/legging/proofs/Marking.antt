@@ -1,109 +1,103 @@
--- Laws of the loops over the legging places: their marks, whether any is held, and whether the others stand.
+-- Laws of the loops over the legging places: their marks, and whether the others stand.
 use mathlib.Core.Path.{_≡_, refl, sym, ap, _∙_}
 use mathlib.Core.Bool.{Bool, true, false, _&&_, _||_}
 use mathlib.Core.List.{List}
-use Prim.Native.Nat.{ℕ, _+_, _*_, _-_, _≤_, _<_}
+use Prim.Native.Nat.{ℕ, zero, suc, _+_, _*_, _-_, _/_, _^_, _≤_, _<_}
 use native.Mathlib.Omega.{arith}
 use native.Mathlib.Numerals.{add-one}
-use native.Mathlib.Decide.{ℕ-discrete}
-use borrow.Author.Tests.{eq-eqb, ne-eqb, eqb-true, eqb-false}
+use native.Mathlib.Nat.{pow-le-pow-right}
+use borrow.Author.Tests.{eq-eqb, ne-eqb}
 use lib.Dec.{eqb}
-use lib.ListN.{length, getD, set, replicate, getD-replicate, length-set}
-use lib.Seq.{getD-set-same, getD-set-other}
+use lib.ListN.{getD}
 use Rattle.rules.specs.declared.Legging.{Legging}
 use Rattle.rules.specs.declared.Verdict.{Verdict}
 use Rattle.rules.specs.declared.Verdict.the-variants.{Stands, Fails}
 use Rattle.rules.specs.declared.Cause.{Cause}
-use Rattle.rules.specs.Base.{if_then_else_, held}
+use Rattle.rules.specs.declared.Cause.the-variants.{Worse, Unpaired, Executed, Withdrawn, OutOfBand, NotOpen, Replaced, Touched}
 use Rattle.rules.specs.Words.{noLegging}
 use Rattle.rules.specs.Standing.{verdict, verdictNumber, stands}
 use Rattle.rules.specs.Generation.{othersStand}
-use Rattle.rules.specs.Step.{mask}
 use Rattle.places.specs.Layout.{upto, leggingIn, venueOf}
 use Rattle.levels.proofs.Scans.{upto-on, upto-end}
+use Rattle.removal.specs.Marks.{markAt}
 use Rattle.removal.proofs.Removing.{legging-at}
 use Rattle.legging.proofs.Testing.{verdict-free}
 
 -- Marks ---------------------------------------------------------------------------------------
 
--- the places below n have the numbers of their verdicts, and the others 0
-pub record Marked (b marks : List ℕ) (n : ℕ) : Type 0 where
+pub number-small : (x : Verdict) → verdictNumber x < 16
+number-small Stands = omega arith
+number-small (Fails Worse) = omega arith
+number-small (Fails Unpaired) = omega arith
+number-small (Fails Executed) = omega arith
+number-small (Fails Withdrawn) = omega arith
+number-small (Fails OutOfBand) = omega arith
+number-small (Fails NotOpen) = omega arith
+number-small (Fails Replaced) = omega arith
+number-small (Fails Touched) = omega arith
+
+-- a number put below the marks is that of place 0, and the others move on by one place
+module _ (marks x : ℕ) (h : x < 16) where
+  mark-first : markAt (marks * 16 + x) 0 ≡ x
+  unfolding markAt
+  mark-first = omega arith
+
+  mark-next : (k : ℕ) → markAt (marks * 16 + x) (suc k) ≡ markAt marks k
+  unfolding markAt
+  mark-next k =
+      let z : (marks * 16 + x) / 16 ≡ marks = omega arith in
+      ap (λ (m : ℕ). markAt m k) z
+
+-- the marks of the places from n on
+pub record Marked (b : List ℕ) (marks n : ℕ) : Type 0 where
   pub few : n ≤ 16
-  pub long : length marks ≡ 16
-  pub below : (k : ℕ) → k < n → getD marks k 0 ≡ verdictNumber (verdict (venueOf b) k (leggingIn b k))
-  pub above : (k : ℕ) → n ≤ k → k < 16 → getD marks k 0 ≡ 0
+  pub small : marks < 16 ^ (16 - n)
+  pub marked : (k : ℕ) → n + k < 16 → markAt marks k ≡ verdictNumber (verdict (venueOf b) (n + k) (leggingIn b (n + k)))
 
-pub marked-none : (b : List ℕ) → Marked b (replicate 16 0) 0
-marked-none b = record { few = omega arith; long = refl; below = λ k q. absurd (omega arith); above = λ k h q. getD-replicate 16 k 0 0 q }
+pub marked-none : (b : List ℕ) → Marked b 0 16
+marked-none b = record { few = omega arith; small = omega arith; marked = λ k q. absurd (omega arith) }
 
--- a free place stands
-pub marked-free : (b marks : List ℕ) (n : ℕ) → Marked b marks n → n < 16 → (l : Legging) → l ≡ leggingIn b n → l .quantity ≡ 0 → Marked b marks (n + 1)
-marked-free b marks n i h l el q = record {
-  few = omega arith;
-  long = i .long;
-  below = λ k p. go k p (ℕ-discrete k n);
-  above = λ k p r. i .above k (omega arith) r;
-}
-  where
-    go : (k : ℕ) → k < n + 1 → Dec (k ≡ n) → getD marks k 0 ≡ verdictNumber (verdict (venueOf b) k (leggingIn b k))
-    go k p (yes e) = rw e (i .above n (omega arith) h ∙ ap verdictNumber (verdict-free (venueOf b) n l (leggingIn b n) el q))
-    go k p (no e) = i .below k (omega arith)
+module _ (b : List ℕ) (marks n : ℕ) (i : Marked b marks n) (p : 0 < n) where
+  -- there is room for one more
+  pub marked-room : marks < 1152921504606846976
+  marked-room =
+      let r = pow-le-pow-right {n = 16} (omega arith) {i = 16 - n} {j = 15} (omega arith) in
+      omega (arith, i .small)
 
-pub marked-on : (b marks : List ℕ) (n x : ℕ) (r : Verdict) → Marked b marks n → n < 16 → x ≡ verdictNumber r →
-    r ≡ verdict (venueOf b) n (getD (venueOf b .legging) n noLegging) → Marked b (set marks n x) (n + 1)
-marked-on b marks n x r i h ex er = record {
-  few = omega arith;
-  long = length-set marks n x ∙ i .long;
-  below = λ k q. go k q (ℕ-discrete k n);
-  above = λ k p q. getD-set-other marks n k x 0 (λ e. absurd (omega arith)) ∙ i .above k (omega arith) q;
-}
-  where
-    go : (k : ℕ) → k < n + 1 → Dec (k ≡ n) → getD (set marks n x) k 0 ≡ verdictNumber (verdict (venueOf b) k (leggingIn b k))
-    go k q (yes e) =
-        rw e (getD-set-same marks n x 0 (omega (arith, i .long)) ∙ ex ∙ ap verdictNumber (er ∙ ap (verdict (venueOf b) n) (legging-at b n h)))
-    go k q (no e) = getD-set-other marks n k x 0 e ∙ i .below k (omega arith)
+  marked-by : (x : ℕ) → x < 16 → x ≡ verdictNumber (verdict (venueOf b) (n - 1) (leggingIn b (n - 1))) → Marked b (marks * 16 + x) (n - 1)
+  marked-by x h e =
+      let z : 16 - (n - 1) ≡ suc (16 - n) = omega (arith, i .few) in
+      record { few = omega (arith, i .few); small = rw z (omega (arith, i .small)); marked = go }
+    where
+      go : (k : ℕ) → n - 1 + k < 16 → markAt (marks * 16 + x) k ≡ verdictNumber (verdict (venueOf b) (n - 1 + k) (leggingIn b (n - 1 + k)))
+      go zero q =
+          let z : n - 1 + 0 ≡ n - 1 = omega arith in
+          rw z (mark-first marks x h ∙ e)
+      go (suc k) q =
+          let z : n - 1 + suc k ≡ n + k = omega arith in
+          rw z (mark-next marks x h k ∙ i .marked k (omega arith))
 
--- Whether any is held -------------------------------------------------------------------------
+  -- a free place stands
+  pub marked-free : (l : Legging) → l ≡ leggingIn b (n - 1) → l .quantity ≡ 0 → Marked b (marks * 16) (n - 1)
+  marked-free l el q =
+      let z : marks * 16 + 0 ≡ marks * 16 = omega arith in
+      rw z at (marked-by 0 (omega arith) (ap verdictNumber (verdict-free (venueOf b) (n - 1) l (leggingIn b (n - 1)) el q)))
+
+  pub marked-on : (x : ℕ) (r : Verdict) → x ≡ verdictNumber r → r ≡ verdict (venueOf b) (n - 1) (getD (venueOf b .legging) (n - 1) noLegging) → Marked b (marks * 16 + x) (n - 1)
+  marked-on x r ex er =
+      marked-by x (omega (arith, number-small r)) (ex ∙ ap verdictNumber (er ∙ ap (verdict (venueOf b) (n - 1)) (legging-at b (n - 1) (omega (arith, i .few)))))
+
+pub marked-all : (b : List ℕ) (marks n : ℕ) → Marked b marks n → n ≡ 0 → (k : ℕ) → k < 16 → markAt marks k ≡ verdictNumber (verdict (venueOf b) k (leggingIn b k))
+marked-all b marks n i z k q =
+    let e : n + k ≡ k = omega arith in
+    rw e at (i .marked k (omega arith))
+
+-- Whether the others stand --------------------------------------------------------------------
 
 -- the legging places of a venue, as a scan reads them
 legging-scan : (b : List ℕ) → upto (leggingIn b) 0 (16 - 0) ≡ venueOf b .legging
 unfolding venueOf
 legging-scan b = refl
-
-double-none : (m : ℕ) → eqb (0 + 2 * m) 0 ≡ eqb m 0
-double-none m = go (eqb m 0) refl
-  where
-    go : (t : Bool) → eqb m 0 ≡ t → eqb (0 + 2 * m) 0 ≡ t
-    go true e = let z = eqb-true m 0 e in eq-eqb (0 + 2 * m) 0 (omega arith)
-    go false e = let z = eqb-false m 0 e in ne-eqb (0 + 2 * m) 0 (λ y. z (omega arith))
-
-module _ (b : List ℕ) (n : ℕ) where
-  -- none of the places from n on is held
-  abbrev pub freeFrom : Bool
-  freeFrom = eqb (mask (upto (leggingIn b) n (16 - n))) 0
-
-  mask-on : n < 16 → mask (upto (leggingIn b) n (16 - n)) ≡ (if held (leggingIn b n .quantity) then 1 else 0) + 2 * mask (upto (leggingIn b) (n + 1) (16 - (n + 1)))
-  unfolding mask
-  mask-on h = ap mask (upto-on (leggingIn b) n 16 h)
-
-  pub free-held : n < 16 → (l : Legging) → l ≡ leggingIn b n → (l .quantity ≡ 0 → ⊥) → false ≡ freeFrom
-  free-held h l e q =
-      let z : mask (upto (leggingIn b) n (16 - n)) ≡ 1 + 2 * mask (upto (leggingIn b) (n + 1) (16 - (n + 1))) = mask-on h ∙ rw (← e, ne-eqb (l .quantity) 0 q) refl in
-      sym (ne-eqb (mask (upto (leggingIn b) n (16 - n))) 0 (λ y. omega arith))
-
-  pub free-past : n < 16 → (l : Legging) → l ≡ leggingIn b n → l .quantity ≡ 0 → eqb (mask (upto (leggingIn b) (n + 1) (16 - (n + 1)))) 0 ≡ freeFrom
-  free-past h l e q =
-      let z : mask (upto (leggingIn b) n (16 - n)) ≡ 0 + 2 * mask (upto (leggingIn b) (n + 1) (16 - (n + 1))) = mask-on h ∙ rw (← e, eq-eqb (l .quantity) 0 q) refl in
-      sym (ap (λ (x : ℕ). eqb x 0) z ∙ double-none (mask (upto (leggingIn b) (n + 1) (16 - (n + 1)))))
-
-  pub free-end : 16 ≤ n → true ≡ freeFrom
-  unfolding mask
-  free-end h = rw (upto-end (leggingIn b) n 16 h)
-
-pub free-all : (b : List ℕ) → freeFrom b 0 ≡ eqb (mask (venueOf b .legging)) 0
-free-all b = ap (λ (l : List Legging). eqb (mask l) 0) (legging-scan b)
-
--- Whether the others stand --------------------------------------------------------------------
 
 module _ (b : List ℕ) (m n : ℕ) where
   -- those from place n on

@@ -2,7 +2,6 @@
 use mathlib.Core.Path.{_≡_, refl, sym, ap, ap₂, _∙_}
 use mathlib.Core.Bool.{Bool, true, false, not, _&&_, true≢false}
 use Prim.Native.Nat.{ℕ, _<_, _/_, _%_}
-use native.Mathlib.Omega.{arith}
 use native.Mathlib.Nat.{one-mul}
 use borrow.Author.Tests.{eq-eqb, ne-eqb}
 use lib.Dec.{eqb, leb}
@@ -18,9 +17,10 @@ use Rattle.rules.specs.Base.{if_then_else_}
 use Rattle.rules.specs.Words.{opposite, signed, increment}
 use Rattle.rules.specs.Prices.{better, bestRegular, displayed, clearPrice, weighed}
 use Rattle.rules.specs.Standing.{otherLeg, otherClear, otherSize, parentOf, shownWell, pairs, verdictOf, verdict}
-use Rattle.levels.specs.declared.Level.{Level}
+use Rattle.places.specs.declared.Level.{Level}
+use Rattle.places.specs.Layout.{levelOf}
 use Rattle.levels.specs.declared.Taken.{Taken}
-use Rattle.levels.specs.Grid.{levelOf, LegsIn, TakenOf}
+use Rattle.levels.specs.Grid.{LegsIn, TakenOf}
 use Rattle.levels.proofs.Sides.{level-price, level-size}
 use Rattle.legging.specs.Parts.{otherTaken}
 
@@ -39,10 +39,6 @@ on r false e h = absurd (true≢false (rw e at h))
 pub shown-is : (v : Venue) (s d p best : ℕ) (t : Bool) → best ≡ bestRegular v s d → t ≡ not (better d best (displayed (increment s) d p)) → t ≡ shownWell v s d p
 unfolding shownWell
 shown-is v s d p best t eb e = e ∙ ap (λ (x : ℕ). not (better d x (displayed (increment s) d p))) eb
-
-pub opposite-in : (d f : ℕ) → f ≡ opposite d → f < 2
-unfolding opposite
-opposite-in d f e = omega (arith, e)
 
 module _ (c : Complex) (s : ℕ) (o : Leg) (eo : o ≡ otherLeg c s) where
   pub other-in : LegsIn c → o .series < 8

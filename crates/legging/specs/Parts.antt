@@ -14,7 +14,7 @@ use Rattle.rules.specs.Records.{generated}
 use Rattle.rules.specs.Effects.{Effect, report, _⟫_}
 use Rattle.rules.specs.Removal.{remove, failIf}
 use Rattle.rules.specs.Generation.{legPrice, newLegging, placed, reachesAny, givesWay}
-use Rattle.levels.specs.declared.Level.{Level}
+use Rattle.places.specs.declared.Level.{Level}
 use Rattle.levels.specs.declared.Taken.{Taken}
 
 -- of the levels that the legs of c take, that of the leg that is not in series s

@@ -1,15 +1,15 @@
 // Legging orders: the test by which they stand, settling, and generation.
 use levels::LegSides;
-use levels::Level;
 use levels::Taken;
+use places::Level;
 use rules::Cause;
 use rules::Complex;
 use rules::Legging;
 use rules::Verdict;
 use rules::limit_of;
 ghost use mathlib.Core.Path.{_≡_};
-ghost use mathlib.Core.Bool.{not};
-ghost use Prim.Native.Nat.{ℕ, _+_, _≤_, _<_, min};
+ghost use mathlib.Core.Bool.{true, not};
+ghost use Prim.Native.Nat.{ℕ, _≤_, _<_, min};
 ghost use lib.IntN.{natAbs};
 ghost use lib.Dec.{eqb};
 ghost use lib.ListN.{length, getD};
@@ -17,11 +17,12 @@ ghost use Rattle.rules.specs.Step.{mask};
 ghost use Rattle.rules.specs.Words.{noLegging, opposite, signed, increment, leggingAt};
 ghost use Rattle.rules.specs.Prices.{better, bestRegular, displayed};
 ghost use Rattle.rules.specs.Standing.{otherClear, pairs, verdictOf, verdict, verdictNumber, settle};
-ghost use Rattle.rules.specs.Generation.{asPrice, reachesAny, givesWay, placed, othersStand, generateLeg, generate};
+ghost use Rattle.rules.specs.Generation.{asPrice, givesWay, placed, othersStand, generateLeg, generate};
 ghost use Rattle.wire.specs.Seen.{seen};
 ghost use Rattle.wire.specs.Stage.{stage, _does_};
-ghost use Rattle.places.specs.Layout.{size, leggingIn, venueOf, SameCounts};
+ghost use Rattle.places.specs.Layout.{size, leggingIn, venueOf, Right, SameCounts};
 ghost use Rattle.levels.specs.Grid.{GridOf, LegsIn, TakenOf, SidesOf};
+ghost use Rattle.removal.specs.Marks.{markAt};
 ghost use Rattle.legging.specs.Parts.{otherTaken, rangedPrice, pricedLeg, marketOpen, standsClear, mayStand, plannedLeg, madeBy};
 
 // A price p at side d of series s, displayed, is no worse than best, the best regular of its side.
@@ -107,54 +108,36 @@ pub fn judge(b: &[u32], g: [[Level; 2]; 8], n: usize) -> Verdict
     test_order(b, sides, c, s, d, l)
 }
 
-// The number of each place's verdict; that of a free place is 0.
-fn verdicts(b: &[u32], g: [[Level; 2]; 8]) -> [u8; 16]
+// The number of each place's verdict, by 4 bits, the lowest that of place 0; that of a free place is 0.
+fn verdicts(b: &[u32], g: [[Level; 2]; 8]) -> u64
     requires { ⌜ (length (now b) ≡ size) × (GridOf g (venueOf (now b) .regular)) ⌝ }
-    ensures { λ r. ⌜ ((n : ℕ) → n < 16 → getD r n 0 ≡ verdictNumber (verdict (venueOf (now (b .entry))) n (leggingIn (now (b .entry)) n))) ⌝ }
+    ensures { λ r. ⌜ ((n : ℕ) → n < 16 → markAt r n ≡ verdictNumber (verdict (venueOf (now (b .entry))) n (leggingIn (now (b .entry)) n))) ⌝ }
 {
-    let mut marks = [0u8; 16];
-    let mut n: usize = 0;
-    while n < 16 {
-        let place = n;
-        n += 1;
-        let l = places::legging_at(b, place);
+    let mut marks: u64 = 0;
+    let mut n: usize = 16;
+    while 0 < n {
+        n -= 1;
+        marks = marks * 16;
+        let l = places::legging_at(b, n);
         if l.quantity == 0 {
             continue;
         }
-        marks[place] = rules::verdict_number(judge(b, g, place));
+        marks += rules::verdict_number(judge(b, g, n)) as u64;
     }
     marks
 }
 
 // No legging order stands.
 pub fn none_stands(b: &[u32]) -> bool
-    requires { ⌜ length (now b) ≡ size ⌝ }
+    requires { ⌜ (length (now b) ≡ size) × (Right (now b)) ⌝ }
     ensures { λ r. ⌜ r ≡ eqb (mask (venueOf (now (b .entry)) .legging)) 0 ⌝ }
 {
-    let mut n: usize = 0;
-    while n < 16 {
-        let l = places::legging_at(b, n);
-        if l.quantity != 0 {
-            return false;
-        }
-        n += 1;
-    }
-    true
+    places::mask_of(b) == 0
 }
 
-// All legging orders are tested against the same state, and the failures go together.
-pub fn settle_with(b: &mut [u32], g: [[Level; 2]; 8], out: &mut [u8], at: usize) -> usize
-    requires { ⌜ (length (now b) ≡ size) × (GridOf g (venueOf (now b) .regular)) ⌝ }
-    ensures { λ r. ⌜ stage (venueOf (now (b .exit))) (now (out .exit)) r ≡ seen (now (out .entry)) at does settle (venueOf (now (b .entry))) ⌝ }
-    ensures counts { λ r. ⌜ SameCounts (now (b .entry)) (now (b .exit)) ⌝ }
-{
-    let marks = verdicts(b, g);
-    removal::remove_marked(b, marks, out, at)
-}
-
-// The same; the grid is made only where some legging order stands.
+// All legging orders are tested against the same state, and the failures go together. The grid is made only where some legging order stands.
 pub fn settle_all(b: &mut [u32], out: &mut [u8], at: usize) -> usize
-    requires { ⌜ length (now b) ≡ size ⌝ }
+    requires { ⌜ (length (now b) ≡ size) × (Right (now b)) ⌝ }
     ensures { λ r. ⌜ stage (venueOf (now (b .exit))) (now (out .exit)) r ≡ seen (now (out .entry)) at does settle (venueOf (now (b .entry))) ⌝ }
     ensures counts { λ r. ⌜ SameCounts (now (b .entry)) (now (b .exit)) ⌝ }
 {
@@ -162,7 +145,11 @@ pub fn settle_all(b: &mut [u32], out: &mut [u8], at: usize) -> usize
         return at;
     }
     let g = levels::levels(b);
-    settle_with(b, g, out, at)
+    let marks = verdicts(b, g);
+    if marks == 0 {
+        return at;
+    }
+    removal::remove_marked(b, marks, out, at)
 }
 
 // Every legging order but the one at place m passes its test.
@@ -253,16 +240,6 @@ fn market_open(b: &[u32], taken: Taken, c: Complex) -> bool
     levels::in_band(b, taken, c, limit_of(c))
 }
 
-// A price p of side d reaches a price q that is there.
-fn reaches_any(d: u8, p: u32, q: u32) -> bool
-    ensures { λ r. ⌜ r ≡ reachesAny d p q ⌝ }
-{
-    if q == 0 {
-        return false;
-    }
-    levels::reaches_price(d, p, q)
-}
-
 // A price p at side d of series s is no worse than own, the best regular of its side, and reaches nothing opposite; facing is the best regular there.
 fn stands_clear(b: &[u32], own: u32, facing: u32, s: u8, d: u8, p: u32) -> bool
     requires { ⌜ (length (now b) ≡ size) × (own ≡ bestRegular (venueOf (now b)) s d) × (facing ≡ bestRegular (venueOf (now b)) s (opposite d)) × (s < 8) ⌝ }
@@ -272,10 +249,10 @@ fn stands_clear(b: &[u32], own: u32, facing: u32, s: u8, d: u8, p: u32) -> bool
         return false;
     }
     let f = rules::opposite_of(d);
-    if reaches_any(d, p, levels::best_own(b, facing, s, f)) {
+    if levels::reaches_any(d, p, levels::best_own(b, facing, s, f)) {
         return false;
     }
-    !reaches_any(d, p, levels::away_price(b, s, f))
+    !levels::reaches_any(d, p, levels::away_price(b, s, f))
 }
 
 // What stands at side d of series s gives way to c at price p: it is worse, or of class 1 at an equal price while c is of class 0.
@@ -297,15 +274,11 @@ pub fn gives_way(b: &[u32], c: Complex, s: u8, d: u8, p: u32) -> bool
     holder.class == 1
 }
 
-// All that is asked of a legging order of c at price p but that the others stand.
+// All that is asked of a legging order of c at price p but that the others stand; the market is open to it.
 fn may_stand(b: &[u32], sides: LegSides, c: Complex, s: u8, d: u8, p: u32) -> bool
-    requires { ⌜ (length (now b) ≡ size) × (SidesOf sides c s d (venueOf (now b) .regular)) × (LegsIn c) × (s < 8) × (d < 2) ⌝ }
+    requires { ⌜ (length (now b) ≡ size) × (SidesOf sides c s d (venueOf (now b) .regular)) × (LegsIn c) × (s < 8) × (d < 2) × (marketOpen (venueOf (now b)) c ≡ true) ⌝ }
     ensures { λ r. ⌜ r ≡ mayStand (venueOf (now (b .entry))) c s d p ⌝ }
 {
-    let taken = sides.taken;
-    if !market_open(b, taken, c) {
-        return false;
-    }
     if !stands_clear(b, sides.own, sides.facing, s, d, p) {
         return false;
     }
@@ -324,13 +297,14 @@ fn leg_quantity(taken: Taken, c: Complex, s: u8) -> u32
     best.size as u32
 }
 
-// With l at place n every other legging order passes its test. The venue is left as it was.
-fn others_stand_with(b: &mut [u32], g: [[Level; 2]; 8], n: usize, l: Legging) -> bool
-    requires { ⌜ (length (now b) ≡ size) × (GridOf g (venueOf (now b) .regular)) × (n < 16) ⌝ }
+// With l at place n every other legging order passes its test; the grid is of the regular orders alone. The venue is left as it was.
+fn others_stand_with(b: &mut [u32], n: usize, l: Legging) -> bool
+    requires { ⌜ (length (now b) ≡ size) × (Right (now b)) × (n < 16) ⌝ }
     ensures { λ r. ⌜ r ≡ othersStand (placed n l (venueOf (now (b .entry)))) n 0 (placed n l (venueOf (now (b .entry))) .legging) ⌝ }
     ensures kept { λ r. ⌜ venueOf (now (b .exit)) ≡ venueOf (now (b .entry)) ⌝ }
     ensures counts { λ r. ⌜ SameCounts (now (b .entry)) (now (b .exit)) ⌝ }
 {
+    let g = levels::levels(b);
     let old = places::legging_at(b, n);
     places::put_legging(b, n, l);
     let stand = others_stand(b, g, n);
@@ -338,9 +312,9 @@ fn others_stand_with(b: &mut [u32], g: [[Level; 2]; 8], n: usize, l: Legging) ->
     stand
 }
 
-// The legging order of the leg of c at side d of series s, where it may stand; else a free place.
-fn plan_leg(b: &[u32], g: [[Level; 2]; 8], c: Complex, s: u8, d: u8) -> Legging
-    requires { ⌜ (length (now b) ≡ size) × (GridOf g (venueOf (now b) .regular)) × (LegsIn c) × (s < 8) × (d < 2) ⌝ }
+// The legging order of the leg of c at side d of series s, where it may stand; else a free place. c has open quantity, and the market is open to it.
+fn plan_leg(b: &[u32], c: Complex, s: u8, d: u8) -> Legging
+    requires { ⌜ (length (now b) ≡ size) × (Right (now b)) × (LegsIn c) × (s < 8) × (d < 2) × (0 < c .quantity) × (marketOpen (venueOf (now b)) c ≡ true) ⌝ }
     ensures { λ r. ⌜ r ≡ plannedLeg (venueOf (now (b .entry))) c s d ⌝ }
 {
     let none = Legging {
@@ -348,10 +322,7 @@ fn plan_leg(b: &[u32], g: [[Level; 2]; 8], c: Complex, s: u8, d: u8) -> Legging
         price: 0,
         quantity: 0,
     };
-    if c.quantity == 0 {
-        return none;
-    }
-    let sides = levels::sides_of(g, c, s, d);
+    let sides = levels::sides_at(b, c, s, d);
     let taken = sides.taken;
     let price = leg_price(b, taken, c, s, d);
     if price == 0 {
@@ -381,39 +352,25 @@ fn make_leg(b: &mut [u32], id: u32, s: u8, d: u8, l: Legging, out: &mut [u8], at
     wire::emit_generated(out, pos, id, s, d, l.price, shown, l.quantity)
 }
 
-// The legging order of a leg of c, made where every condition holds.
-pub fn generate_leg(
-    b: &mut [u32],
-    g: [[Level; 2]; 8],
-    c: Complex,
-    s: u8,
-    d: u8,
-    out: &mut [u8],
-    at: usize,
-) -> usize
-    requires { ⌜ (length (now b) ≡ size) × (GridOf g (venueOf (now b) .regular)) × (LegsIn c) × (s < 8) × (d < 2) ⌝ }
+// The legging order of a leg of c, made where every condition holds. Those that no leg changes, on the order and on the market, are tested before.
+pub fn generate_leg(b: &mut [u32], c: Complex, s: u8, d: u8, out: &mut [u8], at: usize) -> usize
+    requires { ⌜ (length (now b) ≡ size) × (Right (now b)) × (LegsIn c) × (s < 8) × (d < 2) × (0 < c .quantity) × (marketOpen (venueOf (now b)) c ≡ true) ⌝ }
     ensures { λ r. ⌜ stage (venueOf (now (b .exit))) (now (out .exit)) r ≡ seen (now (out .entry)) at does generateLeg c s d (venueOf (now (b .entry))) ⌝ }
     ensures counts { λ r. ⌜ SameCounts (now (b .entry)) (now (b .exit)) ⌝ }
 {
-    let l = plan_leg(b, g, c, s, d);
+    let l = plan_leg(b, c, s, d);
     if l.price == 0 {
         return at;
     }
-    if !others_stand_with(b, g, rules::place_of(s, d), l) {
+    if !others_stand_with(b, rules::place_of(s, d), l) {
         return at;
     }
     make_leg(b, c.id, s, d, l, out, at)
 }
 
-// Generation for the first leg and then the second of the order at place i.
-pub fn generate_order(
-    b: &mut [u32],
-    g: [[Level; 2]; 8],
-    i: usize,
-    out: &mut [u8],
-    at: usize,
-) -> usize
-    requires { ⌜ (length (now b) ≡ size) × (GridOf g (venueOf (now b) .regular)) ⌝ }
+// Generation for the first leg and then the second of the order at place i. No legging order changes whether the market is open to it.
+pub fn generate_order(b: &mut [u32], i: usize, out: &mut [u8], at: usize) -> usize
+    requires { ⌜ (length (now b) ≡ size) × (Right (now b)) ⌝ }
     ensures { λ r. ⌜ stage (venueOf (now (b .exit))) (now (out .exit)) r ≡ seen (now (out .entry)) at does generate i (venueOf (now (b .entry))) ⌝ }
     ensures counts { λ r. ⌜ SameCounts (now (b .entry)) (now (b .exit)) ⌝ }
 {
@@ -421,6 +378,12 @@ pub fn generate_order(
         return at;
     }
     let c = places::complex_at(b, i);
-    let pos = generate_leg(b, g, c, c.series1, c.side1, out, at);
-    generate_leg(b, g, c, c.series2, c.side2, out, pos)
+    if c.quantity == 0 {
+        return at;
+    }
+    if !market_open(b, levels::taken_at(b, c), c) {
+        return at;
+    }
+    let pos = generate_leg(b, c, c.series1, c.side1, out, at);
+    generate_leg(b, c, c.series2, c.side2, out, pos)
 }

@@ -1,3 +1,6 @@
 pub mod Scans
-pub mod Grids
+pub mod Joining
+pub mod Keeping
 pub mod Sides
+pub mod Grids
+pub mod Kept

@@ -19,13 +19,13 @@ use Rattle.rules.specs.Words.{opposite, noComplex, noLegging, notListed, placeO
 use Rattle.rules.specs.Prices.{better, betterOf, bestIn, bestRegular, bestSize, ownPrice, bestOwn, clearPrice, away, marketBest, ratio1, ratio2, weighed, net, taken1, taken2, percent, nearNet, inBand}
 use Rattle.rules.specs.Standing.{findComplex, parentOf, bothOpen}
 use Rattle.rules.specs.Complex.{anyClosed}
-use Rattle.places.specs.Layout.{upto, complexesUsed, complexIn, leggingIn, listedIn, venueOf}
+use Rattle.places.specs.Layout.{upto, complexesUsed, complexIn, leggingIn, listedIn, venueOf, levelOf}
 use Rattle.places.proofs.Tables.{upto-at}
 use Rattle.places.proofs.Parts.{complex-at, complex-past}
-use Rattle.levels.specs.declared.Level.{Level}
+use Rattle.places.specs.declared.Level.{Level}
 use Rattle.levels.specs.declared.Taken.{Taken}
 use Rattle.levels.specs.declared.LegSides.{LegSides}
-use Rattle.levels.specs.Grid.{levelOf, GridOf, LegsIn, takenIn, sidesIn, TakenOf, SidesOf}
+use Rattle.levels.specs.Grid.{GridOf, LegsIn, takenIn, sidesIn, TakenOf, SidesOf}
 use Rattle.levels.proofs.Scans.{find-used}
 
 -- What stands at a place ----------------------------------------------------------------------
@@ -54,6 +54,9 @@ pub opposite-in : (d : ℕ) → opposite d < 2
 unfolding opposite
 opposite-in d = omega arith
 
+pub opposite-side : (d f : ℕ) → f ≡ opposite d → f < 2
+opposite-side d f e = rw e (opposite-in d)
+
 -- what a look at the grid finds
 module _ (g : List (List Level)) (os : List Regular) (h : GridOf g os) (c : Complex) (k : LegsIn c) where
   taken-in : TakenOf (takenIn g c) c os
@@ -61,9 +64,6 @@ module _ (g : List (List Level)) (os : List Regular) (h : GridOf g os) (c : Comp
     first = h (c .series1) (opposite (c .side1)) (k .first) (opposite-in (c .side1));
     second = h (c .series2) (opposite (c .side2)) (k .second) (opposite-in (c .side2));
   }
-
-  pub taken-right : (t : Taken) → t ≡ takenIn g c → TakenOf t c os
-  taken-right t e = rw e taken-in
 
   pub sides-right : (s d : ℕ) → s < 8 → d < 2 → (x : LegSides) → x ≡ sidesIn g c s d → SidesOf x c s d os
   unfolding levelOf

@@ -1,23 +1,46 @@
--- The best regular price and its total size, for each series and side.
+-- The levels of all series and sides, how an order changes one, and the legs of a complex order.
 use mathlib.Core.Path.{_≡_}
 use mathlib.Core.List.{List, []}
-use Prim.Native.Nat.{ℕ, _<_}
+use Prim.Native.Nat.{ℕ, _+_, _/_, _%_, _<_}
+use lib.Dec.{eqb}
 use lib.ListN.{getD}
 use Rattle.rules.specs.declared.Regular.{Regular}
 use Rattle.rules.specs.declared.Complex.{Complex}
+use Rattle.rules.specs.Base.{if_then_else_, held}
 use Rattle.rules.specs.Words.{opposite}
-use Rattle.rules.specs.Prices.{bestIn, sizeIn}
-use Rattle.levels.specs.declared.Level.{Level}
+use Rattle.rules.specs.Prices.{better, bestIn}
+use Rattle.places.specs.declared.Level.{Level}
 use Rattle.levels.specs.declared.Taken.{Taken}
 use Rattle.levels.specs.declared.LegSides.{LegSides}
-
--- of a series and side, over a list of orders
-unfoldable pub levelOf : (series side : ℕ) → List Regular → Level
-levelOf s d os = record { price = bestIn s d os; size = sizeIn s d (bestIn s d os) os }
+use Rattle.places.specs.Layout.{regularsUsed, complexesUsed, venueOf, levelIn, levelOf, Marked}
 
 abbrev pub noLevel : Level
 noLevel = record { price = 0; size = 0 }
 
+-- a level of side d with k contracts more at price p
+unfoldable pub joinedOf : (side p k : ℕ) → Level → Level
+joinedOf d p k l =
+    if eqb p (l .price) then record { price = p; size = k + l .size }
+    else if better d p (l .price) then record { price = p; size = k }
+    else l
+
+-- the level of an order's side, with that order
+unfoldable pub withOrder : Regular → Level → Level
+withOrder o l = if held (o .quantity) then joinedOf (o .side) (o .price) (o .quantity) l else l
+
+-- the level of a series and side, by their legging place
+unfoldable pub levelBy : List Regular → (n : ℕ) → Level
+levelBy os n = levelOf (n / 2) (n % 2) os
+
+-- from a to b the levels become those of f, and nothing else changes
+pub record LevelsPut (f : ℕ → Level) (a b : List ℕ) : Type 0 where
+  pub venue : venueOf b ≡ venueOf a
+  pub regulars : regularsUsed b ≡ regularsUsed a
+  pub complexes : complexesUsed b ≡ complexesUsed a
+  pub levels : (n : ℕ) → n < 16 → levelIn b n ≡ f n
+  pub marked : Marked a → Marked b
+
+-- a grid: the levels of eight series by two sides
 abbrev pub cellOf : List (List Level) → (series side : ℕ) → Level
 cellOf g s d = getD (getD g s []) d noLevel
 
@@ -25,7 +48,7 @@ cellOf g s d = getD (getD g s []) d noLevel
 abbrev pub GridOf : List (List Level) → List Regular → Type 0
 GridOf g os = (s d : ℕ) → s < 8 → d < 2 → cellOf g s d ≡ levelOf s d os
 
--- the legs of c have a place in the grid
+-- the legs of c have a series and a side
 pub record LegsIn (c : Complex) : Type 0 where
   pub first : c .series1 < 8
   pub side1 : c .side1 < 2

@@ -1,24 +1,24 @@
-// The prices of a side: better and reached, the grid of the best regular prices and their sizes, own, clear and market prices, and the band.
+// The prices of a side: better and reached, the levels of the regular orders and how they are kept, own, clear and market prices, and the band.
+use places::Level;
 use rules::Complex;
 use rules::Leg;
 use rules::Legging;
 use rules::Regular;
+use rules::Venue;
 ghost use mathlib.Core.Path.{_≡_};
-ghost use Prim.Native.Nat.{_+_, _≤_, _<_};
+ghost use mathlib.Core.Bool.{true};
+ghost use Prim.Native.Nat.{suc, _≤_, _<_};
 ghost use lib.IntN.{natAbs};
 ghost use lib.ListN.{length};
+ghost use Rattle.rules.specs.Base.{held};
 ghost use Rattle.rules.specs.Words.{sell, leggingAt, statusOf, isComplexOf};
-ghost use Rattle.rules.specs.Prices.{better, betterOf, reaches, showsAt, bestRegular, ownPrice, bestOwn, clearPrice, away, marketBest, inBand};
+ghost use Rattle.rules.specs.Prices.{better, betterOf, reaches, bestRegular, ownPrice, bestOwn, clearPrice, away, marketBest, inBand};
+ghost use Rattle.rules.specs.Trading.{fillRegular, putRegular};
+ghost use Rattle.rules.specs.Generation.{reachesAny};
 ghost use Rattle.rules.specs.Standing.{otherLeg, parentOf, bothOpen};
 ghost use Rattle.rules.specs.Complex.{anyClosed};
-ghost use Rattle.places.specs.Layout.{size, venueOf};
-ghost use Rattle.levels.specs.Grid.{cellOf, takenIn, sidesIn, GridOf, LegsIn, TakenOf};
-
-// The best price of a side, and its total size; both 0 where there is none.
-pub struct Level {
-    pub price: u32,
-    pub size: u64,
-}
+ghost use Rattle.places.specs.Layout.{size, regularsUsed, complexesUsed, venueOf, levelOf, Right, Below, Counts, SameCounts, Loadable, Loaded};
+ghost use Rattle.levels.specs.Grid.{noLevel, withOrder, levelBy, sidesIn, GridOf, LevelsPut, LegsIn, TakenOf, SidesOf};
 
 // a is strictly better than b to sell: lower, and any price is better than none.
 fn is_lower(a: u64, b: u64) -> bool
@@ -71,69 +71,164 @@ pub fn reaches_price(side: u8, p: u32, q: u32) -> bool
     p <= q
 }
 
-// The levels of all series and sides, in one pass over the places in use. A cell is stored only where it changes.
-pub fn levels(b: &[u32]) -> [[Level; 2]; 8]
+// A price p of this side reaches a price q that is there.
+pub fn reaches_any(side: u8, p: u32, q: u32) -> bool
+    ensures { λ r. ⌜ r ≡ reachesAny side p q ⌝ }
+{
+    if q == 0 {
+        return false;
+    }
+    reaches_price(side, p, q)
+}
+
+// Levels kept ---------------------------------------------------------------------------------
+
+// A level of its side, with the order o.
+fn with_order(l: Level, o: Regular) -> Level
+    requires { ⌜ l .size ≤ 549755813760 ⌝ }
+    ensures { λ r. ⌜ r ≡ withOrder o l ⌝ }
+{
+    if o.quantity == 0 {
+        return l;
+    }
+    let size = o.quantity as u64;
+    if o.price == l.price {
+        return Level {
+            price: l.price,
+            size: size + l.size,
+        };
+    }
+    if is_better(o.side, o.price, l.price) {
+        return Level {
+            price: o.price,
+            size,
+        };
+    }
+    l
+}
+
+// The level of one series and side, in one pass over its orders.
+fn level_of(b: &[u32], s: u8, d: u8) -> Level
+    requires { ⌜ (length (now b) ≡ size) × (s < 8) × (d < 2) ⌝ }
+    ensures { λ r. ⌜ r ≡ levelOf s d (venueOf (now (b .entry)) .regular) ⌝ }
+{
+    let key = rules::place_of(s, d);
+    let mut l = Level { price: 0, size: 0 };
+    let mut i = places::regulars_used(b);
+    while 0 < i {
+        i -= 1;
+        if places::key_at(b, i) != key {
+            continue;
+        }
+        let o = places::regular_at(b, i);
+        l = with_order(l, o);
+    }
+    l
+}
+
+// No side has a level.
+fn clear_levels(b: &mut [u32])
     requires { ⌜ length (now b) ≡ size ⌝ }
+    ensures { λ _. ⌜ LevelsPut (λ _. noLevel) (now (b .entry)) (now (b .exit)) ⌝ }
+{
+    let none = Level { price: 0, size: 0 };
+    let mut n: usize = 0;
+    while n < 16 {
+        places::put_level(b, n, none);
+        n += 1;
+    }
+}
+
+// The levels of all series and sides, in one pass over the places in use.
+fn make_levels(b: &mut [u32])
+    requires { ⌜ length (now b) ≡ size ⌝ }
+    ensures { λ _. ⌜ LevelsPut (levelBy (venueOf (now (b .entry)) .regular)) (now (b .entry)) (now (b .exit)) ⌝ }
+{
+    clear_levels(b);
+    let mut i = places::regulars_used(b);
+    while 0 < i {
+        i -= 1;
+        let o = places::regular_at(b, i);
+        let n = places::key_at(b, i);
+        let l = places::level_at(b, n);
+        places::put_level(b, n, with_order(l, o));
+    }
+}
+
+// A venue's numbers, with its levels.
+pub fn load(b: &mut [u32], v: Venue)
+    requires { ⌜ (length (now b) ≡ size) × Loadable v ⌝ }
+    ensures { λ _. ⌜ Loaded v (now (b .exit)) ⌝ }
+{
+    places::load(b, v);
+    make_levels(b);
+}
+
+// An order is given the place after those in use.
+pub fn add_order(b: &mut [u32], o: Regular)
+    requires { ⌜ (length (now b) ≡ size) × (Right (now b)) × (regularsUsed (now b) < 128) × (o .series < 8) × (o .side < 2) × (held (o .price) ≡ true) × (Below (o .id) (venueOf (now b) .regular)) ⌝ }
+    ensures { λ _. ⌜ venueOf (now (b .exit)) ≡ putRegular (regularsUsed (now (b .entry))) o (venueOf (now (b .entry))) ⌝ }
+    ensures counts { λ _. ⌜ Counts (suc (regularsUsed (now (b .entry)))) (complexesUsed (now (b .entry))) (now (b .entry)) (now (b .exit)) ⌝ }
+{
+    let n = rules::place_of(o.series, o.side);
+    let l = places::level_at(b, n);
+    places::add_regular(b, o);
+    places::put_level(b, n, with_order(l, o));
+}
+
+// The order at place i is filled for k contracts.
+pub fn fill_order(b: &mut [u32], i: usize, k: u32)
+    requires { ⌜ (length (now b) ≡ size) × (i < regularsUsed (now b)) ⌝ }
+    ensures { λ _. ⌜ venueOf (now (b .exit)) ≡ fillRegular i k (venueOf (now (b .entry))) ⌝ }
+    ensures counts { λ _. ⌜ SameCounts (now (b .entry)) (now (b .exit)) ⌝ }
+{
+    let o = places::regular_at(b, i);
+    let n = places::key_at(b, i);
+    let l = places::level_at(b, n);
+    places::fill_regular(b, i, k);
+    if o.price != l.price {
+        return;
+    }
+    let gone = rules::lesser(k, o.quantity) as u64;
+    if gone < l.size {
+        let rest = Level {
+            price: l.price,
+            size: l.size - gone,
+        };
+        places::put_level(b, n, rest);
+        return;
+    }
+    let anew = level_of(b, o.series, o.side);
+    places::put_level(b, n, anew);
+}
+
+// Prices of a side ----------------------------------------------------------------------------
+
+// The best regular price of a series and side.
+pub fn best_regular(b: &[u32], s: u8, d: u8) -> u32
+    requires { ⌜ (length (now b) ≡ size) × (Right (now b)) × (s < 8) × (d < 2) ⌝ }
+    ensures { λ r. ⌜ r ≡ bestRegular (venueOf (now (b .entry))) s d ⌝ }
+{
+    let l = places::level_at(b, rules::place_of(s, d));
+    l.price
+}
+
+// The levels of all series and sides, in one pass.
+pub fn levels(b: &[u32]) -> [[Level; 2]; 8]
+    requires { ⌜ (length (now b) ≡ size) × (Right (now b)) ⌝ }
     ensures { λ r. ⌜ GridOf r (venueOf (now (b .entry)) .regular) ⌝ }
 {
     let none = Level { price: 0, size: 0 };
     let mut g = [[none; 2]; 8];
-    let mut i = places::regulars_used(b);
-    while 0 < i {
-        i -= 1;
-        let o = places::regular_at(b, i);
-        if o.quantity == 0 {
-            continue;
-        }
-        let s = o.series as usize;
-        let d = o.side as usize;
-        let l = g[s][d];
-        let size = o.quantity as u64;
-        if o.price == l.price {
-            g[s][d] = Level {
-                price: l.price,
-                size: size + l.size,
-            };
-            continue;
-        }
-        if is_better(o.side, o.price, l.price) {
-            g[s][d] = Level {
-                price: o.price,
-                size,
-            };
-        }
+    let mut s: usize = 0;
+    while s < 8 {
+        let bids = places::level_at(b, 2 * s);
+        let offers = places::level_at(b, 2 * s + 1);
+        g[s][0] = bids;
+        g[s][1] = offers;
+        s += 1;
     }
     g
-}
-
-// A regular order shows some size in series s at side d.
-fn shows_at(o: Regular, s: u8, d: u8) -> bool
-    ensures { λ r. ⌜ r ≡ showsAt s d o ⌝ }
-{
-    if o.quantity == 0 {
-        return false;
-    }
-    if o.series != s {
-        return false;
-    }
-    o.side == d
-}
-
-// The best regular price of one series and side.
-pub fn best_regular(b: &[u32], s: u8, d: u8) -> u32
-    requires { ⌜ length (now b) ≡ size ⌝ }
-    ensures { λ r. ⌜ r ≡ bestRegular (venueOf (now (b .entry))) s d ⌝ }
-{
-    let mut best: u32 = 0;
-    let mut i = places::regulars_used(b);
-    while 0 < i {
-        i -= 1;
-        let o = places::regular_at(b, i);
-        if shows_at(o, s, d) {
-            best = better_of(d, o.price, best);
-        }
-    }
-    best
 }
 
 // The levels that the legs of a complex order take.
@@ -149,32 +244,28 @@ pub struct LegSides {
     pub taken: Taken,
 }
 
-// The level of a series and side.
-pub fn level_at(g: [[Level; 2]; 8], s: u8, d: u8) -> Level
-    requires { ⌜ (s < 8) × (d < 2) ⌝ }
-    ensures { λ r. ⌜ r ≡ cellOf g s d ⌝ }
-{
-    let i = s as usize;
-    let j = d as usize;
-    let l = g[i][j];
-    l
-}
-
 // The levels that the legs of c take.
-pub fn taken_of(g: [[Level; 2]; 8], c: Complex) -> Taken
-    requires { ⌜ LegsIn c ⌝ }
-    ensures { λ r. ⌜ r ≡ takenIn g c ⌝ }
+pub fn taken_at(b: &[u32], c: Complex) -> Taken
+    requires { ⌜ (length (now b) ≡ size) × (Right (now b)) × (LegsIn c) ⌝ }
+    ensures { λ r. ⌜ TakenOf r c (venueOf (now (b .entry)) .regular) ⌝ }
 {
-    let s1 = c.series1 as usize;
-    let d1 = rules::opposite_of(c.side1) as usize;
-    let s2 = c.series2 as usize;
-    let d2 = rules::opposite_of(c.side2) as usize;
-    let first = g[s1][d1];
-    let second = g[s2][d2];
+    let first = places::level_at(b, rules::place_of(c.series1, rules::opposite_of(c.side1)));
+    let second = places::level_at(b, rules::place_of(c.series2, rules::opposite_of(c.side2)));
     Taken { first, second }
 }
 
 // What the test of the leg of c at side d of series s asks of the regular orders.
+pub fn sides_at(b: &[u32], c: Complex, s: u8, d: u8) -> LegSides
+    requires { ⌜ (length (now b) ≡ size) × (Right (now b)) × (LegsIn c) × (s < 8) × (d < 2) ⌝ }
+    ensures { λ r. ⌜ SidesOf r c s d (venueOf (now (b .entry)) .regular) ⌝ }
+{
+    let own = best_regular(b, s, d);
+    let facing = best_regular(b, s, rules::opposite_of(d));
+    let taken = taken_at(b, c);
+    LegSides { own, facing, taken }
+}
+
+// The same, looked up in a grid.
 pub fn sides_of(g: [[Level; 2]; 8], c: Complex, s: u8, d: u8) -> LegSides
     requires { ⌜ (LegsIn c) × (s < 8) × (d < 2) ⌝ }
     ensures { λ r. ⌜ r ≡ sidesIn g c s d ⌝ }

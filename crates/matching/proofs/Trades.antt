@@ -142,7 +142,7 @@ pub record Taking (taker s d p k : ℕ) (b₀ out₀ : List ℕ) (at : ℕ) (b o
   pub rest : seen out pos does take left taker s d p left (venueOf b) ≡ seen out₀ at does take k taker s d p k (venueOf b₀)
 
 pub taking-start : (taker s d p k : ℕ) (b out : List ℕ) (at : ℕ) → length b ≡ size → Taking taker s d p k b out at b out at k
-taking-start taker s d p k b out at h = record { whole = h; counts = record { regulars = refl; complexes = refl }; rest = refl }
+taking-start taker s d p k b out at h = record { whole = h; counts = record { regulars = refl; complexes = refl; right = λ h. h }; rest = refl }
 
 module _ {taker s d p k : ℕ} {b₀ out₀ b out : List ℕ} {at pos left : ℕ} (i : Taking taker s d p k b₀ out₀ at b out pos left) where
   taken-out : nothing (venueOf b) ≡ take left taker s d p left (venueOf b) →

@@ -130,7 +130,7 @@ pub record Turning (turn : Venue → Turn) (k : ℕ) (b₀ out₀ : List ℕ) (a
   pub rest : seen out pos does repeat turns turn (venueOf b) ≡ seen out₀ at does repeat k turn (venueOf b₀)
 
 pub turning-start : (turn : Venue → Turn) (k : ℕ) (b out : List ℕ) (at : ℕ) → length b ≡ size → Turning turn k b out at b out at k
-turning-start turn k b out at h = record { whole = h; counts = record { regulars = refl; complexes = refl }; rest = refl }
+turning-start turn k b out at h = record { whole = h; counts = record { regulars = refl; complexes = refl; right = λ h. h }; rest = refl }
 
 module _ {turn : Venue → Turn} {k : ℕ} {b₀ out₀ b out : List ℕ} {at pos turns : ℕ} (i : Turning turn k b₀ out₀ at b out pos turns) where
   turned-out : nothing (venueOf b) ≡ repeat turns turn (venueOf b) →

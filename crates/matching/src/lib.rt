@@ -1,9 +1,11 @@
 // Matching: what an order, a pair and a cancel do to the venue in its slice, with their records.
 // Each function says in one equation the venue that it leaves and all that it writes: those of its definition.
 ghost use mathlib.Core.Path.{_≡_};
+ghost use mathlib.Core.Bool.{true};
 ghost use Prim.Native.Nat.{ℕ, suc, _≤_, _<_};
 ghost use lib.IntN.{natAbs};
 ghost use lib.ListN.{length};
+ghost use Rattle.rules.specs.Base.{held};
 ghost use Rattle.rules.specs.Words.{opposite, leggingAt};
 ghost use Rattle.rules.specs.Effects.{repeat};
 ghost use Rattle.rules.specs.Trading.{fillComplex, tradeWith, pairOff};
@@ -14,7 +16,7 @@ ghost use Rattle.rules.specs.Order as order;
 ghost use Rattle.rules.specs.Complex.{complexPlace, cancelRegular, cancelComplex};
 ghost use Rattle.wire.specs.Seen.{seen};
 ghost use Rattle.wire.specs.Stage.{stage, _does_};
-ghost use Rattle.places.specs.Layout.{size, regularsUsed, complexesUsed, venueOf, Counts, SameCounts, Dense};
+ghost use Rattle.places.specs.Layout.{size, regularsUsed, complexesUsed, venueOf, Right, Below, Counts, SameCounts, Dense};
 ghost use Rattle.matching.specs.Turns.{pairingOf, turnOf, InUse};
 use book::Found;
 use book::Pick;
@@ -38,7 +40,7 @@ fn trade_with(
     ensures counts { λ _. ⌜ SameCounts (now (b .entry)) (now (b .exit)) ⌝ }
 {
     let m = places::regular_at(b, j);
-    places::fill_regular(b, j, k);
+    levels::fill_order(b, j, k);
     wire::emit_trade(out, at, m.series, side, m.price, k, taker, m.id)
 }
 
@@ -53,7 +55,7 @@ pub fn take(
     out: &mut [u8],
     at: usize,
 ) -> usize
-    requires { ⌜ length (now b) ≡ size ⌝ }
+    requires { ⌜ (length (now b) ≡ size) × (Right (now b)) ⌝ }
     ensures { λ r. ⌜ stage (venueOf (now (b .exit))) (now (out .exit)) r ≡ seen (now (out .entry)) at does trading.take quantity taker series side price quantity (venueOf (now (b .entry))) ⌝ }
     ensures counts { λ _. ⌜ SameCounts (now (b .entry)) (now (b .exit)) ⌝ }
 {
@@ -113,7 +115,7 @@ pub struct Pairing {
 }
 
 fn pairing_of(b: &[u32], l: Legging, series: u8, side: u8) -> Pairing
-    requires { ⌜ length (now b) ≡ size ⌝ }
+    requires { ⌜ (length (now b) ≡ size) × (Right (now b)) ⌝ }
     ensures { λ r. ⌜ r ≡ pairingOf (venueOf (now (b .entry))) l series side ⌝ }
     ensures bounded { λ r. ⌜ natAbs (r .net) ≤ 8589934590 ⌝ }
 {
@@ -146,13 +148,13 @@ fn place_or_end(b: &[u32], id: u32) -> usize
 
 // The order at place i hits a legging order for k contracts: the trade, then the pairing.
 fn hit(b: &mut [u32], i: usize, l: Legging, k: u32, out: &mut [u8], at: usize) -> usize
-    requires { ⌜ (length (now b) ≡ size) × (i < regularsUsed (now b)) ⌝ }
+    requires { ⌜ (length (now b) ≡ size) × (i < regularsUsed (now b)) × (Right (now b)) ⌝ }
     ensures { λ r. ⌜ stage (venueOf (now (b .exit))) (now (out .exit)) r ≡ seen (now (out .entry)) at does order.hit i l k (venueOf (now (b .entry))) ⌝ }
     ensures counts { λ _. ⌜ SameCounts (now (b .entry)) (now (b .exit)) ⌝ }
 {
     let o = places::regular_at(b, i);
     let p = pairing_of(b, l, o.series, o.side);
-    places::fill_regular(b, i, k);
+    levels::fill_order(b, i, k);
     let traded = wire::emit_trade(out, at, o.series, o.side, l.price, k, o.id, p.id);
     let taken = take(b, p.id, p.series, p.side, p.clear, k, out, traded);
     let j = place_or_end(b, p.id);
@@ -166,7 +168,7 @@ fn meet(b: &mut [u32], i: usize, j: usize, k: u32, out: &mut [u8], at: usize) ->
     ensures counts { λ _. ⌜ SameCounts (now (b .entry)) (now (b .exit)) ⌝ }
 {
     let o = places::regular_at(b, i);
-    places::fill_regular(b, i, k);
+    levels::fill_order(b, i, k);
     trade_with(b, o.id, o.side, j, k, out, at)
 }
 
@@ -211,7 +213,7 @@ fn facing(b: &[u32], series: u8, side: u8) -> Legging
 
 // What the order at place i does next.
 fn decide(b: &[u32], i: usize) -> Plan
-    requires { ⌜ (length (now b) ≡ size) × (i < regularsUsed (now b)) ⌝ }
+    requires { ⌜ (length (now b) ≡ size) × (i < regularsUsed (now b)) × (Right (now b)) ⌝ }
     ensures { λ r. ⌜ (turnOf i (venueOf (now (b .entry))) r ≡ meetTurn i (venueOf (now (b .entry)))) × InUse (regularsUsed (now (b .entry))) r ⌝ }
 {
     let o = places::regular_at(b, i);
@@ -238,7 +240,7 @@ fn decide(b: &[u32], i: usize) -> Plan
 
 // The order at place i meets the other side, in at most `quantity` turns.
 pub fn meet_all(b: &mut [u32], i: usize, quantity: u32, out: &mut [u8], at: usize) -> usize
-    requires { ⌜ (length (now b) ≡ size) × (i < regularsUsed (now b)) ⌝ }
+    requires { ⌜ (length (now b) ≡ size) × (i < regularsUsed (now b)) × (Right (now b)) ⌝ }
     ensures { λ r. ⌜ stage (venueOf (now (b .exit))) (now (out .exit)) r ≡ seen (now (out .entry)) at does repeat quantity (meetTurn i) (venueOf (now (b .entry))) ⌝ }
     ensures counts { λ _. ⌜ SameCounts (now (b .entry)) (now (b .exit)) ⌝ }
 {
@@ -266,12 +268,12 @@ pub fn meet_all(b: &mut [u32], i: usize, quantity: u32, out: &mut [u8], at: usiz
 
 // The order is given a place and meets the other side there. Every place in use is held, so the place after them is the first free one.
 pub fn enter_regular(b: &mut [u32], o: Regular, out: &mut [u8], at: usize) -> usize
-    requires { ⌜ (length (now b) ≡ size) × (Dense (now b)) × (regularsUsed (now b) < 128) × (o .series < 8) × (o .side < 2) ⌝ }
+    requires { ⌜ (length (now b) ≡ size) × (Dense (now b)) × (regularsUsed (now b) < 128) × (o .series < 8) × (o .side < 2) × (held (o .price) ≡ true) × (Below (o .id) (venueOf (now b) .regular)) ⌝ }
     ensures { λ r. ⌜ stage (venueOf (now (b .exit))) (now (out .exit)) r ≡ seen (now (out .entry)) at does enterRegular o (venueOf (now (b .entry))) ⌝ }
-    ensures counts { λ _. ⌜ Counts (suc (regularsUsed (now (b .entry)))) (complexesUsed (now (b .entry))) (now (b .exit)) ⌝ }
+    ensures counts { λ _. ⌜ Counts (suc (regularsUsed (now (b .entry)))) (complexesUsed (now (b .entry))) (now (b .entry)) (now (b .exit)) ⌝ }
 {
     let i = places::regulars_used(b);
-    places::add_regular(b, o);
+    levels::add_order(b, o);
     meet_all(b, i, o.quantity, out, at)
 }
 
@@ -282,7 +284,7 @@ pub fn cancel_regular(b: &mut [u32], i: usize, out: &mut [u8], at: usize) -> usi
     ensures counts { λ _. ⌜ SameCounts (now (b .entry)) (now (b .exit)) ⌝ }
 {
     let o = places::regular_at(b, i);
-    places::fill_regular(b, i, o.quantity);
+    levels::fill_order(b, i, o.quantity);
     wire::emit_cancelled(out, at, o.id, o.quantity)
 }
 

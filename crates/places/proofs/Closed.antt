@@ -1,5 +1,5 @@
 -- What closing the gaps does to the venue, and that a dense book's first free place is the one after those in use.
-use mathlib.Core.Path.{_≡_, refl, sym, ap, _∙_}
+use mathlib.Core.Path.{_≡_, refl, sym, ap, subst, _∙_}
 use mathlib.Core.Bool.{true, false}
 use mathlib.Core.Logic.{_⊎_, inl, inr}
 use mathlib.Core.List.{List}
@@ -13,9 +13,13 @@ use Rattle.rules.specs.declared.Complex.{Complex}
 use Rattle.rules.specs.declared.Venue.{Venue}
 use Rattle.rules.specs.Words.{noRegular, noComplex, regularAt, complexAt, withRegular, withComplex}
 use Rattle.rules.specs.Trading.{freeRegular, freeComplex}
+use Rattle.rules.specs.Prices.{bestRegular, bestSize}
 use Rattle.rules.specs.Places.{holdsRegular, holdsComplex, keep, closeGaps}
-use Rattle.places.specs.Layout.{size, inUse, regularsUsed, complexesUsed, regularIn, complexIn, venueOf, regularRow, complexRow, limitNumber, Kept, Counts, SameCounts, Filled, Dense, closeRegulars, closeComplexes, RegularsClosed, ComplexesClosed, GapsClosed}
+use Rattle.rules.proofs.Closing.{best-closed, size-closed}
+use Rattle.places.specs.Layout.{size, inUse, regularsUsed, complexesUsed, regularIn, complexIn, venueOf, regularRow, complexRow, limitNumber, Kept, levelOf, levelIn, Orderly, Right, SameCounts, Filled, Dense, closeRegulars, closeComplexes, regularsHeld, complexesHeld, RegularsClosed, ComplexesClosed, GapsClosed}
 use Rattle.places.proofs.Parts.{Outside, stored, wider, regulars-few, complexes-few, regular-at, complex-at, regular-kept, complex-kept, count-kept, count-kept2, regulars-kept, complexes-kept, leggings-kept, series-kept, last-kept, venue-is, regulars-counted, complexes-counted}
+use Rattle.places.proofs.Beside.{RegularsMarked, ComplexesMarked, LeggingMarked, levels-kept, regulars-marked, complexes-marked, legging-marked, beside-venue, right-on, right-kept}
+use Rattle.places.proofs.Orderly.{orderly-packed}
 use Rattle.places.proofs.Stores.{regular-back, complex-back, counted, counted2}
 use Rattle.places.proofs.Gaps.{closing-start, closed-count, closed-part, free-place, Moving, moving-start, moving-skip, moving-keep}
 
@@ -100,33 +104,106 @@ others-complex a b l o =
     venue-is (withComplex (venueOf b) l) (withComplex (venueOf a) l) (regulars-kept o (omega arith) (inr (omega arith))) refl
     (leggings-kept o (inl (omega arith))) (series-kept o (inl (omega arith))) (last-kept o (inr (omega arith)))
 
+-- closing gaps leaves the levels of the orders as they are
+level-is : (s d : ℕ) (v : Venue) → levelOf s d (v .regular) ≡ record { price = bestRegular v s d; size = bestSize v s d }
+unfolding levelOf bestRegular bestSize
+level-is s d v = refl
+
+level-closed : (s d : ℕ) (v : Venue) → levelOf s d (closeGaps v .regular) ≡ levelOf s d (v .regular)
+level-closed s d v = level-is s d (closeGaps v) ∙ rw (best-closed v s d, size-closed v s d) (sym (level-is s d v))
+
+level-packed : (s d : ℕ) (v : Venue) → levelOf s d (closeRegulars v .regular) ≡ levelOf s d (v .regular)
+unfolding closeRegulars closeGaps withRegular withComplex
+level-packed s d v = level-closed s d v
+
+-- gaps are closed; then all places in use become known to be held
+regulars-known : (a b : List ℕ) (j : ℕ) → venueOf b ≡ closeRegulars (venueOf a) → regularsUsed b ≡ regularsHeld a → complexesUsed b ≡ complexesUsed a →
+    Filled holdsRegular (regularIn b) (regularsUsed b) → ((n : ℕ) → n < 16 → levelIn b n ≡ levelIn a n) → (ComplexesMarked a → ComplexesMarked b) →
+    (LeggingMarked a → LeggingMarked b) → RegularsClosed a (set b 827 j)
+regulars-known a b j same used others full levels marks legs = record {
+  venue = venue;
+  counts = record {
+    regulars = count-kept o (inl (omega arith)) ∙ used;
+    complexes = count-kept2 o (inl (omega arith)) ∙ others;
+    right = right-on a (set b 827 j) (λ n w. levels-kept o (inl (omega arith)) n w ∙ levels n w)
+        (λ s d. ap (λ (v : Venue). levelOf s d (v .regular)) venue ∙ level-packed s d (venueOf a))
+        (λ h. subst (λ (v : Venue). Orderly (v .regular)) (sym venue) (unfold closeRegulars withRegular in orderly-packed (venueOf a .regular) h))
+        (λ m. record {
+          regulars = λ k w. filled k (omega arith);
+          complexes = complexes-marked o (inr (omega arith)) (inl (omega arith)) (inr (omega arith)) (marks (m .complexes));
+          legging = legging-marked o (inr (omega arith)) (omega arith) (legs (m .legging));
+        });
+  };
+  filled = filled;
+}
+  where
+    o : Outside 827 828 b (set b 827 j)
+    o = stored b 827 j
+
+    venue : venueOf (set b 827 j) ≡ closeRegulars (venueOf a)
+    venue = beside-venue o (omega arith) ∙ same
+
+    filled : Filled holdsRegular (regularIn (set b 827 j)) (regularsUsed (set b 827 j))
+    filled k w =
+        let z = regulars-few b in
+        let e = count-kept o (inl (omega arith)) in
+        ap holdsRegular (sym (regular-kept o k (inl (omega arith)))) ∙ full k (omega arith)
+
+complexes-known : (a b : List ℕ) (j : ℕ) → venueOf b ≡ closeComplexes (venueOf a) → complexesUsed b ≡ complexesHeld a → regularsUsed b ≡ regularsUsed a →
+    Filled holdsComplex (complexIn b) (complexesUsed b) → ((n : ℕ) → n < 16 → levelIn b n ≡ levelIn a n) → (RegularsMarked a → RegularsMarked b) →
+    (LeggingMarked a → LeggingMarked b) → ComplexesClosed a (set b 828 j)
+complexes-known a b j same used others full levels marks legs = record {
+  venue = venue;
+  counts = record {
+    complexes = count-kept2 o (inl (omega arith)) ∙ used;
+    regulars = count-kept o (inl (omega arith)) ∙ others;
+    right = right-kept a (set b 828 j) (λ n w. levels-kept o (inl (omega arith)) n w ∙ levels n w)
+        (ap (λ (v : Venue). v .regular) venue ∙ (unfold closeComplexes withComplex in refl))
+        (λ m. record {
+          regulars = regulars-marked o (omega arith) (inl (omega arith)) (inl (omega arith)) (marks (m .regulars));
+          complexes = λ k w. filled k (omega arith);
+          legging = legging-marked o (inr (omega arith)) (omega arith) (legs (m .legging));
+        });
+  };
+  filled = filled;
+}
+  where
+    o : Outside 828 829 b (set b 828 j)
+    o = stored b 828 j
+
+    venue : venueOf (set b 828 j) ≡ closeComplexes (venueOf a)
+    venue = beside-venue o (omega arith) ∙ same
+
+    filled : Filled holdsComplex (complexIn (set b 828 j)) (complexesUsed (set b 828 j))
+    filled k w =
+        let z = complexes-few b in
+        let e = count-kept2 o (inl (omega arith)) in
+        ap holdsComplex (sym (complex-kept o k (inl (omega arith)))) ∙ full k (omega arith)
+
 -- no gap
-regulars-same : (a : List ℕ) → Filled holdsRegular (regularIn a) (regularsUsed a) → RegularsClosed a a
+regulars-same : (a : List ℕ) (j : ℕ) → Filled holdsRegular (regularIn a) (regularsUsed a) → RegularsClosed a (set a 827 j)
 unfolding closeRegulars withRegular venueOf
-regulars-same a full =
+regulars-same a j full =
     let n = regularsUsed a in
     let p = closing-start holdsRegular n (regularIn a) n (omega arith) full in
-    record {
-      venue = venue-is (venueOf a) (closeRegulars (venueOf a)) (closed-part holdsRegular noRegular refl n 128 (regularIn a) (regularIn a) n p (regulars-few a)) refl refl refl refl;
-      counts = record { regulars = sym (closed-count holdsRegular noRegular refl n 128 (regularIn a) (regularIn a) n p (regulars-few a)); complexes = refl };
-      filled = full;
-    }
+    regulars-known a a j
+    (venue-is (venueOf a) (closeRegulars (venueOf a)) (closed-part holdsRegular noRegular refl n 128 (regularIn a) (regularIn a) n p (regulars-few a)) refl refl refl refl)
+    (sym (closed-count holdsRegular noRegular refl n 128 (regularIn a) (regularIn a) n p (regulars-few a))) refl full (λ k w. refl) (λ m. m) (λ m. m)
 
-complexes-same : (a : List ℕ) → Filled holdsComplex (complexIn a) (complexesUsed a) → ComplexesClosed a a
+complexes-same : (a : List ℕ) (j : ℕ) → Filled holdsComplex (complexIn a) (complexesUsed a) → ComplexesClosed a (set a 828 j)
 unfolding closeComplexes withComplex venueOf
-complexes-same a full =
+complexes-same a j full =
     let n = complexesUsed a in
     let p = closing-start holdsComplex n (complexIn a) n (omega arith) full in
-    record {
-      venue = venue-is (venueOf a) (closeComplexes (venueOf a)) refl (closed-part holdsComplex noComplex refl n 32 (complexIn a) (complexIn a) n p (complexes-few a)) refl refl refl;
-      counts = record { regulars = refl; complexes = sym (closed-count holdsComplex noComplex refl n 32 (complexIn a) (complexIn a) n p (complexes-few a)) };
-      filled = full;
-    }
+    complexes-known a a j
+    (venue-is (venueOf a) (closeComplexes (venueOf a)) refl (closed-part holdsComplex noComplex refl n 32 (complexIn a) (complexIn a) n p (complexes-few a)) refl refl refl)
+    (sym (closed-count holdsComplex noComplex refl n 32 (complexIn a) (complexIn a) n p (complexes-few a))) refl full (λ k w. refl) (λ m. m) (λ m. m)
 
 -- the book becomes l, of which j places are in use
 pub record RegularsSet (a : List ℕ) (l : List Regular) (j : ℕ) (c : List ℕ) : Type 0 where
   pub venue : venueOf c ≡ withRegular (venueOf a) l
-  pub counts : Counts j (complexesUsed a) c
+  pub regulars : regularsUsed c ≡ j
+  pub complexes : complexesUsed c ≡ complexesUsed a
   pub filled : Filled holdsRegular (regularIn c) (regularsUsed c)
 
 pub regulars-set : (a b : List ℕ) (l : List Regular) (j : ℕ) → length b ≡ size → j ≤ 128 → Outside 0 512 a b →
@@ -136,36 +213,34 @@ regulars-set a b l j long few near part full = record {
       ∙ ap (λ (k : ℕ). withRegular (venueOf b) (inUse (regularIn b) noRegular k 128)) used
       ∙ ap (λ (x : List Regular). withRegular (venueOf b) x) part
       ∙ others-regular a b l near;
-  counts = record {
-    regulars = used;
-    complexes = count-kept2 (stored b 776 j) (inr (omega arith)) ∙ count-kept2 near (inr (omega arith));
-  };
+  regulars = used;
+  complexes = count-kept2 (stored b 776 j) (inr (omega arith)) ∙ count-kept2 near (inr (omega arith));
   filled = λ k w. ap holdsRegular (sym (regular-kept (stored b 776 j) k (inl (let z = regulars-few (set b 776 j) in omega arith)))) ∙ full k (let e = used in omega arith);
 }
   where
     used : regularsUsed (set b 776 j) ≡ j
     used = counted (set b 776 j) j (getD-set-same b 776 j 0 (omega arith)) few
 
-regulars-closed : (a b : List ℕ) (j : ℕ) → MovingRegulars a b (regularsUsed a) (regularsUsed a) j → RegularsClosed a (set b 776 j)
+regulars-closed : (a b : List ℕ) (j : ℕ) → MovingRegulars a b (regularsUsed a) (regularsUsed a) j → RegularsClosed a (set (set b 776 j) 827 j)
 unfolding closeRegulars venueOf
 regulars-closed a b j m =
     let few = regulars-few a in
     let fewer = m .places .fewer in
-    let s = regulars-set a b _ j (m .long) (omega arith) (wider (omega arith) (omega arith) (m .outside))
+    let near : Outside 0 512 a b = wider (omega arith) (omega arith) (m .outside) in
+    let o = stored b 776 j in
+    let s = regulars-set a b _ j (m .long) (omega arith) near
     (closed-part holdsRegular noRegular refl (regularsUsed a) 128 (regularIn a) (regularIn b) j (m .places) few) (m .places .full) in
-    record {
-      venue = s .venue;
-      counts = record {
-        regulars = s .counts .regulars ∙ sym (closed-count holdsRegular noRegular refl (regularsUsed a) 128 (regularIn a) (regularIn b) j (m .places) few);
-        complexes = s .counts .complexes;
-      };
-      filled = s .filled;
-    }
+    regulars-known a (set b 776 j) j (s .venue)
+    (s .regulars ∙ sym (closed-count holdsRegular noRegular refl (regularsUsed a) 128 (regularIn a) (regularIn b) j (m .places) few)) (s .complexes) (s .filled)
+    (λ n w. levels-kept o (inr (omega arith)) n w ∙ levels-kept near (inr (omega arith)) n w)
+    (λ x. complexes-marked o (inr (omega arith)) (inr (omega arith)) (inr (omega arith)) (complexes-marked near (inl (omega arith)) (inr (omega arith)) (inr (omega arith)) x))
+    (λ x. legging-marked o (inr (omega arith)) (omega arith) (legging-marked near (inl (omega arith)) (omega arith) x))
 
 -- the book becomes l, of which j places are in use
 pub record ComplexesSet (a : List ℕ) (l : List Complex) (j : ℕ) (c : List ℕ) : Type 0 where
   pub venue : venueOf c ≡ withComplex (venueOf a) l
-  pub counts : Counts (regularsUsed a) j c
+  pub complexes : complexesUsed c ≡ j
+  pub regulars : regularsUsed c ≡ regularsUsed a
   pub filled : Filled holdsComplex (complexIn c) (complexesUsed c)
 
 pub complexes-set : (a b : List ℕ) (l : List Complex) (j : ℕ) → length b ≡ size → j ≤ 32 → Outside 512 704 a b →
@@ -175,45 +250,42 @@ complexes-set a b l j long few near part full = record {
       ∙ ap (λ (k : ℕ). withComplex (venueOf b) (inUse (complexIn b) noComplex k 32)) used
       ∙ ap (λ (x : List Complex). withComplex (venueOf b) x) part
       ∙ others-complex a b l near;
-  counts = record {
-    complexes = used;
-    regulars = count-kept (stored b 777 j) (inl (omega arith)) ∙ count-kept near (inr (omega arith));
-  };
+  complexes = used;
+  regulars = count-kept (stored b 777 j) (inl (omega arith)) ∙ count-kept near (inr (omega arith));
   filled = λ k w. ap holdsComplex (sym (complex-kept (stored b 777 j) k (inl (let z = complexes-few (set b 777 j) in omega arith)))) ∙ full k (let e = used in omega arith);
 }
   where
     used : complexesUsed (set b 777 j) ≡ j
     used = counted2 (set b 777 j) j (getD-set-same b 777 j 0 (omega arith)) few
 
-complexes-closed : (a b : List ℕ) (j : ℕ) → MovingComplexes a b (complexesUsed a) (complexesUsed a) j → ComplexesClosed a (set b 777 j)
+complexes-closed : (a b : List ℕ) (j : ℕ) → MovingComplexes a b (complexesUsed a) (complexesUsed a) j → ComplexesClosed a (set (set b 777 j) 828 j)
 unfolding closeComplexes venueOf
 complexes-closed a b j m =
     let few = complexes-few a in
     let fewer = m .places .fewer in
-    let s = complexes-set a b _ j (m .long) (omega arith) (wider (omega arith) (omega arith) (m .outside))
+    let near : Outside 512 704 a b = wider (omega arith) (omega arith) (m .outside) in
+    let o = stored b 777 j in
+    let s = complexes-set a b _ j (m .long) (omega arith) near
     (closed-part holdsComplex noComplex refl (complexesUsed a) 32 (complexIn a) (complexIn b) j (m .places) few) (m .places .full) in
-    record {
-      venue = s .venue;
-      counts = record {
-        complexes = s .counts .complexes ∙ sym (closed-count holdsComplex noComplex refl (complexesUsed a) 32 (complexIn a) (complexIn b) j (m .places) few);
-        regulars = s .counts .regulars;
-      };
-      filled = s .filled;
-    }
+    complexes-known a (set b 777 j) j (s .venue)
+    (s .complexes ∙ sym (closed-count holdsComplex noComplex refl (complexesUsed a) 32 (complexIn a) (complexIn b) j (m .places) few)) (s .regulars) (s .filled)
+    (λ n w. levels-kept o (inr (omega arith)) n w ∙ levels-kept near (inr (omega arith)) n w)
+    (λ x. regulars-marked o (omega arith) (inl (omega arith)) (inr (omega arith)) (regulars-marked near (omega arith) (inr (omega arith)) (inr (omega arith)) x))
+    (λ x. legging-marked o (inr (omega arith)) (omega arith) (legging-marked near (inl (omega arith)) (omega arith) x))
 
-pub regulars-whole : (a : List ℕ) (n r : ℕ) → n ≡ regularsUsed a → r ≡ n → Filled holdsRegular (regularIn a) r → RegularsClosed a a
-regulars-whole a n r e h full = regulars-same a (λ k w. full k (omega arith))
+pub regulars-whole : (a : List ℕ) (n r : ℕ) → n ≡ regularsUsed a → r ≡ n → Filled holdsRegular (regularIn a) r → RegularsClosed a (set a 827 n)
+regulars-whole a n r e h full = regulars-same a n (λ k w. full k (omega arith))
 
-pub regulars-end : (a b : List ℕ) (n i j : ℕ) → n ≡ regularsUsed a → n ≤ i → MovingRegulars a b n i j → RegularsClosed a (set b 776 j)
+pub regulars-end : (a b : List ℕ) (n i j : ℕ) → n ≡ regularsUsed a → n ≤ i → MovingRegulars a b n i j → RegularsClosed a (set (set b 776 j) 827 j)
 regulars-end a b n i j e h m =
     let q = m .places .read in
     let z : i ≡ n = omega arith in
     regulars-closed a b j (rw (z, e) at m)
 
-pub complexes-whole : (a : List ℕ) (n r : ℕ) → n ≡ complexesUsed a → r ≡ n → Filled holdsComplex (complexIn a) r → ComplexesClosed a a
-complexes-whole a n r e h full = complexes-same a (λ k w. full k (omega arith))
+pub complexes-whole : (a : List ℕ) (n r : ℕ) → n ≡ complexesUsed a → r ≡ n → Filled holdsComplex (complexIn a) r → ComplexesClosed a (set a 828 n)
+complexes-whole a n r e h full = complexes-same a n (λ k w. full k (omega arith))
 
-pub complexes-end : (a b : List ℕ) (n i j : ℕ) → n ≡ complexesUsed a → n ≤ i → MovingComplexes a b n i j → ComplexesClosed a (set b 777 j)
+pub complexes-end : (a b : List ℕ) (n i j : ℕ) → n ≡ complexesUsed a → n ≤ i → MovingComplexes a b n i j → ComplexesClosed a (set (set b 777 j) 828 j)
 complexes-end a b n i j e h m =
     let q = m .places .read in
     let z : i ≡ n = omega arith in
@@ -234,7 +306,7 @@ complex-same : (a b : List ℕ) → venueOf b .complex ≡ venueOf a .complex �
 unfolding complexAt
 complex-same a b p k = ap (λ (l : List Complex). getD l k noComplex) p
 
-complexes-filled : (a b : List ℕ) → venueOf b .complex ≡ venueOf a .complex → complexesUsed b ≡ complexesUsed a →
+pub complexes-filled : (a b : List ℕ) → venueOf b .complex ≡ venueOf a .complex → complexesUsed b ≡ complexesUsed a →
     Filled holdsComplex (complexIn a) (complexesUsed a) → Filled holdsComplex (complexIn b) (complexesUsed b)
 complexes-filled a b p e full = λ k w. ap holdsComplex (sym (complex-at b k w) ∙ complex-same a b p k ∙ complex-at a k (omega arith)) ∙ full k (omega arith)
 
@@ -243,19 +315,22 @@ pub dense-kept : (a b : List ℕ) → venueOf b .regular ≡ venueOf a .regular 
 dense-kept a b p q n d = record {
   regulars = regulars-filled a b p (n .regulars) (d .regulars);
   complexes = complexes-filled a b q (n .complexes) (d .complexes);
+  right = n .right (d .right);
 }
 
-pub both-closed : (a b c : List ℕ) → RegularsClosed a b → ComplexesClosed b c → GapsClosed a c
+pub both-closed : (a b c : List ℕ) → Right a → RegularsClosed a b → ComplexesClosed b c → GapsClosed a c
 unfolding closeGaps closeRegulars closeComplexes withRegular withComplex
-both-closed a b c r s = record {
+both-closed a b c k r s = record {
   venue = s .venue ∙ ap closeComplexes (r .venue);
   counts = record {
     regulars = s .counts .regulars ∙ r .counts .regulars;
     complexes = s .counts .complexes ∙ ap (λ (v : Venue). length (keep holdsComplex (v .complex))) (r .venue);
+    right = λ h. s .counts .right (r .counts .right h);
   };
   dense = record {
     regulars = regulars-filled b c (ap (λ (v : Venue). v .regular) (s .venue)) (s .counts .regulars) (r .filled);
     complexes = s .filled;
+    right = s .counts .right (r .counts .right k);
   };
 }
 

@@ -1,5 +1,8 @@
 pub mod Tables
 pub mod Parts
+pub mod Masks
+pub mod Orderly
+pub mod Beside
 pub mod Limits
 pub mod Stores
 pub mod Gaps

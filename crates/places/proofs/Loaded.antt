@@ -8,8 +8,8 @@ use native.Mathlib.Omega.{arith}
 use native.Mathlib.Decide.{decLt}
 use native.Mathlib.Numerals.{add-one}
 use borrow.Author.Tests.{leb-true}
-use lib.ListN.{length, getD, set, take, List·getD-eq-default}
-use lib.Seq.{sets, ext-getD, take-suc, take-suc-set, take-all}
+use lib.ListN.{length, getD, set, take, length-set, List·getD-eq-default}
+use lib.Seq.{sets, getD-set-same, ext-getD, take-suc, take-suc-set, take-all}
 use Rattle.rules.specs.declared.Regular.{Regular}
 use Rattle.rules.specs.declared.Complex.{Complex}
 use Rattle.rules.specs.declared.Legging.{Legging}
@@ -17,17 +17,21 @@ use Rattle.rules.specs.declared.Listed.{Listed}
 use Rattle.rules.specs.declared.Venue.{Venue}
 use Rattle.rules.specs.Words.{noRegular, noComplex, noLegging, notListed, withRegular, withComplex, withLegging, withSeries, withLast, isSeries, isSide, within}
 use Rattle.rules.specs.Places.{holdsRegular, holdsComplex, blankRegular, blankComplex, packed, closeGaps}
+use Rattle.rules.specs.Step.{mask}
 use Rattle.rules.specs.Refusals.{regularInRange, complexInRange}
 use Rattle.rules.specs.Sound.{regularsSound, complexesSound, sound}
 use Rattle.rules.proofs.Tests.{and-l, and-r}
 use Rattle.rules.proofs.Closing.{packed-free}
 use Rattle.rules.proofs.Arranging.{arranged-out, blank-free, blank-freeC, closed-same}
-use Rattle.places.specs.Layout.{size, inUse, regularIn, complexIn, leggingIn, listedIn, venueOf, regularRow, complexRow, Kept, SameCounts, Filled, Placed, OnSide, RegularsPlaced, ComplexesPlaced, Loadable, RegularsLoaded, ComplexesLoaded, Loaded}
+use Rattle.places.proofs.Orderly.{sound-orderly}
+use Rattle.places.specs.Layout.{size, inUse, regularIn, complexIn, listedIn, venueOf, regularRow, complexRow, Kept, SameCounts, Filled, Placed, OnSide, RegularsPlaced, ComplexesPlaced, Loadable, RegularsLoaded, ComplexesLoaded, Laid}
 use Rattle.places.proofs.Tables.{upto-length, used-length, used-at, used-free}
-use Rattle.places.proofs.Parts.{Outside, wider, joined}
+use Rattle.places.proofs.Parts.{Outside, stored, wider, joined, count-kept, count-kept2}
+use Rattle.places.proofs.Masks.{legging-many}
+use Rattle.places.proofs.Beside.{beside-venue}
 use Rattle.places.proofs.Stores.{sets-outside, sets-length, regular-back, complex-back}
 use Rattle.places.proofs.Gaps.{filled-more}
-use Rattle.places.proofs.Closed.{lowRegular, lowComplex, regular-wide, complex-wide, regular-agree, complex-agree, regulars-set, complexes-set, regulars-filled, dense-kept}
+use Rattle.places.proofs.Closed.{lowRegular, lowComplex, regular-wide, complex-wide, regular-agree, complex-agree, regulars-set, complexes-set, regulars-filled, complexes-filled}
 
 -- Rows, to the first free place ----------------------------------------------------------------
 
@@ -116,7 +120,7 @@ pub regulars-last : (a b : List ℕ) (l : List Regular) (i : ℕ) → LayingRegu
     ((k : ℕ) → i ≤ k → getD l k noRegular ≡ noRegular) → RegularsLoaded a l (set b 776 i)
 regulars-last a b l i m n few rest =
     let s = regulars-set a b l i (m .long) few (wider (omega arith) (omega arith) (m .outside)) (laid holdsRegular noRegular 128 lowRegular regularIn regularRow (λ i j h. omega arith) regular-wide regular-agree a b l i m n few rest) (m .full) in
-    record { venue = s .venue; complexes = s .counts .complexes; filled = s .filled }
+    record { venue = s .venue; complexes = s .complexes; filled = s .filled }
 
 abbrev pub LayingComplexes : (a b : List ℕ) (l : List Complex) (i : ℕ) → Type 0
 LayingComplexes = Laying holdsComplex noComplex lowComplex complexIn
@@ -135,7 +139,7 @@ pub complexes-last : (a b : List ℕ) (l : List Complex) (i : ℕ) → LayingCom
     ((k : ℕ) → i ≤ k → getD l k noComplex ≡ noComplex) → ComplexesLoaded a l (set b 777 i)
 complexes-last a b l i m n few rest =
     let s = complexes-set a b l i (m .long) few (wider (omega arith) (omega arith) (m .outside)) (laid holdsComplex noComplex 32 lowComplex complexIn complexRow (λ i j h. omega arith) complex-wide complex-agree a b l i m n few rest) (m .full) in
-    record { venue = s .venue; regulars = s .counts .regulars; filled = s .filled }
+    record { venue = s .venue; regulars = s .regulars; filled = s .filled }
 
 -- Whole parts, place by place -----------------------------------------------------------------
 
@@ -150,7 +154,7 @@ module _ {A : Type 0} (With : Venue → List A → Venue) (part : Venue → List
     (again : (v : Venue) (x y : List A) → With (With v x) y ≡ With v y) (got : (v : Venue) (x : List A) → part (With v x) ≡ x)
     (own : (v : Venue) → With v (part v) ≡ v) (many : (b : List ℕ) → length (part (venueOf b)) ≡ n) (a : List ℕ) (l : List A) where
   pub loading-first : length a ≡ size → Loading With part a a l 0
-  loading-first e = record { long = e; others = refl; front = refl; counts = record { regulars = refl; complexes = refl } }
+  loading-first e = record { long = e; others = refl; front = refl; counts = record { regulars = refl; complexes = refl; right = λ h. h } }
 
   pub loading-next : (b b′ : List ℕ) (i : ℕ) → Loading With part a b l i → i < n → length l ≡ n → (x : A) → x ≡ getD l i none → length b′ ≡ length b →
       venueOf b′ ≡ With (venueOf b) (set (part (venueOf b)) i x) → SameCounts b b′ → Loading With part a b′ l (i + 1)
@@ -165,7 +169,7 @@ module _ {A : Type 0} (With : Venue → List A → Venue) (part : Venue → List
         ∙ ap (λ (y : A). take i l ++ (y ∷ [])) is
         ∙ sym (take-suc l i none (omega arith))
         ∙ sym (ap (λ (k : ℕ). take k l) (add-one i));
-    counts = record { regulars = c .regulars ∙ m .counts .regulars; complexes = c .complexes ∙ m .counts .complexes };
+    counts = record { regulars = c .regulars ∙ m .counts .regulars; complexes = c .complexes ∙ m .counts .complexes; right = λ h. c .right (m .counts .right h) };
   }
 
   pub loading-last : (b : List ℕ) (i : ℕ) → Loading With part a b l i → n ≤ i → length l ≡ n → venueOf b ≡ With (venueOf a) l
@@ -176,10 +180,6 @@ module _ {A : Type 0} (With : Venue → List A → Venue) (part : Venue → List
 
 abbrev pub LoadingLeggings : (a b : List ℕ) (l : List Legging) (i : ℕ) → Type 0
 LoadingLeggings = Loading withLegging (λ v. v .legging)
-
-legging-many : (b : List ℕ) → length (venueOf b .legging) ≡ 16
-unfolding venueOf
-legging-many b = upto-length (leggingIn b) 0 16
 
 pub legging-first : (a : List ℕ) (l : List Legging) → length a ≡ size → LoadingLeggings a a l 0
 unfolding withLegging
@@ -216,17 +216,34 @@ series-last = loading-last withSeries (λ v. v .series) notListed 8 (λ v x y. r
 
 -- The whole venue -----------------------------------------------------------------------------
 
-pub loaded : (v : Venue) (a b c d e f : List ℕ) → RegularsLoaded a (v .regular) b → ComplexesLoaded b (v .complex) c →
+pub loaded : (v : Venue) (a b c d e f : List ℕ) (x : ℕ) → RegularsLoaded a (v .regular) b → ComplexesLoaded b (v .complex) c →
     venueOf d ≡ withLegging (venueOf c) (v .legging) → SameCounts c d → venueOf e ≡ withSeries (venueOf d) (v .series) → SameCounts d e →
-    venueOf f ≡ withLast (venueOf e) (v .last) → SameCounts e f → Loaded v f
+    venueOf f ≡ withLast (venueOf e) (v .last) → SameCounts e f → length f ≡ size → x ≡ mask (venueOf f .legging) →
+    Laid v (set (set (set f 827 0) 828 0) 829 x)
 unfolding withRegular withComplex withLegging withSeries withLast
-loaded v a b c d e f rs cs ls n ss o lt p = record {
-  venue = lt ∙ ap (λ (w : Venue). withLast w (v .last)) (ss ∙ ap (λ (w : Venue). withSeries w (v .series)) (ls ∙ ap (λ (w : Venue). withLegging w (v .legging)) (cs .venue ∙ ap (λ (w : Venue). withComplex w (v .complex)) (rs .venue))));
-  dense = dense-kept e f (ap (λ (w : Venue). w .regular) lt) (ap (λ (w : Venue). w .complex) lt) p
-      (dense-kept d e (ap (λ (w : Venue). w .regular) ss) (ap (λ (w : Venue). w .complex) ss) o
-      (dense-kept c d (ap (λ (w : Venue). w .regular) ls) (ap (λ (w : Venue). w .complex) ls) n
-      record { regulars = regulars-filled b c (ap (λ (w : Venue). w .regular) (cs .venue)) (cs .regulars) (rs .filled); complexes = cs .filled }));
-}
+loaded v a b c d e f x rs cs ls n ss o lt p long count =
+    let one = stored f 827 0 in
+    let two = stored (set f 827 0) 828 0 in
+    let three = stored (set (set f 827 0) 828 0) 829 x in
+    let same : venueOf (set (set (set f 827 0) 828 0) 829 x) ≡ venueOf f = beside-venue three (omega arith) ∙ beside-venue two (omega arith) ∙ beside-venue one (omega arith) in
+    record {
+      venue = same ∙ lt ∙ ap (λ (w : Venue). withLast w (v .last)) (ss ∙ ap (λ (w : Venue). withSeries w (v .series)) (ls ∙ ap (λ (w : Venue). withLegging w (v .legging)) (cs .venue ∙ ap (λ (w : Venue). withComplex w (v .complex)) (rs .venue))));
+      regulars = regulars-filled f (set (set (set f 827 0) 828 0) 829 x) (ap (λ (w : Venue). w .regular) same) (count-kept three (inl (omega arith)) ∙ count-kept two (inl (omega arith)) ∙ count-kept one (inl (omega arith)))
+          (regulars-filled e f (ap (λ (w : Venue). w .regular) lt) (p .regulars)
+          (regulars-filled d e (ap (λ (w : Venue). w .regular) ss) (o .regulars)
+          (regulars-filled c d (ap (λ (w : Venue). w .regular) ls) (n .regulars)
+          (regulars-filled b c (ap (λ (w : Venue). w .regular) (cs .venue)) (cs .regulars) (rs .filled)))));
+      complexes = complexes-filled f (set (set (set f 827 0) 828 0) 829 x) (ap (λ (w : Venue). w .complex) same) (count-kept2 three (inl (omega arith)) ∙ count-kept2 two (inl (omega arith)) ∙ count-kept2 one (inl (omega arith)))
+          (complexes-filled e f (ap (λ (w : Venue). w .complex) lt) (p .complexes)
+          (complexes-filled d e (ap (λ (w : Venue). w .complex) ss) (o .complexes)
+          (complexes-filled c d (ap (λ (w : Venue). w .complex) ls) (n .complexes) (cs .filled))));
+      marked = record {
+        regulars = λ k w. absurd (omega (arith, three .same 827 (inl (omega arith)), two .same 827 (inl (omega arith)), getD-set-same f 827 0 0 (omega arith)));
+        complexes = λ k w. absurd (omega (arith, three .same 828 (inl (omega arith)), getD-set-same (set f 827 0) 828 0 0 (omega (arith, length-set f 827 0))));
+        legging = getD-set-same (set (set f 827 0) 828 0) 829 x 0 (omega (arith, length-set (set f 827 0) 828 0, length-set f 827 0))
+            ∙ count ∙ ap (λ (w : Venue). mask (w .legging)) (sym same);
+      };
+    }
 
 -- A sound venue can be loaded -----------------------------------------------------------------
 
@@ -256,6 +273,7 @@ books-load v r c e =
     record {
       regulars = record { dense = a .dense; blank = rw p at (packed-free holdsRegular noRegular (v .regular)); asked = λ i h. regular-side _ _ (a .asks i h) };
       complexes = record { dense = b .dense; blank = rw q at (packed-free holdsComplex noComplex (v .complex)); asked = λ i h. complex-sides _ _ (b .asks i h) };
+      orders = sound-orderly v r;
     }
 
 pub sound-loads : (v : Venue) → sound v ≡ true → Loadable v

@@ -9,7 +9,7 @@ use lib.ListN.{getD, set}
 use lib.Seq.{getD-set-other}
 use Rattle.rules.specs.declared.Venue.{Venue}
 use Rattle.rules.specs.Words.{noRegular, noComplex, noLegging, notListed, regularAt, complexAt, withRegular, withComplex, withLegging, withSeries, withLast}
-use Rattle.places.specs.Layout.{inUse, regularsUsed, complexesUsed, regularIn, complexIn, leggingIn, listedIn, venueOf, SameCounts}
+use Rattle.places.specs.Layout.{inUse, regularsUsed, complexesUsed, regularIn, complexIn, leggingIn, listedIn, venueOf}
 use Rattle.places.proofs.Tables.{upto-same, upto-set, used-same, used-set, used-at, used-free}
 
 -- a and b have the same numbers but for those from low to below high
@@ -41,10 +41,10 @@ unfolding regularIn
 regular-fields a b i p q r s = rw (p, q, r, s)
 
 complex-fields : (a b : List ℕ) (i : ℕ) → getD b (6 * i + 512) 0 ≡ getD a (6 * i + 512) 0 → getD b (6 * i + 513) 0 ≡ getD a (6 * i + 513) 0 →
-    getD b (6 * i + 514) 0 ≡ getD a (6 * i + 514) 0 → getD b (6 * i + 515) 0 ≡ getD a (6 * i + 515) 0 →
-    getD b (6 * i + 516) 0 ≡ getD a (6 * i + 516) 0 → getD b (6 * i + 517) 0 ≡ getD a (6 * i + 517) 0 → complexIn a i ≡ complexIn b i
+    getD b (6 * i + 515) 0 ≡ getD a (6 * i + 515) 0 → getD b (6 * i + 516) 0 ≡ getD a (6 * i + 516) 0 →
+    getD b (6 * i + 517) 0 ≡ getD a (6 * i + 517) 0 → complexIn a i ≡ complexIn b i
 unfolding complexIn
-complex-fields a b i p q r s t u = rw (p, q, r, s, t, u)
+complex-fields a b i p q r s t = rw (p, q, r, s, t)
 
 legging-fields : (a b : List ℕ) (i : ℕ) → getD b (3 * i + 704) 0 ≡ getD a (3 * i + 704) 0 → getD b (3 * i + 705) 0 ≡ getD a (3 * i + 705) 0 →
     getD b (3 * i + 706) 0 ≡ getD a (3 * i + 706) 0 → leggingIn a i ≡ leggingIn b i
@@ -67,11 +67,9 @@ module _ {low high : ℕ} {a b : List ℕ} (o : Outside low high a b) where
 
   pub complex-kept : (i : ℕ) → (6 * i + 518 ≤ low) ⊎ (high ≤ 6 * i + 512) → complexIn a i ≡ complexIn b i
   complex-kept i (inl h) = complex-fields a b i (o .same (6 * i + 512) (inl (omega arith))) (o .same (6 * i + 513) (inl (omega arith)))
-      (o .same (6 * i + 514) (inl (omega arith))) (o .same (6 * i + 515) (inl (omega arith)))
-      (o .same (6 * i + 516) (inl (omega arith))) (o .same (6 * i + 517) (inl (omega arith)))
+      (o .same (6 * i + 515) (inl (omega arith))) (o .same (6 * i + 516) (inl (omega arith))) (o .same (6 * i + 517) (inl (omega arith)))
   complex-kept i (inr h) = complex-fields a b i (o .same (6 * i + 512) (inr (omega arith))) (o .same (6 * i + 513) (inr (omega arith)))
-      (o .same (6 * i + 514) (inr (omega arith))) (o .same (6 * i + 515) (inr (omega arith)))
-      (o .same (6 * i + 516) (inr (omega arith))) (o .same (6 * i + 517) (inr (omega arith)))
+      (o .same (6 * i + 515) (inr (omega arith))) (o .same (6 * i + 516) (inr (omega arith))) (o .same (6 * i + 517) (inr (omega arith)))
 
   pub legging-kept : (i : ℕ) → (3 * i + 707 ≤ low) ⊎ (high ≤ 3 * i + 704) → leggingIn a i ≡ leggingIn b i
   legging-kept i (inl h) = legging-fields a b i (o .same (3 * i + 704) (inl (omega arith))) (o .same (3 * i + 705) (inl (omega arith))) (o .same (3 * i + 706) (inl (omega arith)))
@@ -116,10 +114,6 @@ module _ {low high : ℕ} {a b : List ℕ} (o : Outside low high a b) where
   pub count-kept2 : (777 < low) ⊎ (high ≤ 777) → complexesUsed b ≡ complexesUsed a
   unfolding complexesUsed
   count-kept2 h = ap (λ (x : ℕ). min x 32) (o .same 777 h)
-
-  pub counts-kept : (777 < low) ⊎ (high ≤ 776) → SameCounts a b
-  counts-kept (inl h) = record { regulars = count-kept (inl (omega arith)); complexes = count-kept2 (inl (omega arith)) }
-  counts-kept (inr h) = record { regulars = count-kept (inr (omega arith)); complexes = count-kept2 (inr (omega arith)) }
 
   pub regulars-kept : 512 ≤ low → (776 < low) ⊎ (high ≤ 776) → venueOf b .regular ≡ venueOf a .regular
   unfolding venueOf

@@ -2,12 +2,16 @@
 --
 --   from   numbers                                                             places
 --      0   id, legging place of its series and side, price, quantity           128 regular
---    512   id, legging place of each leg, class, limit + 2^31, quantity        32 complex
+--    512   id, legs, 0, class, limit + 2^31, quantity                          32 complex
 --    704   parent, price, quantity                                             16 legging
 --    752   status, bid, offer                                                  8 series
 --    776   regular places in use, complex places in use, last id
+--    779   price, size mod 2^32, size / 2^32                                   16 levels, by legging place
+--    827   regular places, then complex places, known to be held
+--    829   mask of the legging places filled
 --
--- What stands in regular and complex places that are not in use means nothing.
+-- Legs is 16 * the legging place of the first leg + that of the second.
+-- What stands in regular and complex places that are not in use means nothing. The numbers from 779 on are kept beside the venue.
 use mathlib.Core.Path.{_≡_}
 use mathlib.Core.Bool.{Bool, true, false}
 use mathlib.Core.List.{List, [], _∷_, _++_}
@@ -19,12 +23,16 @@ use Rattle.rules.specs.declared.Complex.{Complex}
 use Rattle.rules.specs.declared.Legging.{Legging}
 use Rattle.rules.specs.declared.Listed.{Listed}
 use Rattle.rules.specs.declared.Venue.{Venue}
+use Rattle.places.specs.declared.Level.{Level}
 use Rattle.rules.specs.Words.{placeOf, noRegular, noComplex, withRegular, withComplex}
+use Rattle.rules.specs.Base.{if_then_else_, held}
+use Rattle.rules.specs.Prices.{bestIn, sizeIn}
 use Rattle.rules.specs.Places.{holdsRegular, holdsComplex, keep, packed, closeGaps}
+use Rattle.rules.specs.Step.{mask}
 
 -- the slice's length
 abbrev pub size : ℕ
-size = 779
+size = 830
 
 -- f of each number from i on, k of them
 unfoldable pub upto : {A : Type 0} → (ℕ → A) → (i k : ℕ) → List A
@@ -55,10 +63,10 @@ regularIn b i = record {
 unfoldable pub complexIn : List ℕ → ℕ → Complex
 complexIn b i = record {
   id = getD b (6 * i + 512) 0;
-  series1 = getD b (6 * i + 513) 0 % 16 / 2;
-  side1 = getD b (6 * i + 513) 0 % 2;
-  series2 = getD b (6 * i + 514) 0 % 16 / 2;
-  side2 = getD b (6 * i + 514) 0 % 2;
+  series1 = getD b (6 * i + 513) 0 % 256 / 32;
+  side1 = getD b (6 * i + 513) 0 / 16 % 2;
+  series2 = getD b (6 * i + 513) 0 % 16 / 2;
+  side2 = getD b (6 * i + 513) 0 % 2;
   class = getD b (6 * i + 515) 0 % 256;
   limit = pos (getD b (6 * i + 516) 0) -ℤ pos 2147483648;
   quantity = getD b (6 * i + 517) 0;
@@ -98,35 +106,93 @@ unfoldable pub limitNumber : ℤ → ℕ
 limitNumber z = natAbs (z +ℤ pos 2147483648)
 
 unfoldable pub complexRow : Complex → List ℕ
-complexRow c =
-    c .id ∷ placeOf (c .series1) (c .side1) ∷ placeOf (c .series2) (c .side2) ∷ c .class ∷ limitNumber (c .limit) ∷ c .quantity ∷ []
+complexRow c = c .id ∷ legsKey c ∷ 0 ∷ c .class ∷ limitNumber (c .limit) ∷ c .quantity ∷ []
 
 -- a class and a limit that are kept whole
 pub record Kept (c : Complex) : Type 0 where
   pub class : c .class < 256
   pub limit : pos (limitNumber (c .limit)) -ℤ pos 2147483648 ≡ c .limit
 
--- Counts --------------------------------------------------------------------------------------
-
--- the places in use are r regular and c complex ones
-pub record Counts (r c : ℕ) (b : List ℕ) : Type 0 where
-  pub regulars : regularsUsed b ≡ r
-  pub complexes : complexesUsed b ≡ c
-
--- as many as before
-abbrev pub SameCounts : (a b : List ℕ) → Type 0
-SameCounts a b = Counts (regularsUsed a) (complexesUsed a) b
-
--- Gaps ----------------------------------------------------------------------------------------
+-- Held places ---------------------------------------------------------------------------------
 
 -- each of the first n places is held
 abbrev pub Filled : {A : Type 0} → (A → Bool) → (ℕ → A) → ℕ → Type 0
 Filled holds f n = (k : ℕ) → k < n → holds (f k) ≡ true
 
--- every place in use is held
+-- Levels: the best regular price of a series and side, and its total size --------------------
+
+-- over a list of orders
+unfoldable pub levelOf : (series side : ℕ) → List Regular → Level
+levelOf s d os = record { price = bestIn s d os; size = sizeIn s d (bestIn s d os) os }
+
+-- the one that is kept; n is the legging place of series and side
+unfoldable pub levelIn : List ℕ → (n : ℕ) → Level
+levelIn b n = record { price = getD b (3 * n + 779) 0; size = getD b (3 * n + 780) 0 + 4294967296 * getD b (3 * n + 781) 0 }
+
+-- What is kept beside the venue ---------------------------------------------------------------
+
+-- every order that rests has a price, and an id above those of the orders at places before it
+pub record Orderly (os : List Regular) : Type 0 where
+  pub priced : (i : ℕ) → held (getD os i noRegular .quantity) ≡ true → held (getD os i noRegular .price) ≡ true
+  pub rises : (i j : ℕ) → i < j → held (getD os i noRegular .quantity) ≡ true → held (getD os j noRegular .quantity) ≡ true → getD os i noRegular .id < getD os j noRegular .id
+
+-- the ids of the orders that rest are below this one
+abbrev pub Below : (id : ℕ) → List Regular → Type 0
+Below id os = (i : ℕ) → held (getD os i noRegular .quantity) ≡ true → getD os i noRegular .id < id
+
+-- 1 where a legging place is filled
+unfoldable pub bitOf : Legging → ℕ
+bitOf l = if held (l .quantity) then 1 else 0
+
+-- what is known of the places: those known to be held are, and the mask is that of the legging places
+pub record Marked (b : List ℕ) : Type 0 where
+  pub regulars : Filled holdsRegular (regularIn b) (min (getD b 827 0) (regularsUsed b))
+  pub complexes : Filled holdsComplex (complexIn b) (min (getD b 828 0) (complexesUsed b))
+  pub legging : getD b 829 0 ≡ mask (venueOf b .legging)
+
+-- and the levels are those of the regular orders, which are in order
+pub record Right (b : List ℕ) : Type 0 where
+  pub levels : (s d : ℕ) → s < 8 → d < 2 → levelIn b (placeOf s d) ≡ levelOf s d (venueOf b .regular)
+  pub orders : Orderly (venueOf b .regular)
+  pub marked : Marked b
+
+-- from a to b the levels stay as they are, and r regular and c complex places are in use
+pub record Beside (r c : ℕ) (a b : List ℕ) : Type 0 where
+  pub regulars : regularsUsed b ≡ r
+  pub complexes : complexesUsed b ≡ c
+  pub levels : (n : ℕ) → n < 16 → levelIn b n ≡ levelIn a n
+  pub marked : Marked a → Marked b
+
+-- as many as before
+abbrev pub SameBeside : (a b : List ℕ) → Type 0
+SameBeside a b = Beside (regularsUsed a) (complexesUsed a) a b
+
+-- from a to b the level at n becomes l, and nothing else changes
+pub record LevelPut (n : ℕ) (l : Level) (a b : List ℕ) : Type 0 where
+  pub venue : venueOf b ≡ venueOf a
+  pub regulars : regularsUsed b ≡ regularsUsed a
+  pub complexes : complexesUsed b ≡ complexesUsed a
+  pub here : levelIn b n ≡ l
+  pub others : (m : ℕ) → m < 16 → (m ≡ n → ⊥) → levelIn b m ≡ levelIn a m
+  pub marked : Marked a → Marked b
+
+-- from a to b what is kept stays right, and r regular and c complex places are in use
+pub record Counts (r c : ℕ) (a b : List ℕ) : Type 0 where
+  pub regulars : regularsUsed b ≡ r
+  pub complexes : complexesUsed b ≡ c
+  pub right : Right a → Right b
+
+-- as many as before
+abbrev pub SameCounts : (a b : List ℕ) → Type 0
+SameCounts a b = Counts (regularsUsed a) (complexesUsed a) a b
+
+-- Gaps ----------------------------------------------------------------------------------------
+
+-- every place in use is held, and what is kept beside the venue is right
 pub record Dense (b : List ℕ) : Type 0 where
   pub regulars : Filled holdsRegular (regularIn b) (regularsUsed b)
   pub complexes : Filled holdsComplex (complexIn b) (complexesUsed b)
+  pub right : Right b
 
 -- one book's gaps closed
 unfoldable pub closeRegulars : Venue → Venue
@@ -145,17 +211,17 @@ complexesHeld b = length (keep holdsComplex (venueOf b .complex))
 -- from a to b the gaps of one book, or of both, are closed
 pub record RegularsClosed (a b : List ℕ) : Type 0 where
   pub venue : venueOf b ≡ closeRegulars (venueOf a)
-  pub counts : Counts (regularsHeld a) (complexesUsed a) b
+  pub counts : Counts (regularsHeld a) (complexesUsed a) a b
   pub filled : Filled holdsRegular (regularIn b) (regularsUsed b)
 
 pub record ComplexesClosed (a b : List ℕ) : Type 0 where
   pub venue : venueOf b ≡ closeComplexes (venueOf a)
-  pub counts : Counts (regularsUsed a) (complexesHeld a) b
+  pub counts : Counts (regularsUsed a) (complexesHeld a) a b
   pub filled : Filled holdsComplex (complexIn b) (complexesUsed b)
 
 pub record GapsClosed (a b : List ℕ) : Type 0 where
   pub venue : venueOf b ≡ closeGaps (venueOf a)
-  pub counts : Counts (regularsHeld a) (complexesHeld a) b
+  pub counts : Counts (regularsHeld a) (complexesHeld a) a b
   pub dense : Dense b
 
 -- A venue's places, loaded --------------------------------------------------------------------
@@ -181,6 +247,7 @@ ComplexesPlaced = Placed holdsComplex noComplex (λ c. OnSide (c .series1) (c .s
 pub record Loadable (v : Venue) : Type 0 where
   pub regulars : RegularsPlaced (v .regular)
   pub complexes : ComplexesPlaced (v .complex)
+  pub orders : Orderly (v .regular)
 
 -- from a to b one book becomes l, and is dense
 pub record RegularsLoaded (a : List ℕ) (l : List Regular) (b : List ℕ) : Type 0 where
@@ -192,6 +259,13 @@ pub record ComplexesLoaded (a : List ℕ) (l : List Complex) (b : List ℕ) : Ty
   pub venue : venueOf b ≡ withComplex (venueOf a) l
   pub regulars : regularsUsed b ≡ regularsUsed a
   pub filled : Filled holdsComplex (complexIn b) (complexesUsed b)
+
+-- b stands for v, all places in use are held, none is known to be, and the mask is right
+pub record Laid (v : Venue) (b : List ℕ) : Type 0 where
+  pub venue : venueOf b ≡ v
+  pub regulars : Filled holdsRegular (regularIn b) (regularsUsed b)
+  pub complexes : Filled holdsComplex (complexIn b) (complexesUsed b)
+  pub marked : Marked b
 
 -- b stands for v, and is dense
 pub record Loaded (v : Venue) (b : List ℕ) : Type 0 where

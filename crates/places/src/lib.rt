@@ -1,22 +1,30 @@
 // The venue inside a call: numbers in one lent slice (specs/Layout.antt). Only this crate knows the layout: the others read and write places, and
 // speak of the venue that the numbers stand for.
 ghost use mathlib.Core.Path.{_≡_};
-ghost use Prim.Native.Nat.{ℕ, suc, min, _+_, _-_, _*_, _≤_, _<_};
+ghost use Prim.Native.Nat.{ℕ, suc, min, _+_, _-_, _*_, _^_, _≤_, _<_};
 ghost use lib.IntN.{pos, _-ℤ_};
-ghost use lib.ListN.{length, set};
+ghost use lib.ListN.{length, getD, set};
 ghost use lib.Seq.{sets};
 ghost use Rattle.rules.specs.Words.{placeOf, withLegging, withSeries, withLast};
 ghost use Rattle.rules.specs.Trading.{fillRegular, fillComplex, putRegular, putComplex};
 ghost use Rattle.rules.specs.Generation.{placed};
 ghost use Rattle.rules.specs.Places.{holdsRegular, holdsComplex};
-ghost use Rattle.places.specs.Layout.{size, regularsUsed, complexesUsed, regularIn, complexIn, leggingIn, listedIn, regularKey, legsKey, venueOf, regularRow, limitNumber, complexRow, Kept, Counts, SameCounts};
+ghost use Rattle.rules.specs.Step.{mask};
+ghost use Rattle.places.specs.Layout.{size, regularsUsed, complexesUsed, regularIn, complexIn, leggingIn, listedIn, levelIn, regularKey, legsKey, venueOf, regularRow, limitNumber, complexRow, Kept, bitOf};
+ghost use Rattle.places.specs.Layout.{Marked, Right, Beside, SameBeside, LevelPut, Counts, SameCounts};
 ghost use Rattle.places.specs.Layout.{Filled, RegularsClosed, ComplexesClosed, GapsClosed};
-ghost use Rattle.places.specs.Layout.{RegularsPlaced, ComplexesPlaced, Loadable, RegularsLoaded, ComplexesLoaded, Loaded};
+ghost use Rattle.places.specs.Layout.{RegularsPlaced, ComplexesPlaced, Loadable, RegularsLoaded, ComplexesLoaded, Laid};
 use rules::Complex;
 use rules::Legging;
 use rules::Listed;
 use rules::Regular;
 use rules::Venue;
+
+// The best price of a side, and its total size; both 0 where there is none.
+pub struct Level {
+    pub price: u32,
+    pub size: u64,
+}
 
 fn wide(x: u32) -> usize
     ensures { λ r. ⌜ r ≡ x ⌝ }
@@ -65,6 +73,14 @@ pub fn regular_at(b: &[u32], i: usize) -> Regular
     }
 }
 
+// The id of what stands at a regular place.
+pub fn regular_id(b: &[u32], i: usize) -> u32
+    requires { ⌜ (length (now b) ≡ size) × (i < 128) ⌝ }
+    ensures { λ r. ⌜ r ≡ regularIn (now (b .entry)) i .id ⌝ }
+{
+    b[4 * i]
+}
+
 // The series and side of what stands at a regular place, as one number.
 pub fn key_at(b: &[u32], i: usize) -> usize
     requires { ⌜ (length (now b) ≡ size) × (i < 128) ⌝ }
@@ -98,6 +114,14 @@ pub fn listed_at(b: &[u32], s: usize) -> Listed
     }
 }
 
+// The legging places that are filled, as they are kept: bit n is place n.
+pub fn mask_of(b: &[u32]) -> u16
+    requires { ⌜ (length (now b) ≡ size) × (Right (now b)) ⌝ }
+    ensures { λ r. ⌜ r ≡ mask (venueOf (now (b .entry)) .legging) ⌝ }
+{
+    (b[829] % 65536) as u16
+}
+
 // A limit, as it is kept: 2^31 above its value.
 fn limit_of(x: u32) -> i32
     ensures { λ r. ⌜ r ≡ pos x -ℤ pos 2147483648 ⌝ }
@@ -110,16 +134,15 @@ pub fn complex_at(b: &[u32], i: usize) -> Complex
     requires { ⌜ (length (now b) ≡ size) × (i < 32) ⌝ }
     ensures { λ r. ⌜ r ≡ complexIn (now (b .entry)) i ⌝ }
 {
-    let one = b[6 * i + 513];
-    let two = b[6 * i + 514];
+    let legs = b[6 * i + 513];
     let class = b[6 * i + 515];
     let limit = limit_of(b[6 * i + 516]);
     Complex {
         id: b[6 * i + 512],
-        series1: (one % 16 / 2) as u8,
-        side1: (one % 2) as u8,
-        series2: (two % 16 / 2) as u8,
-        side2: (two % 2) as u8,
+        series1: (legs % 256 / 32) as u8,
+        side1: (legs / 16 % 2) as u8,
+        series2: (legs % 16 / 2) as u8,
+        side2: (legs % 2) as u8,
         class: (class % 256) as u8,
         limit,
         quantity: b[6 * i + 517],
@@ -131,7 +154,7 @@ pub fn legs_at(b: &[u32], i: usize) -> usize
     requires { ⌜ (length (now b) ≡ size) × (i < 32) ⌝ }
     ensures { λ r. ⌜ r ≡ legsKey (complexIn (now (b .entry)) i) ⌝ }
 {
-    16 * wide(b[6 * i + 513] % 16) + wide(b[6 * i + 514] % 16)
+    wide(b[6 * i + 513] % 256)
 }
 
 // The last id accepted.
@@ -140,6 +163,41 @@ pub fn last_id(b: &[u32]) -> u32
     ensures { λ r. ⌜ r ≡ venueOf (now (b .entry)) .last ⌝ }
 {
     b[778]
+}
+
+// The level kept for a series and side: n is their legging place.
+pub fn level_at(b: &[u32], n: usize) -> Level
+    requires { ⌜ (length (now b) ≡ size) × (n < 16) ⌝ }
+    ensures { λ r. ⌜ r ≡ levelIn (now (b .entry)) n ⌝ }
+{
+    let low = b[3 * n + 780];
+    let high = b[3 * n + 781];
+    Level {
+        price: b[3 * n + 779],
+        size: (low as u64) + 4294967296 * (high as u64),
+    }
+}
+
+// A level is kept for a series and side.
+pub fn put_level(b: &mut [u32], n: usize, l: Level)
+    requires { ⌜ (length (now b) ≡ size) × (n < 16) ⌝ }
+    ensures { λ _. ⌜ LevelPut n l (now (b .entry)) (now (b .exit)) ⌝ }
+{
+    b[3 * n + 779] = l.price;
+    b[3 * n + 780] = (l.size % 4294967296) as u32;
+    b[3 * n + 781] = (l.size / 4294967296) as u32;
+}
+
+// The number at a place becomes i, unless it is less.
+fn lower(b: &mut [u32], at: usize, i: usize)
+    requires { ⌜ (at < length (now b)) × (i < 4294967296) ⌝ }
+    ensures { λ _. ⌜ now (b .exit) ≡ set (now (b .entry)) at (min (getD (now (b .entry)) at 0) i) ⌝ }
+{
+    let x = b[at];
+    if wide(x) < i {
+        return;
+    }
+    b[at] = i as u32;
 }
 
 // q less k, and no less than 0.
@@ -152,14 +210,18 @@ fn less(q: u32, k: u32) -> u32
     q - k
 }
 
-// The order at place i is filled for k contracts.
+// The order at place i is filled for k contracts. The levels stay as they are.
 pub fn fill_regular(b: &mut [u32], i: usize, k: u32)
     requires { ⌜ (length (now b) ≡ size) × (i < regularsUsed (now b)) ⌝ }
     ensures { λ _. ⌜ venueOf (now (b .exit)) ≡ fillRegular i k (venueOf (now (b .entry))) ⌝ }
-    ensures counts { λ _. ⌜ SameCounts (now (b .entry)) (now (b .exit)) ⌝ }
+    ensures beside { λ _. ⌜ SameBeside (now (b .entry)) (now (b .exit)) ⌝ }
 {
     let q = b[4 * i + 3];
     b[4 * i + 3] = less(q, k);
+    if k < q {
+        return;
+    }
+    lower(b, 827, i);
 }
 
 pub fn fill_complex(b: &mut [u32], i: usize, k: u32)
@@ -169,6 +231,10 @@ pub fn fill_complex(b: &mut [u32], i: usize, k: u32)
 {
     let q = b[6 * i + 517];
     b[6 * i + 517] = less(q, k);
+    if k < q {
+        return;
+    }
+    lower(b, 828, i);
 }
 
 // The number of a series and side: its legging place.
@@ -190,15 +256,16 @@ fn write_regular(b: &mut [u32], i: usize, o: Regular)
     b[4 * i + 3] = o.quantity;
 }
 
-// An order is given the place after those in use.
+// An order is given the place after those in use. The levels stay as they are.
 pub fn add_regular(b: &mut [u32], o: Regular)
     requires { ⌜ (length (now b) ≡ size) × (regularsUsed (now b) < 128) × (o .series < 8) × (o .side < 2) ⌝ }
     ensures { λ _. ⌜ venueOf (now (b .exit)) ≡ putRegular (regularsUsed (now (b .entry))) o (venueOf (now (b .entry))) ⌝ }
-    ensures counts { λ _. ⌜ Counts (suc (regularsUsed (now (b .entry)))) (complexesUsed (now (b .entry))) (now (b .exit)) ⌝ }
+    ensures beside { λ _. ⌜ Beside (suc (regularsUsed (now (b .entry)))) (complexesUsed (now (b .entry))) (now (b .entry)) (now (b .exit)) ⌝ }
 {
     let n = regulars_used(b);
     write_regular(b, n, o);
     b[776] = (n + 1) as u32;
+    lower(b, 827, n);
 }
 
 // A limit's number, as it is kept.
@@ -217,8 +284,8 @@ fn write_complex(b: &mut [u32], i: usize, c: Complex)
     let two = place_number(c.series2, c.side2);
     let limit = limit_number(c.limit);
     b[6 * i + 512] = c.id;
-    b[6 * i + 513] = one;
-    b[6 * i + 514] = two;
+    b[6 * i + 513] = 16 * one + two;
+    b[6 * i + 514] = 0;
     b[6 * i + 515] = c.class as u32;
     b[6 * i + 516] = limit;
     b[6 * i + 517] = c.quantity;
@@ -228,11 +295,23 @@ fn write_complex(b: &mut [u32], i: usize, c: Complex)
 pub fn add_complex(b: &mut [u32], c: Complex)
     requires { ⌜ (length (now b) ≡ size) × (complexesUsed (now b) < 32) × (c .series1 < 8) × (c .side1 < 2) × (c .series2 < 8) × (c .side2 < 2) ⌝ }
     ensures { λ _. ⌜ venueOf (now (b .exit)) ≡ putComplex (complexesUsed (now (b .entry))) c (venueOf (now (b .entry))) ⌝ }
-    ensures counts { λ _. ⌜ Counts (regularsUsed (now (b .entry))) (suc (complexesUsed (now (b .entry)))) (now (b .exit)) ⌝ }
+    ensures counts { λ _. ⌜ Counts (regularsUsed (now (b .entry))) (suc (complexesUsed (now (b .entry)))) (now (b .entry)) (now (b .exit)) ⌝ }
 {
     let n = complexes_used(b);
     write_complex(b, n, c);
     b[777] = (n + 1) as u32;
+    lower(b, 828, n);
+}
+
+// What a legging place adds to the mask.
+fn weight(n: usize, l: Legging) -> u32
+    requires { ⌜ n < 16 ⌝ }
+    ensures { λ r. ⌜ (r ≡ bitOf l * 2 ^ n) × (r ≤ 32768) ⌝ }
+{
+    if l.quantity == 0 {
+        return 0;
+    }
+    1u32 << (n as u32)
 }
 
 // A legging order at a place.
@@ -241,6 +320,9 @@ pub fn put_legging(b: &mut [u32], n: usize, l: Legging)
     ensures { λ _. ⌜ venueOf (now (b .exit)) ≡ placed n l (venueOf (now (b .entry))) ⌝ }
     ensures counts { λ _. ⌜ SameCounts (now (b .entry)) (now (b .exit)) ⌝ }
 {
+    let old = legging_at(b, n);
+    let rest = less(b[829] % 65536, weight(n, old));
+    b[829] = rest + weight(n, l);
     b[3 * n + 704] = l.parent;
     b[3 * n + 705] = l.price;
     b[3 * n + 706] = l.quantity;
@@ -266,12 +348,12 @@ pub fn put_last(b: &mut [u32], id: u32)
     b[778] = id;
 }
 
-// The regular places before the first free one of n.
+// The regular places before the first free one of n; those that are known to be held are not looked at.
 fn held_regulars(b: &[u32], n: usize) -> usize
-    requires { ⌜ (length (now b) ≡ size) × (n ≤ 128) ⌝ }
+    requires { ⌜ (length (now b) ≡ size) × (n ≡ regularsUsed (now b)) × (Marked (now b)) ⌝ }
     ensures { λ r. ⌜ (r ≤ n) × Filled holdsRegular (regularIn (now (b .entry))) r ⌝ }
 {
-    let mut i: usize = 0;
+    let mut i = at_most(wide(b[827]), n);
     while i < n {
         if b[4 * i + 3] == 0 {
             return i;
@@ -281,14 +363,15 @@ fn held_regulars(b: &[u32], n: usize) -> usize
     n
 }
 
-// The regular places' gaps are closed. Where there are none, nothing is stored.
+// The regular places' gaps are closed, and all places in use are known to be held.
 pub fn close_regulars(b: &mut [u32])
-    requires { ⌜ length (now b) ≡ size ⌝ }
+    requires { ⌜ (length (now b) ≡ size) × (Marked (now b)) ⌝ }
     ensures { λ _. ⌜ RegularsClosed (now (b .entry)) (now (b .exit)) ⌝ }
 {
     let n = regulars_used(b);
     let mut j = held_regulars(b, n);
     if j == n {
+        b[827] = n as u32;
         return;
     }
     let mut i = j;
@@ -302,14 +385,15 @@ pub fn close_regulars(b: &mut [u32])
         j += 1;
     }
     b[776] = j as u32;
+    b[827] = j as u32;
 }
 
-// The complex places before the first free one of n.
+// The complex places before the first free one of n; those that are known to be held are not looked at.
 fn held_complexes(b: &[u32], n: usize) -> usize
-    requires { ⌜ (length (now b) ≡ size) × (n ≤ 32) ⌝ }
+    requires { ⌜ (length (now b) ≡ size) × (n ≡ complexesUsed (now b)) × (Marked (now b)) ⌝ }
     ensures { λ r. ⌜ (r ≤ n) × Filled holdsComplex (complexIn (now (b .entry))) r ⌝ }
 {
-    let mut i: usize = 0;
+    let mut i = at_most(wide(b[828]), n);
     while i < n {
         if b[6 * i + 517] == 0 {
             return i;
@@ -319,14 +403,15 @@ fn held_complexes(b: &[u32], n: usize) -> usize
     n
 }
 
-// The complex places' gaps are closed. Where there are none, nothing is stored.
+// The complex places' gaps are closed, and all places in use are known to be held.
 pub fn close_complexes(b: &mut [u32])
-    requires { ⌜ length (now b) ≡ size ⌝ }
+    requires { ⌜ (length (now b) ≡ size) × (Marked (now b)) ⌝ }
     ensures { λ _. ⌜ ComplexesClosed (now (b .entry)) (now (b .exit)) ⌝ }
 {
     let n = complexes_used(b);
     let mut j = held_complexes(b, n);
     if j == n {
+        b[828] = n as u32;
         return;
     }
     let mut i = j;
@@ -340,11 +425,12 @@ pub fn close_complexes(b: &mut [u32])
         j += 1;
     }
     b[777] = j as u32;
+    b[828] = j as u32;
 }
 
 // All gaps are closed.
 pub fn close_gaps(b: &mut [u32])
-    requires { ⌜ length (now b) ≡ size ⌝ }
+    requires { ⌜ (length (now b) ≡ size) × (Right (now b)) ⌝ }
     ensures { λ _. ⌜ GapsClosed (now (b .entry)) (now (b .exit)) ⌝ }
 {
     close_regulars(b);
@@ -521,10 +607,34 @@ fn load_series(b: &mut [u32], l: [Listed; 8])
     }
 }
 
-// A venue's numbers.
+fn bit(l: Legging) -> u16
+    ensures { λ r. ⌜ r ≡ bitOf l ⌝ }
+{
+    if l.quantity == 0 {
+        return 0;
+    }
+    1
+}
+
+// The mask of the legging places, counted.
+fn count_mask(b: &[u32]) -> u16
+    requires { ⌜ length (now b) ≡ size ⌝ }
+    ensures { λ r. ⌜ r ≡ mask (venueOf (now (b .entry)) .legging) ⌝ }
+{
+    let mut m: u16 = 0;
+    let mut i: usize = 16;
+    while 0 < i {
+        i -= 1;
+        let l = legging_at(b, i);
+        m = m * 2 + bit(l);
+    }
+    m
+}
+
+// A venue's numbers. No place is known to be held, the mask is counted, and the levels stay as they are.
 pub fn load(b: &mut [u32], v: Venue)
     requires { ⌜ (length (now b) ≡ size) × Loadable v ⌝ }
-    ensures { λ _. ⌜ Loaded v (now (b .exit)) ⌝ }
+    ensures { λ _. ⌜ Laid v (now (b .exit)) ⌝ }
 {
     let regular = v.regular;
     load_regulars(b, regular);
@@ -535,4 +645,8 @@ pub fn load(b: &mut [u32], v: Venue)
     let series = v.series;
     load_series(b, series);
     put_last(b, v.last);
+    let mask = count_mask(b);
+    b[827] = 0;
+    b[828] = 0;
+    b[829] = mask as u32;
 }

@@ -2,11 +2,12 @@
 use mathlib.Core.Path.{_≡_, refl, sym, ap, _∙_}
 use mathlib.Core.Bool.{Bool, true, false, not, _||_}
 use mathlib.Core.List.{List, [], _∷_, _++_, append-assoc, append-nil}
-use Prim.Native.Nat.{ℕ, suc, _+_, _*_, _≤_, _<_, _/_, _%_}
+use Prim.Native.Nat.{ℕ, zero, suc, _+_, _*_, _-_, _≤_, _<_, _/_, _%_, _^_}
 use native.Mathlib.Omega.{arith}
 use native.Mathlib.Numerals.{add-one}
+use native.Mathlib.Decide.{ℕ-discrete}
 use lib.Dec.{eqb}
-use lib.ListN.{length, getD, set, take, drop, drop-of-length-le}
+use lib.ListN.{length, getD, set, take, drop, take-append-drop, drop-of-length-le}
 use lib.Seq.{drop-cons, take-suc-set, drop-set-lt, take-all, set-getD}
 use borrow.Author.Tests.{eq-eqb, ne-eqb, eqb-true}
 use Rattle.rules.specs.declared.Legging.{Legging}
@@ -28,7 +29,7 @@ use Rattle.wire.specs.Stage.{stage, _does_}
 use Rattle.wire.proofs.Stages.{onward, does-nothing, does-room}
 use Rattle.places.specs.Layout.{size, leggingIn, venueOf, SameCounts}
 use Rattle.places.proofs.Tables.{upto-at, upto-length}
-use Rattle.removal.specs.Marks.{clearAt, verdictBy, markedBy}
+use Rattle.removal.specs.Marks.{clearAt, verdictBy, markAt, markedBy}
 
 -- The legging places of the numbers -----------------------------------------------------------
 
@@ -72,6 +73,21 @@ module _ (f : ℕ → Legging → Verdict) (v : Venue) where
       let b : take n (v .legging) ≡ v .legging = take-all n (v .legging) h in
       rw (a, b, append-nil)
 
+  -- nor is there anything to do where each of them stands
+  all-stand : (n : ℕ) (ls : List Legging) → ((k : ℕ) (l : Legging) → n ≤ k → f k l ≡ Stands) → (stayers f n ls ≡ ls) × (leavers f n ls ≡ [])
+  unfolding stayers leavers stay goes
+  all-stand n [] h = (refl, refl)
+  all-stand n (l ∷ ls) h =
+      let e = h n l (omega arith) in
+      let r = all-stand (suc n) ls (λ k x q. h k x (omega arith)) in
+      (rw (e, r .0), rw (e, r .1))
+
+  pub remove-over : (n : ℕ) → ((k : ℕ) (l : Legging) → n ≤ k → f k l ≡ Stands) → nothing v ≡ removeFrom f n v
+  unfolding removeFrom nothing withLegging
+  remove-over n h =
+      let r = all-stand n (drop n (v .legging)) h in
+      rw (r .0, r .1, take-append-drop n (v .legging))
+
   -- one place, and then the rest
   module _ (n : ℕ) (x : Legging) (h : n < length (v .legging)) (e : getD (v .legging) n noLegging ≡ x) where
     one-place : removeFrom f n v ≡ (clearAt n (f n x) v ⟫ removeFrom f (n + 1))
@@ -104,7 +120,7 @@ module _ (f : ℕ → Legging → Verdict) (v : Venue) where
 
 -- as many places in use after two steps
 pub counts-on : (a b c : List ℕ) → SameCounts a b → SameCounts b c → SameCounts a c
-counts-on a b c p q = record { regulars = q .regulars ∙ p .regulars; complexes = q .complexes ∙ p .complexes }
+counts-on a b c p q = record { regulars = q .regulars ∙ p .regulars; complexes = q .complexes ∙ p .complexes; right = λ h. q .right (p .right h) }
 
 -- its invariant: what is left to do from place n on is what there was to do
 pub record Removing (f : ℕ → Legging → Verdict) (b₀ out₀ : List ℕ) (at : ℕ) (b out : List ℕ) (pos n : ℕ) : Type 0 where
@@ -114,7 +130,7 @@ pub record Removing (f : ℕ → Legging → Verdict) (b₀ out₀ : List ℕ) (
   pub left : seen out pos does removeFrom f n (venueOf b) ≡ seen out₀ at does remove f (venueOf b₀)
 
 pub removing-start : (f : ℕ → Legging → Verdict) (b out : List ℕ) (at : ℕ) → length b ≡ size → Removing f b out at b out at 0
-removing-start f b out at h = record { few = omega arith; whole = h; counts = record { regulars = refl; complexes = refl }; left = remove-start f (venueOf b) (seen out at) }
+removing-start f b out at h = record { few = omega arith; whole = h; counts = record { regulars = refl; complexes = refl; right = λ h. h }; left = remove-start f (venueOf b) (seen out at) }
 
 module _ (f : ℕ → Legging → Verdict) {b₀ out₀ b out : List ℕ} {at pos n : ℕ} (i : Removing f b₀ out₀ at b out pos n) where
   -- the order at place n goes
@@ -137,13 +153,14 @@ module _ (f : ℕ → Legging → Verdict) {b₀ out₀ b out : List ℕ} {at po
   }
 
   -- nothing is left
+  ended : nothing (venueOf b) ≡ removeFrom f n (venueOf b) → (stage (venueOf b) out pos ≡ seen out₀ at does remove f (venueOf b₀)) × SameCounts b₀ b
+  ended e = (does-nothing (venueOf b) out pos ∙ ap (λ (z : Effect). seen out pos does z) e ∙ i .left, i .counts)
+
   pub removing-end : 16 ≤ n → (stage (venueOf b) out pos ≡ seen out₀ at does remove f (venueOf b₀)) × SameCounts b₀ b
-  removing-end h = (
-    does-nothing (venueOf b) out pos
-        ∙ ap (λ (e : Effect). seen out pos does e) (remove-end f (venueOf b) n (omega (arith, leggings-length b)))
-        ∙ i .left,
-    i .counts,
-  )
+  removing-end h = ended (remove-end f (venueOf b) n (omega (arith, leggings-length b)))
+
+  pub removing-over : ((k : ℕ) (l : Legging) → n ≤ k → f k l ≡ Stands) → (stage (venueOf b) out pos ≡ seen out₀ at does remove f (venueOf b₀)) × SameCounts b₀ b
+  removing-over h = ended (remove-over f (venueOf b) n h)
 
   pub removing-room : length out ≡ length out₀
   removing-room = does-room out out₀ pos at (removeFrom f n (venueOf b)) (remove f (venueOf b₀)) (i .left)
@@ -211,8 +228,57 @@ module _ (f g : ℕ → Legging → Verdict) where
       let r = same-from 0 (v .legging) (λ i q. let z : 0 + i ≡ i = omega arith in rw z (h i q)) in
       rw (r .0, r .1)
 
+-- Marks ---------------------------------------------------------------------------------------
+
+no-mark : (rest n : ℕ) → rest ≡ 0 → markAt rest n ≡ 0
+unfolding markAt
+no-mark rest zero h = omega arith
+no-mark rest (suc n) h = no-mark (rest / 16) n (omega arith)
+
+-- what is left of the marks at place n: those of the places from n on
+pub record Left (marks rest n : ℕ) : Type 0 where
+  pub small : rest < 16 ^ (16 - n)
+  pub same : (k : ℕ) → markAt rest k ≡ markAt marks (n + k)
+
+pub left-start : (marks : ℕ) → marks < 18446744073709551616 → Left marks marks 0
+left-start marks h = record { small = h; same = λ k. let y : k ≡ 0 + k = omega arith in ap (markAt marks) y }
+
+module _ {marks rest n : ℕ} (i : Left marks rest n) where
+  pub left-few : n ≤ 16 → 0 < rest → n < 16
+  left-few h q = go (ℕ-discrete n 16)
+    where
+      go : Dec (n ≡ 16) → n < 16
+      go (yes e) = let z : rest < 16 ^ (16 - 16) = rw e at (i .small) in absurd (omega arith)
+      go (no e) = omega arith
+
+  pub left-on : n < 16 → Left marks (rest / 16) (n + 1)
+  unfolding markAt
+  left-on h =
+      let z : 16 - n ≡ suc (16 - (n + 1)) = omega arith in
+      let s : rest < 16 ^ suc (16 - (n + 1)) = rw z at (i .small) in
+      record { small = omega arith; same = λ k. let y : n + suc k ≡ n + 1 + k = omega arith in i .same (suc k) ∙ ap (markAt marks) y }
+
+  -- the verdict of place n
+  pub left-here : (l : Legging) → markedBy marks n l ≡ verdictBy (rest % 16)
+  unfolding markedBy markAt
+  left-here l =
+      let z : n + 0 ≡ n = omega arith in
+      ap verdictBy (sym (i .same 0 ∙ ap (markAt marks) z))
+
+  -- where nothing is left, the places from n on stand
+  pub left-over : rest ≡ 0 → (k : ℕ) (l : Legging) → n ≤ k → markedBy marks k l ≡ Stands
+  unfolding markedBy verdictBy
+  left-over h k l q =
+      let z : k ≡ n + (k - n) = omega arith in
+      ap verdictBy (ap (markAt marks) z ∙ sym (i .same (k - n)) ∙ no-mark rest (k - n) h)
+
+-- no marks remove nothing
+pub unmarked : (marks : ℕ) (v : Venue) → marks ≡ 0 → nothing v ≡ remove (markedBy marks) v
+unfolding markedBy verdictBy removeFrom remove
+unmarked marks v h = remove-over (markedBy marks) v 0 (λ k l q. ap verdictBy (no-mark marks k h))
+
 -- marks that are the numbers of f's verdicts remove by f
-pub marked-is : (f : ℕ → Legging → Verdict) (marks b : List ℕ) → ((n : ℕ) → n < 16 → getD marks n 0 ≡ verdictNumber (f n (leggingIn b n))) →
+pub marked-is : (f : ℕ → Legging → Verdict) (marks : ℕ) (b : List ℕ) → ((n : ℕ) → n < 16 → markAt marks n ≡ verdictNumber (f n (leggingIn b n))) →
     remove (markedBy marks) (venueOf b) ≡ remove f (venueOf b)
 unfolding markedBy
 marked-is f marks b h = remove-same (markedBy marks) f (venueOf b) (λ n q. go n (omega (arith, leggings-length b)))

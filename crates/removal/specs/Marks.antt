@@ -1,6 +1,5 @@
 -- Removal place by place, and by a mark for each place.
-use mathlib.Core.List.{List}
-use Prim.Native.Nat.{ℕ}
+use Prim.Native.Nat.{ℕ, zero, suc, _/_, _%_}
 use lib.Dec.{eqb}
 use lib.ListN.{getD}
 use Rattle.rules.specs.declared.Legging.{Legging}
@@ -33,6 +32,11 @@ verdictBy x =
     else if eqb x 8 then Fails Touched
     else Stands
 
--- each place by the number that stands for it in a list
-unfoldable pub markedBy : (marks : List ℕ) → (place : ℕ) → Legging → Verdict
-markedBy marks n l = verdictBy (getD marks n 0)
+-- the number of a place in marks: a digit to the base 16 for each place, the lowest that of place 0
+unfoldable pub markAt : (marks place : ℕ) → ℕ
+markAt marks zero = marks % 16
+markAt marks (suc n) = markAt (marks / 16) n
+
+-- each place by its number
+unfoldable pub markedBy : (marks place : ℕ) → Legging → Verdict
+markedBy marks n l = verdictBy (markAt marks n)

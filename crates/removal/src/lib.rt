@@ -115,17 +115,20 @@ pub fn verdict_by(x: u8) -> Verdict
 }
 
 // The legging orders at the places that have a cause's number in `marks` go, each for that cause.
-pub fn remove_marked(b: &mut [u32], marks: [u8; 16], out: &mut [u8], at: usize) -> usize
+pub fn remove_marked(b: &mut [u32], marks: u64, out: &mut [u8], at: usize) -> usize
     requires { ⌜ length (now b) ≡ size ⌝ }
     ensures { λ r. ⌜ stage (venueOf (now (b .exit))) (now (out .exit)) r ≡ seen (now (out .entry)) at does remove (markedBy marks) (venueOf (now (b .entry))) ⌝ }
     ensures counts { λ _. ⌜ SameCounts (now (b .entry)) (now (b .exit)) ⌝ }
 {
     let mut pos = at;
     let mut n: usize = 0;
-    while n < 16 {
+    let mut rest = marks;
+    while 0 < rest {
         let place = n;
         n += 1;
-        let found = verdict_by(marks[place]);
+        let x = (rest % 16) as u8;
+        rest = rest / 16;
+        let found = verdict_by(x);
         let Verdict::Fails(cause) = found else {
             continue;
         };

@@ -18,6 +18,7 @@ use Rattle.rules.specs.Sound.{apart, listedInRange, leggingsSound, regularsSoun
 use Rattle.rules.proofs.Tests.{and-l, and-r}
 use Rattle.rules.proofs.Closing.{packed-free}
 use Rattle.rules.proofs.Arranging.{arranged-out, blank-free, blank-freeC, closed-same}
+use Rattle.places.proofs.Orderly.{sound-orderly}
 use Rattle.places.specs.Layout.{OnSide, Loadable, Loaded, venueOf}
 use Rattle.soundness.specs.Checked.{placesSound, eight, ordersSound, Checked}
 
@@ -49,6 +50,7 @@ books-load v r c e =
     record {
       regulars = record { dense = a .dense; blank = rw p at (packed-free holdsRegular noRegular (v .regular)); asked = λ i h. regular-side _ _ (a .asks i h) };
       complexes = record { dense = b .dense; blank = rw q at (packed-free holdsComplex noComplex (v .complex)); asked = λ i h. complex-sides _ _ (b .asks i h) };
+      orders = sound-orderly v r;
     }
 
 pub places-load : (v : Venue) → placesSound v ≡ true → Loadable v

@@ -1,6 +1,6 @@
 // Whether a venue that is held by value is sound. One that is sound is loaded on the way.
 use book::Found;
-use levels::Level;
+use places::Level;
 use rules::Complex;
 use rules::Legging;
 use rules::Listed;
@@ -16,7 +16,7 @@ ghost use Rattle.rules.specs.Base.{all};
 ghost use Rattle.rules.specs.Places.{blankRegular, blankComplex, blankLegging};
 ghost use Rattle.rules.specs.Standing.{hasLeg};
 ghost use Rattle.rules.specs.Sound.{apart, listedInRange, leggingSound, leggingsSound, idsDistinct};
-ghost use Rattle.places.specs.Layout.{size, leggingIn, venueOf};
+ghost use Rattle.places.specs.Layout.{size, leggingIn, venueOf, Right};
 ghost use Rattle.levels.specs.Grid.{GridOf};
 ghost use Rattle.soundness.specs.Checked.{regularsFrom, complexesFrom, placesSound, isAlone, eight, leggingInRange, hasHome, ordersSound, Checked};
 
@@ -230,30 +230,28 @@ fn ids_distinct(b: &[u32]) -> bool
 }
 
 // A series is neither locked nor crossed, counting own prices.
-fn is_apart(b: &[u32], g: [[Level; 2]; 8], s: u8) -> bool
-    requires { ⌜ (length (now b) ≡ size) × (GridOf g (venueOf (now b) .regular)) × (s < 8) ⌝ }
+fn is_apart(b: &[u32], s: u8) -> bool
+    requires { ⌜ (length (now b) ≡ size) × (Right (now b)) × (s < 8) ⌝ }
     ensures { λ r. ⌜ r ≡ apart (venueOf (now (b .entry))) s ⌝ }
 {
-    let bids = levels::level_at(g, s, 0);
-    let bid = levels::best_own(b, bids.price, s, 0);
+    let bid = levels::best_own(b, levels::best_regular(b, s, 0), s, 0);
     if bid == 0 {
         return true;
     }
-    let offers = levels::level_at(g, s, 1);
-    let offer = levels::best_own(b, offers.price, s, 1);
+    let offer = levels::best_own(b, levels::best_regular(b, s, 1), s, 1);
     if offer == 0 {
         return true;
     }
     bid < offer
 }
 
-fn all_apart(b: &[u32], g: [[Level; 2]; 8]) -> bool
-    requires { ⌜ (length (now b) ≡ size) × (GridOf g (venueOf (now b) .regular)) ⌝ }
+fn all_apart(b: &[u32]) -> bool
+    requires { ⌜ (length (now b) ≡ size) × (Right (now b)) ⌝ }
     ensures { λ r. ⌜ r ≡ all (apart (venueOf (now (b .entry)))) eight ⌝ }
 {
     let mut s: u8 = 0;
     while s < 8 {
-        if !is_apart(b, g, s) {
+        if !is_apart(b, s) {
             return false;
         }
         s += 1;
@@ -362,16 +360,16 @@ fn leggings_sound(b: &[u32], g: [[Level; 2]; 8]) -> bool
 
 // Ids are distinct, no series is locked or crossed, and each legging order is sound.
 fn orders_sound(b: &[u32]) -> bool
-    requires { ⌜ length (now b) ≡ size ⌝ }
+    requires { ⌜ (length (now b) ≡ size) × (Right (now b)) ⌝ }
     ensures { λ r. ⌜ r ≡ ordersSound (venueOf (now (b .entry))) ⌝ }
 {
     if !ids_distinct(b) {
         return false;
     }
-    let g = levels::levels(b);
-    if !all_apart(b, g) {
+    if !all_apart(b) {
         return false;
     }
+    let g = levels::levels(b);
     leggings_sound(b, g)
 }
 
@@ -383,6 +381,6 @@ pub fn load_sound(b: &mut [u32], v: Venue) -> bool
     if !places_sound(v) {
         return false;
     }
-    places::load(b, v);
+    levels::load(b, v);
     orders_sound(b)
 }

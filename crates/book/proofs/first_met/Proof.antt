@@ -1,135 +1,63 @@
 -- `book::first_met` meets its contract.
-use mathlib.Core.Path.{_≡_, refl, sym, ap, _∙_}
-use Prim.Native.Nat.{ℕ, _-_, _≤_}
-use native.Mathlib.Omega.{arith}
+use mathlib.Core.Path.{_≡_, sym, ap, _∙_}
+use Prim.Native.Nat.{ℕ}
 use borrow.Author.Tests.{not-true, not-false}
-use Rattle.rules.specs.Words.{placeOf}
-use Rattle.rules.specs.Order.{isMet, priceThenId}
-use Rattle.places.specs.Layout.{regularIn, regularsUsed, venueOf}
-use Rattle.places.proofs.Parts.{regulars-few}
-use Rattle.book.specs.Picks.{noBest, byPrice}
-use Rattle.book.proofs.Picking.{kept, from, scan-none, scan-past, scan-on, scan-end, keepRegular, rank-price, met-free, met-side, met-key, regular-answer}
+use Rattle.rules.specs.Base.{first}
+use Rattle.rules.specs.Words.{opposite, earlier}
+use Rattle.rules.specs.Prices.{showsFor, bestIn, bestRegular}
+use Rattle.rules.specs.Generation.{reachesAny}
+use Rattle.places.specs.Layout.{venueOf}
+use Rattle.book.specs.Picks.{pickOf}
+use Rattle.book.proofs.Unmet.{unmet}
+use Rattle.book.proofs.Earliest.{met-earliest}
 use borrow.Author.Needs.{needs}
 use Rattle.book.proofs.first_met.Statement.{statement}
 use Rattle.book.proofs.first_met.Tie as tie
 
-abbrev Inv-loop : tie.InvT-loop
-Inv-loop b series side price other key n best₀ i₀ best i = (i ≤ regularsUsed b) × (best ≡ kept noBest keepRegular (from (isMet series side price) priceThenId (regularIn b) (regularsUsed b) i))
-
-abbrev μ-loop : tie.MeasureT-loop
-μ-loop b series side price other key n best₀ i₀ best i = i
-
-opposite-of-requires : tie.Need-opposite-of-requires Inv-loop μ-loop
+opposite-of-requires : tie.Need-opposite-of-requires
 opposite-of-requires c κs = search needs
 
-place-of-requires : tie.Need-place-of-requires Inv-loop μ-loop
-place-of-requires c κs = search needs
+best-regular-requires : tie.Need-best-regular-requires
+unfolding opposite
+best-regular-requires c κs = search needs
 
-regulars-used-requires : tie.Need-regulars-used-requires Inv-loop μ-loop
-regulars-used-requires c κs = search needs
+reaches-any-requires : tie.Need-reaches-any-requires
+reaches-any-requires c κs = search needs
 
-loop-holds : tie.Need-loop-holds Inv-loop μ-loop
-loop-holds c =
-    let p4 = c .before .before .before .before in (
-      search needs,
-      scan-none (isMet (p4 .args .series) (p4 .args .side) (p4 .args .price)) priceThenId noBest keepRegular _ _
-          ∙ ap
-          (λ (k : ℕ). kept noBest keepRegular (from (isMet (p4 .args .series) (p4 .args .side) (p4 .args .price)) priceThenId (regularIn (p4 .args .b .now)) (regularsUsed (p4 .args .b .now)) k))
-          (sym (c .regulars-used .ensures .0)),
-    )
-
-sub-i : tie.Need-sub-i Inv-loop μ-loop
-sub-i c = search needs
-
-key-at-requires : tie.Need-key-at-requires Inv-loop μ-loop
-key-at-requires c κs = let w = regulars-few (c .before .before .before .before .before .before .args .b .now) in search needs
-
-loop-less : tie.Need-loop-less Inv-loop μ-loop
-loop-less c = search needs
-
-loop-again : tie.Need-loop-again Inv-loop μ-loop
-loop-again c =
+-- the best price of the other side, as it is asked
+best-asked : (c : tie.After-reaches-any) →
+    c .reaches-any .result
+    ≡ reachesAny (c .before .before .before .before .args .side) (c .before .before .before .before .args .price) (bestIn (c .before .before .before .before .args .series) (opposite (c .before .before .before .before .args .side)) (venueOf (c .before .before .before .before .args .b .now) .regular))
+unfolding bestRegular
+best-asked c =
     let p1 = c .before in
-    let p3 = p1 .before .before in
-    let p5 = p3 .before .before in
-    let p6 = p5 .before in
-    let p8 = p6 .before .before in (
-      omega arith,
-      scan-past _ _ _ _ _ _ _ (omega arith) (omega arith) _ (p3 .loop .inv .1) _ refl
-          (met-key (p8 .args .series) (p8 .args .side) (p8 .args .price) _
-          (λ e. c .if1 .taken (p1 .key-at .ensures ∙ e ∙ sym (p5 .place-of .ensures ∙ ap (placeOf (p8 .args .series)) (p6 .opposite-of .ensures))))),
-    )
+    let p4 = p1 .before .before .before in
+    c .reaches-any .ensures
+    ∙ ap (reachesAny (p4 .args .side) (p4 .args .price)) (p1 .best-regular .ensures ∙ ap (λ (d : ℕ). bestIn (p4 .args .series) d (venueOf (p4 .args .b .now) .regular)) (p1 .before .opposite-of .ensures))
 
-regular-at-requires : tie.Need-regular-at-requires Inv-loop μ-loop
-regular-at-requires c κs = let w = regulars-few (c .before .before .before .before .before .before .before .before .args .b .now) in search needs
+returns : tie.Need-returns
+unfolding pickOf
+returns c =
+    let p5 = c .before .before .before .before .before in
+    sym (ap pickOf (unmet (p5 .args .series) (p5 .args .side) (p5 .args .price) (venueOf (p5 .args .b .now) .regular) (p5 .pre .1 .orders) (sym (best-asked (c .before)) ∙ not-true _ (c .if1 .taken))))
 
-is-met-requires : tie.Need-is-met-requires Inv-loop μ-loop
-is-met-requires c κs = search needs
+first-for-requires : tie.Need-first-for-requires
+first-for-requires c κs = search needs
 
-loop-less-2 : tie.Need-loop-less-2 Inv-loop μ-loop
-loop-less-2 c = search needs
-
-loop-again-2 : tie.Need-loop-again-2 Inv-loop μ-loop
-loop-again-2 c =
-    let p2 = c .before .before in
-    let p6 = p2 .before .before .before .before in (
-      omega arith,
-      scan-past _ _ _ _ _ _ _ (omega arith) (omega arith) _ (p6 .loop .inv .1) _ (p2 .regular-at .ensures)
-          (sym (c .before .is-met .ensures) ∙ not-true _ (c .if2 .taken)),
-    )
-
-by-price-requires : tie.Need-by-price-requires Inv-loop μ-loop
-by-price-requires c κs = search needs
-
-loop-less-3 : tie.Need-loop-less-3 Inv-loop μ-loop
-loop-less-3 c = search needs
-
-loop-again-3 : tie.Need-loop-again-3 Inv-loop μ-loop
-loop-again-3 c =
+returns-2 : tie.Need-returns-2
+unfolding bestRegular
+returns-2 c =
     let p2 = c .before .before in
     let p3 = p2 .before in
-    let p7 = p3 .before .before .before .before in
-    let p10 = p7 .before .before .before in
-    let p12 = p10 .before .before in (
-      omega arith,
-      scan-on _ _ _ _ _ _ _ (omega arith) (omega arith) _ (p7 .loop .inv .1) _ (p3 .regular-at .ensures) 128
-          (let w = regulars-few (p12 .args .b .now) in omega arith) (sym (p2 .is-met .ensures) ∙ not-false _ (c .before .if2 .left))
-          (byPrice (p10 .opposite-of .result) (p7 .loop .i - 1) (p3 .regular-at .result .price) (p3 .regular-at .result .id)) _ (c .by-price .ensures)
-          (rank-price _ _ (λ m h. met-side _ _ _ m h ∙ sym (p10 .opposite-of .ensures)) _ _),
-    )
-
-pick-at-requires : tie.Need-pick-at-requires Inv-loop μ-loop
-pick-at-requires c κs = search needs
-
-returns : tie.Need-returns Inv-loop μ-loop
-unfolding venueOf
-returns c =
-    let p2 = c .before .before in
-    let p7 = p2 .before .before .before .before .before in
-    regular-answer _ _ (met-free (p7 .args .series) (p7 .args .side) (p7 .args .price)) (p7 .args .b .now) _ _
-    (scan-end _ _ _ _ _ (met-free (p7 .args .series) (p7 .args .side) (p7 .args .price)) _ _ 128 _ (omega arith) _ (p2 .loop .inv .1))
-    (c .pick-at .ensures)
+    let p4 = p3 .before in
+    let p6 = p4 .before .before in
+    let os = venueOf (p6 .args .b .now) .regular in
+    c .first-for .ensures
+    ∙ ap (λ (d : ℕ). pickOf (first (showsFor (p6 .args .series) d (p3 .best-regular .result)) earlier os)) (p4 .opposite-of .ensures)
+    ∙ ap (λ (p : ℕ). pickOf (first (showsFor (p6 .args .series) (opposite (p6 .args .side)) p) earlier os))
+    (p3 .best-regular .ensures ∙ ap (λ (d : ℕ). bestIn (p6 .args .series) d os) (p4 .opposite-of .ensures))
+    ∙ sym (ap pickOf (met-earliest (p6 .args .series) (p6 .args .side) (p6 .args .price) os (p6 .pre .1 .orders) (sym (best-asked p2) ∙ not-false _ (c .before .if1 .left))))
 
 pub first-met-spec : {M : Type 1} → statement M
 first-met-spec =
-    tie.close
-    (tie.spec
-    Inv-loop
-    μ-loop
-    opposite-of-requires
-    place-of-requires
-    regulars-used-requires
-    loop-holds
-    sub-i
-    key-at-requires
-    loop-less
-    loop-again
-    regular-at-requires
-    is-met-requires
-    loop-less-2
-    loop-again-2
-    by-price-requires
-    loop-less-3
-    loop-again-3
-    pick-at-requires
-    returns)
+    tie.close (tie.spec opposite-of-requires best-regular-requires reaches-any-requires returns first-for-requires returns-2)

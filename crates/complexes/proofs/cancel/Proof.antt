@@ -1,4 +1,5 @@
 -- `complexes::cancel` meets its contract.
+use mathlib.Core.Path.{_∙_}
 use Rattle.rules.specs.Standing.{settle}
 use Rattle.rules.specs.Complex.{cancel}
 use Rattle.wire.proofs.Stages.{follow}
@@ -17,7 +18,7 @@ withdraw-requires : tie.Need-withdraw-requires
 withdraw-requires c κs = search needs
 
 settle-all-requires : tie.Need-settle-all-requires
-settle-all-requires c κs = search needs
+settle-all-requires c κs = let w = c .before .before .before .before .before .before .withdraw in let s = c .before .before .before .before .before .before .before .before .before .before .before in (w .kept .0 ∙ s .pre .0, w .ensures .1 .right (s .pre .1 .right))
 
 same-length : tie.Need-same-length
 same-length c = search needs

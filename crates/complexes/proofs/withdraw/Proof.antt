@@ -26,7 +26,7 @@ enum-told : tie.Need-enum-told
 enum-told c = search needs
 
 withdraw-complex-requires : tie.Need-withdraw-complex-requires
-withdraw-complex-requires c κs = (c .before .before .before .before .before .before .before .before .pre .0, or-r (restsRegular (venueOf (c .before .before .before .before .before .before .before .before .args .b .now)) (c .before .before .before .before .before .before .before .before .args .id)) (restsComplex (venueOf (c .before .before .before .before .before .before .before .before .args .b .now)) (c .before .before .before .before .before .before .before .before .args .id)) (regular-not (c .before .before .before .before .before .before .before .before .args .b .now) (c .before .before .before .before .before .before .before .before .args .id) (sym (c .before .before .enum-told .given .1) ∙ c .before .before .before .before .regular-place .ensures)) (c .before .before .before .before .before .before .before .before .pre .1))
+withdraw-complex-requires c κs = (c .before .before .before .before .before .before .before .before .pre .0, or-r (restsRegular (venueOf (c .before .before .before .before .before .before .before .before .args .b .now)) (c .before .before .before .before .before .before .before .before .args .id)) (restsComplex (venueOf (c .before .before .before .before .before .before .before .before .args .b .now)) (c .before .before .before .before .before .before .before .before .args .id)) (regular-not (c .before .before .before .before .before .before .before .before .args .b .now) (c .before .before .before .before .before .before .before .before .args .id) (sym (c .before .before .enum-told .given .1) ∙ c .before .before .before .before .regular-place .ensures)) (c .before .before .before .before .before .before .before .before .pre .2))
 
 same-length : tie.Need-same-length
 same-length c = search needs

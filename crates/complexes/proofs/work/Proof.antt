@@ -5,7 +5,7 @@ use Rattle.places.proofs.Parts.{complexes-few, complex-at}
 use Rattle.levels.specs.Grid.{LegsIn}
 use Rattle.levels.proofs.Sides.{legs-in}
 use Rattle.removal.proofs.Removing.{counts-on}
-use Rattle.complexes.proofs.Working.{quiet-grid, quiet-book, crosses-quiet, touch-quiet, touch-taken, book-on, work-closed, work-steps}
+use Rattle.complexes.proofs.Working.{work-closed, work-steps}
 use borrow.Author.Needs.{needs}
 use Rattle.complexes.proofs.work.Statement.{statement}
 use Rattle.complexes.proofs.work.Tie as tie
@@ -20,35 +20,23 @@ same-length : tie.Need-same-length
 same-length c = search needs
 
 returns : tie.Need-returns
-returns c = (work-closed (c .before .before .before .before .before .before .before .args .i) _ _ (c .before .before .before .complex-at .ensures ∙ sym (complex-at (c .before .before .before .before .before .before .before .args .b .now) (c .before .before .before .before .before .before .before .args .i) (c .before .before .before .before .before .before .before .pre .2))) _ _ (sym (c .before .any-closed .ensures) ∙ c .if1 .taken), (record { regulars = refl; complexes = refl }, record { same = λ _. refl }))
+returns c = (work-closed (c .before .before .before .before .before .before .before .args .i) _ _ (c .before .before .before .complex-at .ensures ∙ sym (complex-at (c .before .before .before .before .before .before .before .args .b .now) (c .before .before .before .before .before .before .before .args .i) (c .before .before .before .before .before .before .before .pre .2))) _ _ (sym (c .before .any-closed .ensures) ∙ c .if1 .taken), record { regulars = refl; complexes = refl; right = λ h. h })
 
 cross-all-requires : tie.Need-cross-all-requires
-cross-all-requires c κs = search needs
-
-taken-at-requires : tie.Need-taken-at-requires
-taken-at-requires c κs =
-    let x = c .before .before .before .before .before .cross-all in
-    let s = c .before .before .before .before .before .before .before .before .before .before .before .before .before .before .before in (
-      x .kept .0 ∙ s .pre .0,
-      quiet-grid _ _ _ _ _ _ _ (x .ensures .0) (crosses-quiet (s .args .i) _ _) (s .args .g) (s .pre .1),
-      omega (arith, x .ensures .1 .complexes, s .pre .2),
-    )
+cross-all-requires c κs = c .before .before .before .before .before .before .before .before .before .pre
 
 touch-requires : tie.Need-touch-requires
 touch-requires c κs =
-    let x = c .before .before .before .before .before .before .before .before .cross-all in
-    let s = c .before .before .before .before .before .before .before .before .before .before .before .before .before .before .before .before .before .before in
-    (x .kept .0 ∙ s .pre .0, c .before .before .taken-at .ensures, omega (arith, x .ensures .1 .complexes, s .pre .2))
+    let x = c .before .before .before .before .before .before .cross-all in
+    let s = c .before .before .before .before .before .before .before .before .before .before .before .before .before .before .before .before in
+    (x .kept .0 ∙ s .pre .0, x .ensures .1 .right (s .pre .1), omega (arith, x .ensures .1 .complexes, s .pre .2))
 
 leg-in-all-requires : tie.Need-leg-in-all-requires
 leg-in-all-requires c κs =
     let t = c .before .before .before .before .before .before .touch in
-    let x = c .before .before .before .before .before .before .before .before .before .before .before .before .before .before .before .cross-all in
-    let s = c .before .before .before .before .before .before .before .before .before .before .before .before .before .before .before .before .before .before .before .before .before .before .before .before .before in (
-      t .kept .0 ∙ x .kept .0 ∙ s .pre .0,
-      touch-taken (c .before .before .before .before .before .before .before .before .before .taken-at .result) (s .args .i) _ _ _ _ _ _ (t .ensures .0) (c .before .before .before .before .before .before .before .before .before .taken-at .ensures),
-      omega (arith, t .ensures .1 .complexes, x .ensures .1 .complexes, s .pre .2),
-    )
+    let x = c .before .before .before .before .before .before .before .before .before .before .before .before .before .cross-all in
+    let s = c .before .before .before .before .before .before .before .before .before .before .before .before .before .before .before .before .before .before .before .before .before .before .before in
+    (t .kept .0 ∙ x .kept .0 ∙ s .pre .0, t .ensures .1 .right (x .ensures .1 .right (s .pre .1)), omega (arith, t .ensures .1 .complexes, x .ensures .1 .complexes, s .pre .2))
 
 same-length-2 : tie.Need-same-length-2
 same-length-2 c = search needs
@@ -60,16 +48,11 @@ returns-2 : tie.Need-returns-2
 returns-2 c =
     let w = c .before .before .before .before .leg-in-all in
     let t = c .before .before .before .before .before .before .before .before .before .before .before .touch in
-    let x = c .before .before .before .before .before .before .before .before .before .before .before .before .before .before .before .before .before .before .before .before .cross-all in
-    let s = c .before .before .before .before .before .before .before .before .before .before .before .before .before .before .before .before .before .before .before .before .before .before .before .before .before .before .before .before .before .before in (
-      work-steps (s .args .i) _ _ (c .before .before .before .before .before .before .before .before .before .before .before .before .before .before .before .before .before .before .before .before .before .before .before .before .before .before .complex-at .ensures ∙ sym (complex-at (s .args .b .now) (s .args .i) (s .pre .2))) _ _ _ _ _ _ _ _ _ _ _
-          (sym (c .before .before .before .before .before .before .before .before .before .before .before .before .before .before .before .before .before .before .before .before .before .before .before .before .any-closed .ensures) ∙ c .before .before .before .before .before .before .before .before .before .before .before .before .before .before .before .before .before .before .before .before .before .before .before .if1 .left) (x .ensures .0) (t .ensures .0) (w .ensures .0),
-      (
-        counts-on _ _ _ (counts-on _ _ _ (x .ensures .1) (t .ensures .1)) (w .ensures .1 .0),
-        book-on _ _ _ _
-            (quiet-book _ _ _ _ _ _ _ (t .ensures .0) (touch-quiet (s .args .i) _) ∙ quiet-book _ _ _ _ _ _ _ (x .ensures .0) (crosses-quiet (s .args .i) _ _))
-            (w .ensures .1 .1),
-      ),
+    let x = c .before .before .before .before .before .before .before .before .before .before .before .before .before .before .before .before .before .before .cross-all in
+    let s = c .before .before .before .before .before .before .before .before .before .before .before .before .before .before .before .before .before .before .before .before .before .before .before .before .before .before .before .before in (
+      work-steps (s .args .i) _ _ (c .before .before .before .before .before .before .before .before .before .before .before .before .before .before .before .before .before .before .before .before .before .before .before .before .complex-at .ensures ∙ sym (complex-at (s .args .b .now) (s .args .i) (s .pre .2))) _ _ _ _ _ _ _ _ _ _ _
+          (sym (c .before .before .before .before .before .before .before .before .before .before .before .before .before .before .before .before .before .before .before .before .before .before .any-closed .ensures) ∙ c .before .before .before .before .before .before .before .before .before .before .before .before .before .before .before .before .before .before .before .before .before .if1 .left) (x .ensures .0) (t .ensures .0) (w .ensures .0),
+      counts-on _ _ _ (counts-on _ _ _ (x .ensures .1) (t .ensures .1)) (w .ensures .1),
     )
 
 pub work-spec : {M : Type 1} → statement M
@@ -81,7 +64,6 @@ work-spec =
     same-length
     returns
     cross-all-requires
-    taken-at-requires
     touch-requires
     leg-in-all-requires
     same-length-2

@@ -1,17 +1,12 @@
 -- `complexes::work_each` meets its contract.
-use mathlib.Core.Path.{refl, sym, _∙_}
-use mathlib.Core.Bool.{true≢false}
+use mathlib.Core.Path.{sym, _∙_}
 use Prim.Native.Nat.{_+_, _-_}
 use native.Mathlib.Omega.{arith}
 use Rattle.rules.specs.Complex.{work, each}
-use Rattle.rules.proofs.Tests.{not-out}
 use Rattle.rules.proofs.Sweeping.{work-fewer}
 use Rattle.places.specs.Layout.{venueOf}
 use Rattle.places.proofs.Parts.{complex-at}
-use Rattle.levels.specs.Grid.{GridOf}
 use Rattle.crossing.proofs.Loops.{Doing, doing-start, doing-turn, doing-end, doing-room}
-use Rattle.complexes.specs.Grids.{SameBook}
-use Rattle.complexes.proofs.Working.{kept-grid, book-kept}
 use Rattle.complexes.proofs.Walking.{walked, walked-none, walked-past, walked-turn, each-walked, doing-past}
 use borrow.Author.Needs.{needs}
 use Rattle.complexes.proofs.work_each.Statement.{statement}
@@ -19,60 +14,50 @@ use Rattle.complexes.proofs.work_each.Tie as tie
 use Rattle.complexes.proofs.work_each.Reads as reads
 use Rattle.complexes.proofs.work_each.Lts as lts
 use Rattle.complexes.proofs.work.Reads as work-reads
-use Rattle.levels.proofs.levels.Reads as levels-reads
 use Rattle.places.proofs.complex_at.Reads as complex-at-reads
 use Rattle.places.proofs.complexes_used.Reads as complexes-used-reads
 
 abbrev Inv-loop : tie.InvT-loop
-Inv-loop b₀ out₀ at used grid₀ pos₀ traded₀ k₀ b out grid pos traded k = (Doing (each 32 work 0 (venueOf b₀)) (walked (used - k) work k) b₀ out₀ at b out pos) × (GridOf grid (venueOf b .regular)) × (SameBook traded b₀ b)
+Inv-loop b₀ out₀ at used pos₀ k₀ b out pos k = Doing (each 32 work 0 (venueOf b₀)) (walked (used - k) work k) b₀ out₀ at b out pos
 
 abbrev μ-loop : tie.MeasureT-loop
-μ-loop b₀ out₀ at used grid₀ pos₀ traded₀ k₀ b out grid pos traded k = used - k
+μ-loop b₀ out₀ at used pos₀ k₀ b out pos k = used - k
 
 complexes-used-requires : tie.Need-complexes-used-requires Inv-loop μ-loop
 complexes-used-requires c κs = c .before .before .before .pre .0
 
 loop-holds : tie.Need-loop-holds Inv-loop μ-loop
-loop-holds c = (doing-start _ _ _ _ _ (c .before .before .before .before .pre .0) (each-walked work work-fewer (c .before .before .before .before .args .b .now) (c .complexes-used .result - 0) (omega (arith, c .complexes-used .ensures .0)) (c .before .before .before .before .pre .2)), c .before .before .before .before .pre .1, record { same = λ _. refl })
+loop-holds c = doing-start _ _ _ _ _ (c .before .before .before .before .pre .0) (each-walked work work-fewer (c .before .before .before .before .args .b .now) (c .complexes-used .result - 0) (omega (arith, c .complexes-used .ensures .0)) (c .before .before .before .before .pre .2))
 
 add-k : tie.Need-add-k Inv-loop μ-loop
 add-k c = search needs
 
 complex-at-requires : tie.Need-complex-at-requires Inv-loop μ-loop
-complex-at-requires c κs = (c .before .before .loop .inv .0 .whole, omega (arith, c .before .loop-test .taken, c .before .before .before .complexes-used .ensures .1))
+complex-at-requires c κs = (c .before .before .loop .inv .whole, omega (arith, c .before .loop-test .taken, c .before .before .before .complexes-used .ensures .1))
 
 loop-less : tie.Need-loop-less Inv-loop μ-loop
 loop-less c = omega (arith, c .before .before .before .before .loop-test .taken)
 
 loop-again : tie.Need-loop-again Inv-loop μ-loop
-loop-again c = let l = c .before .before .before .before .before .loop in let n = c .before .before .before .before .before .before .complexes-used .result in (doing-past (l .inv .0) _ (walked-past work (venueOf (l .b)) (n - l .k) (n - (l .k + 1)) (l .k) (omega (arith, c .before .before .before .before .loop-test .taken)) (c .before .before .complex-at .result) (c .before .before .complex-at .ensures ∙ sym (complex-at (l .b) (l .k) (omega (arith, c .before .before .before .before .loop-test .taken, c .before .before .before .before .before .before .complexes-used .ensures .0, l .inv .0 .counts .complexes)))) (c .if1 .taken)), l .inv .1, l .inv .2)
+loop-again c = let l = c .before .before .before .before .before .loop in let n = c .before .before .before .before .before .before .complexes-used .result in doing-past (l .inv) _ (walked-past work (venueOf (l .b)) (n - l .k) (n - (l .k + 1)) (l .k) (omega (arith, c .before .before .before .before .loop-test .taken)) (c .before .before .complex-at .result) (c .before .before .complex-at .ensures ∙ sym (complex-at (l .b) (l .k) (omega (arith, c .before .before .before .before .loop-test .taken, c .before .before .before .before .before .before .complexes-used .ensures .0, l .inv .counts .complexes)))) (c .if1 .taken))
 
 work-requires : tie.Need-work-requires Inv-loop μ-loop
-work-requires c κs = (c .before .before .before .before .before .before .before .loop .inv .0 .whole, c .before .before .before .before .before .before .before .loop .inv .1, omega (arith, c .before .before .before .before .before .before .loop-test .taken, c .before .before .before .before .before .before .before .before .complexes-used .ensures .0, c .before .before .before .before .before .before .before .loop .inv .0 .counts .complexes))
+work-requires c κs = (c .before .before .before .before .before .before .before .loop .inv .whole, c .before .before .before .before .before .before .before .loop .inv .counts .right (c .before .before .before .before .before .before .before .before .before .before .before .before .pre .1), omega (arith, c .before .before .before .before .before .before .loop-test .taken, c .before .before .before .before .before .before .before .before .complexes-used .ensures .0, c .before .before .before .before .before .before .before .loop .inv .counts .complexes))
 
 loop-less-2 : tie.Need-loop-less-2 Inv-loop μ-loop
-loop-less-2 c = omega (arith, c .before .before .before .before .before .before .before .before .before .before .before .before .before .loop-test .taken)
+loop-less-2 c = omega (arith, c .before .before .before .before .before .before .before .before .before .before .before .loop-test .taken)
 
 loop-again-2 : tie.Need-loop-again-2 Inv-loop μ-loop
-loop-again-2 c = let l = c .before .before .before .before .before .before .before .before .before .before .before .before .before .before .loop in let n = c .before .before .before .before .before .before .before .before .before .before .before .before .before .before .before .complexes-used .result in (doing-turn (l .inv .0) _ _ _ _ _ (walked-turn work (venueOf (l .b)) (n - l .k) (n - (l .k + 1)) (l .k) (omega (arith, c .before .before .before .before .before .before .before .before .before .before .before .before .before .loop-test .taken)) (c .before .before .before .before .before .before .before .before .before .before .before .complex-at .result) (c .before .before .before .before .before .before .before .before .before .before .before .complex-at .ensures ∙ sym (complex-at (l .b) (l .k) (omega (arith, c .before .before .before .before .before .before .before .before .before .before .before .before .before .loop-test .taken, c .before .before .before .before .before .before .before .before .before .before .before .before .before .before .before .complexes-used .ensures .0, l .inv .0 .counts .complexes)))) (c .before .before .before .before .before .before .before .before .before .if1 .left)) (c .before .before .before .before .before .before .work .kept .0) (c .before .before .before .before .before .before .work .ensures .0) (c .before .before .before .before .before .before .work .ensures .1 .0), kept-grid (l .grid) _ _ _ (not-out _ (c .if2 .taken)) (c .before .before .before .before .before .before .work .ensures .1 .1) (l .inv .1), book-kept _ _ _ _ _ (not-out _ (c .if2 .taken)) (l .inv .2) (c .before .before .before .before .before .before .work .ensures .1 .1))
-
-levels-requires : tie.Need-levels-requires Inv-loop μ-loop
-levels-requires c κs = c .before .before .before .before .before .before .before .work .kept .0 ∙ c .before .before .before .before .before .before .before .before .before .before .before .before .before .before .before .loop .inv .0 .whole
-
-loop-less-3 : tie.Need-loop-less-3 Inv-loop μ-loop
-loop-less-3 c = omega (arith, c .before .before .before .before .before .before .before .before .before .before .before .before .before .before .before .loop-test .taken)
-
-loop-again-3 : tie.Need-loop-again-3 Inv-loop μ-loop
-loop-again-3 c = let l = c .before .before .before .before .before .before .before .before .before .before .before .before .before .before .before .before .loop in let n = c .before .before .before .before .before .before .before .before .before .before .before .before .before .before .before .before .before .complexes-used .result in (doing-turn (l .inv .0) _ _ _ _ _ (walked-turn work (venueOf (l .b)) (n - l .k) (n - (l .k + 1)) (l .k) (omega (arith, c .before .before .before .before .before .before .before .before .before .before .before .before .before .before .before .loop-test .taken)) (c .before .before .before .before .before .before .before .before .before .before .before .before .before .complex-at .result) (c .before .before .before .before .before .before .before .before .before .before .before .before .before .complex-at .ensures ∙ sym (complex-at (l .b) (l .k) (omega (arith, c .before .before .before .before .before .before .before .before .before .before .before .before .before .before .before .loop-test .taken, c .before .before .before .before .before .before .before .before .before .before .before .before .before .before .before .before .before .complexes-used .ensures .0, l .inv .0 .counts .complexes)))) (c .before .before .before .before .before .before .before .before .before .before .before .if1 .left)) (c .before .before .before .before .before .before .before .before .work .kept .0) (c .before .before .before .before .before .before .before .before .work .ensures .0) (c .before .before .before .before .before .before .before .before .work .ensures .1 .0), c .levels .ensures, record { same = λ e. absurd (true≢false e) })
+loop-again-2 c = let l = c .before .before .before .before .before .before .before .before .before .before .before .before .loop in let n = c .before .before .before .before .before .before .before .before .before .before .before .before .before .complexes-used .result in doing-turn (l .inv) _ _ _ _ _ (walked-turn work (venueOf (l .b)) (n - l .k) (n - (l .k + 1)) (l .k) (omega (arith, c .before .before .before .before .before .before .before .before .before .before .before .loop-test .taken)) (c .before .before .before .before .before .before .before .before .before .complex-at .result) (c .before .before .before .before .before .before .before .before .before .complex-at .ensures ∙ sym (complex-at (l .b) (l .k) (omega (arith, c .before .before .before .before .before .before .before .before .before .before .before .loop-test .taken, c .before .before .before .before .before .before .before .before .before .before .before .before .before .complexes-used .ensures .0, l .inv .counts .complexes)))) (c .before .before .before .before .before .before .before .if1 .left)) (c .before .before .before .before .work .kept .0) (c .before .before .before .before .work .ensures .0) (c .before .before .before .before .work .ensures .1)
 
 same-length : tie.Need-same-length Inv-loop μ-loop
-same-length c = c .before .loop .inv .0 .whole ∙ sym (c .before .before .before .before .before .before .pre .0)
+same-length c = c .before .loop .inv .whole ∙ sym (c .before .before .before .before .before .before .pre .0)
 
 same-length-2 : tie.Need-same-length-2 Inv-loop μ-loop
-same-length-2 c = doing-room (c .before .loop .inv .0)
+same-length-2 c = doing-room (c .before .loop .inv)
 
 returns : tie.Need-returns Inv-loop μ-loop
-returns c = let l = c .before .loop in (doing-end (l .inv .0) (walked-none work (venueOf (l .b)) (c .before .before .complexes-used .result - l .k) (l .k) (omega (arith, c .loop-test .left))), (l .inv .0 .counts, l .inv .2))
+returns c = let l = c .before .loop in (doing-end (l .inv) (walked-none work (venueOf (l .b)) (c .before .before .complexes-used .result - l .k) (l .k) (omega (arith, c .loop-test .left))), l .inv .counts)
 
 pub work-each-spec : {M : Type 1} → statement M
 work-each-spec =
@@ -89,9 +74,6 @@ work-each-spec =
     work-requires
     loop-less-2
     loop-again-2
-    levels-requires
-    loop-less-3
-    loop-again-3
     same-length
     same-length-2
     returns)

@@ -3,7 +3,6 @@ use mathlib.Core.Path.{ap, _∙_}
 use native.Mathlib.Omega.{arith}
 use lib.IntN.{natAbs}
 use Rattle.rules.specs.Prices.{inBand}
-use Rattle.levels.proofs.Sides.{taken-right}
 use Rattle.rules.proofs.Machine.{back}
 use Rattle.crossing.proofs.Candidates.{off, on, cross-free, cross-aside, cross-apart, cross-out, cross-last}
 use borrow.Author.Needs.{needs}
@@ -25,8 +24,8 @@ limits-meet-requires c κs = search needs
 returns-3 : tie.Need-returns-3
 returns-3 c = cross-apart _ (c .before .before .before .before .before .before .before .args .c) (c .before .before .before .before .before .before .before .args .m) (c .before .before .before .before .if1 .left) (on _ _ (c .before .before .before .is-reversed .ensures) (c .before .before .if2 .left)) (off _ _ (c .before .limits-meet .ensures) (c .if3 .taken))
 
-taken-of-requires : tie.Need-taken-of-requires
-taken-of-requires c κs = search needs
+taken-at-requires : tie.Need-taken-at-requires
+taken-at-requires c κs = let p = c .before .before .before .before .before .before .before .pre in (p .0, p .1, p .2)
 
 net-against-requires : tie.Need-net-against-requires
 net-against-requires c κs = search needs
@@ -34,10 +33,8 @@ net-against-requires c κs = search needs
 in-band-requires : tie.Need-in-band-requires
 in-band-requires c κs =
     let p = c .before .before .before .before .before .before .before .before .before .pre in
-    let a = c .before .before .before .before .before .before .before .before .before .args in
     let u = c .net-against in
-    let t = c .before .taken-of in
-    (p .0, taken-right (a .g) _ (p .1) (a .c) (p .2) (t .result) (t .ensures), p .2, omega (arith, ap natAbs (back {z = u .result} (record { sfits = u .ok })), u .ensures .1))
+    (p .0, c .before .taken-at .ensures, p .2, omega (arith, ap natAbs (back {z = u .result} (record { sfits = u .ok })), u .ensures .1))
 
 returns-4 : tie.Need-returns-4
 returns-4 c =
@@ -46,8 +43,8 @@ returns-4 c =
     cross-out _ (a .c) (a .m) (c .before .before .before .before .before .before .before .before .if1 .left) (on _ _ (c .before .before .before .before .before .before .before .is-reversed .ensures) (c .before .before .before .before .before .before .if2 .left)) (on _ _ (c .before .before .before .before .before .limits-meet .ensures) (c .before .before .before .before .if3 .left))
     (off _ _ (c .before .in-band .ensures ∙ ap (inBand _ (a .c)) (back {z = u .result} (record { sfits = u .ok }) ∙ u .ensures .0)) (c .if4 .taken))
 
-taken-of-requires-2 : tie.Need-taken-of-requires-2
-taken-of-requires-2 c κs = search needs
+taken-at-requires-2 : tie.Need-taken-at-requires-2
+taken-at-requires-2 c κs = let p = c .before .before .before .before .before .before .before .before .before .before .before .pre in (p .0, p .1, p .3)
 
 limit-of-requires : tie.Need-limit-of-requires
 limit-of-requires c κs = search needs
@@ -55,10 +52,8 @@ limit-of-requires c κs = search needs
 in-band-requires-2 : tie.Need-in-band-requires-2
 in-band-requires-2 c κs =
     let p = c .before .before .before .before .before .before .before .before .before .before .before .before .before .pre in
-    let a = c .before .before .before .before .before .before .before .before .before .before .before .before .before .args in
     let u = c .limit-of in
-    let t = c .before .taken-of2 in
-    (p .0, taken-right (a .g) _ (p .1) (a .m) (p .3) (t .result) (t .ensures), p .3, omega (arith, ap natAbs (back {z = u .result} (record { sfits = u .ok })), u .ensures .1))
+    (p .0, c .before .taken-at2 .ensures, p .3, omega (arith, ap natAbs (back {z = u .result} (record { sfits = u .ok })), u .ensures .1))
 
 returns-5 : tie.Need-returns-5
 returns-5 c =
@@ -78,11 +73,11 @@ can-cross-spec =
     returns-2
     limits-meet-requires
     returns-3
-    taken-of-requires
+    taken-at-requires
     net-against-requires
     in-band-requires
     returns-4
-    taken-of-requires-2
+    taken-at-requires-2
     limit-of-requires
     in-band-requires-2
     returns-5)

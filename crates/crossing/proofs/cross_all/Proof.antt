@@ -8,10 +8,10 @@ use Rattle.rules.specs.Words.{complexAt}
 use Rattle.rules.specs.Complex.{crossTurn}
 use Rattle.places.specs.Layout.{venueOf}
 use Rattle.places.proofs.Parts.{complexes-few, complex-at}
-use Rattle.levels.specs.Grid.{GridOf, LegsIn}
+use Rattle.levels.specs.Grid.{LegsIn}
 use Rattle.levels.proofs.Sides.{legs-in}
 use Rattle.crossing.specs.Picks.{pickedOf}
-use Rattle.crossing.proofs.Turns.{cross-idle, cross-nobody, cross-some, cross-grid, picked-used}
+use Rattle.crossing.proofs.Turns.{cross-idle, cross-nobody, cross-some, picked-used}
 use borrow.Author.Needs.{needs}
 use Rattle.crossing.proofs.cross_all.Statement.{statement}
 use Rattle.crossing.proofs.cross_all.Tie as tie
@@ -22,34 +22,34 @@ use Rattle.crossing.proofs.first_cross.Reads as first-cross-reads
 use Rattle.places.proofs.complex_at.Reads as complex-at-reads
 
 abbrev Inv-loop : tie.InvT-loop
-Inv-loop b₀ g i out₀ at turns₀ pos₀ b out turns pos = (Doing (repeat (complexAt (venueOf b₀) i .quantity) (crossTurn i) (venueOf b₀)) (repeat turns (crossTurn i)) b₀ out₀ at b out pos) × (GridOf g (venueOf b .regular))
+Inv-loop b₀ i out₀ at turns₀ pos₀ b out turns pos = Doing (repeat (complexAt (venueOf b₀) i .quantity) (crossTurn i) (venueOf b₀)) (repeat turns (crossTurn i)) b₀ out₀ at b out pos
 
 abbrev μ-loop : tie.MeasureT-loop
-μ-loop b₀ g i out₀ at turns₀ pos₀ b out turns pos = turns
+μ-loop b₀ i out₀ at turns₀ pos₀ b out turns pos = turns
 
 complex-at-requires : tie.Need-complex-at-requires Inv-loop μ-loop
 complex-at-requires c κs = let z = complexes-few (c .before .before .before .args .b .now) in (c .before .before .before .pre .0, omega (arith, c .before .before .before .pre .2))
 
 loop-holds : tie.Need-loop-holds Inv-loop μ-loop
-loop-holds c = (doing-start _ _ _ _ _ (c .before .before .before .before .pre .0) (ap (λ (x : Complex). repeat (x .quantity) (crossTurn (c .before .before .before .before .args .i)) (venueOf (c .before .before .before .before .args .b .now))) (c .complex-at .ensures ∙ sym (complex-at (c .before .before .before .before .args .b .now) (c .before .before .before .before .args .i) (c .before .before .before .before .pre .2)))), c .before .before .before .before .pre .1)
+loop-holds c = doing-start _ _ _ _ _ (c .before .before .before .before .pre .0) (ap (λ (x : Complex). repeat (x .quantity) (crossTurn (c .before .before .before .before .args .i)) (venueOf (c .before .before .before .before .args .b .now))) (c .complex-at .ensures ∙ sym (complex-at (c .before .before .before .before .args .b .now) (c .before .before .before .before .args .i) (c .before .before .before .before .pre .2))))
 
 sub-turns : tie.Need-sub-turns Inv-loop μ-loop
 sub-turns c = search needs
 
 complex-at-requires-2 : tie.Need-complex-at-requires-2 Inv-loop μ-loop
-complex-at-requires-2 c κs = let z = complexes-few (c .before .before .loop .b) in (c .before .before .loop .inv .0 .whole, omega (arith, c .before .before .loop .inv .0 .counts .complexes, c .before .before .before .before .before .before .before .pre .2))
+complex-at-requires-2 c κs = let z = complexes-few (c .before .before .loop .b) in (c .before .before .loop .inv .whole, omega (arith, c .before .before .loop .inv .counts .complexes, c .before .before .before .before .before .before .before .pre .2))
 
 same-length : tie.Need-same-length Inv-loop μ-loop
-same-length c = c .before .before .before .before .before .loop .inv .0 .whole ∙ sym (c .before .before .before .before .before .before .before .before .before .before .pre .0)
+same-length c = c .before .before .before .before .before .loop .inv .whole ∙ sym (c .before .before .before .before .before .before .before .before .before .before .pre .0)
 
 same-length-2 : tie.Need-same-length-2 Inv-loop μ-loop
-same-length-2 c = doing-room (c .before .before .before .before .before .loop .inv .0)
+same-length-2 c = doing-room (c .before .before .before .before .before .loop .inv)
 
 returns : tie.Need-returns Inv-loop μ-loop
-returns c = (doing-end (c .before .before .before .before .before .loop .inv .0) (repeat-stop _ _ _ (cross-idle (c .before .before .before .before .before .before .before .before .before .before .args .i) _ _ (c .before .before .complex-at2 .ensures ∙ sym (complex-at (c .before .before .before .before .before .loop .b) (c .before .before .before .before .before .before .before .before .before .before .args .i) (omega (arith, c .before .before .before .before .before .loop .inv .0 .counts .complexes, c .before .before .before .before .before .before .before .before .before .before .pre .2)))) (c .if1 .taken))), c .before .before .before .before .before .loop .inv .0 .counts)
+returns c = (doing-end (c .before .before .before .before .before .loop .inv) (repeat-stop _ _ _ (cross-idle (c .before .before .before .before .before .before .before .before .before .before .args .i) _ _ (c .before .before .complex-at2 .ensures ∙ sym (complex-at (c .before .before .before .before .before .loop .b) (c .before .before .before .before .before .before .before .before .before .before .args .i) (omega (arith, c .before .before .before .before .before .loop .inv .counts .complexes, c .before .before .before .before .before .before .before .before .before .before .pre .2)))) (c .if1 .taken))), c .before .before .before .before .before .loop .inv .counts)
 
 first-cross-requires : tie.Need-first-cross-requires Inv-loop μ-loop
-first-cross-requires c κs = (c .before .before .before .before .before .before .loop .inv .0 .whole, c .before .before .before .before .before .before .loop .inv .1, subst LegsIn (sym (c .before .before .before .complex-at2 .ensures)) (legs-in (c .before .before .before .before .before .before .loop .b) (c .before .before .before .before .before .before .before .before .before .before .before .args .i)))
+first-cross-requires c κs = (c .before .before .before .before .before .before .loop .inv .whole, c .before .before .before .before .before .before .loop .inv .counts .right (c .before .before .before .before .before .before .before .before .before .before .before .pre .1), subst LegsIn (sym (c .before .before .before .complex-at2 .ensures)) (legs-in (c .before .before .before .before .before .before .loop .b) (c .before .before .before .before .before .before .before .before .before .before .before .args .i)))
 
 enum-known-found : tie.Need-enum-known-found Inv-loop μ-loop
 enum-known-found c = search needs
@@ -58,37 +58,37 @@ enum-told : tie.Need-enum-told Inv-loop μ-loop
 enum-told c = search needs
 
 same-length-3 : tie.Need-same-length-3 Inv-loop μ-loop
-same-length-3 c = c .before .before .before .before .before .before .before .before .before .loop .inv .0 .whole ∙ sym (c .before .before .before .before .before .before .before .before .before .before .before .before .before .before .pre .0)
+same-length-3 c = c .before .before .before .before .before .before .before .before .before .loop .inv .whole ∙ sym (c .before .before .before .before .before .before .before .before .before .before .before .before .before .before .pre .0)
 
 same-length-4 : tie.Need-same-length-4 Inv-loop μ-loop
-same-length-4 c = doing-room (c .before .before .before .before .before .before .before .before .before .loop .inv .0)
+same-length-4 c = doing-room (c .before .before .before .before .before .before .before .before .before .loop .inv)
 
 returns-2 : tie.Need-returns-2 Inv-loop μ-loop
 unfolding pickedOf
-returns-2 c = (doing-end (c .before .before .before .before .before .before .before .before .before .loop .inv .0) (repeat-stop _ _ _ (cross-nobody (c .before .before .before .before .before .before .before .before .before .before .before .before .before .before .args .i) _ _ (c .before .before .before .before .before .before .complex-at2 .ensures ∙ sym (complex-at (c .before .before .before .before .before .before .before .before .before .loop .b) (c .before .before .before .before .before .before .before .before .before .before .before .before .before .before .args .i) (omega (arith, c .before .before .before .before .before .before .before .before .before .loop .inv .0 .counts .complexes, c .before .before .before .before .before .before .before .before .before .before .before .before .before .before .pre .2)))) (c .before .before .before .before .if1 .left) (sym (ap pickedOf (c .enum-told .given .1)) ∙ c .before .before .first-cross .ensures))), c .before .before .before .before .before .before .before .before .before .loop .inv .0 .counts)
+returns-2 c = (doing-end (c .before .before .before .before .before .before .before .before .before .loop .inv) (repeat-stop _ _ _ (cross-nobody (c .before .before .before .before .before .before .before .before .before .before .before .before .before .before .args .i) _ _ (c .before .before .before .before .before .before .complex-at2 .ensures ∙ sym (complex-at (c .before .before .before .before .before .before .before .before .before .loop .b) (c .before .before .before .before .before .before .before .before .before .before .before .before .before .before .args .i) (omega (arith, c .before .before .before .before .before .before .before .before .before .loop .inv .counts .complexes, c .before .before .before .before .before .before .before .before .before .before .before .before .before .before .pre .2)))) (c .before .before .before .before .if1 .left) (sym (ap pickedOf (c .enum-told .given .1)) ∙ c .before .before .first-cross .ensures))), c .before .before .before .before .before .before .before .before .before .loop .inv .counts)
 
 lesser-requires : tie.Need-lesser-requires Inv-loop μ-loop
 lesser-requires c κs = search needs
 
 cross-requires : tie.Need-cross-requires Inv-loop μ-loop
 unfolding pickedOf
-cross-requires c κs = (c .before .before .before .before .before .before .before .before .before .before .before .before .before .loop .inv .0 .whole, (omega (arith, c .before .before .before .before .before .before .before .before .before .before .before .before .before .loop .inv .0 .counts .complexes, c .before .before .before .before .before .before .before .before .before .before .before .before .before .before .before .before .before .before .pre .2)), picked-used (c .before .before .before .before .before .before .before .before .before .before .before .before .before .loop .b) _ _ _ (sym (ap pickedOf (c .before .before .before .before .found .given .1)) ∙ c .before .before .before .before .before .before .first-cross .ensures))
+cross-requires c κs = (c .before .before .before .before .before .before .before .before .before .before .before .before .before .loop .inv .whole, (omega (arith, c .before .before .before .before .before .before .before .before .before .before .before .before .before .loop .inv .counts .complexes, c .before .before .before .before .before .before .before .before .before .before .before .before .before .before .before .before .before .before .pre .2)), picked-used (c .before .before .before .before .before .before .before .before .before .before .before .before .before .loop .b) _ _ _ (sym (ap pickedOf (c .before .before .before .before .found .given .1)) ∙ c .before .before .before .before .before .before .first-cross .ensures))
 
 loop-less : tie.Need-loop-less Inv-loop μ-loop
 loop-less c = search needs
 
 loop-again : tie.Need-loop-again Inv-loop μ-loop
 unfolding pickedOf
-loop-again c = (doing-turn (c .before .before .before .before .before .before .before .before .before .before .before .before .before .before .before .before .before .before .loop .inv .0) _ _ _ _ _ (repeat-turn _ _ _ _ _ (omega (arith, c .before .before .before .before .before .before .before .before .before .before .before .before .before .before .before .before .before .loop-test .taken)) (cross-some (c .before .before .before .before .before .before .before .before .before .before .before .before .before .before .before .before .before .before .before .before .before .before .before .args .i) _ _ (c .before .before .before .before .before .before .before .before .before .before .before .before .before .before .before .complex-at2 .ensures ∙ sym (complex-at (c .before .before .before .before .before .before .before .before .before .before .before .before .before .before .before .before .before .before .loop .b) (c .before .before .before .before .before .before .before .before .before .before .before .before .before .before .before .before .before .before .before .before .before .before .before .args .i) (omega (arith, c .before .before .before .before .before .before .before .before .before .before .before .before .before .before .before .before .before .before .loop .inv .0 .counts .complexes, c .before .before .before .before .before .before .before .before .before .before .before .before .before .before .before .before .before .before .before .before .before .before .before .pre .2)))) (c .before .before .before .before .before .before .before .before .before .before .before .before .before .if1 .left) _ _ _ (sym (ap pickedOf (c .before .before .before .before .before .before .before .before .before .found .given .1)) ∙ c .before .before .before .before .before .before .before .before .before .before .before .first-cross .ensures) (c .before .before .before .before .before .before .lesser .ensures))) (c .before .before .before .before .cross .kept .0) (c .before .before .before .before .cross .ensures .0) (c .before .before .before .before .cross .ensures .1), cross-grid (c .before .before .before .before .before .before .before .before .before .before .before .before .before .before .before .before .before .before .before .before .before .before .before .args .g) _ _ _ _ _ _ _ _ _ (c .before .before .before .before .cross .ensures .0) (c .before .before .before .before .before .before .before .before .before .before .before .before .before .before .before .before .before .before .loop .inv .1))
+loop-again c = doing-turn (c .before .before .before .before .before .before .before .before .before .before .before .before .before .before .before .before .before .before .loop .inv) _ _ _ _ _ (repeat-turn _ _ _ _ _ (omega (arith, c .before .before .before .before .before .before .before .before .before .before .before .before .before .before .before .before .before .loop-test .taken)) (cross-some (c .before .before .before .before .before .before .before .before .before .before .before .before .before .before .before .before .before .before .before .before .before .before .before .args .i) _ _ (c .before .before .before .before .before .before .before .before .before .before .before .before .before .before .before .complex-at2 .ensures ∙ sym (complex-at (c .before .before .before .before .before .before .before .before .before .before .before .before .before .before .before .before .before .before .loop .b) (c .before .before .before .before .before .before .before .before .before .before .before .before .before .before .before .before .before .before .before .before .before .before .before .args .i) (omega (arith, c .before .before .before .before .before .before .before .before .before .before .before .before .before .before .before .before .before .before .loop .inv .counts .complexes, c .before .before .before .before .before .before .before .before .before .before .before .before .before .before .before .before .before .before .before .before .before .before .before .pre .2)))) (c .before .before .before .before .before .before .before .before .before .before .before .before .before .if1 .left) _ _ _ (sym (ap pickedOf (c .before .before .before .before .before .before .before .before .before .found .given .1)) ∙ c .before .before .before .before .before .before .before .before .before .before .before .first-cross .ensures) (c .before .before .before .before .before .before .lesser .ensures))) (c .before .before .before .before .cross .kept .0) (c .before .before .before .before .cross .ensures .0) (c .before .before .before .before .cross .ensures .1)
 
 same-length-5 : tie.Need-same-length-5 Inv-loop μ-loop
-same-length-5 c = c .before .loop .inv .0 .whole ∙ sym (c .before .before .before .before .before .before .pre .0)
+same-length-5 c = c .before .loop .inv .whole ∙ sym (c .before .before .before .before .before .before .pre .0)
 
 same-length-6 : tie.Need-same-length-6 Inv-loop μ-loop
-same-length-6 c = doing-room (c .before .loop .inv .0)
+same-length-6 c = doing-room (c .before .loop .inv)
 
 returns-3 : tie.Need-returns-3 Inv-loop μ-loop
-returns-3 c = (doing-end (c .before .loop .inv .0) (repeat-zero _ _ _ (omega (arith, c .loop-test .left))), c .before .loop .inv .0 .counts)
+returns-3 c = (doing-end (c .before .loop .inv) (repeat-zero _ _ _ (omega (arith, c .loop-test .left))), c .before .loop .inv .counts)
 
 pub cross-all-spec : {M : Type 1} → statement M
 cross-all-spec =

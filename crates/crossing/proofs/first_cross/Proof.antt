@@ -18,10 +18,10 @@ use Rattle.crossing.proofs.first_cross.Statement.{statement}
 use Rattle.crossing.proofs.first_cross.Tie as tie
 
 abbrev Inv-loop : tie.InvT-loop
-Inv-loop b g c straight turned best₀ i₀ best i = (i ≤ complexesUsed b) × (pickedOf best ≡ firstFrom (crosses (venueOf b) c) limitThenId i (upto (complexIn b) i (complexesUsed b - i)))
+Inv-loop b c straight turned best₀ i₀ best i = (i ≤ complexesUsed b) × (pickedOf best ≡ firstFrom (crosses (venueOf b) c) limitThenId i (upto (complexIn b) i (complexesUsed b - i)))
 
 abbrev μ-loop : tie.MeasureT-loop
-μ-loop b g c straight turned best₀ i₀ best i = i
+μ-loop b c straight turned best₀ i₀ best i = i
 
 facing-key-requires : tie.Need-facing-key-requires Inv-loop μ-loop
 facing-key-requires c κs = search needs

@@ -2,9 +2,7 @@
 use mathlib.Core.Path.{refl, sym, subst, _∙_}
 use native.Mathlib.Omega.{arith}
 use Rattle.places.proofs.Parts.{complexes-few, complex-at}
-use Rattle.rules.specs.declared.Complex.{Complex}
-use Rattle.places.specs.Layout.{venueOf}
-use Rattle.levels.specs.Grid.{LegsIn, TakenOf}
+use Rattle.levels.specs.Grid.{LegsIn}
 use Rattle.levels.proofs.Sides.{legs-in}
 use Rattle.crossing.proofs.Candidates.{off, on}
 use Rattle.crossing.proofs.Touches.{touch-not, touch-both}
@@ -15,20 +13,22 @@ use Rattle.crossing.proofs.touch.Tie as tie
 complex-at-requires : tie.Need-complex-at-requires
 complex-at-requires c κs = let z = complexes-few (c .before .before .before .args .b .now) in (c .before .before .before .pre .0, omega (arith, c .before .before .before .pre .2))
 
+taken-at-requires : tie.Need-taken-at-requires
+taken-at-requires c κs =
+    let a = c .before .before .before .before .before .args in
+    let p = c .before .before .before .before .before .pre in
+    (p .0, p .1, subst LegsIn (sym (c .before .complex-at .ensures)) (legs-in (a .b .now) (a .i)))
+
 can-touch-requires : tie.Need-can-touch-requires
 can-touch-requires c κs =
-    let a = c .before .before .before .before .before .args in
-    let z = c .before .complex-at in (
-      c .before .before .before .before .before .pre .0,
-      subst (λ (x : Complex). TakenOf (a .taken) x (venueOf (a .b .now) .regular)) (complex-at (a .b .now) (a .i) (c .before .before .before .before .before .pre .2) ∙ sym (z .ensures)) (c .before .before .before .before .before .pre .1),
-      subst LegsIn (sym (z .ensures)) (legs-in (a .b .now) (a .i)),
-    )
+    let a = c .before .before .before .before .before .before .before .args in
+    (c .before .before .before .before .before .before .before .pre .0, c .before .taken-at .ensures, subst LegsIn (sym (c .before .before .before .complex-at .ensures)) (legs-in (a .b .now) (a .i)))
 
 same-length : tie.Need-same-length
 same-length c = search needs
 
 returns : tie.Need-returns
-returns c = (touch-not (c .before .before .before .before .before .before .before .args .i) _ _ (c .before .before .before .complex-at .ensures ∙ sym (complex-at (c .before .before .before .before .before .before .before .args .b .now) (c .before .before .before .before .before .before .before .args .i) (c .before .before .before .before .before .before .before .pre .2))) _ _ (off _ _ (c .before .can-touch .ensures) (c .if1 .taken)), record { regulars = refl; complexes = refl })
+returns c = (touch-not (c .before .before .before .before .before .before .before .before .before .args .i) _ _ (c .before .before .before .before .before .complex-at .ensures ∙ sym (complex-at (c .before .before .before .before .before .before .before .before .before .args .b .now) (c .before .before .before .before .before .before .before .before .before .args .i) (c .before .before .before .before .before .before .before .before .before .pre .2))) _ _ (off _ _ (c .before .can-touch .ensures) (c .if1 .taken)), record { regulars = refl; complexes = refl; right = λ h. h })
 
 opposite-of-requires : tie.Need-opposite-of-requires
 opposite-of-requires c κs = search needs
@@ -52,13 +52,14 @@ same-length-3 : tie.Need-same-length-3
 same-length-3 c = search needs
 
 returns-2 : tie.Need-returns-2
-returns-2 c = (touch-both (c .before .before .before .before .before .before .before .before .before .before .before .before .before .before .before .before .before .before .args .i) _ _ (c .before .before .before .before .before .before .before .before .before .before .before .before .before .before .complex-at .ensures ∙ sym (complex-at (c .before .before .before .before .before .before .before .before .before .before .before .before .before .before .before .before .before .before .args .b .now) (c .before .before .before .before .before .before .before .before .before .before .before .before .before .before .before .before .before .before .args .i) (c .before .before .before .before .before .before .before .before .before .before .before .before .before .before .before .before .before .before .pre .2))) _ _ _ _ _ (on _ _ (c .before .before .before .before .before .before .before .before .before .before .before .before .can-touch .ensures) (c .before .before .before .before .before .before .before .before .before .before .before .if1 .left)) _ _ _ _ (c .before .before .before .before .before .before .before .before .before .before .opposite-of .ensures) (c .before .before .before .before .before .before .before .before .before .place-of .ensures) (c .before .before .before .before .before .before .before .before .opposite-of2 .ensures) (c .before .before .before .before .before .before .before .place-of2 .ensures) (c .before .before .before .before .remove-at .ensures .0), c .before .before .before .before .remove-at .ensures .1)
+returns-2 c = (touch-both (c .before .before .before .before .before .before .before .before .before .before .before .before .before .before .before .before .before .before .before .before .args .i) _ _ (c .before .before .before .before .before .before .before .before .before .before .before .before .before .before .before .before .complex-at .ensures ∙ sym (complex-at (c .before .before .before .before .before .before .before .before .before .before .before .before .before .before .before .before .before .before .before .before .args .b .now) (c .before .before .before .before .before .before .before .before .before .before .before .before .before .before .before .before .before .before .before .before .args .i) (c .before .before .before .before .before .before .before .before .before .before .before .before .before .before .before .before .before .before .before .before .pre .2))) _ _ _ _ _ (on _ _ (c .before .before .before .before .before .before .before .before .before .before .before .before .can-touch .ensures) (c .before .before .before .before .before .before .before .before .before .before .before .if1 .left)) _ _ _ _ (c .before .before .before .before .before .before .before .before .before .before .opposite-of .ensures) (c .before .before .before .before .before .before .before .before .before .place-of .ensures) (c .before .before .before .before .before .before .before .before .opposite-of2 .ensures) (c .before .before .before .before .before .before .before .place-of2 .ensures) (c .before .before .before .before .remove-at .ensures .0), c .before .before .before .before .remove-at .ensures .1)
 
 pub touch-spec : {M : Type 1} → statement M
 touch-spec =
     tie.close
     (tie.spec
     complex-at-requires
+    taken-at-requires
     can-touch-requires
     same-length
     returns

@@ -1,4 +1,5 @@
 -- `engine::accept` meets its contract.
+use mathlib.Core.Path.{_∙_}
 use Rattle.places.specs.Layout.{venueOf}
 use Rattle.engine.proofs.Stepping.{accept-law}
 use borrow.Author.Needs.{needs}
@@ -9,7 +10,10 @@ perform-requires : tie.Need-perform-requires
 perform-requires c κs = search needs
 
 close-gaps-requires : tie.Need-close-gaps-requires
-close-gaps-requires c κs = search needs
+close-gaps-requires c κs =
+    let p5 = c .before .before .before .before .before in
+    let s = p5 .before .before .before .before .before in
+    (p5 .perform .kept .0 ∙ s .pre .0, p5 .perform .ensures .1)
 
 same-length : tie.Need-same-length
 same-length c = search needs
@@ -18,7 +22,7 @@ same-length-2 : tie.Need-same-length-2
 same-length-2 c = search needs
 
 returns : tie.Need-returns
-returns c = let s = c .before .before .before .before .before .before .before .before .before .before .before .before .before in let g = c .before .before .close-gaps .ensures in (accept-law _ (s .args .m) (venueOf (s .args .b .now)) _ _ _ _ (c .before .before .before .before .before .before .before .before .perform .ensures) (g .venue), g .dense)
+returns c = let s = c .before .before .before .before .before .before .before .before .before .before .before .before .before in let g = c .before .before .close-gaps .ensures in (accept-law _ (s .args .m) (venueOf (s .args .b .now)) _ _ _ _ (c .before .before .before .before .before .before .before .before .perform .ensures .0) (g .venue), g .dense)
 
 pub accept-spec : {M : Type 1} → statement M
 accept-spec =

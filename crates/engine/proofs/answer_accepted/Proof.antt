@@ -14,7 +14,10 @@ accept-requires : tie.Need-accept-requires
 accept-requires c κs = search needs
 
 mask-of-requires : tie.Need-mask-of-requires
-mask-of-requires c κs = search needs
+mask-of-requires c κs =
+    let p5 = c .before .before .before .before .before in
+    let s = p5 .before .before .before .before .before .before .before .before .before in
+    (p5 .accept .kept .0 ∙ s .pre .0, p5 .accept .ensures .1 .right)
 
 count-of-requires : tie.Need-count-of-requires
 count-of-requires c κs = search needs

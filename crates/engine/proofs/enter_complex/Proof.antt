@@ -24,7 +24,13 @@ same-length-2 : tie.Need-same-length-2
 same-length-2 c = search needs
 
 returns : tie.Need-returns
-returns c = let s = c .before .before .before .before .before .before .before .before .before .before .before .before .before in c .before .before .before .before .complex-order .ensures .0 ∙ ap (λ (w : Venue). seen (s .args .out .now) (s .args .at) does complex (s .args .c) w) (c .before .before .before .before .before .before .before .before .before .put-last .ensures .0)
+returns c =
+    let k = c .before .before .before .before .complex-order .ensures in
+    let p9 = c .before .before .before .before .before .before .before .before .before in
+    let s = p9 .before .before .before .before in (
+      k .0 ∙ ap (λ (w : Venue). seen (s .args .out .now) (s .args .at) does complex (s .args .c) w) (p9 .put-last .ensures .0),
+      k .1 .right (p9 .put-last .ensures .1 .right (s .pre .1 .right)),
+    )
 
 pub enter-complex-spec : {M : Type 1} → statement M
 enter-complex-spec =

@@ -6,9 +6,10 @@ use Rattle.rules.specs.Step.{perform}
 use Rattle.wire.specs.Seen.{seen}
 use Rattle.wire.specs.Stage.{_does_}
 use Rattle.places.specs.Layout.{venueOf}
+use Rattle.places.proofs.Orderly.{range-priced}
 use Rattle.complexes.proofs.Walking.{sound-rising}
 use Rattle.engine.proofs.Refusing.{regular-side, legs-in, away-series, status-series}
-use Rattle.engine.proofs.Stepping.{order-room, complex-room, cancel-known}
+use Rattle.engine.proofs.Stepping.{order-below, order-room, complex-room, cancel-known}
 use borrow.Author.Needs.{needs}
 use Rattle.engine.proofs.perform.Statement.{statement}
 use Rattle.engine.proofs.perform.Tie as tie
@@ -18,7 +19,7 @@ enum-known-m c = search needs
 
 enter-order-requires : tie.Need-enter-order-requires
 unfolding inRange
-enter-order-requires c κs = let s = c .before .before .before .before .before .before .before in let e = c .before .before .before .m .given .1 in let z = regular-side _ (sym (ap inRange e) ∙ s .pre .2) in (s .pre .0, s .pre .1, order-room _ (s .pre .1) _ (sym (ap (refusalOf (venueOf (s .args .b .now))) e) ∙ s .pre .3), z .series, z .side)
+enter-order-requires c κs = let s = c .before .before .before .before .before .before .before in let e = c .before .before .before .m .given .1 in let z = regular-side _ (sym (ap inRange e) ∙ s .pre .2) in (s .pre .0, s .pre .1, order-room _ (s .pre .1) _ (sym (ap (refusalOf (venueOf (s .args .b .now))) e) ∙ s .pre .3), z .series, z .side, range-priced _ (sym (ap inRange e) ∙ s .pre .2), order-below (venueOf (s .args .b .now)) _ (sym (ap (refusalOf (venueOf (s .args .b .now))) e) ∙ s .pre .3) (s .pre .4 .is))
 
 enum-known-m-2 : tie.Need-enum-known-m-2
 enum-known-m-2 c = search needs
@@ -31,25 +32,25 @@ enum-known-m-3 : tie.Need-enum-known-m-3
 enum-known-m-3 c = search needs
 
 cancel-requires : tie.Need-cancel-requires
-cancel-requires c κs = let s = c .before .before .before .before .before .before .before in let e = c .before .before .before .m3 .given .1 in (s .pre .0, cancel-known _ _ (sym (ap (refusalOf (venueOf (s .args .b .now))) e) ∙ s .pre .3))
+cancel-requires c κs = let s = c .before .before .before .before .before .before .before in let e = c .before .before .before .m3 .given .1 in (s .pre .0, s .pre .1, cancel-known _ _ (sym (ap (refusalOf (venueOf (s .args .b .now))) e) ∙ s .pre .3))
 
 enum-known-m-4 : tie.Need-enum-known-m-4
 enum-known-m-4 c = search needs
 
 set-away-requires : tie.Need-set-away-requires
-set-away-requires c κs = let s = c .before .before .before .before .before .before .before in let e = c .before .before .before .m4 .given .1 in (s .pre .0, away-series _ _ _ (sym (ap inRange e) ∙ s .pre .2))
+set-away-requires c κs = let s = c .before .before .before .before .before .before .before in let e = c .before .before .before .m4 .given .1 in (s .pre .0, away-series _ _ _ (sym (ap inRange e) ∙ s .pre .2), s .pre .1 .right)
 
 enum-known-m-5 : tie.Need-enum-known-m-5
 enum-known-m-5 c = search needs
 
 set-status-requires : tie.Need-set-status-requires
-set-status-requires c κs = let s = c .before .before .before .before .before .before .before in let e = c .before .before .before .m5 .given .1 in (s .pre .0, status-series _ _ (sym (ap inRange e) ∙ s .pre .2))
+set-status-requires c κs = let s = c .before .before .before .before .before .before .before in let e = c .before .before .before .m5 .given .1 in (s .pre .0, status-series _ _ (sym (ap inRange e) ∙ s .pre .2), s .pre .1 .right)
 
 enum-told : tie.Need-enum-told
 enum-told c = search needs
 
 sweep-requires : tie.Need-sweep-requires
-sweep-requires c κs = let s = c .before .before .before .before .before .before in (s .pre .0, sound-rising _ (s .pre .4 .is))
+sweep-requires c κs = let s = c .before .before .before .before .before .before in (s .pre .0, s .pre .1 .right, sound-rising _ (s .pre .4 .is))
 
 same-length : tie.Need-same-length
 same-length c = search needs
@@ -59,7 +60,7 @@ same-length-2 c = search needs
 
 returns : tie.Need-returns
 unfolding perform
-returns c = let s = c .before .before .before .before .before .before .before .before .before .before .before .before in c .before .before .before .before .enter-order .ensures ∙ ap (λ (x : Message). seen (s .args .out .now) (s .args .at) does perform x (venueOf (s .args .b .now))) (sym (c .before .before .before .before .before .before .before .before .m .given .1))
+returns c = let s = c .before .before .before .before .before .before .before .before .before .before .before .before in let k = c .before .before .before .before .enter-order .ensures in (k .0 ∙ ap (λ (x : Message). seen (s .args .out .now) (s .args .at) does perform x (venueOf (s .args .b .now))) (sym (c .before .before .before .before .before .before .before .before .m .given .1)), k .1)
 
 same-length-3 : tie.Need-same-length-3
 same-length-3 c = search needs
@@ -69,7 +70,7 @@ same-length-4 c = search needs
 
 returns-2 : tie.Need-returns-2
 unfolding perform
-returns-2 c = let s = c .before .before .before .before .before .before .before .before .before .before .before .before in c .before .before .before .before .enter-complex .ensures ∙ ap (λ (x : Message). seen (s .args .out .now) (s .args .at) does perform x (venueOf (s .args .b .now))) (sym (c .before .before .before .before .before .before .before .before .m2 .given .1))
+returns-2 c = let s = c .before .before .before .before .before .before .before .before .before .before .before .before in let k = c .before .before .before .before .enter-complex .ensures in (k .0 ∙ ap (λ (x : Message). seen (s .args .out .now) (s .args .at) does perform x (venueOf (s .args .b .now))) (sym (c .before .before .before .before .before .before .before .before .m2 .given .1)), k .1)
 
 same-length-5 : tie.Need-same-length-5
 same-length-5 c = search needs
@@ -79,7 +80,7 @@ same-length-6 c = search needs
 
 returns-3 : tie.Need-returns-3
 unfolding perform
-returns-3 c = let s = c .before .before .before .before .before .before .before .before .before .before .before .before in c .before .before .before .before .cancel .ensures .0 ∙ ap (λ (x : Message). seen (s .args .out .now) (s .args .at) does perform x (venueOf (s .args .b .now))) (sym (c .before .before .before .before .before .before .before .before .m3 .given .1))
+returns-3 c = let s = c .before .before .before .before .before .before .before .before .before .before .before .before in let k = c .before .before .before .before .cancel .ensures in (k .0 ∙ ap (λ (x : Message). seen (s .args .out .now) (s .args .at) does perform x (venueOf (s .args .b .now))) (sym (c .before .before .before .before .before .before .before .before .m3 .given .1)), k .1 .right (s .pre .1 .right))
 
 same-length-7 : tie.Need-same-length-7
 same-length-7 c = search needs
@@ -89,7 +90,7 @@ same-length-8 c = search needs
 
 returns-4 : tie.Need-returns-4
 unfolding perform
-returns-4 c = let s = c .before .before .before .before .before .before .before .before .before .before .before .before in c .before .before .before .before .set-away .ensures .0 ∙ ap (λ (x : Message). seen (s .args .out .now) (s .args .at) does perform x (venueOf (s .args .b .now))) (sym (c .before .before .before .before .before .before .before .before .m4 .given .1))
+returns-4 c = let s = c .before .before .before .before .before .before .before .before .before .before .before .before in let k = c .before .before .before .before .set-away .ensures in (k .0 ∙ ap (λ (x : Message). seen (s .args .out .now) (s .args .at) does perform x (venueOf (s .args .b .now))) (sym (c .before .before .before .before .before .before .before .before .m4 .given .1)), k .1 .right (s .pre .1 .right))
 
 same-length-9 : tie.Need-same-length-9
 same-length-9 c = search needs
@@ -99,7 +100,7 @@ same-length-10 c = search needs
 
 returns-5 : tie.Need-returns-5
 unfolding perform
-returns-5 c = let s = c .before .before .before .before .before .before .before .before .before .before .before .before in c .before .before .before .before .set-status .ensures .0 ∙ ap (λ (x : Message). seen (s .args .out .now) (s .args .at) does perform x (venueOf (s .args .b .now))) (sym (c .before .before .before .before .before .before .before .before .m5 .given .1))
+returns-5 c = let s = c .before .before .before .before .before .before .before .before .before .before .before .before in let k = c .before .before .before .before .set-status .ensures in (k .0 ∙ ap (λ (x : Message). seen (s .args .out .now) (s .args .at) does perform x (venueOf (s .args .b .now))) (sym (c .before .before .before .before .before .before .before .before .m5 .given .1)), k .1 .right (s .pre .1 .right))
 
 same-length-11 : tie.Need-same-length-11
 same-length-11 c = search needs
@@ -109,7 +110,7 @@ same-length-12 c = search needs
 
 returns-6 : tie.Need-returns-6
 unfolding perform
-returns-6 c = let s = c .before .before .before .before .before .before .before .before .before .before .before in c .before .before .before .before .sweep .ensures .0 ∙ ap (λ (x : Message). seen (s .args .out .now) (s .args .at) does perform x (venueOf (s .args .b .now))) (sym (c .before .before .before .before .before .before .before .enum-told .given .1))
+returns-6 c = let s = c .before .before .before .before .before .before .before .before .before .before .before in let k = c .before .before .before .before .sweep .ensures in (k .0 ∙ ap (λ (x : Message). seen (s .args .out .now) (s .args .at) does perform x (venueOf (s .args .b .now))) (sym (c .before .before .before .before .before .before .before .enum-told .given .1)), k .1 .right (s .pre .1 .right))
 
 pub perform-spec : {M : Type 1} → statement M
 perform-spec =

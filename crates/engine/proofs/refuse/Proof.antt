@@ -8,7 +8,7 @@ use Rattle.engine.proofs.refuse.Statement.{statement}
 use Rattle.engine.proofs.refuse.Tie as tie
 
 mask-of-requires : tie.Need-mask-of-requires
-mask-of-requires c κs = search needs
+mask-of-requires c κs = let s = c .before .before in (s .pre .0, s .pre .1 .right)
 
 count-of-requires : tie.Need-count-of-requires
 count-of-requires c κs = search needs

@@ -25,7 +25,7 @@ returns : tie.Need-returns
 returns c = let a = c .before .before .before .before .before .before .args in (
   does-nothing (venueOf (a .b .now)) (a .out .now) (a .at)
       ∙ ap (λ (e : Effect). seen (a .out .now) (a .at) does e) (made-none _ (a .c) _ _ (c .before .before .plan-leg .result) (c .before .before .plan-leg .ensures) (c .if1 .taken)),
-  record { regulars = refl; complexes = refl },
+  record { regulars = refl; complexes = refl; right = λ h. h },
 )
 
 place-of-requires : tie.Need-place-of-requires

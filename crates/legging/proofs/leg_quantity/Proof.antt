@@ -1,5 +1,5 @@
 -- `legging::leg_quantity` meets its contract.
-use Rattle.levels.specs.declared.Level.{Level}
+use Rattle.places.specs.declared.Level.{Level}
 use native.Mathlib.Omega.{arith}
 use mathlib.Core.Path.{ap}
 use borrow.Author.Needs.{needs}

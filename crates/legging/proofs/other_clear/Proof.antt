@@ -1,5 +1,6 @@
 -- `legging::other_clear` meets its contract.
-use Rattle.legging.proofs.Testing.{other-in, opposite-in, other-price, clear-is}
+use Rattle.legging.proofs.Testing.{other-in, other-price, clear-is}
+use Rattle.levels.proofs.Sides.{opposite-in}
 use Rattle.places.specs.Layout.{venueOf}
 use borrow.Author.Needs.{needs}
 use Rattle.legging.proofs.other_clear.Statement.{statement}
@@ -22,7 +23,7 @@ clear-price-requires c κs =
       p .0,
       other-price (venueOf (a .b .now)) (a .taken) (a .c) (a .s) (p .1) (c .before .other-level .result) (c .before .other-level .ensures) (o .result) (o .ensures) _ (c .opposite-of .ensures),
       other-in _ _ (o .result) (o .ensures) (p .2),
-      opposite-in _ _ (c .opposite-of .ensures),
+      rw (c .opposite-of .ensures) (opposite-in _),
     )
 
 returns : tie.Need-returns

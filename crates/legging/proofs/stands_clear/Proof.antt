@@ -1,9 +1,10 @@
 -- `legging::stands_clear` meets its contract.
-use Rattle.legging.proofs.Testing.{off, on, shown-is, opposite-in}
+use Rattle.legging.proofs.Testing.{off, on, shown-is}
 use Rattle.legging.proofs.Making.{clear-own, clear-away}
 use Rattle.legging.specs.Parts.{standsClear}
 use Rattle.places.specs.Layout.{venueOf}
 use Rattle.rules.specs.Prices.{bestRegular}
+use Rattle.levels.proofs.Sides.{opposite-in}
 use mathlib.Core.Bool.{not}
 use mathlib.Core.Path.{sym, ap, _∙_}
 use borrow.Author.Needs.{needs}
@@ -27,7 +28,7 @@ best-own-requires c κs =
       p .0,
       p .2 ∙ ap (bestRegular (venueOf (a .b .now)) (a .s)) (sym (c .opposite-of .ensures)),
       p .3,
-      opposite-in _ _ (c .opposite-of .ensures),
+      rw (c .opposite-of .ensures) (opposite-in _),
     )
 
 reaches-any-requires : tie.Need-reaches-any-requires

@@ -11,8 +11,8 @@ use Rattle.matching.proofs.cancel_regular.Tie as tie
 regular-at-requires : tie.Need-regular-at-requires
 regular-at-requires c κs = let s = c .before .before .before in let w = regulars-few (s .args .b .now) in (s .pre .0, omega arith)
 
-fill-regular-requires : tie.Need-fill-regular-requires
-fill-regular-requires c κs = search needs
+fill-order-requires : tie.Need-fill-order-requires
+fill-order-requires c κs = search needs
 
 emit-cancelled-requires : tie.Need-emit-cancelled-requires
 emit-cancelled-requires c κs = search needs
@@ -30,8 +30,8 @@ returns c =
     let p8 = p6 .before .before in
     let p12 = p8 .before .before .before .before in (
       cancel-law _ (venueOf (p12 .args .b .now)) _ _ _ _ _ _ (p8 .regular-at .ensures ∙ sym (regular-at (p12 .args .b .now) (p12 .args .i) (p12 .pre .1)))
-          (p6 .fill-regular .ensures .0) (p2 .emit-cancelled .ensures),
-      p6 .fill-regular .ensures .1,
+          (p6 .fill-order .ensures .0) (p2 .emit-cancelled .ensures),
+      p6 .fill-order .ensures .1,
     )
 
 pub cancel-regular-spec : {M : Type 1} → statement M
@@ -39,7 +39,7 @@ cancel-regular-spec =
     tie.close
     (tie.spec
     regular-at-requires
-    fill-regular-requires
+    fill-order-requires
     emit-cancelled-requires
     same-length
     same-length-2

@@ -3,7 +3,7 @@ use mathlib.Core.Path.{sym, _∙_}
 use native.Mathlib.Omega.{arith}
 use Rattle.places.specs.Layout.{venueOf}
 use Rattle.places.proofs.Parts.{regulars-few, regular-at}
-use Rattle.levels.proofs.Grids.{series-in}
+use Rattle.levels.proofs.Joining.{series-in}
 use Rattle.matching.specs.Turns.{turnOf}
 use Rattle.matching.proofs.Turns.{turn-idle, none-hit, none-end, some-hit, some-meet, met-used}
 use borrow.Author.Needs.{needs}
@@ -30,7 +30,10 @@ facing-requires c κs =
     (p4 .pre .0, series-in (p4 .args .b .now) (p4 .args .i) _ (p2 .regular-at .ensures))
 
 first-met-requires : tie.Need-first-met-requires
-first-met-requires c κs = search needs
+first-met-requires c κs =
+    let p3 = c .before .before .before in
+    let p5 = p3 .before .before in
+    (p5 .pre .0, p5 .pre .2, series-in (p5 .args .b .now) (p5 .args .i) _ (p3 .regular-at .ensures))
 
 enum-told : tie.Need-enum-told
 enum-told c = search needs

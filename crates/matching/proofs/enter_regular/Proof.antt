@@ -1,6 +1,7 @@
 -- `matching::enter_regular` meets its contract.
 use mathlib.Core.Path.{sym, ap, _∙_}
 use Prim.Native.Nat.{ℕ}
+use native.Mathlib.Omega.{arith}
 use Rattle.rules.specs.Effects.{Effect}
 use Rattle.rules.specs.Trading.{putRegular}
 use Rattle.wire.specs.Seen.{seen}
@@ -15,11 +16,18 @@ use Rattle.matching.proofs.enter_regular.Tie as tie
 regulars-used-requires : tie.Need-regulars-used-requires
 regulars-used-requires c κs = search needs
 
-add-regular-requires : tie.Need-add-regular-requires
-add-regular-requires c κs = search needs
+add-order-requires : tie.Need-add-order-requires
+add-order-requires c κs =
+    let s = c .before .before .before .before .before in
+    (s .pre .0, s .pre .1 .right, s .pre .2, s .pre .3, s .pre .4, s .pre .5, s .pre .6)
 
 meet-all-requires : tie.Need-meet-all-requires
-meet-all-requires c κs = search needs
+meet-all-requires c κs =
+    let p4 = c .before .before .before .before in
+    let p6 = p4 .before .before in
+    let s = p6 .before .before .before .before in
+    let a = p4 .add-order .ensures .1 in
+    (p4 .add-order .kept .0 ∙ s .pre .0, omega (arith, a .regulars, p6 .regulars-used .ensures .0), a .right (s .pre .1 .right))
 
 same-length : tie.Need-same-length
 same-length c = search needs
@@ -33,14 +41,14 @@ returns c =
     let p9 = p4 .before .before .before .before .before in
     let p11 = p9 .before .before in
     let p15 = p11 .before .before .before .before in
-    let a = p9 .add-regular .ensures in
+    let a = p9 .add-order .ensures in
     let m = p4 .meet-all .ensures in
     let u = p11 .regulars-used .ensures .0 in
     let v = venueOf (p15 .args .b .now) in (
       m .0
           ∙ ap (λ (e : Effect). seen (p15 .args .out .now) (p15 .args .at) does e)
           (enter-law (p15 .args .o) v _ _ (u ∙ sym (dense-regular (p15 .args .b .now) (p15 .pre .1))) (a .0 ∙ ap (λ (k : ℕ). putRegular k (p15 .args .o) v) (sym u))),
-      record { regulars = m .1 .regulars ∙ a .1 .regulars; complexes = m .1 .complexes ∙ a .1 .complexes },
+      record { regulars = m .1 .regulars ∙ a .1 .regulars; complexes = m .1 .complexes ∙ a .1 .complexes; right = λ h. m .1 .right (a .1 .right h) },
     )
 
 pub enter-regular-spec : {M : Type 1} → statement M
@@ -48,7 +56,7 @@ enter-regular-spec =
     tie.close
     (tie.spec
     regulars-used-requires
-    add-regular-requires
+    add-order-requires
     meet-all-requires
     same-length
     same-length-2

@@ -14,30 +14,33 @@ regular-at-requires : tie.Need-regular-at-requires
 regular-at-requires c κs = let s = c .before .before .before in let w = regulars-few (s .args .b .now) in (s .pre .0, omega arith)
 
 pairing-of-requires : tie.Need-pairing-of-requires
-pairing-of-requires c κs = search needs
+pairing-of-requires c κs = let s = c .before .before .before .before .before in (s .pre .0, s .pre .2)
 
-fill-regular-requires : tie.Need-fill-regular-requires
-fill-regular-requires c κs = search needs
+fill-order-requires : tie.Need-fill-order-requires
+fill-order-requires c κs = search needs
 
 emit-trade-requires : tie.Need-emit-trade-requires
 emit-trade-requires c κs = search needs
 
 take-requires : tie.Need-take-requires
-take-requires c κs = search needs
+take-requires c κs =
+    let p8 = c .before .before .before .before .before .before .before .before in
+    let p16 = p8 .before .before .before .before .before .before .before .before in
+    (p8 .fill-order .kept .0 ∙ p16 .pre .0, p8 .fill-order .ensures .1 .right (p16 .pre .2))
 
 place-or-end-requires : tie.Need-place-or-end-requires
 place-or-end-requires c κs =
     let p5 = c .before .before .before .before .before in
     let p14 = p5 .before .before .before .before .before .before .before .before .before in
     let p22 = p14 .before .before .before .before .before .before .before .before in
-    p5 .take .kept .0 ∙ p14 .fill-regular .kept .0 ∙ p22 .pre .0
+    p5 .take .kept .0 ∙ p14 .fill-order .kept .0 ∙ p22 .pre .0
 
 pair-off-requires : tie.Need-pair-off-requires
 pair-off-requires c κs =
     let p9 = c .before .before .before .before .before .before .before .before .before in
     let p18 = p9 .before .before .before .before .before .before .before .before .before in
     let p26 = p18 .before .before .before .before .before .before .before .before in
-    p9 .take .kept .0 ∙ p18 .fill-regular .kept .0 ∙ p26 .pre .0
+    p9 .take .kept .0 ∙ p18 .fill-order .kept .0 ∙ p26 .pre .0
 
 same-length : tie.Need-same-length
 same-length c = search needs
@@ -57,9 +60,9 @@ returns c =
     let p31 = p27 .before .before .before .before in
     let p = p25 .pairing-of in (
       hit-law _ _ _ (venueOf (p31 .args .b .now)) _ _ _ _ _ _ _ _ _ _ _ _ _ _ _ (back (fits-of (p .result .net) (omega (arith, p .ensures .1))))
-          (p27 .regular-at .ensures ∙ sym (regular-at (p31 .args .b .now) (p31 .args .i) (p31 .pre .1))) (p .ensures .0) (p23 .fill-regular .ensures .0)
+          (p27 .regular-at .ensures ∙ sym (regular-at (p31 .args .b .now) (p31 .args .i) (p31 .pre .1))) (p .ensures .0) (p23 .fill-order .ensures .0)
           (p19 .emit-trade .ensures) (p14 .take .ensures .0) (p8 .place-or-end .ensures) (p4 .pair-off .ensures .0),
-      counts-on _ _ _ (counts-on _ _ _ (p23 .fill-regular .ensures .1) (p14 .take .ensures .1)) (p4 .pair-off .ensures .1),
+      counts-on _ _ _ (counts-on _ _ _ (p23 .fill-order .ensures .1) (p14 .take .ensures .1)) (p4 .pair-off .ensures .1),
     )
 
 pub hit-spec : {M : Type 1} → statement M
@@ -68,7 +71,7 @@ hit-spec =
     (tie.spec
     regular-at-requires
     pairing-of-requires
-    fill-regular-requires
+    fill-order-requires
     emit-trade-requires
     take-requires
     place-or-end-requires

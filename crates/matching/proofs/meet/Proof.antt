@@ -12,14 +12,14 @@ use Rattle.matching.proofs.meet.Tie as tie
 regular-at-requires : tie.Need-regular-at-requires
 regular-at-requires c κs = let s = c .before .before .before in let w = regulars-few (s .args .b .now) in (s .pre .0, omega (arith, s .pre .1))
 
-fill-regular-requires : tie.Need-fill-regular-requires
-fill-regular-requires c κs = search needs
+fill-order-requires : tie.Need-fill-order-requires
+fill-order-requires c κs = search needs
 
 trade-with-requires : tie.Need-trade-with-requires
 trade-with-requires c κs =
     let p4 = c .before .before .before .before in
     let p10 = p4 .before .before .before .before .before .before in
-    (p4 .fill-regular .kept .0 ∙ p10 .pre .0, rw (p4 .fill-regular .ensures .1 .regulars) (p10 .pre .2))
+    (p4 .fill-order .kept .0 ∙ p10 .pre .0, rw (p4 .fill-order .ensures .1 .regulars) (p10 .pre .2))
 
 same-length : tie.Need-same-length
 same-length c = search needs
@@ -34,9 +34,9 @@ returns c =
     let p11 = p9 .before .before in
     let p15 = p11 .before .before .before .before in (
       meet-law _ _ _ (venueOf (p15 .args .b .now)) _ _ _ _ _ _ _
-          (p11 .regular-at .ensures ∙ sym (regular-at (p15 .args .b .now) (p15 .args .i) (p15 .pre .1))) (p9 .fill-regular .ensures .0)
+          (p11 .regular-at .ensures ∙ sym (regular-at (p15 .args .b .now) (p15 .args .i) (p15 .pre .1))) (p9 .fill-order .ensures .0)
           (p4 .trade-with .ensures .0),
-      counts-on _ _ _ (p9 .fill-regular .ensures .1) (p4 .trade-with .ensures .1),
+      counts-on _ _ _ (p9 .fill-order .ensures .1) (p4 .trade-with .ensures .1),
     )
 
 pub meet-spec : {M : Type 1} → statement M
@@ -44,7 +44,7 @@ meet-spec =
     tie.close
     (tie.spec
     regular-at-requires
-    fill-regular-requires
+    fill-order-requires
     trade-with-requires
     same-length
     same-length-2

@@ -24,7 +24,7 @@ decide-requires : tie.Need-decide-requires Inv-loop μ-loop
 decide-requires c κs =
     let p2 = c .before .before in
     let p5 = p2 .before .before .before in
-    (p2 .loop .inv .whole, rw (p2 .loop .inv .counts .regulars) (p5 .pre .1))
+    (p2 .loop .inv .whole, rw (p2 .loop .inv .counts .regulars) (p5 .pre .1), p2 .loop .inv .counts .right (p5 .pre .2))
 
 enum-told : tie.Need-enum-told Inv-loop μ-loop
 enum-told c = search needs
@@ -50,7 +50,7 @@ hit-requires : tie.Need-hit-requires Inv-loop μ-loop
 hit-requires c κs =
     let p8 = c .before .before .before .before .before .before .before .before in
     let p11 = p8 .before .before .before in
-    (p8 .loop .inv .whole, rw (p8 .loop .inv .counts .regulars) (p11 .pre .1))
+    (p8 .loop .inv .whole, rw (p8 .loop .inv .counts .regulars) (p11 .pre .1), p8 .loop .inv .counts .right (p11 .pre .2))
 
 loop-less : tie.Need-loop-less Inv-loop μ-loop
 loop-less c = search needs

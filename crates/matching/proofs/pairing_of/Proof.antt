@@ -20,15 +20,14 @@ opposite-of-requires : tie.Need-opposite-of-requires
 opposite-of-requires c κs = search needs
 
 best-regular-requires : tie.Need-best-regular-requires
-best-regular-requires c κs = search needs
+best-regular-requires c κs =
+    let p2 = c .before .before in
+    let p4 = p2 .before .before in
+    let h = leg-in (p2 .parent-of .result) (p4 .args .series) (rw (← p2 .parent-of .ensures) at (parent-legs (p4 .args .b .now) (p4 .args .l))) in
+    (p4 .pre .0, p4 .pre .1, rw (c .before .other-leg .ensures) (h .0), rw (c .opposite-of .ensures) (opposite-in _))
 
 clear-price-requires : tie.Need-clear-price-requires
-clear-price-requires c κs =
-    let p2 = c .before .before in
-    let p3 = p2 .before in
-    let p5 = p3 .before .before in
-    let h = leg-in (p3 .parent-of .result) (p5 .args .series) (rw (← p3 .parent-of .ensures) at (parent-legs (p5 .args .b .now) (p5 .args .l))) in
-    (p5 .pre, c .best-regular .ensures, rw (p2 .other-leg .ensures) (h .0), rw (c .before .opposite-of .ensures) (opposite-in _))
+clear-price-requires c κs = let h = best-regular-requires (c .before) κs in (h .0, c .best-regular .ensures, h .2, h .3)
 
 opposite-of-requires-2 : tie.Need-opposite-of-requires-2
 opposite-of-requires-2 c κs = search needs

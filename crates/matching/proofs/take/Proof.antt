@@ -16,10 +16,13 @@ opposite-of-requires : tie.Need-opposite-of-requires Inv-loop μ-loop
 opposite-of-requires c κs = search needs
 
 loop-holds : tie.Need-loop-holds Inv-loop μ-loop
-loop-holds c = taking-start _ _ _ _ _ _ _ _ (c .before .before .before .pre)
+loop-holds c = taking-start _ _ _ _ _ _ _ _ (c .before .before .before .pre .0)
 
 first-for-requires : tie.Need-first-for-requires Inv-loop μ-loop
-first-for-requires c κs = c .before .before .loop .inv .whole
+first-for-requires c κs =
+    let p2 = c .before .before in
+    let p6 = p2 .before .before .before .before in
+    (p2 .loop .inv .whole, p2 .loop .inv .counts .right (p6 .pre .1))
 
 enum-known-found : tie.Need-enum-known-found Inv-loop μ-loop
 enum-known-found c = search needs
@@ -31,7 +34,7 @@ same-length : tie.Need-same-length Inv-loop μ-loop
 same-length c =
     let p5 = c .before .before .before .before .before in
     let p9 = p5 .before .before .before .before in
-    p5 .loop .inv .whole ∙ sym (p9 .pre)
+    p5 .loop .inv .whole ∙ sym (p9 .pre .0)
 
 same-length-2 : tie.Need-same-length-2 Inv-loop μ-loop
 same-length-2 c = taking-room (c .before .before .before .before .before .loop .inv)
@@ -87,7 +90,7 @@ loop-again c =
     (p7 .lesser .ensures) _ _ _ (p4 .trade-with .kept .0) (p4 .trade-with .ensures)
 
 same-length-3 : tie.Need-same-length-3 Inv-loop μ-loop
-same-length-3 c = c .before .loop .inv .whole ∙ sym (c .before .before .before .before .before .pre)
+same-length-3 c = c .before .loop .inv .whole ∙ sym (c .before .before .before .before .before .pre .0)
 
 same-length-4 : tie.Need-same-length-4 Inv-loop μ-loop
 same-length-4 c = taking-room (c .before .loop .inv)

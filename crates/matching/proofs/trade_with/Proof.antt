@@ -11,8 +11,8 @@ use Rattle.matching.proofs.trade_with.Tie as tie
 regular-at-requires : tie.Need-regular-at-requires
 regular-at-requires c κs = let s = c .before .before .before in let w = regulars-few (s .args .b .now) in (s .pre .0, omega arith)
 
-fill-regular-requires : tie.Need-fill-regular-requires
-fill-regular-requires c κs = search needs
+fill-order-requires : tie.Need-fill-order-requires
+fill-order-requires c κs = search needs
 
 emit-trade-requires : tie.Need-emit-trade-requires
 emit-trade-requires c κs = search needs
@@ -30,9 +30,9 @@ returns c =
     let p8 = p6 .before .before in
     let p12 = p8 .before .before .before .before in (
       trade-law _ _ _ _ (venueOf (p12 .args .b .now)) _ _ _ _ _ _
-          (p8 .regular-at .ensures ∙ sym (regular-at (p12 .args .b .now) (p12 .args .j) (p12 .pre .1))) (p6 .fill-regular .ensures .0)
+          (p8 .regular-at .ensures ∙ sym (regular-at (p12 .args .b .now) (p12 .args .j) (p12 .pre .1))) (p6 .fill-order .ensures .0)
           (p2 .emit-trade .ensures),
-      p6 .fill-regular .ensures .1,
+      p6 .fill-order .ensures .1,
     )
 
 pub trade-with-spec : {M : Type 1} → statement M
@@ -40,7 +40,7 @@ trade-with-spec =
     tie.close
     (tie.spec
     regular-at-requires
-    fill-regular-requires
+    fill-order-requires
     emit-trade-requires
     same-length
     same-length-2

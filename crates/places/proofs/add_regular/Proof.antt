@@ -1,5 +1,8 @@
 -- `places::add_regular` meets its contract.
 use Rattle.places.proofs.Stores.{added-regular}
+use mathlib.Core.Path.{_∙_}
+use lib.ListN.{length-set}
+use native.Mathlib.Omega.{arith}
 use borrow.Author.Needs.{needs}
 use Rattle.places.proofs.add_regular.Statement.{statement}
 use Rattle.places.proofs.add_regular.Tie as tie
@@ -19,13 +22,16 @@ cast-b c = search needs
 slice-write-b : tie.Need-slice-write-b
 slice-write-b c = search needs
 
+lower-requires : tie.Need-lower-requires
+lower-requires c κs = (simp length-set (omega arith), omega arith)
+
 same-length : tie.Need-same-length
-same-length c = search needs
+same-length c = c .before .before .lower .kept .0 ∙ simp length-set (c .before .before .before .before .before .before .write-regular .kept .0)
 
 returns : tie.Need-returns
-returns c = let s = c .before .before .before .before .before .before .before in
-    added-regular (s .args .b .now) _ _ (s .args .o) (s .pre .0) (s .pre .1) (s .pre .2) (s .pre .3)
-    (c .before .before .before .before .regulars-used .ensures .0) (c .before .before .write-regular .ensures)
+returns c = let s = c .before .before .before .before .before .before .before .before .before .before .before in
+    added-regular (s .args .b .now) _ _ _ (s .args .o) (s .pre .0) (s .pre .1) (s .pre .2) (s .pre .3)
+    (c .before .before .before .before .before .before .before .before .regulars-used .ensures .0) (c .before .before .before .before .before .before .write-regular .ensures) (c .before .before .lower .ensures)
 
 pub add-regular-spec : {M : Type 1} → statement M
 add-regular-spec =
@@ -36,5 +42,6 @@ add-regular-spec =
     add-b
     cast-b
     slice-write-b
+    lower-requires
     same-length
     returns)

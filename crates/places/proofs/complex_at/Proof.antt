@@ -7,29 +7,17 @@ use borrow.Author.Needs.{needs}
 use Rattle.places.proofs.complex_at.Statement.{statement}
 use Rattle.places.proofs.complex_at.Tie as tie
 
-mul-one : tie.Need-mul-one
-mul-one c = search needs
+mul-legs : tie.Need-mul-legs
+mul-legs c = search needs
 
-add-one : tie.Need-add-one
-add-one c = search needs
+add-legs : tie.Need-add-legs
+add-legs c = search needs
 
-mul-one-2 : tie.Need-mul-one-2
-mul-one-2 c = search needs
+mul-legs-2 : tie.Need-mul-legs-2
+mul-legs-2 c = search needs
 
-shared-slice-read-one : tie.Need-shared-slice-read-one
-shared-slice-read-one c = search needs
-
-mul-two : tie.Need-mul-two
-mul-two c = search needs
-
-add-two : tie.Need-add-two
-add-two c = search needs
-
-mul-two-2 : tie.Need-mul-two-2
-mul-two-2 c = search needs
-
-shared-slice-read-two : tie.Need-shared-slice-read-two
-shared-slice-read-two c = search needs
+shared-slice-read-legs : tie.Need-shared-slice-read-legs
+shared-slice-read-legs c = search needs
 
 mul-class : tie.Need-mul-class
 mul-class c = search needs
@@ -58,44 +46,44 @@ shared-slice-read-limit-of c = search needs
 limit-of-requires : tie.Need-limit-of-requires
 limit-of-requires c κs = search needs
 
-mul-t7 : tie.Need-mul-t7
-mul-t7 c = search needs
+mul-t6 : tie.Need-mul-t6
+mul-t6 c = search needs
 
-add-t8 : tie.Need-add-t8
-add-t8 c = search needs
+add-t7 : tie.Need-add-t7
+add-t7 c = search needs
 
-mul-t9 : tie.Need-mul-t9
-mul-t9 c = search needs
+mul-t8 : tie.Need-mul-t8
+mul-t8 c = search needs
 
-shared-slice-read-t11 : tie.Need-shared-slice-read-t11
-shared-slice-read-t11 c = search needs
+shared-slice-read-t10 : tie.Need-shared-slice-read-t10
+shared-slice-read-t10 c = search needs
 
-cast-t18 : tie.Need-cast-t18
-cast-t18 c = search needs
+cast-t16 : tie.Need-cast-t16
+cast-t16 c = search needs
 
-cast-t20 : tie.Need-cast-t20
-cast-t20 c = search needs
+cast-t19 : tie.Need-cast-t19
+cast-t19 c = search needs
 
-cast-t23 : tie.Need-cast-t23
-cast-t23 c = search needs
+cast-t22 : tie.Need-cast-t22
+cast-t22 c = search needs
 
-cast-t25 : tie.Need-cast-t25
-cast-t25 c = search needs
+cast-t24 : tie.Need-cast-t24
+cast-t24 c = search needs
 
-cast-t27 : tie.Need-cast-t27
-cast-t27 c = search needs
+cast-t26 : tie.Need-cast-t26
+cast-t26 c = search needs
 
-mul-t28 : tie.Need-mul-t28
-mul-t28 c = search needs
+mul-t27 : tie.Need-mul-t27
+mul-t27 c = search needs
 
-add-t29 : tie.Need-add-t29
-add-t29 c = search needs
+add-t28 : tie.Need-add-t28
+add-t28 c = search needs
 
-mul-t30 : tie.Need-mul-t30
-mul-t30 c = search needs
+mul-t29 : tie.Need-mul-t29
+mul-t29 c = search needs
 
-shared-slice-read-t32 : tie.Need-shared-slice-read-t32
-shared-slice-read-t32 c = search needs
+shared-slice-read-t31 : tie.Need-shared-slice-read-t31
+shared-slice-read-t31 c = search needs
 
 returns : tie.Need-returns
 unfolding complexIn
@@ -105,14 +93,10 @@ pub complex-at-spec : {M : Type 1} → statement M
 complex-at-spec =
     tie.close
     (tie.spec
-    mul-one
-    add-one
-    mul-one-2
-    shared-slice-read-one
-    mul-two
-    add-two
-    mul-two-2
-    shared-slice-read-two
+    mul-legs
+    add-legs
+    mul-legs-2
+    shared-slice-read-legs
     mul-class
     add-class
     mul-class-2
@@ -122,17 +106,17 @@ complex-at-spec =
     mul-limit-of-2
     shared-slice-read-limit-of
     limit-of-requires
-    mul-t7
-    add-t8
-    mul-t9
-    shared-slice-read-t11
-    cast-t18
-    cast-t20
-    cast-t23
-    cast-t25
-    cast-t27
-    mul-t28
-    add-t29
-    mul-t30
-    shared-slice-read-t32
+    mul-t6
+    add-t7
+    mul-t8
+    shared-slice-read-t10
+    cast-t16
+    cast-t19
+    cast-t22
+    cast-t24
+    cast-t26
+    mul-t27
+    add-t28
+    mul-t29
+    shared-slice-read-t31
     returns)

@@ -1,12 +1,9 @@
 -- `places::fill_complex` meets its contract.
-use lib.ListN.{set}
-use Rattle.places.proofs.Parts.{stored, counts-kept, complexes-few}
-use mathlib.Core.Logic.{inr}
-use Rattle.places.proofs.Stores.{filled-complex}
-use Rattle.places.specs.Layout.{venueOf, complexesUsed}
+use mathlib.Core.Path.{_∙_}
 use native.Mathlib.Omega.{arith}
-use Prim.Native.Nat.{ℕ, _+_, _*_}
-use mathlib.Core.Path.{ap, _∙_}
+use lib.ListN.{length-set}
+use Rattle.places.specs.Layout.{complexesUsed}
+use Rattle.places.proofs.Stores.{complex-stays, complex-leaves}
 use borrow.Author.Needs.{needs}
 use Rattle.places.proofs.fill_complex.Statement.{statement}
 use Rattle.places.proofs.fill_complex.Tie as tie
@@ -50,12 +47,20 @@ same-length : tie.Need-same-length
 same-length c = search needs
 
 returns : tie.Need-returns
-returns c = let s = c .before .before .before in
-    let z = complexes-few (s .args .b .now) in (
-      ap (λ (x : ℕ). venueOf (set (s .args .b .now) (6 * s .args .i + 517) x)) (c .less .ensures)
-          ∙ filled-complex (s .args .b .now) (s .args .i) (s .args .k) (s .pre .0) (s .pre .1),
-      counts-kept (stored (s .args .b .now) (6 * s .args .i + 517) (c .less .result)) (inr (omega arith)),
-    )
+returns c = let s = c .before .before .before .before in
+    complex-stays (s .args .b .now) (s .args .i) (s .args .k) (c .before .less .result) (s .pre .0) (s .pre .1) (c .before .less .ensures) (c .if1 .taken)
+
+lower-requires : tie.Need-lower-requires
+unfolding complexesUsed
+lower-requires c κs = (simp length-set (omega arith), omega arith)
+
+same-length-2 : tie.Need-same-length-2
+same-length-2 c = c .before .before .lower .kept .0 ∙ simp length-set
+
+returns-2 : tie.Need-returns-2
+returns-2 c = let s = c .before .before .before .before .before .before .before .before in
+    let l = c .before .before .before .before .before .less in
+    complex-leaves (s .args .b .now) (s .args .i) (s .args .k) (l .result) (s .pre .0) (s .pre .1) (l .ensures) _ (c .before .before .lower .ensures)
 
 pub fill-complex-spec : {M : Type 1} → statement M
 fill-complex-spec =
@@ -71,4 +76,7 @@ fill-complex-spec =
     mul-b-2
     slice-write-b
     same-length
-    returns)
+    returns
+    lower-requires
+    same-length-2
+    returns-2)

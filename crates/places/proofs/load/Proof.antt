@@ -1,4 +1,6 @@
 -- `places::load` meets its contract.
+use native.Mathlib.Omega.{arith}
+use lib.ListN.{length-set}
 use Rattle.places.proofs.Loaded.{loaded}
 use borrow.Author.Needs.{needs}
 use Rattle.places.proofs.load.Statement.{statement}
@@ -19,14 +21,29 @@ load-series-requires c κs = search needs
 put-last-requires : tie.Need-put-last-requires
 put-last-requires c κs = search needs
 
+count-mask-requires : tie.Need-count-mask-requires
+count-mask-requires c κs = search needs
+
+slice-write-b : tie.Need-slice-write-b
+slice-write-b c = search needs
+
+slice-write-b-2 : tie.Need-slice-write-b-2
+slice-write-b-2 c = simp length-set (omega arith)
+
+cast-b : tie.Need-cast-b
+cast-b c = search needs
+
+slice-write-b-3 : tie.Need-slice-write-b-3
+slice-write-b-3 c = simp length-set (omega arith)
+
 same-length : tie.Need-same-length
-same-length c = search needs
+same-length c = simp length-set (omega arith)
 
 returns : tie.Need-returns
-returns c = let l = c .before .before .before .before .before .before .before .before .before .before .before .load-leggings .ensures in
-    let s = c .before .before .before .before .before .before .load-series .ensures in
-    let p = c .before .before .put-last .ensures in
-    loaded (c .before .before .before .before .before .before .before .before .before .before .before .before .before .before .before .before .before .before .before .before .before .before .before .before .before .args .v) _ _ _ _ _ _ (c .before .before .before .before .before .before .before .before .before .before .before .before .before .before .before .before .before .before .before .before .before .load-regulars .ensures) (c .before .before .before .before .before .before .before .before .before .before .before .before .before .before .before .before .load-complexes .ensures) (l .0) (l .1) (s .0) (s .1) (p .0) (p .1)
+returns c = let l = c .before .before .before .before .before .before .before .before .before .before .before .before .before .load-leggings .ensures in
+    let s = c .before .before .before .before .before .before .before .before .load-series .ensures in
+    let p = c .before .before .before .before .put-last .ensures in
+    loaded (c .before .before .before .before .before .before .before .before .before .before .before .before .before .before .before .before .before .before .before .before .before .before .before .before .before .before .before .args .v) _ _ _ _ _ _ _ (c .before .before .before .before .before .before .before .before .before .before .before .before .before .before .before .before .before .before .before .before .before .before .before .load-regulars .ensures) (c .before .before .before .before .before .before .before .before .before .before .before .before .before .before .before .before .before .before .load-complexes .ensures) (l .0) (l .1) (s .0) (s .1) (p .0) (p .1) (omega arith) (c .count-mask .ensures)
 
 pub load-spec : {M : Type 1} → statement M
 load-spec =
@@ -37,5 +54,10 @@ load-spec =
     load-leggings-requires
     load-series-requires
     put-last-requires
+    count-mask-requires
+    slice-write-b
+    slice-write-b-2
+    cast-b
+    slice-write-b-3
     same-length
     returns)

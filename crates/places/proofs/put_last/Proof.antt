@@ -1,5 +1,6 @@
 -- `places::put_last` meets its contract.
-use Rattle.places.proofs.Parts.{stored, counts-kept}
+use Rattle.places.proofs.Parts.{stored}
+use Rattle.places.proofs.Beside.{counts-kept}
 use mathlib.Core.Logic.{inl}
 use native.Mathlib.Omega.{arith}
 use Rattle.places.proofs.Stores.{put-last}
@@ -16,7 +17,7 @@ same-length c = search needs
 returns : tie.Need-returns
 returns c = (
   put-last (c .args .b .now) (c .args .id) (c .pre),
-  counts-kept (stored (c .args .b .now) 778 (c .args .id)) (inl (omega arith)),
+  counts-kept (stored (c .args .b .now) 778 (c .args .id)) (omega arith) (omega arith) (inl (omega arith)),
 )
 
 pub put-last-spec : {M : Type 1} → statement M

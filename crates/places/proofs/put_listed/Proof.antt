@@ -1,6 +1,6 @@
 -- `places::put_listed` meets its contract.
 use Rattle.places.proofs.Stores.{sets-outside, put-listed}
-use Rattle.places.proofs.Parts.{counts-kept}
+use Rattle.places.proofs.Beside.{counts-kept}
 use mathlib.Core.Logic.{inr}
 use mathlib.Core.List.{[], _∷_}
 use lib.ListN.{length-set}
@@ -61,7 +61,7 @@ returns c = let z = c .before in
     let x = z .args .x in
     rw (p1, p2) (
       put-listed (z .args .b .now) n x (z .pre .0) (z .pre .1) (c .struct-known .given .0 .fits),
-      counts-kept (sets-outside (z .args .b .now) (3 * n + 752) (x .status ∷ x .bid ∷ x .offer ∷ [])) (inr (omega arith)),
+      counts-kept (sets-outside (z .args .b .now) (3 * n + 752) (x .status ∷ x .bid ∷ x .offer ∷ [])) (omega arith) (omega arith) (inr (omega arith)),
     )
 
 pub put-listed-spec : {M : Type 1} → statement M

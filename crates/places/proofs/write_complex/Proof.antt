@@ -4,7 +4,8 @@ use mathlib.Core.Path.{_≡_, refl, ap, _∙_}
 use Prim.Native.Nat.{suc, _+_, _*_}
 use mir.Syntax.{w32}
 use mir.Val.{SFits}
-use Rattle.places.specs.Layout.{limitNumber, complexRow}
+use Rattle.rules.specs.Words.{placeOf}
+use Rattle.places.specs.Layout.{legsKey, limitNumber, complexRow}
 use Rattle.places.proofs.Limits.{back32, limit-back}
 use lib.ListN.{length-set}
 use borrow.Author.Needs.{needs}
@@ -33,25 +34,33 @@ slice-write-b : tie.Need-slice-write-b
 slice-write-b c = search needs
 
 mul-b-3 : tie.Need-mul-b-3
+unfolding placeOf
 mul-b-3 c = search needs
 
 add-b-2 : tie.Need-add-b-2
+unfolding placeOf
 add-b-2 c = search needs
 
 mul-b-4 : tie.Need-mul-b-4
 mul-b-4 c = search needs
 
-slice-write-b-2 : tie.Need-slice-write-b-2
-slice-write-b-2 c = simp length-set (omega arith)
+add-b-3 : tie.Need-add-b-3
+add-b-3 c = search needs
 
 mul-b-5 : tie.Need-mul-b-5
 mul-b-5 c = search needs
 
-add-b-3 : tie.Need-add-b-3
-add-b-3 c = search needs
+slice-write-b-2 : tie.Need-slice-write-b-2
+slice-write-b-2 c = simp length-set (omega arith)
 
 mul-b-6 : tie.Need-mul-b-6
 mul-b-6 c = search needs
+
+add-b-4 : tie.Need-add-b-4
+add-b-4 c = search needs
+
+mul-b-7 : tie.Need-mul-b-7
+mul-b-7 c = search needs
 
 slice-write-b-3 : tie.Need-slice-write-b-3
 slice-write-b-3 c = simp length-set (omega arith)
@@ -59,38 +68,38 @@ slice-write-b-3 c = simp length-set (omega arith)
 cast-b : tie.Need-cast-b
 cast-b c = search needs
 
-mul-b-7 : tie.Need-mul-b-7
-mul-b-7 c = search needs
-
-add-b-4 : tie.Need-add-b-4
-add-b-4 c = search needs
-
 mul-b-8 : tie.Need-mul-b-8
 mul-b-8 c = search needs
-
-slice-write-b-4 : tie.Need-slice-write-b-4
-slice-write-b-4 c = simp length-set (omega arith)
-
-mul-b-9 : tie.Need-mul-b-9
-mul-b-9 c = search needs
 
 add-b-5 : tie.Need-add-b-5
 add-b-5 c = search needs
 
+mul-b-9 : tie.Need-mul-b-9
+mul-b-9 c = search needs
+
+slice-write-b-4 : tie.Need-slice-write-b-4
+slice-write-b-4 c = simp length-set (omega arith)
+
 mul-b-10 : tie.Need-mul-b-10
 mul-b-10 c = search needs
-
-slice-write-b-5 : tie.Need-slice-write-b-5
-slice-write-b-5 c = simp length-set (omega arith)
-
-mul-b-11 : tie.Need-mul-b-11
-mul-b-11 c = search needs
 
 add-b-6 : tie.Need-add-b-6
 add-b-6 c = search needs
 
+mul-b-11 : tie.Need-mul-b-11
+mul-b-11 c = search needs
+
+slice-write-b-5 : tie.Need-slice-write-b-5
+slice-write-b-5 c = simp length-set (omega arith)
+
 mul-b-12 : tie.Need-mul-b-12
 mul-b-12 c = search needs
+
+add-b-7 : tie.Need-add-b-7
+add-b-7 c = search needs
+
+mul-b-13 : tie.Need-mul-b-13
+mul-b-13 c = search needs
 
 slice-write-b-6 : tie.Need-slice-write-b-6
 slice-write-b-6 c = simp length-set (omega arith)
@@ -99,7 +108,7 @@ same-length : tie.Need-same-length
 same-length c = simp length-set
 
 returns : tie.Need-returns
-unfolding complexRow
+unfolding complexRow legsKey
 returns c = let i = c .before .before .before .before .before .before .args .i in
     let p1 : 6 * i + 513 ≡ suc (6 * i + 512) = omega arith in
     let p2 : 6 * i + 514 ≡ suc (suc (6 * i + 512)) = omega arith in
@@ -125,23 +134,25 @@ write-complex-spec =
     mul-b-3
     add-b-2
     mul-b-4
-    slice-write-b-2
-    mul-b-5
     add-b-3
+    mul-b-5
+    slice-write-b-2
     mul-b-6
+    add-b-4
+    mul-b-7
     slice-write-b-3
     cast-b
-    mul-b-7
-    add-b-4
     mul-b-8
-    slice-write-b-4
-    mul-b-9
     add-b-5
+    mul-b-9
+    slice-write-b-4
     mul-b-10
-    slice-write-b-5
-    mul-b-11
     add-b-6
+    mul-b-11
+    slice-write-b-5
     mul-b-12
+    add-b-7
+    mul-b-13
     slice-write-b-6
     same-length
     returns)

@@ -24,7 +24,7 @@ returns c =
       does-nothing (venueOf (a .b .now)) (a .out .now) (a .at)
           ∙ ap (λ (e : Effect). seen (a .out .now) (a .at) does e)
           (clear-free (a .n) (venueOf (a .b .now)) _ (legging-at (a .b .now) (a .n) (s .pre .1) ∙ sym (p2 .legging-at .ensures)) (a .cause) (c .if1 .taken)),
-      record { regulars = refl; complexes = refl },
+      record { regulars = refl; complexes = refl; right = λ h. h },
     )
 
 put-legging-requires : tie.Need-put-legging-requires

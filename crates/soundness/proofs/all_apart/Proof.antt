@@ -12,16 +12,16 @@ use Rattle.soundness.proofs.all_apart.Statement.{statement}
 use Rattle.soundness.proofs.all_apart.Tie as tie
 
 abbrev Inv-loop : tie.InvT-loop
-Inv-loop b g s₀ s = (s ≤ 8) × (all (apart (venueOf b)) (upto (λ (n : ℕ). n) s (8 - s)) ≡ all (apart (venueOf b)) eight)
+Inv-loop b s₀ s = (s ≤ 8) × (all (apart (venueOf b)) (upto (λ (n : ℕ). n) s (8 - s)) ≡ all (apart (venueOf b)) eight)
 
 abbrev μ-loop : tie.MeasureT-loop
-μ-loop b g s₀ s = 8 - s
+μ-loop b s₀ s = 8 - s
 
 loop-holds : tie.Need-loop-holds Inv-loop μ-loop
 loop-holds c = (search needs, series-scan (apart (venueOf (c .before .args .b .now))))
 
 is-apart-requires : tie.Need-is-apart-requires Inv-loop μ-loop
-is-apart-requires c κs = search needs
+is-apart-requires c κs = let s = c .before .before .before in (s .pre .0, s .pre .1, c .loop-test .taken)
 
 returns : tie.Need-returns Inv-loop μ-loop
 returns c = scan-stop (apart (venueOf (c .before .before .before .before .before .args .b .now))) (λ n. n) (c .before .before .before .loop .s) 8 (c .before .before .loop-test .taken) (sym (c .before .is-apart .ensures) ∙ not-true _ (c .if1 .taken)) ∙ c .before .before .before .loop .inv .1

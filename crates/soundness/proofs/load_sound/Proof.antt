@@ -16,7 +16,10 @@ load-requires : tie.Need-load-requires
 load-requires c κs = (c .before .before .before .before .pre, places-load (c .before .before .before .before .args .v) (sym (c .before .before .places-sound .ensures) ∙ not-false _ (c .before .if1 .left)))
 
 orders-sound-requires : tie.Need-orders-sound-requires
-orders-sound-requires c κs = search needs
+orders-sound-requires c κs =
+    let p3 = c .before .before .before in
+    let s = p3 .before .before .before .before .before in
+    (p3 .load .kept .0 ∙ s .pre, p3 .load .ensures .dense .right)
 
 same-length : tie.Need-same-length
 same-length c = search needs

@@ -18,20 +18,20 @@ ids-distinct-requires c κs = search needs
 returns : tie.Need-returns
 returns c = let b = c .before .before .before .args .b .now in let v = venueOf b in first-fails (idsDistinct v) (all (apart v) eight) (leggingsSound v 0 (v .legging)) (sym (c .before .ids-distinct .ensures) ∙ not-true _ (c .if1 .taken)) ∙ orders-are b (omega (arith, c .before .before .shared-slice-known .given 778))
 
-levels-requires : tie.Need-levels-requires
-levels-requires c κs = search needs
-
 all-apart-requires : tie.Need-all-apart-requires
-all-apart-requires c κs = search needs
+all-apart-requires c κs = c .before .before .before .pre
 
 returns-2 : tie.Need-returns-2
-returns-2 c = let b = c .before .before .before .before .before .before .args .b .now in let v = venueOf b in second-fails (idsDistinct v) (all (apart v) eight) (leggingsSound v 0 (v .legging)) (sym (c .before .all-apart .ensures) ∙ not-true _ (c .if2 .taken)) ∙ orders-are b (omega (arith, c .before .before .before .before .before .shared-slice-known .given 778))
+returns-2 c = let b = c .before .before .before .before .before .args .b .now in let v = venueOf b in second-fails (idsDistinct v) (all (apart v) eight) (leggingsSound v 0 (v .legging)) (sym (c .before .all-apart .ensures) ∙ not-true _ (c .if2 .taken)) ∙ orders-are b (omega (arith, c .before .before .before .before .shared-slice-known .given 778))
+
+levels-requires : tie.Need-levels-requires
+levels-requires c κs = c .before .before .before .before .before .pre
 
 leggings-sound-requires : tie.Need-leggings-sound-requires
-leggings-sound-requires c κs = search needs
+leggings-sound-requires c κs = (c .before .before .before .before .before .before .pre .0, c .levels .ensures)
 
 returns-3 : tie.Need-returns-3
-returns-3 c = let b = c .before .before .before .before .before .before .before .args .b .now in let v = venueOf b in c .leggings-sound .ensures ∙ last-decides (idsDistinct v) (all (apart v) eight) (leggingsSound v 0 (v .legging)) (sym (c .before .before .before .before .before .ids-distinct .ensures) ∙ not-false _ (c .before .before .before .before .if1 .left)) (sym (c .before .before .all-apart .ensures) ∙ not-false _ (c .before .if2 .left)) ∙ orders-are b (omega (arith, c .before .before .before .before .before .before .shared-slice-known .given 778))
+returns-3 c = let b = c .before .before .before .before .before .before .before .args .b .now in let v = venueOf b in c .leggings-sound .ensures ∙ last-decides (idsDistinct v) (all (apart v) eight) (leggingsSound v 0 (v .legging)) (sym (c .before .before .before .before .before .ids-distinct .ensures) ∙ not-false _ (c .before .before .before .before .if1 .left)) (sym (c .before .before .before .all-apart .ensures) ∙ not-false _ (c .before .before .if2 .left)) ∙ orders-are b (omega (arith, c .before .before .before .before .before .before .shared-slice-known .given 778))
 
 pub orders-sound-spec : {M : Type 1} → statement M
 orders-sound-spec =
@@ -39,8 +39,8 @@ orders-sound-spec =
     (tie.spec
     ids-distinct-requires
     returns
-    levels-requires
     all-apart-requires
     returns-2
+    levels-requires
     leggings-sound-requires
     returns-3)

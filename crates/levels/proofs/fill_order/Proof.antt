@@ -1,0 +1,78 @@
+-- `levels::fill_order` meets its contract.
+use mathlib.Core.Path.{refl, _∙_}
+use native.Mathlib.Omega.{arith}
+use Rattle.places.proofs.Parts.{regulars-few}
+use Rattle.levels.proofs.Joining.{series-in, side-in}
+use Rattle.levels.proofs.Kept.{key-few, filled-off, filled-on, filled-rest}
+use borrow.Author.Needs.{needs}
+use Rattle.levels.proofs.fill_order.Statement.{statement}
+use Rattle.levels.proofs.fill_order.Tie as tie
+
+regular-at-requires : tie.Need-regular-at-requires
+regular-at-requires c κs = let f = regulars-few (c .before .before .args .b .now) in (c .before .before .pre .0, omega (arith, c .before .before .pre .1))
+
+key-at-requires : tie.Need-key-at-requires
+key-at-requires c κs = let f = regulars-few (c .before .before .before .before .args .b .now) in (c .before .before .before .before .pre .0, omega (arith, c .before .before .before .before .pre .1))
+
+level-at-requires : tie.Need-level-at-requires
+level-at-requires c κs = (c .before .before .before .before .before .before .pre .0, key-few _ _ _ (c .before .key-at .ensures))
+
+fill-regular-requires : tie.Need-fill-regular-requires
+fill-regular-requires c κs = search needs
+
+same-length : tie.Need-same-length
+same-length c = search needs
+
+returns : tie.Need-returns
+returns c = (c .before .before .before .before .before .fill-regular .ensures .0, filled-off (c .before .before .before .before .before .before .before .before .before .before .before .before .before .before .args .b .now) _ (c .before .before .before .before .before .before .before .before .before .before .before .before .before .before .args .i) (c .before .before .before .before .before .before .before .before .before .before .before .before .before .before .args .k) _ (c .before .before .before .before .before .before .before .before .before .before .before .regular-at .result) (c .before .before .before .before .before .before .before .level-at .result) (c .before .before .before .before .before .before .before .before .before .before .before .before .before .before .pre .1) (c .before .before .before .before .before .before .before .before .before .before .before .regular-at .ensures) (c .before .before .before .before .before .before .before .before .before .key-at .ensures) (c .before .before .before .before .before .before .before .level-at .ensures) (c .before .before .before .before .before .fill-regular .ensures .0) (c .before .before .before .before .before .fill-regular .ensures .1) (c .if1 .taken))
+
+lesser-requires : tie.Need-lesser-requires
+lesser-requires c κs = search needs
+
+cast-gone : tie.Need-cast-gone
+cast-gone c = search needs
+
+sub-t21 : tie.Need-sub-t21
+sub-t21 c = search needs
+
+put-level-requires : tie.Need-put-level-requires
+put-level-requires c κs = (c .before .before .before .before .before .before .before .before .before .before .fill-regular .kept .0 ∙ c .before .before .before .before .before .before .before .before .before .before .before .before .before .before .before .before .before .before .before .pre .0, key-few _ _ _ (c .before .before .before .before .before .before .before .before .before .before .before .before .before .before .key-at .ensures))
+
+same-length-2 : tie.Need-same-length-2
+same-length-2 c = search needs
+
+returns-2 : tie.Need-returns-2
+returns-2 c = filled-on (c .before .before .before .before .before .before .before .before .before .before .before .before .before .before .before .before .before .before .before .before .before .before .args .b .now) _ (c .before .before .before .before .before .before .before .before .before .before .before .before .before .before .before .before .before .before .before .before .before .before .args .i) (c .before .before .before .before .before .before .before .before .before .before .before .before .before .before .before .before .before .before .before .before .before .before .args .k) _ (c .before .before .before .before .before .before .before .before .before .before .before .before .before .before .before .before .before .before .before .regular-at .result) (c .before .before .before .before .before .before .before .before .before .before .before .before .before .before .before .level-at .result) (c .before .before .before .before .before .before .before .before .before .before .before .before .before .before .before .before .before .before .before .before .before .before .pre .1) (c .before .before .before .before .before .before .before .before .before .before .before .before .before .before .before .before .before .before .before .regular-at .ensures) (c .before .before .before .before .before .before .before .before .before .before .before .before .before .before .before .before .before .key-at .ensures) (c .before .before .before .before .before .before .before .before .before .before .before .before .before .before .before .level-at .ensures) (c .before .before .before .before .before .before .before .before .before .before .before .before .before .fill-regular .ensures .0) (c .before .before .before .before .before .before .before .before .before .before .before .before .before .fill-regular .ensures .1) _ _ (c .before .before .put-level .ensures) (filled-rest (c .before .before .before .before .before .before .before .before .before .before .before .before .before .before .before .before .before .before .before .before .before .before .args .b .now) _ (c .before .before .before .before .before .before .before .before .before .before .before .before .before .before .before .before .before .before .before .before .before .before .args .i) (c .before .before .before .before .before .before .before .before .before .before .before .before .before .before .before .before .before .before .before .before .before .before .args .k) _ (c .before .before .before .before .before .before .before .before .before .before .before .before .before .before .before .before .before .before .before .regular-at .result) (c .before .before .before .before .before .before .before .before .before .before .before .before .before .before .before .level-at .result) (c .before .before .before .before .before .before .before .before .before .before .before .before .before .before .before .before .before .before .before .before .before .before .pre .1) (c .before .before .before .before .before .before .before .before .before .before .before .before .before .before .before .before .before .before .before .regular-at .ensures) (c .before .before .before .before .before .before .before .before .before .before .before .before .before .before .before .before .before .key-at .ensures) (c .before .before .before .before .before .before .before .before .before .before .before .before .before .before .before .level-at .ensures) (c .before .before .before .before .before .before .before .before .before .before .before .before .before .fill-regular .ensures .0) (c .before .before .before .before .before .before .before .before .before .before .before .before .before .fill-regular .ensures .1) _ (c .before .before .before .before .before .before .before .lesser .ensures) (c .before .before .before .before .before .before .before .before .if1 .left) (c .before .before .before .before .before .if2 .taken) _ refl)
+
+level-of-requires : tie.Need-level-of-requires
+level-of-requires c κs = (c .before .before .before .before .before .before .before .before .before .fill-regular .kept .0 ∙ c .before .before .before .before .before .before .before .before .before .before .before .before .before .before .before .before .before .before .pre .0, series-in (c .before .before .before .before .before .before .before .before .before .before .before .before .before .before .before .before .before .before .args .b .now) (c .before .before .before .before .before .before .before .before .before .before .before .before .before .before .before .before .before .before .args .i) (c .before .before .before .before .before .before .before .before .before .before .before .before .before .before .before .regular-at .result) (c .before .before .before .before .before .before .before .before .before .before .before .before .before .before .before .regular-at .ensures), side-in (c .before .before .before .before .before .before .before .before .before .before .before .before .before .before .before .before .before .before .args .b .now) (c .before .before .before .before .before .before .before .before .before .before .before .before .before .before .before .before .before .before .args .i) (c .before .before .before .before .before .before .before .before .before .before .before .before .before .before .before .regular-at .result) (c .before .before .before .before .before .before .before .before .before .before .before .before .before .before .before .regular-at .ensures))
+
+put-level-requires-2 : tie.Need-put-level-requires-2
+put-level-requires-2 c κs = (c .before .before .before .before .before .before .before .before .before .before .before .fill-regular .kept .0 ∙ c .before .before .before .before .before .before .before .before .before .before .before .before .before .before .before .before .before .before .before .before .pre .0, key-few _ _ _ (c .before .before .before .before .before .before .before .before .before .before .before .before .before .before .before .key-at .ensures))
+
+same-length-3 : tie.Need-same-length-3
+same-length-3 c = search needs
+
+returns-3 : tie.Need-returns-3
+returns-3 c = filled-on (c .before .before .before .before .before .before .before .before .before .before .before .before .before .before .before .before .before .before .before .before .before .before .before .args .b .now) _ (c .before .before .before .before .before .before .before .before .before .before .before .before .before .before .before .before .before .before .before .before .before .before .before .args .i) (c .before .before .before .before .before .before .before .before .before .before .before .before .before .before .before .before .before .before .before .before .before .before .before .args .k) _ (c .before .before .before .before .before .before .before .before .before .before .before .before .before .before .before .before .before .before .before .before .regular-at .result) (c .before .before .before .before .before .before .before .before .before .before .before .before .before .before .before .before .level-at .result) (c .before .before .before .before .before .before .before .before .before .before .before .before .before .before .before .before .before .before .before .before .before .before .before .pre .1) (c .before .before .before .before .before .before .before .before .before .before .before .before .before .before .before .before .before .before .before .before .regular-at .ensures) (c .before .before .before .before .before .before .before .before .before .before .before .before .before .before .before .before .before .before .key-at .ensures) (c .before .before .before .before .before .before .before .before .before .before .before .before .before .before .before .before .level-at .ensures) (c .before .before .before .before .before .before .before .before .before .before .before .before .before .before .fill-regular .ensures .0) (c .before .before .before .before .before .before .before .before .before .before .before .before .before .before .fill-regular .ensures .1) _ _ (c .before .before .put-level2 .ensures) (λ _. c .before .before .before .before .level-of .ensures)
+
+pub fill-order-spec : {M : Type 1} → statement M
+fill-order-spec =
+    tie.close
+    (tie.spec
+    regular-at-requires
+    key-at-requires
+    level-at-requires
+    fill-regular-requires
+    same-length
+    returns
+    lesser-requires
+    cast-gone
+    sub-t21
+    put-level-requires
+    same-length-2
+    returns-2
+    level-of-requires
+    put-level-requires-2
+    same-length-3
+    returns-3)

@@ -1,0 +1,162 @@
+-- What is kept beside the venue, levels, marks and mask: what a store leaves as it is, and what keeps it right.
+use mathlib.Core.Path.{_≡_, refl, sym, ap, subst, _∙_}
+use mathlib.Core.Bool.{Bool, true}
+use mathlib.Core.Logic.{_≢_, _⊎_, inl, inr}
+use mathlib.Core.List.{List}
+use Prim.Native.Nat.{ℕ, _+_, _*_, _≤_, _<_, min}
+use native.Mathlib.Omega.{arith}
+use native.Mathlib.Decide.{decLt, ℕ-discrete}
+use lib.ListN.{getD}
+use Rattle.rules.specs.declared.Regular.{Regular}
+use Rattle.rules.specs.Words.{placeOf}
+use Rattle.rules.specs.Places.{holdsRegular, holdsComplex}
+use Rattle.rules.specs.Step.{mask}
+use Rattle.places.specs.Layout.{regularsUsed, complexesUsed, regularIn, complexIn, venueOf, Filled, levelOf, levelIn, Marked, Orderly, Right, SameCounts}
+use Rattle.places.proofs.Parts.{Outside, regulars-few, complexes-few, regular-kept, complex-kept, count-kept, count-kept2, regulars-kept, complexes-kept, leggings-kept, series-kept, last-kept, venue-is}
+
+-- the places known to be held are
+abbrev pub RegularsMarked : List ℕ → Type 0
+RegularsMarked b = Filled holdsRegular (regularIn b) (min (getD b 827 0) (regularsUsed b))
+
+abbrev pub ComplexesMarked : List ℕ → Type 0
+ComplexesMarked b = Filled holdsComplex (complexIn b) (min (getD b 828 0) (complexesUsed b))
+
+-- the mask is that of the legging places
+abbrev pub LeggingMarked : List ℕ → Type 0
+LeggingMarked b = getD b 829 0 ≡ mask (venueOf b .legging)
+
+-- held places that stay
+filled-as : {A : Type 0} (holds : A → Bool) (f g : ℕ → A) (m n : ℕ) → n ≤ m → ((k : ℕ) → k < n → f k ≡ g k) → Filled holds f m → Filled holds g n
+filled-as holds f g m n h same full = λ k w. ap holds (sym (same k w)) ∙ full k (omega arith)
+
+-- held places stay so where one is written anew, and holds
+filled-at : {A : Type 0} (holds : A → Bool) (f g : ℕ → A) (i n : ℕ) → ((k : ℕ) → k ≢ i → f k ≡ g k) → holds (g i) ≡ true → Filled holds f n → Filled holds g n
+filled-at holds f g i n same h full = λ k w. elim (ℕ-discrete k i) [
+  | yes e ↦ ap (λ (x : ℕ). holds (g x)) e ∙ h
+  | no q ↦ ap holds (sym (same k q)) ∙ full k w
+]
+
+level-fields : (a b : List ℕ) (n : ℕ) → getD b (3 * n + 779) 0 ≡ getD a (3 * n + 779) 0 → getD b (3 * n + 780) 0 ≡ getD a (3 * n + 780) 0 →
+    getD b (3 * n + 781) 0 ≡ getD a (3 * n + 781) 0 → levelIn b n ≡ levelIn a n
+unfolding levelIn
+level-fields a b n p q r = rw (p, q, r)
+
+-- What a store does not reach -----------------------------------------------------------------
+
+module _ {low high : ℕ} {a b : List ℕ} (o : Outside low high a b) where
+  pub level-kept : (n : ℕ) → (3 * n + 782 ≤ low) ⊎ (high ≤ 3 * n + 779) → levelIn b n ≡ levelIn a n
+  level-kept n (inl h) = level-fields a b n (o .same (3 * n + 779) (inl (omega arith))) (o .same (3 * n + 780) (inl (omega arith))) (o .same (3 * n + 781) (inl (omega arith)))
+  level-kept n (inr h) = level-fields a b n (o .same (3 * n + 779) (inr (omega arith))) (o .same (3 * n + 780) (inr (omega arith))) (o .same (3 * n + 781) (inr (omega arith)))
+
+  pub levels-kept : (827 ≤ low) ⊎ (high ≤ 779) → (n : ℕ) → n < 16 → levelIn b n ≡ levelIn a n
+  levels-kept (inl h) n w = level-kept n (inl (omega arith))
+  levels-kept (inr h) n w = level-kept n (inr (omega arith))
+
+  pub regulars-marked : 512 ≤ low → (776 < low) ⊎ (high ≤ 776) → (827 < low) ⊎ (high ≤ 827) → RegularsMarked a → RegularsMarked b
+  regulars-marked h p q =
+      let e = count-kept o p in
+      let f = o .same 827 q in
+      let z = regulars-few a in
+      filled-as holdsRegular (regularIn a) (regularIn b) (min (getD a 827 0) (regularsUsed a)) (min (getD b 827 0) (regularsUsed b)) (omega arith)
+      (λ k w. regular-kept o k (inl (omega arith)))
+
+  pub complexes-marked : (high ≤ 512) ⊎ (704 ≤ low) → (777 < low) ⊎ (high ≤ 777) → (828 < low) ⊎ (high ≤ 828) → ComplexesMarked a → ComplexesMarked b
+  complexes-marked h p q =
+      let e = count-kept2 o p in
+      let f = o .same 828 q in
+      let z = complexes-few a in
+      filled-as holdsComplex (complexIn a) (complexIn b) (min (getD a 828 0) (complexesUsed a)) (min (getD b 828 0) (complexesUsed b)) (omega arith)
+      (λ k w. complex-kept o k (go k (omega arith) h))
+    where
+      go : (k : ℕ) → k < 32 → (high ≤ 512) ⊎ (704 ≤ low) → (6 * k + 518 ≤ low) ⊎ (high ≤ 6 * k + 512)
+      go k w (inl x) = inr (omega arith)
+      go k w (inr x) = inl (omega arith)
+
+  pub legging-marked : (high ≤ 704) ⊎ (752 ≤ low) → high ≤ 829 → LeggingMarked a → LeggingMarked b
+  legging-marked h k e = o .same 829 (inr k) ∙ e ∙ ap mask (sym (leggings-kept o h))
+
+  -- what is kept beside the venue is no part of it
+  pub beside-venue : 779 ≤ low → venueOf b ≡ venueOf a
+  beside-venue h =
+      venue-is (venueOf b) (venueOf a)
+      (regulars-kept o (omega arith) (inl (omega arith)))
+      (complexes-kept o (inr (omega arith)) (inl (omega arith)))
+      (leggings-kept o (inr (omega arith)))
+      (series-kept o (inr (omega arith)))
+      (last-kept o (inl (omega arith)))
+
+-- A mark that is lowered ----------------------------------------------------------------------
+
+-- places from i on are not known to be held, and those before it stay
+pub regulars-lowered : (a b : List ℕ) (i : ℕ) → i ≤ regularsUsed a → getD b 827 0 ≡ min (getD a 827 0) i → ((k : ℕ) → k < i → regularIn a k ≡ regularIn b k) →
+    RegularsMarked a → RegularsMarked b
+regulars-lowered a b i h e same =
+    filled-as holdsRegular (regularIn a) (regularIn b) (min (getD a 827 0) (regularsUsed a)) (min (getD b 827 0) (regularsUsed b)) (omega arith) (λ k w. same k (omega arith))
+
+pub complexes-lowered : (a b : List ℕ) (i : ℕ) → i ≤ complexesUsed a → getD b 828 0 ≡ min (getD a 828 0) i → ((k : ℕ) → k < i → complexIn a k ≡ complexIn b k) →
+    ComplexesMarked a → ComplexesMarked b
+complexes-lowered a b i h e same =
+    filled-as holdsComplex (complexIn a) (complexIn b) (min (getD a 828 0) (complexesUsed a)) (min (getD b 828 0) (complexesUsed b)) (omega arith) (λ k w. same k (omega arith))
+
+-- a place written anew, and held
+pub regular-holds : (a b : List ℕ) (i : ℕ) → i < regularsUsed a → Outside (4 * i) (4 * i + 4) a b → holdsRegular (regularIn b i) ≡ true → RegularsMarked a → RegularsMarked b
+regular-holds a b i h o held full =
+    let z = regulars-few a in
+    let e = count-kept o (inr (omega arith)) in
+    let f = o .same 827 (inr (omega arith)) in
+    filled-as holdsRegular (regularIn b) (regularIn b) (min (getD a 827 0) (regularsUsed a)) (min (getD b 827 0) (regularsUsed b)) (omega arith) (λ k w. refl)
+    (filled-at holdsRegular (regularIn a) (regularIn b) i (min (getD a 827 0) (regularsUsed a)) (λ k q. regular-kept o k (near k q)) held full)
+  where
+    near : (k : ℕ) → k ≢ i → (4 * k + 4 ≤ 4 * i) ⊎ (4 * i + 4 ≤ 4 * k)
+    near k q = elim (decLt k i) [ yes p ↦ inl (omega arith) | no p ↦ inr (omega arith) ]
+
+pub complex-holds : (a b : List ℕ) (i : ℕ) → i < complexesUsed a → Outside (6 * i + 512) (6 * i + 518) a b → holdsComplex (complexIn b i) ≡ true →
+    ComplexesMarked a → ComplexesMarked b
+complex-holds a b i h o held full =
+    let z = complexes-few a in
+    let e = count-kept2 o (inr (omega arith)) in
+    let f = o .same 828 (inr (omega arith)) in
+    filled-as holdsComplex (complexIn b) (complexIn b) (min (getD a 828 0) (complexesUsed a)) (min (getD b 828 0) (complexesUsed b)) (omega arith) (λ k w. refl)
+    (filled-at holdsComplex (complexIn a) (complexIn b) i (min (getD a 828 0) (complexesUsed a)) (λ k q. complex-kept o k (near k q)) held full)
+  where
+    near : (k : ℕ) → k ≢ i → (6 * k + 518 ≤ 6 * i + 512) ⊎ (6 * i + 518 ≤ 6 * k + 512)
+    near k q = elim (decLt k i) [ yes p ↦ inl (omega arith) | no p ↦ inr (omega arith) ]
+
+-- All that is kept ----------------------------------------------------------------------------
+
+place-few : (s d : ℕ) → s < 8 → d < 2 → placeOf s d < 16
+unfolding placeOf
+place-few s d h k = omega arith
+
+-- it stays right where the levels stay, those of the orders too, these are in order, and so does what is known of the places
+pub right-on : (a b : List ℕ) → ((n : ℕ) → n < 16 → levelIn b n ≡ levelIn a n) →
+    ((s d : ℕ) → levelOf s d (venueOf b .regular) ≡ levelOf s d (venueOf a .regular)) → (Orderly (venueOf a .regular) → Orderly (venueOf b .regular)) →
+    (Marked a → Marked b) → Right a → Right b
+right-on a b same best orders marks r = record {
+  levels = λ s d h k. same (placeOf s d) (place-few s d h k) ∙ r .levels s d h k ∙ sym (best s d);
+  orders = orders (r .orders);
+  marked = marks (r .marked);
+}
+
+pub right-kept : (a b : List ℕ) → ((n : ℕ) → n < 16 → levelIn b n ≡ levelIn a n) → venueOf b .regular ≡ venueOf a .regular → (Marked a → Marked b) → Right a → Right b
+right-kept a b same e = right-on a b same (λ s d. ap (levelOf s d) e) (subst Orderly (sym e))
+
+-- a store into series or the last id
+pub counts-kept : {low high : ℕ} {a b : List ℕ} → Outside low high a b → 752 ≤ low → high ≤ 779 → (777 < low) ⊎ (high ≤ 776) → SameCounts a b
+counts-kept {low = low} {high = high} {a = a} {b = b} o l h w = record {
+  regulars = count-kept o (one w);
+  complexes = count-kept2 o (two w);
+  right = right-kept a b (levels-kept o (inr h)) (regulars-kept o (omega arith) (one w)) (λ m. record {
+    regulars = regulars-marked o (omega arith) (one w) (inr (omega arith)) (m .regulars);
+    complexes = complexes-marked o (inr (omega arith)) (two w) (inr (omega arith)) (m .complexes);
+    legging = legging-marked o (inr l) (omega arith) (m .legging);
+  });
+}
+  where
+    one : (777 < low) ⊎ (high ≤ 776) → (776 < low) ⊎ (high ≤ 776)
+    one (inl p) = inl (omega arith)
+    one (inr p) = inr p
+
+    two : (777 < low) ⊎ (high ≤ 776) → (777 < low) ⊎ (high ≤ 777)
+    two (inl p) = inl p
+    two (inr p) = inr (omega arith)
