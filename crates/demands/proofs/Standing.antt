@@ -1,8 +1,8 @@
 -- Demand 3, the legging orders: where all stand, each is best displayed, in band, and its hits find their contracts.
-use mathlib.Core.Path.{_∙_, _≡_, ap, refl, sym}
+use mathlib.Core.Path.{_∙_, _≡_, ap, refl, subst, sym}
 use mathlib.Core.Bool.{false, true, true≢false}
-use mathlib.Core.Logic.{_≢_}
-use mathlib.Core.List.{List, _++_, _∷_}
+use mathlib.Core.Logic.{_≢_, inl, inr}
+use mathlib.Core.List.{List, List·Memᴰ, List·Memᴰ·cases-cons, List·Memᴰ·not-nil, _++_, _∷_}
 use Prim.Native.Nat.{_%_, _/_, _<_, _≤_, ℕ}
 use native.Mathlib.Omega.{arith}
 use lib.Dec.{leb}
@@ -23,15 +23,16 @@ use Rattle.rules.specs.Standing.{hasLeg, legNet, otherClear, otherLeg, otherSiz
 use Rattle.rules.specs.Trading.{putRegular, take}
 use Rattle.rules.specs.Order.{hit}
 use Rattle.rules.specs.Calls.{one}
-use Rattle.demands.specs.Demand.{Hit, Standing, otherTrades}
+use Rattle.demands.specs.Demand.{FromResting, Hit, Standing, otherTrades}
 use Rattle.rules.proofs.Better.{best-best, better-irrefl, better-past, is-false}
-use Rattle.rules.proofs.Filling.{cx, lg, reg}
+use Rattle.rules.proofs.Filling.{Fewer, Lesser, cx, fewer-refl, fewer-trans, fill-fewer, lg, reg}
 use Rattle.rules.proofs.Finding.{leg-in}
 use Rattle.rules.proofs.Generating.{AllStand, place-series, place-side}
 use Rattle.rules.proofs.Hitting.{hit-is}
+use Rattle.rules.proofs.Owning.{rests-lesser}
 use Rattle.rules.proofs.Settling.{clear-best}
-use Rattle.rules.proofs.Sizes.{best-set, free-shows, no-price, not-there, rests-shows}
-use Rattle.rules.proofs.Taking.{chain-at, take-chain, take-put, take-total}
+use Rattle.rules.proofs.Sizes.{best-set, free-shows, no-price, not-there, rests-series, rests-shows, shows-rests}
+use Rattle.rules.proofs.Taking.{Chain, chain-at, no-more, take-chain, take-put, take-total, traded}
 use Rattle.rules.proofs.Tests.{and-in, and-l, and-r}
 use Rattle.rules.proofs.Verdicts.{Passes, passed}
 use Rattle.demands.proofs.Homes.{Fine, Home, home-held, other-apart, parent-found}
@@ -105,6 +106,28 @@ module _ (c : Complex) (s d : ℕ) (l : Legging) (apart : s ≢ otherLeg c s .se
         rw (placed-there, same-trades k, same-clear, same-removals) at
         (writes w (same-parent ∙ is) k i (ap (λ (y : Regular). y .series) placed-there ∙ at) (ap (λ (y : Regular). y .side) placed-there ∙ of))
 
+-- The makers of a chain of trades -----------------------------------------------------------------
+
+-- of a chain upon u, where each place has what it has in v, or less of it
+module _ {x s d p : ℕ} (v : Venue) where
+  maker : (u : Venue) (i q : ℕ) → Lesser (regularAt u i) (regularAt v i) → restsAt s (opposite d) (regularAt u i) ≡ true → regularAt u i .price ≡ p →
+      q ≤ regularAt u i .quantity → FromResting v x s d p (trade (regularAt u i .series) d (regularAt u i .price) q x (regularAt u i .id))
+  maker u i q less there e le = record {
+    at = i;
+    rests = rests-lesser s (opposite d) less there;
+    priced = sym (less .price) ∙ e;
+    contracts = q;
+    most = (let z = less .quantity in omega arith);
+    is = rw (rests-series s (opposite d) (regularAt u i) there, e, less .id);
+  }
+
+  chain-makers : {u w : Venue} {rs : List Report} → Fewer (u .regular) (v .regular) → Chain x s d p u rs w → (r : Report) → List·Memᴰ r rs → FromResting v x s d p r
+  chain-makers f no-more r m = absurd (List·Memᴰ·not-nil m)
+  chain-makers {u = u} f (traded i q fits z e le c) r m = elim (List·Memᴰ·cases-cons m) [
+    | inl is ↦ subst (FromResting v x s d p) (sym is) (maker u i q (unfold regularAt in (f .lesser i)) (shows-rests s (opposite d) (regularAt u i) z) e le)
+    | inr h ↦ chain-makers (fewer-trans (fill-fewer i q u) f) c r h
+  ]
+
 module _ (v : Venue) (c : Complex) (s d : ℕ) (l : Legging) (p : Passes v c s d l) where
   -- no regular order is better than what is displayed
   shown-best : (i : ℕ) → restsAt s d (regularAt v i) ≡ true → better d (regularAt v i .price) (displayed (increment s) d (l .price)) ≡ false
@@ -129,6 +152,7 @@ module _ (v : Venue) (c : Complex) (s d : ℕ) (l : Legging) (p : Passes v c s d
         net = search (and-l, and-r, q);
         found = chain-at (c .id) t (take-chain (c .id) t e (clearPrice v t (opposite e)) k k v)
             ∙ take-total (c .id) t e (clearPrice v t (opposite e)) k k v (omega arith) (rw (clear-best v t (opposite e) a) (omega arith));
+        makers = chain-makers v (fewer-refl _) (take-chain (c .id) t e (clearPrice v t (opposite e)) k k v);
         written = writes c s d l apart d2 v is k;
         arrives = λ i o fits free at of. arrives c s d l apart d2 v i o fits free at is k of;
       }

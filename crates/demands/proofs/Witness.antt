@@ -42,4 +42,6 @@ witness = record {
   regularAccount = refl;
   free = refl;
   hits = refl;
+  others = refl;
+  maker = refl;
 }

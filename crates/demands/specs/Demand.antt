@@ -4,6 +4,8 @@
 -- other leg at one price from regular orders, the net at its complex order's limit or better; and by the reports, the messages done and the
 -- venue left, for every complex order accepted its contracts in the first series equal those in the second and equal its pairs, and quantity
 -- entered = paired + crossed + cancelled + still open. What is quoted below is document 01's paragraph, sentence by sentence.
+-- The calls are those of `Calls`. That the compiled ones are `Calls.run` and `Calls.one` is what their contracts in crates/engine/src/lib.rt say, by
+-- equation and with no `requires`: `run` and `one_message`, and for a host `legging_run` and `legging_message`.
 use mathlib.Core.Path.{_≡_}
 use mathlib.Core.Bool.{false, true}
 use mathlib.Core.List.{List, List·Memᴰ, [], _++_, _∷_}
@@ -86,6 +88,16 @@ calls s (g ∷ gs) = calls (extend s (g .bytes) (one (s .venue) (s .done) (g .ro
 abbrev pub otherTrades : Venue → Complex → (s k : ℕ) → List Report
 otherTrades v c s k = take k (c .id) (otherLeg c s .series) (otherLeg c s .side) (otherClear v c s) k v .reports
 
+-- r is a trade by this taker, of this side, with a regular order that rests in the series, on the side that the taker takes, at the price
+pub record FromResting (v : Venue) (taker series side price : ℕ) (r : Report) : Type 0 where
+  -- the maker's place
+  pub at : ℕ
+  pub rests : restsAt series (opposite side) (regularAt v at) ≡ true
+  pub priced : regularAt v at .price ≡ price
+  pub contracts : ℕ
+  pub most : contracts ≤ regularAt v at .quantity
+  pub is : r ≡ trade series side price contracts taker (regularAt v at .id)
+
 -- "The hit for k … is the one written under Order: it finds k regular contracts at the other leg's clear price, its own price and that one
 -- netting to N or less": of the legging order l of c at side d of series s, upon the venue as it stands, "whether or not ids, places or the size
 -- ahead of it leave room for an order that brings the hit".
@@ -93,6 +105,8 @@ pub record Hit (v : Venue) (c : Complex) (s d : ℕ) (l : Legging) (k : ℕ) : T
   pub clear : held (otherClear v c s) ≡ true
   pub net : leZ (legNet c s d (l .price) (otherClear v c s)) (c .limit) ≡ true
   pub found : total (contractsAt (c .id) (otherLeg c s .series) (otherClear v c s)) (otherTrades v c s k) ≡ k
+  -- "k regular contracts": each of these trades is with a regular order that rests in that series, on the side that the leg takes, at that price
+  pub makers : (r : Report) → List·Memᴰ r (otherTrades v c s k) → FromResting v (c .id) (otherLeg c s .series) (otherLeg c s .side) (otherClear v c s) r
   -- it is `Order.hit`: by the order at place i, of the same series and the other side, that writes its own trade, these trades, the 66 and the removals
   pub written : (i : ℕ) → regularAt v i .series ≡ s → regularAt v i .side ≡ opposite d → hit i l k v .reports ≡
       trade s (opposite d) (l .price) k (regularAt v i .id) (c .id)

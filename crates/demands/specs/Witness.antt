@@ -14,10 +14,11 @@ use Rattle.rules.specs.Base.{if_then_else_}
 use Rattle.rules.specs.Words.{leggingAt, noRegular, regularAt}
 use Rattle.rules.specs.Messages.{encodeMessage}
 use Rattle.rules.specs.Records.{Report, answer, cancelled, causeNumber, crossed, generated, pair, removed, trade}
+use Rattle.rules.specs.Standing.{parentOf}
 use Rattle.rules.specs.Trading.{putRegular}
 use Rattle.rules.specs.Order.{hit}
 use Rattle.rules.specs.Sums.{cancelledOf, contracts, crossedFor, openComplex, openRegular, paired, total}
-use Rattle.demands.specs.Demand.{Accepted, Given, Seen, byRun, calls, opening}
+use Rattle.demands.specs.Demand.{Accepted, Given, Seen, byRun, calls, opening, otherTrades}
 
 -- The calls -----------------------------------------------------------------------------------
 
@@ -140,3 +141,6 @@ pub record Witness : Type 0 where
   pub free : regularAt (atEnd .venue) 2 ≡ noRegular
   pub hits : hit 2 (leggingAt (atEnd .venue) 0 0) 2 arriving .reports ≡
       trade 0 1 115 2 10 3 ∷ trade 1 0 90 2 3 9 ∷ pair 3 (pos 205) 2 ∷ removed 3 0 0 Executed ∷ removed 3 1 0 Executed ∷ []
+  -- the other leg's trade, and its maker, which rests
+  pub others : otherTrades (atEnd .venue) (parentOf (atEnd .venue) (leggingAt (atEnd .venue) 0 0)) 0 2 ≡ trade 1 0 90 2 3 9 ∷ []
+  pub maker : regularAt (atEnd .venue) 1 ≡ record { id = 9; series = 1; side = 1; price = 90; quantity = 12 }
