@@ -60,7 +60,7 @@
 #include <stdint.h>
 
 #define LEGGING_DONE          0u /* accepted; of a run: the whole list was done */
-#define LEGGING_TORN          1u /* fewer bytes left than the message's length tells, or a length below 4 */
+#define LEGGING_TORN          1u /* 1 to 3 bytes left (of one message: 0 to 3), or a length below 4 or above what is left */
 #define LEGGING_UNKNOWN_KIND  2u /* kind not 1 to 6 */
 #define LEGGING_WRONG_LENGTH  3u /* length not its kind's */
 #define LEGGING_OUT_OF_RANGE  4u /* a field outside its range */
@@ -85,8 +85,9 @@ extern "C" {
  * Messages are taken one by one. One that is refused with 2 to 8 is answered and
  * passed over. Returns
  *   LEGGING_DONE     all messages were done, the refused ones included;
- *   LEGGING_TORN     the list ends in the middle of a message: all before it were
- *                    done, and the torn rest was answered;
+ *   LEGGING_TORN     1 to 3 bytes were left, or a length below 4 or above what was
+ *                    left: all messages before were done, this one was answered,
+ *                    and nothing after it was read;
  *   LEGGING_NO_ROOM  the run ended before the first message whose records do not
  *                    fit into the rest of `report`; nothing of that message was
  *                    written. Run it again with more memory for the whole list.

@@ -267,7 +267,7 @@ static const char *meaning(uint8_t number)
     case LEGGING_DONE:
         return "the whole list was done";
     case LEGGING_TORN:
-        return "the list ends in the middle of a message";
+        return "a torn message ended the list";
     case LEGGING_UNSOUND:
         return "the venue is unsound";
     case LEGGING_NO_ROOM:

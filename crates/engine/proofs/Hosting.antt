@@ -6,7 +6,8 @@ use Prim.Native.Nat.{ℕ, suc, _-_, _≤_}
 use native.Mathlib.Omega.{arith}
 use lib.IntN.{ℤ, pos, negsuc}
 use lib.ListN.{length, getD, take, replicate}
-use borrow.Author.Tests.{leb-true, eqb-true, eq-eqb, ne-eqb}
+use lib.Dec.{eqb}
+use borrow.Author.Tests.{leb-true, eqb-true, eqb-false, eq-eqb, ne-eqb}
 use Rattle.rules.specs.declared.Complex.{Complex}
 use Rattle.rules.specs.declared.Listed.{Listed}
 use Rattle.rules.specs.declared.Venue.{Venue}
@@ -16,16 +17,18 @@ use Rattle.rules.specs.Words.{within, isClass, isStatus, isAway, notListed}
 use Rattle.rules.specs.Records.{OneByte, FourSigned, encodeAll, sheet}
 use Rattle.rules.specs.Effects.{Effect}
 use Rattle.rules.specs.Places.{blankComplex}
-use Rattle.rules.specs.Refusals.{complexInRange}
-use Rattle.rules.specs.Step.{step}
+use Rattle.rules.specs.Refusals.{complexInRange, refusal}
+use Rattle.rules.specs.Step.{StepOutcome, answered, step}
 use Rattle.rules.specs.Sound.{listedInRange, sound}
 use Rattle.rules.specs.Calls.{Call, called, exceeds, ends, after, one}
 use Rattle.rules.proofs.Filling.{cx}
 use Rattle.rules.proofs.Integers.{plus, minus}
 use Rattle.rules.proofs.Tests.{and-l, and-r}
 use Rattle.demands.specs.Kept.{Shaped, SoundVenue}
+use Rattle.demands.specs.Truth.{venueAfter}
 use Rattle.demands.proofs.Calls.{kept}
 use Rattle.demands.proofs.Soundness.{sound-out}
+use Rattle.demands.proofs.Truth.{one-message}
 use Rattle.places.proofs.Tables.{upto-length}
 use Rattle.state.specs.Held.{venueSize, venueBytes, venueFrom, ListedFits, Declared}
 use Rattle.state.proofs.Back.{held-whole}
@@ -44,15 +47,15 @@ module _ (memory : List ℕ) (n : ℕ) (l bs : List ℕ) where
     unfolding oneHosted
     call-held = ap (leaves memory) (call ∙ ap (λ (w : Venue). one w n (length l) bs) given) ∙ rw (eq-eqb (length memory) venueSize size)
 
-    -- the message was not done
-    pub left-held : r .done ≡ 0 → hosted (r .number) memory z ≡ oneHosted memory n (length l) bs
+    -- the message was not accepted
+    pub left-held : (r .number ≡ 0 → ⊥) → hosted (r .number) memory z ≡ oneHosted memory n (length l) bs
     unfolding leaves
-    left-held e = rw (eq-eqb (r .done) 0 e) at call-held
+    left-held e = rw (ne-eqb (r .number) 0 e) at call-held
 
     -- it was, and the memory is written anew
-    pub done-held : (m : List ℕ) → (r .done ≡ 0 → ⊥) → m ≡ venueBytes (r .venue) → hosted (r .number) m z ≡ oneHosted memory n (length l) bs
+    pub accepted-held : (m : List ℕ) → r .number ≡ 0 → m ≡ venueBytes (r .venue) → hosted (r .number) m z ≡ oneHosted memory n (length l) bs
     unfolding leaves
-    done-held m e p = ap (λ (x : List ℕ). hosted (r .number) x z) p ∙ (rw (ne-eqb (r .done) 0 e) at call-held)
+    accepted-held m e p = ap (λ (x : List ℕ). hosted (r .number) x z) p ∙ (rw (eq-eqb (r .number) 0 e) at call-held)
 
 -- The next call -------------------------------------------------------------------------------
 
@@ -108,28 +111,50 @@ module _ (memory : List ℕ) (room : ℕ) where
   abbrev Next : Call → Type 0
   Next c = venueFrom (leaves memory c .venue) ≡ c .returned .venue
 
-  next-ended : (number : ℕ) → Next (called room (ends number (venueFrom memory)))
+  next-ended : (number : ℕ) → eqb number 0 ≡ false → Next (called room (ends number (venueFrom memory)))
   unfolding leaves called ends
-  next-ended number = refl
+  next-ended number other = rw other
 
-  next-done : (e : Effect) (refused : ℕ) → venueFrom (venueBytes (e .venue)) ≡ e .venue → Next (called room (after e (ends refused (e .venue))))
-  unfolding leaves called ends after
-  next-done e refused p = p
+  -- a message done: accepted, or refused
+  module _ (e : Effect) (refused : ℕ) where
+    abbrev done : Call
+    done = called room (after e (ends refused (e .venue)))
+
+    next-accepted : eqb refused 0 ≡ true → venueFrom (venueBytes (e .venue)) ≡ e .venue → Next done
+    unfolding leaves called ends after
+    next-accepted zero p = rw (zero, p)
+
+    next-refused : eqb refused 0 ≡ false → e .venue ≡ venueFrom memory → Next done
+    unfolding leaves called ends after
+    next-refused other p = rw (other, p)
+
+module _ (memory : List ℕ) (n room : ℕ) (bs : List ℕ) where
+  abbrev v : Venue
+  v = venueFrom memory
+
+  abbrev a : StepOutcome
+  a = step v (suc n) bs
+
+  -- a refused message leaves the venue
+  refused-leaves : eqb (a .refused) 0 ≡ false → a .effect .venue ≡ v
+  unfolding step answered venueAfter
+  refused-leaves other = one-message .alone v (suc n) bs (eqb-false (refusal v bs) 0 other) .venue
+
+  next-done : (t : Bool) → sound v ≡ true → eqb (a .refused) 0 ≡ t → Next memory room (done memory room (a .effect) (a .refused))
+  next-done true fine e =
+      let w : Venue = a .effect .venue in
+      let s : SoundVenue w = kept v (record { shaped = held-shaped memory; is = fine }) (suc n) bs in
+      next-accepted memory room (a .effect) (a .refused) e (held-whole w (declared w s))
+  next-done false fine e = next-refused memory room (a .effect) (a .refused) e (refused-leaves e)
+
+  next-sound : (t : Bool) → sound v ≡ true → exceeds (suc n) room (a .effect .reports) ≡ t → Next memory room (one v n room bs)
+  next-sound true fine e = subst (Next memory room) (one-ends v n room bs fine e) (next-ended memory room 10 refl)
+  next-sound false fine e = subst (Next memory room) (one-does v n room bs fine e) (next-done (eqb (a .refused) 0) fine refl)
+
+  next : (t : Bool) → sound v ≡ t → Next memory room (one v n room bs)
+  next true fine = next-sound (exceeds (suc n) room (a .effect .reports)) fine refl
+  next false e = subst (Next memory room) (one-unsound v n room bs e) (next-ended memory room 9 refl)
 
 pub held-next : HeldNext
 unfolding oneHosted
-held-next memory n room bs size = rw (eq-eqb (length memory) venueSize size) (go (sound v) refl)
-  where
-    v : Venue
-    v = venueFrom memory
-
-    does : (t : Bool) → sound v ≡ true → exceeds (suc n) room (step v (suc n) bs .effect .reports) ≡ t → Next memory room (one v n room bs)
-    does true fine e = subst (Next memory room) (one-ends v n room bs fine e) (next-ended memory room 10)
-    does false fine e =
-        let w : Venue = step v (suc n) bs .effect .venue in
-        let s : SoundVenue w = kept v (record { shaped = held-shaped memory; is = fine }) (suc n) bs in
-        subst (Next memory room) (one-does v n room bs fine e) (next-done memory room (step v (suc n) bs .effect) (step v (suc n) bs .refused) (held-whole w (declared w s)))
-
-    go : (t : Bool) → sound v ≡ t → Next memory room (one v n room bs)
-    go true fine = does (exceeds (suc n) room (step v (suc n) bs .effect .reports)) fine refl
-    go false e = subst (Next memory room) (one-unsound v n room bs e) (next-ended memory room 9)
+held-next memory n room bs size = rw (eq-eqb (length memory) venueSize size) (next memory n room bs (sound (venueFrom memory)) refl)

@@ -17,10 +17,10 @@ pub record Hosted : Type 0 where
 abbrev pub hosted : (number : ℕ) (venue report : List ℕ) → Hosted
 hosted n v l = record { number = n; venue = v; report = l }
 
--- a call upon the venue that the memory holds: with its message done the memory holds the venue after it, and else is as it was
+-- a call upon the venue that the memory holds: with its message accepted the memory holds the venue after it, and else is as it was
 unfoldable pub leaves : (memory : List ℕ) → Call → Hosted
 leaves memory c =
-    hosted (c .returned .number) (if eqb (c .returned .done) 0 then memory else venueBytes (c .returned .venue)) (c .report)
+    hosted (c .returned .number) (if eqb (c .returned .number) 0 then venueBytes (c .returned .venue) else memory) (c .report)
 
 -- a memory of another length holds no venue: 9, "venue unsound"
 unfoldable pub oneHosted : (memory : List ℕ) (n room : ℕ) → List ℕ → Hosted

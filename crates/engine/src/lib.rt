@@ -420,7 +420,8 @@ pub extern "C" fn legging_run(messages: &[u8], report: &mut [u8]) -> u8
     r.number
 }
 
-// One message upon the venue in a host's memory, as `state` holds it; the number is returned. A memory of another length holds none.
+// One message upon the venue in a host's memory, as `state` holds it; the number is returned. Only an accepted message writes that memory.
+// One of another length holds no venue.
 #[no_mangle]
 pub extern "C" fn legging_message(
     venue: &mut [u8],
@@ -436,7 +437,7 @@ pub extern "C" fn legging_message(
     }
     let given = state::venue_from(venue);
     let r = one_message(given, before, message, report);
-    if r.done == 0 {
+    if r.number != 0 {
         return r.number;
     }
     let after = r.venue;

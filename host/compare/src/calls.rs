@@ -26,7 +26,8 @@ pub struct Expected {
     pub venue: Vec<u8>,
 }
 
-/// The reference's one-message call upon venue bytes; the report is written.
+/// The reference's one-message call upon venue bytes; the report is written. Unless
+/// the message was accepted, the venue bytes have to be those given.
 pub fn expected(venue: &[u8], before: u32, message: &[u8], report: &mut [u8]) -> Expected {
     let Ok(bytes) = <&[u8; VENUE_BYTES]>::try_from(venue) else {
         report.fill(0);
@@ -38,11 +39,15 @@ pub fn expected(venue: &[u8], before: u32, message: &[u8], report: &mut [u8]) ->
         };
     };
     let returned = reference::one_message(&from_bytes(bytes), before, message, report);
+    let left = match returned.number {
+        0 => to_bytes(&returned.venue).to_vec(),
+        _ => venue.to_vec(),
+    };
     Expected {
         number: returned.number,
         done: returned.done,
         written: returned.written,
-        venue: to_bytes(&returned.venue).to_vec(),
+        venue: left,
     }
 }
 

@@ -26,9 +26,9 @@ extern "C" {
 ///
 /// Messages are taken one by one; one that is refused with 2 to 8 is answered and
 /// passed over. The number is [`Number::DONE`] when all were done,
-/// [`Number::TORN`] when the list ends in the middle of a message, and
-/// [`Number::NO_ROOM`] when the run ended before the first message whose records
-/// do not fit into the rest of `report`.
+/// [`Number::TORN`] when a torn message ended the run, which is answered while
+/// nothing after it is read, and [`Number::NO_ROOM`] when the run ended before the
+/// first message whose records do not fit into the rest of `report`.
 pub fn run(messages: &[u8], report: &mut [u8]) -> Number {
     // SAFETY: both slices are whole for their lengths and cannot overlap; the
     // call reads the one, writes the other, and keeps neither.

@@ -9,7 +9,8 @@ pub struct Number(u8);
 impl Number {
     /// Accepted; of a run: the whole list was done.
     pub const DONE: Number = Number(0);
-    /// Fewer bytes left than the message's length tells, or a length below 4.
+    /// 1 to 3 bytes left (of one message: 0 to 3), or a length below 4 or above
+    /// what is left.
     pub const TORN: Number = Number(1);
     /// The kind is not 1 to 6.
     pub const UNKNOWN_KIND: Number = Number(2);

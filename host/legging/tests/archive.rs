@@ -56,6 +56,15 @@ fn a_torn_list_is_answered() {
 }
 
 #[test]
+fn after_a_length_below_4_nothing_is_read() {
+    let mut report = [0xC3; 36];
+    let list = [4, 0, 6, 0, 3, 0, 6, 0, 4, 0, 6, 0];
+    assert_eq!(run(&list, &mut report), Number::TORN);
+    assert_eq!(sheet(&report), "64 1 0 0 0\n64 2 1 0 0\n");
+    assert_eq!(report[24..], [0; 12]);
+}
+
+#[test]
 fn empty_slices() {
     assert_eq!(run(&[], &mut []), Number::DONE);
     assert_eq!(run(&[4, 0, 6, 0], &mut []), Number::NO_ROOM);
@@ -79,7 +88,7 @@ fn the_printed_session_message_by_message() {
 }
 
 #[test]
-fn a_message_that_was_not_done_leaves_the_venue() {
+fn a_message_that_was_not_accepted_leaves_the_venue() {
     let fresh = VenueBytes::fresh();
     let mut venue = fresh.clone();
     let mut report = [0xC3; 20];
