@@ -1,4 +1,5 @@
 -- `engine::legging_message` meets its contract.
+use native.Mathlib.Omega.{arith}
 use Rattle.engine.proofs.Hosting.{none-held, left-held, accepted-held}
 use borrow.Author.Needs.{needs}
 use Rattle.engine.proofs.legging_message.Statement.{statement}
@@ -26,7 +27,7 @@ same-length-3 : tie.Need-same-length-3
 same-length-3 c = search needs
 
 returns-2 : tie.Need-returns-2
-returns-2 c = let s = c .before .before .before .before .before .before .before .before .before .before .before .before in let k = c .before .before .before .before .one-message in left-held (s .args .venue .now) (s .args .before) (s .args .report .now) (s .args .message .now) (c .before .before .before .before .before .before .before .before .if1 .left) (c .before .before .before .before .before .before .venue-from .result) (c .before .before .before .before .before .before .venue-from .ensures) (k .result) (k .last .1 .1 .1 .0) (k .ensures) (c .if2 .taken)
+returns-2 c = let s = c .before .before .before .before .before .before .before .before .before .before .before .before in let k = c .before .before .before .before .one-message in let other = c .if2 .taken in left-held (s .args .venue .now) (s .args .before) (s .args .report .now) (s .args .message .now) (c .before .before .before .before .before .before .before .before .if1 .left) (c .before .before .before .before .before .before .venue-from .result) (c .before .before .before .before .before .before .venue-from .ensures) (k .result) (k .last .1 .1 .1 .0) (k .ensures) (λ z. omega arith)
 
 put-venue-requires : tie.Need-put-venue-requires
 put-venue-requires c κs = search needs
@@ -38,7 +39,7 @@ same-length-5 : tie.Need-same-length-5
 same-length-5 c = search needs
 
 returns-3 : tie.Need-returns-3
-returns-3 c = let s = c .before .before .before .before .before .before .before .before .before .before .before .before .before .before .before .before .before in let k = c .before .before .before .before .before .before .before .before .before .one-message in accepted-held (s .args .venue .now) (s .args .before) (s .args .report .now) (s .args .message .now) (c .before .before .before .before .before .before .before .before .before .before .before .before .before .if1 .left) (c .before .before .before .before .before .before .before .before .before .before .before .venue-from .result) (c .before .before .before .before .before .before .before .before .before .before .before .venue-from .ensures) (k .result) (k .last .1 .1 .1 .0) (k .ensures) _ (c .before .before .before .before .before .if2 .left) (c .before .before .put-venue .ensures)
+returns-3 c = let s = c .before .before .before .before .before .before .before .before .before .before .before .before .before .before .before .before .before in let k = c .before .before .before .before .before .before .before .before .before .one-message in let zero = c .before .before .before .before .before .if2 .left in accepted-held (s .args .venue .now) (s .args .before) (s .args .report .now) (s .args .message .now) (c .before .before .before .before .before .before .before .before .before .before .before .before .before .if1 .left) (c .before .before .before .before .before .before .before .before .before .before .before .venue-from .result) (c .before .before .before .before .before .before .before .before .before .before .before .venue-from .ensures) (k .result) (k .last .1 .1 .1 .0) (k .ensures) _ (omega arith) (c .before .before .put-venue .ensures)
 
 pub legging-message-spec : {M : Type 1} → statement M
 legging-message-spec =
