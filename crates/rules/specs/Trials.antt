@@ -4,18 +4,19 @@ use mathlib.Core.Bool.{Bool, true, false}
 use mathlib.Core.Path.{_≡_, refl}
 use mathlib.Core.List.{List, [], _∷_, _++_, map}
 use Prim.Native.Nat.{ℕ, zero, suc}
-use lib.IntN.{ℤ, pos, negsuc}
-use lib.ListN.{set}
+use lib.IntN.{ℤ, pos, negℤ}
+use lib.ListN.{set, drop, length}
 use Rattle.rules.specs.declared.Regular.{Regular}
 use Rattle.rules.specs.declared.Complex.{Complex}
 use Rattle.rules.specs.declared.Venue.{Venue}
+use Rattle.rules.specs.declared.Legging.{Legging}
 use Rattle.rules.specs.declared.Cause.{Cause}
 use Rattle.rules.specs.declared.Decoded.{Decoded}
 use Rattle.rules.specs.declared.Decoded.the-variants.{Taken}
 use Rattle.rules.specs.declared.Message.{Message}
 use Rattle.rules.specs.declared.Message.the-variants.{Order, TwoLeg, Cancel, Away, Status, Sweep}
 use Rattle.rules.specs.declared.Cause.the-variants.{Worse, Unpaired, Executed, Withdrawn, OutOfBand, NotOpen, Replaced, Touched}
-use Rattle.rules.specs.Words.{buy, sell, opened, freshVenue, withRegular, withLast}
+use Rattle.rules.specs.Words.{buy, sell, opened, freshVenue, noLegging, withRegular, withLast}
 use Rattle.rules.specs.Messages.{encodeMessage}
 use Rattle.rules.specs.Records.{Report, answer, trade, pair, generated, removed, crossed, cancelled, encode, recordOf, records, sheet}
 use Rattle.rules.specs.Prices.{inBand}
@@ -72,6 +73,10 @@ expected (told r bytes) = laid bytes r
 
 -- Messages ------------------------------------------------------------------------------------
 
+-- minus n: the nets of credits
+minus : ℕ → ℤ
+minus n = negℤ (pos n)
+
 opens : (series : ℕ) → List ℕ
 opens s = encodeMessage (Status s opened)
 
@@ -127,8 +132,8 @@ starred =
     -- "The same with N 106: none."
     ∷ session 200 (opening ++ awayAdded ++ buysBoth 3 (pos 106) 8) 0 7 (accepted 1 7)
     -- "O -200: -190 in band, -189 not."
-    ∷ band 300 100 (negsuc 189) true
-    ∷ band 300 100 (negsuc 188) false
+    ∷ band 300 100 (minus 190) true
+    ∷ band 300 100 (minus 189) false
     -- "O 0: 0 in, 1 not."
     ∷ band 100 100 (pos 0) true
     ∷ band 100 100 (pos 1) false
@@ -157,7 +162,7 @@ together =
     ++ pairUp 2 1 0 buy (pos 150) 5
     ++ enters 3 0 sell 90 5
     ++ enters 4 2 sell 60 10
-    ++ encodeMessage (TwoLeg (record { id = 5; series1 = 0; side1 = sell; series2 = 2; side2 = buy; class = 1; limit = negsuc 29; quantity = 3 }))
+    ++ encodeMessage (TwoLeg (record { id = 5; series1 = 0; side1 = sell; series2 = 2; side2 = buy; class = 1; limit = minus 30; quantity = 3 }))
     ++ pairUp 6 2 0 buy (pos 130) 5
     ++ enters 7 2 sell 40 10
 
@@ -180,8 +185,8 @@ wrongs =
     ∷ answer 12 0 0 0 ∷ trade 2 1 40 5 7 6 ∷ trade 0 0 90 5 6 3 ∷ pair 6 (pos 130) 5 ∷ removed 6 0 0 Executed ∷ removed 6 2 0 Executed
     ∷ removed 5 0 1 OutOfBand ∷ removed 2 1 0 Unpaired ∷ []))
     -- "giving a credit's band as O + 5 percent of O (-210 for O -200)"
-    ∷ band 300 100 (negsuc 209) true
-    ∷ band 300 100 (negsuc 199) true
+    ∷ band 300 100 (minus 210) true
+    ∷ band 300 100 (minus 200) true
     ∷ []
 
 -- What no starred trial and no theorem tells ------------------------------------------------------
@@ -209,7 +214,7 @@ quoted = opens 0 ++ opens 1 ++ encodeMessage (Away 0 95 105) ++ encodeMessage (A
 relying : (n : ℤ) → List ℕ
 relying n =
     opens 0 ++ opens 1 ++ opens 2 ++ enters 1 0 buy 90 10 ++ encodeMessage (Away 1 80 0)
-    ++ pairUp 2 0 1 sell (negsuc 199) 5
+    ++ pairUp 2 0 1 sell (minus 200) 5
     ++ enters 3 2 sell 50 5 ++ encodeMessage (Away 0 0 120)
     ++ pairUp 4 0 2 buy n 5
 
@@ -225,7 +230,7 @@ keptApart : List ℕ
 keptApart =
     opens 0 ++ opens 1 ++ opens 2 ++ encodeMessage (Away 1 0 100)
     ++ enters 1 0 sell 100 5 ++ enters 2 0 sell 130 15 ++ enters 3 0 buy 90 20 ++ enters 4 1 buy 60 20
-    ++ pairUp 5 0 1 sell (negsuc 210) 4
+    ++ pairUp 5 0 1 sell (minus 211) 4
     ++ pairUp 6 1 0 buy (pos 215) 3
     ++ pairUp 7 0 2 buy (pos 150) 7
     ++ enters 8 2 sell 50 6
@@ -239,14 +244,14 @@ choices =
     ∷ session 200 (legged ++ cancels 2) 0 6
     (leggedSheet ++ (answer 6 0 0 0 ∷ cancelled 2 12 ∷ removed 3 0 0 Unpaired ∷ removed 3 1 0 OutOfBand ∷ []))
     -- "take the highest N, then earliest, at the resting limit", "whichever leg is named first"
-    ∷ session 200 (quoted ++ buysBoth 1 (pos 190) 5 ++ buysBoth 2 (pos 195) 5 ++ twoLeg 3 1 buy 0 buy 0 (pos 195) 5 ++ pairUp 4 0 1 sell (negsuc 189) 12) 0 8
-    (accepted 1 8 ++ (crossed 4 2 (negsuc 194) 5 ∷ crossed 4 3 (negsuc 194) 5 ∷ crossed 4 1 (negsuc 189) 2 ∷ []))
+    ∷ session 200 (quoted ++ buysBoth 1 (pos 190) 5 ++ buysBoth 2 (pos 195) 5 ++ twoLeg 3 1 buy 0 buy 0 (pos 195) 5 ++ pairUp 4 0 1 sell (minus 190) 12) 0 8
+    (accepted 1 8 ++ (crossed 4 2 (minus 195) 5 ∷ crossed 4 3 (minus 195) 5 ∷ crossed 4 1 (minus 190) 2 ∷ []))
     -- "both nets in band": 221 is not in the maker's
-    ∷ session 150 (quoted ++ buysBoth 1 (pos 221) 5 ++ buysBoth 2 (pos 220) 5 ++ pairUp 3 0 1 sell (negsuc 189) 5) 0 7
-    (accepted 1 7 ++ (crossed 3 2 (negsuc 219) 5 ∷ []))
+    ∷ session 150 (quoted ++ buysBoth 1 (pos 221) 5 ++ buysBoth 2 (pos 220) 5 ++ pairUp 3 0 1 sell (minus 190) 5) 0 7
+    (accepted 1 7 ++ (crossed 3 2 (minus 220) 5 ∷ []))
     -- "the best own prices, legging included, net ≤ N": 115 and 75 are -190 to a seller
-    ∷ session 200 (legged ++ pairUp 4 0 1 sell (negsuc 189) 5) 0 6 (leggedSheet ++ (answer 6 0 0 0 ∷ removed 3 0 0 Touched ∷ removed 3 1 0 Touched ∷ []))
-    ∷ session 200 (legged ++ pairUp 4 0 1 sell (negsuc 190) 5) 0 6 (leggedSheet ++ (answer 6 0 5 2 ∷ []))
+    ∷ session 200 (legged ++ pairUp 4 0 1 sell (minus 190) 5) 0 6 (leggedSheet ++ (answer 6 0 0 0 ∷ removed 3 0 0 Touched ∷ removed 3 1 0 Touched ∷ []))
+    ∷ session 200 (legged ++ pairUp 4 0 1 sell (minus 191) 5) 0 6 (leggedSheet ++ (answer 6 0 5 2 ∷ []))
     -- "while best regular prices net ≤ N and in band": 220 is out of the band of 190, and in that of 210, where N 240 is not
     ∷ session 150 (opening ++ encodeMessage (Away 0 0 100) ++ buysBoth 3 (pos 220) 8) 0 6 (accepted 1 6)
     ∷ session 200 (opening ++ encodeMessage (Away 0 0 120) ++ buysBoth 3 (pos 240) 8) 0 6
@@ -275,17 +280,17 @@ choices =
     ∷ session 200 (legged ++ enters 4 1 sell 85 12 ++ sweeps) 0 7
     (leggedSheet ++ (answer 6 0 5 2 ∷ answer 7 0 5 2 ∷ removed 3 0 0 Replaced ∷ generated 3 0 0 120 120 8 ∷ []))
     -- in a sweep the order whose turn it is takes, at the other's limit
-    ∷ session 150 (opens 0 ++ opens 1 ++ buysBoth 1 (pos 200) 5 ++ pairUp 2 0 1 sell (negsuc 194) 3 ++ encodeMessage (Away 0 95 105) ++ encodeMessage (Away 1 95 105) ++ sweeps) 0 7
+    ∷ session 150 (opens 0 ++ opens 1 ++ buysBoth 1 (pos 200) 5 ++ pairUp 2 0 1 sell (minus 195) 3 ++ encodeMessage (Away 0 95 105) ++ encodeMessage (Away 1 95 105) ++ sweeps) 0 7
     (accepted 1 7 ++ (crossed 1 2 (pos 195) 3 ∷ []))
     -- sells, by tens: 145 is shown at 150, and a hit's other leg takes the bid
-    ∷ session 250 (opens 6 ++ opens 7 ++ enters 1 6 buy 130 15 ++ enters 2 7 buy 90 12 ++ pairUp 3 6 7 sell (negsuc 234) 8 ++ enters 4 6 buy 150 3) 0 6
+    ∷ session 250 (opens 6 ++ opens 7 ++ enters 1 6 buy 130 15 ++ enters 2 7 buy 90 12 ++ pairUp 3 6 7 sell (minus 235) 8 ++ enters 4 6 buy 150 3) 0 6
     (accepted 1 4 ++ (answer 5 0 40960 2 ∷ generated 3 6 1 145 150 8 ∷ generated 3 7 1 105 110 8
-    ∷ answer 6 0 0 0 ∷ trade 6 0 145 3 4 3 ∷ trade 7 1 90 3 3 2 ∷ pair 3 (negsuc 234) 3 ∷ removed 3 6 1 Executed ∷ removed 3 7 1 Executed ∷ []))
+    ∷ answer 6 0 0 0 ∷ trade 6 0 145 3 4 3 ∷ trade 7 1 90 3 3 2 ∷ pair 3 (minus 235) 3 ∷ removed 3 6 1 Executed ∷ removed 3 7 1 Executed ∷ []))
     -- "Sweep: all this for each resting order, earliest first, but settle once and then generate"; "the taker's first"
     ∷ session 400 (keptApart ++ sweeps ++ sweeps) 0 14
     (accepted 1 8 ++ (answer 9 0 8 1 ∷ generated 5 1 1 121 125 4 ∷ answer 10 0 8 1 ∷ answer 11 0 8 1 ∷ answer 12 0 8 1
     ∷ answer 13 0 28 3 ∷ trade 0 0 100 5 7 1 ∷ trade 2 0 50 5 7 8 ∷ pair 7 (pos 150) 5 ∷ generated 6 1 0 85 85 3 ∷ generated 7 2 0 20 20 2
-    ∷ answer 14 0 24 2 ∷ crossed 5 6 (negsuc 214) 3 ∷ removed 5 1 1 Executed ∷ removed 6 1 0 Executed ∷ generated 5 1 1 121 125 1 ∷ []))
+    ∷ answer 14 0 24 2 ∷ crossed 5 6 (minus 215) 3 ∷ removed 5 1 1 Executed ∷ removed 6 1 0 Executed ∷ generated 5 1 1 121 125 1 ∷ []))
     ∷ []
 
 -- Bytes ---------------------------------------------------------------------------------------
@@ -300,7 +305,7 @@ layouts =
     taken (18 ∷ 0 ∷ 1 ∷ 0 ∷ 1 ∷ 2 ∷ 3 ∷ 4 ∷ 5 ∷ 1 ∷ 160 ∷ 134 ∷ 1 ∷ 0 ∷ 16 ∷ 39 ∷ 0 ∷ 0 ∷ [])
     (Order (record { id = 67305985; series = 5; side = 1; price = 100000; quantity = 10000 }))
     ∷ taken (21 ∷ 0 ∷ 2 ∷ 0 ∷ 1 ∷ 2 ∷ 3 ∷ 4 ∷ 7 ∷ 1 ∷ 6 ∷ 0 ∷ 1 ∷ 254 ∷ 255 ∷ 255 ∷ 255 ∷ 16 ∷ 39 ∷ 0 ∷ 0 ∷ [])
-    (TwoLeg (record { id = 67305985; series1 = 7; side1 = 1; series2 = 6; side2 = 0; class = 1; limit = negsuc 1; quantity = 10000 }))
+    (TwoLeg (record { id = 67305985; series1 = 7; side1 = 1; series2 = 6; side2 = 0; class = 1; limit = minus 2; quantity = 10000 }))
     ∷ taken (8 ∷ 0 ∷ 3 ∷ 0 ∷ 1 ∷ 2 ∷ 3 ∷ 4 ∷ []) (Cancel 67305985)
     ∷ taken (13 ∷ 0 ∷ 4 ∷ 0 ∷ 3 ∷ 44 ∷ 1 ∷ 0 ∷ 0 ∷ 160 ∷ 134 ∷ 1 ∷ 0 ∷ []) (Away 3 300 100000)
     ∷ taken (6 ∷ 0 ∷ 5 ∷ 0 ∷ 7 ∷ 2 ∷ []) (Status 7 2)
@@ -308,11 +313,11 @@ layouts =
     ∷ told (answer 67305985 7 513 2) (12 ∷ 0 ∷ 64 ∷ 0 ∷ 1 ∷ 2 ∷ 3 ∷ 4 ∷ 7 ∷ 1 ∷ 2 ∷ 2 ∷ [])
     ∷ told (trade 5 1 100000 10000 67305985 134678021)
     (22 ∷ 0 ∷ 65 ∷ 0 ∷ 5 ∷ 1 ∷ 160 ∷ 134 ∷ 1 ∷ 0 ∷ 16 ∷ 39 ∷ 0 ∷ 0 ∷ 1 ∷ 2 ∷ 3 ∷ 4 ∷ 5 ∷ 6 ∷ 7 ∷ 8 ∷ [])
-    ∷ told (pair 67305985 (negsuc 1) 10000) (16 ∷ 0 ∷ 66 ∷ 0 ∷ 1 ∷ 2 ∷ 3 ∷ 4 ∷ 254 ∷ 255 ∷ 255 ∷ 255 ∷ 16 ∷ 39 ∷ 0 ∷ 0 ∷ [])
+    ∷ told (pair 67305985 (minus 2) 10000) (16 ∷ 0 ∷ 66 ∷ 0 ∷ 1 ∷ 2 ∷ 3 ∷ 4 ∷ 254 ∷ 255 ∷ 255 ∷ 255 ∷ 16 ∷ 39 ∷ 0 ∷ 0 ∷ [])
     ∷ told (generated 67305985 6 1 99999 100000 10000)
     (22 ∷ 0 ∷ 67 ∷ 0 ∷ 1 ∷ 2 ∷ 3 ∷ 4 ∷ 6 ∷ 1 ∷ 159 ∷ 134 ∷ 1 ∷ 0 ∷ 160 ∷ 134 ∷ 1 ∷ 0 ∷ 16 ∷ 39 ∷ 0 ∷ 0 ∷ [])
     ∷ gone Worse 1 ∷ gone Unpaired 2 ∷ gone Executed 3 ∷ gone Withdrawn 4 ∷ gone OutOfBand 5 ∷ gone NotOpen 6 ∷ gone Replaced 7 ∷ gone Touched 8
-    ∷ told (crossed 67305985 134678021 (negsuc 1) 10000)
+    ∷ told (crossed 67305985 134678021 (minus 2) 10000)
     (20 ∷ 0 ∷ 70 ∷ 0 ∷ 1 ∷ 2 ∷ 3 ∷ 4 ∷ 5 ∷ 6 ∷ 7 ∷ 8 ∷ 254 ∷ 255 ∷ 255 ∷ 255 ∷ 16 ∷ 39 ∷ 0 ∷ 0 ∷ [])
     ∷ told (cancelled 67305985 10000) (12 ∷ 0 ∷ 71 ∷ 0 ∷ 1 ∷ 2 ∷ 3 ∷ 4 ∷ 16 ∷ 39 ∷ 0 ∷ 0 ∷ [])
     ∷ []
@@ -332,8 +337,8 @@ edges =
     ∷ ranged (single 0 0 0 5 1) false ∷ ranged (single 1 8 0 10 1) false ∷ ranged (single 1 0 2 5 1) false ∷ ranged (single 1 0 0 0 1) false
     ∷ ranged (single 1 0 0 100005 1) false ∷ ranged (single 1 0 0 5 0) false ∷ ranged (single 1 0 0 5 10001) false
     ∷ ranged (single 1 5 0 15 1) true ∷ ranged (single 1 6 0 15 1) false ∷ ranged (single 1 0 0 6 1) false
-    ∷ ranged (double 0 0 7 1 1 (pos 200000) 10000) true ∷ ranged (double 7 1 0 0 0 (negsuc 199999) 1) true
-    ∷ ranged (double 0 0 1 0 0 (pos 200001) 1) false ∷ ranged (double 0 0 1 0 0 (negsuc 200000) 1) false ∷ ranged (double 0 0 1 0 2 (pos 0) 1) false
+    ∷ ranged (double 0 0 7 1 1 (pos 200000) 10000) true ∷ ranged (double 7 1 0 0 0 (minus 200000) 1) true
+    ∷ ranged (double 0 0 1 0 0 (pos 200001) 1) false ∷ ranged (double 0 0 1 0 0 (minus 200001) 1) false ∷ ranged (double 0 0 1 0 2 (pos 0) 1) false
     ∷ ranged (double 8 0 1 0 0 (pos 0) 1) false ∷ ranged (double 0 0 8 0 0 (pos 0) 1) false ∷ ranged (double 0 2 1 0 0 (pos 0) 1) false ∷ ranged (double 0 0 1 2 0 (pos 0) 1) false
     ∷ ranged (double 3 0 3 1 0 (pos 0) 1) false ∷ ranged (double 0 0 1 0 0 (pos 0) 0) false ∷ ranged (double 0 0 1 0 0 (pos 0) 10001) false
     ∷ ranged (Cancel 0) false ∷ ranged (Cancel 1) true
@@ -402,9 +407,122 @@ refused =
     ∷ session 30 (sweeps ++ sweeps ++ sweeps) 10 2 (accepted 1 2)
     ∷ []
 
+-- What the choices above leave open -----------------------------------------------------------
+
+-- three series open, and an offer of 50 in series 2
+threeOpen : List ℕ
+threeOpen = opens 0 ++ opens 1 ++ opens 2 ++ enters 1 2 sell 50 10
+
+pub more : List Trial
+more =
+    -- "best own price first": the legging order at 115 before the regular one at 110
+    session 300 (legged ++ enters 4 0 buy 110 2 ++ enters 5 0 sell 110 6) 0 7
+    (leggedSheet ++ (answer 6 0 5 2 ∷ answer 7 0 0 0 ∷ trade 0 1 115 6 5 3 ∷ trade 1 0 90 6 3 2 ∷ pair 3 (pos 205) 6 ∷ removed 3 0 0 Executed ∷ removed 3 1 0 Executed ∷ []))
+    -- "its total size", "trades by id"
+    ∷ session 300 (opening ++ enters 3 1 sell 90 5 ++ buysBoth 4 (pos 220) 14) 0 6
+    (accepted 1 6 ++ (trade 0 0 130 14 4 1 ∷ trade 1 0 90 12 4 2 ∷ trade 1 0 90 2 4 3 ∷ pair 4 (pos 220) 14 ∷ []))
+    -- "p itself": 113 reaches 112, though 110 is shown
+    ∷ session 150 (opens 0 ++ opens 1 ++ enters 1 1 sell 90 12 ++ encodeMessage (Away 0 0 112) ++ buysBoth 2 (pos 203) 3) 0 5 (accepted 1 5)
+    ∷ session 150 (opens 0 ++ opens 1 ++ enters 1 1 sell 90 12 ++ encodeMessage (Away 0 0 114) ++ buysBoth 2 (pos 203) 3) 0 5
+    (accepted 1 4 ++ (answer 5 0 1 1 ∷ generated 2 0 0 113 110 3 ∷ []))
+    -- "both its series are open (else cause 6)": closed
+    ∷ session 200 (legged ++ encodeMessage (Status 0 0)) 0 6 (leggedSheet ++ (answer 6 0 0 0 ∷ removed 3 0 0 NotOpen ∷ removed 3 1 0 NotOpen ∷ []))
+    -- "Cancel: 71, then removals (4)"
+    ∷ session 200 (legged ++ cancels 3) 0 6 (leggedSheet ++ (answer 6 0 0 0 ∷ cancelled 3 8 ∷ removed 3 0 0 Withdrawn ∷ removed 3 1 0 Withdrawn ∷ []))
+    -- "if both sides it would take have a price"
+    ∷ session 150 (opens 0 ++ opens 1 ++ enters 1 1 sell 90 12 ++ encodeMessage (Away 0 0 130) ++ buysBoth 2 (pos 205) 8 ++ pairUp 3 0 1 sell (minus 100) 5) 0 6
+    (accepted 1 4 ++ (answer 5 0 1 1 ∷ generated 2 0 0 115 115 8 ∷ answer 6 0 1 1 ∷ []))
+    -- "First cross", "Each step goes on only while some quantity is open": no touch after
+    ∷ session 250 (threeOpen ++ enters 2 1 buy 70 5 ++ encodeMessage (Away 0 80 120) ++ encodeMessage (Away 1 70 100)
+    ++ pairUp 3 0 2 buy (pos 150) 5 ++ pairUp 4 0 1 buy (pos 180) 4 ++ pairUp 5 0 1 sell (minus 170) 4) 0 10
+    (accepted 1 7 ++ (answer 8 0 1 1 ∷ generated 3 0 0 100 100 5 ∷ answer 9 0 1 1 ∷ answer 10 0 1 1 ∷ crossed 5 4 (minus 180) 4 ∷ []))
+    -- "Then touch", "Then leg in"
+    ∷ session 300 (threeOpen ++ enters 2 0 buy 95 5 ++ enters 3 1 buy 70 5 ++ encodeMessage (Away 0 80 120) ++ encodeMessage (Away 1 70 100)
+    ++ pairUp 4 0 2 buy (pos 150) 5 ++ pairUp 5 0 1 sell (minus 165) 5) 0 10
+    (accepted 1 8 ++ (answer 9 0 1 1 ∷ generated 4 0 0 100 100 5
+    ∷ answer 10 0 0 0 ∷ removed 4 0 0 Touched ∷ trade 0 1 95 5 5 2 ∷ trade 1 1 70 5 5 3 ∷ pair 5 (minus 165) 5 ∷ []))
+    -- "First cross", before legging in
+    ∷ session 200 (opens 0 ++ opens 1 ++ enters 1 0 buy 95 5 ++ enters 2 1 buy 70 5 ++ encodeMessage (Away 0 0 120) ++ encodeMessage (Away 1 0 100)
+    ++ pairUp 3 0 1 buy (pos 180) 4 ++ pairUp 4 0 1 sell (minus 165) 4) 0 8
+    (accepted 1 8 ++ (crossed 4 3 (minus 180) 4 ∷ []))
+    -- "displayed price from the increment": 3 would be shown at 0
+    ∷ session 150 (opens 0 ++ opens 1 ++ enters 1 1 sell 90 12 ++ encodeMessage (Away 0 0 10) ++ buysBoth 2 (pos 93) 3) 0 5 (accepted 1 5)
+    ∷ session 150 (opens 0 ++ opens 1 ++ enters 1 1 sell 90 12 ++ encodeMessage (Away 0 0 10) ++ buysBoth 2 (pos 95) 3) 0 5
+    (accepted 1 4 ++ (answer 5 0 1 1 ∷ generated 2 0 0 5 5 3 ∷ []))
+    -- "held at a worse price": 112 and 113 are both shown at 110
+    ∷ session 250 (opening ++ buysBoth 3 (pos 202) 8 ++ buysBoth 4 (pos 203) 8) 0 6
+    (accepted 1 4 ++ (answer 5 0 5 2 ∷ generated 3 0 0 112 110 8 ∷ generated 3 1 0 72 70 8
+    ∷ answer 6 0 5 2 ∷ removed 3 0 0 Replaced ∷ generated 4 0 0 113 110 8 ∷ removed 3 1 0 Replaced ∷ generated 4 1 0 73 70 8 ∷ []))
+    -- "the lowest cause that applies": 1 and 2 at once
+    ∷ session 250 (opens 0 ++ opens 1 ++ enters 1 1 sell 90 12 ++ encodeMessage (Away 0 110 130) ++ buysBoth 2 (pos 205) 8
+    ++ twoLeg 3 0 sell 1 buy 1 (minus 35) 6 ++ enters 4 0 buy 125 8) 0 7
+    (accepted 1 4 ++ (answer 5 0 1 1 ∷ generated 2 0 0 115 115 8 ∷ answer 6 0 3 2 ∷ generated 3 0 1 125 125 6
+    ∷ answer 7 0 0 0 ∷ trade 0 0 125 6 4 3 ∷ trade 1 0 90 6 3 1 ∷ pair 3 (minus 35) 6 ∷ removed 3 0 1 Executed ∷ removed 2 0 0 Worse ∷ []))
+    -- "at equal price by class 1": a customer does not give way to a customer
+    ∷ session 200 (opening ++ twoLeg 3 0 buy 1 buy 0 (pos 205) 8 ++ twoLeg 4 0 buy 1 buy 0 (pos 205) 9) 0 6 (leggedSheet ++ (answer 6 0 5 2 ∷ []))
+    -- "both nets in band": the nets dealt at; N -150 itself is out of the band of -190
+    ∷ session 150 (quoted ++ buysBoth 1 (pos 195) 5 ++ pairUp 2 0 1 sell (minus 150) 5) 0 6 (accepted 1 6 ++ (crossed 2 1 (minus 195) 5 ∷ []))
+    -- "Sweep: all this": it touches too
+    ∷ session 250 (threeOpen ++ enters 2 1 buy 70 5 ++ encodeMessage (Away 0 0 120) ++ pairUp 3 0 1 sell (minus 170) 4 ++ pairUp 4 0 2 buy (pos 150) 5 ++ sweeps) 0 9
+    (accepted 1 7 ++ (answer 8 0 1 1 ∷ generated 4 0 0 100 100 5 ∷ answer 9 0 1 1 ∷ removed 4 0 0 Touched ∷ generated 4 0 0 100 100 5 ∷ []))
+    -- "remove legging orders on those two sides" alone; also in auction
+    ∷ session 200 (legged ++ inAuction 2 ++ enters 4 2 buy 50 5 ++ pairUp 5 0 2 sell (minus 165) 5) 0 8
+    (leggedSheet ++ (answer 6 0 5 2 ∷ answer 7 0 5 2 ∷ answer 8 0 4 1 ∷ removed 3 0 0 Touched ∷ []))
+    -- a cross in auction
+    ∷ session 150 (quoted ++ inAuction 0 ++ buysBoth 1 (pos 195) 5 ++ pairUp 2 0 1 sell (minus 190) 5) 0 7 (accepted 1 7 ++ (crossed 2 1 (minus 195) 5 ∷ []))
+    -- a hit at an improved other leg: the net traded
+    ∷ session 300 (legged ++ enters 4 1 sell 85 12 ++ enters 5 0 sell 115 5) 0 7
+    (leggedSheet ++ (answer 6 0 5 2 ∷ answer 7 0 0 0 ∷ trade 0 1 115 5 5 3 ∷ trade 1 0 85 5 3 4 ∷ pair 3 (pos 200) 5 ∷ removed 3 0 0 Executed ∷ removed 3 1 0 Executed ∷ []))
+    ∷ []
+
+-- Soundness, clause by clause: the venue that `legged` leaves, with one thing changed -------------
+
+-- regular orders 1 and 2, complex order 3, and what stands at place 0
+legsUp : (orders : List Regular) (c : Complex) (l : Legging) → Venue
+legsUp os c l = record {
+  regular = os ++ drop (length os) (freshVenue .regular);
+  complex = set (freshVenue .complex) 0 c;
+  legging = set (freshVenue .legging) 0 l;
+  series = set (set (freshVenue .series) 0 (record { status = 1; bid = 0; offer = 0 })) 1 (record { status = 1; bid = 0; offer = 0 });
+  last = 3;
+}
+
+rest : (id series side price quantity : ℕ) → Regular
+rest i s d p q = record { id = i; series = s; side = d; price = p; quantity = q }
+
+both : (id quantity : ℕ) → Complex
+both i q = record { id = i; series1 = 0; side1 = buy; series2 = 1; side2 = buy; class = 1; limit = pos 205; quantity = q }
+
+leg : (parent price quantity : ℕ) → Legging
+leg i p q = record { parent = i; price = p; quantity = q }
+
+resting : List Regular
+resting = rest 1 0 sell 130 15 ∷ rest 2 1 sell 90 12 ∷ []
+
+-- it is given back with 9
+unsound : Venue → Trial
+unsound v = upon v 5 100 sweeps 9 0 [] v
+
+pub faults : List Trial
+faults =
+    -- sound: a refused cancel
+    upon (legsUp resting (both 3 8) (leg 3 115 8)) 5 100 (cancels 9) 8 1 (answer 6 8 1 1 ∷ []) (legsUp resting (both 3 8) (leg 3 115 8))
+    -- "no larger than what its parent has open"; "passes its test": net, displayed; "matches an open parent leg"
+    ∷ unsound (legsUp resting (both 3 8) (leg 3 115 9))
+    ∷ unsound (legsUp resting (both 3 8) (leg 3 116 8))
+    ∷ unsound (legsUp resting (both 3 8) (leg 2 115 8))
+    -- "resting ids distinct and at most the last id"; "fields are in range"
+    ∷ unsound (legsUp resting (both 2 8) (leg 2 115 8))
+    ∷ unsound (legsUp resting (both 4 8) (leg 4 115 8))
+    ∷ unsound (legsUp (rest 1 0 sell 131 15 ∷ rest 2 1 sell 90 12 ∷ []) (both 3 8) (leg 3 115 8))
+    -- "no series is locked or crossed counting own prices": locked by regular orders; crossed by the legging order
+    ∷ unsound (legsUp (rest 1 0 sell 130 15 ∷ rest 2 0 buy 130 1 ∷ []) (both 3 8) noLegging)
+    ∷ unsound (legsUp (rest 1 0 sell 115 15 ∷ rest 2 1 sell 90 12 ∷ []) (both 3 8) (leg 3 115 8))
+    ∷ []
+
 pub trials : List Trial
-trials = starred ++ wrongs ++ choices ++ layouts ++ edges ++ refused
+trials = starred ++ wrongs ++ choices ++ more ++ layouts ++ edges ++ refused ++ faults
 
 pub trials-hold : map outcome trials ≡ map expected trials
-unfolding opened-rules outcome expected spread opens enters pairUp buysBoth cancels sweeps opening accepted awayAdded starred together wrongs twoLeg legged leggedSheet quoted relying inAuction restingBefore keptApart choices gone layouts single double edges offers pairs twice refused trials
+unfolding opened-rules outcome expected spread minus opens enters pairUp buysBoth cancels sweeps opening accepted awayAdded starred together wrongs twoLeg legged leggedSheet quoted relying inAuction restingBefore keptApart choices gone layouts single double edges offers pairs twice refused threeOpen more legsUp rest both leg resting unsound faults trials
 trials-hold = refl
