@@ -5,24 +5,28 @@ use mathlib.Core.Path.{_≡_, refl}
 use mathlib.Core.List.{List, [], _∷_, _++_, map}
 use Prim.Native.Nat.{ℕ, zero, suc}
 use lib.IntN.{ℤ, pos, negℤ}
-use lib.ListN.{set, drop, length}
+use lib.ListN.{set, drop, length, replicate}
 use Rattle.rules.specs.declared.Regular.{Regular}
 use Rattle.rules.specs.declared.Complex.{Complex}
 use Rattle.rules.specs.declared.Venue.{Venue}
 use Rattle.rules.specs.declared.Legging.{Legging}
+use Rattle.rules.specs.declared.Listed.{Listed}
 use Rattle.rules.specs.declared.Cause.{Cause}
 use Rattle.rules.specs.declared.Decoded.{Decoded}
-use Rattle.rules.specs.declared.Decoded.the-variants.{Taken}
+use Rattle.rules.specs.declared.Decoded.the-variants.{Taken, Refused}
 use Rattle.rules.specs.declared.Message.{Message}
 use Rattle.rules.specs.declared.Message.the-variants.{Order, TwoLeg, Cancel, Away, Status, Sweep}
 use Rattle.rules.specs.declared.Cause.the-variants.{Worse, Unpaired, Executed, Withdrawn, OutOfBand, NotOpen, Replaced, Touched}
-use Rattle.rules.specs.Words.{buy, sell, opened, freshVenue, noLegging, withRegular, withLast}
+use Rattle.rules.specs.declared.Verdict.the-variants.{Stands, Fails}
+use Rattle.rules.specs.Words.{buy, sell, opened, noRegular, noComplex, noLegging, notListed, freshVenue, withRegular, withComplex, withLegging, withSeries, withLast}
 use Rattle.rules.specs.Messages.{encodeMessage}
-use Rattle.rules.specs.Records.{Report, answer, trade, pair, generated, removed, crossed, cancelled, encode, recordOf, records, sheet}
+use Rattle.rules.specs.Records.{Report, answer, trade, pair, generated, removed, crossed, cancelled, encode, encodeAll, recordOf, records, sheet}
 use Rattle.rules.specs.Prices.{inBand}
-use Rattle.rules.specs.Refusals.{decoded, inRange}
-use Rattle.rules.specs.Step.{setAway}
-use Rattle.rules.specs.Calls.{run, one}
+use Rattle.rules.specs.Standing.{verdictNumber}
+use Rattle.rules.specs.Refusals.{decoded, decodedNumber, inRange}
+use Rattle.rules.specs.Step.{setAway, mask}
+use Rattle.rules.specs.Calls.{called, run, runFrom, one}
+use Rattle.rules.specs.Sums.{total, contracts, contractsAt, paired, crossedFor, cancelledOf, openRegular, openComplex}
 use Rattle.rules.specs.Opened.{opened-rules}
 
 -- What is tried -------------------------------------------------------------------------------
@@ -32,6 +36,8 @@ pub data Trial : Type 0 where
   session : (room : ℕ) (bytes : List ℕ) (number done : ℕ) → List Report → Trial
   -- one message's bytes upon a venue, so many messages having gone before: the same, and the venue returned
   upon : (v : Venue) (before room : ℕ) (bytes : List ℕ) (number done : ℕ) → List Report → (w : Venue) → Trial
+  -- the rest of a run, so many messages having gone before
+  onward : (v : Venue) (before room : ℕ) (bytes : List ℕ) (number done : ℕ) → List Report → (w : Venue) → Trial
   -- a net t against O, which is the offer of series 1 less the bid of series 0
   band : (bid offer : ℕ) (t : ℤ) → Bool → Trial
   -- a message's fields in their ranges
@@ -39,13 +45,16 @@ pub data Trial : Type 0 where
   -- the bytes of a message, both ways, and of a record
   taken : (bytes : List ℕ) → Message → Trial
   told : Report → (bytes : List ℕ) → Trial
+  -- a number
+  counted : (is should : ℕ) → Trial
 
 pub data Outcome : Type 0 where
-  ended : (number done : ℕ) → (read : List Report) → (report : List ℕ) → Outcome
-  returned : (number done : ℕ) → (read : List Report) → (report : List ℕ) → Venue → Outcome
+  ended : (number done written : ℕ) → (read : List Report) → (report : List ℕ) → Outcome
+  returned : (number done written : ℕ) → (read : List Report) → (report : List ℕ) → Venue → Outcome
   near : Bool → Outcome
   read : Decoded → (bytes : List ℕ) → Outcome
   laid : (bytes : List ℕ) → Report → Outcome
+  numbered : ℕ → Outcome
 
 -- a complex order that sells series 0 and buys series 1
 spread : Complex
@@ -54,26 +63,32 @@ spread = record { id = 1; series1 = 0; side1 = sell; series2 = 1; side2 = buy; c
 pub outcome : Trial → Outcome
 outcome (session room bytes number done rs) =
     let c = run room bytes in
-    ended (c .returned .number) (c .returned .done) (records (c .report)) (c .report)
+    ended (c .returned .number) (c .returned .done) (c .returned .written) (records (c .report)) (c .report)
 outcome (upon v before room bytes number done rs w) =
     let c = one v before room bytes in
-    returned (c .returned .number) (c .returned .done) (records (c .report)) (c .report) (c .returned .venue)
+    returned (c .returned .number) (c .returned .done) (c .returned .written) (records (c .report)) (c .report) (c .returned .venue)
+outcome (onward v before room bytes number done rs w) =
+    let c = called room (runFrom (length bytes) v before room bytes) in
+    returned (c .returned .number) (c .returned .done) (c .returned .written) (records (c .report)) (c .report) (c .returned .venue)
 outcome (band bid offer t b) = near (inBand (setAway 1 0 offer (setAway 0 bid 0 freshVenue)) spread t)
 outcome (ranged m b) = near (inRange m)
 outcome (taken bytes m) = read (decoded bytes) (encodeMessage m)
 outcome (told r bytes) = laid (encode r) (recordOf bytes)
+outcome (counted is should) = numbered is
 
 pub expected : Trial → Outcome
-expected (session room bytes number done rs) = ended number done rs (sheet room rs)
-expected (upon v before room bytes number done rs w) = returned number done rs (sheet room rs) w
+expected (session room bytes number done rs) = ended number done (length (encodeAll rs)) rs (sheet room rs)
+expected (upon v before room bytes number done rs w) = returned number done (length (encodeAll rs)) rs (sheet room rs) w
+expected (onward v before room bytes number done rs w) = returned number done (length (encodeAll rs)) rs (sheet room rs) w
 expected (band bid offer t b) = near b
 expected (ranged m b) = near b
 expected (taken bytes m) = read (Taken m) bytes
 expected (told r bytes) = laid bytes r
+expected (counted is should) = numbered should
 
 -- Messages ------------------------------------------------------------------------------------
 
--- minus n: the nets of credits
+-- the net of a credit of n
 minus : ℕ → ℤ
 minus n = negℤ (pos n)
 
@@ -137,6 +152,11 @@ starred =
     -- "O 0: 0 in, 1 not."
     ∷ band 100 100 (pos 0) true
     ∷ band 100 100 (pos 1) false
+    -- a net above; "never if a market best is missing"
+    ∷ band 100 300 (pos 210) true
+    ∷ band 100 300 (pos 211) false
+    ∷ band 0 100 (minus 1000) false
+    ∷ band 100 0 (minus 1000) false
     -- "Sell 6 at 115 to 115 regular 2 and legging 8: 2, then 4."
     ∷ session 400 (opening ++ buysBoth 3 (pos 205) 8 ++ enters 4 0 buy 115 2 ++ enters 5 0 sell 115 6) 0 7
     (accepted 1 4 ++ (answer 5 0 5 2 ∷ generated 3 0 0 115 115 8 ∷ generated 3 1 0 75 75 8 ∷ answer 6 0 5 2
@@ -313,6 +333,8 @@ layouts =
     ∷ told (answer 67305985 7 513 2) (12 ∷ 0 ∷ 64 ∷ 0 ∷ 1 ∷ 2 ∷ 3 ∷ 4 ∷ 7 ∷ 1 ∷ 2 ∷ 2 ∷ [])
     ∷ told (trade 5 1 100000 10000 67305985 134678021)
     (22 ∷ 0 ∷ 65 ∷ 0 ∷ 5 ∷ 1 ∷ 160 ∷ 134 ∷ 1 ∷ 0 ∷ 16 ∷ 39 ∷ 0 ∷ 0 ∷ 1 ∷ 2 ∷ 3 ∷ 4 ∷ 5 ∷ 6 ∷ 7 ∷ 8 ∷ [])
+    ∷ told (pair 67305985 (pos 2147483647) 10000) (16 ∷ 0 ∷ 66 ∷ 0 ∷ 1 ∷ 2 ∷ 3 ∷ 4 ∷ 255 ∷ 255 ∷ 255 ∷ 127 ∷ 16 ∷ 39 ∷ 0 ∷ 0 ∷ [])
+    ∷ told (pair 67305985 (minus 2147483648) 10000) (16 ∷ 0 ∷ 66 ∷ 0 ∷ 1 ∷ 2 ∷ 3 ∷ 4 ∷ 0 ∷ 0 ∷ 0 ∷ 128 ∷ 16 ∷ 39 ∷ 0 ∷ 0 ∷ [])
     ∷ told (pair 67305985 (minus 2) 10000) (16 ∷ 0 ∷ 66 ∷ 0 ∷ 1 ∷ 2 ∷ 3 ∷ 4 ∷ 254 ∷ 255 ∷ 255 ∷ 255 ∷ 16 ∷ 39 ∷ 0 ∷ 0 ∷ [])
     ∷ told (generated 67305985 6 1 99999 100000 10000)
     (22 ∷ 0 ∷ 67 ∷ 0 ∷ 1 ∷ 2 ∷ 3 ∷ 4 ∷ 6 ∷ 1 ∷ 159 ∷ 134 ∷ 1 ∷ 0 ∷ 160 ∷ 134 ∷ 1 ∷ 0 ∷ 16 ∷ 39 ∷ 0 ∷ 0 ∷ [])
@@ -341,6 +363,8 @@ edges =
     ∷ ranged (double 0 0 1 0 0 (pos 200001) 1) false ∷ ranged (double 0 0 1 0 0 (minus 200001) 1) false ∷ ranged (double 0 0 1 0 2 (pos 0) 1) false
     ∷ ranged (double 8 0 1 0 0 (pos 0) 1) false ∷ ranged (double 0 0 8 0 0 (pos 0) 1) false ∷ ranged (double 0 2 1 0 0 (pos 0) 1) false ∷ ranged (double 0 0 1 2 0 (pos 0) 1) false
     ∷ ranged (double 3 0 3 1 0 (pos 0) 1) false ∷ ranged (double 0 0 1 0 0 (pos 0) 0) false ∷ ranged (double 0 0 1 0 0 (pos 0) 10001) false
+    ∷ ranged (TwoLeg (record { id = 0; series1 = 0; side1 = 0; series2 = 1; side2 = 0; class = 0; limit = pos 0; quantity = 1 })) false
+    ∷ ranged (single 4294967296 0 0 5 1) false
     ∷ ranged (Cancel 0) false ∷ ranged (Cancel 1) true
     ∷ ranged (Away 7 100000 0) true ∷ ranged (Away 8 0 0) false ∷ ranged (Away 0 100001 0) false ∷ ranged (Away 0 0 100001) false
     ∷ ranged (Status 7 2) true ∷ ranged (Status 8 0) false ∷ ranged (Status 0 3) false
@@ -378,19 +402,25 @@ refused =
     ∷ session 100 ((5 ∷ 0 ∷ 0 ∷ 0 ∷ 7 ∷ []) ++ (4 ∷ 0 ∷ 7 ∷ 0 ∷ []) ++ (4 ∷ 0 ∷ 64 ∷ 0 ∷ [])) 0 3 (answer 1 2 0 0 ∷ answer 2 2 0 0 ∷ answer 3 2 0 0 ∷ [])
     -- 3: "05 00 06 00 00"
     ∷ session 100 (5 ∷ 0 ∷ 6 ∷ 0 ∷ 0 ∷ []) 0 1 (answer 1 3 0 0 ∷ [])
+    -- too short; 3 before 4, which a cancel of id 0 is
+    ∷ session 100 ((7 ∷ 0 ∷ 3 ∷ 0 ∷ 9 ∷ 0 ∷ 0 ∷ []) ++ (9 ∷ 0 ∷ 3 ∷ 0 ∷ 0 ∷ 0 ∷ 0 ∷ 0 ∷ 0 ∷ [])) 0 2 (answer 1 3 0 0 ∷ answer 2 3 0 0 ∷ [])
     -- 4: "order at 113, series 0"
     ∷ session 100 (opens 0 ++ enters 1 0 sell 113 1) 0 2 (answer 1 0 0 0 ∷ answer 2 4 0 0 ∷ [])
     -- 5: "id 1 twice"
     ∷ session 100 (opens 0 ++ enters 1 0 sell 115 1 ++ enters 1 0 sell 115 1) 0 3 (accepted 1 2 ++ (answer 3 5 0 0 ∷ []))
+    ∷ session 100 (opens 0 ++ opens 1 ++ pairs 1 1 ++ pairs 1 1) 0 4 (accepted 1 3 ++ (answer 4 5 0 0 ∷ []))
     -- in number order: 4, then 5, then 6; a refused order does not move the last id
     ∷ session 100 (enters 9 0 sell 113 1 ++ opens 0 ++ enters 1 0 sell 115 1 ++ encodeMessage (Status 0 0) ++ enters 1 0 sell 115 1 ++ enters 2 0 sell 115 1) 0 6
     (answer 1 4 0 0 ∷ answer 2 0 0 0 ∷ answer 3 0 0 0 ∷ answer 4 0 0 0 ∷ answer 5 5 0 0 ∷ answer 6 6 0 0 ∷ [])
     -- 6: "order, fresh venue"
     ∷ session 100 (enters 1 0 sell 115 1) 0 1 (answer 1 6 0 0 ∷ [])
-    -- 7: "the 129th resting", after 6 and "even if the order would trade"; the 33rd complex order
+    -- either series of a complex order
+    ∷ session 100 (opens 0 ++ pairs 1 1 ++ encodeMessage (Status 0 0) ++ opens 1 ++ pairs 1 1) 0 5
+    (answer 1 0 0 0 ∷ answer 2 6 0 0 ∷ answer 3 0 0 0 ∷ answer 4 0 0 0 ∷ answer 5 6 0 0 ∷ [])
+    -- 7: "the 129th resting", after 6 and "even if the order would trade"; the 33rd complex order, after 5
     ∷ session 1600 (opens 0 ++ offers 129 1 ++ enters 130 1 buy 100 1 ++ enters 131 0 buy 100 1) 0 132
     (accepted 1 129 ++ (answer 130 7 0 0 ∷ answer 131 6 0 0 ∷ answer 132 7 0 0 ∷ []))
-    ∷ session 500 (opens 0 ++ opens 1 ++ pairs 33 1) 0 35 (accepted 1 34 ++ (answer 35 7 0 0 ∷ []))
+    ∷ session 500 (opens 0 ++ opens 1 ++ pairs 33 1 ++ pairs 1 1) 0 36 (accepted 1 34 ++ (answer 35 7 0 0 ∷ answer 36 5 0 0 ∷ []))
     -- 8: "cancel 9, fresh"
     ∷ session 100 (cancels 9) 0 1 (answer 1 8 0 0 ∷ [])
     -- a refused message tells the mask and the count of the venue as it stands
@@ -407,83 +437,175 @@ refused =
     ∷ session 30 (sweeps ++ sweeps ++ sweeps) 10 2 (accepted 1 2)
     ∷ []
 
--- What the choices above leave open -----------------------------------------------------------
+-- What the choices above leave open: Order ----------------------------------------------------
 
--- three series open, and an offer of 50 in series 2
-threeOpen : List ℕ
-threeOpen = opens 0 ++ opens 1 ++ opens 2 ++ enters 1 2 sell 50 10
-
-pub more : List Trial
-more =
+pub met : List Trial
+met =
     -- "best own price first": the legging order at 115 before the regular one at 110
     session 300 (legged ++ enters 4 0 buy 110 2 ++ enters 5 0 sell 110 6) 0 7
-    (leggedSheet ++ (answer 6 0 5 2 ∷ answer 7 0 0 0 ∷ trade 0 1 115 6 5 3 ∷ trade 1 0 90 6 3 2 ∷ pair 3 (pos 205) 6 ∷ removed 3 0 0 Executed ∷ removed 3 1 0 Executed ∷ []))
-    -- "its total size", "trades by id"
-    ∷ session 300 (opening ++ enters 3 1 sell 90 5 ++ buysBoth 4 (pos 220) 14) 0 6
-    (accepted 1 6 ++ (trade 0 0 130 14 4 1 ∷ trade 1 0 90 12 4 2 ∷ trade 1 0 90 2 4 3 ∷ pair 4 (pos 220) 14 ∷ []))
-    -- "p itself": 113 reaches 112, though 110 is shown
-    ∷ session 150 (opens 0 ++ opens 1 ++ enters 1 1 sell 90 12 ++ encodeMessage (Away 0 0 112) ++ buysBoth 2 (pos 203) 3) 0 5 (accepted 1 5)
-    ∷ session 150 (opens 0 ++ opens 1 ++ enters 1 1 sell 90 12 ++ encodeMessage (Away 0 0 114) ++ buysBoth 2 (pos 203) 3) 0 5
-    (accepted 1 4 ++ (answer 5 0 1 1 ∷ generated 2 0 0 113 110 3 ∷ []))
-    -- "both its series are open (else cause 6)": closed
-    ∷ session 200 (legged ++ encodeMessage (Status 0 0)) 0 6 (leggedSheet ++ (answer 6 0 0 0 ∷ removed 3 0 0 NotOpen ∷ removed 3 1 0 NotOpen ∷ []))
-    -- "Cancel: 71, then removals (4)"
-    ∷ session 200 (legged ++ cancels 3) 0 6 (leggedSheet ++ (answer 6 0 0 0 ∷ cancelled 3 8 ∷ removed 3 0 0 Withdrawn ∷ removed 3 1 0 Withdrawn ∷ []))
-    -- "if both sides it would take have a price"
-    ∷ session 150 (opens 0 ++ opens 1 ++ enters 1 1 sell 90 12 ++ encodeMessage (Away 0 0 130) ++ buysBoth 2 (pos 205) 8 ++ pairUp 3 0 1 sell (minus 100) 5) 0 6
-    (accepted 1 4 ++ (answer 5 0 1 1 ∷ generated 2 0 0 115 115 8 ∷ answer 6 0 1 1 ∷ []))
-    -- "First cross", "Each step goes on only while some quantity is open": no touch after
-    ∷ session 250 (threeOpen ++ enters 2 1 buy 70 5 ++ encodeMessage (Away 0 80 120) ++ encodeMessage (Away 1 70 100)
-    ++ pairUp 3 0 2 buy (pos 150) 5 ++ pairUp 4 0 1 buy (pos 180) 4 ++ pairUp 5 0 1 sell (minus 170) 4) 0 10
-    (accepted 1 7 ++ (answer 8 0 1 1 ∷ generated 3 0 0 100 100 5 ∷ answer 9 0 1 1 ∷ answer 10 0 1 1 ∷ crossed 5 4 (minus 180) 4 ∷ []))
-    -- "Then touch", "Then leg in"
-    ∷ session 300 (threeOpen ++ enters 2 0 buy 95 5 ++ enters 3 1 buy 70 5 ++ encodeMessage (Away 0 80 120) ++ encodeMessage (Away 1 70 100)
-    ++ pairUp 4 0 2 buy (pos 150) 5 ++ pairUp 5 0 1 sell (minus 165) 5) 0 10
-    (accepted 1 8 ++ (answer 9 0 1 1 ∷ generated 4 0 0 100 100 5
-    ∷ answer 10 0 0 0 ∷ removed 4 0 0 Touched ∷ trade 0 1 95 5 5 2 ∷ trade 1 1 70 5 5 3 ∷ pair 5 (minus 165) 5 ∷ []))
-    -- "First cross", before legging in
-    ∷ session 200 (opens 0 ++ opens 1 ++ enters 1 0 buy 95 5 ++ enters 2 1 buy 70 5 ++ encodeMessage (Away 0 0 120) ++ encodeMessage (Away 1 0 100)
-    ++ pairUp 3 0 1 buy (pos 180) 4 ++ pairUp 4 0 1 sell (minus 165) 4) 0 8
-    (accepted 1 8 ++ (crossed 4 3 (minus 180) 4 ∷ []))
-    -- "displayed price from the increment": 3 would be shown at 0
-    ∷ session 150 (opens 0 ++ opens 1 ++ enters 1 1 sell 90 12 ++ encodeMessage (Away 0 0 10) ++ buysBoth 2 (pos 93) 3) 0 5 (accepted 1 5)
-    ∷ session 150 (opens 0 ++ opens 1 ++ enters 1 1 sell 90 12 ++ encodeMessage (Away 0 0 10) ++ buysBoth 2 (pos 95) 3) 0 5
-    (accepted 1 4 ++ (answer 5 0 1 1 ∷ generated 2 0 0 5 5 3 ∷ []))
-    -- "held at a worse price": 112 and 113 are both shown at 110
-    ∷ session 250 (opening ++ buysBoth 3 (pos 202) 8 ++ buysBoth 4 (pos 203) 8) 0 6
-    (accepted 1 4 ++ (answer 5 0 5 2 ∷ generated 3 0 0 112 110 8 ∷ generated 3 1 0 72 70 8
-    ∷ answer 6 0 5 2 ∷ removed 3 0 0 Replaced ∷ generated 4 0 0 113 110 8 ∷ removed 3 1 0 Replaced ∷ generated 4 1 0 73 70 8 ∷ []))
+    (leggedSheet ++ (answer 6 0 5 2 ∷ answer 7 0 0 0 ∷ trade 0 1 115 6 5 3 ∷ trade 1 0 90 6 3 2 ∷ pair 3 (pos 205) 6
+    ∷ removed 3 0 0 Executed ∷ removed 3 1 0 Executed ∷ []))
+    -- "k contracts of the other leg at its clear price", which is better than when it was made: the net traded is 200
+    ∷ session 300 (legged ++ enters 4 1 sell 85 12 ++ enters 5 0 sell 115 5) 0 7
+    (leggedSheet ++ (answer 6 0 5 2 ∷ answer 7 0 0 0 ∷ trade 0 1 115 5 5 3 ∷ trade 1 0 85 5 3 4 ∷ pair 3 (pos 200) 5
+    ∷ removed 3 0 0 Executed ∷ removed 3 1 0 Executed ∷ []))
+    -- "removal of all its parent's legging orders", and of no other's
+    ∷ session 300 (opening ++ opens 2 ++ buysBoth 3 (pos 205) 8 ++ pairUp 4 2 1 buy (pos 100) 2 ++ encodeMessage (Away 2 0 20) ++ sweeps ++ enters 5 0 sell 115 8) 0 10
+    (accepted 1 5 ++ (answer 6 0 5 2 ∷ generated 3 0 0 115 115 8 ∷ generated 3 1 0 75 75 8 ∷ answer 7 0 5 2 ∷ answer 8 0 5 2
+    ∷ answer 9 0 21 3 ∷ generated 4 2 0 10 10 2
+    ∷ answer 10 0 16 1 ∷ trade 0 1 115 8 5 3 ∷ trade 1 0 90 8 3 2 ∷ pair 3 (pos 205) 8 ∷ removed 3 0 0 Executed ∷ removed 3 1 0 Executed ∷ []))
+    ∷ []
+
+-- Standing and settling -----------------------------------------------------------------------
+
+pub settled : List Trial
+settled =
+    -- "both its series are open (else cause 6)": the first is closed, the second in auction
+    session 200 (legged ++ encodeMessage (Status 0 0)) 0 6 (leggedSheet ++ (answer 6 0 0 0 ∷ removed 3 0 0 NotOpen ∷ removed 3 1 0 NotOpen ∷ []))
+    ∷ session 200 (legged ++ inAuction 1) 0 6 (leggedSheet ++ (answer 6 0 0 0 ∷ removed 3 0 0 NotOpen ∷ removed 3 1 0 NotOpen ∷ []))
+    -- "N is in band (else 5)": 205 is not in that of 150
+    ∷ session 200 (legged ++ encodeMessage (Away 0 0 60)) 0 6 (leggedSheet ++ (answer 6 0 0 0 ∷ removed 3 0 0 OutOfBand ∷ removed 3 1 0 OutOfBand ∷ []))
+    -- "net with it ≤ N": 115 and 95 are 210; the size at 95 is 20
+    ∷ session 250 (opening ++ enters 3 1 sell 95 20 ++ buysBoth 4 (pos 205) 20 ++ cancels 2) 0 7
+    (accepted 1 5 ++ (answer 6 0 5 2 ∷ generated 4 0 0 115 115 12 ∷ generated 4 1 0 75 75 15 ∷ answer 7 0 4 1 ∷ cancelled 2 12 ∷ removed 4 0 0 Unpaired ∷ []))
+    -- "size there ≥ its quantity": 8, and then 7
+    ∷ session 250 (legged ++ enters 4 1 buy 90 4 ++ enters 5 1 buy 90 1) 0 7
+    (leggedSheet ++ (answer 6 0 5 2 ∷ trade 1 0 90 4 4 2 ∷ answer 7 0 4 1 ∷ trade 1 0 90 1 5 2 ∷ removed 3 0 0 Unpaired ∷ []))
     -- "the lowest cause that applies": 1 and 2 at once
     ∷ session 250 (opens 0 ++ opens 1 ++ enters 1 1 sell 90 12 ++ encodeMessage (Away 0 110 130) ++ buysBoth 2 (pos 205) 8
     ++ twoLeg 3 0 sell 1 buy 1 (minus 35) 6 ++ enters 4 0 buy 125 8) 0 7
     (accepted 1 4 ++ (answer 5 0 1 1 ∷ generated 2 0 0 115 115 8 ∷ answer 6 0 3 2 ∷ generated 3 0 1 125 125 6
     ∷ answer 7 0 0 0 ∷ trade 0 0 125 6 4 3 ∷ trade 1 0 90 6 3 1 ∷ pair 3 (minus 35) 6 ∷ removed 3 0 1 Executed ∷ removed 2 0 0 Worse ∷ []))
-    -- "at equal price by class 1": a customer does not give way to a customer
-    ∷ session 200 (opening ++ twoLeg 3 0 buy 1 buy 0 (pos 205) 8 ++ twoLeg 4 0 buy 1 buy 0 (pos 205) 9) 0 6 (leggedSheet ++ (answer 6 0 5 2 ∷ []))
-    -- "both nets in band": the nets dealt at; N -150 itself is out of the band of -190
+    -- 1 and 5 at place 0, 2 and 5 at place 2: no offer is left in series 0, and 130 is bid
+    ∷ session 200 (legged ++ enters 4 0 buy 130 20) 0 6
+    (leggedSheet ++ (answer 6 0 0 0 ∷ trade 0 0 130 15 4 1 ∷ removed 3 0 0 Worse ∷ removed 3 1 0 Unpaired ∷ []))
+    ∷ []
+
+-- Complex, sweep, cancel ----------------------------------------------------------------------
+
+-- three series open, and an offer of 50 in series 2
+threeOpen : List ℕ
+threeOpen = opens 0 ++ opens 1 ++ opens 2 ++ enters 1 2 sell 50 10
+
+-- a market of 1,000 in one series and of 5 in another: the nets of a sum and of a difference are each in the other's band
+farApart : (s t : ℕ) → List ℕ
+farApart s t = opens s ++ opens t ++ encodeMessage (Away s 1000 1000) ++ encodeMessage (Away t 5 5)
+
+pub worked : List Trial
+worked =
+    -- "with the same series and in each the reversed side, whichever leg is named first": one side is not
+    session 150 (farApart 0 1 ++ twoLeg 1 0 buy 1 sell 1 (pos 1005) 5 ++ twoLeg 2 1 sell 0 buy 1 (pos 1005) 5
+    ++ pairUp 3 0 1 sell (minus 1005) 5 ++ pairUp 4 1 0 sell (minus 1005) 5) 0 8 (accepted 1 8)
+    ∷ session 150 (farApart 0 1 ++ twoLeg 1 0 sell 1 buy 1 (minus 1000) 5 ++ twoLeg 2 1 buy 0 sell 1 (minus 1000) 5
+    ++ pairUp 3 0 1 buy (pos 1005) 5 ++ pairUp 4 1 0 buy (pos 1005) 5) 0 8 (accepted 1 8)
+    -- one series is not
+    ∷ session 200 (farApart 0 1 ++ farApart 3 2 ++ pairUp 1 0 2 buy (pos 1005) 5 ++ pairUp 2 3 1 buy (pos 1005) 5
+    ++ pairUp 3 2 0 buy (pos 1005) 5 ++ pairUp 4 1 3 buy (pos 1005) 5 ++ pairUp 5 0 1 sell (minus 1005) 5) 0 13 (accepted 1 13)
+    -- "N + their N ≥ 0": it is -1
+    ∷ session 150 (quoted ++ buysBoth 1 (pos 189) 5 ++ pairUp 2 0 1 sell (minus 190) 5) 0 6 (accepted 1 6)
+    -- "both nets in band": -181 is in the taker's band of -190, -180 is not
+    ∷ session 150 (quoted ++ buysBoth 1 (pos 180) 5 ++ buysBoth 2 (pos 181) 5 ++ pairUp 3 0 1 sell (minus 180) 12) 0 7
+    (accepted 1 7 ++ (crossed 3 2 (minus 181) 5 ∷ []))
+    -- and they are the nets dealt at: N -150 itself is out of the band of -190
     ∷ session 150 (quoted ++ buysBoth 1 (pos 195) 5 ++ pairUp 2 0 1 sell (minus 150) 5) 0 6 (accepted 1 6 ++ (crossed 2 1 (minus 195) 5 ∷ []))
+    -- "if neither series is closed": it crosses in auction
+    ∷ session 150 (quoted ++ inAuction 0 ++ buysBoth 1 (pos 195) 5 ++ pairUp 2 0 1 sell (minus 190) 5) 0 7 (accepted 1 7 ++ (crossed 2 1 (minus 195) 5 ∷ []))
+    -- "First cross", "Each step goes on only while some quantity is open": no touch after it
+    ∷ session 250 (threeOpen ++ enters 2 1 buy 70 5 ++ encodeMessage (Away 0 80 120) ++ encodeMessage (Away 1 70 100)
+    ++ pairUp 3 0 2 buy (pos 150) 5 ++ pairUp 4 0 1 buy (pos 180) 4 ++ pairUp 5 0 1 sell (minus 170) 4) 0 10
+    (accepted 1 7 ++ (answer 8 0 1 1 ∷ generated 3 0 0 100 100 5 ∷ answer 9 0 1 1 ∷ answer 10 0 1 1 ∷ crossed 5 4 (minus 180) 4 ∷ []))
+    -- "First cross", though it would leg in at 165
+    ∷ session 200 (opens 0 ++ opens 1 ++ enters 1 0 buy 95 5 ++ enters 2 1 buy 70 5 ++ encodeMessage (Away 0 0 120) ++ encodeMessage (Away 1 0 100)
+    ++ pairUp 3 0 1 buy (pos 180) 4 ++ pairUp 4 0 1 sell (minus 165) 4) 0 8
+    (accepted 1 8 ++ (crossed 4 3 (minus 180) 4 ∷ []))
+    -- "Then touch", "Then leg in"
+    ∷ session 300 (threeOpen ++ enters 2 0 buy 95 5 ++ enters 3 1 buy 70 5 ++ encodeMessage (Away 0 80 120) ++ encodeMessage (Away 1 70 100)
+    ++ pairUp 4 0 2 buy (pos 150) 5 ++ pairUp 5 0 1 sell (minus 165) 5) 0 10
+    (accepted 1 8 ++ (answer 9 0 1 1 ∷ generated 4 0 0 100 100 5
+    ∷ answer 10 0 0 0 ∷ removed 4 0 0 Touched ∷ trade 0 1 95 5 5 2 ∷ trade 1 1 70 5 5 3 ∷ pair 5 (minus 165) 5 ∷ []))
+    -- "if both sides it would take have a price": series 1 has no bid, series 0 has none
+    ∷ session 150 (opens 0 ++ opens 1 ++ enters 1 1 sell 90 12 ++ encodeMessage (Away 0 0 130) ++ buysBoth 2 (pos 205) 8 ++ pairUp 3 0 1 sell (minus 100) 5) 0 6
+    (accepted 1 4 ++ (answer 5 0 1 1 ∷ generated 2 0 0 115 115 8 ∷ answer 6 0 1 1 ∷ []))
+    ∷ session 150 (opens 0 ++ opens 1 ++ enters 1 1 sell 90 12 ++ encodeMessage (Away 0 0 130) ++ buysBoth 2 (pos 205) 8 ++ pairUp 3 1 0 sell (minus 100) 5) 0 6
+    (accepted 1 4 ++ (answer 5 0 1 1 ∷ generated 2 0 0 115 115 8 ∷ answer 6 0 1 1 ∷ []))
+    -- "remove legging orders on those two sides" alone, also in auction
+    ∷ session 200 (legged ++ inAuction 2 ++ enters 4 2 buy 50 5 ++ pairUp 5 0 2 sell (minus 165) 5) 0 8
+    (leggedSheet ++ (answer 6 0 5 2 ∷ answer 7 0 5 2 ∷ answer 8 0 4 1 ∷ removed 3 0 0 Touched ∷ []))
+    -- "its total size", "trades by id"
+    ∷ session 300 (opening ++ enters 3 1 sell 90 5 ++ buysBoth 4 (pos 220) 14) 0 6
+    (accepted 1 6 ++ (trade 0 0 130 14 4 1 ∷ trade 1 0 90 12 4 2 ∷ trade 1 0 90 2 4 3 ∷ pair 4 (pos 220) 14 ∷ []))
+    -- "while best regular prices net ≤ N", "the least of open quantity and both sizes": 220 for 3, 225 for 4, and 230 is too much
+    ∷ session 300 (opens 0 ++ opens 1 ++ enters 1 0 sell 130 3 ++ enters 2 0 sell 135 9 ++ enters 3 1 sell 90 7 ++ enters 4 1 sell 95 9 ++ buysBoth 5 (pos 225) 12) 0 7
+    (accepted 1 6 ++ (answer 7 0 5 2 ∷ trade 0 0 130 3 5 1 ∷ trade 1 0 90 3 5 3 ∷ pair 5 (pos 220) 3 ∷ trade 0 0 135 4 5 2 ∷ trade 1 0 90 4 5 3 ∷ pair 5 (pos 225) 4
+    ∷ generated 5 0 0 130 130 5 ∷ generated 5 1 0 90 90 5 ∷ []))
+    -- best regular prices of both legs: then none is left in series 1, which order 3 names first and order 4 second, and an away offer is no such price
+    ∷ session 250 (opening ++ encodeMessage (Away 1 0 100) ++ pairUp 3 1 0 buy (pos 225) 20 ++ pairUp 4 0 1 buy (pos 225) 2) 0 7
+    (accepted 1 5 ++ (answer 6 0 4 1 ∷ trade 1 0 90 12 3 2 ∷ trade 0 0 130 12 3 1 ∷ pair 3 (pos 220) 12 ∷ generated 3 1 0 95 95 3 ∷ answer 7 0 4 1 ∷ []))
+    -- "The rest rests; settle; generate for its first leg, then second": order 4's legging orders go before order 5's come
+    ∷ session 400 (opening ++ enters 3 1 sell 95 20 ++ buysBoth 4 (pos 205) 8 ++ buysBoth 5 (pos 220) 14) 0 7
+    (accepted 1 5 ++ (answer 6 0 5 2 ∷ generated 4 0 0 115 115 8 ∷ generated 4 1 0 75 75 8
+    ∷ answer 7 0 5 2 ∷ trade 0 0 130 12 5 1 ∷ trade 1 0 90 12 5 2 ∷ pair 5 (pos 220) 12 ∷ removed 4 0 0 Unpaired ∷ removed 4 1 0 Unpaired
+    ∷ generated 5 0 0 125 125 2 ∷ generated 5 1 0 90 90 2 ∷ []))
     -- "Sweep: all this": it touches too
     ∷ session 250 (threeOpen ++ enters 2 1 buy 70 5 ++ encodeMessage (Away 0 0 120) ++ pairUp 3 0 1 sell (minus 170) 4 ++ pairUp 4 0 2 buy (pos 150) 5 ++ sweeps) 0 9
     (accepted 1 7 ++ (answer 8 0 1 1 ∷ generated 4 0 0 100 100 5 ∷ answer 9 0 1 1 ∷ removed 4 0 0 Touched ∷ generated 4 0 0 100 100 5 ∷ []))
-    -- "remove legging orders on those two sides" alone; also in auction
-    ∷ session 200 (legged ++ inAuction 2 ++ enters 4 2 buy 50 5 ++ pairUp 5 0 2 sell (minus 165) 5) 0 8
-    (leggedSheet ++ (answer 6 0 5 2 ∷ answer 7 0 5 2 ∷ answer 8 0 4 1 ∷ removed 3 0 0 Touched ∷ []))
-    -- a cross in auction
-    ∷ session 150 (quoted ++ inAuction 0 ++ buysBoth 1 (pos 195) 5 ++ pairUp 2 0 1 sell (minus 190) 5) 0 7 (accepted 1 7 ++ (crossed 2 1 (minus 195) 5 ∷ []))
-    -- a hit at an improved other leg: the net traded
-    ∷ session 300 (legged ++ enters 4 1 sell 85 12 ++ enters 5 0 sell 115 5) 0 7
-    (leggedSheet ++ (answer 6 0 5 2 ∷ answer 7 0 0 0 ∷ trade 0 1 115 5 5 3 ∷ trade 1 0 85 5 3 4 ∷ pair 3 (pos 200) 5 ∷ removed 3 0 0 Executed ∷ removed 3 1 0 Executed ∷ []))
+    -- "Cancel: 71, then removals (4)"
+    ∷ session 200 (legged ++ cancels 3) 0 6 (leggedSheet ++ (answer 6 0 0 0 ∷ cancelled 3 8 ∷ removed 3 0 0 Withdrawn ∷ removed 3 1 0 Withdrawn ∷ []))
     ∷ []
 
--- Soundness, clause by clause: the venue that `legged` leaves, with one thing changed -------------
+-- Generation ----------------------------------------------------------------------------------
 
--- regular orders 1 and 2, complex order 3, and what stands at place 0
-legsUp : (orders : List Regular) (c : Complex) (l : Legging) → Venue
-legsUp os c l = record {
+-- an offer of 90 in series 1, and in series 0 an away offer alone
+awayAlone : (offer : ℕ) → List ℕ
+awayAlone q = opens 0 ++ opens 1 ++ enters 1 1 sell 90 12 ++ encodeMessage (Away 0 0 q)
+
+-- an offer of 100 in series 1, and in series 0 an away bid of 99,995; order 2 sells in 0 and buys in 1
+nearTop : (n : ℤ) → List ℕ
+nearTop n = opens 0 ++ opens 1 ++ enters 1 1 sell 100 5 ++ encodeMessage (Away 0 99995 0) ++ twoLeg 2 0 sell 1 buy 1 n 4
+
+pub made : List Trial
+made =
+    -- "clear price present": there is no regular offer
+    session 100 (quoted ++ buysBoth 1 (pos 90) 5) 0 5 (accepted 1 5)
+    -- "displayed price from the increment": 3 would be shown at 0
+    ∷ session 150 (awayAlone 10 ++ buysBoth 2 (pos 93) 3) 0 5 (accepted 1 5)
+    ∷ session 150 (awayAlone 10 ++ buysBoth 2 (pos 95) 3) 0 5 (accepted 1 4 ++ (answer 5 0 1 1 ∷ generated 2 0 0 5 5 3 ∷ []))
+    -- "to 100,000": 100,001 would be shown at 100,005
+    ∷ session 150 (nearTop (minus 99900)) 0 5 (accepted 1 4 ++ (answer 5 0 2 1 ∷ generated 2 0 1 100000 100000 4 ∷ []))
+    ∷ session 150 (nearTop (minus 99901)) 0 5 (accepted 1 5)
+    -- "not worse than best regular of its side": 115 is, of 120
+    ∷ session 150 (opening ++ enters 3 0 buy 120 5 ++ buysBoth 4 (pos 205) 8) 0 6 (accepted 1 5 ++ (answer 6 0 4 1 ∷ generated 4 1 0 75 75 8 ∷ []))
+    -- "p itself": 113 reaches 112, though 110 is shown
+    ∷ session 150 (awayAlone 112 ++ buysBoth 2 (pos 203) 3) 0 5 (accepted 1 5)
+    ∷ session 150 (awayAlone 114 ++ buysBoth 2 (pos 203) 3) 0 5 (accepted 1 4 ++ (answer 5 0 1 1 ∷ generated 2 0 0 113 110 3 ∷ []))
+    -- "any own price opposite": in the sweep order 3's legging order, at 100, is there again before order 4's turn
+    ∷ session 300 (threeOpen ++ enters 2 1 buy 70 5 ++ encodeMessage (Away 0 80 120) ++ pairUp 3 0 1 sell (minus 170) 4 ++ pairUp 4 0 2 buy (pos 150) 5 ++ sweeps) 0 9
+    (accepted 1 6 ++ (answer 7 0 2 1 ∷ generated 3 0 1 100 100 4 ∷ answer 8 0 1 1 ∷ removed 3 0 1 Touched ∷ generated 4 0 0 100 100 5
+    ∷ answer 9 0 2 1 ∷ removed 4 0 0 Touched ∷ generated 3 0 1 100 100 4 ∷ []))
+    -- "held at a worse price": 112 and 113 are both shown at 110
+    ∷ session 250 (opening ++ buysBoth 3 (pos 202) 8 ++ buysBoth 4 (pos 203) 8) 0 6
+    (accepted 1 4 ++ (answer 5 0 5 2 ∷ generated 3 0 0 112 110 8 ∷ generated 3 1 0 72 70 8
+    ∷ answer 6 0 5 2 ∷ removed 3 0 0 Replaced ∷ generated 4 0 0 113 110 8 ∷ removed 3 1 0 Replaced ∷ generated 4 1 0 73 70 8 ∷ []))
+    -- "at equal price by class 1 while this is class 0": not by class 0, and not at a better price
+    ∷ session 200 (opening ++ twoLeg 3 0 buy 1 buy 0 (pos 205) 8 ++ twoLeg 4 0 buy 1 buy 0 (pos 205) 9) 0 6 (leggedSheet ++ (answer 6 0 5 2 ∷ []))
+    ∷ session 200 (legged ++ twoLeg 4 0 buy 1 buy 0 (pos 200) 9) 0 6 (leggedSheet ++ (answer 6 0 5 2 ∷ []))
+    -- "Quantity: the lesser of open and size": nothing is open after the cross
+    ∷ session 200 (opening ++ encodeMessage (Away 0 100 0) ++ encodeMessage (Away 1 60 0) ++ pairUp 3 0 1 sell (minus 205) 4 ++ buysBoth 4 (pos 205) 4) 0 8
+    (accepted 1 8 ++ (crossed 4 3 (pos 205) 4 ∷ []))
+    ∷ []
+
+-- Soundness, clause by clause: the venue that `legged` leaves, with one thing changed ---------
+
+open1 : (bid : ℕ) → Listed
+open1 b = record { status = opened; bid = b; offer = 0 }
+
+-- regular orders, a complex order at place i, a legging order at place n; series 0, with an away bid, and 1 are open
+legsUp : (bid : ℕ) (orders : List Regular) (i : ℕ) (c : Complex) (n : ℕ) (l : Legging) → Venue
+legsUp b os i c n l = record {
   regular = os ++ drop (length os) (freshVenue .regular);
-  complex = set (freshVenue .complex) 0 c;
-  legging = set (freshVenue .legging) 0 l;
-  series = set (set (freshVenue .series) 0 (record { status = 1; bid = 0; offer = 0 })) 1 (record { status = 1; bid = 0; offer = 0 });
+  complex = set (freshVenue .complex) i c;
+  legging = set (freshVenue .legging) n l;
+  series = open1 b ∷ open1 0 ∷ replicate 6 notListed;
   last = 3;
 }
 
@@ -496,33 +618,133 @@ both i q = record { id = i; series1 = 0; side1 = buy; series2 = 1; side2 = buy; 
 leg : (parent price quantity : ℕ) → Legging
 leg i p q = record { parent = i; price = p; quantity = q }
 
+-- regular orders 1 and 2
 resting : List Regular
 resting = rest 1 0 sell 130 15 ∷ rest 2 1 sell 90 12 ∷ []
 
--- it is given back with 9
+-- these, complex order 3, and a legging order at a place
+standing : (n : ℕ) (l : Legging) → Venue
+standing n l = legsUp 0 resting 0 (both 3 8) n l
+
+base : Venue
+base = standing 0 (leg 3 115 8)
+
+-- order 3 sells in series 0 and buys in 1: at N its legging order sells at 100,000, or at a price
+atTop : (n : ℤ) (price : ℕ) → Venue
+atTop n p =
+    legsUp 99995 (rest 1 1 sell 100 10 ∷ []) 0
+    (record { id = 3; series1 = 0; side1 = sell; series2 = 1; side2 = buy; class = 1; limit = n; quantity = 5 })
+    1 (leg 3 p 5)
+
+-- a sound venue: a cancel of what does not rest
+isSound : Venue → Trial
+isSound v = upon v 5 100 (cancels 9) 8 1 (answer 6 8 (mask (v .legging)) 1 ∷ []) v
+
+-- an unsound one: given back, with 9
 unsound : Venue → Trial
-unsound v = upon v 5 100 sweeps 9 0 [] v
+unsound v = upon v 5 100 (cancels 9) 9 0 [] v
+
+-- a series that is locked
+locked : (series : ℕ) → Trial
+locked s = unsound (legsUp 0 (rest 1 s sell 100 1 ∷ rest 2 s buy 100 1 ∷ []) 0 noComplex 0 noLegging)
+
+-- a free place with something in it
+stale : Regular → Trial
+stale o = unsound (withRegular base (set (base .regular) 127 o))
+
+staleComplex : Complex → Trial
+staleComplex c = unsound (withComplex base (set (base .complex) 31 c))
+
+staleLegging : Legging → Trial
+staleLegging l = unsound (withLegging base (set (base .legging) 15 l))
+
+-- a series' fields
+listing : Listed → Trial
+listing x = unsound (withSeries base (set (base .series) 7 x))
 
 pub faults : List Trial
 faults =
-    -- sound: a refused cancel
-    upon (legsUp resting (both 3 8) (leg 3 115 8)) 5 100 (cancels 9) 8 1 (answer 6 8 1 1 ∷ []) (legsUp resting (both 3 8) (leg 3 115 8))
-    -- "no larger than what its parent has open"; "passes its test": net, displayed; "matches an open parent leg"
-    ∷ unsound (legsUp resting (both 3 8) (leg 3 115 9))
-    ∷ unsound (legsUp resting (both 3 8) (leg 3 116 8))
-    ∷ unsound (legsUp resting (both 3 8) (leg 2 115 8))
-    -- "resting ids distinct and at most the last id"; "fields are in range"
-    ∷ unsound (legsUp resting (both 2 8) (leg 2 115 8))
-    ∷ unsound (legsUp resting (both 4 8) (leg 4 115 8))
-    ∷ unsound (legsUp (rest 1 0 sell 131 15 ∷ rest 2 1 sell 90 12 ∷ []) (both 3 8) (leg 3 115 8))
-    -- "no series is locked or crossed counting own prices": locked by regular orders; crossed by the legging order
-    ∷ unsound (legsUp (rest 1 0 sell 130 15 ∷ rest 2 0 buy 130 1 ∷ []) (both 3 8) noLegging)
-    ∷ unsound (legsUp (rest 1 0 sell 115 15 ∷ rest 2 1 sell 90 12 ∷ []) (both 3 8) (leg 3 115 8))
+    isSound base ∷ isSound (standing 2 (leg 3 75 8)) ∷ isSound (atTop (minus 99900) 100000)
+    -- "fields are in range"
+    ∷ unsound (legsUp 0 (rest 1 0 sell 131 15 ∷ rest 2 1 sell 90 12 ∷ []) 0 (both 3 8) 0 (leg 3 115 8))
+    ∷ unsound (legsUp 0 resting 0 (record { id = 3; series1 = 0; side1 = buy; series2 = 1; side2 = buy; class = 2; limit = pos 205; quantity = 8 }) 0 (leg 3 115 8))
+    ∷ unsound (standing 0 (leg 3 0 8)) ∷ unsound (atTop (minus 99901) 100001)
+    ∷ listing (record { status = 3; bid = 0; offer = 0 }) ∷ listing (record { status = 0; bid = 100001; offer = 0 })
+    ∷ listing (record { status = 0; bid = 0; offer = 100001 }) ∷ unsound (withLast base 4294967296)
+    -- "resting ids distinct and at most the last id"
+    ∷ unsound (legsUp 0 resting 0 (both 2 8) 0 (leg 2 115 8)) ∷ unsound (legsUp 0 resting 0 (both 4 8) 0 (leg 4 115 8))
+    ∷ unsound (withLast (legsUp 0 resting 0 noComplex 0 noLegging) 1)
+    -- held places first, by id, and free places zero
+    ∷ unsound (legsUp 0 (rest 2 0 sell 130 15 ∷ rest 1 1 sell 90 12 ∷ []) 0 (both 3 8) 0 (leg 3 115 8))
+    ∷ unsound (legsUp 0 (rest 1 0 sell 130 15 ∷ noRegular ∷ rest 2 1 sell 90 12 ∷ []) 0 (both 3 8) 0 (leg 3 115 8))
+    ∷ unsound (legsUp 0 resting 1 (both 3 8) 0 (leg 3 115 8))
+    ∷ stale (rest 1 0 0 0 0) ∷ stale (rest 0 1 0 0 0) ∷ stale (rest 0 0 1 0 0) ∷ stale (rest 0 0 0 5 0)
+    ∷ staleComplex (record { id = 1; series1 = 0; side1 = 0; series2 = 0; side2 = 0; class = 0; limit = pos 0; quantity = 0 })
+    ∷ staleComplex (record { id = 0; series1 = 1; side1 = 0; series2 = 0; side2 = 0; class = 0; limit = pos 0; quantity = 0 })
+    ∷ staleComplex (record { id = 0; series1 = 0; side1 = 1; series2 = 0; side2 = 0; class = 0; limit = pos 0; quantity = 0 })
+    ∷ staleComplex (record { id = 0; series1 = 0; side1 = 0; series2 = 1; side2 = 0; class = 0; limit = pos 0; quantity = 0 })
+    ∷ staleComplex (record { id = 0; series1 = 0; side1 = 0; series2 = 0; side2 = 1; class = 0; limit = pos 0; quantity = 0 })
+    ∷ staleComplex (record { id = 0; series1 = 0; side1 = 0; series2 = 0; side2 = 0; class = 1; limit = pos 0; quantity = 0 })
+    ∷ staleComplex (record { id = 0; series1 = 0; side1 = 0; series2 = 0; side2 = 0; class = 0; limit = minus 1; quantity = 0 })
+    ∷ staleLegging (leg 3 0 0) ∷ staleLegging (leg 0 115 0)
+    -- "no series is locked or crossed counting own prices": by regular orders in each series; by a legging order
+    ∷ locked 0 ∷ locked 1 ∷ locked 2 ∷ locked 3 ∷ locked 4 ∷ locked 5 ∷ locked 6 ∷ locked 7
+    ∷ unsound (legsUp 0 (rest 1 0 sell 115 15 ∷ rest 2 1 sell 90 12 ∷ []) 0 (both 3 8) 0 (leg 3 115 8))
+    -- "each legging order matches an open parent leg": no parent; the other side; another series
+    ∷ unsound (standing 0 (leg 2 115 8)) ∷ unsound (standing 1 (leg 3 115 8)) ∷ unsound (standing 3 (leg 3 75 8)) ∷ unsound (standing 4 (leg 3 75 8))
+    -- "is no larger than what its parent has open"; "passes its test": 116 and 90 are 206
+    ∷ unsound (standing 0 (leg 3 115 9)) ∷ unsound (standing 0 (leg 3 116 8))
+    ∷ []
+
+-- Calls: the venue left, and what is written --------------------------------------------------
+
+-- complex order 1 or 2 of `pairs`, resting alone
+lone : (id : ℕ) → Venue
+lone i = legsUp 0 [] 0 (record { id = i; series1 = 0; side1 = buy; series2 = 1; side2 = buy; class = 1; limit = pos 100; quantity = 1 }) 0 noLegging
+
+pub lefts : List Trial
+lefts =
+    -- one message: the hit, and the cancel of an order before another
+    upon base 5 200 (enters 4 0 sell 115 5) 0 1
+    (answer 6 0 0 0 ∷ trade 0 1 115 5 4 3 ∷ trade 1 0 90 5 3 2 ∷ pair 3 (pos 205) 5 ∷ removed 3 0 0 Executed ∷ [])
+    (withLast (legsUp 0 (rest 1 0 sell 130 15 ∷ rest 2 1 sell 90 7 ∷ []) 0 (both 3 3) 0 noLegging) 4)
+    ∷ upon base 5 100 (cancels 1) 0 1 (answer 6 0 0 0 ∷ cancelled 1 15 ∷ removed 3 0 0 OutOfBand ∷ []) (legsUp 0 (rest 2 1 sell 90 12 ∷ []) 0 (both 3 8) 0 noLegging)
+    -- a run: two complex orders, of which the first is cancelled, and a torn message; then one without room for its last message
+    ∷ onward freshVenue 0 100 (opens 0 ++ opens 1 ++ pairs 2 1 ++ cancels 1 ++ (4 ∷ 0 ∷ [])) 1 6
+    (accepted 1 4 ++ (answer 5 0 0 0 ∷ cancelled 1 1 ∷ answer 6 1 0 0 ∷ [])) (withLast (lone 2) 2)
+    ∷ onward (withLast (lone 1) 1) 3 20 (cancels 9 ++ cancels 1) 10 1 (answer 4 8 0 0 ∷ []) (withLast (lone 1) 1)
+    -- "or its number would pass 4,294,967,295"
+    ∷ onward freshVenue 4294967294 100 (sweeps ++ sweeps) 10 1 (answer 4294967295 0 0 0 ∷ []) freshVenue
+    ∷ []
+
+-- Numbers -------------------------------------------------------------------------------------
+
+-- a record of each kind that names order 3
+named : List Report
+named =
+    answer 3 3 3 3 ∷ trade 0 1 115 5 4 3 ∷ trade 1 0 90 6 3 2 ∷ trade 0 0 120 7 3 1 ∷ pair 3 (pos 205) 8 ∷ generated 3 0 0 115 115 9
+    ∷ removed 3 0 0 Executed ∷ crossed 3 4 (pos 1) 10 ∷ crossed 5 3 (pos 1) 20 ∷ cancelled 3 11 ∷ []
+
+pub numbers : List Trial
+numbers =
+    -- "At most 128 regular and 32 complex orders rest", "16 places", "8 option series"
+    counted (length (freshVenue .regular)) 128 ∷ counted (length (freshVenue .complex)) 32
+    ∷ counted (length (freshVenue .legging)) 16 ∷ counted (length (freshVenue .series)) 8
+    -- the numbers of answers that are enums
+    ∷ counted (verdictNumber Stands) 0 ∷ counted (verdictNumber (Fails NotOpen)) 6 ∷ counted (decodedNumber (Taken Sweep)) 0 ∷ counted (decodedNumber (Refused 3)) 3
+    -- "contracts in a series from that series' 65, as taker or maker; pairs, or paired, from 66; crossed from 70, as taker or maker; cancelled from 71"
+    ∷ counted (total (contracts 3 0) named) 12 ∷ counted (total (contracts 3 1) named) 6 ∷ counted (total (contracts 4 0) named) 5 ∷ counted (total (contracts 4 1) named) 0
+    ∷ counted (total (contractsAt 3 0 115) named) 5 ∷ counted (total (contractsAt 3 0 120) named) 7 ∷ counted (total (contractsAt 3 1 120) named) 0
+    ∷ counted (total (paired 3) named) 8 ∷ counted (total (paired 4) named) 0
+    ∷ counted (total (crossedFor 3) named) 30 ∷ counted (total (crossedFor 5) named) 20 ∷ counted (total (crossedFor 6) named) 0
+    ∷ counted (total (cancelledOf 3) named) 11 ∷ counted (total (cancelledOf 4) named) 0
+    -- "still open is the quantity resting in the venue left (0 if none rests)"
+    ∷ counted (openRegular 2 resting) 12 ∷ counted (openRegular 3 resting) 0 ∷ counted (openComplex 3 (both 2 8 ∷ both 3 9 ∷ [])) 9
     ∷ []
 
 pub trials : List Trial
-trials = starred ++ wrongs ++ choices ++ more ++ layouts ++ edges ++ refused ++ faults
+trials = starred ++ wrongs ++ choices ++ layouts ++ edges ++ refused ++ met ++ settled ++ worked ++ made ++ faults ++ lefts ++ numbers
 
 pub trials-hold : map outcome trials ≡ map expected trials
-unfolding opened-rules outcome expected spread minus opens enters pairUp buysBoth cancels sweeps opening accepted awayAdded starred together wrongs twoLeg legged leggedSheet quoted relying inAuction restingBefore keptApart choices gone layouts single double edges offers pairs twice refused threeOpen more legsUp rest both leg resting unsound faults trials
+unfolding opened-rules outcome expected spread minus opens enters pairUp buysBoth cancels sweeps opening accepted awayAdded starred together wrongs twoLeg legged leggedSheet quoted relying inAuction restingBefore keptApart choices gone layouts single double edges offers pairs twice refused met settled threeOpen farApart worked awayAlone nearTop made open1 legsUp rest both leg resting standing base atTop isSound unsound locked stale staleComplex staleLegging listing faults lone lefts named numbers trials
 trials-hold = refl

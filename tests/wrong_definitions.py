@@ -1,0 +1,493 @@
+#!/usr/bin/env python3
+"""Tries wrong definitions, one at a time, and says which of them the trials refuse.
+
+    tests/wrong_definitions.py [--seed N] [--count K] [--jobs J] [--log FILE] [FILE ...]
+
+A list of wrong definitions (tests/wrong_definitions.txt), and then K edits (150) drawn by the seed (1) from all
+places of crates/rules/specs (or of the files named) where an operator, a number, a name or a condition can be
+changed, a conjunct or a step dropped, two steps or two arguments exchanged. Definitions are gone through in an
+order drawn by the seed, one edit of each in a round. Each edit is made in a copy of the crate `rules` that has its
+types, its definitions and its trials alone: no law and no function. There `trials-hold` must fail. An edit that
+does not compile is not counted, and another is drawn.
+Left out: Trials itself, Opened (a list of names), Lengths (bounds of what is written, for the proofs alone), and
+what only states a type. So is the order of a table's rows (`if eqb k 1 .. else if eqb k 2 ..`), which tells nothing.
+Edits that mean the same stand in tests/wrong_definitions.txt with the reason, and are no failure.
+A line is printed for each edit; the last line has the counts. The status is 1 where an edit survives that is not
+known to mean the same, where a line of the list fits no definition, or where the check ended without a verdict.
+"""
+import argparse
+import os
+import queue
+import random
+import re
+import shutil
+import subprocess
+import sys
+import tempfile
+import threading
+
+LEFT_OUT = {"Trials", "Opened", "Lengths", "Lib"}
+TYPES = {"OneByte", "TwoBytes", "FourBytes", "FourSigned", "Fits", "ForAll"}
+SIGNATURE = re.compile(r"\s*(abbrev|unfoldable|pub|use|infix|infixl|data|record|module|--)\b|\s*--")
+# what a name may be mistaken for
+NAMES = {
+    "&&": "||", "||": "&&", "leb": "ltb", "ltb": "leb", "leZ": "ltZ", "ltZ": "leZ", "eqb": "leb", "+": "-", "-": "+",
+    "*": "+", "/": "*", "%": "/", "+ℤ": "-ℤ", "-ℤ": "+ℤ", "*ℤ": "+ℤ", "true": "false", "false": "true",
+    "buy": "sell", "sell": "buy", "opened": "closed", "closed": "opened", "customer": "otherClass",
+    "otherClass": "customer", ".series1": ".series2", ".series2": ".series1", ".side1": ".side2", ".side2": ".side1",
+    ".bid": ".offer", ".offer": ".bid", "bestOwn": "bestRegular", "bestRegular": "bestOwn",
+    "marketBest": "bestRegular", "clearPrice": "bestRegular", "restsAt": "showsAt", "isPrice": "isAway",
+    "series1": "series2", "Worse": "Unpaired", "Unpaired": "OutOfBand", "OutOfBand": "NotOpen", "NotOpen": "Worse",
+    "Executed": "Withdrawn", "Withdrawn": "Executed", "Touched": "Executed", "Replaced": "Touched",
+    "u8": "u16", "u16": "u32", "u32": "u16", "i32": "u32", "u8At": "u16At", "u16At": "u8At", "u32At": "u16At",
+}
+# a function that may be forgotten: `f x` -> `x`
+FORGOTTEN = {"not", "suc", "opposite", "negℤ", "asSigned", "closeGaps", "natAbs"}
+# names that an edit may need, beside those that a file uses already
+IMPORTS = {
+    "use mathlib.Core.Bool.{": ["true", "false", "not", "_&&_", "_||_"],
+    "use lib.Dec.{": ["leb", "ltb", "eqb"],
+    "use lib.Signed.{": ["leZ", "ltZ"],
+    "use Prim.Native.Nat.{": ["_+_", "_-_", "_*_", "_/_", "_%_"],
+    "use lib.IntN.{": ["_+ℤ_", "_-ℤ_", "_*ℤ_", "negℤ"],
+    "use Rattle.rules.specs.Words.{": ["buy", "sell", "opened", "closed", "customer", "otherClass"],
+    "use Rattle.rules.specs.Prices.{": ["bestOwn", "bestRegular", "showsAt"],
+    "use Rattle.rules.specs.declared.Cause.the-variants.{":
+        ["Worse", "Unpaired", "Executed", "Withdrawn", "OutOfBand", "NotOpen", "Touched"],
+    "use Rattle.rules.specs.Bytes.{": ["u8At", "u16At", "u32At", "u8", "u16", "u32"],
+}
+WORD = re.compile(r"\s+|--[^\n]*|[()\[\]{}]|;|[^\s()\[\]{};]+")
+OPEN, CLOSE = "([{", ")]}"
+BREAKS = {"&&", "||", "⟫", "∷", "++", "+", "-", "*", "/", "%", "+ℤ", "-ℤ", "*ℤ", "=", ";", "|", "↦", "if", "then", "else",
+          "let", "in", "elim", "record", ":", "→", "<", "×"}
+LOOSE = {"=", "if", "then", "else", "in", ";", "|", "↦", "⟫"}
+
+
+class Node:
+    """A word, or what stands between two brackets; at start to end of the text."""
+
+    def __init__(self, start, end, word="", inner=None):
+        self.start, self.end, self.word, self.inner = start, end, word, inner
+
+
+def parsed(text, start, end):
+    """The words of text[start:end], nested by brackets, without blanks and comments."""
+    stack = [[]]
+    opened = []
+    for found in WORD.finditer(text, start, end):
+        word = found.group()
+        if word.isspace() or word.startswith("--"):
+            continue
+        if word in OPEN:
+            opened.append(found.start())
+            stack.append([])
+        elif word in CLOSE:
+            inner = stack.pop()
+            stack[-1].append(Node(opened.pop(), found.end(), "", inner))
+        else:
+            stack[-1].append(Node(found.start(), found.end(), word))
+    return stack[0]
+
+
+def clauses(text):
+    """The clauses of a file's definitions: name, where its line begins, where its right side begins and ends."""
+    at = 0
+    found = None
+    for line in text.split("\n") + [""]:
+        indent = len(line) - len(line.lstrip())
+        inside = found and text[found[2]:at].count("{") > text[found[2]:at].count("}")
+        if found and not inside and (not line.strip() or indent <= found[3]):
+            yield found[0], found[1], found[2], at - 1
+            found = None
+        equals = re.search(r" =(?= |$)", line)
+        if not found and equals and not SIGNATURE.match(line) and " : " not in line[:equals.start()]:
+            name = "_⟫_" if " ⟫ " in line[:equals.start()] else line.split()[0]
+            found = (name, at, at + equals.end(), indent)
+        at += len(line) + 1
+
+
+def levels(nodes):
+    yield nodes
+    for node in nodes:
+        if node.inner is not None:
+            yield from levels(node.inner)
+
+
+def parts(nodes, breaks):
+    """The runs of nodes between those words; bound names of a λ are no part of a run."""
+    run = []
+    bound = False
+    for node in nodes:
+        if node.word.startswith("λ"):
+            bound = True
+        if node.word in breaks or bound:
+            yield run, node
+            run = []
+            bound = bound and not node.word.endswith(".")
+        else:
+            run.append(node)
+    yield run, None
+
+
+def atoms(run):
+    """The atoms of an application, a field's name with what it is taken from."""
+    found = []
+    for node in run:
+        if node.word.startswith(".") and len(node.word) > 1 and found:
+            found[-1] = (found[-1][0], node.end)
+        else:
+            found.append((node.start, node.end))
+    return found
+
+
+def swapped(text, a, b):
+    """Two spans of the text exchanged."""
+    return [(a[0], b[1], text[b[0]:b[1]] + text[a[1]:b[0]] + text[a[0]:a[1]])]
+
+
+def word_edits(text, nodes):
+    for node in nodes:
+        if node.word in NAMES:
+            yield [(node.start, node.end, NAMES[node.word])]
+        if node.word.isdigit():
+            yield [(node.start, node.end, str(int(node.word) + 1))]
+            if node.word != "0":
+                yield [(node.start, node.end, str(int(node.word) - 1))]
+
+
+def application_edits(text, nodes):
+    for run, _ in parts(nodes, BREAKS):
+        found = atoms(run)
+        words = [text[a:b] for a, b in found]
+        for i in range(1, len(found) - 1):
+            if words[i] != words[i + 1] and not {"v", "w"} & {words[i], words[i + 1]}:
+                yield swapped(text, found[i], found[i + 1])
+        if len(found) == 2 and words[0] in FORGOTTEN:
+            yield [(found[0][0], found[1][1], words[1])]
+        if len(found) == 3 and words[0] == "min":
+            yield [(found[0][0], found[2][1], words[1])]
+            yield [(found[0][0], found[2][1], words[2])]
+
+
+def chain_edits(text, nodes, operators, loose):
+    """A chain's operands dropped, and neighbours exchanged where the order may matter."""
+    chain = []
+    for run, stop in parts(nodes, operators | loose):
+        if run:
+            chain.append((run[0].start, run[-1].end))
+        elif stop is not None and stop.word in operators:
+            chain.append(None)
+        if stop is None or stop.word in loose or stop.word.startswith("λ") or stop.word.endswith("."):
+            yield from drops(text, [c for c in chain if c])
+            chain = []
+
+
+def drops(text, chain):
+    for i in range(1, len(chain)):
+        yield [(chain[i - 1][1], chain[i][1], "")]
+    if len(chain) > 1:
+        yield [(chain[0][0], chain[1][0], "")]
+
+
+def conjunct_edits(text, nodes):
+    yield from chain_edits(text, nodes, {"&&", "||"}, LOOSE)
+
+
+def step_edits(text, nodes):
+    """Steps dropped or exchanged; the first step has the venue as its last argument."""
+    for operator in ("⟫", "++"):
+        chain = []
+        for run, stop in parts(nodes, {operator} | (LOOSE - {"⟫"})):
+            if run:
+                chain.append(run)
+            if stop is None or stop.word != operator:
+                spans = [(r[0].start, r[-1].end) for r in chain]
+                for i in range(1, len(spans)):
+                    yield [(spans[i - 1][1], spans[i][1], "")]
+                    if i > 1 or operator == "++":
+                        yield swapped(text, spans[i - 1], spans[i])
+                if operator == "⟫" and len(chain) > 1 and len(chain[0]) > 1:
+                    last = chain[0][-1]
+                    first = text[chain[0][0].start:chain[0][-2].end]
+                    second = text[spans[1][0]:spans[1][1]]
+                    yield [(spans[0][0], spans[1][1], f"({second}) {text[last.start:last.end]} ⟫ {first}")]
+                chain = []
+
+
+def choice_edits(text, nodes):
+    """`if c then a else b`: a alone, b alone, the two exchanged; neighbours of a chain exchanged."""
+    for i, node in enumerate(nodes):
+        if node.word != "if":
+            continue
+        depth, then, other = 0, None, None
+        for j in range(i + 1, len(nodes)):
+            word = nodes[j].word
+            if word == "if":
+                depth += 1
+            elif word == "then" and depth == 0:
+                then = j
+            elif word == "else" and depth == 0:
+                other = j
+                break
+            elif word == "else":
+                depth -= 1
+        if then is None or other is None:
+            continue
+        end = next((j for j in range(other, len(nodes)) if nodes[j].word in (";", "|")), len(nodes))
+        a = (nodes[then + 1].start, nodes[other - 1].end)
+        b = (nodes[other + 1].start, nodes[end - 1].end)
+        condition = (nodes[i + 1].start, nodes[then - 1].end)
+        yield [(node.start, b[1], text[a[0]:a[1]])]
+        yield [(node.start, b[1], text[b[0]:b[1]])]
+        if nodes[other + 1].word != "if":
+            yield swapped(text, a, b)
+            continue
+        inner = next(j for j in range(other + 1, end) if nodes[j].word == "then")
+        close = next(j for j in range(inner, end) if nodes[j].word == "else")
+        second = (nodes[other + 2].start, nodes[inner - 1].end)
+        row = r"eqb (\w+) \d+$"
+        same = [re.match(row, text[x[0]:x[1]]) for x in (condition, second)]
+        if all(same) and same[0].group(1) == same[1].group(1):
+            continue
+        here = (condition[0], a[1])
+        there = (second[0], nodes[close - 1].end)
+        yield swapped(text, here, there)
+
+
+def field_edits(text, nodes):
+    """Two neighbouring values of a record exchanged."""
+    fields = []
+    for run, stop in parts(nodes, {";"}):
+        equals = [i for i, n in enumerate(run) if n.word == "="]
+        if equals and len(run) > equals[0] + 1:
+            fields.append((run[equals[0] + 1].start, run[-1].end))
+    for a, b in zip(fields, fields[1:]):
+        yield swapped(text, a, b)
+
+
+def edits_of(text, start, end):
+    """All wrong forms of what stands at start to end: the whole text anew, each once."""
+    seen = {text}
+    for nodes in levels(parsed(text, start, end)):
+        for kind in (word_edits, application_edits, conjunct_edits, step_edits, choice_edits, field_edits):
+            for edit in kind(text, nodes):
+                new = text
+                for a, b, put in edit:
+                    new = new[:a] + put + new[b:]
+                if new not in seen:
+                    seen.add(new)
+                    yield new
+
+
+def one_line(text):
+    return " ".join(text.split())
+
+
+def shown(old, new):
+    """What differs, as whole lines."""
+    a, b = old.split("\n"), new.split("\n")
+    while a and b and a[0] == b[0]:
+        a, b = a[1:], b[1:]
+    while a and b and a[-1] == b[-1]:
+        a, b = a[:-1], b[:-1]
+    return f"`{one_line(' '.join(a))}` -> `{one_line(' '.join(b))}`"
+
+
+def listed(path):
+    """The fixed edits (file, olds, news, why) and the edits that mean the same (line: why)."""
+    fixed, same, why = [], {}, ""
+    for line in open(path, encoding="utf-8").read().split("\n"):
+        if line.startswith("# "):
+            why = line[2:]
+        elif line.startswith("file: "):
+            fixed.append((line[6:], [], [], why))
+        elif line.startswith("old: "):
+            fixed[-1][1].append(line[5:].replace("\\n", "\n"))
+        elif line.startswith("new: "):
+            fixed[-1][2].append(line[5:].replace("\\n", "\n"))
+        elif line.startswith("same: "):
+            same[line[6:]] = why
+    return fixed, same
+
+
+def types_alone(text):
+    """src/lib.rt without its functions and without what only they use."""
+    kept = "\n".join(l for l in text.split("\n") if not l.startswith("ghost use"))
+    first = re.search(r"(?m)^pub fn ", kept).start()
+    return kept[:kept.rfind("\n}\n", 0, first) + 3]
+
+
+def with_imports(text):
+    lines = text.split("\n")
+    for i, line in enumerate(lines):
+        for start, names in IMPORTS.items():
+            if line.startswith(start):
+                has = line[len(start):-1].split(", ")
+                lines[i] = start + ", ".join(has + [n for n in names if n not in has]) + "}"
+    return "\n".join(lines)
+
+
+class Copy:
+    """A copy of the crate: types, definitions and trials."""
+
+    def __init__(self, root, place, files):
+        self.tree = place
+        self.specs = f"{place}/crates/rules/specs"
+        shutil.copytree(f"{root}/crates/rules/specs", self.specs)
+        os.makedirs(f"{place}/crates/rules/src")
+        with open(f"{root}/crates/rules/src/lib.rt", encoding="utf-8") as lib:
+            self.write("../src/lib.rt", types_alone(lib.read()))
+        with open(f"{place}/crates.txt", "w", encoding="utf-8") as crates:
+            crates.write("rules:\n")
+        for name, text in files.items():
+            self.write(f"{name}.antt", text)
+
+    def write(self, name, text):
+        with open(f"{self.specs}/{name}", "w", encoding="utf-8") as file:
+            file.write(text)
+
+    def checked(self):
+        """survives, refused, compiles-not or NO VERDICT, with the line that says why."""
+        done = subprocess.run(["rt", "dev", "rules"], cwd=self.tree, capture_output=True, text=True, check=False)
+        said = (done.stdout + done.stderr).split("\n")
+        if done.returncode == 0 and any(l.startswith("logic=proved") for l in said):
+            return "survives", ""
+        errors = [line[line.find("specs/"):] for line in said if ": error" in line]
+        if errors and all(re.search(r"Trials\.antt:\d+:\d+: error: `trials-[\w-]+`: expected type", e) for e in errors):
+            return "refused", errors[0]
+        if errors and all("Trials.antt" in e and "steps" in e for e in errors):
+            return "refused", errors[0]
+        if errors and done.returncode == 1:
+            return "compiles-not", errors[0]
+        return "NO VERDICT", " ".join(said)[-300:]
+
+    def tried(self, name, new, old):
+        self.write(name, new)
+        what, why = self.checked()
+        if what == "survives":
+            # told again from nothing
+            shutil.rmtree(f"{self.tree}/target/inc", ignore_errors=True)
+            what, why = self.checked()
+        self.write(name, old)
+        return what, why
+
+
+def drawn(files, seed, wanted):
+    """Edits as (file, definition, new text), definitions in an order by the seed, one edit of each in a round."""
+    by_definition = {}
+    for name, text in files.items():
+        if name in LEFT_OUT or (wanted and name not in wanted):
+            continue
+        for definition, _, start, end in clauses(text):
+            if definition not in TYPES:
+                by_definition.setdefault((name, definition), []).extend(edits_of(text, start, end))
+    order = sorted(by_definition)
+    chance = random.Random(seed)
+    chance.shuffle(order)
+    for place in order:
+        chance.shuffle(by_definition[place])
+    turn = 0
+    while any(turn < len(by_definition[place]) for place in order):
+        for place in order:
+            if turn < len(by_definition[place]):
+                yield place[0], place[1], by_definition[place][turn]
+        turn += 1
+
+
+def fixed_edits(files, fixed):
+    """The fixed list as (file, why, new text); None where a line fits nothing."""
+    for name, olds, news, why in fixed:
+        new = files[name]
+        fits = bool(olds) and len(olds) == len(news)
+        for old, put in zip(olds, news):
+            fits = fits and new.count(old) == 1
+            new = new.replace(old, put, 1)
+        yield name, why, new if fits else None
+
+
+class Tally:
+    """The lines said and counted; how many edits are still to be drawn."""
+
+    def __init__(self, count, log, same):
+        self.left, self.log, self.same = count, log, same
+        self.counts = {"refused": 0, "means the same": 0, "survives": 0, "compiles-not": 0, "NO VERDICT": 0, "NO PLACE": 0}
+        self.of_list = 0
+        self.lock = threading.Lock()
+
+    def told(self, fixed, what, line, why):
+        with self.lock:
+            if what == "survives" and line in self.same:
+                what, why = "means the same", self.same[line]
+            self.counts[what] += 1
+            if fixed:
+                self.of_list += what == "refused"
+            elif what == "compiles-not":
+                self.left += 1
+            said = f"{what}: {line} | {why[:160]}"
+            print(said, flush=True)
+            if self.log:
+                with open(self.log, "a", encoding="utf-8") as file:
+                    print(said, file=file)
+
+
+def main():
+    arguments = argparse.ArgumentParser(description=__doc__, formatter_class=argparse.RawDescriptionHelpFormatter)
+    arguments.add_argument("--seed", type=int, default=1)
+    arguments.add_argument("--count", type=int, default=150)
+    arguments.add_argument("--jobs", type=int, default=2)
+    arguments.add_argument("--log", default="")
+    arguments.add_argument("files", nargs="*", help="names of files of specs/, as Complex")
+    given = arguments.parse_args()
+    root = os.path.dirname(os.path.dirname(os.path.abspath(__file__)))
+    specs = f"{root}/crates/rules/specs"
+    files = {n[:-5]: with_imports(open(f"{specs}/{n}", encoding="utf-8").read()) for n in sorted(os.listdir(specs))}
+    fixed, same = listed(f"{root}/tests/wrong_definitions.txt")
+    tally = Tally(given.count, given.log, same)
+    folder = tempfile.mkdtemp(prefix="wrong-definitions-")
+    todo = queue.Queue()
+    known = list(fixed_edits(files, [f for f in fixed if not given.files or f[0] in given.files]))
+    for name, why, new in known:
+        if new is None:
+            tally.told(True, "NO PLACE", f"{name}: {why}", "")
+        else:
+            todo.put((True, name, f"{name}: {why}", new))
+    draws = drawn(files, given.seed, given.files)
+    lock = threading.Lock()
+
+    def next_edit():
+        with lock:
+            if not todo.empty():
+                return todo.get()
+            with tally.lock:
+                if tally.left == 0:
+                    return None
+                tally.left -= 1
+            name, definition, new = next(draws, (None, None, None))
+            return new and (False, name, f"{name}.{definition}: {shown(files[name], new)}", new)
+
+    def work(number):
+        copy = Copy(root, f"{folder}/{number}", files)
+        what, why = copy.checked()
+        if what != "survives":
+            tally.told(True, "NO VERDICT", "the definitions as they are", why)
+            return
+        while edit := next_edit():
+            of_list, name, line, new = edit
+            what, why = copy.tried(f"{name}.antt", new, files[name])
+            tally.told(of_list, what, line, why)
+
+    threads = [threading.Thread(target=work, args=(n,)) for n in range(given.jobs)]
+    for thread in threads:
+        thread.start()
+    for thread in threads:
+        thread.join()
+    shutil.rmtree(folder)
+    c = tally.counts
+    print(f"{c['refused']} refused ({tally.of_list} of the list of {len(known)}), {c['means the same']} that mean the same, "
+          f"{c['survives']} that survive, {c['NO VERDICT']} without a verdict, {c['NO PLACE']} of the list without a place, "
+          f"{c['compiles-not']} that do not compile")
+    return 1 if c["survives"] + c["NO VERDICT"] + c["NO PLACE"] or tally.of_list < len(known) else 0
+
+
+if __name__ == "__main__":
+    sys.exit(main())
