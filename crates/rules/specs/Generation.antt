@@ -56,7 +56,8 @@ unfoldable pub othersStand : (w : Venue) (m n : ℕ) → List Legging → Bool
 othersStand w m n [] = true
 othersStand w m n (l ∷ ls) = (eqb n m || stands (verdict w n l)) && othersStand w m (suc n) ls
 
--- "Made when", for the leg of c at side d of series s
+-- "Made when", for the leg of c at side d of series s. So p is at most 100,000: a sell price is at most its displayed price; a buy price, which may be
+-- above the displayed one, is below 100,000, since "N in band" asks for an offer, regular or away, in its series and p reaches none.
 unfoldable pub makes : Venue → Complex → (series side : ℕ) → Bool
 makes v c s d =
     let p = legPrice v c s d in

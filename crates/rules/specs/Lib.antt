@@ -1,4 +1,33 @@
 -- Document 01 as definitions, a file for each of its sections, in the order in which each uses the ones before it.
+--
+--   "Words and ranges"                       Words
+--   "Message and record bytes"               Bytes, Messages, Records
+--   "Refusals": 1 to 8                       Refusals; 9 and 10, and the two calls: Calls
+--   "Prices of a side"                       Prices
+--   "Order (kind 1)"                         Order; the trades that it and a complex order have in common: Trading
+--   "Standing test and settling"             Standing; legging orders that go, whatever the cause: Removal
+--   "Complex (kind 2)", "Sweep", "Cancel"    Complex
+--   "Generation of a leg"                    Generation
+--   each kind's effect, and its 64           Step
+--   "A venue is sound when …"                Sound
+--   Demand 3's sums over the records         Sums
+--   "Trials"                                 Trials: each definition above at work, with what 01 says must come out
+--
+-- Not 01's: Base (choice, the first in rank), Effects (venue and records, one step after another), Places (how places are arranged),
+-- Lengths (bounds of what one message writes), Opened (all names, for a statement that computes). Regular, Complex, Legging, Listed, Venue
+-- and the other records are the types of src/lib.rt.
+--
+-- The notation:
+--   f x y                     f of x and y;  c .limit is the field limit of c;  (λ n l. e) is the function of n and l that gives e
+--   x ∷ xs, [], xs ++ ys      a list with x first, the empty one, one list after another
+--   pos n, negsuc n           the integers n and -(n + 1);  +ℤ, -ℤ, *ℤ, negℤ are their operations
+--   leb, ltb, eqb, leZ, ltZ   the tests ≤, <, = of numbers, and ≤, < of integers;  &&, ||, not join them
+--   elim x [ a ↦ e | b ↦ g ]  e or g, by which case of its type x is
+--   getD l i x, set l i y     the element of l at place i, x past the end;  l with y at place i
+--   e ⟫ f                     the effect e, and then f upon the venue that e left; the records come in that order
+--   held q                    q is not 0: a place holds an order while its quantity is held, a price is there while it is held
+--   fuel                      a bound on the turns of a loop, named where it is given and large enough for every turn there can be
+--   unfoldable, abbrev        a definition that a proof opens by name, or one that is always open;  pub: seen by other files
 pub mod Base
 pub mod Words
 pub mod Bytes

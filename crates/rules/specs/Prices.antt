@@ -32,7 +32,7 @@ reaches d p q = if eqb d buy then leb q p else leb p q
 unfoldable pub restsAt : (series side : ℕ) → Regular → Bool
 restsAt s d o = held (o .quantity) && eqb (o .series) s && eqb (o .side) d
 
--- the size of an order that counts for best price, size and clear price: all of it
+-- the size of an order that counts for best price, size and clear price. Always all of it, until the request for reserve size lands.
 unfoldable pub shown : Regular → ℕ
 shown o = o .quantity
 
@@ -82,7 +82,8 @@ clearPrice v s d =
     let best = bestRegular v s d in
     if better d (ownPrice (leggingAt v s d)) best then 0 else best
 
--- "Displayed price of a legging order: its own, down (buy) or up (sell) to the increment"; (C)(2): "rounded to the nearest minimum increment", and which way by the filing's Item 3
+-- "Displayed price of a legging order: its own, down (buy) or up (sell) to the increment"; (C)(2): "rounded to the nearest minimum increment",
+-- and which way by the filing's Item 3
 unfoldable pub displayed : (increment side price : ℕ) → ℕ
 displayed i d p = if eqb d buy then p / i * i else (p + (i - 1)) / i * i
 
@@ -98,14 +99,14 @@ away v s d =
 unfoldable pub marketBest : Venue → (series side : ℕ) → ℕ
 marketBest v s d = betterOf d (away v s d) (bestRegular v s d)
 
--- how many contracts of each leg make one of a complex order: "one-to-one ratio"
+-- How many contracts of each leg make one of a complex order: "one-to-one ratio". Always 1, until the request for other ratios lands.
 unfoldable pub ratio1 : Complex → ℕ
 ratio1 c = 1
 
 unfoldable pub ratio2 : Complex → ℕ
 ratio2 c = 1
 
--- what a leg adds to the net: sign × price, by its ratio
+-- what a leg adds to the net: sign × price, by its ratio, which is always 1 until that request lands
 unfoldable pub weighed : (ratio side price : ℕ) → ℤ
 weighed r d p = signed d (pos (r * p))
 

@@ -1,5 +1,7 @@
 -- Document 01, "Trials": the starred ones, the printed session, the wrongs named there, sessions for what these and the theorems leave open, the bytes
--- of each kind of message and record, the ends of each range, and the refusals by the examples of their table, all in one statement over a list. A session's messages go in as bytes and its records are read from the report memory's bytes.
+-- of each kind of message and record, the ends of each range, the refusals by the examples of their table, then section by section what a wrong definition
+-- would do otherwise (tests/wrong_definitions.py tries such), and soundness clause by clause: all in one statement over a list.
+-- A session's messages go in as bytes and its records are read from the report memory's bytes.
 use mathlib.Core.Bool.{Bool, true, false}
 use mathlib.Core.Path.{_≡_, refl}
 use mathlib.Core.List.{List, [], _∷_, _++_, map}
