@@ -26,7 +26,7 @@ use Rattle.rules.specs.Records.{Report, answer, trade, pair, generated, 
 use Rattle.rules.specs.Prices.{inBand}
 use Rattle.rules.specs.Standing.{verdictNumber}
 use Rattle.rules.specs.Refusals.{decoded, decodedNumber, inRange}
-use Rattle.rules.specs.Step.{setAway, mask}
+use Rattle.rules.specs.Step.{setAway}
 use Rattle.rules.specs.Calls.{called, run, runFrom, one}
 use Rattle.rules.specs.Sums.{total, contracts, contractsAt, paired, crossedFor, cancelledOf, openRegular, openComplex}
 use Rattle.rules.specs.Opened.{opened-rules}
@@ -495,8 +495,11 @@ farApart s t = opens s ++ opens t ++ encodeMessage (Away s 1000 1000) ++ encodeM
 
 pub worked : List Trial
 worked =
-    -- "with the same series and in each the reversed side, whichever leg is named first": one side is not
-    session 150 (farApart 0 1 ++ twoLeg 1 0 buy 1 sell 1 (pos 1005) 5 ++ twoLeg 2 1 sell 0 buy 1 (pos 1005) 5
+    -- "with the same series and in each the reversed side, whichever leg is named first"
+    session 200 (quoted ++ twoLeg 1 0 buy 1 sell 1 (pos 10) 5 ++ twoLeg 2 1 sell 0 buy 1 (pos 10) 5 ++ twoLeg 3 0 sell 1 buy 1 (minus 10) 12) 0 7
+    (accepted 1 7 ++ (crossed 3 1 (minus 10) 5 ∷ crossed 3 2 (minus 10) 5 ∷ []))
+    -- one side is not
+    ∷ session 150 (farApart 0 1 ++ twoLeg 1 0 buy 1 sell 1 (pos 1005) 5 ++ twoLeg 2 1 sell 0 buy 1 (pos 1005) 5
     ++ pairUp 3 0 1 sell (minus 1005) 5 ++ pairUp 4 1 0 sell (minus 1005) 5) 0 8 (accepted 1 8)
     ∷ session 150 (farApart 0 1 ++ twoLeg 1 0 sell 1 buy 1 (minus 1000) 5 ++ twoLeg 2 1 buy 0 sell 1 (minus 1000) 5
     ++ pairUp 3 0 1 buy (pos 1005) 5 ++ pairUp 4 1 0 buy (pos 1005) 5) 0 8 (accepted 1 8)
@@ -540,6 +543,10 @@ worked =
     ∷ session 300 (opens 0 ++ opens 1 ++ enters 1 0 sell 130 3 ++ enters 2 0 sell 135 9 ++ enters 3 1 sell 90 7 ++ enters 4 1 sell 95 9 ++ buysBoth 5 (pos 225) 12) 0 7
     (accepted 1 6 ++ (answer 7 0 5 2 ∷ trade 0 0 130 3 5 1 ∷ trade 1 0 90 3 5 3 ∷ pair 5 (pos 220) 3 ∷ trade 0 0 135 4 5 2 ∷ trade 1 0 90 4 5 3 ∷ pair 5 (pos 225) 4
     ∷ generated 5 0 0 130 130 5 ∷ generated 5 1 0 90 90 5 ∷ []))
+    -- the same of bids: 220 for 3, 215 for 4, and 210 is too little
+    ∷ session 300 (opens 0 ++ opens 1 ++ enters 1 0 buy 130 3 ++ enters 2 0 buy 125 9 ++ enters 3 1 buy 90 7 ++ enters 4 1 buy 85 9 ++ pairUp 5 0 1 sell (minus 215) 12) 0 7
+    (accepted 1 6 ++ (answer 7 0 10 2 ∷ trade 0 1 130 3 5 1 ∷ trade 1 1 90 3 5 3 ∷ pair 5 (minus 220) 3 ∷ trade 0 1 125 4 5 2 ∷ trade 1 1 90 4 5 3 ∷ pair 5 (minus 215) 4
+    ∷ generated 5 0 1 130 130 5 ∷ generated 5 1 1 90 90 5 ∷ []))
     -- best regular prices of both legs: then none is left in series 1, which order 3 names first and order 4 second, and an away offer is no such price
     ∷ session 250 (opening ++ encodeMessage (Away 1 0 100) ++ pairUp 3 1 0 buy (pos 225) 20 ++ pairUp 4 0 1 buy (pos 225) 2) 0 7
     (accepted 1 5 ++ (answer 6 0 4 1 ∷ trade 1 0 90 12 3 2 ∷ trade 0 0 130 12 3 1 ∷ pair 3 (pos 220) 12 ∷ generated 3 1 0 95 95 3 ∷ answer 7 0 4 1 ∷ []))
@@ -631,16 +638,16 @@ standing n l = legsUp 0 resting 0 (both 3 8) n l
 base : Venue
 base = standing 0 (leg 3 115 8)
 
--- order 3 sells in series 0 and buys in 1: at N its legging order sells at 100,000, or at a price
-atTop : (n : ℤ) (price : ℕ) → Venue
-atTop n p =
-    legsUp 99995 (rest 1 1 sell 100 10 ∷ []) 0
+-- order 3 sells in series 0 and buys in 1, at N; its legging order sells at a price
+atTop : (n : ℤ) (price : ℕ) (bids : List Regular) → Venue
+atTop n p os =
+    legsUp 99995 (rest 1 1 sell 100 10 ∷ os) 0
     (record { id = 3; series1 = 0; side1 = sell; series2 = 1; side2 = buy; class = 1; limit = n; quantity = 5 })
     1 (leg 3 p 5)
 
--- a sound venue: a cancel of what does not rest
-isSound : Venue → Trial
-isSound v = upon v 5 100 (cancels 9) 8 1 (answer 6 8 (mask (v .legging)) 1 ∷ []) v
+-- a sound venue, of this mask and count: a cancel of what does not rest
+isSound : Venue → (m n : ℕ) → Trial
+isSound v m n = upon v 5 100 (cancels 9) 8 1 (answer 6 8 m n ∷ []) v
 
 -- an unsound one: given back, with 9
 unsound : Venue → Trial
@@ -666,11 +673,12 @@ listing x = unsound (withSeries base (set (base .series) 7 x))
 
 pub faults : List Trial
 faults =
-    isSound base ∷ isSound (standing 2 (leg 3 75 8)) ∷ isSound (atTop (minus 99900) 100000)
+    isSound base 1 1 ∷ isSound (standing 2 (leg 3 75 8)) 4 1 ∷ isSound (atTop (minus 99900) 100000 []) 2 1
+    ∷ isSound (withLast (legsUp 0 (rest 1 0 buy 130 15 ∷ rest 2 1 buy 90 12 ∷ []) 0 noComplex 0 noLegging) 2) 0 0 ∷ isSound (legsUp 0 [] 0 (both 1 8) 0 noLegging) 0 0
     -- "fields are in range"
     ∷ unsound (legsUp 0 (rest 1 0 sell 131 15 ∷ rest 2 1 sell 90 12 ∷ []) 0 (both 3 8) 0 (leg 3 115 8))
     ∷ unsound (legsUp 0 resting 0 (record { id = 3; series1 = 0; side1 = buy; series2 = 1; side2 = buy; class = 2; limit = pos 205; quantity = 8 }) 0 (leg 3 115 8))
-    ∷ unsound (standing 0 (leg 3 0 8)) ∷ unsound (atTop (minus 99901) 100001)
+    ∷ unsound (standing 0 (leg 3 0 8)) ∷ unsound (atTop (minus 99901) 100001 [])
     ∷ listing (record { status = 3; bid = 0; offer = 0 }) ∷ listing (record { status = 0; bid = 100001; offer = 0 })
     ∷ listing (record { status = 0; bid = 0; offer = 100001 }) ∷ unsound (withLast base 4294967296)
     -- "resting ids distinct and at most the last id"
@@ -689,9 +697,10 @@ faults =
     ∷ staleComplex (record { id = 0; series1 = 0; side1 = 0; series2 = 0; side2 = 0; class = 1; limit = pos 0; quantity = 0 })
     ∷ staleComplex (record { id = 0; series1 = 0; side1 = 0; series2 = 0; side2 = 0; class = 0; limit = minus 1; quantity = 0 })
     ∷ staleLegging (leg 3 0 0) ∷ staleLegging (leg 0 115 0)
-    -- "no series is locked or crossed counting own prices": by regular orders in each series; by a legging order
+    -- "no series is locked or crossed counting own prices": by regular orders in each series; by a legging order of either side
     ∷ locked 0 ∷ locked 1 ∷ locked 2 ∷ locked 3 ∷ locked 4 ∷ locked 5 ∷ locked 6 ∷ locked 7
     ∷ unsound (legsUp 0 (rest 1 0 sell 115 15 ∷ rest 2 1 sell 90 12 ∷ []) 0 (both 3 8) 0 (leg 3 115 8))
+    ∷ unsound (atTop (minus 99900) 100000 (rest 2 0 buy 100000 1 ∷ []))
     -- "each legging order matches an open parent leg": no parent; the other side; another series
     ∷ unsound (standing 0 (leg 2 115 8)) ∷ unsound (standing 1 (leg 3 115 8)) ∷ unsound (standing 3 (leg 3 75 8)) ∷ unsound (standing 4 (leg 3 75 8))
     -- "is no larger than what its parent has open"; "passes its test": 116 and 90 are 206
