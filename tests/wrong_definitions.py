@@ -58,8 +58,8 @@ IMPORTS = {
         ["Worse", "Unpaired", "Executed", "Withdrawn", "OutOfBand", "NotOpen", "Touched"],
     "use Rattle.rules.specs.Bytes.{": ["u8At", "u16At", "u32At", "u8", "u16", "u32"],
 }
-# the lists of trials that cost little to compute
-CHEAP = ["starred", "layouts", "edges", "faults", "lefts", "numbers"]
+# the parts of the trials in the order in which they are tried: those first that cost least for what they refuse
+PARTS = [["starred", "layouts", "edges", "faults", "lefts", "numbers"], ["met", "settled", "made"], ["worked"], ["wrongs"]]
 WORD = re.compile(r"\s+|--[^\n]*|[()\[\]{}]|;|[^\s()\[\]{};]+")
 OPEN, CLOSE = "([{", ")]}"
 BREAKS = {"&&", "||", "⟫", "∷", "++", "+", "-", "*", "/", "%", "+ℤ", "-ℤ", "*ℤ", "=", ";", "|", "↦", "if", "then", "else",
@@ -354,7 +354,8 @@ class Copy:
             self.write(f"{name}.antt", text)
         self.trials = files["Trials"]
         names = re.search(r"(?m)^trials = (.*)$", self.trials).group(1).split(" ++ ")
-        self.parts = [[n for n in names if n in CHEAP]] + [[n] for n in names if n not in CHEAP]
+        early = [[n for n in part if n in names] for part in PARTS]
+        self.parts = [p for p in early if p] + [[n] for n in names if not any(n in part for part in PARTS)]
 
     def write(self, name, text):
         with open(f"{self.specs}/{name}", "w", encoding="utf-8") as file:

@@ -533,6 +533,13 @@ worked =
     (accepted 1 4 ++ (answer 5 0 1 1 ∷ generated 2 0 0 115 115 8 ∷ answer 6 0 1 1 ∷ []))
     ∷ session 150 (opens 0 ++ opens 1 ++ enters 1 1 sell 90 12 ++ encodeMessage (Away 0 0 130) ++ buysBoth 2 (pos 205) 8 ++ pairUp 3 1 0 sell (minus 100) 5) 0 6
     (accepted 1 4 ++ (answer 5 0 1 1 ∷ generated 2 0 0 115 115 8 ∷ answer 6 0 1 1 ∷ []))
+    -- an order of two sides: the offer of 130 and the bid of 75 are 55 to it; of order 3's legging orders that bid alone goes
+    ∷ session 200 (legged ++ twoLeg 4 0 buy 1 sell 1 (pos 55) 5) 0 6 (leggedSheet ++ (answer 6 0 1 1 ∷ removed 3 1 0 Touched ∷ []))
+    ∷ session 200 (legged ++ twoLeg 4 0 buy 1 sell 1 (pos 54) 5) 0 6 (leggedSheet ++ (answer 6 0 5 2 ∷ []))
+    -- nor does it leg in at 60, where the bid is a regular one of 70: not at N 59, and not out of the band of 30
+    ∷ session 300 (opening ++ enters 3 1 buy 70 6 ++ twoLeg 4 0 buy 1 sell 1 (pos 59) 4 ++ encodeMessage (Away 0 0 100) ++ twoLeg 5 0 buy 1 sell 1 (pos 60) 4) 0 8
+    (accepted 1 5 ++ (answer 6 0 9 2 ∷ generated 4 0 0 129 125 4 ∷ generated 4 1 1 71 75 4
+    ∷ answer 7 0 0 0 ∷ removed 4 0 0 OutOfBand ∷ removed 4 1 1 OutOfBand ∷ answer 8 0 0 0 ∷ []))
     -- "remove legging orders on those two sides" alone, also in auction
     ∷ session 200 (legged ++ inAuction 2 ++ enters 4 2 buy 50 5 ++ pairUp 5 0 2 sell (minus 165) 5) 0 8
     (leggedSheet ++ (answer 6 0 5 2 ∷ answer 7 0 5 2 ∷ answer 8 0 4 1 ∷ removed 3 0 0 Touched ∷ []))
@@ -558,6 +565,13 @@ worked =
     -- "Sweep: all this": it touches too
     ∷ session 250 (threeOpen ++ enters 2 1 buy 70 5 ++ encodeMessage (Away 0 0 120) ++ pairUp 3 0 1 sell (minus 170) 4 ++ pairUp 4 0 2 buy (pos 150) 5 ++ sweeps) 0 9
     (accepted 1 7 ++ (answer 8 0 1 1 ∷ generated 4 0 0 100 100 5 ∷ answer 9 0 1 1 ∷ removed 4 0 0 Touched ∷ generated 4 0 0 100 100 5 ∷ []))
+    -- "settle once and then generate": order 1 legs in, which leaves 3 of the 5 that order 4's legging orders were made for
+    ∷ session 350 (opens 0 ++ opens 1 ++ buysBoth 1 (pos 220) 2 ++ enters 2 0 sell 130 5 ++ enters 3 1 sell 90 5 ++ buysBoth 4 (pos 205) 5 ++ sweeps) 0 7
+    (accepted 1 5 ++ (answer 6 0 5 2 ∷ generated 4 0 0 115 115 5 ∷ generated 4 1 0 75 75 5
+    ∷ answer 7 0 5 2 ∷ trade 0 0 130 2 1 2 ∷ trade 1 0 90 2 1 3 ∷ pair 1 (pos 220) 2 ∷ removed 4 0 0 Unpaired ∷ removed 4 1 0 Unpaired
+    ∷ generated 4 0 0 115 115 3 ∷ generated 4 1 0 75 75 3 ∷ []))
+    ∷ session 200 (opens 0 ++ opens 1 ++ buysBoth 1 (pos 205) 8 ++ enters 2 0 sell 130 15 ++ enters 3 1 sell 90 12 ++ sweeps) 0 6
+    (accepted 1 5 ++ (answer 6 0 5 2 ∷ generated 1 0 0 115 115 8 ∷ generated 1 1 0 75 75 8 ∷ []))
     -- "Cancel: 71, then removals (4)"
     ∷ session 200 (legged ++ cancels 3) 0 6 (leggedSheet ++ (answer 6 0 0 0 ∷ cancelled 3 8 ∷ removed 3 0 0 Withdrawn ∷ removed 3 1 0 Withdrawn ∷ []))
     ∷ []
@@ -591,6 +605,10 @@ made =
     ∷ session 300 (threeOpen ++ enters 2 1 buy 70 5 ++ encodeMessage (Away 0 80 120) ++ pairUp 3 0 1 sell (minus 170) 4 ++ pairUp 4 0 2 buy (pos 150) 5 ++ sweeps) 0 9
     (accepted 1 6 ++ (answer 7 0 2 1 ∷ generated 3 0 1 100 100 4 ∷ answer 8 0 1 1 ∷ removed 3 0 1 Touched ∷ generated 4 0 0 100 100 5
     ∷ answer 9 0 2 1 ∷ removed 4 0 0 Touched ∷ generated 3 0 1 100 100 4 ∷ []))
+    -- "no other standing order would then fail its test", at an earlier place: in series 1 a bid of 91 would hide that of 90
+    ∷ session 200 (opens 0 ++ opens 1 ++ opens 2 ++ enters 1 1 buy 90 10 ++ encodeMessage (Away 0 80 0) ++ pairUp 2 1 0 sell (minus 200) 5
+    ++ enters 3 2 sell 50 5 ++ encodeMessage (Away 1 0 120) ++ pairUp 4 1 2 buy (pos 141) 5) 0 9
+    (accepted 1 5 ++ (answer 6 0 2 1 ∷ generated 2 0 1 110 110 5 ∷ answer 7 0 2 1 ∷ answer 8 0 2 1 ∷ answer 9 0 2 1 ∷ []))
     -- "held at a worse price": 112 and 113 are both shown at 110
     ∷ session 250 (opening ++ buysBoth 3 (pos 202) 8 ++ buysBoth 4 (pos 203) 8) 0 6
     (accepted 1 4 ++ (answer 5 0 5 2 ∷ generated 3 0 0 112 110 8 ∷ generated 3 1 0 72 70 8
@@ -675,6 +693,7 @@ pub faults : List Trial
 faults =
     isSound base 1 1 ∷ isSound (standing 2 (leg 3 75 8)) 4 1 ∷ isSound (atTop (minus 99900) 100000 []) 2 1
     ∷ isSound (withLast (legsUp 0 (rest 1 0 buy 130 15 ∷ rest 2 1 buy 90 12 ∷ []) 0 noComplex 0 noLegging) 2) 0 0 ∷ isSound (legsUp 0 [] 0 (both 1 8) 0 noLegging) 0 0
+    ∷ isSound (withLast base 4294967295) 1 1
     -- "fields are in range"
     ∷ unsound (legsUp 0 (rest 1 0 sell 131 15 ∷ rest 2 1 sell 90 12 ∷ []) 0 (both 3 8) 0 (leg 3 115 8))
     ∷ unsound (legsUp 0 resting 0 (record { id = 3; series1 = 0; side1 = buy; series2 = 1; side2 = buy; class = 2; limit = pos 205; quantity = 8 }) 0 (leg 3 115 8))
@@ -713,6 +732,33 @@ faults =
 lone : (id : ℕ) → Venue
 lone i = legsUp 0 [] 0 (record { id = i; series1 = 0; side1 = buy; series2 = 1; side2 = buy; class = 1; limit = pos 100; quantity = 1 }) 0 noLegging
 
+-- an offer of 130 in series 0 and a bid of 70 in 1
+market : (offered bid : ℕ) → List Regular
+market x y = rest 1 0 sell 130 x ∷ rest 2 1 buy 70 y ∷ []
+
+-- complex order 3 buys in series 0 and sells in 1
+spreading : (quantity : ℕ) → Complex
+spreading q = record { id = 3; series1 = 0; side1 = buy; series2 = 1; side2 = sell; class = 1; limit = pos 60; quantity = q }
+
+-- series 0 with a status and a market of 80 to 120
+quoting : (status bid offer : ℕ) → Venue
+quoting x b a = withSeries freshVenue (set (freshVenue .series) 0 (record { status = x; bid = b; offer = a }))
+
+-- complex orders in series that are closed, with ids from n on, and then one more
+idle : (count n : ℕ) → Complex → List Complex
+idle zero n c = c ∷ []
+idle (suc k) n c = record { id = n; series1 = 2; side1 = buy; series2 = 3; side2 = buy; class = 1; limit = pos 100; quantity = 1 } ∷ idle k (suc n) c
+
+-- 32 complex orders, of which the last, of this quantity, buys series 0 and 1 at 220
+allHeld : (orders : List Regular) (quantity : ℕ) → List Legging → Venue
+allHeld os q ls = record {
+  regular = os ++ drop (length os) (freshVenue .regular);
+  complex = idle 31 1 (record { id = 32; series1 = 0; side1 = buy; series2 = 1; side2 = buy; class = 1; limit = pos 220; quantity = q });
+  legging = ls ++ drop (length ls) (freshVenue .legging);
+  series = open1 0 ∷ open1 0 ∷ replicate 6 notListed;
+  last = 40;
+}
+
 pub lefts : List Trial
 lefts =
     -- one message: the hit, and the cancel of an order before another
@@ -720,6 +766,16 @@ lefts =
     (answer 6 0 0 0 ∷ trade 0 1 115 5 4 3 ∷ trade 1 0 90 5 3 2 ∷ pair 3 (pos 205) 5 ∷ removed 3 0 0 Executed ∷ [])
     (withLast (legsUp 0 (rest 1 0 sell 130 15 ∷ rest 2 1 sell 90 7 ∷ []) 0 (both 3 3) 0 noLegging) 4)
     ∷ upon base 5 100 (cancels 1) 0 1 (answer 6 0 0 0 ∷ cancelled 1 15 ∷ removed 3 0 0 OutOfBand ∷ []) (legsUp 0 (rest 2 1 sell 90 12 ∷ []) 0 (both 3 8) 0 noLegging)
+    -- a complex order of two sides, in part: 60 is in the band of 60
+    ∷ upon (withLast (legsUp 0 (market 15 6) 0 noComplex 0 noLegging) 2) 5 200 (twoLeg 3 0 buy 1 sell 1 (pos 60) 8) 0 1
+    (answer 6 0 0 0 ∷ trade 0 0 130 6 3 1 ∷ trade 1 1 70 6 3 2 ∷ pair 3 (pos 60) 6 ∷ []) (legsUp 0 (rest 1 0 sell 130 9 ∷ []) 0 (spreading 2) 0 noLegging)
+    -- a status leaves the away prices, and these leave the status
+    ∷ upon (quoting 0 80 120) 0 20 (opens 0) 0 1 (answer 1 0 0 0 ∷ []) (quoting 1 80 120)
+    ∷ upon (quoting 2 80 120) 0 20 (encodeMessage (Away 0 85 115)) 0 1 (answer 1 0 0 0 ∷ []) (quoting 2 85 115)
+    -- a sweep of 32 orders: the last legs in and generates
+    ∷ upon (allHeld (rest 33 0 sell 130 15 ∷ rest 34 1 sell 90 12 ∷ rest 35 1 sell 95 20 ∷ []) 14 []) 0 200 sweeps 0 1
+    (answer 1 0 5 2 ∷ trade 0 0 130 12 32 33 ∷ trade 1 0 90 12 32 34 ∷ pair 32 (pos 220) 12 ∷ generated 32 0 0 125 125 2 ∷ generated 32 1 0 90 90 2 ∷ [])
+    (allHeld (rest 33 0 sell 130 3 ∷ rest 35 1 sell 95 20 ∷ []) 2 (leg 32 125 2 ∷ noLegging ∷ leg 32 90 2 ∷ []))
     -- a run: two complex orders, of which the first is cancelled, and a torn message; then one without room for its last message
     ∷ onward freshVenue 0 100 (opens 0 ++ opens 1 ++ pairs 2 1 ++ cancels 1 ++ (4 ∷ 0 ∷ [])) 1 6
     (accepted 1 4 ++ (answer 5 0 0 0 ∷ cancelled 1 1 ∷ answer 6 1 0 0 ∷ [])) (withLast (lone 2) 2)
@@ -757,5 +813,5 @@ pub trials : List Trial
 trials = starred ++ wrongs ++ choices ++ layouts ++ edges ++ refused ++ met ++ settled ++ worked ++ made ++ faults ++ lefts ++ numbers
 
 pub trials-hold : map outcome trials ≡ map expected trials
-unfolding opened-rules outcome expected spread minus opens enters pairUp buysBoth cancels sweeps opening accepted awayAdded starred together wrongs twoLeg legged leggedSheet quoted relying inAuction restingBefore keptApart choices gone layouts single double edges offers pairs twice refused met settled threeOpen farApart worked awayAlone nearTop made open1 legsUp rest both leg resting standing base atTop isSound unsound locked stale staleComplex staleLegging listing faults lone lefts named numbers trials
+unfolding opened-rules outcome expected spread minus opens enters pairUp buysBoth cancels sweeps opening accepted awayAdded starred together wrongs twoLeg legged leggedSheet quoted relying inAuction restingBefore keptApart choices gone layouts single double edges offers pairs twice refused met settled threeOpen farApart worked awayAlone nearTop made open1 legsUp rest both leg resting standing base atTop isSound unsound locked stale staleComplex staleLegging listing faults lone market spreading quoting idle allHeld lefts named numbers trials
 trials-hold = refl
