@@ -38,6 +38,8 @@ pub data Trial : Type 0 where
   session : (room : ℕ) (bytes : List ℕ) (number done : ℕ) → List Report → Trial
   -- one message's bytes upon a venue, so many messages having gone before: the same, and the venue returned
   upon : (v : Venue) (before room : ℕ) (bytes : List ℕ) (number done : ℕ) → List Report → (w : Venue) → Trial
+  -- one message's bytes, accepted upon the venue that `legged` leaves, and its records
+  next : (bytes : List ℕ) → List Report → Trial
   -- the rest of a run, so many messages having gone before
   onward : (v : Venue) (before room : ℕ) (bytes : List ℕ) (number done : ℕ) → List Report → (w : Venue) → Trial
   -- a net t against O, which is the offer of series 1 less the bid of series 0
@@ -62,6 +64,36 @@ pub data Outcome : Type 0 where
 spread : Complex
 spread = record { id = 1; series1 = 0; side1 = sell; series2 = 1; side2 = buy; class = 0; limit = pos 0; quantity = 1 }
 
+open1 : (bid : ℕ) → Listed
+open1 b = record { status = opened; bid = b; offer = 0 }
+
+-- regular orders, a complex order at place i, a legging order at place n; series 0, with an away bid, and 1 are open
+legsUp : (bid : ℕ) (orders : List Regular) (i : ℕ) (c : Complex) (n : ℕ) (l : Legging) → Venue
+legsUp b os i c n l = record {
+  regular = os ++ drop (length os) (freshVenue .regular);
+  complex = set (freshVenue .complex) i c;
+  legging = set (freshVenue .legging) n l;
+  series = open1 b ∷ open1 0 ∷ replicate 6 notListed;
+  last = 3;
+}
+
+rest : (id series side price quantity : ℕ) → Regular
+rest i s d p q = record { id = i; series = s; side = d; price = p; quantity = q }
+
+both : (id quantity : ℕ) → Complex
+both i q = record { id = i; series1 = 0; side1 = buy; series2 = 1; side2 = buy; class = 1; limit = pos 205; quantity = q }
+
+leg : (parent price quantity : ℕ) → Legging
+leg i p q = record { parent = i; price = p; quantity = q }
+
+-- regular orders 1 and 2
+resting : List Regular
+resting = rest 1 0 sell 130 15 ∷ rest 2 1 sell 90 12 ∷ []
+
+-- what `legged` leaves: complex order 3 has legging orders at 115 and 75
+leggedVenue : Venue
+leggedVenue = withLegging (legsUp 0 resting 0 (both 3 8) 0 noLegging) (leg 3 115 8 ∷ noLegging ∷ leg 3 75 8 ∷ drop 3 (freshVenue .legging))
+
 pub outcome : Trial → Outcome
 outcome (session room bytes number done rs) =
     let c = run room bytes in
@@ -69,6 +101,9 @@ outcome (session room bytes number done rs) =
 outcome (upon v before room bytes number done rs w) =
     let c = one v before room bytes in
     returned (c .returned .number) (c .returned .done) (c .returned .written) (records (c .report)) (c .report) (c .returned .venue)
+outcome (next bytes rs) =
+    let c = one leggedVenue 5 100 bytes in
+    ended (c .returned .number) (c .returned .done) (c .returned .written) (records (c .report)) (c .report)
 outcome (onward v before room bytes number done rs w) =
     let c = called room (runFrom (length bytes) v before room bytes) in
     returned (c .returned .number) (c .returned .done) (c .returned .written) (records (c .report)) (c .report) (c .returned .venue)
@@ -81,6 +116,7 @@ outcome (counted is should) = numbered is
 pub expected : Trial → Outcome
 expected (session room bytes number done rs) = ended number done (length (encodeAll rs)) rs (sheet room rs)
 expected (upon v before room bytes number done rs w) = returned number done (length (encodeAll rs)) rs (sheet room rs) w
+expected (next bytes rs) = ended 0 1 (length (encodeAll rs)) rs (sheet 100 rs)
 expected (onward v before room bytes number done rs w) = returned number done (length (encodeAll rs)) rs (sheet room rs) w
 expected (band bid offer t b) = near b
 expected (ranged m b) = near b
@@ -344,6 +380,13 @@ layouts =
     ∷ told (crossed 67305985 134678021 (minus 2) 10000)
     (20 ∷ 0 ∷ 70 ∷ 0 ∷ 1 ∷ 2 ∷ 3 ∷ 4 ∷ 5 ∷ 6 ∷ 7 ∷ 8 ∷ 254 ∷ 255 ∷ 255 ∷ 255 ∷ 16 ∷ 39 ∷ 0 ∷ 0 ∷ [])
     ∷ told (cancelled 67305985 10000) (12 ∷ 0 ∷ 71 ∷ 0 ∷ 1 ∷ 2 ∷ 3 ∷ 4 ∷ 16 ∷ 39 ∷ 0 ∷ 0 ∷ [])
+    -- each u32 in all its bytes
+    ∷ taken (13 ∷ 0 ∷ 4 ∷ 0 ∷ 3 ∷ 160 ∷ 134 ∷ 1 ∷ 0 ∷ 44 ∷ 1 ∷ 0 ∷ 0 ∷ []) (Away 3 100000 300)
+    ∷ told (trade 5 1 100000 134678021 67305985 1) (22 ∷ 0 ∷ 65 ∷ 0 ∷ 5 ∷ 1 ∷ 160 ∷ 134 ∷ 1 ∷ 0 ∷ 5 ∷ 6 ∷ 7 ∷ 8 ∷ 1 ∷ 2 ∷ 3 ∷ 4 ∷ 1 ∷ 0 ∷ 0 ∷ 0 ∷ [])
+    ∷ told (pair 67305985 (pos 1) 134678021) (16 ∷ 0 ∷ 66 ∷ 0 ∷ 1 ∷ 2 ∷ 3 ∷ 4 ∷ 1 ∷ 0 ∷ 0 ∷ 0 ∷ 5 ∷ 6 ∷ 7 ∷ 8 ∷ [])
+    ∷ told (generated 67305985 6 1 1 100000 134678021) (22 ∷ 0 ∷ 67 ∷ 0 ∷ 1 ∷ 2 ∷ 3 ∷ 4 ∷ 6 ∷ 1 ∷ 1 ∷ 0 ∷ 0 ∷ 0 ∷ 160 ∷ 134 ∷ 1 ∷ 0 ∷ 5 ∷ 6 ∷ 7 ∷ 8 ∷ [])
+    ∷ told (crossed 1 67305985 (pos 1) 134678021) (20 ∷ 0 ∷ 70 ∷ 0 ∷ 1 ∷ 0 ∷ 0 ∷ 0 ∷ 1 ∷ 2 ∷ 3 ∷ 4 ∷ 1 ∷ 0 ∷ 0 ∷ 0 ∷ 5 ∷ 6 ∷ 7 ∷ 8 ∷ [])
+    ∷ told (cancelled 1 134678021) (12 ∷ 0 ∷ 71 ∷ 0 ∷ 1 ∷ 0 ∷ 0 ∷ 0 ∷ 5 ∷ 6 ∷ 7 ∷ 8 ∷ [])
     ∷ []
 
 -- Ranges --------------------------------------------------------------------------------------
@@ -399,6 +442,8 @@ refused =
     ∷ session 100 (3 ∷ 0 ∷ 99 ∷ 0 ∷ []) 1 1 (answer 1 1 0 0 ∷ [])
     ∷ session 100 (5 ∷ 0 ∷ 6 ∷ 0 ∷ []) 1 1 (answer 1 1 0 0 ∷ [])
     ∷ session 100 (sweeps ++ (4 ∷ 0 ∷ 6 ∷ [])) 1 2 (answer 1 0 0 0 ∷ answer 2 1 0 0 ∷ [])
+    -- a length of 260; a kind of 262
+    ∷ session 100 ((4 ∷ 0 ∷ 6 ∷ 1 ∷ []) ++ (4 ∷ 1 ∷ 6 ∷ 0 ∷ [])) 1 2 (answer 1 2 0 0 ∷ answer 2 1 0 0 ∷ [])
     -- 2: "04 00 63 00"
     ∷ session 100 (4 ∷ 0 ∷ 99 ∷ 0 ∷ []) 0 1 (answer 1 2 0 0 ∷ [])
     ∷ session 100 ((5 ∷ 0 ∷ 0 ∷ 0 ∷ 7 ∷ []) ++ (4 ∷ 0 ∷ 7 ∷ 0 ∷ []) ++ (4 ∷ 0 ∷ 64 ∷ 0 ∷ [])) 0 3 (answer 1 2 0 0 ∷ answer 2 2 0 0 ∷ answer 3 2 0 0 ∷ [])
@@ -408,6 +453,8 @@ refused =
     ∷ session 100 ((7 ∷ 0 ∷ 3 ∷ 0 ∷ 9 ∷ 0 ∷ 0 ∷ []) ++ (9 ∷ 0 ∷ 3 ∷ 0 ∷ 0 ∷ 0 ∷ 0 ∷ 0 ∷ 0 ∷ [])) 0 2 (answer 1 3 0 0 ∷ answer 2 3 0 0 ∷ [])
     -- 4: "order at 113, series 0"
     ∷ session 100 (opens 0 ++ enters 1 0 sell 113 1) 0 2 (answer 1 0 0 0 ∷ answer 2 4 0 0 ∷ [])
+    -- a quantity of 65,537, whose low half is 1
+    ∷ session 100 (enters 1 0 sell 100 65537 ++ buysBoth 1 (pos 100) 65537) 0 2 (answer 1 4 0 0 ∷ answer 2 4 0 0 ∷ [])
     -- 5: "id 1 twice"
     ∷ session 100 (opens 0 ++ enters 1 0 sell 115 1 ++ enters 1 0 sell 115 1) 0 3 (accepted 1 2 ++ (answer 3 5 0 0 ∷ []))
     ∷ session 100 (opens 0 ++ opens 1 ++ pairs 1 1 ++ pairs 1 1) 0 4 (accepted 1 3 ++ (answer 4 5 0 0 ∷ []))
@@ -463,24 +510,25 @@ met =
 pub settled : List Trial
 settled =
     -- "both its series are open (else cause 6)": the first is closed, the second in auction
-    session 200 (legged ++ encodeMessage (Status 0 0)) 0 6 (leggedSheet ++ (answer 6 0 0 0 ∷ removed 3 0 0 NotOpen ∷ removed 3 1 0 NotOpen ∷ []))
-    ∷ session 200 (legged ++ inAuction 1) 0 6 (leggedSheet ++ (answer 6 0 0 0 ∷ removed 3 0 0 NotOpen ∷ removed 3 1 0 NotOpen ∷ []))
+    next (encodeMessage (Status 0 0)) (answer 6 0 0 0 ∷ removed 3 0 0 NotOpen ∷ removed 3 1 0 NotOpen ∷ [])
+    ∷ next (inAuction 1) (answer 6 0 0 0 ∷ removed 3 0 0 NotOpen ∷ removed 3 1 0 NotOpen ∷ [])
     -- "N is in band (else 5)": 205 is not in that of 150
-    ∷ session 200 (legged ++ encodeMessage (Away 0 0 60)) 0 6 (leggedSheet ++ (answer 6 0 0 0 ∷ removed 3 0 0 OutOfBand ∷ removed 3 1 0 OutOfBand ∷ []))
+    ∷ next (encodeMessage (Away 0 0 60)) (answer 6 0 0 0 ∷ removed 3 0 0 OutOfBand ∷ removed 3 1 0 OutOfBand ∷ [])
     -- "net with it ≤ N": 115 and 95 are 210; the size at 95 is 20
     ∷ session 250 (opening ++ enters 3 1 sell 95 20 ++ buysBoth 4 (pos 205) 20 ++ cancels 2) 0 7
     (accepted 1 5 ++ (answer 6 0 5 2 ∷ generated 4 0 0 115 115 12 ∷ generated 4 1 0 75 75 15 ∷ answer 7 0 4 1 ∷ cancelled 2 12 ∷ removed 4 0 0 Unpaired ∷ []))
     -- "size there ≥ its quantity": 8, and then 7
     ∷ session 250 (legged ++ enters 4 1 buy 90 4 ++ enters 5 1 buy 90 1) 0 7
     (leggedSheet ++ (answer 6 0 5 2 ∷ trade 1 0 90 4 4 2 ∷ answer 7 0 4 1 ∷ trade 1 0 90 1 5 2 ∷ removed 3 0 0 Unpaired ∷ []))
+    -- "its displayed price is no worse than the best regular of its side (else 1)": 75, of 80
+    ∷ next (enters 4 1 buy 80 5) (answer 6 0 1 1 ∷ removed 3 1 0 Worse ∷ [])
     -- "the lowest cause that applies": 1 and 2 at once
     ∷ session 250 (opens 0 ++ opens 1 ++ enters 1 1 sell 90 12 ++ encodeMessage (Away 0 110 130) ++ buysBoth 2 (pos 205) 8
     ++ twoLeg 3 0 sell 1 buy 1 (minus 35) 6 ++ enters 4 0 buy 125 8) 0 7
     (accepted 1 4 ++ (answer 5 0 1 1 ∷ generated 2 0 0 115 115 8 ∷ answer 6 0 3 2 ∷ generated 3 0 1 125 125 6
     ∷ answer 7 0 0 0 ∷ trade 0 0 125 6 4 3 ∷ trade 1 0 90 6 3 1 ∷ pair 3 (minus 35) 6 ∷ removed 3 0 1 Executed ∷ removed 2 0 0 Worse ∷ []))
     -- 1 and 5 at place 0, 2 and 5 at place 2: no offer is left in series 0, and 130 is bid
-    ∷ session 200 (legged ++ enters 4 0 buy 130 20) 0 6
-    (leggedSheet ++ (answer 6 0 0 0 ∷ trade 0 0 130 15 4 1 ∷ removed 3 0 0 Worse ∷ removed 3 1 0 Unpaired ∷ []))
+    ∷ next (enters 4 0 buy 130 20) (answer 6 0 0 0 ∷ trade 0 0 130 15 4 1 ∷ removed 3 0 0 Worse ∷ removed 3 1 0 Unpaired ∷ [])
     ∷ []
 
 -- Complex, sweep, cancel ----------------------------------------------------------------------
@@ -534,8 +582,8 @@ worked =
     ∷ session 150 (opens 0 ++ opens 1 ++ enters 1 1 sell 90 12 ++ encodeMessage (Away 0 0 130) ++ buysBoth 2 (pos 205) 8 ++ pairUp 3 1 0 sell (minus 100) 5) 0 6
     (accepted 1 4 ++ (answer 5 0 1 1 ∷ generated 2 0 0 115 115 8 ∷ answer 6 0 1 1 ∷ []))
     -- an order of two sides: the offer of 130 and the bid of 75 are 55 to it; of order 3's legging orders that bid alone goes
-    ∷ session 200 (legged ++ twoLeg 4 0 buy 1 sell 1 (pos 55) 5) 0 6 (leggedSheet ++ (answer 6 0 1 1 ∷ removed 3 1 0 Touched ∷ []))
-    ∷ session 200 (legged ++ twoLeg 4 0 buy 1 sell 1 (pos 54) 5) 0 6 (leggedSheet ++ (answer 6 0 5 2 ∷ []))
+    ∷ next (twoLeg 4 0 buy 1 sell 1 (pos 55) 5) (answer 6 0 1 1 ∷ removed 3 1 0 Touched ∷ [])
+    ∷ next (twoLeg 4 0 buy 1 sell 1 (pos 54) 5) (answer 6 0 5 2 ∷ [])
     -- nor does it leg in at 60, where the bid is a regular one of 70: not at N 59, and not out of the band of 30
     ∷ session 300 (opening ++ enters 3 1 buy 70 6 ++ twoLeg 4 0 buy 1 sell 1 (pos 59) 4 ++ encodeMessage (Away 0 0 100) ++ twoLeg 5 0 buy 1 sell 1 (pos 60) 4) 0 8
     (accepted 1 5 ++ (answer 6 0 9 2 ∷ generated 4 0 0 129 125 4 ∷ generated 4 1 1 71 75 4
@@ -562,9 +610,6 @@ worked =
     (accepted 1 5 ++ (answer 6 0 5 2 ∷ generated 4 0 0 115 115 8 ∷ generated 4 1 0 75 75 8
     ∷ answer 7 0 5 2 ∷ trade 0 0 130 12 5 1 ∷ trade 1 0 90 12 5 2 ∷ pair 5 (pos 220) 12 ∷ removed 4 0 0 Unpaired ∷ removed 4 1 0 Unpaired
     ∷ generated 5 0 0 125 125 2 ∷ generated 5 1 0 90 90 2 ∷ []))
-    -- "Sweep: all this": it touches too
-    ∷ session 250 (threeOpen ++ enters 2 1 buy 70 5 ++ encodeMessage (Away 0 0 120) ++ pairUp 3 0 1 sell (minus 170) 4 ++ pairUp 4 0 2 buy (pos 150) 5 ++ sweeps) 0 9
-    (accepted 1 7 ++ (answer 8 0 1 1 ∷ generated 4 0 0 100 100 5 ∷ answer 9 0 1 1 ∷ removed 4 0 0 Touched ∷ generated 4 0 0 100 100 5 ∷ []))
     -- "settle once and then generate": order 1 legs in, which leaves 3 of the 5 that order 4's legging orders were made for
     ∷ session 350 (opens 0 ++ opens 1 ++ buysBoth 1 (pos 220) 2 ++ enters 2 0 sell 130 5 ++ enters 3 1 sell 90 5 ++ buysBoth 4 (pos 205) 5 ++ sweeps) 0 7
     (accepted 1 5 ++ (answer 6 0 5 2 ∷ generated 4 0 0 115 115 5 ∷ generated 4 1 0 75 75 5
@@ -573,7 +618,7 @@ worked =
     ∷ session 200 (opens 0 ++ opens 1 ++ buysBoth 1 (pos 205) 8 ++ enters 2 0 sell 130 15 ++ enters 3 1 sell 90 12 ++ sweeps) 0 6
     (accepted 1 5 ++ (answer 6 0 5 2 ∷ generated 1 0 0 115 115 8 ∷ generated 1 1 0 75 75 8 ∷ []))
     -- "Cancel: 71, then removals (4)"
-    ∷ session 200 (legged ++ cancels 3) 0 6 (leggedSheet ++ (answer 6 0 0 0 ∷ cancelled 3 8 ∷ removed 3 0 0 Withdrawn ∷ removed 3 1 0 Withdrawn ∷ []))
+    ∷ next (cancels 3) (answer 6 0 0 0 ∷ cancelled 3 8 ∷ removed 3 0 0 Withdrawn ∷ removed 3 1 0 Withdrawn ∷ [])
     ∷ []
 
 -- Generation ----------------------------------------------------------------------------------
@@ -601,7 +646,7 @@ made =
     -- "p itself": 113 reaches 112, though 110 is shown
     ∷ session 150 (awayAlone 112 ++ buysBoth 2 (pos 203) 3) 0 5 (accepted 1 5)
     ∷ session 150 (awayAlone 114 ++ buysBoth 2 (pos 203) 3) 0 5 (accepted 1 4 ++ (answer 5 0 1 1 ∷ generated 2 0 0 113 110 3 ∷ []))
-    -- "any own price opposite": in the sweep order 3's legging order, at 100, is there again before order 4's turn
+    -- "any own price opposite": in the sweep, which touches too, order 3's legging order, at 100, is there again before order 4's turn
     ∷ session 300 (threeOpen ++ enters 2 1 buy 70 5 ++ encodeMessage (Away 0 80 120) ++ pairUp 3 0 1 sell (minus 170) 4 ++ pairUp 4 0 2 buy (pos 150) 5 ++ sweeps) 0 9
     (accepted 1 6 ++ (answer 7 0 2 1 ∷ generated 3 0 1 100 100 4 ∷ answer 8 0 1 1 ∷ removed 3 0 1 Touched ∷ generated 4 0 0 100 100 5
     ∷ answer 9 0 2 1 ∷ removed 4 0 0 Touched ∷ generated 3 0 1 100 100 4 ∷ []))
@@ -615,39 +660,13 @@ made =
     ∷ answer 6 0 5 2 ∷ removed 3 0 0 Replaced ∷ generated 4 0 0 113 110 8 ∷ removed 3 1 0 Replaced ∷ generated 4 1 0 73 70 8 ∷ []))
     -- "at equal price by class 1 while this is class 0": not by class 0, and not at a better price
     ∷ session 200 (opening ++ twoLeg 3 0 buy 1 buy 0 (pos 205) 8 ++ twoLeg 4 0 buy 1 buy 0 (pos 205) 9) 0 6 (leggedSheet ++ (answer 6 0 5 2 ∷ []))
-    ∷ session 200 (legged ++ twoLeg 4 0 buy 1 buy 0 (pos 200) 9) 0 6 (leggedSheet ++ (answer 6 0 5 2 ∷ []))
+    ∷ next (twoLeg 4 0 buy 1 buy 0 (pos 200) 9) (answer 6 0 5 2 ∷ [])
     -- "Quantity: the lesser of open and size": nothing is open after the cross
     ∷ session 200 (opening ++ encodeMessage (Away 0 100 0) ++ encodeMessage (Away 1 60 0) ++ pairUp 3 0 1 sell (minus 205) 4 ++ buysBoth 4 (pos 205) 4) 0 8
     (accepted 1 8 ++ (crossed 4 3 (pos 205) 4 ∷ []))
     ∷ []
 
 -- Soundness, clause by clause: the venue that `legged` leaves, with one thing changed ---------
-
-open1 : (bid : ℕ) → Listed
-open1 b = record { status = opened; bid = b; offer = 0 }
-
--- regular orders, a complex order at place i, a legging order at place n; series 0, with an away bid, and 1 are open
-legsUp : (bid : ℕ) (orders : List Regular) (i : ℕ) (c : Complex) (n : ℕ) (l : Legging) → Venue
-legsUp b os i c n l = record {
-  regular = os ++ drop (length os) (freshVenue .regular);
-  complex = set (freshVenue .complex) i c;
-  legging = set (freshVenue .legging) n l;
-  series = open1 b ∷ open1 0 ∷ replicate 6 notListed;
-  last = 3;
-}
-
-rest : (id series side price quantity : ℕ) → Regular
-rest i s d p q = record { id = i; series = s; side = d; price = p; quantity = q }
-
-both : (id quantity : ℕ) → Complex
-both i q = record { id = i; series1 = 0; side1 = buy; series2 = 1; side2 = buy; class = 1; limit = pos 205; quantity = q }
-
-leg : (parent price quantity : ℕ) → Legging
-leg i p q = record { parent = i; price = p; quantity = q }
-
--- regular orders 1 and 2
-resting : List Regular
-resting = rest 1 0 sell 130 15 ∷ rest 2 1 sell 90 12 ∷ []
 
 -- these, complex order 3, and a legging order at a place
 standing : (n : ℕ) (l : Legging) → Venue
@@ -761,8 +780,10 @@ allHeld os q ls = record {
 
 pub lefts : List Trial
 lefts =
+    -- what `legged` leaves
+    onward freshVenue 0 200 legged 0 5 leggedSheet leggedVenue
     -- one message: the hit, and the cancel of an order before another
-    upon base 5 200 (enters 4 0 sell 115 5) 0 1
+    ∷ upon base 5 200 (enters 4 0 sell 115 5) 0 1
     (answer 6 0 0 0 ∷ trade 0 1 115 5 4 3 ∷ trade 1 0 90 5 3 2 ∷ pair 3 (pos 205) 5 ∷ removed 3 0 0 Executed ∷ [])
     (withLast (legsUp 0 (rest 1 0 sell 130 15 ∷ rest 2 1 sell 90 7 ∷ []) 0 (both 3 3) 0 noLegging) 4)
     ∷ upon base 5 100 (cancels 1) 0 1 (answer 6 0 0 0 ∷ cancelled 1 15 ∷ removed 3 0 0 OutOfBand ∷ []) (legsUp 0 (rest 2 1 sell 90 12 ∷ []) 0 (both 3 8) 0 noLegging)
@@ -813,5 +834,5 @@ pub trials : List Trial
 trials = starred ++ wrongs ++ choices ++ layouts ++ edges ++ refused ++ met ++ settled ++ worked ++ made ++ faults ++ lefts ++ numbers
 
 pub trials-hold : map outcome trials ≡ map expected trials
-unfolding opened-rules outcome expected spread minus opens enters pairUp buysBoth cancels sweeps opening accepted awayAdded starred together wrongs twoLeg legged leggedSheet quoted relying inAuction restingBefore keptApart choices gone layouts single double edges offers pairs twice refused met settled threeOpen farApart worked awayAlone nearTop made open1 legsUp rest both leg resting standing base atTop isSound unsound locked stale staleComplex staleLegging listing faults lone market spreading quoting idle allHeld lefts named numbers trials
+unfolding opened-rules outcome expected spread open1 legsUp rest both leg resting leggedVenue minus opens enters pairUp buysBoth cancels sweeps opening accepted awayAdded starred together wrongs twoLeg legged leggedSheet quoted relying inAuction restingBefore keptApart choices gone layouts single double edges offers pairs twice refused met settled threeOpen farApart worked awayAlone nearTop made standing base atTop isSound unsound locked stale staleComplex staleLegging listing faults lone market spreading quoting idle allHeld lefts named numbers trials
 trials-hold = refl
