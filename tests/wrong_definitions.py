@@ -1,15 +1,16 @@
 #!/usr/bin/env python3
 """Tries wrong definitions, one at a time, and says which of them the trials refuse.
 
-    tests/wrong_definitions.py [--seed N] [--count K] [--jobs J] [--log FILE] [FILE ...]
+    tests/wrong_definitions.py [--seed N] [--count K] [--skip M] [--jobs J] [--log FILE] [FILE ...]
 
 A list of wrong definitions (tests/wrong_definitions.txt), and then K edits (150) drawn by the seed (1) from all
 places of crates/rules/specs (or of the files named) where an operator, a number, a name or a condition can be
 changed, a conjunct or a step dropped, two steps or two arguments exchanged. Definitions are gone through in an
-order drawn by the seed, one edit of each in a round. Each edit is made in a copy of the crate `rules` that has its
-types, its definitions and its trials alone: no law and no function. There `trials-hold` must fail, over one part of
-the trials (the cheap lists first, then list by list): that is a failure of the whole. An edit that passes all parts is
-checked against the whole from nothing. One that does not compile is not counted, and another is drawn.
+order drawn by the seed, one edit of each in a round. With --skip the list and the first M draws are left out, for a
+run in parts. Each edit is made in a copy of the crate `rules` that has its types, its definitions and its trials
+alone: no law and no function. There `trials-hold` must fail, over one part of the trials (the cheap lists first, then
+list by list): that is a failure of the whole. An edit that passes all parts is checked against the whole from nothing.
+One that does not compile is not counted, and another is drawn.
 Left out: Trials itself, Opened (a list of names), Lengths (bounds of what is written, for the proofs alone), and
 what only states a type. So are edits that tell nothing: the order of a table's rows (`if eqb k 1 .. else if eqb k 2
 ..`), the arguments of `eqb` exchanged, `leb x 0` for `eqb x 0`.
@@ -18,6 +19,7 @@ A line is printed for each edit; the last line has the counts. The status is 1 w
 known to mean the same, where a line of the list fits no definition, or where the check ended without a verdict.
 """
 import argparse
+import itertools
 import os
 import queue
 import random
@@ -453,6 +455,7 @@ def main():
     arguments = argparse.ArgumentParser(description=__doc__, formatter_class=argparse.RawDescriptionHelpFormatter)
     arguments.add_argument("--seed", type=int, default=1)
     arguments.add_argument("--count", type=int, default=150)
+    arguments.add_argument("--skip", type=int, default=0)
     arguments.add_argument("--jobs", type=int, default=2)
     arguments.add_argument("--log", default="")
     arguments.add_argument("files", nargs="*", help="names of files of specs/, as Complex")
@@ -464,13 +467,14 @@ def main():
     tally = Tally(given.count, given.log, same)
     folder = tempfile.mkdtemp(prefix="wrong-definitions-")
     todo = queue.Queue()
-    known = list(fixed_edits(files, [f for f in fixed if not given.files or f[0] in given.files]))
+    wanted = [f for f in fixed if given.skip == 0 and (not given.files or f[0] in given.files)]
+    known = list(fixed_edits(files, wanted))
     for name, why, new in known:
         if new is None:
             tally.told(True, "NO PLACE", f"{name}: {why}", "")
         else:
             todo.put((True, name, f"{name}: {why}", new))
-    draws = drawn(files, given.seed, given.files)
+    draws = itertools.islice(drawn(files, given.seed, given.files), given.skip, None)
     lock = threading.Lock()
 
     def next_edit():

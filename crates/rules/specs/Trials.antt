@@ -21,7 +21,7 @@ use Rattle.rules.specs.declared.Message.the-variants.{Order, TwoLeg, Can
 use Rattle.rules.specs.declared.Cause.the-variants.{Worse, Unpaired, Executed, Withdrawn, OutOfBand, NotOpen, Replaced, Touched}
 use Rattle.rules.specs.declared.Verdict.the-variants.{Stands, Fails}
 use Rattle.rules.specs.Words.{buy, sell, opened, noRegular, noComplex, noLegging, notListed, freshVenue, withRegular, withComplex, withLegging, withSeries, withLast}
-use Rattle.rules.specs.Messages.{encodeMessage}
+use Rattle.rules.specs.Messages.{lengthOf, encodeMessage}
 use Rattle.rules.specs.Records.{Report, answer, trade, pair, generated, removed, crossed, cancelled, encode, encodeAll, recordOf, records, sheet}
 use Rattle.rules.specs.Prices.{inBand}
 use Rattle.rules.specs.Standing.{verdictNumber}
@@ -509,8 +509,9 @@ met =
 
 pub settled : List Trial
 settled =
-    -- "both its series are open (else cause 6)": the first is closed, the second in auction
+    -- "both its series are open (else cause 6)": one is closed; the second is in auction
     next (encodeMessage (Status 0 0)) (answer 6 0 0 0 ∷ removed 3 0 0 NotOpen ∷ removed 3 1 0 NotOpen ∷ [])
+    ∷ next (encodeMessage (Status 1 0)) (answer 6 0 0 0 ∷ removed 3 0 0 NotOpen ∷ removed 3 1 0 NotOpen ∷ [])
     ∷ next (inAuction 1) (answer 6 0 0 0 ∷ removed 3 0 0 NotOpen ∷ removed 3 1 0 NotOpen ∷ [])
     -- "N is in band (else 5)": 205 is not in that of 150
     ∷ next (encodeMessage (Away 0 0 60)) (answer 6 0 0 0 ∷ removed 3 0 0 OutOfBand ∷ removed 3 1 0 OutOfBand ∷ [])
@@ -682,6 +683,14 @@ atTop n p os =
     (record { id = 3; series1 = 0; side1 = sell; series2 = 1; side2 = buy; class = 1; limit = n; quantity = 5 })
     1 (leg 3 p 5)
 
+-- an offer of 130 in series 0 and a bid of 70 in 1
+market : (offered bid : ℕ) → List Regular
+market x y = rest 1 0 sell 130 x ∷ rest 2 1 buy 70 y ∷ []
+
+-- complex order 3 buys in series 0 and sells in 1
+spreading : (n : ℤ) (quantity : ℕ) → Complex
+spreading n q = record { id = 3; series1 = 0; side1 = buy; series2 = 1; side2 = sell; class = 1; limit = n; quantity = q }
+
 -- a sound venue, of this mask and count: a cancel of what does not rest
 isSound : Venue → (m n : ℕ) → Trial
 isSound v m n = upon v 5 100 (cancels 9) 8 1 (answer 6 8 m n ∷ []) v
@@ -712,7 +721,7 @@ pub faults : List Trial
 faults =
     isSound base 1 1 ∷ isSound (standing 2 (leg 3 75 8)) 4 1 ∷ isSound (atTop (minus 99900) 100000 []) 2 1
     ∷ isSound (withLast (legsUp 0 (rest 1 0 buy 130 15 ∷ rest 2 1 buy 90 12 ∷ []) 0 noComplex 0 noLegging) 2) 0 0 ∷ isSound (legsUp 0 [] 0 (both 1 8) 0 noLegging) 0 0
-    ∷ isSound (withLast base 4294967295) 1 1
+    ∷ isSound (withLast base 4294967295) 1 1 ∷ isSound (standing 0 (leg 3 1 8)) 1 1 ∷ isSound (legsUp 0 (market 15 6) 0 (spreading (pos 59) 4) 3 (leg 3 71 4)) 8 1
     -- "fields are in range"
     ∷ unsound (legsUp 0 (rest 1 0 sell 131 15 ∷ rest 2 1 sell 90 12 ∷ []) 0 (both 3 8) 0 (leg 3 115 8))
     ∷ unsound (legsUp 0 resting 0 (record { id = 3; series1 = 0; side1 = buy; series2 = 1; side2 = buy; class = 2; limit = pos 205; quantity = 8 }) 0 (leg 3 115 8))
@@ -751,15 +760,7 @@ faults =
 lone : (id : ℕ) → Venue
 lone i = legsUp 0 [] 0 (record { id = i; series1 = 0; side1 = buy; series2 = 1; side2 = buy; class = 1; limit = pos 100; quantity = 1 }) 0 noLegging
 
--- an offer of 130 in series 0 and a bid of 70 in 1
-market : (offered bid : ℕ) → List Regular
-market x y = rest 1 0 sell 130 x ∷ rest 2 1 buy 70 y ∷ []
-
--- complex order 3 buys in series 0 and sells in 1
-spreading : (quantity : ℕ) → Complex
-spreading q = record { id = 3; series1 = 0; side1 = buy; series2 = 1; side2 = sell; class = 1; limit = pos 60; quantity = q }
-
--- series 0 with a status and a market of 80 to 120
+-- series 0 with a status and away prices
 quoting : (status bid offer : ℕ) → Venue
 quoting x b a = withSeries freshVenue (set (freshVenue .series) 0 (record { status = x; bid = b; offer = a }))
 
@@ -789,7 +790,7 @@ lefts =
     ∷ upon base 5 100 (cancels 1) 0 1 (answer 6 0 0 0 ∷ cancelled 1 15 ∷ removed 3 0 0 OutOfBand ∷ []) (legsUp 0 (rest 2 1 sell 90 12 ∷ []) 0 (both 3 8) 0 noLegging)
     -- a complex order of two sides, in part: 60 is in the band of 60
     ∷ upon (withLast (legsUp 0 (market 15 6) 0 noComplex 0 noLegging) 2) 5 200 (twoLeg 3 0 buy 1 sell 1 (pos 60) 8) 0 1
-    (answer 6 0 0 0 ∷ trade 0 0 130 6 3 1 ∷ trade 1 1 70 6 3 2 ∷ pair 3 (pos 60) 6 ∷ []) (legsUp 0 (rest 1 0 sell 130 9 ∷ []) 0 (spreading 2) 0 noLegging)
+    (answer 6 0 0 0 ∷ trade 0 0 130 6 3 1 ∷ trade 1 1 70 6 3 2 ∷ pair 3 (pos 60) 6 ∷ []) (legsUp 0 (rest 1 0 sell 130 9 ∷ []) 0 (spreading (pos 60) 2) 0 noLegging)
     -- a status leaves the away prices, and these leave the status
     ∷ upon (quoting 0 80 120) 0 20 (opens 0) 0 1 (answer 1 0 0 0 ∷ []) (quoting 1 80 120)
     ∷ upon (quoting 2 80 120) 0 20 (encodeMessage (Away 0 85 115)) 0 1 (answer 1 0 0 0 ∷ []) (quoting 2 85 115)
@@ -818,6 +819,8 @@ numbers =
     -- "At most 128 regular and 32 complex orders rest", "16 places", "8 option series"
     counted (length (freshVenue .regular)) 128 ∷ counted (length (freshVenue .complex)) 32
     ∷ counted (length (freshVenue .legging)) 16 ∷ counted (length (freshVenue .series)) 8
+    -- no length where there is no such kind
+    ∷ counted (lengthOf 0) 0 ∷ counted (lengthOf 7) 0
     -- the numbers of answers that are enums
     ∷ counted (verdictNumber Stands) 0 ∷ counted (verdictNumber (Fails NotOpen)) 6 ∷ counted (decodedNumber (Taken Sweep)) 0 ∷ counted (decodedNumber (Refused 3)) 3
     -- "contracts in a series from that series' 65, as taker or maker; pairs, or paired, from 66; crossed from 70, as taker or maker; cancelled from 71"
@@ -834,5 +837,5 @@ pub trials : List Trial
 trials = starred ++ wrongs ++ choices ++ layouts ++ edges ++ refused ++ met ++ settled ++ worked ++ made ++ faults ++ lefts ++ numbers
 
 pub trials-hold : map outcome trials ≡ map expected trials
-unfolding opened-rules outcome expected spread open1 legsUp rest both leg resting leggedVenue minus opens enters pairUp buysBoth cancels sweeps opening accepted awayAdded starred together wrongs twoLeg legged leggedSheet quoted relying inAuction restingBefore keptApart choices gone layouts single double edges offers pairs twice refused met settled threeOpen farApart worked awayAlone nearTop made standing base atTop isSound unsound locked stale staleComplex staleLegging listing faults lone market spreading quoting idle allHeld lefts named numbers trials
+unfolding opened-rules outcome expected spread open1 legsUp rest both leg resting leggedVenue minus opens enters pairUp buysBoth cancels sweeps opening accepted awayAdded starred together wrongs twoLeg legged leggedSheet quoted relying inAuction restingBefore keptApart choices gone layouts single double edges offers pairs twice refused met settled threeOpen farApart worked awayAlone nearTop made standing base atTop isSound unsound locked stale staleComplex staleLegging listing market spreading faults lone quoting idle allHeld lefts named numbers trials
 trials-hold = refl
