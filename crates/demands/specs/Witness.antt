@@ -57,13 +57,13 @@ session =
 unfoldable pub later : List Given
 later =
     record { room = 100; bytes = encodeMessage (Away 0 115 0) }
-    ∷ record { room = 100; bytes = encodeMessage (Away 1 85 0) }
+    ∷ record { room = 100; bytes = encodeMessage (Away 1 85 95) }
     -- a cross: 3
     ∷ record { room = 100; bytes = encodeMessage (both 8 1 0 (negsuc 204) 1) }
     -- 11 bytes hold no answer: this call ends with 10 before its message
     ∷ record { room = 11; bytes = encodeMessage Sweep }
     ∷ record { room = 100; bytes = encodeMessage Sweep }
-    -- the other leg's offer is cancelled: 2, and 5
+    -- the other leg's offer is cancelled, and an away one keeps the limit in band: 2
     ∷ record { room = 100; bytes = encodeMessage (Cancel 2) }
     -- refused: a torn message, and an id that is not above the last
     ∷ record { room = 100; bytes = 9 ∷ 0 ∷ 6 ∷ [] }
@@ -129,7 +129,7 @@ pub record Witness : Type 0 where
   pub crosses : ofKind 70 (atEnd .reports) ≡ crossed 8 3 (negsuc 204) 1 ∷ []
   pub cancels : ofKind 71 (atEnd .reports) ≡ cancelled 5 1 ∷ cancelled 6 1 ∷ cancelled 7 2 ∷ cancelled 2 7 ∷ []
   -- each removal cause 1 to 8
-  pub removals : causes (atEnd .reports) ≡ 3 ∷ 3 ∷ 1 ∷ 6 ∷ 6 ∷ 5 ∷ 5 ∷ 8 ∷ 8 ∷ 7 ∷ 7 ∷ 4 ∷ 4 ∷ 3 ∷ 3 ∷ 2 ∷ 5 ∷ []
+  pub removals : causes (atEnd .reports) ≡ 3 ∷ 3 ∷ 1 ∷ 6 ∷ 6 ∷ 5 ∷ 5 ∷ 8 ∷ 8 ∷ 7 ∷ 7 ∷ 4 ∷ 4 ∷ 3 ∷ 3 ∷ 2 ∷ []
   -- complex order 3 was accepted, by what Demand 3 reads off the answers
   pub accepted : Accepted atEnd (both 3 0 1 (pos 205) 8)
   -- 8 entered = 5 paired + 1 crossed + 0 cancelled + 2 still open

@@ -15,13 +15,13 @@ use Rattle.rules.specs.Standing.{bothOpen, shownWell, pairs, verdictOf}
 
 pub record Passes (v : Venue) (c : Complex) (s d : ℕ) (l : Legging) : Type 0 where
   pub shown : shownWell v s d (l .price) ≡ true
-  pub pair : pairs v c s d (l .price) (l .quantity) ≡ true
   pub band : inBand v c (c .limit) ≡ true
+  pub pair : pairs v c s d (l .price) (l .quantity) ≡ true
   pub opens : bothOpen v c ≡ true
 
 abbrev pub ladder : (a b c d : Bool) → Verdict
 ladder a b c d =
-    if not a then Fails Worse else if not b then Fails Unpaired else if not c then Fails OutOfBand else if not d then Fails NotOpen else Stands
+    if not a then Fails Worse else if not b then Fails OutOfBand else if not c then Fails Unpaired else if not d then Fails NotOpen else Stands
 
 pub fails-never {ℓ} : {A : Type ℓ} {x : _} → Fails x ≡ Stands → A
 fails-never h = let z : _≡_ {A = ℕ} 0 1 = cc in absurd (omega arith)
@@ -43,8 +43,8 @@ pub passed : {v : Venue} {c : Complex} {s d : ℕ} {l : Legging} → verdictOf v
 unfolding verdictOf
 passed h =
     let a = all4 _ _ _ _ h in
-    record { shown = a .p1; pair = a .p2; band = a .p3; opens = a .p4 }
+    record { shown = a .p1; band = a .p2; pair = a .p3; opens = a .p4 }
 
 pub passing : {v : Venue} {c : Complex} {s d : ℕ} {l : Legging} → Passes v c s d l → verdictOf v c s d l ≡ Stands
 unfolding verdictOf
-passing p = rw (p .shown, p .pair, p .band, p .opens)
+passing p = rw (p .shown, p .band, p .pair, p .opens)

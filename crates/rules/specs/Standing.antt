@@ -69,12 +69,13 @@ pairs v c s d p k =
     && leZ (legNet c s d p (otherClear v c s)) (c .limit)
     && leb k (otherSize v c s)
 
--- The test of a legging order l of c at side d of series s: "with the lowest cause that applies". "N is in band (else 5)"; (C)(4)(v)
+-- The test of a legging order l of c at side d of series s. 01: "failures go together, with the lowest cause that applies". Request (a) of 02 overtakes the
+-- rank: "Cause 5 now comes before cause 2; the order is 1, 5, 2, 6." "N is in band (else 5)"; (C)(4)(v)
 unfoldable pub verdictOf : Venue → Complex → (series side : ℕ) → Legging → Verdict
 verdictOf v c s d l =
     if not (shownWell v s d (l .price)) then Fails Worse
-    else if not (pairs v c s d (l .price) (l .quantity)) then Fails Unpaired
     else if not (inBand v c (c .limit)) then Fails OutOfBand
+    else if not (pairs v c s d (l .price) (l .quantity)) then Fails Unpaired
     else if not (bothOpen v c) then Fails NotOpen
     else Stands
 

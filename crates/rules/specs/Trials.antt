@@ -298,9 +298,12 @@ choices =
     -- "best own price first, then regular by id"
     session 150 (opens 0 ++ enters 1 0 sell 110 5 ++ enters 2 0 sell 105 5 ++ enters 3 0 sell 105 5 ++ enters 4 0 buy 110 12) 0 5
     (accepted 1 4 ++ (answer 5 0 0 0 ∷ trade 0 0 105 5 4 2 ∷ trade 0 0 105 5 4 3 ∷ trade 0 0 110 2 4 1 ∷ []))
-    -- "with the lowest cause that applies": 2 and 5 do at place 0, 5 alone at place 2
+    -- request (a), "Cause 5 now comes before cause 2": both apply at place 0, 5 alone at place 2
     ∷ session 200 (legged ++ cancels 2) 0 6
-    (leggedSheet ++ (answer 6 0 0 0 ∷ cancelled 2 12 ∷ removed 3 0 0 Unpaired ∷ removed 3 1 0 OutOfBand ∷ []))
+    (leggedSheet ++ (answer 6 0 0 0 ∷ cancelled 2 12 ∷ removed 3 0 0 OutOfBand ∷ removed 3 1 0 OutOfBand ∷ []))
+    -- the same with an away offer that keeps N in band: 2 alone at place 0, and place 2 stands
+    ∷ session 200 (opening ++ encodeMessage (Away 1 0 95) ++ buysBoth 3 (pos 205) 8 ++ cancels 2) 0 7
+    (accepted 1 5 ++ (answer 6 0 5 2 ∷ generated 3 0 0 115 115 8 ∷ generated 3 1 0 75 75 8 ∷ answer 7 0 4 1 ∷ cancelled 2 12 ∷ removed 3 0 0 Unpaired ∷ []))
     -- "take the highest N, then earliest, at the resting limit", "whichever leg is named first"
     ∷ session 200 (quoted ++ buysBoth 1 (pos 190) 5 ++ buysBoth 2 (pos 195) 5 ++ twoLeg 3 1 buy 0 buy 0 (pos 195) 5 ++ pairUp 4 0 1 sell (minus 190) 12) 0 8
     (accepted 1 8 ++ (crossed 4 2 (minus 195) 5 ∷ crossed 4 3 (minus 195) 5 ∷ crossed 4 1 (minus 190) 2 ∷ []))
@@ -528,8 +531,8 @@ settled =
     ++ twoLeg 3 0 sell 1 buy 1 (minus 35) 6 ++ enters 4 0 buy 125 8) 0 7
     (accepted 1 4 ++ (answer 5 0 1 1 ∷ generated 2 0 0 115 115 8 ∷ answer 6 0 3 2 ∷ generated 3 0 1 125 125 6
     ∷ answer 7 0 0 0 ∷ trade 0 0 125 6 4 3 ∷ trade 1 0 90 6 3 1 ∷ pair 3 (minus 35) 6 ∷ removed 3 0 1 Executed ∷ removed 2 0 0 Worse ∷ []))
-    -- 1 and 5 at place 0, 2 and 5 at place 2: no offer is left in series 0, and 130 is bid
-    ∷ next (enters 4 0 buy 130 20) (answer 6 0 0 0 ∷ trade 0 0 130 15 4 1 ∷ removed 3 0 0 Worse ∷ removed 3 1 0 Unpaired ∷ [])
+    -- 1 and 5 at place 0, 5 and 2 at place 2: no offer is left in series 0, and 130 is bid
+    ∷ next (enters 4 0 buy 130 20) (answer 6 0 0 0 ∷ trade 0 0 130 15 4 1 ∷ removed 3 0 0 Worse ∷ removed 3 1 0 OutOfBand ∷ [])
     ∷ []
 
 -- Complex, sweep, cancel ----------------------------------------------------------------------
