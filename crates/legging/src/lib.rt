@@ -71,7 +71,7 @@ pub fn can_pair(b: &[u32], taken: Taken, c: Complex, s: u8, d: u8, l: Legging) -
     false
 }
 
-// The test of a legging order of c at side d of series s, by rising cause.
+// The test of a legging order of c at side d of series s: of the causes that apply, the first of 1, 5, 2, 6.
 pub fn test_order(b: &[u32], sides: LegSides, c: Complex, s: u8, d: u8, l: Legging) -> Verdict
     requires { ⌜ (length (now b) ≡ size) × (SidesOf sides c s d (venueOf (now b) .regular)) × (LegsIn c) ⌝ }
     ensures { λ r. ⌜ r ≡ verdictOf (venueOf (now (b .entry))) c s d l ⌝ }
@@ -80,11 +80,11 @@ pub fn test_order(b: &[u32], sides: LegSides, c: Complex, s: u8, d: u8, l: Leggi
         return Verdict::Fails(Cause::Worse);
     }
     let taken = sides.taken;
-    if !can_pair(b, taken, c, s, d, l) {
-        return Verdict::Fails(Cause::Unpaired);
-    }
     if !levels::in_band(b, taken, c, limit_of(c)) {
         return Verdict::Fails(Cause::OutOfBand);
+    }
+    if !can_pair(b, taken, c, s, d, l) {
+        return Verdict::Fails(Cause::Unpaired);
     }
     if !levels::both_open(b, c) {
         return Verdict::Fails(Cause::NotOpen);
