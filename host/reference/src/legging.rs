@@ -44,17 +44,17 @@ pub enum Verdict {
 
 impl Books {
     /// The standing test of the order at a filled place; of the causes that
-    /// apply, the lowest.
+    /// apply, the first of 1, 5, 2, 6.
     pub fn verdict(&self, place: Place) -> Verdict {
         let order = &self.standing[place];
         if self.is_worse_than_book(place, displayed(place, order.price as i32) as u32) {
             return Verdict::Fails(Cause::WorseThanBook);
         }
-        if !self.other_leg_holds(place, order) {
-            return Verdict::Fails(Cause::OtherLeg);
-        }
         if !self.is_in_band(order.limit, [place, order.other]) {
             return Verdict::Fails(Cause::OutOfBand);
+        }
+        if !self.other_leg_holds(place, order) {
+            return Verdict::Fails(Cause::OtherLeg);
         }
         if !self.is_series_open(place) || !self.is_series_open(order.other) {
             return Verdict::Fails(Cause::NotOpen);

@@ -14,6 +14,7 @@ use std::fmt::{self, Display};
 pub enum Rare {
     FailingHides,
     HiddenWouldStand,
+    BandAndNet,
     ReplacedByClass,
     ReplacedByPrice,
     OwnReplacedInSweep,
@@ -33,7 +34,7 @@ pub enum Rare {
 }
 
 impl Rare {
-    pub const ALL: [(Rare, &'static str); 18] = [
+    pub const ALL: [(Rare, &'static str); 19] = [
         (
             Rare::FailingHides,
             "settling: a failing order hides another's clear price",
@@ -42,6 +43,7 @@ impl Rare {
             Rare::HiddenWouldStand,
             "  of these, the other would have stood without it",
         ),
+        (Rare::BandAndNet, "settling: causes 5 and 2 both apply"),
         (
             Rare::ReplacedByClass,
             "replacement by class at an equal price",
@@ -112,7 +114,7 @@ pub struct Coverage {
     causes: [u64; 9],
     answers: [u64; 11],
     declined: [u64; 9],
-    rare: [u64; 18],
+    rare: [u64; 19],
 }
 
 impl Coverage {
@@ -162,7 +164,8 @@ impl Coverage {
         self.add(Rare::BothBooksFull, regular && complex);
     }
 
-    /// Failing orders that hide a clear price from other failing orders.
+    /// Failing orders to which two causes apply, and those that hide a clear
+    /// price from other failing orders.
     fn observe_settling(&mut self, phases: &Phases, after: &Venue) {
         let view = &phases.at_settling;
         for (place, _) in &phases.settled {
@@ -170,6 +173,8 @@ impl Coverage {
                 continue;
             };
             let leg = leg_at(*place);
+            let causes = view.failing_causes(leg, parent);
+            self.add(Rare::BandAndNet, causes.starts_with(&[5, 2]));
             let legs = legs_of(parent);
             let taken = opposite(if legs[0] == leg { legs[1] } else { legs[0] });
             let hider = place_of(taken);

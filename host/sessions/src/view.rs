@@ -166,7 +166,8 @@ impl View {
             .is_some_and(|level| beats(leg, level.price, shown))
     }
 
-    /// The causes for which the order at a place fails its test, lowest first.
+    /// The causes for which the order at a place fails its test, in their
+    /// rank: 1, 5, 2, 6.
     pub fn failing_causes(&self, leg: Leg, parent: &Complex) -> Vec<u8> {
         let Some(order) = self.standing(leg) else {
             return Vec::new();
@@ -180,8 +181,8 @@ impl View {
         });
         let conditions = [
             (1, !self.worse_than_book(leg, displayed(leg, price))),
-            (2, other_leg_holds),
             (5, self.in_band(i64::from(parent.limit), legs)),
+            (2, other_leg_holds),
             (6, self.is_open(leg) && self.is_open(other)),
         ];
         let failing = conditions.iter().filter(|(_, holds)| !holds);

@@ -124,11 +124,33 @@ fn cause_2_when_the_size_falls_below_the_quantity() {
 }
 
 #[test]
-fn cause_2_is_told_where_5_applies_too() {
-    // Without offers in series 1, place 0 has no clear price and neither a band.
+fn cause_2_when_the_clear_price_goes_and_an_away_price_keeps_the_band() {
+    let text = with_offers(
+        "away 1 bid 0 offer 95\n\
+         complex 3 buy 0 buy 1 class 1 net 205 quantity 8\ncancel 2\n",
+    );
+    assert_eq!(last_lines(&text), ["64 7 0 4 1", "71 2 12", "68 3 0 0 2"]);
+}
+
+#[test]
+fn cause_5_is_told_where_2_applies_too() {
+    // Without offers in series 1, place 0 has no clear price and neither a band;
+    // place 2 still pairs.
     let text = with_legging("cancel 2\n");
-    let expected = ["64 6 0 0 0", "71 2 12", "68 3 0 0 2", "68 3 1 0 5"];
+    let expected = ["64 6 0 0 0", "71 2 12", "68 3 0 0 5", "68 3 1 0 5"];
     assert_eq!(last_lines(&text), expected);
+    // A better offer in series 1 is too small for place 0; whether the limit
+    // leaves the band with it is for the away offer in series 0 to say.
+    let small_offer = |away: u32| {
+        with_offers(&format!(
+            "away 0 bid 0 offer {away}\n\
+             complex 3 buy 0 buy 1 class 1 net 195 quantity 8\n\
+             order 4 sell 2 series 1 at 70\n"
+        ))
+    };
+    let expected = ["64 7 0 0 0", "68 3 0 0 5", "68 3 1 0 5"];
+    assert_eq!(last_lines(&small_offer(110)), expected);
+    assert_eq!(last_lines(&small_offer(120)), ["64 7 0 4 1", "68 3 0 0 2"]);
 }
 
 #[test]
