@@ -2,7 +2,7 @@
 use mathlib.Core.Bool.{Bool, not, _&&_, _||_}
 use Prim.Native.Nat.{ℕ, zero, suc, min}
 use lib.Dec.{ltb, eqb}
-use lib.IntN.{pos, negℤ, _+ℤ_}
+use lib.IntN.{ℤ, pos, negℤ, _+ℤ_}
 use lib.Signed.{leZ, ltZ}
 use Rattle.rules.specs.declared.Complex.{Complex}
 use Rattle.rules.specs.declared.Venue.{Venue}
@@ -31,6 +31,14 @@ reversed a b =
     || (eqb (a .series1) (b .series2) && eqb (a .side1) (opposite (b .side2))
     && eqb (a .series2) (b .series1) && eqb (a .side2) (opposite (b .side1)))
 
+-- Request (b): "A cross is made only if neither party's net is above what best regular prices of both legs would give that party, where both legs
+-- have one." For the party c, dealt at net t.
+unfoldable pub respectsLegs : Venue → Complex → (t : ℤ) → Bool
+respectsLegs v c t =
+    let a = bestRegular v (c .series1) (opposite (c .side1)) in
+    let b = bestRegular v (c .series2) (opposite (c .side2)) in
+    not (held a && held b) || leZ t (net c a b)
+
 -- "N + their N ≥ 0, both nets in band": the resting order m is a candidate for c. Dealt "at the resting limit", m's net is its N and c's is minus that.
 unfoldable pub crosses : Venue → Complex → Complex → Bool
 crosses v c m =
@@ -39,6 +47,8 @@ crosses v c m =
     && leZ (pos 0) (c .limit +ℤ m .limit)
     && inBand v c (negℤ (m .limit))
     && inBand v m (m .limit)
+    && respectsLegs v c (negℤ (m .limit))
+    && respectsLegs v m (m .limit)
 
 -- "take the highest N, then earliest"
 unfoldable pub limitThenId : Complex → Complex → Bool

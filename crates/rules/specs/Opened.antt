@@ -11,7 +11,7 @@ use Rattle.rules.specs.Standing.{findComplex, parentOf, hasLeg, otherLeg
 use Rattle.rules.specs.Trading.{lessRegular, lessComplex, fillRegular, fillComplex, freeRegular, freeComplex, putRegular, putComplex, tradeWith, take, pairOff}
 use Rattle.rules.specs.Order.{isMet, priceThenId, firstMet, leggingFirst, meet, hit, meetTurn, enterRegular, order}
 use Rattle.rules.specs.Generation.{asPrice, legPrice, newLegging, placed, reachesAny, givesWay, othersStand, makes, make, generateLeg, generate}
-use Rattle.rules.specs.Complex.{anyClosed, reversed, crosses, limitThenId, cross, crossTurn, touches, takenSide, touch, legsIn, legIn, legInTurn, work, complex, nextAbove, each, sweep, cancelRegular, cancelComplex, regularPlace, complexPlace, restsRegular, restsComplex, cancel}
+use Rattle.rules.specs.Complex.{anyClosed, reversed, respectsLegs, crosses, limitThenId, cross, crossTurn, touches, takenSide, touch, legsIn, legIn, legInTurn, work, complex, nextAbove, each, sweep, cancelRegular, cancelComplex, regularPlace, complexPlace, restsRegular, restsComplex, cancel}
 use Rattle.rules.specs.Places.{blankRegular, blankComplex, blankLegging, keep, packed, closeGaps, arranged}
 use Rattle.rules.specs.Refusals.{torn, isKind, isLength, regularInRange, complexInRange, inRange, decoded, idTooLow, onClosed, full, unknown, refusalOf, refusal}
 use Rattle.rules.specs.Step.{setAway, setStatus, perform, accept, mask, filled, answered, step}
@@ -20,5 +20,5 @@ use Rattle.rules.specs.Calls.{called, exceeds, ends, after, runFrom, run
 use Rattle.rules.specs.Sums.{total, contracts, contractsAt, paired, crossedFor, cancelledOf, openIn}
 
 unfoldable pub opened-rules : Unit {0}
-unfolding all placeWhere ranked firstFrom opposite signed within isId isSeries isSide isClass isStatus isQuantity isAway isPrice increment isRegularPrice isLimit placeOf freshVenue regularAt complexAt leggingAt statusOf withRegular withComplex withLegging withSeries withLast isRegularOf isComplexOf earlier earlierComplex u8At u16At u32At asSigned lengthField kindField bytes asUnsigned framed lengthOf orderAt twoLegAt messageOf encodeMessage encode encodeAll sheet causeOf recordOf recordsFrom records nothing report _⟫_ repeat better betterOf reaches restsAt shown showsAt showsFor bestIn sizeIn bestRegular bestSize ownPrice bestOwn clearPrice displayed away marketBest ratio1 ratio2 weighed net taken1 taken2 nearNet inBand stay goes stayers leavers remove failIf removeOf findComplex parentOf hasLeg otherLeg otherClear otherSize bothOpen shownWell pairs verdictOf verdict stands settle lessRegular lessComplex fillRegular fillComplex freeRegular freeComplex putRegular putComplex tradeWith take pairOff isMet priceThenId firstMet leggingFirst meet hit meetTurn enterRegular order asPrice legPrice newLegging placed reachesAny givesWay othersStand makes make generateLeg generate anyClosed reversed crosses limitThenId cross crossTurn touches takenSide touch legsIn legIn legInTurn work complex nextAbove each sweep cancelRegular cancelComplex regularPlace complexPlace restsRegular restsComplex cancel blankRegular blankComplex blankLegging keep packed closeGaps arranged torn isKind isLength regularInRange complexInRange inRange decoded idTooLow onClosed full unknown refusalOf refusal setAway setStatus perform accept mask filled answered step apart listedInRange leggingSound leggingsSound regularsSound complexesSound idsDistinct sound called exceeds ends after runFrom run oneFrom one total contracts contractsAt paired crossedFor cancelledOf openIn
+unfolding all placeWhere ranked firstFrom opposite signed within isId isSeries isSide isClass isStatus isQuantity isAway isPrice increment isRegularPrice isLimit placeOf freshVenue regularAt complexAt leggingAt statusOf withRegular withComplex withLegging withSeries withLast isRegularOf isComplexOf earlier earlierComplex u8At u16At u32At asSigned lengthField kindField bytes asUnsigned framed lengthOf orderAt twoLegAt messageOf encodeMessage encode encodeAll sheet causeOf recordOf recordsFrom records nothing report _⟫_ repeat better betterOf reaches restsAt shown showsAt showsFor bestIn sizeIn bestRegular bestSize ownPrice bestOwn clearPrice displayed away marketBest ratio1 ratio2 weighed net taken1 taken2 nearNet inBand stay goes stayers leavers remove failIf removeOf findComplex parentOf hasLeg otherLeg otherClear otherSize bothOpen shownWell pairs verdictOf verdict stands settle lessRegular lessComplex fillRegular fillComplex freeRegular freeComplex putRegular putComplex tradeWith take pairOff isMet priceThenId firstMet leggingFirst meet hit meetTurn enterRegular order asPrice legPrice newLegging placed reachesAny givesWay othersStand makes make generateLeg generate anyClosed reversed respectsLegs crosses limitThenId cross crossTurn touches takenSide touch legsIn legIn legInTurn work complex nextAbove each sweep cancelRegular cancelComplex regularPlace complexPlace restsRegular restsComplex cancel blankRegular blankComplex blankLegging keep packed closeGaps arranged torn isKind isLength regularInRange complexInRange inRange decoded idTooLow onClosed full unknown refusalOf refusal setAway setStatus perform accept mask filled answered step apart listedInRange leggingSound leggingsSound regularsSound complexesSound idsDistinct sound called exceeds ends after runFrom run oneFrom one total contracts contractsAt paired crossedFor cancelledOf openIn
 opened-rules = tt

@@ -354,6 +354,43 @@ choices =
     ∷ answer 14 0 24 2 ∷ crossed 5 6 (minus 215) 3 ∷ removed 5 1 1 Executed ∷ removed 6 1 0 Executed ∷ generated 5 1 1 121 125 1 ∷ []))
     ∷ []
 
+-- Request (b) -----------------------------------------------------------------------------------
+
+-- an away market in series 0 and 1, for the band
+quotes : (bid0 offer0 bid1 offer1 : ℕ) → List ℕ
+quotes a b c d = opens 0 ++ opens 1 ++ encodeMessage (Away 0 a b) ++ encodeMessage (Away 1 c d)
+
+-- Bids of 100 and p, then complex order 3 would buy both at 150, and complex order 4 sells both at N or better. No offers but away.
+bidding : (p : ℕ) (n : ℤ) → List ℕ
+bidding p n = quotes 0 101 0 51 ++ enters 1 0 buy 100 5 ++ enters 2 1 buy p 5 ++ buysBoth 3 (pos 150) 5 ++ pairUp 4 0 1 sell n 3
+
+-- Complex orders 1 and 2 would buy both, at N and at 190; then offers of 100 and 90 come.
+asked : (n : ℤ) → List ℕ
+asked n = quotes 95 105 95 105 ++ buysBoth 1 n 5 ++ twoLeg 2 1 buy 0 buy 1 (pos 190) 5 ++ enters 3 0 sell 100 5 ++ enters 4 1 sell 90 5
+
+-- Complex order 1 would buy both at 208; then offers of 110 and 100 come. The away offers net 205.
+dearer : List ℕ
+dearer = quotes 100 107 95 98 ++ buysBoth 1 (pos 208) 5 ++ enters 2 0 sell 110 5 ++ enters 3 1 sell 100 5
+
+-- "neither party's net is above what best regular prices of both legs would give that party, where both legs have one"
+pub respecting : List Trial
+respecting =
+    -- a party's net is the one dealt at, not its limit: -150 is what the bids give the taker, whose limit is -140; equal is not above
+    session 200 (bidding 50 (minus 140)) 0 8 (accepted 1 8 ++ (crossed 4 3 (minus 150) 3 ∷ []))
+    -- each party by itself: the taker's legs have bids, which give it -155, and the maker's have no offers. It legs in
+    ∷ session 200 (bidding 55 (minus 150)) 0 8
+    (accepted 1 8 ++ (trade 0 1 100 3 4 1 ∷ trade 1 1 55 3 4 2 ∷ pair 4 (minus 155) 3 ∷ []))
+    -- before the highest N is taken: at 195 order 1 would pay more than the offers' 190, so order 2 crosses, at 190 itself
+    ∷ session 200 (asked (pos 195) ++ pairUp 5 0 1 sell (minus 185) 3) 0 9 (accepted 1 9 ++ (crossed 5 2 (minus 190) 3 ∷ []))
+    ∷ session 200 (asked (pos 190) ++ pairUp 5 0 1 sell (minus 185) 3) 0 9 (accepted 1 9 ++ (crossed 5 1 (minus 190) 3 ∷ []))
+    -- "A resting order that fails it may still cross in a later sweep": an offer is gone, and one leg has none
+    ∷ session 250 (asked (pos 195) ++ pairUp 5 0 1 sell (minus 195) 3 ++ cancels 3 ++ sweeps) 0 11
+    (accepted 1 9 ++ (answer 10 0 0 0 ∷ cancelled 3 5 ∷ answer 11 0 1 1 ∷ crossed 1 5 (pos 195) 3 ∷ generated 2 0 0 100 100 5 ∷ []))
+    -- best regular prices: neither the away offers nor order 5's legging order at 105 make the offers' 210 less
+    ∷ session 250 (dearer ++ opens 2 ++ enters 4 2 sell 50 5 ++ twoLeg 5 0 sell 2 buy 1 (minus 55) 5 ++ pairUp 6 0 1 sell (minus 208) 3) 0 11
+    (accepted 1 9 ++ (answer 10 0 2 1 ∷ generated 5 0 1 105 105 5 ∷ answer 11 0 2 1 ∷ crossed 6 1 (minus 208) 3 ∷ []))
+    ∷ []
+
 -- Bytes ---------------------------------------------------------------------------------------
 
 -- a legging order of complex order 67,305,985 gone from side 1 of series 6, by the cause's number
@@ -837,8 +874,8 @@ numbers =
     ∷ []
 
 pub trials : List Trial
-trials = starred ++ wrongs ++ choices ++ layouts ++ edges ++ refused ++ met ++ settled ++ worked ++ made ++ faults ++ lefts ++ numbers
+trials = starred ++ wrongs ++ choices ++ respecting ++ layouts ++ edges ++ refused ++ met ++ settled ++ worked ++ made ++ faults ++ lefts ++ numbers
 
 pub trials-hold : map outcome trials ≡ map expected trials
-unfolding opened-rules outcome expected spread open1 legsUp rest both leg resting leggedVenue minus opens enters pairUp buysBoth cancels sweeps opening accepted awayAdded starred together wrongs twoLeg legged leggedSheet quoted relying inAuction restingBefore keptApart choices gone layouts single double edges offers pairs twice refused met settled threeOpen farApart worked awayAlone nearTop made standing base atTop isSound unsound locked stale staleComplex staleLegging listing market spreading faults lone quoting idle allHeld lefts named numbers trials
+unfolding opened-rules outcome expected spread open1 legsUp rest both leg resting leggedVenue minus opens enters pairUp buysBoth cancels sweeps opening accepted awayAdded starred together wrongs twoLeg legged leggedSheet quoted relying inAuction restingBefore keptApart choices quotes bidding asked dearer respecting gone layouts single double edges offers pairs twice refused met settled threeOpen farApart worked awayAlone nearTop made standing base atTop isSound unsound locked stale staleComplex staleLegging listing market spreading faults lone quoting idle allHeld lefts named numbers trials
 trials-hold = refl
