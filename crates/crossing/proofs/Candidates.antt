@@ -6,14 +6,14 @@ use Prim.Native.Nat.{ℕ, _-_}
 use native.Mathlib.Nat.{sub-zero}
 use borrow.Author.Tests.{eq-eqb, ne-eqb, not-false}
 use lib.Dec.{eqb, ltb}
-use lib.IntN.{pos, negℤ, _+ℤ_}
+use lib.IntN.{ℤ, pos, negℤ, _+ℤ_}
 use lib.Signed.{leZ, ltZ}
 use Rattle.rules.specs.declared.Complex.{Complex}
 use Rattle.rules.specs.declared.Venue.{Venue}
 use Rattle.rules.specs.Base.{ranked, firstFrom, first}
 use Rattle.rules.specs.Words.{opposite, noComplex, earlierComplex}
-use Rattle.rules.specs.Prices.{inBand}
-use Rattle.rules.specs.Complex.{reversed, crosses, limitThenId}
+use Rattle.rules.specs.Prices.{bestRegular, ratio1, ratio2, weighed, net, inBand}
+use Rattle.rules.specs.Complex.{reversed, respectsLegs, crosses, limitThenId}
 use Rattle.rules.proofs.Tests.{not-out}
 use Rattle.places.specs.Layout.{upto, complexesUsed, complexIn, venueOf}
 use Rattle.crossing.specs.declared.Pick.{Pick}
@@ -53,9 +53,36 @@ module _ (v : Venue) (c m : Complex) where
         unfolding crosses
         cross-out h = rw (ne-eqb (m .quantity) 0 n, r, l, h)
 
-        pub cross-last : inBand v c (negℤ (m .limit)) ≡ true → (t : Bool) → t ≡ inBand v m (m .limit) → t ≡ crosses v c m
-        unfolding crosses
-        cross-last h t e = rw (ne-eqb (m .quantity) 0 n, r, l, h) e
+        module _ (i : inBand v c (negℤ (m .limit)) ≡ true) where
+          pub cross-far : inBand v m (m .limit) ≡ false → false ≡ crosses v c m
+          unfolding crosses
+          cross-far h = rw (ne-eqb (m .quantity) 0 n, r, l, i, h)
+
+          module _ (j : inBand v m (m .limit) ≡ true) where
+            pub cross-above : respectsLegs v c (negℤ (m .limit)) ≡ false → false ≡ crosses v c m
+            unfolding crosses
+            cross-above h = rw (ne-eqb (m .quantity) 0 n, r, l, i, j, h)
+
+            pub cross-last : respectsLegs v c (negℤ (m .limit)) ≡ true → (t : Bool) → t ≡ respectsLegs v m (m .limit) → t ≡ crosses v c m
+            unfolding crosses
+            cross-last h t e = rw (ne-eqb (m .quantity) 0 n, r, l, i, j, h) e
+
+-- The legs' prices ----------------------------------------------------------------------------
+
+-- best regular prices a and b, against the net t
+module _ (v : Venue) (c : Complex) (t : ℤ) (a : ℕ) (ea : a ≡ bestRegular v (c .series1) (opposite (c .side1))) where
+  pub legs-none1 : a ≡ 0 → true ≡ respectsLegs v c t
+  unfolding respectsLegs
+  legs-none1 h = rw (← ea, eq-eqb a 0 h)
+
+  module _ (n : a ≡ 0 → ⊥) (b : ℕ) (eb : b ≡ bestRegular v (c .series2) (opposite (c .side2))) where
+    pub legs-none2 : b ≡ 0 → true ≡ respectsLegs v c t
+    unfolding respectsLegs
+    legs-none2 h = rw (← ea, ne-eqb a 0 n, ← eb, eq-eqb b 0 h)
+
+    pub legs-net : (b ≡ 0 → ⊥) → (y x : ℤ) → y ≡ t → x ≡ weighed 1 (c .side1) a +ℤ weighed 1 (c .side2) b → leZ y x ≡ respectsLegs v c t
+    unfolding respectsLegs net ratio1 ratio2
+    legs-net m y x ey ex = rw (← ea, ne-eqb a 0 n, ← eb, ne-eqb b 0 m, ← ex, ey)
 
 -- Rank ----------------------------------------------------------------------------------------
 

@@ -11,10 +11,11 @@ ghost use lib.Dec.{eqb};
 ghost use lib.IntN.{ℤ, pos, natAbs, negℤ, _+ℤ_};
 ghost use lib.ListN.{length};
 ghost use lib.Signed.{leZ};
+ghost use Rattle.rules.specs.declared.Venue.{Venue};
 ghost use Rattle.rules.specs.Base.{ranked, first};
 ghost use Rattle.rules.specs.Words.{opposite, complexAt};
 ghost use Rattle.rules.specs.Effects.{repeat};
-ghost use Rattle.rules.specs.Complex.{reversed, crosses, limitThenId, cross, crossTurn, touches, touch};
+ghost use Rattle.rules.specs.Complex.{reversed, respectsLegs, crosses, limitThenId, cross, crossTurn, touches, touch};
 ghost use Rattle.wire.specs.Seen.{seen};
 ghost use Rattle.wire.specs.Stage.{stage, _does_};
 ghost use Rattle.places.specs.Layout.{size, complexesUsed, venueOf, Right, SameCounts};
@@ -70,6 +71,21 @@ fn limits_meet(c: Complex, m: Complex) -> bool
     0 <= x + y
 }
 
+// Dealt at this net, c pays no more than at the best regular prices, where both its legs have one; taken has the levels that they take.
+fn respects_legs(taken: Taken, c: Complex, net: i64) -> bool
+    ensures { λ r. ⌜ ((v : Venue) → TakenOf taken c (v .regular) → r ≡ respectsLegs v c net) ⌝ }
+{
+    let one = taken.first;
+    if one.price == 0 {
+        return true;
+    }
+    let two = taken.second;
+    if two.price == 0 {
+        return true;
+    }
+    net <= rules::net_of(c.side1, one.price, c.side2, two.price)
+}
+
 // The resting order m is a candidate for c.
 pub fn can_cross(b: &[u32], c: Complex, m: Complex) -> bool
     requires { ⌜ (length (now b) ≡ size) × (Right (now b)) × (LegsIn c) × (LegsIn m) ⌝ }
@@ -84,12 +100,20 @@ pub fn can_cross(b: &[u32], c: Complex, m: Complex) -> bool
     if !limits_meet(c, m) {
         return false;
     }
+    let paid = net_against(m);
     let by_taker = levels::taken_at(b, c);
-    if !levels::in_band(b, by_taker, c, net_against(m)) {
+    if !levels::in_band(b, by_taker, c, paid) {
         return false;
     }
+    let limit = limit_of(m);
     let by_maker = levels::taken_at(b, m);
-    levels::in_band(b, by_maker, m, limit_of(m))
+    if !levels::in_band(b, by_maker, m, limit) {
+        return false;
+    }
+    if !respects_legs(by_taker, c, paid) {
+        return false;
+    }
+    respects_legs(by_maker, m, limit)
 }
 
 // a goes before m: the higher limit, then the earlier.
