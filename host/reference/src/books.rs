@@ -135,6 +135,13 @@ impl Books {
         Some(signed(legs[0], first) + signed(legs[1], second))
     }
 
+    /// Net of the best regular prices that the legs would take, where both have one.
+    pub fn regular_net(&self, legs: [Place; 2]) -> Option<i32> {
+        let first = self.regular.best(facing(legs[0]))?;
+        let second = self.regular.best(facing(legs[1]))?;
+        Some(signed(legs[0], first) + signed(legs[1], second))
+    }
+
     pub fn is_in_band(&self, net: i32, legs: [Place; 2]) -> bool {
         match self.market_net(legs) {
             Some(market) => in_band(net, market, BAND_PERCENT),

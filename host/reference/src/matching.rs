@@ -230,7 +230,7 @@ impl Books {
             if best.is_some_and(|(_, limit)| maker.limit <= limit) {
                 continue;
             }
-            if self.cross_in_band(taker, maker) {
+            if self.cross_in_band(taker, maker) && self.cross_respects_legs(taker, maker) {
                 best = Some((at, maker.limit));
             }
         }
@@ -244,6 +244,15 @@ impl Books {
             return false;
         };
         in_band(-maker.limit, taken, BAND_PERCENT) && in_band(maker.limit, made, BAND_PERCENT)
+    }
+
+    /// Neither net dealt at is above what the best regular prices of both legs
+    /// would give that order, where both legs have one.
+    fn cross_respects_legs(&self, taker: &ComplexOrder, maker: &ComplexOrder) -> bool {
+        let not_above = |net: i32, order: &ComplexOrder| {
+            self.regular_net(order.legs).is_none_or(|best| net <= best)
+        };
+        not_above(-maker.limit, taker) && not_above(maker.limit, maker)
     }
 
     fn cross_with(&mut self, index: usize, at: usize, report: &mut Report) {

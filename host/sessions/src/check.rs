@@ -4,7 +4,7 @@
 use crate::ledger::Ledger;
 use crate::message::Leg;
 use crate::message::Message;
-use crate::model::{refusal, work};
+use crate::model::{refusal, work, AboveLegs};
 use crate::phases::{expected_generation, expected_settling, phases, Attempt, Phases};
 use crate::record::Record;
 use crate::sound::fault;
@@ -23,10 +23,12 @@ pub struct Step<'a> {
     pub records: &'a [Record],
 }
 
-/// What an accepted message did to the legging orders.
+/// What an accepted message did to the legging orders, and crosses not made.
 pub struct Seen<'a> {
     pub phases: Phases<'a>,
     pub attempts: Vec<Attempt>,
+    /// Who was passed over in crossing for the prices of a party's legs alone.
+    pub above: Vec<AboveLegs>,
 }
 
 /// Follows one list of messages from a fresh venue.
@@ -74,7 +76,7 @@ impl Checker {
         }
         let after = &step.returned.venue;
         let phases = phases(step.before, after, effects)?;
-        check_work(step, &phases)?;
+        let above = check_work(step, &phases)?;
         let expected = expected_settling(&phases.at_settling, after);
         if expected != phases.settled {
             return Err(format!(
@@ -93,12 +95,16 @@ impl Checker {
         if view.legging != after.legging {
             return Err("the records do not lead to the legging orders left".to_string());
         }
-        Ok(Seen { phases, attempts })
+        Ok(Seen {
+            phases,
+            attempts,
+            above,
+        })
     }
 }
 
 /// The work's records and the books left are those of the plain model.
-fn check_work(step: &Step, phases: &Phases) -> Result<(), String> {
+fn check_work(step: &Step, phases: &Phases) -> Result<Vec<AboveLegs>, String> {
     let after = &step.returned.venue;
     let expected = work(step.before, step.message);
     if expected.records != phases.work {
@@ -115,7 +121,7 @@ fn check_work(step: &Step, phases: &Phases) -> Result<(), String> {
     if !same {
         return Err("the work left other books".to_string());
     }
-    Ok(())
+    Ok(expected.above)
 }
 
 /// The first record is the message's 64, and there is no other.

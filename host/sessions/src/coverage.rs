@@ -2,6 +2,7 @@
 
 use crate::check::{Seen, Step};
 use crate::message::{Leg, Message};
+use crate::model::AboveLegs;
 use crate::phases::Phases;
 use crate::record::Record;
 use crate::view::{beats, find_complex, held_complex, held_regular, leg_at, legs_of};
@@ -22,6 +23,9 @@ pub enum Rare {
     HitInFull,
     CrossInSweep,
     CrossOfTwoWithLegging,
+    TakerAboveLegs,
+    MakerAboveLegs,
+    AboveLegsInSweep,
     TouchWithoutPair,
     SeveralRounds,
     RegularBookFull,
@@ -34,7 +38,7 @@ pub enum Rare {
 }
 
 impl Rare {
-    pub const ALL: [(Rare, &'static str); 19] = [
+    pub const ALL: [(Rare, &'static str); 22] = [
         (
             Rare::FailingHides,
             "settling: a failing order hides another's clear price",
@@ -56,6 +60,18 @@ impl Rare {
         (
             Rare::CrossOfTwoWithLegging,
             "cross of two orders that both have legging orders",
+        ),
+        (
+            Rare::TakerAboveLegs,
+            "no cross: the taker's net above its best regular prices",
+        ),
+        (
+            Rare::MakerAboveLegs,
+            "no cross: the maker's net above its best regular prices",
+        ),
+        (
+            Rare::AboveLegsInSweep,
+            "no cross in a sweep: a net above best regular prices",
         ),
         (Rare::TouchWithoutPair, "touch that no pair follows"),
         (Rare::SeveralRounds, "legging in of several rounds"),
@@ -114,7 +130,7 @@ pub struct Coverage {
     causes: [u64; 9],
     answers: [u64; 11],
     declined: [u64; 9],
-    rare: [u64; 19],
+    rare: [u64; 22],
 }
 
 impl Coverage {
@@ -154,6 +170,7 @@ impl Coverage {
         self.observe_settling(&seen.phases, &step.returned.venue);
         self.observe_generation(step, &seen.phases);
         self.observe_work(step);
+        self.observe_above(step, &seen.above);
     }
 
     fn observe_books(&mut self, venue: &Venue) {
@@ -270,6 +287,14 @@ impl Coverage {
         self.add(Rare::TouchWithoutPair, touched && pairs == 0);
         let complex = matches!(step.message, Message::Complex { .. });
         self.add(Rare::SeveralRounds, complex && pairs > 1);
+    }
+
+    fn observe_above(&mut self, step: &Step, above: &[AboveLegs]) {
+        for passed in above {
+            self.add(Rare::TakerAboveLegs, passed.party == passed.taker);
+            self.add(Rare::MakerAboveLegs, passed.party == passed.maker);
+            self.add(Rare::AboveLegsInSweep, *step.message == Message::Sweep);
+        }
     }
 
     /// A trade of an arriving order with a legging order.

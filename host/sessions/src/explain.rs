@@ -1,8 +1,8 @@
 //! What happened, message by message, and why a legging order was not made.
 
-use crate::check::{Checker, Step};
+use crate::check::{Checker, Seen, Step};
 use crate::message::{split, Leg, Message};
-use crate::phases::Attempt;
+use crate::model::AboveLegs;
 use crate::record::{read_report, Record};
 use reference::{one_message, Venue};
 
@@ -25,19 +25,24 @@ pub fn explain(list: &[u8]) -> Result<String, String> {
         };
         let seen = checker.check(&step);
         let seen = seen.map_err(|what| format!("message {}: {what}", before + 1))?;
-        let attempts = seen.map_or(Vec::new(), |seen| seen.attempts);
-        text.push_str(&explain_message(before + 1, &step, &attempts));
+        text.push_str(&explain_message(before + 1, &step, seen.as_ref()));
         venue = returned.venue;
     }
     Ok(text)
 }
 
-fn explain_message(number: usize, step: &Step, attempts: &[Attempt]) -> String {
+fn explain_message(number: usize, step: &Step, seen: Option<&Seen>) -> String {
     let mut text = format!("{number}: {}\n", step.message);
     for record in step.records {
         text.push_str(&format!("    {}\n", in_words(record)));
     }
-    for attempt in attempts {
+    let Some(seen) = seen else {
+        return text;
+    };
+    for passed in &seen.above {
+        text.push_str(&format!("    {}\n", passed_in_words(passed)));
+    }
+    for attempt in &seen.attempts {
         if let Err(declined) = &attempt.outcome {
             let leg = leg_name(attempt.leg);
             let id = attempt.id;
@@ -47,6 +52,19 @@ fn explain_message(number: usize, step: &Step, attempts: &[Attempt]) -> String {
         }
     }
     text
+}
+
+fn passed_in_words(passed: &AboveLegs) -> String {
+    let AboveLegs {
+        taker,
+        maker,
+        party,
+        net,
+        legs,
+    } = passed;
+    format!(
+        "no cross of {taker} with {maker}: net {net} of order {party} is above the {legs} of its best regular prices"
+    )
 }
 
 fn side_name(side: u8) -> &'static str {

@@ -93,16 +93,31 @@ fn is_closed(venue: &Venue, leg: Leg) -> bool {
     venue.series[usize::from(leg.series)].status == 0
 }
 
+/// A party that kept two orders from crossing: its net would have been above
+/// what the best regular prices of its legs give it.
+#[derive(Clone, Copy, Debug, PartialEq, Eq)]
+pub struct AboveLegs {
+    pub taker: u32,
+    pub maker: u32,
+    /// The party, the net it would have dealt at, and that of its legs.
+    pub party: u32,
+    pub net: i64,
+    pub legs: i64,
+}
+
 /// An accepted message's work: the venue at its settling, and the records.
 pub struct Work {
     pub venue: Venue,
     pub records: Vec<Record>,
+    /// Who was passed over in crossing for the prices of a party's legs alone.
+    pub above: Vec<AboveLegs>,
 }
 
 pub fn work(before: &Venue, message: &Message) -> Work {
     let mut work = Work {
         venue: before.clone(),
         records: Vec::new(),
+        above: Vec::new(),
     };
     match *message {
         Message::Order {
@@ -329,22 +344,60 @@ impl Work {
         while self.leg_in(id) {}
     }
 
-    fn cross(&mut self, id: u32) -> bool {
-        let Some(taker) = self.find(id) else {
-            return false;
-        };
+    /// The resting orders reversed to this one whose limits meet its own, with
+    /// both nets in band.
+    fn reversed_in_band(&self, taker: &Complex) -> Vec<Complex> {
         let view = View::of(&self.venue);
-        let wanted = legs_of(&taker).map(opposite);
-        let best = held_complex(&self.venue)
+        let wanted = legs_of(taker).map(opposite);
+        held_complex(&self.venue)
             .filter(|maker| {
                 let legs = legs_of(maker);
                 legs == wanted || legs == [wanted[1], wanted[0]]
             })
             .filter(|maker| taker.limit + maker.limit >= 0)
-            .filter(|maker| view.in_band(-i64::from(maker.limit), legs_of(&taker)))
+            .filter(|maker| view.in_band(-i64::from(maker.limit), legs_of(taker)))
             .filter(|maker| view.in_band(i64::from(maker.limit), legs_of(maker)))
+            .copied()
+            .collect()
+    }
+
+    /// The party, the taker first, whose net at the maker's limit is above what
+    /// the best regular prices of both its legs give it, where both have one.
+    fn above_legs(&self, taker: &Complex, maker: &Complex) -> Option<AboveLegs> {
+        let view = View::of(&self.venue);
+        let limit = i64::from(maker.limit);
+        let parties = [(taker, -limit), (maker, limit)];
+        parties.into_iter().find_map(|(party, net)| {
+            let legs = view.regular_net(legs_of(party))?;
+            (net > legs).then_some(AboveLegs {
+                taker: taker.id,
+                maker: maker.id,
+                party: party.id,
+                net,
+                legs,
+            })
+        })
+    }
+
+    fn cross(&mut self, id: u32) -> bool {
+        let Some(taker) = self.find(id) else {
+            return false;
+        };
+        let mut candidates = self.reversed_in_band(&taker);
+        let above = candidates
+            .iter()
+            .filter_map(|maker| self.above_legs(&taker, maker));
+        let above: Vec<AboveLegs> = above.collect();
+        candidates.retain(|maker| above.iter().all(|passed| passed.maker != maker.id));
+        for passed in above {
+            if !self.above.contains(&passed) {
+                self.above.push(passed);
+            }
+        }
+        let best = candidates
+            .into_iter()
             .min_by_key(|maker| (-maker.limit, maker.id));
-        let Some(maker) = best.copied() else {
+        let Some(maker) = best else {
             return false;
         };
         let quantity = taker.quantity.min(maker.quantity);

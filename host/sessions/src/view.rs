@@ -157,6 +157,12 @@ impl View {
             .is_some_and(|market| 100 * net <= 100 * market + 5 * market.abs())
     }
 
+    /// The net of the best regular prices that the legs would take.
+    pub fn regular_net(&self, legs: [Leg; 2]) -> Option<i64> {
+        let taken = |leg| Some(sign(leg) * self.best(opposite(leg))?.price);
+        Some(taken(legs[0])? + taken(legs[1])?)
+    }
+
     pub fn is_open(&self, leg: Leg) -> bool {
         self.series[usize::from(leg.series)].status == 1
     }

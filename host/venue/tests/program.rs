@@ -323,6 +323,25 @@ fn explain_tells_why_a_legging_order_was_not_made() {
 }
 
 #[test]
+fn explain_tells_whose_legs_forbid_a_cross() {
+    let base = "open 0\nopen 1\naway 0 bid 95 offer 105\naway 1 bid 95 offer 105\n\
+        complex 1 buy 0 buy 1 class 1 net 195 quantity 5\n";
+    let offers = "order 2 sell 5 series 0 at 100\norder 3 sell 5 series 1 at 90\n";
+    let bids = "order 2 buy 5 series 0 at 100\norder 3 buy 5 series 1 at 100\n";
+    let sell = "complex 4 sell 0 sell 1 class 1 net -195 quantity 5\n";
+    let cases = [
+        (offers, "no cross of 4 with 1: net 195 of order 1 is above the 190 of its best regular prices"),
+        (bids, "no cross of 4 with 1: net -195 of order 4 is above the -200 of its best regular prices"),
+    ];
+    for (orders, expected) in cases {
+        let text = format!("{base}{orders}{sell}");
+        let told = good(&["explain", "--text"], text.as_bytes());
+        let told = String::from_utf8(told).unwrap();
+        assert!(told.contains(expected), "{told}");
+    }
+}
+
+#[test]
 fn explain_tells_refusals_in_words() {
     let told = good(&["explain", "--text"], b"cancel 9\nraw 09 00 06\n");
     let told = String::from_utf8(told).unwrap();

@@ -305,6 +305,71 @@ fn cross_is_only_with_every_side_reversed_and_limits_that_meet() {
     assert_eq!(last_lines(&text), ["64 7 0 0 0"]);
 }
 
+/// Bids of 100 and of `bid`, offers away only; order 3 would buy both at 150.
+fn with_bids(bid: u32, rest: &str) -> String {
+    format!(
+        "open 0\nopen 1\naway 0 bid 0 offer 101\naway 1 bid 0 offer 51\n\
+         order 1 buy 5 series 0 at 100\norder 2 buy 5 series 1 at {bid}\n\
+         complex 3 buy 0 buy 1 class 0 net 150 quantity 5\n{rest}"
+    )
+}
+
+#[test]
+fn cross_asks_the_legs_of_the_net_dealt_at_not_of_the_limit() {
+    let text = with_bids(50, "complex 4 sell 0 sell 1 class 0 net -140 quantity 3\n");
+    assert_eq!(last_lines(&text), ["64 8 0 0 0", "70 4 3 -150 3"]);
+}
+
+#[test]
+fn cross_asks_the_legs_of_each_party_by_itself() {
+    let text = with_bids(55, "complex 4 sell 0 sell 1 class 0 net -150 quantity 3\n");
+    let expected = [
+        "64 8 0 0 0",
+        "65 0 1 100 3 4 1",
+        "65 1 1 55 3 4 2",
+        "66 4 -155 3",
+    ];
+    assert_eq!(last_lines(&text), expected);
+}
+
+/// Orders 1 and 2 would buy both, at 195 and at 190; then offers of 100 and 90.
+fn with_dear_buyers(rest: &str) -> String {
+    format!(
+        "{QUOTES}complex 1 buy 0 buy 1 class 1 net 195 quantity 5\n\
+         complex 2 buy 1 buy 0 class 1 net 190 quantity 5\n\
+         order 3 sell 5 series 0 at 100\norder 4 sell 5 series 1 at 90\n{rest}"
+    )
+}
+
+#[test]
+fn cross_passes_over_a_net_above_the_legs_before_it_takes_the_highest() {
+    let text = with_dear_buyers("complex 5 sell 0 sell 1 class 1 net -185 quantity 3\n");
+    assert_eq!(last_lines(&text), ["64 9 0 0 0", "70 5 2 -190 3"]);
+}
+
+#[test]
+fn cross_that_the_legs_forbid_is_made_in_a_later_sweep() {
+    let sell = "complex 5 sell 0 sell 1 class 1 net -195 quantity 3\n";
+    assert_eq!(last_lines(&with_dear_buyers(sell)), ["64 9 0 0 0"]);
+    let text = with_dear_buyers(&format!("{sell}cancel 3\nsweep\n"));
+    let expected = ["64 11 0 1 1", "70 1 5 195 3", "67 2 0 0 100 100 5"];
+    assert_eq!(last_lines(&text), expected);
+}
+
+#[test]
+fn cross_asks_no_away_price_and_no_legging_price_of_the_legs() {
+    // Regular offers net 210, away offers 205, with the legging order at 105 too.
+    let text = "open 0\nopen 1\nopen 2\n\
+        away 0 bid 100 offer 107\naway 1 bid 95 offer 98\n\
+        complex 1 buy 0 buy 1 class 1 net 208 quantity 5\n\
+        order 2 sell 5 series 0 at 110\norder 3 sell 5 series 1 at 100\n\
+        order 4 sell 5 series 2 at 50\n\
+        complex 5 sell 0 buy 2 class 1 net -55 quantity 5\n";
+    assert_eq!(last_lines(text), ["64 10 0 2 1", "67 5 0 1 105 105 5"]);
+    let text = format!("{text}complex 6 sell 0 sell 1 class 1 net -208 quantity 3\n");
+    assert_eq!(last_lines(&text), ["64 11 0 2 1", "70 6 1 -208 3"]);
+}
+
 #[test]
 fn cross_removes_the_legging_orders_of_the_maker() {
     let text = with_offers(
