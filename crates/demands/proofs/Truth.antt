@@ -106,17 +106,17 @@ numbers-of v n (m ∷ ms) = ap (λ (l : List ℕ). suc n ∷ l) (numbers-of (ven
 -- What callers see ----------------------------------------------------------------------------
 
 -- told the truth so far, upon a sound venue
-record Told (s : Seen) : Type 0 where
-  told : answers (s .reports) ≡ answersOf freshVenue 0 (s .messages)
-  messages : length (s .messages) ≡ s .done
-  venue : s .venue ≡ leaves freshVenue 0 (s .messages)
-  sound : SoundVenue (s .venue)
+pub record Told (s : Seen) : Type 0 where
+  pub told : answers (s .reports) ≡ answersOf freshVenue 0 (s .messages)
+  pub messages : length (s .messages) ≡ s .done
+  pub venue : s .venue ≡ leaves freshVenue 0 (s .messages)
+  pub sound : SoundVenue (s .venue)
 
-start-told : Told start
+pub start-told : Told start
 unfolding start answers answersOf leaves
 start-told = record { told = refl; messages = refl; venue = refl; sound = fresh-sound }
 
-more-told : (s : Seen) (bs : List ℕ) → Told s → FourBytes (suc (s .done)) → Told (onto s bs (step (s .venue) (suc (s .done)) bs .effect))
+pub more-told : (s : Seen) (bs : List ℕ) → Told s → FourBytes (suc (s .done)) → Told (onto s bs (step (s .venue) (suc (s .done)) bs .effect))
 unfolding onto venueAfter
 more-told s bs t few =
     let v = s .venue in

@@ -1,9 +1,11 @@
--- No effect writes an answer, upon any venue: the only one is the message's own.
+-- What effects write, upon any venue: what holds of every record but answers and crosses, holds of all that they write but in crossing. And no effect
+-- writes an answer: the only one is the message's own.
 use mathlib.Core.Path.{subst}
 use mathlib.Core.Bool.{_&&_}
 use mathlib.Core.List.{List, [], _∷_}
 use Prim.Native.Nat.{ℕ, zero, suc}
 use lib.IntN.{ℤ}
+use Rattle.rules.specs.declared.Regular.{Regular}
 use Rattle.rules.specs.declared.Complex.{Complex}
 use Rattle.rules.specs.declared.Legging.{Legging}
 use Rattle.rules.specs.declared.Venue.{Venue}
@@ -29,6 +31,137 @@ use Rattle.rules.proofs.Widths.{each-append}
 
 -- Effects -------------------------------------------------------------------------------------
 
+-- P holds of every record that is neither an answer nor a cross
+pub record Others (P : Report → Type 0) : Type 0 where
+  pub trades : (s d p k x m : ℕ) → P (trade s d p k x m)
+  pub pairs : (id : ℕ) (n : ℤ) (k : ℕ) → P (pair id n k)
+  pub made : (id s d p x k : ℕ) → P (generated id s d p x k)
+  pub removals : (id s d : ℕ) (c : Cause) → P (removed id s d c)
+  pub cancels : (id k : ℕ) → P (cancelled id k)
+
+-- P holds of the records of an effect
+abbrev pub All : (P : Report → Type 0) → Effect → Type 0
+All P e = ForAll P (e .reports)
+
+module _ (P : Report → Type 0) (others : Others P) where
+  pub all-nothing : (v : Venue) → All P (nothing v)
+  unfolding nothing
+  all-nothing v = tt
+
+  pub all-then : (e : Effect) (f : Venue → Effect) → All P e → All P (f (e .venue)) → All P (e ⟫ f)
+  unfolding _⟫_
+  all-then e f h k = each-append P (e .reports) (f (e .venue) .reports) h k
+
+  all-report : (r : Report) → P r → (v : Venue) → All P (report r v)
+  unfolding report
+  all-report r h v = (h, tt)
+
+  -- Loops
+  abbrev AllTurn : Turn → Type 0
+  AllTurn ended = Unit {0}
+  AllTurn (turned e) = All P e
+
+  all-repeat : (turn : Venue → Turn) → ((v : Venue) → AllTurn (turn v)) → (fuel : ℕ) (v : Venue) → All P (repeat fuel turn v)
+  all-repeat turn ok zero v = unfold repeat in (all-nothing v)
+  all-repeat turn ok (suc fuel) v =
+      repeat-by (All P) fuel turn v (λ _. all-nothing v) (λ e is. all-then e _ (subst AllTurn is (ok v)) (all-repeat turn ok fuel _))
+
+  pub all-each : (f : ℕ → Venue → Effect) → ((i : ℕ) (v : Venue) → All P (f i v)) → (fuel id : ℕ) (v : Venue) → All P (each fuel f id v)
+  all-each f ok zero id v = unfold each in (all-nothing v)
+  all-each f ok (suc fuel) id v =
+      each-by (All P) fuel f id v (λ _. all-nothing v) (λ i c _ _. all-then (f i v) _ (ok i v) (all-each f ok fuel (c .id) _))
+
+  -- Everything but crossing
+  all-goes : (n : ℕ) (x : Verdict) (l : Legging) → ForAll P (goes n x l)
+  unfolding goes
+  all-goes n Stands l = tt
+  all-goes n (Fails c) l = if-by (ForAll P) (held (l .quantity)) (λ _. (others .removals _ _ _ c, tt)) (λ _. tt)
+
+  all-leavers : (f : ℕ → Legging → Verdict) (n : ℕ) (ls : List Legging) → ForAll P (leavers f n ls)
+  unfolding leavers
+  all-leavers f n [] = tt
+  all-leavers f n (l ∷ ls) = each-append P (goes n (f n l) l) (leavers f (suc n) ls) (all-goes n (f n l) l) (all-leavers f (suc n) ls)
+
+  all-remove : (f : ℕ → Legging → Verdict) (v : Venue) → All P (remove f v)
+  unfolding remove
+  all-remove f v = all-leavers f 0 (v .legging)
+
+  pub all-removeOf : (id : ℕ) (c : Cause) (v : Venue) → All P (removeOf id c v)
+  unfolding removeOf
+  all-removeOf id c v = all-remove _ v
+
+  pub all-settle : (v : Venue) → All P (settle v)
+  unfolding settle
+  all-settle v = all-remove (verdict v) v
+
+  all-trade : (x d i k : ℕ) (v : Venue) → All P (tradeWith x d i k v)
+  unfolding tradeWith
+  all-trade x d i k v = all-report (trade _ d _ k x _) (others .trades _ d _ k x _) (fillRegular i k v)
+
+  all-take : (x s d p fuel k : ℕ) (v : Venue) → All P (take fuel x s d p k v)
+  all-take x s d p zero k v = unfold take in (all-nothing v)
+  all-take x s d p (suc fuel) k v =
+      take-by (All P) fuel x s d p k v (λ _. all-nothing v) (λ _ _. all-nothing v)
+      (λ _ i o _. all-then _ _ (all-trade x d i _ v) (all-take x s d p fuel _ _))
+
+  all-pair : (i id : ℕ) (n : ℤ) (k : ℕ) (v : Venue) → All P (pairOff i id n k v)
+  unfolding pairOff
+  all-pair i id n k v = all-then _ _ (all-report (pair id n k) (others .pairs id n k) _) (all-removeOf id _ _)
+
+  all-hit : (i : ℕ) (l : Legging) (k : ℕ) (v : Venue) → All P (hit i l k v)
+  unfolding hit
+  all-hit i l k v =
+      all-then _ _ (all-then _ _ (all-report (trade _ _ _ k _ _) (others .trades _ _ _ k _ _) _) (all-take _ _ _ _ k k _)) (all-pair _ _ _ k _)
+
+  all-meet : (i j k : ℕ) (v : Venue) → All P (meet i j k v)
+  unfolding meet
+  all-meet i j k v = all-trade _ _ j k _
+
+  all-meetTurn : (i : ℕ) (v : Venue) → AllTurn (meetTurn i v)
+  all-meetTurn i v = meetTurn-by AllTurn i v (λ _. tt) (λ _ _ _. tt) (λ _ _ _. all-hit i _ _ v) (λ _ j m _ _. all-meet i j _ v)
+
+  pub all-order : (o : Regular) (v : Venue) → All P (order o v)
+  unfolding order enterRegular
+  all-order o v = all-then _ _ (all-repeat _ (all-meetTurn _) _ _) (all-settle _)
+
+  pub all-touch : (i : ℕ) (v : Venue) → All P (touch i v)
+  unfolding touch
+  all-touch i v = if-by (All P) (touches v (complexAt v i)) (λ _. all-remove _ v) (λ _. all-nothing v)
+
+  all-legIn : (i a b k : ℕ) (v : Venue) → All P (legIn i a b k v)
+  unfolding legIn
+  all-legIn i a b k v = all-then _ _ (all-then _ _ (all-take _ _ _ _ k k v) (all-take _ _ _ _ k k _)) (all-pair i _ _ k _)
+
+  all-legInTurn : (i : ℕ) (v : Venue) → AllTurn (legInTurn i v)
+  unfolding legInTurn
+  all-legInTurn i v = if-by AllTurn (legsIn v (complexAt v i) _ _) (λ _. all-legIn i _ _ _ v) (λ _. tt)
+
+  pub all-legging : (i fuel : ℕ) (v : Venue) → All P (repeat fuel (legInTurn i) v)
+  all-legging i fuel v = all-repeat _ (all-legInTurn i) fuel v
+
+  all-make : (c : Complex) (s d : ℕ) (v : Venue) → All P (make c s d v)
+  unfolding make
+  all-make c s d v = all-then _ _ (all-remove _ v) (all-report (generated _ _ _ _ _ _) (others .made _ _ _ _ _ _) _)
+
+  all-leg : (c : Complex) (s d : ℕ) (v : Venue) → All P (generateLeg c s d v)
+  unfolding generateLeg
+  all-leg c s d v = if-by (All P) (held (c .quantity) && makes v c s d) (λ _. all-make c s d v) (λ _. all-nothing v)
+
+  pub all-generate : (i : ℕ) (v : Venue) → All P (generate i v)
+  unfolding generate
+  all-generate i v = all-then _ _ (all-leg _ _ _ v) (all-leg _ _ _ _)
+
+  pub all-cancel : (id : ℕ) (v : Venue) → All P (cancel id v)
+  unfolding cancel cancelRegular cancelComplex
+  all-cancel id v =
+      all-then _ settle
+      (if-by (All P) (restsRegular v id)
+      (λ _. all-report (cancelled _ _) (others .cancels _ _) _)
+      (λ _. all-then _ _ (all-report (cancelled _ _) (others .cancels _ _) _) (all-removeOf _ _ _)))
+      (all-settle _)
+
+-- No answers ----------------------------------------------------------------------------------
+
 -- a record that is no answer
 abbrev pub NoAnswer : Report → Type 0
 NoAnswer (answer number refusal mask count) = ⊥
@@ -41,144 +174,39 @@ NoAnswer (cancelled id quantity) = Unit {0}
 
 -- no answer among the records of an effect
 abbrev pub Quiet : Effect → Type 0
-Quiet e = ForAll NoAnswer (e .reports)
+Quiet = All NoAnswer
+
+no-answer : Others NoAnswer
+no-answer = record { trades = λ _ _ _ _ _ _. tt; pairs = λ _ _ _. tt; made = λ _ _ _ _ _ _. tt; removals = λ _ _ _ _. tt; cancels = λ _ _. tt }
 
 pub quiet-nothing : (v : Venue) → Quiet (nothing v)
-unfolding nothing
-quiet-nothing v = tt
-
-quiet-then : (e : Effect) (f : Venue → Effect) → Quiet e → Quiet (f (e .venue)) → Quiet (e ⟫ f)
-unfolding _⟫_
-quiet-then e f h k = each-append NoAnswer (e .reports) (f (e .venue) .reports) h k
-
-quiet-report : (r : Report) → NoAnswer r → (v : Venue) → Quiet (report r v)
-unfolding report
-quiet-report r h v = (h, tt)
-
--- Removals ------------------------------------------------------------------------------------
-
-quiet-goes : (n : ℕ) (x : Verdict) (l : Legging) → ForAll NoAnswer (goes n x l)
-unfolding goes
-quiet-goes n Stands l = tt
-quiet-goes n (Fails c) l = if-by (ForAll NoAnswer) (held (l .quantity)) (λ _. (tt, tt)) (λ _. tt)
-
-quiet-leavers : (f : ℕ → Legging → Verdict) (n : ℕ) (ls : List Legging) → ForAll NoAnswer (leavers f n ls)
-unfolding leavers
-quiet-leavers f n [] = tt
-quiet-leavers f n (l ∷ ls) = each-append NoAnswer (goes n (f n l) l) (leavers f (suc n) ls) (quiet-goes n (f n l) l) (quiet-leavers f (suc n) ls)
-
-quiet-remove : (f : ℕ → Legging → Verdict) (v : Venue) → Quiet (remove f v)
-unfolding remove
-quiet-remove f v = quiet-leavers f 0 (v .legging)
-
-quiet-removeOf : (id : ℕ) (c : Cause) (v : Venue) → Quiet (removeOf id c v)
-unfolding removeOf
-quiet-removeOf id c v = quiet-remove _ v
-
-quiet-settle : (v : Venue) → Quiet (settle v)
-unfolding settle
-quiet-settle v = quiet-remove (verdict v) v
-
--- Trading -------------------------------------------------------------------------------------
-
-quiet-trade : (x d i k : ℕ) (v : Venue) → Quiet (tradeWith x d i k v)
-unfolding tradeWith
-quiet-trade x d i k v = quiet-report (trade _ d _ k x _) tt (fillRegular i k v)
-
-quiet-take : (x s d p fuel k : ℕ) (v : Venue) → Quiet (take fuel x s d p k v)
-quiet-take x s d p zero k v = unfold take in (quiet-nothing v)
-quiet-take x s d p (suc fuel) k v =
-    take-by Quiet fuel x s d p k v (λ _. quiet-nothing v) (λ _ _. quiet-nothing v)
-    (λ _ i o _. quiet-then _ _ (quiet-trade x d i _ v) (quiet-take x s d p fuel _ _))
-
-quiet-pair : (i id : ℕ) (n : ℤ) (k : ℕ) (v : Venue) → Quiet (pairOff i id n k v)
-unfolding pairOff
-quiet-pair i id n k v = quiet-then _ _ (quiet-report (pair id n k) tt _) (quiet-removeOf id _ _)
-
-quiet-hit : (i : ℕ) (l : Legging) (k : ℕ) (v : Venue) → Quiet (hit i l k v)
-unfolding hit
-quiet-hit i l k v = quiet-then _ _ (quiet-then _ _ (quiet-report (trade _ _ _ k _ _) tt _) (quiet-take _ _ _ _ k k _)) (quiet-pair _ _ _ k _)
-
-quiet-meet : (i j k : ℕ) (v : Venue) → Quiet (meet i j k v)
-unfolding meet
-quiet-meet i j k v = quiet-trade _ _ j k _
+quiet-nothing v = all-nothing NoAnswer no-answer v
 
 quiet-cross : (i j k : ℕ) (v : Venue) → Quiet (cross i j k v)
 unfolding cross
-quiet-cross i j k v = quiet-then _ _ (quiet-then _ _ (quiet-report (crossed _ _ _ k) tt _) (quiet-removeOf _ _ _)) (quiet-removeOf _ _ _)
+quiet-cross i j k v =
+    all-then NoAnswer no-answer _ _ (all-then NoAnswer no-answer _ _ (all-report NoAnswer no-answer (crossed _ _ _ k) tt _) (all-removeOf NoAnswer no-answer _ _ _)) (all-removeOf NoAnswer no-answer _ _ _)
 
-quiet-legIn : (i a b k : ℕ) (v : Venue) → Quiet (legIn i a b k v)
-unfolding legIn
-quiet-legIn i a b k v = quiet-then _ _ (quiet-then _ _ (quiet-take _ _ _ _ k k v) (quiet-take _ _ _ _ k k _)) (quiet-pair i _ _ k _)
-
-quiet-touch : (i : ℕ) (v : Venue) → Quiet (touch i v)
-unfolding touch
-quiet-touch i v = if-by Quiet (touches v (complexAt v i)) (λ _. quiet-remove _ v) (λ _. quiet-nothing v)
-
--- Loops ---------------------------------------------------------------------------------------
-
-abbrev QuietTurn : Turn → Type 0
-QuietTurn ended = Unit {0}
-QuietTurn (turned e) = Quiet e
-
-quiet-repeat : (turn : Venue → Turn) → ((v : Venue) → QuietTurn (turn v)) → (fuel : ℕ) (v : Venue) → Quiet (repeat fuel turn v)
-quiet-repeat turn ok zero v = unfold repeat in (quiet-nothing v)
-quiet-repeat turn ok (suc fuel) v =
-    repeat-by Quiet fuel turn v (λ _. quiet-nothing v) (λ e is. quiet-then e _ (subst QuietTurn is (ok v)) (quiet-repeat turn ok fuel _))
-
-quiet-each : (f : ℕ → Venue → Effect) → ((i : ℕ) (v : Venue) → Quiet (f i v)) → (fuel id : ℕ) (v : Venue) → Quiet (each fuel f id v)
-quiet-each f ok zero id v = unfold each in (quiet-nothing v)
-quiet-each f ok (suc fuel) id v =
-    each-by Quiet fuel f id v (λ _. quiet-nothing v) (λ i c _ _. quiet-then (f i v) _ (ok i v) (quiet-each f ok fuel (c .id) _))
-
-quiet-meetTurn : (i : ℕ) (v : Venue) → QuietTurn (meetTurn i v)
-quiet-meetTurn i v = meetTurn-by QuietTurn i v (λ _. tt) (λ _ _ _. tt) (λ _ _ _. quiet-hit i _ _ v) (λ _ j m _ _. quiet-meet i j _ v)
-
-quiet-crossTurn : (i : ℕ) (v : Venue) → QuietTurn (crossTurn i v)
-quiet-crossTurn i v = crossTurn-by QuietTurn i v (λ _. tt) (λ _ _. tt) (λ _ j m _. quiet-cross i j _ v)
-
-quiet-legInTurn : (i : ℕ) (v : Venue) → QuietTurn (legInTurn i v)
-unfolding legInTurn
-quiet-legInTurn i v = if-by QuietTurn (legsIn v (complexAt v i) _ _) (λ _. quiet-legIn i _ _ _ v) (λ _. tt)
-
--- Messages ------------------------------------------------------------------------------------
+quiet-crossTurn : (i : ℕ) (v : Venue) → AllTurn NoAnswer no-answer (crossTurn i v)
+quiet-crossTurn i v = crossTurn-by (AllTurn NoAnswer no-answer) i v (λ _. tt) (λ _ _. tt) (λ _ j m _. quiet-cross i j _ v)
 
 quiet-work : (i : ℕ) (v : Venue) → Quiet (work i v)
 unfolding work
 quiet-work i v =
     let n = complexAt v i .quantity in
-    if-by Quiet (anyClosed v (complexAt v i)) (λ _. quiet-nothing v)
-    (λ _. quiet-then _ _ (quiet-then _ _ (quiet-repeat _ (quiet-crossTurn i) n v) (quiet-touch i _)) (quiet-repeat _ (quiet-legInTurn i) n _))
-
-quiet-make : (c : Complex) (s d : ℕ) (v : Venue) → Quiet (make c s d v)
-unfolding make
-quiet-make c s d v = quiet-then _ _ (quiet-remove _ v) (quiet-report (generated _ _ _ _ _ _) tt _)
-
-quiet-leg : (c : Complex) (s d : ℕ) (v : Venue) → Quiet (generateLeg c s d v)
-unfolding generateLeg
-quiet-leg c s d v = if-by Quiet (held (c .quantity) && makes v c s d) (λ _. quiet-make c s d v) (λ _. quiet-nothing v)
-
-quiet-generate : (i : ℕ) (v : Venue) → Quiet (generate i v)
-unfolding generate
-quiet-generate i v = quiet-then _ _ (quiet-leg _ _ _ v) (quiet-leg _ _ _ _)
-
-quiet-cancel : (id : ℕ) (v : Venue) → Quiet (cancel id v)
-unfolding cancel cancelRegular cancelComplex
-quiet-cancel id v =
-    quiet-then _ settle
-    (if-by Quiet (restsRegular v id)
-    (λ _. quiet-report (cancelled _ _) tt _) (λ _. quiet-then _ _ (quiet-report (cancelled _ _) tt _) (quiet-removeOf _ _ _)))
-    (quiet-settle _)
+    if-by Quiet (anyClosed v (complexAt v i)) (λ _. all-nothing NoAnswer no-answer v)
+    (λ _. all-then NoAnswer no-answer _ _ (all-then NoAnswer no-answer _ _ (all-repeat NoAnswer no-answer _ (quiet-crossTurn i) n v) (all-touch NoAnswer no-answer i _)) (all-legging NoAnswer no-answer i n _))
 
 quiet-perform : (m : Message) (v : Venue) → Quiet (perform m v)
-unfolding perform order enterRegular complex sweep
-quiet-perform (Order o) v = quiet-then _ _ (quiet-repeat _ (quiet-meetTurn _) _ _) (quiet-settle _)
-quiet-perform (TwoLeg c) v = quiet-then _ _ (quiet-then _ _ (quiet-work _ _) (quiet-settle _)) (quiet-generate _ _)
-quiet-perform (Cancel id) v = quiet-cancel id v
-quiet-perform (Away s bid offer) v = quiet-settle _
-quiet-perform (Status s x) v = quiet-settle _
-quiet-perform Sweep v = quiet-then _ _ (quiet-then _ _ (quiet-each work quiet-work 32 0 v) (quiet-settle _)) (quiet-each generate quiet-generate 32 0 _)
+unfolding perform complex sweep
+quiet-perform (Order o) v = all-order NoAnswer no-answer o _
+quiet-perform (TwoLeg c) v = all-then NoAnswer no-answer _ _ (all-then NoAnswer no-answer _ _ (quiet-work _ _) (all-settle NoAnswer no-answer _)) (all-generate NoAnswer no-answer _ _)
+quiet-perform (Cancel id) v = all-cancel NoAnswer no-answer id v
+quiet-perform (Away s bid offer) v = all-settle NoAnswer no-answer _
+quiet-perform (Status s x) v = all-settle NoAnswer no-answer _
+quiet-perform Sweep v =
+    all-then NoAnswer no-answer _ _ (all-then NoAnswer no-answer _ _ (all-each NoAnswer no-answer work quiet-work 32 0 v) (all-settle NoAnswer no-answer _)) (all-each NoAnswer no-answer generate (all-generate NoAnswer no-answer) 32 0 _)
 
 pub quiet-accept : (m : Message) (v : Venue) → Quiet (accept m v)
 unfolding accept
-quiet-accept m v = quiet-then (perform m v) (λ w. nothing (closeGaps w)) (quiet-perform m v) (quiet-nothing _)
+quiet-accept m v = all-then NoAnswer no-answer (perform m v) (λ w. nothing (closeGaps w)) (quiet-perform m v) (all-nothing NoAnswer no-answer _)
