@@ -1,4 +1,5 @@
-//! What happened, message by message, and why a legging order was not made.
+//! What happened, message by message, and why a legging order or a cross was not
+//! made.
 
 use crate::check::{Checker, Seen, Step};
 use crate::message::{split, Leg, Message};

@@ -379,24 +379,26 @@ impl Work {
         })
     }
 
+    /// The orders that this one may cross with; tells who else would be one but
+    /// for the prices of a party's legs.
+    fn candidates(&mut self, taker: &Complex) -> Vec<Complex> {
+        let mut candidates = self.reversed_in_band(taker);
+        candidates.retain(|maker| {
+            let above = self.above_legs(taker, maker);
+            if let Some(passed) = above.filter(|passed| !self.above.contains(passed)) {
+                self.above.push(passed);
+            }
+            above.is_none()
+        });
+        candidates
+    }
+
     fn cross(&mut self, id: u32) -> bool {
         let Some(taker) = self.find(id) else {
             return false;
         };
-        let mut candidates = self.reversed_in_band(&taker);
-        let above = candidates
-            .iter()
-            .filter_map(|maker| self.above_legs(&taker, maker));
-        let above: Vec<AboveLegs> = above.collect();
-        candidates.retain(|maker| above.iter().all(|passed| passed.maker != maker.id));
-        for passed in above {
-            if !self.above.contains(&passed) {
-                self.above.push(passed);
-            }
-        }
-        let best = candidates
-            .into_iter()
-            .min_by_key(|maker| (-maker.limit, maker.id));
+        let candidates = self.candidates(&taker).into_iter();
+        let best = candidates.min_by_key(|maker| (-maker.limit, maker.id));
         let Some(maker) = best else {
             return false;
         };
