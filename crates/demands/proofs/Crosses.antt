@@ -19,7 +19,7 @@ use Rattle.rules.specs.Generation.{generate}
 use Rattle.rules.specs.Places.{closeGaps}
 use Rattle.rules.specs.Refusals.{refusal}
 use Rattle.rules.specs.Step.{accept, answered, perform, step}
-use Rattle.demands.specs.Demand.{Given, Opening, Seen, calls, opening, start}
+use Rattle.demands.specs.Demand.{Seen, start}
 use Rattle.demands.specs.Truth.{leaves, venueAfter}
 use Rattle.demands.specs.Crosses.{CrossesRespect, Deal, Dealt, Moment, NoCross, Respects, crossings, deal, inAll, inEach, inMessage, inStep, inWork, none, other}
 use Rattle.rules.proofs.Crossing as law
