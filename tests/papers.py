@@ -21,7 +21,7 @@ Says each fault as FILE:LINE: what is wrong, and ends with status 1 where there 
 - every row ("W3") that the columns "In 01", "Definitions" and "Rule" name has a line under "No.", and every "Reading 14" is a number of
   docs/DECISIONS.md, section 2;
 - no line outside tables and code is longer than 160 characters, and no path of a machine is told;
-- docs/ without docs/requests/ is at most 90,000 bytes.
+- docs/ without docs/requests/ is at most 90,000 bytes, and 2,000 more for each request that has landed (docs/requests/a.md and so on).
 
 --names prints what the papers may name, a line for each file or crate.
 """
@@ -31,6 +31,7 @@ import re
 import sys
 
 MOST_BYTES = 90_000
+MOST_PER_REQUEST = 2_000
 MOST_LINE = 160
 # In these papers a name without a word before it must exist as well.
 EXACT = ("README.md", "docs/CROSSWALK.md", "docs/PROMISES.md", "docs/AUDIT.md", "docs/DECISIONS.md", "docs/requests/")
@@ -275,8 +276,9 @@ class Papers:
 
     def size(self):
         total = sum(os.path.getsize(p) for p in glob.glob("docs/*.md"))
-        if total > MOST_BYTES:
-            self.fault("docs", 0, f"{total} bytes, at most {MOST_BYTES}")
+        most = MOST_BYTES + MOST_PER_REQUEST * len(glob.glob("docs/requests/[a-z].md"))
+        if total > most:
+            self.fault("docs", 0, f"{total} bytes, at most {most}")
         return total
 
 
