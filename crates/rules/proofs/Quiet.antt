@@ -13,12 +13,11 @@ use Rattle.rules.specs.declared.Message.{Message}
 use Rattle.rules.specs.declared.Message.the-variants.{Order, TwoLeg, Cancel, Away, Status, Sweep}
 use Rattle.rules.specs.declared.Cause.{Cause}
 use Rattle.rules.specs.declared.Verdict.{Verdict}
-use Rattle.rules.specs.declared.Verdict.the-variants.{Stands, Fails}
 use Rattle.rules.specs.Base.{held}
 use Rattle.rules.specs.Words.{complexAt}
 use Rattle.rules.specs.Records.{ForAll, Report, answer, trade, pair, generated, removed, crossed, cancelled}
 use Rattle.rules.specs.Effects.{Effect, nothing, report, _⟫_, Turn, ended, turned, repeat}
-use Rattle.rules.specs.Removal.{goes, leavers, remove, removeOf}
+use Rattle.rules.specs.Removal.{remove, removeOf}
 use Rattle.rules.specs.Standing.{verdict, settle}
 use Rattle.rules.specs.Trading.{fillRegular, tradeWith, take, pairOff}
 use Rattle.rules.specs.Order.{meet, hit, meetTurn, enterRegular, order}
@@ -27,6 +26,7 @@ use Rattle.rules.specs.Complex.{anyClosed, cross, crossTurn, touches, to
 use Rattle.rules.specs.Places.{closeGaps}
 use Rattle.rules.specs.Step.{perform, accept}
 use Rattle.rules.proofs.Cases.{crossTurn-by, each-by, if-by, meetTurn-by, repeat-by, take-by}
+use Rattle.rules.proofs.ByPlace.{ByPlace, none, next, removed-by-place}
 use Rattle.rules.proofs.Widths.{each-append}
 
 -- Effects -------------------------------------------------------------------------------------
@@ -72,19 +72,12 @@ module _ (P : Report → Type 0) (others : Others P) where
       each-by (All P) fuel f id v (λ _. all-nothing v) (λ i c _ _. all-then (f i v) _ (ok i v) (all-each f ok fuel (c .id) _))
 
   -- Everything but crossing
-  all-goes : (n : ℕ) (x : Verdict) (l : Legging) → ForAll P (goes n x l)
-  unfolding goes
-  all-goes n Stands l = tt
-  all-goes n (Fails c) l = if-by (ForAll P) (held (l .quantity)) (λ _. (others .removals _ _ _ c, tt)) (λ _. tt)
-
-  all-leavers : (f : ℕ → Legging → Verdict) (n : ℕ) (ls : List Legging) → ForAll P (leavers f n ls)
-  unfolding leavers
-  all-leavers f n [] = tt
-  all-leavers f n (l ∷ ls) = each-append P (goes n (f n l) l) (leavers f (suc n) ls) (all-goes n (f n l) l) (all-leavers f (suc n) ls)
+  all-removals : {n : ℕ} {rs : List Report} → ByPlace n rs → ForAll P rs
+  all-removals none = tt
+  all-removals (next m h p c r) = (others .removals _ _ _ c, all-removals r)
 
   all-remove : (f : ℕ → Legging → Verdict) (v : Venue) → All P (remove f v)
-  unfolding remove
-  all-remove f v = all-leavers f 0 (v .legging)
+  all-remove f v = all-removals (removed-by-place f v)
 
   pub all-removeOf : (id : ℕ) (c : Cause) (v : Venue) → All P (removeOf id c v)
   unfolding removeOf

@@ -1,5 +1,6 @@
--- Removal of legging orders: each place's verdict is given, those that fail go together, and their records come by place.
--- "removals made together come by place"; "The 68 records of one settling may come in any order, each once": here too by place.
+-- Removal of legging orders: each place's verdict is given, those that fail go together, and their records come by rising place.
+-- "Outside settling, removals made together come by place." 01 of a settling: "The 68 records of one settling may come in any order, each once."
+-- Request (f): "The 68 records of one settling now come by rising place."
 use mathlib.Core.Bool.{Bool}
 use mathlib.Core.List.{List, [], _∷_, _++_}
 use Prim.Native.Nat.{ℕ, suc, _/_, _%_}
@@ -23,7 +24,7 @@ unfoldable pub goes : (place : ℕ) → Verdict → Legging → List Report
 goes n Stands l = []
 goes n (Fails c) l = if held (l .quantity) then removed (l .parent) (n / 2) (n % 2) c ∷ [] else []
 
--- over the places from n on
+-- over the places from n on, each in its turn
 unfoldable pub stayers : (ℕ → Legging → Verdict) → ℕ → List Legging → List Legging
 stayers f n [] = []
 stayers f n (l ∷ ls) = stay (f n l) l ∷ stayers f (suc n) ls
