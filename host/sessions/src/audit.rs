@@ -1,9 +1,10 @@
 //! The audit of a sheet: every complex order's sums, from the session and the
-//! sheet, against what the reference leaves open.
+//! sheet, against what the reference leaves open; and every line against the
+//! reference's.
 
 use crate::ledger::{Account, Ledger};
 use crate::message::{split, Message};
-use crate::record::Record;
+use crate::record::{read_report, Record};
 use crate::sheet::run_whole;
 use crate::view::{held_complex, held_regular};
 use reference::Venue;
@@ -18,7 +19,7 @@ pub struct Row {
 pub struct Audit {
     pub messages: usize,
     pub complex: Vec<Row>,
-    /// What does not agree, order by order.
+    /// What does not agree: order by order, then the first line.
     pub faults: Vec<String>,
 }
 
@@ -27,7 +28,7 @@ pub struct Audit {
 pub fn audit(list: &[u8], records: &[Record]) -> Result<Audit, String> {
     let pieces = split(list);
     let (ledger, answered, mut faults) = sum(&pieces, records)?;
-    let (returned, _) = run_whole(&pieces[..answered].concat());
+    let (returned, report) = run_whole(&pieces[..answered].concat());
     let mut complex = Vec::new();
     for account in ledger.accounts {
         let open = open_quantity(&returned.venue, account.id);
@@ -42,11 +43,28 @@ pub fn audit(list: &[u8], records: &[Record]) -> Result<Audit, String> {
         }
     }
     faults.extend(unknown_orders(&returned.venue, &complex));
+    faults.extend(first_difference(records, &read_report(&report)?));
     Ok(Audit {
         messages: answered,
         complex,
         faults,
     })
+}
+
+/// The first line that is not the reference's. A run's sheet follows from its
+/// messages, so lines are compared in their order.
+fn first_difference(found: &[Record], expected: &[Record]) -> Option<String> {
+    let lines = found.len().max(expected.len());
+    let line = (0..lines).find(|line| found.get(*line) != expected.get(*line))?;
+    let told = |record: Option<&Record>| {
+        record.map_or("no line".to_string(), |record| format!("\"{record}\""))
+    };
+    Some(format!(
+        "line {}: expected {}, found {}",
+        line + 1,
+        told(expected.get(line)),
+        told(found.get(line))
+    ))
 }
 
 fn open_quantity(venue: &Venue, id: u32) -> u64 {

@@ -284,9 +284,16 @@ mod tests {
     /// Checks the printed session's last message after a change to what the
     /// call returned or wrote.
     fn check_changed(change: impl Fn(&mut Returned, &mut Vec<Record>)) -> Result<(), String> {
+        check_last("order 4 sell 5 series 0 at 115\n", change)
+    }
+
+    /// The same with another last message.
+    fn check_last(
+        last: &str,
+        change: impl Fn(&mut Returned, &mut Vec<Record>),
+    ) -> Result<(), String> {
         let complex = "complex 3 buy 0 buy 1 class 1 net 205 quantity 8\n";
-        let order = "order 4 sell 5 series 0 at 115\n";
-        let list = encode_session(&format!("{OFFERS}{complex}{order}")).unwrap();
+        let list = encode_session(&format!("{OFFERS}{complex}{last}")).unwrap();
         let mut checker = Checker::default();
         let mut venue = Venue::fresh();
         let pieces = crate::message::split(&list);
@@ -336,6 +343,14 @@ mod tests {
             assert!(check_changed(|_, records| records[index] = record).is_err());
         }
         assert!(check_changed(|_, records| records.swap(4, 5)).is_err());
+    }
+
+    #[test]
+    fn settling_by_falling_place_is_found() {
+        assert_eq!(check_last("close 0\n", |_, _| {}), Ok(()));
+        let expected = "settling removed [(2, 6), (0, 6)], expected [(0, 6), (2, 6)]";
+        let found = check_last("close 0\n", |_, records| records.swap(1, 2)).unwrap_err();
+        assert!(found.contains(expected), "{found}");
     }
 
     #[test]

@@ -58,8 +58,8 @@ SESSION is message bytes, or text with --text. SHEET is the lines of a sheet of
 it; left out, the reference's own sheet is taken. Prints every complex order:
 entered (from its message), paired, crossed, cancelled and contracts in each
 series (from the sheet), open (from the venue that the reference leaves after the
-messages that the sheet answers). Names each order whose sums do not agree;
-then the exit status is 1.
+messages that the sheet answers). Names each order whose sums do not agree, and
+the first line that is not the reference's; then the exit status is 1.
 ";
 
 const EXPLAIN: &str = "\

@@ -264,6 +264,41 @@ fn audit_names_the_order_whose_sums_do_not_agree() {
 }
 
 #[test]
+fn audit_compares_a_sheet_line_by_line() {
+    let settling = "open 0\nopen 1\norder 1 sell 15 series 0 at 130\n\
+        order 2 sell 12 series 1 at 90\n\
+        complex 3 buy 0 buy 1 class 1 net 205 quantity 8\nclose 0\n";
+    let session = Kept::new("lines.txt", settling.as_bytes());
+    let sheet = String::from_utf8(good(&["sheet", "--text", "-"], settling.as_bytes())).unwrap();
+    let by_place = "68 3 0 0 6\n68 3 1 0 6\n";
+    assert!(sheet.ends_with(by_place), "{sheet}");
+    let cases = [
+        (
+            sheet.replace(by_place, "68 3 1 0 6\n68 3 0 0 6\n"),
+            "line 9: expected \"68 3 0 0 6\", found \"68 3 1 0 6\"",
+        ),
+        (
+            sheet.replace(by_place, "68 3 0 0 6\n"),
+            "line 10: expected \"68 3 1 0 6\", found no line",
+        ),
+        (
+            format!("{sheet}68 3 1 0 6\n"),
+            "line 11: expected no line, found \"68 3 1 0 6\"",
+        ),
+    ];
+    for (lines, expected) in cases {
+        let changed = Kept::new("lines.sheet", lines.as_bytes());
+        let output = venue(&["audit", "--text", session.path(), changed.path()], b"");
+        assert_eq!(output.status.code(), Some(1), "{lines}");
+        let table = String::from_utf8(output.stdout).unwrap();
+        assert!(
+            table.ends_with(&format!("disagreement: {expected}\n")),
+            "{table}"
+        );
+    }
+}
+
+#[test]
 fn audit_refuses_a_sheet_of_another_session() {
     let session = Kept::new("other.txt", PRINTED_TEXT.as_bytes());
     let cases = [
