@@ -3,3 +3,4 @@ pub mod Stepping
 pub mod Running
 pub mod Calling
 pub mod Hosting
+pub mod Sheets
