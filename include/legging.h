@@ -49,6 +49,8 @@
  *
  *   The records end at the first zero length, or at the end of the report memory.
  *   Each message done has one answer, and after it what it did.
+ *   Legging orders that go together are told by rising place, 2 * series + side.
+ *   So the messages and the length of the report memory fix every byte of it.
  *
  * NUMBERS
  *   Each call returns one of these, and fails in no other way.
