@@ -20,7 +20,7 @@ use Rattle.rules.specs.declared.Message.{Message}
 use Rattle.rules.specs.declared.Message.the-variants.{Order, TwoLeg, Cancel, Away, Status, Sweep}
 use Rattle.rules.specs.declared.Cause.the-variants.{Worse, Unpaired, Executed, Withdrawn, OutOfBand, NotOpen, Replaced, Touched}
 use Rattle.rules.specs.declared.Verdict.the-variants.{Stands, Fails}
-use Rattle.rules.specs.Words.{buy, sell, opened, noRegular, noComplex, noLegging, notListed, freshVenue, withRegular, withComplex, withLegging, withSeries, withLast}
+use Rattle.rules.specs.Words.{buy, sell, closed, opened, noRegular, noComplex, noLegging, notListed, freshVenue, withRegular, withComplex, withLegging, withSeries, withLast}
 use Rattle.rules.specs.Messages.{lengthOf, encodeMessage}
 use Rattle.rules.specs.Records.{Report, answer, trade, pair, generated, removed, crossed, cancelled, encode, encodeAll, recordOf, records, sheet}
 use Rattle.rules.specs.Prices.{inBand}
@@ -67,13 +67,13 @@ spread = record { id = 1; series1 = 0; side1 = sell; series2 = 1; side2 = buy; c
 open1 : (bid : ℕ) → Listed
 open1 b = record { status = opened; bid = b; offer = 0 }
 
--- regular orders, a complex order at place i, a legging order at place n; series 0, with an away bid, and 1 are open
+-- regular orders, a complex order at place i, a legging order at place n; every series is open, series 0 with an away bid
 legsUp : (bid : ℕ) (orders : List Regular) (i : ℕ) (c : Complex) (n : ℕ) (l : Legging) → Venue
 legsUp b os i c n l = record {
   regular = os ++ drop (length os) (freshVenue .regular);
   complex = set (freshVenue .complex) i c;
   legging = set (freshVenue .legging) n l;
-  series = open1 b ∷ open1 0 ∷ replicate 6 notListed;
+  series = open1 b ∷ replicate 7 (open1 0);
   last = 3;
 }
 
@@ -132,6 +132,9 @@ minus n = negℤ (pos n)
 
 opens : (series : ℕ) → List ℕ
 opens s = encodeMessage (Status s opened)
+
+closes : (series : ℕ) → List ℕ
+closes s = encodeMessage (Status s closed)
 
 enters : (id series side price quantity : ℕ) → List ℕ
 enters id s d p q = encodeMessage (Order (record { id = id; series = s; side = d; price = p; quantity = q }))
@@ -333,7 +336,7 @@ choices =
     ∷ session 200 (inAuction 0 ++ opens 1 ++ enters 1 0 sell 130 15 ++ enters 2 1 sell 90 12 ++ buysBoth 3 (pos 205) 8 ++ enters 4 0 buy 130 1) 0 6
     (accepted 1 6 ++ (trade 0 0 130 1 4 1 ∷ []))
     ∷ session 200 (restingBefore ++ inAuction 0 ++ sweeps) 0 7 (accepted 1 7 ++ (trade 0 0 130 2 1 2 ∷ trade 1 0 90 2 1 3 ∷ pair 1 (pos 220) 2 ∷ []))
-    ∷ session 200 (restingBefore ++ encodeMessage (Status 0 0) ++ sweeps) 0 7 (accepted 1 7)
+    ∷ session 200 (restingBefore ++ closes 0 ++ sweeps) 0 7 (accepted 1 7)
     -- a status leaves the away prices: N 105 as above, 15 in series 0 alone
     ∷ session 200 (opening ++ awayAdded ++ opens 0 ++ opens 1 ++ buysBoth 3 (pos 105) 8) 0 9
     (accepted 1 8 ++ (answer 9 0 1 1 ∷ generated 3 0 0 15 15 8 ∷ []))
@@ -499,15 +502,17 @@ refused =
     ∷ session 100 (opens 0 ++ enters 1 0 sell 115 1 ++ enters 1 0 sell 115 1) 0 3 (accepted 1 2 ++ (answer 3 5 0 0 ∷ []))
     ∷ session 100 (opens 0 ++ opens 1 ++ pairs 1 1 ++ pairs 1 1) 0 4 (accepted 1 3 ++ (answer 4 5 0 0 ∷ []))
     -- in number order: 4, then 5, then 6; a refused order does not move the last id
-    ∷ session 100 (enters 9 0 sell 113 1 ++ opens 0 ++ enters 1 0 sell 115 1 ++ encodeMessage (Status 0 0) ++ enters 1 0 sell 115 1 ++ enters 2 0 sell 115 1) 0 6
+    ∷ session 100 (enters 9 0 sell 113 1 ++ opens 0 ++ enters 1 0 sell 115 1 ++ closes 0 ++ enters 1 0 sell 115 1 ++ enters 2 0 sell 115 1) 0 6
     (answer 1 4 0 0 ∷ answer 2 0 0 0 ∷ answer 3 0 0 0 ∷ answer 4 0 0 0 ∷ answer 5 5 0 0 ∷ answer 6 6 0 0 ∷ [])
-    -- 6: "order, fresh venue"
-    ∷ session 100 (enters 1 0 sell 115 1) 0 1 (answer 1 6 0 0 ∷ [])
+    -- 6: "an order after a close" (request (l)); every other series of a fresh venue is open, so that to open one changes nothing
+    ∷ session 100 (closes 0 ++ enters 1 0 sell 115 1 ++ enters 1 7 sell 120 1) 0 3 (answer 1 0 0 0 ∷ answer 2 6 0 0 ∷ answer 3 0 0 0 ∷ [])
+    ∷ upon freshVenue 0 100 (opens 0) 0 1 (answer 1 0 0 0 ∷ []) freshVenue
+    ∷ upon freshVenue 1 100 (opens 1) 0 1 (answer 2 0 0 0 ∷ []) freshVenue
     -- either series of a complex order
-    ∷ session 100 (opens 0 ++ pairs 1 1 ++ encodeMessage (Status 0 0) ++ opens 1 ++ pairs 1 1) 0 5
+    ∷ session 100 (closes 1 ++ pairs 1 1 ++ closes 0 ++ opens 1 ++ pairs 1 1) 0 5
     (answer 1 0 0 0 ∷ answer 2 6 0 0 ∷ answer 3 0 0 0 ∷ answer 4 0 0 0 ∷ answer 5 6 0 0 ∷ [])
     -- 7: "the 129th resting", after 6 and "even if the order would trade"; the 33rd complex order, after 5
-    ∷ session 1600 (opens 0 ++ offers 129 1 ++ enters 130 1 buy 100 1 ++ enters 131 0 buy 100 1) 0 132
+    ∷ session 1600 (closes 1 ++ offers 129 1 ++ enters 130 1 buy 100 1 ++ enters 131 0 buy 100 1) 0 132
     (accepted 1 129 ++ (answer 130 7 0 0 ∷ answer 131 6 0 0 ∷ answer 132 7 0 0 ∷ []))
     ∷ session 500 (opens 0 ++ opens 1 ++ pairs 33 1 ++ pairs 1 1) 0 36 (accepted 1 34 ++ (answer 35 7 0 0 ∷ answer 36 5 0 0 ∷ []))
     -- 8: "cancel 9, fresh"
@@ -877,5 +882,5 @@ pub trials : List Trial
 trials = starred ++ wrongs ++ choices ++ respecting ++ layouts ++ edges ++ refused ++ met ++ settled ++ worked ++ made ++ faults ++ lefts ++ numbers
 
 pub trials-hold : map outcome trials ≡ map expected trials
-unfolding opened-rules outcome expected spread open1 legsUp rest both leg resting leggedVenue minus opens enters pairUp buysBoth cancels sweeps opening accepted awayAdded starred together wrongs twoLeg legged leggedSheet quoted relying inAuction restingBefore keptApart choices quotes bidding asked dearer respecting gone layouts single double edges offers pairs twice refused met settled threeOpen farApart worked awayAlone nearTop made standing base atTop isSound unsound locked stale staleComplex staleLegging listing market spreading faults lone quoting idle allHeld lefts named numbers trials
+unfolding opened-rules outcome expected spread open1 legsUp rest both leg resting leggedVenue minus opens closes enters pairUp buysBoth cancels sweeps opening accepted awayAdded starred together wrongs twoLeg legged leggedSheet quoted relying inAuction restingBefore keptApart choices quotes bidding asked dearer respecting gone layouts single double edges offers pairs twice refused met settled threeOpen farApart worked awayAlone nearTop made standing base atTop isSound unsound locked stale staleComplex staleLegging listing market spreading faults lone quoting idle allHeld lefts named numbers trials
 trials-hold = refl

@@ -109,13 +109,18 @@ noLegging = record { parent = 0; price = 0; quantity = 0 }
 abbrev pub notListed : Listed
 notListed = record { status = 0; bid = 0; offer = 0 }
 
--- "Fresh: no orders, all series closed, no away prices, last id 0." "At most 128 regular and 32 complex orders rest"
+-- a series as a fresh venue has it
+abbrev pub newlyListed : Listed
+newlyListed = record { status = opened; bid = 0; offer = 0 }
+
+-- "Fresh: no orders, all series closed, no away prices, last id 0."; request (l): "A fresh venue now has every series open."
+-- "At most 128 regular and 32 complex orders rest"
 unfoldable pub freshVenue : Venue
 freshVenue = record {
   regular = replicate 128 noRegular;
   complex = replicate 32 noComplex;
   legging = replicate 16 noLegging;
-  series = replicate 8 notListed;
+  series = replicate 8 newlyListed;
   last = 0;
 }
 

@@ -101,7 +101,7 @@ pub enum Verdict {
     Fails(Cause),
 }
 
-// The venue with no orders, all series closed and no away prices.
+// The venue with no orders, all series open and no away prices.
 pub fn fresh() -> Venue
     ensures { λ r. ⌜ r ≡ freshVenue ⌝ }
 {
@@ -128,7 +128,7 @@ pub fn fresh() -> Venue
         quantity: 0,
     };
     let listed = Listed {
-        status: 0,
+        status: 1,
         bid: 0,
         offer: 0,
     };
