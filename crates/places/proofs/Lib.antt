@@ -8,3 +8,4 @@ pub mod Stores
 pub mod Gaps
 pub mod Closed
 pub mod Loaded
+pub mod Starting

@@ -51,7 +51,7 @@ module _ {A : Type 0} where
       List·getD-append (upto f 0 n) (replicate (all - n) d) d i (omega (arith, upto-length f 0 n))
       ∙ upto-at f d 0 n i h ∙ ap f (omega arith)
 
-  free-getD : (d : A) (k i : ℕ) → getD (replicate k d) i d ≡ d
+  pub free-getD : (d : A) (k i : ℕ) → getD (replicate k d) i d ≡ d
   free-getD d k i =
       elim (decLt i k) [
         | yes q ↦ getD-replicate k i d d q

@@ -5,7 +5,7 @@ ghost use Prim.Native.Nat.{ℕ, suc, min, _+_, _-_, _*_, _^_, _≤_, _<_};
 ghost use lib.IntN.{pos, _-ℤ_};
 ghost use lib.ListN.{length, getD, set};
 ghost use lib.Seq.{sets};
-ghost use Rattle.rules.specs.Words.{placeOf, withLegging, withSeries, withLast};
+ghost use Rattle.rules.specs.Words.{placeOf, freshVenue, withLegging, withSeries, withLast};
 ghost use Rattle.rules.specs.Trading.{fillRegular, fillComplex, putRegular, putComplex};
 ghost use Rattle.rules.specs.Generation.{placed};
 ghost use Rattle.rules.specs.Places.{holdsRegular, holdsComplex};
@@ -13,7 +13,7 @@ ghost use Rattle.rules.specs.Step.{mask};
 ghost use Rattle.places.specs.Layout.{size, regularsUsed, complexesUsed, regularIn, complexIn, leggingIn, listedIn, levelIn, regularKey, legsKey, venueOf, regularRow, limitNumber, complexRow, Kept, bitOf};
 ghost use Rattle.places.specs.Layout.{Marked, Right, Beside, SameBeside, LevelPut, Counts, SameCounts};
 ghost use Rattle.places.specs.Layout.{Filled, RegularsClosed, ComplexesClosed, GapsClosed};
-ghost use Rattle.places.specs.Layout.{RegularsPlaced, ComplexesPlaced, Loadable, RegularsLoaded, ComplexesLoaded, Laid};
+ghost use Rattle.places.specs.Layout.{RegularsPlaced, ComplexesPlaced, Loadable, RegularsLoaded, ComplexesLoaded, Laid, Loaded};
 use rules::Complex;
 use rules::Legging;
 use rules::Listed;
@@ -435,6 +435,21 @@ pub fn close_gaps(b: &mut [u32])
 {
     close_regulars(b);
     close_complexes(b);
+}
+
+// A fresh venue -------------------------------------------------------------------------------
+
+// A fresh venue's numbers: zeros, but that every series is open.
+pub fn fresh_numbers() -> [u32; 830]
+    ensures { λ r. ⌜ Loaded freshVenue r ⌝ }
+{
+    let mut b = [0u32; 830];
+    let mut s: usize = 0;
+    while s < 8 {
+        b[3 * s + 752] = 1;
+        s += 1;
+    }
+    b
 }
 
 // The venue anew, part by part ----------------------------------------------------------------

@@ -9,9 +9,10 @@ use Rattle.rules.specs.declared.Regular.{Regular}
 use Rattle.rules.specs.declared.Complex.{Complex}
 use Rattle.rules.specs.declared.Legging.{Legging}
 use Rattle.rules.specs.declared.Listed.{Listed}
-use Rattle.rules.specs.Words.{noRegular, noComplex, noLegging, notListed, freshVenue}
+use Rattle.rules.specs.Words.{noRegular, noComplex, noLegging, notListed}
 use Rattle.rules.specs.Bytes.{u8At, u16At, u32At, asSigned, asUnsigned, bytes, u32}
 use Rattle.rules.specs.Records.{FourBytes}
+use Rattle.rules.specs.Opened.{opened-rules}
 use Rattle.rules.proofs.Reading.{byte, word, signed-back, signed-small}
 use Rattle.wire.proofs.Numbers.{u32-here}
 use Rattle.places.specs.Layout.{upto}
@@ -19,7 +20,7 @@ use Rattle.places.proofs.Tables.{upto-length, upto-at}
 use Rattle.places.proofs.Parts.{venue-is}
 use Rattle.state.specs.Held.{regularBytes, complexBytes, leggingBytes, listedBytes, rows, venueBytes, rowAt, venueFrom}
 use Rattle.state.specs.Held.{regularFrom, complexFrom, leggingFrom, listedFrom}
-use Rattle.state.specs.Held.{RegularFits, ComplexFits, LeggingFits, ListedFits, HeldWhole, FreshHeld}
+use Rattle.state.specs.Held.{RegularFits, ComplexFits, LeggingFits, ListedFits, HeldWhole, zerosVenue, ZerosHeld, closings, ClosedFirst}
 use Rattle.state.proofs.Rows.{rows-append, rows-length}
 use Rattle.state.proofs.Widths.{regular-width, complex-width, legging-width, listed-width}
 use Rattle.state.proofs.Whole.{regular-part, complex-part, legging-part, series-part}
@@ -111,6 +112,10 @@ held-whole v d =
     (λ i r. listed-back _ (d .series i) r))
     (u32-here 2600 (venueBytes v) ∙ ap (λ (x : List ℕ). u32At x 0) (drop-at (R ++ C ++ L ++ S) E 2600 (series-part v s)) ∙ last-back (v .last) (d .last))
 
-pub fresh-held : FreshHeld
-unfolding venueFrom rowAt upto regularFrom complexFrom leggingFrom listedFrom u8At u16At u32At asSigned freshVenue
-fresh-held = refl
+pub zeros-held : ZerosHeld
+unfolding opened-rules venueFrom rowAt upto regularFrom complexFrom leggingFrom listedFrom zerosVenue
+zeros-held = (refl, refl)
+
+pub closed-first : ClosedFirst
+unfolding opened-rules rows upto closings zerosVenue
+closed-first = refl

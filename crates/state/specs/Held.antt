@@ -7,6 +7,7 @@
 --   2528   status u8, bid u32, offer u32                                                                  9   8 series
 --   2600   last id u32                                                                                    4
 use mathlib.Core.Path.{_≡_}
+use mathlib.Core.Bool.{true}
 use mathlib.Core.List.{List, [], _∷_, _++_}
 use Prim.Native.Nat.{ℕ, _+_, _*_}
 use lib.ListN.{length, getD, drop, replicate}
@@ -15,9 +16,13 @@ use Rattle.rules.specs.declared.Complex.{Complex}
 use Rattle.rules.specs.declared.Legging.{Legging}
 use Rattle.rules.specs.declared.Listed.{Listed}
 use Rattle.rules.specs.declared.Venue.{Venue}
-use Rattle.rules.specs.Words.{noRegular, noComplex, noLegging, notListed, freshVenue}
+use Rattle.rules.specs.declared.Message.the-variants.{Status}
+use Rattle.rules.specs.Words.{noRegular, noComplex, noLegging, notListed, closed, freshVenue, withSeries}
 use Rattle.rules.specs.Bytes.{u8At, u32At, asSigned, u8, u32, i32}
+use Rattle.rules.specs.Messages.{encodeMessage}
 use Rattle.rules.specs.Records.{OneByte, FourBytes, FourSigned}
+use Rattle.rules.specs.Sound.{sound}
+use Rattle.rules.specs.Calls.{run}
 use Rattle.places.specs.Layout.{upto}
 
 abbrev pub venueSize : ℕ
@@ -134,6 +139,18 @@ pub record Declared (v : Venue) : Type 0 where
 abbrev pub HeldWhole : Type 0
 HeldWhole = (v : Venue) → Declared v → venueFrom (venueBytes v) ≡ v
 
--- zeros hold the fresh venue
-abbrev pub FreshHeld : Type 0
-FreshHeld = venueFrom (replicate venueSize 0) ≡ freshVenue
+-- Zeros ---------------------------------------------------------------------------------------
+
+-- zeros are not the fresh venue (request (l)), but that venue with all series closed, which is sound
+unfoldable pub zerosVenue : Venue
+zerosVenue = withSeries freshVenue (replicate 8 notListed)
+
+abbrev pub ZerosHeld : Type 0
+ZerosHeld = (venueFrom (replicate venueSize 0) ≡ zerosVenue) × (sound zerosVenue ≡ true)
+
+-- "Hosts that counted on refusal 6 before the opening must send eight closing messages first": these leave the same of a fresh venue
+unfoldable pub closings : List ℕ
+closings = rows (λ s. encodeMessage (Status s closed)) (upto (λ s. s) 0 8)
+
+abbrev pub ClosedFirst : Type 0
+ClosedFirst = run 96 closings .returned ≡ record { number = 0; done = 8; written = 96; venue = zerosVenue }
