@@ -81,7 +81,7 @@ impl Books {
             complex: Vec::with_capacity(COMPLEX_PLACES),
             standing: [Standing::default(); LEGGING_PLACES],
             filled: 0,
-            series: [Listed::default(); SERIES],
+            series: [Listed::FRESH; SERIES],
             last: 0,
         }
     }

@@ -66,14 +66,23 @@ pub struct Venue {
     pub last: u32,
 }
 
+impl Listed {
+    /// Open, with no away prices.
+    pub const FRESH: Listed = Listed {
+        status: OPEN,
+        bid: 0,
+        offer: 0,
+    };
+}
+
 impl Venue {
-    /// No orders, all series closed, no away prices, last id 0.
+    /// No orders, all series open, no away prices, last id 0.
     pub fn fresh() -> Self {
         Venue {
             regular: [Regular::default(); REGULAR_PLACES],
             complex: [Complex::default(); COMPLEX_PLACES],
             legging: [Legging::default(); LEGGING_PLACES],
-            series: [Listed::default(); SERIES],
+            series: [Listed::FRESH; SERIES],
             last: 0,
         }
     }

@@ -360,7 +360,7 @@ mod tests {
             |venue| venue.regular[1].quantity = 8,
             |venue| venue.complex[0].quantity = 4,
             |venue| venue.complex[0].limit = 204,
-            |venue| venue.series[5].status = 1,
+            |venue| venue.series[5].status = 0,
             |venue| venue.last = 5,
             |venue| {
                 venue.legging[0] = Legging {

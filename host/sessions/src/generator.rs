@@ -34,10 +34,17 @@ impl Generator {
         generator
     }
 
-    /// Opens the series in use and quotes most of them away.
+    /// Opens the series in use and quotes most of them away. Some sessions begin
+    /// as a host that counts on refusal 6 before the opening: with all series closed.
     fn plan_opening(&mut self) {
+        let closes = self.random.chance(self.shape.closed_first);
+        if closes {
+            let close = |series| Message::Status { series, status: 0 };
+            self.queue.extend((0..8).map(close));
+        }
+        let opens = if closes { 97 } else { 50 };
         for &series in self.shape.series {
-            if self.random.chance(97) {
+            if self.random.chance(opens) {
                 self.queue.push_back(Message::Status { series, status: 1 });
             }
             if self.random.chance(70) {
@@ -503,20 +510,26 @@ impl Generator {
         message
     }
 
+    /// An order in a closed series; where none is closed, a closing first.
     fn in_closed_series(&mut self, venue: &Venue, view: &View) -> Message {
         let closed = (0..8u8).find(|series| venue.series[usize::from(*series)].status == 0);
+        let series = closed.unwrap_or_else(|| self.random.below(8) as u8);
         let mut message = if self.random.chance(50) {
             self.order(venue, view)
         } else {
             self.complex(venue, view)
         };
-        match (&mut message, closed) {
-            (Message::Order { leg, price, .. }, Some(series)) => {
+        match &mut message {
+            Message::Order { leg, price, .. } => {
                 leg.series = series;
                 *price = 100;
             }
-            (Message::Complex { legs, .. }, Some(series)) => legs[1].series = series,
+            Message::Complex { legs, .. } => legs[1].series = series,
             _ => {}
+        }
+        if closed.is_none() {
+            self.queue.push_back(message);
+            return Message::Status { series, status: 0 };
         }
         message
     }

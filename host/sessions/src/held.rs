@@ -126,8 +126,12 @@ mod tests {
     }
 
     #[test]
-    fn the_fresh_venue_is_all_zero() {
-        assert_eq!(to_bytes(&Venue::fresh()), [0; VENUE_BYTES]);
+    fn the_fresh_venue_is_zero_but_for_its_open_series() {
+        let mut bytes = [0; VENUE_BYTES];
+        for series in 0..8 {
+            bytes[2_528 + 9 * series] = 1;
+        }
+        assert_eq!(to_bytes(&Venue::fresh()), bytes);
     }
 
     #[test]

@@ -70,13 +70,16 @@ impl Profile {
                 .over(THREE)
                 .weighted([35, 32, 6, 17, 1, 8, 1])
                 .at(1000, 6),
-            Profile::Refusals => base.weighted([25, 12, 5, 5, 8, 3, 42]),
+            Profile::Refusals => base.weighted([25, 12, 5, 5, 8, 3, 42]).closing(75),
             Profile::FullBooks => base
                 .weighted([62, 24, 2, 2, 1, 4, 5])
                 .at(100, 30)
                 .crossing(3),
             Profile::Sweeps => base.over(THREE).weighted([33, 22, 5, 7, 1, 31, 1]),
-            Profile::StatusFlips => base.over(THREE).weighted([36, 24, 5, 4, 20, 10, 1]),
+            Profile::StatusFlips => {
+                let shape = base.over(THREE).weighted([36, 24, 5, 4, 20, 10, 1]);
+                shape.closing(75)
+            }
             Profile::Classes => base
                 .over(THREE)
                 .weighted([30, 42, 8, 3, 1, 15, 1])
@@ -90,7 +93,7 @@ impl Profile {
                 shape.crossing(45).scripted(40)
             }
             Profile::PriceEdges => base.over(&[0, 1, 6, 7]).at(0, 4),
-            Profile::OddBytes => base.weighted([30, 15, 5, 5, 4, 6, 35]),
+            Profile::OddBytes => base.weighted([30, 15, 5, 5, 4, 6, 35]).closing(50),
         }
     }
 }
@@ -107,6 +110,8 @@ pub(crate) struct Shape {
     pub reversed_legs: u64,
     /// Percent of complex orders priced to cross with a resting one.
     pub crossing_limits: u64,
+    /// Percent of sessions that close all series first.
+    pub closed_first: u64,
     /// Messages between scripts; 0 for none.
     pub script_every: usize,
 }
@@ -121,6 +126,7 @@ impl Shape {
             most_quantity: 20,
             reversed_legs: 50,
             crossing_limits: 20,
+            closed_first: 10,
             script_every: 0,
         }
     }
@@ -152,6 +158,13 @@ impl Shape {
     fn crossing(self, crossing_limits: u64) -> Self {
         Shape {
             crossing_limits,
+            ..self
+        }
+    }
+
+    fn closing(self, closed_first: u64) -> Self {
+        Shape {
+            closed_first,
             ..self
         }
     }

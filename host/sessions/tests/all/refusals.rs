@@ -127,17 +127,27 @@ fn ids_not_above_the_last_accepted_are_5() {
 
 #[test]
 fn refused_order_does_not_move_the_last_id() {
-    let text = "order 9 sell 5 series 0 at 115\nopen 0\norder 1 sell 5 series 0 at 115\n";
-    assert_eq!(last_lines(text), ["64 3 0 0 0"]);
+    let text = "close 0\norder 9 sell 5 series 0 at 115\nopen 0\norder 1 sell 5 series 0 at 115\n";
+    assert_eq!(last_lines(text), ["64 4 0 0 0"]);
 }
 
 #[test]
 fn orders_in_a_closed_series_are_6_after_5() {
-    assert_eq!(sheet("order 1 sell 5 series 0 at 115"), "64 1 6 0 0\n");
-    let half = "open 0\ncomplex 1 buy 0 buy 1 class 0 net 5 quantity 5\n";
+    let example = "close 0\norder 1 sell 5 series 0 at 115\norder 1 sell 5 series 7 at 120\n";
+    assert_eq!(sheet(example), "64 1 0 0 0\n64 2 6 0 0\n64 3 0 0 0\n");
+    let half = "close 1\ncomplex 1 buy 0 buy 1 class 0 net 5 quantity 5\n";
     assert_eq!(last_lines(half), ["64 2 6 0 0"]);
     let stale = "open 0\norder 1 sell 5 series 0 at 115\nclose 0\norder 1 buy 5 series 0 at 5\n";
     assert_eq!(last_lines(stale), ["64 4 5 0 0"]);
+}
+
+#[test]
+fn every_series_of_a_fresh_venue_is_open() {
+    for series in 0..8 {
+        let text = format!("order 1 sell 5 series {series} at 100\n");
+        assert_eq!(sheet(&text), "64 1 0 0 0\n", "series {series}");
+    }
+    assert_eq!(venue_after("open 0\nopen 1\n"), Venue::fresh());
 }
 
 #[test]

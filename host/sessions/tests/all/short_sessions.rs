@@ -109,11 +109,13 @@ fn sessions_of(count: u64, depth: u32) -> u64 {
 }
 
 #[test]
-fn every_session_of_up_to_6_messages_from_8_upon_a_fresh_venue() {
+fn every_session_of_up_to_6_messages_from_8_upon_closed_and_upon_open_series() {
     let choices = "open 0\nopen 1\norder 1 sell 15 series 0 at 130\n\
         order 2 sell 12 series 1 at 90\ncomplex 3 buy 0 buy 1 class 1 net 205 quantity 8\n\
         order 4 sell 5 series 0 at 115\ncancel 3\nsweep\n";
-    assert_eq!(search("", choices, 6), sessions_of(8, 6));
+    assert_eq!(search("close 0\nclose 1\n", choices, 6), sessions_of(8, 6));
+    let closing = choices.replace("open", "close");
+    assert_eq!(search("", &closing, 6), sessions_of(8, 6));
 }
 
 #[test]
