@@ -1,4 +1,4 @@
--- The laws of one message upon the venue in a host's memory.
+-- The laws of a host's first venue, and of one message upon the venue in its memory.
 use mathlib.Core.Path.{_≡_, refl, subst, ap, _∙_}
 use mathlib.Core.Bool.{Bool, true, false}
 use mathlib.Core.List.{List, _++_}
@@ -13,7 +13,7 @@ use Rattle.rules.specs.declared.Listed.{Listed}
 use Rattle.rules.specs.declared.Venue.{Venue}
 use Rattle.rules.specs.declared.Returned.{Returned}
 use Rattle.rules.specs.Base.{held}
-use Rattle.rules.specs.Words.{within, isClass, isStatus, isAway, notListed}
+use Rattle.rules.specs.Words.{within, isClass, isStatus, isAway, notListed, freshVenue}
 use Rattle.rules.specs.Records.{OneByte, FourSigned, encodeAll, sheet}
 use Rattle.rules.specs.Effects.{Effect}
 use Rattle.rules.specs.Places.{blankComplex}
@@ -26,15 +26,27 @@ use Rattle.rules.proofs.Integers.{plus, minus}
 use Rattle.rules.proofs.Tests.{and-l, and-r}
 use Rattle.demands.specs.Kept.{Shaped, SoundVenue}
 use Rattle.demands.specs.Truth.{venueAfter}
-use Rattle.demands.proofs.Calls.{kept}
+use Rattle.demands.proofs.Calls.{kept, fresh-sound}
 use Rattle.demands.proofs.Soundness.{sound-out}
 use Rattle.demands.proofs.Truth.{one-message}
 use Rattle.places.proofs.Tables.{upto-length}
 use Rattle.state.specs.Held.{venueSize, venueBytes, venueFrom, ListedFits, Declared}
 use Rattle.state.proofs.Back.{held-whole}
 use Rattle.engine.specs.Runs.{callOf}
-use Rattle.engine.specs.Hosts.{hosted, leaves, oneHosted, HeldNext}
+use Rattle.engine.specs.Hosts.{begun, freshHosted, HeldFirst, hosted, leaves, oneHosted, HeldNext}
 use Rattle.engine.proofs.Calling.{one-unsound, one-ends, one-does}
+
+-- The first venue -----------------------------------------------------------------------------
+
+pub none-begun : (memory : List ℕ) → (length memory ≡ venueSize → ⊥) → begun 9 memory ≡ freshHosted memory
+unfolding freshHosted
+none-begun memory h = rw (ne-eqb (length memory) venueSize h)
+
+pub fresh-begun : (memory m : List ℕ) (v : Venue) → length memory ≡ venueSize → v ≡ freshVenue → m ≡ venueBytes v → begun 0 m ≡ freshHosted memory
+unfolding freshHosted
+fresh-begun memory m v size f e = ap (begun 0) (e ∙ ap venueBytes f) ∙ rw (eq-eqb (length memory) venueSize size)
+
+-- One message ---------------------------------------------------------------------------------
 
 module _ (memory : List ℕ) (n : ℕ) (l bs : List ℕ) where
   -- the memory is of another length, and the report zeroed from its start
@@ -100,6 +112,10 @@ declared v s =
         let c = leb-true (x .offer) 100000 (search (and-l, and-r, z) depth 8) in
         record { status = omega arith; bid = omega arith; offer = omega arith }
         )
+
+pub held-first : HeldFirst
+unfolding freshHosted
+held-first memory size = rw (eq-eqb (length memory) venueSize size) (held-whole freshVenue (declared freshVenue fresh-sound))
 
 -- what is held has the arrays of its type
 held-shaped : (memory : List ℕ) → Shaped (venueFrom memory)

@@ -1,24 +1,21 @@
 -- The laws of a run: one turn of it, its loop, and its end.
 use mathlib.Core.Path.{_≡_, refl, sym, ap, ap₂, subst, _∙_}
-use mathlib.Core.Bool.{Bool, true, false, true≢false}
+use mathlib.Core.Bool.{Bool, true, false}
 use mathlib.Core.List.{List, [], _++_, append-assoc, append-nil}
 use Prim.Native.Nat.{ℕ, zero, suc, _+_, _-_, _*_, _≤_, _<_, zero-le}
 use native.Mathlib.Omega.{arith}
 use native.Mathlib.Numerals.{add-one}
 use lib.Dec.{eqb}
-use lib.ListN.{length, getD, set, take, drop, replicate, length-drop, drop-of-length-le, getD-replicate}
+use lib.ListN.{length, getD, set, take, drop, replicate, length-drop, drop-of-length-le}
 use lib.Seq.{paste, paste-suc, take-all, length-take-le, drop-drop}
 use borrow.Author.Tests.{eq-eqb, ne-eqb, lt-ltb, le-ltb}
 use borrow.Rule.Slice.PartMut.{putMid}
-use Rattle.rules.specs.declared.Regular.{Regular}
 use Rattle.rules.specs.declared.Venue.{Venue}
-use Rattle.rules.specs.Base.{held}
-use Rattle.rules.specs.Words.{placeOf, noRegular, freshVenue}
-use Rattle.rules.specs.Prices.{shown, showsAt, showsFor, bestIn, sizeIn}
+use Rattle.rules.specs.Words.{freshVenue}
 use Rattle.rules.specs.Bytes.{lengthField}
 use Rattle.rules.specs.Records.{Report, encodeAll, sheet}
 use Rattle.rules.specs.Refusals.{torn}
-use Rattle.rules.specs.Step.{StepOutcome, mask, answered, step}
+use Rattle.rules.specs.Step.{StepOutcome, answered, step}
 use Rattle.rules.specs.Calls.{Outcome, called, exceeds, ends, after, runFrom, run}
 use Rattle.rules.proofs.Calling.{encode-append}
 use Rattle.rules.proofs.Refusing.{whole}
@@ -31,7 +28,7 @@ use Rattle.wire.proofs.Writes.{writes-in, wrote, overflowed, pasted-to, part-al
 use Rattle.reader.specs.declared.Head.{Head}
 use Rattle.reader.specs.Head.{headAt, headNumber, headLength}
 use Rattle.reader.proofs.Heads.{head-torn, head-message, torn-refused, whole-refused}
-use Rattle.places.specs.Layout.{size, upto, inUse, regularsUsed, complexesUsed, leggingIn, listedIn, venueOf, levelOf, levelIn, Orderly, Marked, Right, Dense}
+use Rattle.places.specs.Layout.{size, venueOf, Dense, Loaded}
 use Rattle.engine.specs.declared.Stepped.{Stepped}
 use Rattle.engine.specs.declared.Turn.{Turn}
 use Rattle.engine.specs.Steps.{Steps}
@@ -356,65 +353,15 @@ module _ (m l₀ b l : List ℕ) (t : Turn) (g : Running m l₀ b l t) where
           is = turned ∙ ap (onto (r .done) (g .records ++ turn .records)) (goes-not (length m - suc (t .done)) (length l₀) m (venueOf b′) r z);
         }
 
--- the numbers that a run begins with
-pub blank : venueOf (replicate 830 0) ≡ freshVenue
-unfolding venueOf freshVenue inUse upto regularsUsed complexesUsed leggingIn listedIn
-blank = refl
-
--- the levels of no orders are zeros, no place is known to be held, and no legging order stands
-zeros-level : (b : List ℕ) (n : ℕ) → ((i : ℕ) → i < 830 → getD b i 0 ≡ 0) → n < 16 → levelIn b n ≡ record { price = 0; size = 0 }
-unfolding levelIn
-zeros-level b n z h = rw (z (3 * n + 779) (omega arith), z (3 * n + 780) (omega arith), z (3 * n + 781) (omega arith))
-
-nobody-level : (s d : ℕ) → levelOf s d (freshVenue .regular) ≡ record { price = 0; size = 0 }
-unfolding levelOf bestIn sizeIn showsFor showsAt shown freshVenue
-nobody-level s d = refl
-
-blank-levels : (s d : ℕ) → s < 8 → d < 2 → levelIn (replicate 830 0) (placeOf s d) ≡ levelOf s d (venueOf (replicate 830 0) .regular)
-unfolding placeOf
-blank-levels s d hs hd =
-    zeros-level (replicate 830 0) (2 * s + d) (λ i h. getD-replicate 830 i 0 0 h) (omega arith)
-    ∙ sym (ap (λ (v : Venue). levelOf s d (v .regular)) blank ∙ nobody-level s d)
-
-nobody-stands : mask (freshVenue .legging) ≡ 0
-unfolding mask freshVenue
-nobody-stands = refl
-
-blank-marked : Marked (replicate 830 0)
-unfolding regularsUsed complexesUsed
-blank-marked = record {
-  regulars = λ k h. absurd (omega arith);
-  complexes = λ k h. absurd (omega arith);
-  legging = sym (ap (λ (v : Venue). mask (v .legging)) blank ∙ nobody-stands);
-}
-
-free-place : (n i : ℕ) → getD (replicate n noRegular) i noRegular ≡ noRegular
-free-place zero i = refl
-free-place (suc n) zero = refl
-free-place (suc n) (suc i) = free-place n i
-
-fresh-orders : Orderly (freshVenue .regular)
-unfolding freshVenue
-fresh-orders = record {
-  priced = λ i h. absurd (true≢false (sym h ∙ ap (λ (o : Regular). held (o .quantity)) (free-place 128 i)));
-  rises = λ i j w h k. absurd (true≢false (sym h ∙ ap (λ (o : Regular). held (o .quantity)) (free-place 128 i)));
-}
-
-blank-right : Right (replicate 830 0)
-blank-right = record { levels = blank-levels; orders = subst (λ (v : Venue). Orderly (v .regular)) (sym blank) fresh-orders; marked = blank-marked }
-
-blank-dense : Dense (replicate 830 0)
-unfolding regularsUsed complexesUsed
-blank-dense = record { regulars = λ k h. absurd (omega arith); complexes = λ k h. absurd (omega arith); right = blank-right }
-
-pub running-start : (m l : List ℕ) → Running m l (replicate 830 0) l (record { number = 0; done = 0; at = 0; written = 0 })
+-- a run begins with the numbers of a fresh venue
+pub running-start : (m b l : List ℕ) → length b ≡ size → Loaded freshVenue b → Running m l b l (record { number = 0; done = 0; at = 0; written = 0 })
 unfolding onto encodeAll
-running-start m l =
+running-start m b l n f =
     let p : length m ≡ length m - 0 = omega arith in
     let q : length l ≡ length l - 0 = omega arith in
     record {
       records = [];
-      slice = refl;
+      slice = n;
       len = refl;
       within = zero-le;
       bytes = refl;
@@ -422,11 +369,11 @@ running-start m l =
       count = zero-le;
       at-in = zero-le;
       is =
-          ap₂ (λ (x y : ℕ). runFrom x freshVenue 0 y m) p q ∙ ap (λ (v : Venue). runFrom (length m - 0) v 0 (length l - 0) m) (sym blank)
-          ∙ sym (goes-on (length m - 0) (length l) m (venueOf (replicate 830 0)) (record { number = 0; done = 0; at = 0; written = 0 }) refl)
+          ap₂ (λ (x y : ℕ). runFrom x freshVenue 0 y m) p q ∙ ap (λ (v : Venue). runFrom (length m - 0) v 0 (length l - 0) m) (sym (f .venue))
+          ∙ sym (goes-on (length m - 0) (length l) m (venueOf b) (record { number = 0; done = 0; at = 0; written = 0 }) refl)
           ∙ onto-zero _;
-      dense = blank-dense;
-      sound = rw blank fresh-sound;
+      dense = f .dense;
+      sound = subst SoundVenue (sym (f .venue)) fresh-sound;
     }
 
 -- the rest of the report zeroed, and the venue read

@@ -32,7 +32,7 @@ ghost use Rattle.places.specs.Layout.{size, regularsUsed, complexesUsed, venueO
 ghost use Rattle.levels.specs.Grid.{LegsIn};
 ghost use Rattle.engine.specs.Steps.{answeredBy, Steps};
 ghost use Rattle.engine.specs.Runs.{Tries, Turns, callOf};
-ghost use Rattle.engine.specs.Hosts.{hosted, oneHosted};
+ghost use Rattle.engine.specs.Hosts.{begun, freshHosted, hosted, oneHosted};
 
 // Refusals 5 to 8 -----------------------------------------------------------------------------
 
@@ -341,7 +341,7 @@ fn advance(t: Turn, head: Head, b: &mut [u32], messages: &[u8], report: &mut [u8
 pub fn run(messages: &[u8], report: &mut [u8]) -> Returned
     ensures { λ r. ⌜ callOf r (now (report .exit)) ≡ calls.run (length (now (report .entry))) (now (messages .entry)) ⌝ }
 {
-    let mut b = [0u32; 830];
+    let mut b = places::fresh_numbers();
     let mut t = Turn {
         number: 0,
         done: 0,
@@ -418,6 +418,19 @@ pub extern "C" fn legging_run(messages: &[u8], report: &mut [u8]) -> u8
 {
     let r = run(messages, report);
     r.number
+}
+
+// The first venue of a host's memory: the fresh one, as `state` holds it. A memory of another length can hold none.
+#[no_mangle]
+pub extern "C" fn legging_fresh(venue: &mut [u8]) -> u8
+    ensures { λ r. ⌜ begun r (now (venue .exit)) ≡ freshHosted (now (venue .entry)) ⌝ }
+{
+    if venue.len() != 2604 {
+        return 9;
+    }
+    let fresh = rules::fresh();
+    state::put_venue(venue, fresh);
+    0
 }
 
 // One message upon the venue in a host's memory, as `state` holds it; the number is returned. Only an accepted message writes that memory.

@@ -21,8 +21,11 @@ Inv-loop messages report₀ b₀ t₀ report b t = Running messages report₀ b 
 abbrev μ-loop : tie.MeasureT-loop
 μ-loop messages report₀ b₀ t₀ report b t = length messages - t .at
 
+fresh-numbers-requires : tie.Need-fresh-numbers-requires Inv-loop μ-loop
+fresh-numbers-requires c κs = tt
+
 loop-holds : tie.Need-loop-holds Inv-loop μ-loop
-loop-holds c = running-start _ _
+loop-holds c = running-start _ _ _ (search needs) (search needs)
 
 message-head-requires : tie.Need-message-head-requires Inv-loop μ-loop
 message-head-requires c κs = tt
@@ -31,7 +34,7 @@ enum-told : tie.Need-enum-told Inv-loop μ-loop
 enum-told c = search needs
 
 -- where the head is not `End`, a message or a torn one stands ahead
-ahead : (c : tie.At-match-keys2 Inv-loop μ-loop) → let a = c .before .before .before .before .before .args in c .before .before .loop .t .at < length (a .messages .now)
+ahead : (c : tie.At-match-keys2 Inv-loop μ-loop) → let a = c .before .before .before .before .before .before .args in c .before .before .loop .t .at < length (a .messages .now)
 ahead c =
     let k = c .before .message-head in
     at-some _ _ (λ e. ⊎-elim (λ z. omega arith) (λ z. omega arith) (subst (λ (h : Head). OneOf (1 ∷ 2 ∷ []) (tagOf head.the-type h)) (k .ensures ∙ e) (c .match .keys2)))
@@ -49,7 +52,7 @@ loop-again : tie.Need-loop-again Inv-loop μ-loop
 loop-again c = let k = c .before .before .before .before .before .advance in running-again _ _ _ _ _ (c .before .before .before .before .before .before .before .before .before .before .loop .inv) (k .result) (k .last .1 .1 .0) (k .last .1 .1 .1 .1 .0) (ahead (c .before .before .before .before .before .before .before .before)) (k .kept .1 .1 .0) (k .kept .1 .1 .1 .1 .0) (k .ensures) (c .if1 .left)
 
 -- either way out of the loop
-ended : (c : tie.At-match-came Inv-loop μ-loop) → let a = c .before .before .before .before .before .args in Ended (a .messages .now) (a .report .now) (c .match .b) (c .match .report) (c .match .t)
+ended : (c : tie.At-match-came Inv-loop μ-loop) → let a = c .before .before .before .before .before .before .args in Ended (a .messages .now) (a .report .now) (c .match .b) (c .match .report) (c .match .t)
 ended c =
     let top = c .before .before in
     ⊎-elim
@@ -70,7 +73,7 @@ same-length : tie.Need-same-length Inv-loop μ-loop
 same-length c = c .before .before .before .before .zero-from .kept .0 ∙ ended (c .before .before .before .before .before .before) .len
 
 returns : tie.Need-returns Inv-loop μ-loop
-returns c = let s = c .before .before .before .before .before .before .before .before .before .before .before in let j = c .before .before .before .before .before .before in ran (s .args .messages .now) (s .args .report .now) (j .match .b) (j .match .report) (c .before .before .before .before .zero-from .last .0) (j .match .t) (c .venue-of .result) (ended j) (c .before .before .before .before .zero-from .ensures) (c .venue-of .ensures)
+returns c = let s = c .before .before .before .before .before .before .before .before .before .before .before .before in let j = c .before .before .before .before .before .before in ran (s .args .messages .now) (s .args .report .now) (j .match .b) (j .match .report) (c .before .before .before .before .zero-from .last .0) (j .match .t) (c .venue-of .result) (ended j) (c .before .before .before .before .zero-from .ensures) (c .venue-of .ensures)
 
 pub run-spec : {M : Type 1} → statement M
 run-spec =
@@ -78,6 +81,7 @@ run-spec =
     (tie.spec
     Inv-loop
     μ-loop
+    fresh-numbers-requires
     loop-holds
     message-head-requires
     enum-told
