@@ -12,8 +12,8 @@
  *   All memory is the host's. A call keeps no pointer after it returns, allocates
  *   nothing, reads and writes no file, and needs less than 32 KiB of stack.
  *   - `messages` (or `message`) is only read. Bytes past its length are not.
- *   - `venue` is read and written. Unless the message was accepted, it holds after
- *     the call what it held before.
+ *   - `venue` is read and written; legging_fresh only writes it. Unless the message
+ *     was accepted, it holds after the call what it held before.
  *   - `report` is written from its first byte to its last, whatever the call
  *     ends with: the records done, then zeros. What it held before is not read.
  *   - A pointer with the length 0 may be NULL; otherwise it points to as many
@@ -81,7 +81,7 @@ extern "C" {
 #endif
 
 /*
- * Runs a message list from a fresh venue: no orders, all series closed, no away
+ * Runs a message list from a fresh venue: no orders, all series open, no away
  * prices.
  *
  * Messages are taken one by one. One that is refused with 2 to 8 is answered and
@@ -98,11 +98,24 @@ uint8_t legging_run(const uint8_t *messages, size_t messages_len,
                     uint8_t *report, size_t report_len);
 
 /*
+ * Writes a fresh venue, a host's first: no orders, all series open, no away prices.
+ *
+ * `venue` is LEGGING_VENUE_BYTES bytes; what it held before is not read. Returns
+ *   LEGGING_DONE     `venue` is the fresh venue;
+ *   LEGGING_UNSOUND  `venue_len` is not LEGGING_VENUE_BYTES: `venue` as it was.
+ *
+ * Bytes that are all zero are a sound venue too, but with all series closed: upon
+ * it orders are refused with LEGGING_CLOSED until messages open their series. A
+ * host that began with zeros either calls this, or opens the series as before.
+ */
+uint8_t legging_fresh(uint8_t *venue, size_t venue_len);
+
+/*
  * Takes one message upon a venue that the host holds; `before` messages went
  * before it, and its own number is one more.
  *
- * `venue` is LEGGING_VENUE_BYTES bytes. The fresh venue is all zeros; after that,
- * hand over what the last call left. Its bytes, without padding:
+ * `venue` is LEGGING_VENUE_BYTES bytes: first those that legging_fresh writes, then
+ * hand over what the last call left. They are, without padding:
  *
  *     128 regular orders   id u32, series u8, side u8, price u32, quantity u32
  *      32 complex orders   id u32, series u8, side u8, series u8, side u8, class u8,

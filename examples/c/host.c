@@ -240,9 +240,9 @@ static uint8_t run(struct options options, struct bytes messages)
  * told how many went before it. */
 static uint8_t run_each(struct options options, struct bytes messages)
 {
-    uint8_t venue[LEGGING_VENUE_BYTES] = {0};
+    uint8_t venue[LEGGING_VENUE_BYTES];
+    uint8_t number = legging_fresh(venue, sizeof venue);
     struct bytes report = {NULL, options.has_room ? options.room : LEGGING_MOST_BYTES};
-    uint8_t number = LEGGING_DONE;
     uint32_t before = 0;
     size_t at = 0;
     report.at = resized(report.at, report.length);

@@ -2,6 +2,7 @@
 
 use crate::check::{Check, Fault, Part};
 use crate::engine::Engine;
+use reference::Venue;
 use sessions::held::{from_bytes, to_bytes, VENUE_BYTES};
 use sessions::lent::Lent;
 use sessions::record::{read_report_into, Record};
@@ -24,6 +25,14 @@ pub struct Expected {
     pub done: u32,
     pub written: usize,
     pub venue: Vec<u8>,
+}
+
+/// The reference's fresh venue in venue memory: the number, and what is left.
+pub fn expected_fresh(venue: &[u8]) -> (u8, Vec<u8>) {
+    if venue.len() != VENUE_BYTES {
+        return (9, venue.to_vec());
+    }
+    (0, to_bytes(&Venue::fresh()).to_vec())
 }
 
 /// The reference's one-message call upon venue bytes; the report is written. Unless
@@ -87,6 +96,22 @@ impl<'a> Comparer<'a> {
             .same_number(number, wanted.number)
             .and_then(|()| self.same_report(wanted.done, wanted.written));
         same.map_err(|what| format!("report memory of {length} bytes: {what}"))
+    }
+
+    /// A fresh venue of both, in venue memory of this length. Tells what is left.
+    pub fn fresh(&mut self, check: Check, length: usize) -> Result<Vec<u8>, String> {
+        let held = self.venue.lend(length);
+        let (wanted, venue) = expected_fresh(held);
+        let number = self.engine.fresh(held);
+        let number = self.spoiled(check, number);
+        self.counts.calls += 1;
+        let same = self
+            .same_number(number, wanted)
+            .and_then(|()| self.same_venue(&venue));
+        match same {
+            Ok(()) => Ok(venue),
+            Err(what) => Err(format!("venue memory of {length} bytes: {what}")),
+        }
     }
 
     /// A one-message call of both. Tells the number and the venue left.

@@ -9,6 +9,7 @@ pub enum Check {
     RunTorn,
     RunChanged,
     RunNoise,
+    Fresh,
     Call,
     CallShort,
     CallNumber,
@@ -18,13 +19,14 @@ pub enum Check {
 }
 
 impl Check {
-    pub const ALL: [Check; 12] = [
+    pub const ALL: [Check; 13] = [
         Check::RunWhole,
         Check::RunShort,
         Check::RunEveryLength,
         Check::RunTorn,
         Check::RunChanged,
         Check::RunNoise,
+        Check::Fresh,
         Check::Call,
         Check::CallShort,
         Check::CallNumber,
@@ -41,6 +43,7 @@ impl Check {
             Check::RunTorn => "run-torn",
             Check::RunChanged => "run-changed",
             Check::RunNoise => "run-noise",
+            Check::Fresh => "fresh",
             Check::Call => "call",
             Check::CallShort => "call-short",
             Check::CallNumber => "call-number",
@@ -59,6 +62,7 @@ impl Check {
             Check::RunTorn => "a run of a list cut off",
             Check::RunChanged => "a run of a list with changed bytes",
             Check::RunNoise => "a run of a list with random bytes after it",
+            Check::Fresh => "a fresh venue, in venue memory of any length",
             Check::Call => "a one-message call",
             Check::CallShort => "a one-message call with short report memory",
             Check::CallNumber => "a one-message call with the last numbers",
@@ -72,8 +76,13 @@ impl Check {
         Check::ALL.into_iter().find(|check| check.name() == name)
     }
 
-    pub fn is_call(self) -> bool {
-        self.name().starts_with("call")
+    /// Whether its answer has this part.
+    pub fn has(self, part: Part) -> bool {
+        match self {
+            Check::Fresh => part.is_of_venue() || part == Part::Number,
+            _ if self.name().starts_with("call") => true,
+            _ => !part.is_of_venue(),
+        }
     }
 }
 

@@ -1,8 +1,11 @@
 //! What is compared with the reference.
 
-/// The two calls as a host sees them.
+/// The calls as a host sees them.
 pub trait Engine {
     fn run(&self, messages: &[u8], report: &mut [u8]) -> u8;
+
+    /// A fresh venue, in venue memory of any length.
+    fn fresh(&self, venue: &mut [u8]) -> u8;
 
     /// One message upon venue memory of any length.
     fn message(&self, venue: &mut [u8], before: u32, message: &[u8], report: &mut [u8]) -> u8;
@@ -16,6 +19,10 @@ impl Engine for Archive {
         legging::run(messages, report).get()
     }
 
+    fn fresh(&self, venue: &mut [u8]) -> u8 {
+        legging::fresh_in(venue).get()
+    }
+
     fn message(&self, venue: &mut [u8], before: u32, message: &[u8], report: &mut [u8]) -> u8 {
         legging::one_message_in(venue, before, message, report).get()
     }
@@ -27,6 +34,12 @@ pub struct Reference;
 impl Engine for Reference {
     fn run(&self, messages: &[u8], report: &mut [u8]) -> u8 {
         reference::run(messages, report).number
+    }
+
+    fn fresh(&self, venue: &mut [u8]) -> u8 {
+        let (number, fresh) = crate::calls::expected_fresh(venue);
+        venue.copy_from_slice(&fresh);
+        number
     }
 
     fn message(&self, venue: &mut [u8], before: u32, message: &[u8], report: &mut [u8]) -> u8 {

@@ -20,12 +20,13 @@ compare: the engine against the reference, byte for byte
 
 Each session of the generator is run whole, with report memory that ends near each
 message's records and of every short length, cut off, with changed and with random
-bytes; and message by message, each upon the venue that the last one left, with calls
-beside them upon short memory, the last message numbers, torn bytes, changed venues
-and venue memory of other lengths. Compared are the number, every byte of the report
-memory (lent full of junk) and of the venue, and the bytes around both. The first
-difference ends it with exit status 1, and names what repeats it. A soak tries report
-memory that ends near one in ten messages' records; the others try all of them.
+bytes; and message by message, the first upon a fresh venue and each other upon the
+venue that the last one left, with calls beside them upon short memory, the last
+message numbers, torn bytes, changed venues and venue memory of other lengths.
+Compared are the number, every byte of the report memory (lent full of junk) and of
+the venue, and the bytes around both. The first difference ends it with exit status 1,
+and names what repeats it. A soak tries report memory that ends near one in ten
+messages' records; the others try all of them.
 ";
 
 /// When to stop.

@@ -198,10 +198,24 @@ impl Session<'_, '_> {
         same.map_err(|what| (check, what))
     }
 
-    /// The messages one by one, each upon the venue that the last one left, with
-    /// calls beside them.
+    fn fresh(&mut self, length: usize) -> Result<Vec<u8>, (Check, String)> {
+        let same = self.comparer.fresh(Check::Fresh, length);
+        same.map_err(|what| (Check::Fresh, what))
+    }
+
+    /// The first venue; memory of another length holds none.
+    fn first_venue(&mut self) -> Result<Vec<u8>, (Check, String)> {
+        let odd = self.random().below(VENUE_BYTES as u64) as usize;
+        for length in [0, 1, odd, VENUE_BYTES - 1, VENUE_BYTES + 1] {
+            self.fresh(length)?;
+        }
+        self.fresh(VENUE_BYTES)
+    }
+
+    /// The messages one by one, the first upon a fresh venue and each other upon
+    /// the venue that the last one left, with calls beside them.
     fn calls(&mut self) -> Checked {
-        let mut venue = vec![0; VENUE_BYTES];
+        let mut venue = self.first_venue()?;
         let pieces = std::mem::take(&mut self.pieces);
         let mut end = 0;
         for (message, before) in pieces.iter().zip(0..) {

@@ -24,7 +24,7 @@ fn faults() -> impl Iterator<Item = Fault> {
     Check::ALL.into_iter().flat_map(|check| {
         let parts = Part::ALL.into_iter();
         parts
-            .filter(move |part| check.is_call() || !part.is_of_venue())
+            .filter(move |part| check.has(*part))
             .map(move |part| Fault { check, part })
     })
 }

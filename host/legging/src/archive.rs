@@ -11,6 +11,8 @@ extern "C" {
         report_len: usize,
     ) -> u8;
 
+    fn legging_fresh(venue: *mut u8, venue_len: usize) -> u8;
+
     fn legging_message(
         venue: *mut u8,
         venue_len: usize,
@@ -40,6 +42,15 @@ pub fn run(messages: &[u8], report: &mut [u8]) -> Number {
             report.len(),
         )
     };
+    Number::new(number)
+}
+
+/// Writes a fresh venue into venue memory: [`Number::DONE`]. With other than
+/// [`VENUE_BYTES`](crate::VENUE_BYTES) bytes the number is [`Number::UNSOUND`], and
+/// the memory as it was.
+pub fn fresh_in(venue: &mut [u8]) -> Number {
+    // SAFETY: the slice is whole for its length; the call writes it and keeps nothing.
+    let number = unsafe { legging_fresh(venue.as_mut_ptr(), venue.len()) };
     Number::new(number)
 }
 

@@ -23,10 +23,10 @@
 //! ```
 //! use legging::{one_message, Number, VenueBytes, MOST_BYTES};
 //!
-//! // Opens series 2 of the fresh venue; no message went before.
+//! // Closes series 2 of the fresh venue; no message went before.
 //! let mut venue = VenueBytes::fresh();
 //! let mut report = [0; MOST_BYTES];
-//! let number = one_message(&mut venue, 0, &[6, 0, 5, 0, 2, 1], &mut report);
+//! let number = one_message(&mut venue, 0, &[6, 0, 5, 0, 2, 0], &mut report);
 //! assert_eq!(number, Number::DONE);
 //! assert_ne!(venue, VenueBytes::fresh());
 //! ```
@@ -35,7 +35,7 @@ mod archive;
 mod number;
 mod venue;
 
-pub use archive::{one_message, one_message_in, run};
+pub use archive::{fresh_in, one_message, one_message_in, run};
 pub use number::Number;
 pub use venue::{VenueBytes, VENUE_BYTES};
 

@@ -1,5 +1,7 @@
 //! A venue held by a host between one-message calls.
 
+use crate::archive::fresh_in;
+use crate::number::Number;
 use std::fmt;
 
 /// The length of a venue.
@@ -17,9 +19,14 @@ pub const VENUE_BYTES: usize = 2_604;
 pub struct VenueBytes([u8; VENUE_BYTES]);
 
 impl VenueBytes {
-    /// No orders, all series closed, no away prices, last id 0.
-    pub const fn fresh() -> Self {
-        VenueBytes([0; VENUE_BYTES])
+    /// No orders, all series open, no away prices, last id 0.
+    ///
+    /// Bytes that are all zero are a sound venue too, with all series closed.
+    pub fn fresh() -> Self {
+        let mut bytes = [0; VENUE_BYTES];
+        let number = fresh_in(&mut bytes);
+        debug_assert_eq!(number, Number::DONE);
+        VenueBytes(bytes)
     }
 
     /// A venue kept as bytes. Whether it is sound is tested by the call.

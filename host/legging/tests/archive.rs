@@ -1,6 +1,9 @@
 //! The wrapper over the archive: what its callers are promised.
 
-use legging::{one_message, one_message_in, run, Number, VenueBytes, MOST_BYTES, VENUE_BYTES};
+use legging::{fresh_in, one_message, one_message_in, run};
+use legging::{Number, VenueBytes, MOST_BYTES, VENUE_BYTES};
+use reference::Venue;
+use sessions::held::to_bytes;
 use sessions::message::split;
 use sessions::profile::Profile;
 use sessions::record::{print_sheet, read_report};
@@ -74,6 +77,50 @@ fn empty_slices() {
 }
 
 #[test]
+fn the_fresh_venue_is_written_whole() {
+    let mut venue = [0x77; VENUE_BYTES];
+    assert_eq!(fresh_in(&mut venue), Number::DONE);
+    assert_eq!(venue, to_bytes(&Venue::fresh()));
+    assert_eq!(VenueBytes::fresh().as_bytes(), &venue);
+}
+
+#[test]
+fn memory_of_another_length_gets_no_fresh_venue() {
+    for length in [0, 1, VENUE_BYTES - 1, VENUE_BYTES + 1] {
+        let mut venue = vec![0x77; length];
+        assert_eq!(fresh_in(&mut venue), Number::UNSOUND);
+        assert_eq!(venue, vec![0x77; length]);
+    }
+}
+
+/// Each message of a text upon the venue: the numbers.
+fn numbers(venue: &mut VenueBytes, text: &str) -> Vec<u8> {
+    let messages = encode_session(text).expect("a good session");
+    let mut report = [0xC3; MOST_BYTES];
+    let mut call = |message| one_message(venue, 0, message, &mut report).get();
+    split(&messages).into_iter().map(&mut call).collect()
+}
+
+#[test]
+fn zeros_are_a_venue_with_all_series_closed() {
+    let order = "order 1 sell 5 series 3 at 100\n";
+    let mut zeros = VenueBytes::from_bytes([0; VENUE_BYTES]);
+    assert_eq!(numbers(&mut zeros, order), [6]);
+    assert_eq!(numbers(&mut zeros, "open 3\n"), [0]);
+    assert_eq!(numbers(&mut zeros, order), [0]);
+    let mut fresh = VenueBytes::fresh();
+    assert_eq!(numbers(&mut fresh, order), [0]);
+}
+
+#[test]
+fn eight_closing_messages_leave_zeros() {
+    let mut venue = VenueBytes::fresh();
+    let closes: String = (0..8).map(|series| format!("close {series}\n")).collect();
+    assert_eq!(numbers(&mut venue, &closes), [0; 8]);
+    assert_eq!(venue.as_bytes(), &[0; VENUE_BYTES]);
+}
+
+#[test]
 fn the_printed_session_message_by_message() {
     let mut venue = VenueBytes::fresh();
     let mut told = String::new();
@@ -131,6 +178,8 @@ fn venue_memory_of_another_length_is_unsound() {
 extern "C" {
     fn legging_run(messages: *const u8, n: usize, report: *mut u8, m: usize) -> u8;
 
+    fn legging_fresh(venue: *mut u8, venue_len: usize) -> u8;
+
     fn legging_message(
         venue: *mut u8,
         venue_len: usize,
@@ -154,6 +203,7 @@ fn null_with_length_0() {
         assert_eq!(legging_run(nothing, 0, nowhere, 0), 0);
         assert_eq!(legging_run(sweep.as_ptr(), 4, nowhere, 0), 10);
         assert_eq!(legging_run(nothing, 0, report.as_mut_ptr(), 3), 0);
+        assert_eq!(legging_fresh(nowhere, 0), 9);
         assert_eq!(legging_message(nowhere, 0, 0, nothing, 0, nowhere, 0), 9);
         let torn = legging_message(at, VENUE_BYTES, 0, nothing, 0, nowhere, 0);
         assert_eq!(torn, 10);

@@ -79,6 +79,18 @@ fn the_printed_session() {
 }
 
 #[test]
+fn series_are_open_at_the_start_until_they_are_closed() {
+    let text = "order 1 sell 5 series 3 at 100\nclose 3\norder 2 sell 5 series 3 at 100\n";
+    let messages = encode_session(text).expect("a good session");
+    let (status, told) = both_ways(&[], &messages);
+    assert_eq!(status, 0);
+    assert!(
+        told.starts_with("64 1 0 0 0\n64 2 0 0 0\n64 3 6 0 0\n"),
+        "{told}"
+    );
+}
+
+#[test]
 fn short_memory_and_hexadecimal() {
     let messages = encode_session(SESSION).expect("the stored session is good");
     let (status, told, _) = host(&["--room", "30", "--hex", "-"], &messages);

@@ -10,11 +10,14 @@ pub struct Lent {
 }
 
 impl Lent {
+    /// Memory of no bytes, until some is lent.
     pub fn new() -> Self {
-        Lent {
+        let mut lent = Lent {
             buffer: Vec::new(),
             length: 0,
-        }
+        };
+        lent.lend(0);
+        lent
     }
 
     /// Memory of this length, junk in all of it.
