@@ -10,7 +10,7 @@ use Rattle.rules.specs.declared.Complex.{Complex}
 use Rattle.rules.specs.declared.Legging.{Legging}
 use Rattle.rules.specs.declared.Listed.{Listed}
 use Rattle.rules.specs.Words.{noRegular, noComplex, noLegging, notListed}
-use Rattle.rules.specs.Bytes.{u8At, u16At, u32At, asSigned, asUnsigned, bytes, u32}
+use Rattle.rules.specs.Bytes.{u8At, u16At, u32At, asUnsigned, bytes, u32}
 use Rattle.rules.specs.Records.{FourBytes}
 use Rattle.rules.specs.Opened.{opened-rules}
 use Rattle.rules.proofs.Reading.{byte, word, signed-back, signed-small}
