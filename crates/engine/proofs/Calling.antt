@@ -18,8 +18,8 @@ use Rattle.places.specs.Layout.{venueOf}
 use Rattle.places.proofs.Parts.{regulars-few, complexes-few}
 use Rattle.places.proofs.Tables.{upto-length, used-length}
 use Rattle.demands.specs.Kept.{Shaped, SoundVenue}
-use Rattle.engine.specs.declared.Stepped.{Stepped}
-use Rattle.engine.specs.Steps.{Steps}
+use Rattle.messages.specs.declared.Stepped.{Stepped}
+use Rattle.messages.specs.Steps.{Steps}
 use Rattle.engine.specs.Runs.{callOf}
 use Rattle.engine.proofs.Running.{no-number, no-room, has-room}
 

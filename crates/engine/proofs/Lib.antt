@@ -1,5 +1,3 @@
-pub mod Refusing
-pub mod Stepping
 pub mod Running
 pub mod Calling
 pub mod Hosting

@@ -6,8 +6,8 @@ use Prim.Native.Nat.{ℕ, zero, suc, _+_, _-_, _≤_, _<_, zero-le}
 use native.Mathlib.Omega.{arith}
 use native.Mathlib.Numerals.{add-one}
 use lib.Dec.{eqb}
-use lib.ListN.{length, getD, set, take, drop, replicate, length-drop, drop-of-length-le}
-use lib.Seq.{paste, paste-suc, take-all, length-take-le, drop-drop}
+use lib.ListN.{length, take, drop, replicate, length-drop, drop-of-length-le}
+use lib.Seq.{length-take-le, drop-drop}
 use borrow.Author.Tests.{eq-eqb, ne-eqb, lt-ltb, le-ltb}
 use borrow.Rule.Slice.PartMut.{putMid}
 use Rattle.rules.specs.declared.Venue.{Venue}
@@ -21,18 +21,15 @@ use Rattle.rules.proofs.Calling.{encode-append}
 use Rattle.rules.proofs.Refusing.{whole}
 use Rattle.demands.specs.Kept.{SoundVenue}
 use Rattle.demands.proofs.Calls.{kept, fresh-sound}
-use Rattle.demands.proofs.Most.{writes-at-most}
-use Rattle.wire.specs.Seen.{Seen, seen}
-use Rattle.wire.proofs.Stages.{stage-venue, stage-written}
-use Rattle.wire.proofs.Writes.{writes-in, wrote, overflowed, pasted-to, part-all, tail-front, tail-more}
+use Rattle.wire.proofs.Writes.{wrote, overflowed, pasted-to, part-all, tail-front, tail-more}
 use Rattle.reader.specs.declared.Head.{Head}
 use Rattle.reader.specs.Head.{headAt, headNumber, headLength}
 use Rattle.reader.proofs.Heads.{head-torn, head-message, torn-refused, whole-refused}
 use Rattle.places.specs.Layout.{size, venueOf, Dense, Loaded}
-use Rattle.engine.specs.declared.Stepped.{Stepped}
+use Rattle.messages.specs.declared.Stepped.{Stepped}
+use Rattle.messages.specs.Steps.{Tries}
 use Rattle.engine.specs.declared.Turn.{Turn}
-use Rattle.engine.specs.Steps.{Steps}
-use Rattle.engine.specs.Runs.{Tries, onto, goesOn, Turns, callOf}
+use Rattle.engine.specs.Runs.{onto, goesOn, Turns, callOf}
 
 -- Refusal 10 ----------------------------------------------------------------------------------
 
@@ -392,49 +389,3 @@ ran m l₀ b l z t v d e u =
     ∙ ap₂ (λ (x y : ℕ). callOf (record { number = t .number; done = x; written = y; venue = venueOf b }) (sheet (length l₀) rs)) h k
     ∙ ap (λ (x : List Report). callOf (record { number = t .number; done = t .done + 0; written = length (encodeAll x); venue = venueOf b }) (sheet (length l₀) x)) (sym (append-nil rs))
     ∙ sym (ap (called (length l₀)) (d .is))
-
--- Numbers copied ------------------------------------------------------------------------------
-
-pub copied : (l from : List ℕ) (i : ℕ) → length l ≡ length from → length from ≤ i → i ≤ length from → paste l 0 from i ≡ from
-copied l from i e h k =
-    let z : 0 + i ≡ i = omega arith in
-    ap₂ (λ (x y : List ℕ). x ++ y) (take-all i from h) (drop-of-length-le l {i = 0 + i} (omega arith)) ∙ append-nil from
-
-pub copy-next : (l from : List ℕ) (i : ℕ) → length l ≡ length from → i < length from → set (paste l 0 from i) i (getD from i 0) ≡ paste l 0 from (i + 1)
-copy-next l from i e h =
-    let z : i ≡ 0 + i = omega arith in
-    ap (λ (k : ℕ). set (paste l 0 from i) k (getD from i 0)) z ∙ paste-suc l 0 from i 0 (omega arith) h ∙ ap (paste l 0 from) (sym (add-one i))
-
--- A step tried --------------------------------------------------------------------------------
-
-module _ (a : StepOutcome) (b₀ l : List ℕ) (r : Stepped) (b o : List ℕ) (s : Steps a l r b o) where
-  pub tries-done : r .written ≤ length l → Tries a b₀ l r b o
-  tries-done h =
-      record {
-        refused = s .refused;
-        written = stage-written (venueOf b) o l (r .written) 0 (a .effect) (s .staged);
-        done = λ _. stage-venue (venueOf b) o l (r .written) 0 (a .effect) (s .staged);
-        left = λ k. absurd (omega arith);
-        dense = s .dense;
-      }
-
-  pub tries-left : (b′ : List ℕ) → length l < r .written → b′ ≡ b₀ → Dense b₀ → Tries a b₀ l r b′ o
-  tries-left b′ h e d =
-      record {
-        refused = s .refused;
-        written = stage-written (venueOf b) o l (r .written) 0 (a .effect) (s .staged);
-        done = λ k. absurd (omega arith);
-        left = λ _. ap venueOf e;
-        dense = rw e d;
-      }
-
--- with room for the most that a message upon a sound venue writes
-pub tries-roomy : (v : Venue) (number : ℕ) (m b₀ l : List ℕ) (r : Stepped) (b o : List ℕ) → SoundVenue v → 10112 ≤ length l →
-    Steps (step v number m) l r b o → Tries (step v number m) b₀ l r b o
-unfolding seen
-tries-roomy v number m b₀ l r b o s h g =
-    let most = writes-at-most v s number m in
-    let rs : List Report = step v number m .effect .reports in
-    let e = stage-written (venueOf b) o l (r .written) 0 (step v number m .effect) (g .staged) in
-    let k : r .written ≡ 0 + length (encodeAll rs) = ap (λ (w : Seen). w .at) (e ∙ writes-in l 0 rs (omega arith)) in
-    tries-done (step v number m) b₀ l r b o g (omega arith)

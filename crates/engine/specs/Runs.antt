@@ -7,22 +7,11 @@ use lib.ListN.{length, take, drop}
 use Rattle.rules.specs.declared.Venue.{Venue}
 use Rattle.rules.specs.Base.{if_then_else_}
 use Rattle.rules.specs.Records.{Report, encodeAll}
-use Rattle.rules.specs.Step.{StepOutcome}
 use Rattle.rules.specs.declared.Returned.{Returned}
 use Rattle.rules.specs.Calls.{Outcome, Call, ends, runFrom}
 use Rattle.demands.specs.Kept.{SoundVenue}
-use Rattle.wire.specs.Seen.{seen, _writes_}
 use Rattle.places.specs.Layout.{venueOf, Dense}
-use Rattle.engine.specs.declared.Stepped.{Stepped}
 use Rattle.engine.specs.declared.Turn.{Turn}
-
--- a message done where its records fit; where not, the venue is as it was
-pub record Tries (a : StepOutcome) (b₀ out₀ : List ℕ) (r : Stepped) (b out : List ℕ) : Type 0 where
-  pub refused : r .refused ≡ a .refused
-  pub written : seen out (r .written) ≡ seen out₀ 0 writes a .effect .reports
-  pub done : r .written ≤ length out₀ → venueOf b ≡ a .effect .venue
-  pub left : length out₀ < r .written → venueOf b ≡ venueOf b₀
-  pub dense : Dense b
 
 -- an outcome after k messages and their records
 unfoldable pub onto : (k : ℕ) → List Report → Outcome → Outcome

@@ -1,0 +1,37 @@
+-- `messages::enter_order` meets its contract.
+use mathlib.Core.Path.{_≡_, refl, sym, ap, _∙_}
+use Rattle.rules.specs.declared.Venue.{Venue}
+use native.Mathlib.Omega.{arith}
+use Rattle.rules.specs.Order.{order}
+use Rattle.wire.specs.Seen.{seen}
+use Rattle.wire.specs.Stage.{_does_}
+use Rattle.places.specs.Layout.{venueOf}
+use Rattle.messages.proofs.Stepping.{last-dense, last-below}
+use borrow.Author.Needs.{needs}
+use Rattle.messages.proofs.enter_order.Statement.{statement}
+use Rattle.messages.proofs.enter_order.Tie as tie
+
+put-last-requires : tie.Need-put-last-requires
+put-last-requires c κs = search needs
+
+order-requires : tie.Need-order-requires
+order-requires c κs = let s = c .before .before .before .before .before .before .before .before in let p = c .before .before .before .before .put-last .ensures in let k = p .1 .regulars in let h = s .pre .2 in (c .before .before .before .before .put-last .kept .0 ∙ s .pre .0, last-dense _ _ _ (p .0) (p .1) (s .pre .1), omega arith, s .pre .3, s .pre .4, s .pre .5, last-below _ _ _ (p .0) (s .pre .6))
+
+same-length : tie.Need-same-length
+same-length c = search needs
+
+same-length-2 : tie.Need-same-length-2
+same-length-2 c = search needs
+
+returns : tie.Need-returns
+returns c =
+    let k = c .before .before .before .before .order .ensures in
+    let p9 = c .before .before .before .before .before .before .before .before .before in
+    let s = p9 .before .before .before .before in (
+      k .0 ∙ ap (λ (w : Venue). seen (s .args .out .now) (s .args .at) does order (s .args .o) w) (p9 .put-last .ensures .0),
+      k .1 .right (p9 .put-last .ensures .1 .right (s .pre .1 .right)),
+    )
+
+pub enter-order-spec : {M : Type 1} → statement M
+enter-order-spec =
+    tie.close (tie.spec put-last-requires order-requires same-length same-length-2 returns)

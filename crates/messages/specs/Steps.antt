@@ -1,0 +1,36 @@
+-- What a step leaves of the venue's slice and of the report memory.
+use mathlib.Core.Path.{_≡_}
+use mathlib.Core.List.{List}
+use Prim.Native.Nat.{ℕ, _≤_, _<_}
+use lib.Dec.{eqb}
+use lib.ListN.{length}
+use Rattle.rules.specs.declared.Venue.{Venue}
+use Rattle.rules.specs.declared.Message.{Message}
+use Rattle.rules.specs.Base.{if_then_else_}
+use Rattle.rules.specs.Effects.{nothing}
+use Rattle.rules.specs.Refusals.{refusalOf}
+use Rattle.rules.specs.Step.{StepOutcome, answered, accept}
+use Rattle.wire.specs.Seen.{seen, _writes_}
+use Rattle.wire.specs.Stage.{stage, _does_}
+use Rattle.places.specs.Layout.{venueOf, Dense}
+use Rattle.messages.specs.declared.Stepped.{Stepped}
+
+-- the answer to a message whose fields are in range
+unfoldable pub answeredBy : Venue → (number : ℕ) → Message → StepOutcome
+answeredBy v number m =
+    let x = refusalOf v m in
+    answered number x (if eqb x 0 then accept m v else nothing v)
+
+-- the answered message, done: its venue, its records from the start of the memory, and no gaps left
+pub record Steps (a : StepOutcome) (out₀ : List ℕ) (r : Stepped) (b out : List ℕ) : Type 0 where
+  pub refused : r .refused ≡ a .refused
+  pub staged : stage (venueOf b) out (r .written) ≡ seen out₀ 0 does a .effect
+  pub dense : Dense b
+
+-- a message done where its records fit; where not, the venue is as it was
+pub record Tries (a : StepOutcome) (b₀ out₀ : List ℕ) (r : Stepped) (b out : List ℕ) : Type 0 where
+  pub refused : r .refused ≡ a .refused
+  pub written : seen out (r .written) ≡ seen out₀ 0 writes a .effect .reports
+  pub done : r .written ≤ length out₀ → venueOf b ≡ a .effect .venue
+  pub left : length out₀ < r .written → venueOf b ≡ venueOf b₀
+  pub dense : Dense b
