@@ -29,7 +29,7 @@ ghost use Rattle.legging.specs.Parts.{otherTaken, rangedPrice, pricedLeg
 pub fn shown_well(best: u32, s: u8, d: u8, p: u32) -> bool
     ensures { λ r. ⌜ r ≡ not (better d best (displayed (increment s) d p)) ⌝ }
 {
-    !levels::is_better_wide(d, best as u64, rules::displayed_price(s, d, p))
+    !levels::is_better_wide(d, best as u64, rules::displayed_in(s, d, p))
 }
 
 // The level that the leg of c takes that is not in series s.
@@ -204,7 +204,7 @@ fn ranged(s: u8, d: u8, p: u64) -> u32
         return 0;
     }
     let price = p as u32;
-    let shown = rules::displayed_price(s, d, price);
+    let shown = rules::displayed_in(s, d, price);
     if shown < (rules::increment_of(s) as u64) {
         return 0;
     }
@@ -348,7 +348,7 @@ fn make_leg(b: &mut [u32], id: u32, s: u8, d: u8, l: Legging, out: &mut [u8], at
     let place = rules::place_of(s, d);
     let pos = removal::remove_at(b, place, place, Cause::Replaced, out, at);
     places::put_legging(b, place, l);
-    let shown = rules::displayed_price(s, d, l.price) as u32;
+    let shown = rules::displayed_in(s, d, l.price) as u32;
     wire::emit_generated(out, pos, id, s, d, l.price, shown, l.quantity)
 }
 

@@ -1,9 +1,9 @@
 -- Signed numbers of 64 bits: an operation whose result fits is the integers' own, and the band's test is the definition's.
 use mathlib.Core.Path.{_≡_, refl, sym, ap, ap₂, _∙_}
 use mathlib.Core.Bool.{Bool, true, false}
-use Prim.Native.Nat.{ℕ, _+_, _*_, _≤_, _<_}
+use Prim.Native.Nat.{ℕ, _+_, _-_, _*_, _/_, _≤_, _<_}
 use native.Mathlib.Omega.{arith}
-use native.Mathlib.Nat.{mul-add}
+use native.Mathlib.Nat.{mul-add, mul-zero}
 use lib.Dec.{leb, ltb, eqb}
 use lib.IntN.{ℤ, pos, negsuc, natAbs, negℤ, _+ℤ_, _-ℤ_, _*ℤ_, +ℤ-idl}
 use lib.Signed.{leZ}
@@ -12,7 +12,7 @@ use mir.Val.{SFits, toZ, ofZ}
 use mir.ValLaws.{toZ-ofZ}
 use Rattle.rules.specs.Base.{if_then_else_}
 use Rattle.rules.specs.Words.{signed, increment}
-use Rattle.rules.specs.Prices.{nearNet}
+use Rattle.rules.specs.Prices.{displayed, nearNet}
 use Rattle.rules.proofs.Integers.{plus, minus, add-is, abs-is, abs-add, abs-neg, mul-plus, mul-minus, le-is, leb-same}
 
 -- a number below 2^63 in size fits
@@ -124,3 +124,14 @@ increment-if false = (omega arith, omega arith)
 pub increment-small : (s : ℕ) → (5 ≤ increment s) × (increment s ≤ 10)
 unfolding increment
 increment-small s = increment-if (ltb s 6)
+
+-- Displayed prices ----------------------------------------------------------------------------
+
+-- an increment of 0 shows nothing
+pub shown-none : (d p : ℕ) → displayed 0 d p ≡ 0
+unfolding displayed
+shown-none d p = none (eqb d 0)
+  where
+    none : (b : Bool) → (if b then p / 0 * 0 else (p + (0 - 1)) / 0 * 0) ≡ 0
+    none true = mul-zero (p / 0)
+    none false = mul-zero ((p + (0 - 1)) / 0)

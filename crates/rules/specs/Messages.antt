@@ -1,7 +1,9 @@
 -- Document 01, "Message and record bytes": the messages, kinds 1 to 6.
+use mathlib.Core.Path.{_≡_}
 use mathlib.Core.List.{List, [], _++_}
 use Prim.Native.Nat.{ℕ}
 use lib.Dec.{eqb}
+use lib.ListN.{length}
 use Rattle.rules.specs.declared.Regular.{Regular}
 use Rattle.rules.specs.declared.Complex.{Complex}
 use Rattle.rules.specs.declared.Message.{Message}
@@ -49,6 +51,15 @@ messageOf bs =
     else if eqb k 5 then Status (u8At bs 4) (u8At bs 5)
     else Sweep
 
+-- the table's column "Kind", of a message
+abbrev pub messageKind : Message → ℕ
+messageKind (Order o) = 1
+messageKind (TwoLeg c) = 2
+messageKind (Cancel id) = 3
+messageKind (Away s bid offer) = 4
+messageKind (Status s x) = 5
+messageKind Sweep = 6
+
 -- the bytes of a message
 unfoldable pub encodeMessage : Message → List ℕ
 encodeMessage (Order o) = framed 1 (u32 (o .id) ++ u8 (o .series) ++ u8 (o .side) ++ u32 (o .price) ++ u32 (o .quantity))
@@ -59,3 +70,7 @@ encodeMessage (Cancel id) = framed 3 (u32 id)
 encodeMessage (Away s bid offer) = framed 4 (u8 s ++ u32 bid ++ u32 offer)
 encodeMessage (Status s x) = framed 5 (u8 s ++ u8 x)
 encodeMessage Sweep = framed 6 []
+
+-- "the lengths by kind … be proved those of document 01 for every kind" (request (c)): each message has as many bytes as its kind's length
+abbrev pub KindLengths : Type 0
+KindLengths = (m : Message) → length (encodeMessage m) ≡ lengthOf (messageKind m)

@@ -1,7 +1,8 @@
 -- Document 01, "Prices of a side". A price of 0 means that there is none.
-use mathlib.Core.Bool.{Bool, not, _&&_, _||_}
+use mathlib.Core.Path.{_≡_}
+use mathlib.Core.Bool.{Bool, true, false, not, _&&_, _||_}
 use mathlib.Core.List.{List, [], _∷_}
-use Prim.Native.Nat.{ℕ, _+_, _-_, _*_, _/_}
+use Prim.Native.Nat.{ℕ, _+_, _-_, _*_, _/_, _%_, _≤_, _<_}
 use lib.Dec.{leb, ltb, eqb}
 use lib.IntN.{ℤ, pos, natAbs, _+ℤ_, _*ℤ_}
 use lib.Signed.{leZ}
@@ -86,6 +87,17 @@ clearPrice v s d =
 -- and which way by the filing's Item 3
 unfoldable pub displayed : (increment side price : ℕ) → ℕ
 displayed i d p = if eqb d buy then p / i * i else (p + (i - 1)) / i * i
+
+-- "down (buy) or up (sell) to the increment": a multiple of it, not above the price to buy, not below it to sell, and less than one increment away
+pub record Rounds (increment side price shown : ℕ) : Type 0 where
+  pub multiple : shown % increment ≡ 0
+  pub down : eqb side buy ≡ true → (shown ≤ price) × (price < shown + increment)
+  pub up : eqb side buy ≡ false → (price ≤ shown) × (shown < price + increment)
+
+-- "the rounding to an increment … be proved those of document 01 for every … price, side and series" (request (c)): of every increment, and no
+-- other price is so rounded
+abbrev pub DisplayedRounds : Type 0
+DisplayedRounds = (i d p : ℕ) → 0 < i → Rounds i d p (displayed i d p) × ((r : ℕ) → Rounds i d p r → r ≡ displayed i d p)
 
 -- The market and the band ---------------------------------------------------------------------
 

@@ -4,7 +4,7 @@ ghost use mathlib.Core.Path.{_≡_};
 ghost use Prim.Native.Nat.{ℕ, min, _+_, _≤_};
 ghost use lib.IntN.{ℤ, pos, natAbs, _+ℤ_};
 ghost use Rattle.rules.specs.Words.{opposite, signed, increment, placeOf, freshVenue};
-ghost use Rattle.rules.specs.Messages.{lengthOf};
+ghost use Rattle.rules.specs.Messages.{lengthOf, messageKind};
 ghost use Rattle.rules.specs.Records.{causeNumber};
 ghost use Rattle.rules.specs.Prices.{displayed, weighed, percent, nearNet};
 ghost use Rattle.rules.specs.Standing.{verdictNumber};
@@ -162,15 +162,25 @@ pub fn increment_of(series: u8) -> u32
 }
 
 // A legging order's displayed price: its own, down (buy) or up (sell) to the increment of its series.
-pub fn displayed_price(series: u8, side: u8, price: u32) -> u64
-    ensures { λ r. ⌜ r ≡ displayed (increment series) side price ⌝ }
+pub fn displayed_price(increment: u8, side: u8, price: u32) -> u64
+    ensures { λ r. ⌜ r ≡ displayed increment side price ⌝ }
 {
-    let i = increment_of(series) as u64;
+    if increment == 0 {
+        return 0;
+    }
+    let i = increment as u64;
     let p = price as u64;
     if side == 0 {
         return p / i * i;
     }
     (p + (i - 1)) / i * i
+}
+
+// The same in a series.
+pub fn displayed_in(series: u8, side: u8, price: u32) -> u64
+    ensures { λ r. ⌜ r ≡ displayed (increment series) side price ⌝ }
+{
+    displayed_price(increment_of(series) as u8, side, price)
 }
 
 // The place of a legging order.
@@ -228,26 +238,43 @@ pub fn near_net(o: i64, t: i64) -> bool
     100 * t <= 105 * o
 }
 
-// A message's length by its kind, 0 for what is no kind of message.
+// A message's kind.
+pub fn message_kind(m: Message) -> u16
+    ensures { λ r. ⌜ r ≡ messageKind m ⌝ }
+{
+    match m {
+        Message::Order(_) => 1,
+        Message::TwoLeg(_) => 2,
+        Message::Cancel(_) => 3,
+        Message::Away(_, _, _) => 4,
+        Message::Status(_, _) => 5,
+        Message::Sweep => 6,
+    }
+}
+
+// A message's length by its kind, 0 for what is no kind of message. It compares in order: of tests for equality a compiler makes a table of lengths.
 pub fn length_of(kind: u16) -> u16
     ensures { λ r. ⌜ r ≡ lengthOf kind ⌝ }
 {
-    if kind == 1 {
+    if kind == 0 {
+        return 0;
+    }
+    if kind <= 1 {
         return 18;
     }
-    if kind == 2 {
+    if kind <= 2 {
         return 21;
     }
-    if kind == 3 {
+    if kind <= 3 {
         return 8;
     }
-    if kind == 4 {
+    if kind <= 4 {
         return 13;
     }
-    if kind == 5 {
+    if kind <= 5 {
         return 6;
     }
-    if kind == 6 {
+    if kind <= 6 {
         return 4;
     }
     0
