@@ -97,6 +97,10 @@ complex-quantity c a b s d t e n k l =
 
 -- Kinds ---------------------------------------------------------------------------------------
 
+-- bytes that are as many as their kind's length, of a kind that is known
+pub of-length : (s : List ℕ) (k : ℕ) → u16At s 2 ≡ k → lengthOf (u16At s 2) ≤ length s → lengthOf k ≤ length s
+of-length s k e h = rw (← e) h
+
 pub length-none : (k : ℕ) → (k ≡ 1 → ⊥) → (k ≡ 2 → ⊥) → (k ≡ 3 → ⊥) → (k ≡ 4 → ⊥) → (k ≡ 5 → ⊥) → (k ≡ 6 → ⊥) → lengthOf k ≡ 0
 unfolding lengthOf
 length-none k a b c d e f = rw (ne-eqb k 1 a, ne-eqb k 2 b, ne-eqb k 3 c, ne-eqb k 4 d, ne-eqb k 5 e, ne-eqb k 6 f)

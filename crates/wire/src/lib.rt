@@ -77,6 +77,32 @@ pub fn i32_at(s: &[u8], at: usize) -> i32
     signed(u32_at(s, at))
 }
 
+// A message's field, where the message is long enough to have it: the same numbers, with no test of the length.
+fn byte_at(s: &[u8], at: usize) -> u8
+    requires { ⌜ at < length (now s) ⌝ }
+    ensures { λ r. ⌜ r ≡ u8At (now (s .entry)) at ⌝ }
+{
+    s[at]
+}
+
+fn half_at(s: &[u8], at: usize) -> u16
+    requires { ⌜ at + 2 ≤ length (now s) ⌝ }
+    ensures { λ r. ⌜ r ≡ u16At (now (s .entry)) at ⌝ }
+{
+    let low = wide16(byte_at(s, at));
+    let high = wide16(byte_at(s, at + 1));
+    low + 256 * high
+}
+
+fn word_at(s: &[u8], at: usize) -> u32
+    requires { ⌜ at + 4 ≤ length (now s) ⌝ }
+    ensures { λ r. ⌜ r ≡ u32At (now (s .entry)) at ⌝ }
+{
+    let low = wide32(half_at(s, at));
+    let high = wide32(half_at(s, at + 2));
+    low + 65536 * high
+}
+
 // A message -----------------------------------------------------------------------------------
 
 fn is_regular_price(step: u32, price: u32) -> bool
@@ -133,6 +159,9 @@ pub fn regular_in_range(o: Regular) -> bool
 pub fn complex_in_range(c: Complex) -> bool
     ensures { λ r. ⌜ r ≡ complexInRange c ⌝ }
 {
+    if c.series1 == c.series2 {
+        return false;
+    }
     if c.id == 0 {
         return false;
     }
@@ -146,9 +175,6 @@ pub fn complex_in_range(c: Complex) -> bool
         return false;
     }
     if 1 < c.side2 {
-        return false;
-    }
-    if c.series1 == c.series2 {
         return false;
     }
     if 1 < c.class {
@@ -181,66 +207,74 @@ fn status_in_range(series: u8, status: u8) -> bool
     status <= 2
 }
 
-// Every field of a message is in its range.
+// Every field of a message is in its range. In two halves, by the kind: of a match of all kinds a compiler makes a table of addresses.
 fn in_range(m: Message) -> bool
     ensures { λ r. ⌜ r ≡ inRange m ⌝ }
 {
+    if rules::message_kind(m) <= 3 {
+        return match m {
+            Message::Order(o) => regular_in_range(o),
+            Message::TwoLeg(c) => complex_in_range(c),
+            Message::Cancel(id) => id != 0,
+            _ => false,
+        };
+    }
     match m {
-        Message::Order(o) => regular_in_range(o),
-        Message::TwoLeg(c) => complex_in_range(c),
-        Message::Cancel(id) => id != 0,
         Message::Away(series, bid, offer) => away_in_range(series, bid, offer),
         Message::Status(series, status) => status_in_range(series, status),
-        Message::Sweep => true,
+        _ => true,
     }
 }
 
 fn order_at(s: &[u8]) -> Regular
+    requires { ⌜ 18 ≤ length (now s) ⌝ }
     ensures { λ r. ⌜ r ≡ orderAt (now (s .entry)) ⌝ }
 {
     Regular {
-        id: u32_at(s, 4),
-        series: u8_at(s, 8),
-        side: u8_at(s, 9),
-        price: u32_at(s, 10),
-        quantity: u32_at(s, 14),
+        id: word_at(s, 4),
+        series: byte_at(s, 8),
+        side: byte_at(s, 9),
+        price: word_at(s, 10),
+        quantity: word_at(s, 14),
     }
 }
 
 fn two_leg_at(s: &[u8]) -> Complex
+    requires { ⌜ 21 ≤ length (now s) ⌝ }
     ensures { λ r. ⌜ r ≡ twoLegAt (now (s .entry)) ⌝ }
 {
     Complex {
-        id: u32_at(s, 4),
-        series1: u8_at(s, 8),
-        side1: u8_at(s, 9),
-        series2: u8_at(s, 10),
-        side2: u8_at(s, 11),
-        class: u8_at(s, 12),
-        limit: i32_at(s, 13),
-        quantity: u32_at(s, 17),
+        id: word_at(s, 4),
+        series1: byte_at(s, 8),
+        side1: byte_at(s, 9),
+        series2: byte_at(s, 10),
+        side2: byte_at(s, 11),
+        class: byte_at(s, 12),
+        limit: signed(word_at(s, 13)),
+        quantity: word_at(s, 17),
     }
 }
 
-// The message at the front of `s`, by its kind.
+// The message at the front of `s`, of its kind's length, compared in order as in `length_of`.
 fn message_of(s: &[u8]) -> Message
+    requires { ⌜ (4 ≤ length (now s)) × (0 < u16At (now s) 2) × (lengthOf (u16At (now s) 2) ≤ length (now s)) ⌝ }
     ensures { λ r. ⌜ r ≡ messageOf (now (s .entry)) ⌝ }
 {
-    let kind = u16_at(s, 2);
-    if kind == 1 {
+    let kind = half_at(s, 2);
+    if kind <= 1 {
         return Message::Order(order_at(s));
     }
-    if kind == 2 {
+    if kind <= 2 {
         return Message::TwoLeg(two_leg_at(s));
     }
-    if kind == 3 {
-        return Message::Cancel(u32_at(s, 4));
+    if kind <= 3 {
+        return Message::Cancel(word_at(s, 4));
     }
-    if kind == 4 {
-        return Message::Away(u8_at(s, 4), u32_at(s, 5), u32_at(s, 9));
+    if kind <= 4 {
+        return Message::Away(byte_at(s, 4), word_at(s, 5), word_at(s, 9));
     }
-    if kind == 5 {
-        return Message::Status(u8_at(s, 4), u8_at(s, 5));
+    if kind <= 5 {
+        return Message::Status(byte_at(s, 4), byte_at(s, 5));
     }
     Message::Sweep
 }

@@ -12,28 +12,28 @@ use Rattle.wire.proofs.complex_in_range.Statement.{statement}
 use Rattle.wire.proofs.complex_in_range.Tie as tie
 
 returns : tie.Need-returns
-unfolding complexInRange isId
-returns c = rw (below 1 4294967295 (c .before .before .args .c .id) (omega arith))
+unfolding complexInRange
+returns c = simp (eq-eqb _ _ (c .if1 .taken), and-false)
 
 returns-2 : tie.Need-returns-2
-unfolding complexInRange isSeries
-returns-2 c = simp (above 0 7 (c .before .before .before .before .args .c .series1) (c .if2 .taken), and-false)
+unfolding complexInRange isId
+returns-2 c = rw (below 1 4294967295 (c .before .before .before .before .args .c .id) (omega arith))
 
 returns-3 : tie.Need-returns-3
-unfolding complexInRange isSide
-returns-3 c = simp (above 0 1 (c .before .before .before .before .before .before .args .c .side1) (c .if3 .taken), and-false)
+unfolding complexInRange isSeries
+returns-3 c = simp (above 0 7 (c .before .before .before .before .before .before .args .c .series1) (c .if3 .taken), and-false)
 
 returns-4 : tie.Need-returns-4
-unfolding complexInRange isSeries
-returns-4 c = simp (above 0 7 (c .before .before .before .before .before .before .before .before .args .c .series2) (c .if4 .taken), and-false)
+unfolding complexInRange isSide
+returns-4 c = simp (above 0 1 (c .before .before .before .before .before .before .before .before .args .c .side1) (c .if4 .taken), and-false)
 
 returns-5 : tie.Need-returns-5
-unfolding complexInRange isSide
-returns-5 c = simp (above 0 1 (c .before .before .before .before .before .before .before .before .before .before .args .c .side2) (c .if5 .taken), and-false)
+unfolding complexInRange isSeries
+returns-5 c = simp (above 0 7 (c .before .before .before .before .before .before .before .before .before .before .args .c .series2) (c .if5 .taken), and-false)
 
 returns-6 : tie.Need-returns-6
-unfolding complexInRange
-returns-6 c = simp (eq-eqb _ _ (c .if6 .taken), and-false)
+unfolding complexInRange isSide
+returns-6 c = simp (above 0 1 (c .before .before .before .before .before .before .before .before .before .before .before .before .args .c .side2) (c .if6 .taken), and-false)
 
 returns-7 : tie.Need-returns-7
 unfolding complexInRange isClass
@@ -59,8 +59,8 @@ returns-9 c =
     let told = c .before .before .before .struct-told .given in
     let e = c .before .before .is-limit .ensures ∙ ap isLimit (toZ-ofZ w32 (o .limit) (record { sfits = told .1 .1 .1 .1 .1 .1 .0 .1 })) in
     c .is-quantity .ensures
-    ∙ complex-quantity o (omega arith) (omega arith) (c .before .before .before .before .before .before .before .before .before .before .before .before .before .before .if2 .left) (c .before .before .before .before .before .before .before .before .before .before .before .before .if3 .left) (c .before .before .before .before .before .before .before .before .before .before .if4 .left) (c .before .before .before .before .before .before .before .before .if5 .left)
-    (c .before .before .before .before .before .before .if6 .left) (c .before .before .before .before .if7 .left) (sym e ∙ not-false _ (c .before .if8 .left))
+    ∙ complex-quantity o (omega arith) (omega arith) (c .before .before .before .before .before .before .before .before .before .before .before .before .if3 .left) (c .before .before .before .before .before .before .before .before .before .before .if4 .left) (c .before .before .before .before .before .before .before .before .if5 .left) (c .before .before .before .before .before .before .if6 .left)
+    (c .before .before .before .before .before .before .before .before .before .before .before .before .before .before .before .before .if1 .left) (c .before .before .before .before .if7 .left) (sym e ∙ not-false _ (c .before .if8 .left))
 
 pub complex-in-range-spec : {M : Type 1} → statement M
 complex-in-range-spec =

@@ -46,7 +46,9 @@ returns-6 c =
     no-length s (whole s (omega arith) (omega arith) (omega arith)) (inside 1 6 (u16At s 2) (omega arith) (omega arith)) (λ e. omega arith)
 
 message-of-requires : tie.Need-message-of-requires
-message-of-requires c κs = search needs
+message-of-requires c κs =
+    let n = c .before .length-of .ensures ∙ ap lengthOf (c .before .before .before .before .u16-at2 .ensures) in
+    (omega arith, omega arith, omega arith)
 
 in-range-requires : tie.Need-in-range-requires
 in-range-requires c κs = search needs

@@ -1,73 +1,82 @@
-use mathlib.Core.Path.{sym, ap, _∙_}
+use mathlib.Core.Path.{_≡_, sym, ap, _∙_}
+use native.Mathlib.Omega.{arith}
 use Rattle.rules.specs.declared.Message.the-variants.{Order, TwoLeg, Cancel}
-use Rattle.wire.proofs.Decoding.{message-order, message-two-leg, message-cancel, message-away, message-status, message-sweep}
+use Rattle.rules.specs.Bytes.{u16At}
+use Rattle.rules.specs.Messages.{lengthOf}
+use Rattle.wire.proofs.Decoding.{of-length, message-order, message-two-leg, message-cancel, message-away, message-status, message-sweep}
 use borrow.Author.Needs.{needs}
 use Rattle.wire.proofs.message_of.Statement.{statement}
 use Rattle.wire.proofs.message_of.Tie as tie
 
-u16-at-requires : tie.Need-u16-at-requires
-u16-at-requires c κs = search needs
+half-at-requires : tie.Need-half-at-requires
+half-at-requires c κs = search needs
 
 order-at-requires : tie.Need-order-at-requires
-order-at-requires c κs = search needs
+unfolding lengthOf
+order-at-requires c κs = let s = c .before .before .before .args .s .now in let e : u16At s 2 ≡ 1 = omega arith in of-length s 1 e (c .before .before .before .pre .2)
 
 returns : tie.Need-returns
-returns c = ap Order (c .order-at .ensures) ∙ sym (message-order _ (sym (c .before .before .u16-at .ensures) ∙ c .before .if1 .taken))
+returns c = let s = c .before .before .before .before .args .s .now in let e : u16At s 2 ≡ 1 = omega arith in ap Order (c .order-at .ensures) ∙ sym (message-order s e)
 
 two-leg-at-requires : tie.Need-two-leg-at-requires
-two-leg-at-requires c κs = search needs
+unfolding lengthOf
+two-leg-at-requires c κs = let s = c .before .before .before .before .args .s .now in let e : u16At s 2 ≡ 2 = omega arith in of-length s 2 e (c .before .before .before .before .pre .2)
 
 returns-2 : tie.Need-returns-2
-returns-2 c = ap TwoLeg (c .two-leg-at .ensures) ∙ sym (message-two-leg _ (sym (c .before .before .before .u16-at .ensures) ∙ c .before .if2 .taken))
+returns-2 c = let s = c .before .before .before .before .before .args .s .now in let e : u16At s 2 ≡ 2 = omega arith in ap TwoLeg (c .two-leg-at .ensures) ∙ sym (message-two-leg s e)
 
-u32-at-requires : tie.Need-u32-at-requires
-u32-at-requires c κs = search needs
+word-at-requires : tie.Need-word-at-requires
+unfolding lengthOf
+word-at-requires c κs = let s = c .before .before .before .before .before .args .s .now in let e : u16At s 2 ≡ 3 = omega arith in let n = of-length s 3 e (c .before .before .before .before .before .pre .2) in omega arith
 
 returns-3 : tie.Need-returns-3
-returns-3 c = ap Cancel (c .u32-at .ensures) ∙ sym (message-cancel _ (sym (c .before .before .before .before .u16-at .ensures) ∙ c .before .if3 .taken))
+returns-3 c = let s = c .before .before .before .before .before .before .args .s .now in let e : u16At s 2 ≡ 3 = omega arith in ap Cancel (c .word-at .ensures) ∙ sym (message-cancel s e)
 
-u8-at-requires : tie.Need-u8-at-requires
-u8-at-requires c κs = search needs
+byte-at-requires : tie.Need-byte-at-requires
+unfolding lengthOf
+byte-at-requires c κs = let s = c .before .before .before .before .before .before .args .s .now in let e : u16At s 2 ≡ 4 = omega arith in let n = of-length s 4 e (c .before .before .before .before .before .before .pre .2) in omega arith
 
-u32-at-requires-2 : tie.Need-u32-at-requires-2
-u32-at-requires-2 c κs = search needs
+word-at-requires-2 : tie.Need-word-at-requires-2
+unfolding lengthOf
+word-at-requires-2 c κs = let s = c .before .before .before .before .before .before .before .args .s .now in let e : u16At s 2 ≡ 4 = omega arith in let n = of-length s 4 e (c .before .before .before .before .before .before .before .pre .2) in omega arith
 
-u32-at-requires-3 : tie.Need-u32-at-requires-3
-u32-at-requires-3 c κs = search needs
+word-at-requires-3 : tie.Need-word-at-requires-3
+unfolding lengthOf
+word-at-requires-3 c κs = let s = c .before .before .before .before .before .before .before .before .args .s .now in let e : u16At s 2 ≡ 4 = omega arith in let n = of-length s 4 e (c .before .before .before .before .before .before .before .before .pre .2) in omega arith
 
 returns-4 : tie.Need-returns-4
-returns-4 c = rw (c .before .before .u8-at .ensures, c .before .u32-at2 .ensures, c .u32-at3 .ensures) (sym (message-away _ (sym (c .before .before .before .before .before .before .before .u16-at .ensures) ∙ c .before .before .before .if4 .taken)))
+returns-4 c = let s = c .before .before .before .before .before .before .before .before .before .args .s .now in let e : u16At s 2 ≡ 4 = omega arith in rw (c .before .before .byte-at .ensures, c .before .word-at2 .ensures, c .word-at3 .ensures) (sym (message-away s e))
 
-u8-at-requires-2 : tie.Need-u8-at-requires-2
-u8-at-requires-2 c κs = search needs
+byte-at-requires-2 : tie.Need-byte-at-requires-2
+unfolding lengthOf
+byte-at-requires-2 c κs = let s = c .before .before .before .before .before .before .before .args .s .now in let e : u16At s 2 ≡ 5 = omega arith in let n = of-length s 5 e (c .before .before .before .before .before .before .before .pre .2) in omega arith
 
-u8-at-requires-3 : tie.Need-u8-at-requires-3
-u8-at-requires-3 c κs = search needs
+byte-at-requires-3 : tie.Need-byte-at-requires-3
+unfolding lengthOf
+byte-at-requires-3 c κs = let s = c .before .before .before .before .before .before .before .before .args .s .now in let e : u16At s 2 ≡ 5 = omega arith in let n = of-length s 5 e (c .before .before .before .before .before .before .before .before .pre .2) in omega arith
 
 returns-5 : tie.Need-returns-5
-returns-5 c = rw (c .before .u8-at2 .ensures, c .u8-at3 .ensures) (sym (message-status _ (sym (c .before .before .before .before .before .before .before .u16-at .ensures) ∙ c .before .before .if5 .taken)))
+returns-5 c = let s = c .before .before .before .before .before .before .before .before .before .args .s .now in let e : u16At s 2 ≡ 5 = omega arith in rw (c .before .byte-at2 .ensures, c .byte-at3 .ensures) (sym (message-status s e))
 
 returns-6 : tie.Need-returns-6
-returns-6 c =
-    let k = c .before .before .before .before .before .u16-at .ensures in
-    sym (message-sweep _ (λ e. c .before .before .before .before .if1 .left (k ∙ e)) (λ e. c .before .before .before .if2 .left (k ∙ e)) (λ e. c .before .before .if3 .left (k ∙ e)) (λ e. c .before .if4 .left (k ∙ e)) (λ e. c .if5 .left (k ∙ e)))
+returns-6 c = let s = c .before .before .before .before .before .before .before .args .s .now in sym (message-sweep s (λ e. omega arith) (λ e. omega arith) (λ e. omega arith) (λ e. omega arith) (λ e. omega arith))
 
 pub message-of-spec : {M : Type 1} → statement M
 message-of-spec =
     tie.close
     (tie.spec
-    u16-at-requires
+    half-at-requires
     order-at-requires
     returns
     two-leg-at-requires
     returns-2
-    u32-at-requires
+    word-at-requires
     returns-3
-    u8-at-requires
-    u32-at-requires-2
-    u32-at-requires-3
+    byte-at-requires
+    word-at-requires-2
+    word-at-requires-3
     returns-4
-    u8-at-requires-2
-    u8-at-requires-3
+    byte-at-requires-2
+    byte-at-requires-3
     returns-5
     returns-6)
