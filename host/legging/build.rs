@@ -1,4 +1,5 @@
-//! Finds the archive that `rt staticlib engine` writes, and links it.
+//! Finds the archive that `rt staticlib engine` writes, links it, and tells the tests
+//! its path.
 
 use std::env;
 use std::path::{Path, PathBuf};
@@ -26,6 +27,7 @@ fn main() {
         );
         exit(1);
     };
+    println!("cargo:rustc-env=ENGINE_ARCHIVE={folder}/lib{name}.a");
     println!("cargo:rustc-link-search=native={folder}");
     println!("cargo:rustc-link-lib=static={name}");
 }
