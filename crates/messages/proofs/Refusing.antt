@@ -10,9 +10,10 @@ use Rattle.rules.specs.declared.Complex.{Complex}
 use Rattle.rules.specs.declared.Listed.{Listed}
 use Rattle.rules.specs.declared.Venue.{Venue}
 use Rattle.rules.specs.declared.Message.{Message}
-use Rattle.rules.specs.declared.Message.the-variants.{Away, Status}
+use Rattle.rules.specs.declared.Message.the-variants.{Order, TwoLeg, Cancel, Away, Status, Sweep}
 use Rattle.rules.specs.Base.{if_then_else_}
 use Rattle.rules.specs.Words.{within, isSeries, isSide, statusOf, listedAt, withSeries}
+use Rattle.rules.specs.Messages.{messageKind}
 use Rattle.rules.specs.Complex.{regularPlace, complexPlace, restsRegular, restsComplex}
 use Rattle.rules.specs.Refusals.{regularInRange, complexInRange, inRange, idTooLow, onClosed, full, unknown, refusalOf}
 use Rattle.rules.specs.Step.{setAway, setStatus}
@@ -50,6 +51,16 @@ unfolding inRange isSeries within
 status-series s x z = let a = leb-true s 7 (search (and-l, and-r, z) depth 8) in omega arith
 
 -- Each refusal from its test ------------------------------------------------------------------
+
+-- kinds above 3 meet none of 5 to 8
+pub late-accepted : (v : Venue) (m : Message) → 3 < messageKind m → 0 ≡ refusalOf v m
+unfolding refusalOf idTooLow onClosed full unknown
+late-accepted v (Order o) h = absurd (omega arith)
+late-accepted v (TwoLeg c) h = absurd (omega arith)
+late-accepted v (Cancel id) h = absurd (omega arith)
+late-accepted v (Away s bid offer) h = refl
+late-accepted v (Status s x) h = refl
+late-accepted v Sweep h = refl
 
 module _ (v : Venue) (m : Message) where
   pub refuses-low : idTooLow v m ≡ true → 5 ≡ refusalOf v m

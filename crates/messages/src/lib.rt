@@ -99,13 +99,14 @@ fn refusal_of(b: &[u32], m: Message) -> u8
     requires { ⌜ (length (now b) ≡ size) × (Dense (now b)) × (inRange m ≡ true) ⌝ }
     ensures { λ r. ⌜ r ≡ refusalOf (venueOf (now (b .entry))) m ⌝ }
 {
+    if 3 < rules::message_kind(m) {
+        return 0;
+    }
     match m {
         Message::Order(o) => order_refusal(b, o),
         Message::TwoLeg(c) => complex_refusal(b, c),
         Message::Cancel(id) => cancel_refusal(b, id),
-        Message::Away(_series, _bid, _offer) => 0,
-        Message::Status(_series, _status) => 0,
-        Message::Sweep => 0,
+        _ => 0,
     }
 }
 
@@ -159,19 +160,24 @@ fn enter_complex(b: &mut [u32], c: Complex, out: &mut [u8], at: usize) -> usize
     complexes::complex_order(b, c, out, at)
 }
 
-// What a message that is not refused does, by its kind.
+// What a message that is not refused does, by its kind, in two halves as in `wire::in_range`.
 fn perform(b: &mut [u32], m: Message, out: &mut [u8], at: usize) -> usize
     requires { ⌜ (length (now b) ≡ size) × (Dense (now b)) × (inRange m ≡ true) × (refusalOf (venueOf (now b)) m ≡ 0) × (SoundVenue (venueOf (now b))) ⌝ }
     ensures { λ r. ⌜ stage (venueOf (now (b .exit))) (now (out .exit)) r ≡ seen (now (out .entry)) at does step.perform m (venueOf (now (b .entry))) ⌝ }
     ensures right { λ _. ⌜ Right (now (b .exit)) ⌝ }
 {
+    if rules::message_kind(m) <= 3 {
+        return match m {
+            Message::Order(o) => enter_order(b, o, out, at),
+            Message::TwoLeg(c) => enter_complex(b, c, out, at),
+            Message::Cancel(id) => complexes::cancel(b, id, out, at),
+            _ => at,
+        };
+    }
     match m {
-        Message::Order(o) => enter_order(b, o, out, at),
-        Message::TwoLeg(c) => enter_complex(b, c, out, at),
-        Message::Cancel(id) => complexes::cancel(b, id, out, at),
         Message::Away(series, bid, offer) => set_away(b, series, bid, offer, out, at),
         Message::Status(series, status) => set_status(b, series, status, out, at),
-        Message::Sweep => complexes::sweep(b, out, at),
+        _ => complexes::sweep(b, out, at),
     }
 }
 
