@@ -11,6 +11,7 @@ use Rattle.rules.specs.Records.{Report, encodeAll, sheet}
 use Rattle.rules.specs.Step.{StepOutcome, step}
 use Rattle.rules.specs.Sound.{sound}
 use Rattle.rules.specs.Calls.{called, exceeds, ends, after, oneFrom, one}
+use Rattle.rules.proofs.Calling.{no-number, no-room, not-exceeds}
 use Rattle.wire.proofs.Stages.{stage-venue, stage-written}
 use Rattle.wire.specs.Seen.{seen, _writes_}
 use Rattle.wire.proofs.Writes.{wrote, overflowed, seen-room, sheet-left}
@@ -21,7 +22,6 @@ use Rattle.demands.specs.Kept.{Shaped, SoundVenue}
 use Rattle.messages.specs.declared.Stepped.{Stepped}
 use Rattle.messages.specs.Steps.{Steps}
 use Rattle.engine.specs.Runs.{callOf}
-use Rattle.engine.proofs.Running.{no-number, no-room, has-room}
 
 -- numbers stand for a venue of the declared type
 shaped : (b : List ℕ) → Shaped (venueOf b)
@@ -95,4 +95,4 @@ module _ (v : Venue) (n : ℕ) (m b₀ b l o : List ℕ) (r : Stepped) (fine : s
       ap₂ (λ (x : ℕ) (y : Venue). callOf (record { number = x; done = 1; written = r .written; venue = y }) z) (stepped .refused) venue
       ∙ ap₂ (λ (k : ℕ) (y : List ℕ). callOf (record { number = a .refused; done = 1; written = k; venue = a .effect .venue }) y) end memory
       ∙ ap (λ (x : List Report). callOf (record { number = a .refused; done = 1; written = length (encodeAll x); venue = a .effect .venue }) (sheet (length l) x)) (sym (append-nil rs))
-      ∙ one-does v n (length l) m fine (has-room (suc n) (length l) rs (omega arith) (omega arith))
+      ∙ one-does v n (length l) m fine (not-exceeds (suc n) (length l) rs (omega arith) (omega arith))

@@ -1,3 +1,4 @@
+pub mod Proceeding
 pub mod Running
 pub mod Calling
 pub mod Hosting

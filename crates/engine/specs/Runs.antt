@@ -1,4 +1,4 @@
--- Where a run stands, and what a turn of it and the run leave.
+-- Where a call stands that goes on in turns, and what a turn of a run and the call leave.
 use mathlib.Core.Path.{_≡_}
 use mathlib.Core.List.{List, _++_}
 use Prim.Native.Nat.{ℕ, suc, _+_, _-_, _≤_, _<_}
@@ -17,18 +17,24 @@ use Rattle.engine.specs.declared.Turn.{Turn}
 unfoldable pub onto : (k : ℕ) → List Report → Outcome → Outcome
 onto k rs o = record { number = o .number; done = k + o .done; venue = o .venue; reports = rs ++ o .reports }
 
--- how the run goes on from a turn: with the messages left, or not at all
-unfoldable pub goesOn : (fuel room : ℕ) (messages : List ℕ) (v : Venue) (t : Turn) → Outcome
-goesOn fuel room m v t = if eqb (t .number) 0 then runFrom fuel v (t .done) (room - t .written) (drop (t .at) m) else ends (t .number) v
+-- how a call goes on that has come to a number: as the rest of it does, or not at all
+unfoldable pub goesOn : (number : ℕ) → Venue → (rest : Outcome) → Outcome
+goesOn k v rest = if eqb k 0 then rest else ends k v
 
--- from turn t to turn r one message is done, or the run has ended
-pub record Turns (m : List ℕ) (t : Turn) (b₀ l₀ : List ℕ) (r : Turn) (b l : List ℕ) : Type 0 where
+-- One turn of a call, from `done` messages and `written` bytes in the report memory l₀ on: one message is done, or the call has ended. `before` was left to
+-- do, and `rest` is left afterwards.
+pub record Turned (before : Outcome) (done written : ℕ) (l₀ : List ℕ) (number done′ written′ : ℕ) (b l : List ℕ) (rest : Outcome) : Type 0 where
   pub records : List Report
-  pub bytes : take (r .written) l ≡ take (t .written) l₀ ++ encodeAll records
-  pub within : r .written ≤ length l₀
-  pub is : (fuel : ℕ) → runFrom (suc fuel) (venueOf b₀) (t .done) (length l₀ - t .written) (drop (t .at) m)
-      ≡ onto (r .done - t .done) records (goesOn fuel (length l₀) m (venueOf b) r)
-  pub counted : t .done ≤ r .done
+  pub bytes : take written′ l ≡ take written l₀ ++ encodeAll records
+  pub within : written′ ≤ length l₀
+  pub counted : done ≤ done′
+  pub is : before ≡ onto (done′ - done) records (goesOn number (venueOf b) rest)
+
+-- from turn t of a run to turn r
+pub record Turns (m : List ℕ) (t : Turn) (b₀ l₀ : List ℕ) (r : Turn) (b l : List ℕ) : Type 0 where
+  pub turned : (fuel : ℕ) →
+      Turned (runFrom (suc fuel) (venueOf b₀) (t .done) (length l₀ - t .written) (drop (t .at) m)) (t .done) (t .written) l₀ (r .number) (r .done) (r .written) b l
+      (runFrom fuel (venueOf b) (r .done) (length l₀ - r .written) (drop (r .at) m))
   pub moved : r .number ≡ 0 → (t .at < r .at) × (r .at ≤ length m) × (r .done ≡ suc (t .done))
   pub dense : Dense b
   pub sound : SoundVenue (venueOf b)

@@ -7,7 +7,7 @@ use Prim.Native.Nat.{_-_, _<_, _≤_, suc, zero, ℕ}
 use native.Mathlib.Omega.{arith}
 use lib.Dec.{eqb, ltb}
 use lib.ListN.{drop, length, length-append, length-drop, length-replicate}
-use borrow.Author.Tests.{eqb-false, eqb-true, le-ltb, ltb-false, ne-eqb}
+use borrow.Author.Tests.{eqb-false, eqb-true, le-ltb, lt-ltb, ltb-false, ne-eqb}
 use Rattle.rules.specs.declared.Venue.{Venue}
 use Rattle.rules.specs.Base.{if_then_else_}
 use Rattle.rules.specs.Words.{freshVenue}
@@ -36,6 +36,16 @@ within-room number room rs h =
     let a = ltb-false 4294967295 number (or-false-l (ltb 4294967295 number) (ltb room (length (encodeAll rs))) h) in
     let b = ltb-false room (length (encodeAll rs)) (or-false-r (ltb 4294967295 number) (ltb room (length (encodeAll rs))) h) in
     (omega arith, b)
+
+-- one whose number would pass the last, or whose records do not fit, exceeds
+module _ (n room : ℕ) (rs : List Report) where
+  pub no-number : 4294967295 < n → exceeds n room rs ≡ true
+  unfolding exceeds
+  no-number h = rw (lt-ltb 4294967295 n h)
+
+  pub no-room : n ≤ 4294967295 → room < length (encodeAll rs) → exceeds n room rs ≡ true
+  unfolding exceeds
+  no-room d h = rw (le-ltb 4294967295 n d, lt-ltb room (length (encodeAll rs)) h)
 
 -- and one whose number and records fit does not exceed
 pub not-exceeds : (number room : ℕ) (rs : List Report) → number ≤ 4294967295 → length (encodeAll rs) ≤ room → exceeds number room rs ≡ false
@@ -89,6 +99,29 @@ module _ {ℓ} (Q : Outcome → Type ℓ) (v : Venue) (n room : ℕ) (bs : List 
       go false a q b = unsound a
       go true a true b = full a b
       go true a false b = done a (within-room (suc n) room (e .reports) b)
+
+-- one message of a run, by its cases
+module _ (fuel : ℕ) (v : Venue) (n room : ℕ) (bs : List ℕ) (some : 0 < length bs) where
+  pub run-full : exceeds (suc n) room (step v (suc n) bs .effect .reports) ≡ true → runFrom (suc fuel) v n room bs ≡ ends 10 v
+  unfolding runFrom
+  run-full e = rw (ne-eqb (length bs) 0 (λ z. omega arith), e, runFrom)
+
+  pub run-torn : exceeds (suc n) room (step v (suc n) bs .effect .reports) ≡ false → eqb (step v (suc n) bs .refused) 1 ≡ true →
+      runFrom (suc fuel) v n room bs ≡ after (step v (suc n) bs .effect) (ends 1 (step v (suc n) bs .effect .venue))
+  unfolding runFrom
+  run-torn e t = rw (ne-eqb (length bs) 0 (λ z. omega arith), e, t, runFrom)
+
+  pub run-on : exceeds (suc n) room (step v (suc n) bs .effect .reports) ≡ false → eqb (step v (suc n) bs .refused) 1 ≡ false →
+      runFrom (suc fuel) v n room bs ≡ after (step v (suc n) bs .effect)
+      (runFrom fuel (step v (suc n) bs .effect .venue) (suc n) (room - length (encodeAll (step v (suc n) bs .effect .reports))) (drop (lengthField bs) bs))
+  unfolding runFrom
+  run-on e t = rw (ne-eqb (length bs) 0 (λ z. omega arith), e, t, runFrom)
+
+-- no message is left
+pub run-none : (fuel : ℕ) (v : Venue) (n room : ℕ) → runFrom fuel v n room [] ≡ ends 0 v
+unfolding runFrom
+run-none zero v n room = refl
+run-none (suc fuel) v n room = refl
 
 -- upon a sound venue, a message that does not exceed is done
 pub oneFrom-done : (v : Venue) (n room : ℕ) (bs : List ℕ) → sound v ≡ true → exceeds (suc n) room (step v (suc n) bs .effect .reports) ≡ false →

@@ -58,7 +58,7 @@ module _ (m rest : List ℕ) where
         u32-same 17 (omega arith),
       )
 
-  length-same : 2 ≤ length m → lengthField (m ++ rest) ≡ lengthField m
+  pub length-same : 2 ≤ length m → lengthField (m ++ rest) ≡ lengthField m
   unfolding lengthField
   length-same h = u16-same 0 (omega arith)
 
@@ -135,13 +135,17 @@ module _ (m rest : List ℕ) where
         go false e = refl
 
 -- so the message in front alone does the same
+pub length-front : (bs : List ℕ) (n : ℕ) → 2 ≤ n → n ≤ length bs → lengthField (take n bs) ≡ lengthField bs
+length-front bs n a b =
+    let l = length-take-le n bs b in
+    sym (length-same (take n bs) (drop n bs) (omega arith)) ∙ ap lengthField (take-append-drop n bs)
+
 front-whole : (bs : List ℕ) → Whole bs → Whole (take (lengthField bs) bs)
 front-whole bs w =
     let a = w .0 in
     let b = w .1 in
     let l : length (take (lengthField bs) bs) ≡ lengthField bs = length-take-le (lengthField bs) bs b in
-    let f : lengthField (take (lengthField bs) bs) ≡ lengthField bs =
-    sym (length-same (take (lengthField bs) bs) (drop (lengthField bs) bs) (omega arith)) ∙ ap lengthField (take-append-drop (lengthField bs) bs) in
+    let f = length-front bs (lengthField bs) (omega arith) b in
     (omega arith, omega arith)
 
 pub front-step : (v : Venue) (number : ℕ) (bs : List ℕ) → Whole bs → step v number bs ≡ step v number (take (lengthField bs) bs)

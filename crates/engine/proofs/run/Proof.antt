@@ -11,7 +11,7 @@ use denote.Enum.Declared.{tagOf}
 use Rattle.reader.specs.declared.Head.{Head}
 use Rattle.reader.proofs.Head as head
 use Rattle.reader.proofs.Heads.{at-none, at-some}
-use Rattle.engine.proofs.Running.{Running, Ended, running-start, running-again, running-end, running-stop, ran}
+use Rattle.engine.proofs.Running.{Running, RunEnded, running-start, running-again, running-end, running-stop, ran}
 use Rattle.engine.proofs.run.Statement.{statement}
 use Rattle.engine.proofs.run.Tie as tie
 
@@ -40,10 +40,10 @@ ahead c =
     at-some _ _ (λ e. ⊎-elim (λ z. omega arith) (λ z. omega arith) (subst (λ (h : Head). OneOf (1 ∷ 2 ∷ []) (tagOf head.the-type h)) (k .ensures ∙ e) (c .match .keys2)))
 
 slice-aggregate-advance : tie.Need-slice-aggregate-advance Inv-loop μ-loop
-slice-aggregate-advance c = let e = c .before .before .before .loop .inv .slice in search needs
+slice-aggregate-advance c = let e = c .before .before .before .loop .inv .sofar .slice in search needs
 
 advance-requires : tie.Need-advance-requires Inv-loop μ-loop
-advance-requires c κs = let g = c .before .before .before .before .loop .inv in let w = g .within in let e = g .len in (g .slice, g .dense, g .sound, ahead (c .before .before), omega arith, c .before .before .before .message-head .ensures)
+advance-requires c κs = let g = c .before .before .before .before .loop .inv in let w = g .sofar .within in let e = g .sofar .len in (g .sofar .slice, g .dense, g .sound, ahead (c .before .before), omega arith, c .before .before .before .message-head .ensures)
 
 loop-less : tie.Need-loop-less Inv-loop μ-loop
 loop-less c = let v = c .before .before .before .before .before .advance .ensures .moved (c .if1 .left) in let p = v .0 in let q = v .1 in omega arith
@@ -52,7 +52,7 @@ loop-again : tie.Need-loop-again Inv-loop μ-loop
 loop-again c = let k = c .before .before .before .before .before .advance in running-again _ _ _ _ _ (c .before .before .before .before .before .before .before .before .before .before .loop .inv) (k .result) (k .last .1 .1 .0) (k .last .1 .1 .1 .1 .0) (ahead (c .before .before .before .before .before .before .before .before)) (k .kept .1 .1 .0) (k .kept .1 .1 .1 .1 .0) (k .ensures) (c .if1 .left)
 
 -- either way out of the loop
-ended : (c : tie.At-match-came Inv-loop μ-loop) → let a = c .before .before .before .before .before .before .args in Ended (a .messages .now) (a .report .now) (c .match .b) (c .match .report) (c .match .t)
+ended : (c : tie.At-match-came Inv-loop μ-loop) → let a = c .before .before .before .before .before .before .args in RunEnded (a .messages .now) (a .report .now) (c .match .b) (c .match .report) (c .match .t)
 ended c =
     let top = c .before .before in
     ⊎-elim
