@@ -3,3 +3,5 @@ pub mod Running
 pub mod Calling
 pub mod Hosting
 pub mod Sheets
+pub mod Feeding
+pub mod Lists

@@ -1,0 +1,18 @@
+-- `engine::legging_feed` meets its contract.
+use mathlib.Core.Path.{ap}
+use Rattle.rules.specs.Calls.{Call}
+use borrow.Author.Needs.{needs}
+use Rattle.engine.proofs.legging_feed.Statement.{statement}
+use Rattle.engine.proofs.legging_feed.Tie as tie
+
+feed-requires : tie.Need-feed-requires
+feed-requires c κs = search needs
+
+same-length : tie.Need-same-length
+same-length c = search needs
+
+returns : tie.Need-returns
+returns c = let e = c .before .before .feed .ensures in (ap (λ (x : Call). x .returned .number) e, ap (λ (x : Call). x .report) e)
+
+pub legging-feed-spec : {M : Type 1} → statement M
+legging-feed-spec = tie.close (tie.spec feed-requires same-length returns)
