@@ -1,15 +1,17 @@
-//! The legging order engine, written from document 01 alone.
+//! The legging order engine, written from documents 01 and 02 alone.
 //!
 //! It shares nothing with the proved engine: it is what that engine is compared
 //! with, and the baseline for its speed. [`run`] takes a whole message list from
-//! a fresh venue; [`one_message`] takes one message upon a venue held by value.
-//! After either call the report memory is the records, then zeros to its end.
+//! a fresh venue; [`one_message`] takes one message upon a venue held by value;
+//! [`feed`] runs the messages that come over two lines. After each call the report
+//! memory is the records, then zeros to its end.
 
 #![forbid(unsafe_code)]
 
 mod book;
 mod books;
 mod calls;
+mod feed;
 mod legging;
 mod matching;
 mod price;
@@ -18,5 +20,6 @@ mod types;
 mod wire;
 
 pub use calls::{one_message, run};
+pub use feed::feed;
 pub use sound::is_sound;
 pub use types::*;

@@ -1,6 +1,7 @@
 //! What a number of sessions showed: records, causes, refusals, rare cases.
 
 use crate::check::{Seen, Step};
+use crate::feed_check::FeedCoverage;
 use crate::message::{Leg, Message};
 use crate::model::AboveLegs;
 use crate::phases::Phases;
@@ -131,6 +132,7 @@ pub struct Coverage {
     answers: [u64; 11],
     declined: [u64; 9],
     rare: [u64; 22],
+    pub feeds: FeedCoverage,
 }
 
 impl Coverage {
@@ -335,6 +337,9 @@ impl Coverage {
         for (rare, name) in Rare::ALL {
             missing.extend((self.rare(rare) == 0).then(|| name.trim().to_string()));
         }
+        for (way, count) in self.feeds.counts() {
+            missing.extend((count == 0).then(|| format!("feed {way}")));
+        }
         missing
     }
 }
@@ -368,6 +373,9 @@ impl Display for Coverage {
         }
         for (rare, name) in Rare::ALL {
             writeln!(f, "{:>10}  {name}", self.rare(rare))?;
+        }
+        for (way, count) in self.feeds.counts() {
+            writeln!(f, "{count:>10}  feed {way}")?;
         }
         Ok(())
     }

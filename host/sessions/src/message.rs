@@ -124,21 +124,21 @@ pub fn split(list: &[u8]) -> Vec<&[u8]> {
     let mut pieces = Vec::new();
     let mut rest = list;
     while !rest.is_empty() {
-        let length = message_length(rest);
-        let (piece, after) = rest.split_at(length);
+        let piece = first_whole(rest).unwrap_or(rest);
         pieces.push(piece);
-        rest = after;
+        rest = &rest[piece.len()..];
     }
     pieces
 }
 
-fn message_length(bytes: &[u8]) -> usize {
+/// The first message of the bytes, if it is whole.
+pub fn first_whole(bytes: &[u8]) -> Option<&[u8]> {
     if bytes.len() < 4 {
-        return bytes.len();
+        return None;
     }
     match usize::from(word(bytes, 0)) {
-        length if length >= 4 && length <= bytes.len() => length,
-        _ => bytes.len(),
+        ..4 => None,
+        length => bytes.get(..length),
     }
 }
 

@@ -1,7 +1,7 @@
 //! A run whose report memory never fills, and the sheet of it.
 
 use crate::record::{read_report, Record};
-use reference::{run, Returned};
+use reference::{feed, run, Returned};
 
 /// The most bytes that the printing program reads.
 pub const MOST_INPUT: usize = 65_536;
@@ -10,9 +10,19 @@ const ENDED_EARLY: u8 = 10;
 
 /// Runs a list with report memory enough for all its records.
 pub fn run_whole(list: &[u8]) -> (Returned, Vec<u8>) {
-    let mut report = vec![0; 64 * 1024 + 16 * list.len()];
+    with_room(list.len(), |report| run(list, report))
+}
+
+/// Runs what two lines hand out with report memory enough for all its records.
+pub fn feed_whole(main: &[u8], spare: &[u8]) -> (Returned, Vec<u8>) {
+    with_room(main.len() + spare.len(), |report| feed(main, spare, report))
+}
+
+/// A call upon message bytes, made again with more report memory until it is enough.
+fn with_room(bytes: usize, mut call: impl FnMut(&mut [u8]) -> Returned) -> (Returned, Vec<u8>) {
+    let mut report = vec![0; 64 * 1024 + 16 * bytes];
     loop {
-        let returned = run(list, &mut report);
+        let returned = call(&mut report);
         if returned.number != ENDED_EARLY {
             report.truncate(returned.written);
             return (returned, report);

@@ -3,6 +3,7 @@
 use crate::check::{Checker, Step};
 use crate::corrupt::corrupt;
 use crate::coverage::Coverage;
+use crate::feed_check::check_feeds;
 use crate::generator::Generator;
 use crate::lent::Lent;
 use crate::message::{split, Message};
@@ -77,7 +78,9 @@ pub fn generate(profile: Profile, seed: u64, messages: usize) -> Vec<Vec<u8>> {
 /// Runs one session with all checks, adding to the coverage.
 pub fn check_session(profile: Profile, seed: u64, coverage: &mut Coverage) -> Result<(), Failure> {
     let mut session = Session::new(profile, seed, coverage);
-    let checked = session.check_all(profile, session_length(profile, seed));
+    let checked = session
+        .check_all(profile, session_length(profile, seed))
+        .and_then(|()| check_feeds(profile, seed, &session.pieces, &mut session.coverage.feeds));
     let after = session.pieces.len();
     checked.map_err(|what| Failure {
         profile,

@@ -12,8 +12,12 @@
 //! SIDE is `buy`, `sell` or `side=NUMBER`; STATUS is `open`, `closed`, `auction`
 //! or `status=NUMBER`. Any number that fits its field's width may be written.
 //! `#` begins a comment; blank lines are passed over.
+//!
+//! In a line of a feed each message stands after its number, and `raw` without a
+//! number is bytes that no number goes before.
 
-use crate::message::{split, Leg, Message};
+use crate::line::NUMBER_BYTES;
+use crate::message::{first_whole, split, Leg, Message};
 use std::fmt::{self, Display};
 use std::str::FromStr;
 
@@ -38,14 +42,16 @@ impl Display for LineError {
 
 /// Reads a session's text into its messages.
 pub fn parse_session(text: &str) -> Result<Vec<Message>, LineError> {
-    let mut messages = Vec::new();
-    for (index, line) in text.lines().enumerate() {
-        let body = line.split('#').next().unwrap_or("");
-        if !body.trim().is_empty() {
-            messages.push(parse_line(body, index + 1)?);
-        }
-    }
-    Ok(messages)
+    bodies(text).map(parse_line).collect()
+}
+
+/// The lines that say something, without their comments.
+fn bodies(text: &str) -> impl Iterator<Item = Words<'_>> {
+    let lines = text.lines().enumerate().map(|(index, line)| Words {
+        words: line.split('#').next().unwrap_or("").split_whitespace(),
+        line: index + 1,
+    });
+    lines.filter(|words| words.first().is_some())
 }
 
 /// The bytes of a session's text.
@@ -61,11 +67,39 @@ pub fn decode_session(bytes: &[u8]) -> String {
     lines.map(|message| format!("{message}\n")).collect()
 }
 
-fn parse_line(body: &str, line: usize) -> Result<Message, LineError> {
-    let mut words = Words {
-        words: body.split_whitespace(),
-        line,
-    };
+/// The bytes of the text of a feed's line.
+pub fn encode_line(text: &str) -> Result<Vec<u8>, LineError> {
+    let mut bytes = Vec::new();
+    for mut words in bodies(text) {
+        if words.first() != Some("raw") {
+            let number: u32 = words.number("the message's number")?;
+            bytes.extend(number.to_le_bytes());
+        }
+        bytes.extend(parse_line(words)?.encode());
+    }
+    Ok(bytes)
+}
+
+/// The text of a feed's line from its bytes: what is no message after a number is
+/// raw, with all that follows it.
+pub fn decode_line(bytes: &[u8]) -> String {
+    let mut text = String::new();
+    let mut rest = bytes;
+    while let Some((number, after)) = rest.split_first_chunk::<NUMBER_BYTES>() {
+        let Some(message) = first_whole(after) else {
+            break;
+        };
+        let number = u32::from_le_bytes(*number);
+        text += &format!("{number} {}\n", Message::decode(message));
+        rest = &after[message.len()..];
+    }
+    if !rest.is_empty() {
+        text += &format!("{}\n", Message::Raw(rest.to_vec()));
+    }
+    text
+}
+
+fn parse_line(mut words: Words) -> Result<Message, LineError> {
     let message = parse_message(&mut words)?;
     words.end()?;
     Ok(message)
@@ -164,6 +198,11 @@ impl Width for i32 {
 impl<'a> Words<'a> {
     fn next(&mut self) -> Option<&'a str> {
         self.words.next()
+    }
+
+    /// The word to come.
+    fn first(&self) -> Option<&'a str> {
+        self.words.clone().next()
     }
 
     fn error(&self, expected: &str, found: Option<&str>) -> LineError {
@@ -340,6 +379,39 @@ mod tests {
         let text = "# a session\n\nopen 0 # first\nclose 1\n  auction 2\n";
         let plain = "status 0 open\nstatus 1 closed\nstatus 2 auction\n";
         assert_eq!(encode_session(text), encode_session(plain));
+    }
+
+    #[test]
+    fn a_feeds_line_reads_back_as_written() {
+        let text = "1 sweep\n3 cancel 7\n0 raw 04 00 63 00\n3 status 0 open\nraw 05 00 00\n";
+        let bytes = encode_line(text).unwrap();
+        assert_eq!(bytes[..8], [1, 0, 0, 0, 4, 0, 6, 0]);
+        assert_eq!(bytes[8..12], [3, 0, 0, 0]);
+        assert_eq!(bytes[bytes.len() - 3..], [5, 0, 0]);
+        assert_eq!(decode_line(&bytes), text);
+        assert_eq!(decode_line(&[]), "");
+    }
+
+    #[test]
+    fn any_bytes_read_back_as_a_feeds_line() {
+        let mut random = crate::random::Random::new(3);
+        for length in 0..200 {
+            let bytes: Vec<u8> = (0..length).map(|_| random.below(9) as u8).collect();
+            assert_eq!(encode_line(&decode_line(&bytes)), Ok(bytes));
+        }
+    }
+
+    #[test]
+    fn errors_of_a_feeds_line_name_what_was_expected() {
+        let cases = [
+            ("sweep", "line 1: expected the message's number, a number from 0 to 4294967295, found \"sweep\""),
+            ("1 sweep\n2", "line 2: expected a message (order, complex, cancel, away, status, open, close, auction, sweep or raw), found the end of the line"),
+            ("1 sweep now", "line 1: expected the end of the line, found \"now\""),
+        ];
+        for (text, expected) in cases {
+            let error = encode_line(text).unwrap_err();
+            assert_eq!(error.to_string(), expected);
+        }
     }
 
     #[test]

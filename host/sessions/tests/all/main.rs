@@ -1,6 +1,7 @@
 //! The tests of the reference, in one program so that they build quickly.
 
 mod common;
+mod feed;
 mod random_sessions;
 mod refusals;
 mod report_memory;

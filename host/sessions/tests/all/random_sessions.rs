@@ -4,8 +4,10 @@
 use sessions::audit::audit;
 use sessions::coverage::Coverage;
 use sessions::explain::explain;
+use sessions::feed_generator::draw_feed;
 use sessions::message::{split, Message};
 use sessions::profile::Profile;
+use sessions::random::Random;
 use sessions::record::read_report;
 use sessions::sheet::run_whole;
 use sessions::soak::{check_session, generate};
@@ -40,6 +42,17 @@ fn equal_seeds_give_equal_sessions_and_others_differ() {
         assert_eq!(session, generate(profile, 5, 100));
         assert_ne!(session, generate(profile, 6, 100));
     }
+}
+
+#[test]
+fn equal_numbers_drawn_give_equal_lines() {
+    let list = generate(Profile::Mixed, 5, 30);
+    let lines = |seed| {
+        let feed = draw_feed(&list, &mut Random::new(seed));
+        (feed.main, feed.spare)
+    };
+    assert_eq!(lines(3), lines(3));
+    assert_ne!(lines(3), lines(4));
 }
 
 #[test]
