@@ -6,12 +6,13 @@ use crate::Failure;
 use sessions::audit::audit;
 use sessions::coverage::Coverage;
 use sessions::explain::explain;
+use sessions::feed::{hand_out, Line, Stop};
 use sessions::message::Message;
 use sessions::profile::Profile;
 use sessions::record::{parse_sheet, print_sheet, read_report};
-use sessions::sheet::{run_whole, sheet_of, MOST_INPUT};
+use sessions::sheet::{feed_whole, run_whole, sheet_of, MOST_INPUT};
 use sessions::soak::{check_session, generate};
-use sessions::text::{decode_session, encode_session};
+use sessions::text::{decode_line, decode_session, encode_line, encode_session, LineError};
 use std::io::Read;
 
 type Output = Result<Vec<u8>, Failure>;
@@ -27,6 +28,7 @@ pub fn perform(arguments: Vec<String>) -> Output {
         "encode" => encode(rest),
         "decode" => decode(rest),
         "print" => print(rest),
+        "feed" => feed(rest),
         "audit" => audit_sheet(rest),
         "explain" => explain_session(rest),
         "generate" => generate_session(rest),
@@ -60,21 +62,28 @@ fn read(file: Option<&str>) -> Result<Vec<u8>, Failure> {
 }
 
 /// Text must be UTF-8; the line of the first other byte is named.
-fn as_text(bytes: &[u8]) -> Result<&str, Failure> {
+fn as_text(bytes: &[u8]) -> Result<&str, String> {
     std::str::from_utf8(bytes).map_err(|error| {
         let lines = bytes[..error.valid_up_to()].iter().filter(|b| **b == b'\n');
         let line = lines.count() + 1;
-        Failure::Input(format!("line {line}: expected text, found other bytes"))
+        format!("line {line}: expected text, found other bytes")
     })
 }
 
-/// The bytes of a session given as bytes or as text.
-fn session_bytes(input: Vec<u8>, is_text: bool) -> Result<Vec<u8>, Failure> {
+type Encode = fn(&str) -> Result<Vec<u8>, LineError>;
+
+/// Input given as bytes or as text.
+fn bytes_of(input: Vec<u8>, is_text: bool, encode: Encode) -> Result<Vec<u8>, String> {
     if !is_text {
         return Ok(input);
     }
     let text = as_text(&input)?;
-    encode_session(text).map_err(|error| Failure::Input(error.to_string()))
+    encode(text).map_err(|error| error.to_string())
+}
+
+/// The bytes of a session given as bytes or as text.
+fn session_bytes(input: Vec<u8>, is_text: bool) -> Result<Vec<u8>, Failure> {
+    bytes_of(input, is_text, encode_session).map_err(Failure::Input)
 }
 
 fn sheet(rest: &[String]) -> Output {
@@ -88,13 +97,64 @@ fn sheet(rest: &[String]) -> Output {
 }
 
 fn encode(rest: &[String]) -> Output {
-    let arguments = Arguments::parse(rest, &[], &[], 1)?;
-    session_bytes(read(arguments.word(0))?, true)
+    let arguments = Arguments::parse(rest, &["--line"], &[], 1)?;
+    let encode = match arguments.has("--line") {
+        true => encode_line,
+        false => encode_session,
+    };
+    bytes_of(read(arguments.word(0))?, true, encode).map_err(Failure::Input)
 }
 
 fn decode(rest: &[String]) -> Output {
-    let arguments = Arguments::parse(rest, &[], &[], 1)?;
-    Ok(decode_session(&read(arguments.word(0))?).into_bytes())
+    let arguments = Arguments::parse(rest, &["--line"], &[], 1)?;
+    let bytes = read(arguments.word(0))?;
+    let text = match arguments.has("--line") {
+        true => decode_line(&bytes),
+        false => decode_session(&bytes),
+    };
+    Ok(text.into_bytes())
+}
+
+/// The two lines of a feed.
+fn two_lines(arguments: &Arguments) -> Result<[Vec<u8>; 2], Failure> {
+    let files = match (arguments.word(0), arguments.word(1)) {
+        (Some("-"), Some("-")) => {
+            return Err(Failure::Usage("only one of both can be -".to_string()));
+        }
+        (Some(main), Some(spare)) => [main, spare],
+        _ => return Err(Failure::Usage("expected MAIN and SPARE".to_string())),
+    };
+    let [main, spare] = files.map(|file| {
+        let line = bytes_of(read(Some(file))?, arguments.has("--text"), encode_line);
+        line.map_err(|what| Failure::Input(format!("{file}: {what}")))
+    });
+    Ok([main?, spare?])
+}
+
+/// The sheet of what two lines hand out; who served it and what stopped it is told
+/// beside it.
+fn feed(rest: &[String]) -> Output {
+    let arguments = Arguments::parse(rest, &["--text"], &[], 2)?;
+    let [main, spare] = two_lines(&arguments)?;
+    let (returned, report) = feed_whole(&main, &spare);
+    let handed = hand_out(&main, &spare);
+    if (returned.number, returned.done as usize) != (handed.stop.number(), handed.messages.len()) {
+        let what = "the reference and the reading of its lines do not agree";
+        return Err(Failure::Input(what.to_string()));
+    }
+    let output = print_sheet(&read_report(&report).map_err(Failure::Input)?).into_bytes();
+    let [main, spare] = Line::BOTH.map(|line| handed.served(line));
+    let told = format!(
+        "messages served: main {main}, spare {spare}; number {}: {}",
+        returned.number, handed.stop
+    );
+    match handed.stop {
+        Stop::End => {
+            eprintln!("venue feed: {told}");
+            Ok(output)
+        }
+        _ => Err(Failure::Disagreement(output, told)),
+    }
 }
 
 fn print(rest: &[String]) -> Output {
@@ -115,7 +175,7 @@ fn audit_sheet(rest: &[String]) -> Output {
         }
         Some(file) => {
             let sheet = read(Some(file))?;
-            let parsed = as_text(&sheet).map(parse_sheet)?;
+            let parsed = as_text(&sheet).and_then(parse_sheet);
             parsed.map_err(|what| Failure::Input(format!("{file}: {what}")))?
         }
         None => read_report(&run_whole(&list).1).map_err(Failure::Input)?,

@@ -4,9 +4,10 @@ pub const OVERVIEW: &str = "\
 venue: session tools for the legging order engine
 
   venue sheet [--text] [FILE]           print the sheet of a run
-  venue encode [FILE]                   text to message bytes
-  venue decode [FILE]                   message bytes to text
+  venue encode [--line] [FILE]          text to message bytes
+  venue decode [--line] [FILE]          message bytes to text
   venue print [FILE]                    report bytes to sheet lines
+  venue feed [--text] MAIN SPARE        print the sheet of two lines of one feed
   venue audit [--text] SESSION [SHEET]  sums of every complex order
   venue explain [--text] [FILE]         what happened, message by message
   venue generate --profile P --seed N --messages M [--text]
@@ -35,6 +36,11 @@ The text form, one message a line:
 SIDE is buy, sell or side=NUMBER. STATUS is open, closed, auction or
 status=NUMBER. Any number that fits its field's width may be written, so that
 refused messages can be too. # begins a comment; blank lines are passed over.
+
+A line of a feed has each message after its number, in bytes a u32:
+
+  NUMBER MESSAGE            as: 3 order 1 sell 15 series 0 at 130
+  raw HEX HEX ...           bytes that no number goes before
 ";
 
 const SHEET: &str = "\
@@ -49,6 +55,23 @@ const PRINT: &str = "\
 venue print [FILE]
 
 Prints report memory as sheet lines, up to the first zero length or its end.
+";
+
+const FEED: &str = "\
+venue feed [--text] MAIN SPARE
+
+Runs the messages that come over a main and a spare line, from a fresh venue, with
+report memory that never fills, and prints the sheet. MAIN and SPARE are lines of
+bytes, or of text with --text; one of them may be -. Standard error tells how many
+messages each line served and what stopped them:
+
+  0   neither line has more
+  19  both lines have the number, but their bytes differ
+  20  neither line has the number, though a later one stands on either
+  21  a line is torn, does not rise or has a length below 4 or number 0: nothing
+      is done, and the byte of each line's first fault is told
+
+With 19 to 21 the exit status is 1.
 ";
 
 const AUDIT: &str = "\
@@ -98,12 +121,17 @@ not shown.
 pub fn of(command: &str) -> Option<String> {
     let text = match command {
         "sheet" => SHEET.to_string(),
-        "encode" => format!("venue encode [FILE]\n\nWrites message bytes.\n\n{TEXT_FORM}"),
+        "encode" => format!(
+            "venue encode [--line] [FILE]\n\nWrites message bytes; with --line those of a line \
+             of a feed.\n\n{TEXT_FORM}"
+        ),
         "decode" => format!(
-            "venue decode [FILE]\n\nWrites one message a line; bytes that are no message of \
-             kinds 1 to 6\nat its length become raw.\n\n{TEXT_FORM}"
+            "venue decode [--line] [FILE]\n\nWrites one message a line; bytes that are no \
+             message of kinds 1 to 6\nat its length become raw. With --line the bytes are a \
+             line of a feed.\n\n{TEXT_FORM}"
         ),
         "print" => PRINT.to_string(),
+        "feed" => FEED.to_string(),
         "audit" => AUDIT.to_string(),
         "explain" => EXPLAIN.to_string(),
         "generate" => GENERATE.to_string(),

@@ -4,6 +4,8 @@ use std::io::Write;
 use std::process::{Command, Output, Stdio};
 
 const PRINTED_TEXT: &str = include_str!("sessions/printed.txt");
+const MAIN_TEXT: &str = include_str!("sessions/printed-main.txt");
+const SPARE_TEXT: &str = include_str!("sessions/printed-spare.txt");
 
 const PRINTED_SHEET: &str = "64 1 0 0 0\n64 2 0 0 0\n64 3 0 0 0\n64 4 0 0 0\n64 5 0 5 2\n\
     67 3 0 0 115 115 8\n67 3 1 0 75 75 8\n64 6 0 0 0\n65 0 1 115 5 4 3\n65 1 0 90 5 3 2\n\
@@ -102,7 +104,10 @@ fn bytes_that_are_no_text_are_told_with_their_line() {
 
 #[test]
 fn wrong_command_lines_are_told_with_status_2() {
-    let cases: [(&[&str], &str); 9] = [
+    let cases: [(&[&str], &str); 12] = [
+        (&["feed"], "expected MAIN and SPARE"),
+        (&["feed", "-"], "expected MAIN and SPARE"),
+        (&["feed", "-", "-"], "only one of both can be -"),
         (&[], "expected a command"),
         (&["shet"], "command \"shet\" is not known"),
         (&["sheet", "--txt"], "option --txt is not known here"),
@@ -152,7 +157,7 @@ fn missing_file_is_told_by_name() {
 fn help_names_every_command() {
     let text = String::from_utf8(good(&["help"], b"")).unwrap();
     for command in [
-        "sheet", "encode", "decode", "print", "audit", "explain", "generate", "check",
+        "sheet", "encode", "decode", "print", "feed", "audit", "explain", "generate", "check",
     ] {
         assert!(text.contains(&format!("venue {command}")), "{command}");
         let more = String::from_utf8(good(&["help", command], b"")).unwrap();
@@ -204,6 +209,98 @@ fn print_tells_where_report_bytes_are_no_record() {
         let errors = bad(&["print"], report, 1);
         assert!(errors.contains(expected), "{errors}");
     }
+}
+
+/// What `venue feed --text` prints, tells and ends with.
+fn feed(name: &str, main: &str, spare: &str) -> (String, String, i32) {
+    let file = Kept::new(name, main.as_bytes());
+    let output = venue(&["feed", "--text", file.path(), "-"], spare.as_bytes());
+    let text = |bytes: Vec<u8>| String::from_utf8(bytes).unwrap();
+    let status = output.status.code().unwrap();
+    (text(output.stdout), text(output.stderr), status)
+}
+
+#[test]
+fn feed_prints_the_sheet_and_tells_who_served_it() {
+    let told = "venue feed: messages served: main 4, spare 2; number 0: neither line has more\n";
+    let expected = (PRINTED_SHEET.to_string(), told.to_string(), 0);
+    assert_eq!(feed("whole.main", MAIN_TEXT, SPARE_TEXT), expected);
+    let lines = [MAIN_TEXT, SPARE_TEXT].map(|text| good(&["encode", "--line"], text.as_bytes()));
+    let main = Kept::new("line.main", &lines[0]);
+    let spare = Kept::new("line.spare", &lines[1]);
+    let sheet = good(&["feed", main.path(), spare.path()], b"");
+    assert_eq!(sheet, PRINTED_SHEET.as_bytes());
+}
+
+#[test]
+fn feed_tells_what_stopped_it_and_prints_what_went_before() {
+    let two = "64 1 0 0 0\n64 2 0 0 0\n";
+    let cases = [
+        (
+            "1 open 0\n2 open 1\n3 sweep\n",
+            "3 cancel 1\n",
+            two,
+            "messages served: main 2, spare 0; number 19: both lines have number 3, but their bytes differ",
+        ),
+        (
+            "1 open 0\n4 sweep\n",
+            "2 open 1\n",
+            two,
+            "messages served: main 1, spare 1; number 20: neither line has number 3, though main has 4",
+        ),
+        (
+            "1 open 0\n4 sweep\n",
+            "2 open 1\n6 sweep\n",
+            two,
+            "messages served: main 1, spare 1; number 20: neither line has number 3, though main has 4 and spare has 6",
+        ),
+        (
+            "1 open 0\n2 open 1\n",
+            "1 open 0\n1 open 0\n",
+            "",
+            "messages served: main 0, spare 0; number 21: spare line, byte 10: expected a number above 1, found 1",
+        ),
+        (
+            "1 open 0\n2 raw 03 00 06 00\n",
+            "raw 01 00\n",
+            "",
+            "messages served: main 0, spare 0; number 21: main line, byte 10: expected a length from 4 on, found 3; spare line, byte 0: expected a number of 4 bytes, found 2",
+        ),
+    ];
+    for (main, spare, sheet, told) in cases {
+        let expected = (sheet.to_string(), format!("venue feed: {told}\n"), 1);
+        assert_eq!(feed("stopped.main", main, spare), expected);
+    }
+}
+
+#[test]
+fn lines_of_a_feed_are_encoded_and_decoded() {
+    let bytes = good(&["encode", "--line"], MAIN_TEXT.as_bytes());
+    assert!(bytes.starts_with(&[1, 0, 0, 0, 6, 0, 5, 0, 0, 1, 2, 0, 0, 0]));
+    let text = good(&["decode", "--line"], &bytes);
+    assert!(text.starts_with(b"1 status 0 open\n2 status 1 open\n4 order 2 "));
+    assert_eq!(good(&["encode", "--line"], &text), bytes);
+    let errors = bad(&["encode", "--line"], b"1 sweep\nsweep\n", 1);
+    assert!(errors.contains("venue encode: line 2: expected the message's number"));
+}
+
+#[test]
+fn feed_names_the_file_that_is_wrong() {
+    let main = Kept::new("wrong.main", b"1 sweep\n");
+    let bytes = Kept::new("wrong.spare", b"1 sweep\n\xff");
+    let path = bytes.path().to_string();
+    let errors = bad(&["feed", "--text", main.path(), &path], b"", 1);
+    assert_eq!(
+        errors,
+        format!("venue feed: {path}: line 2: expected text, found other bytes\n")
+    );
+    let errors = bad(&["feed", "--text", main.path(), "-"], b"1 sweeps\n", 1);
+    assert!(
+        errors.starts_with("venue feed: -: line 1: expected a message ("),
+        "{errors}"
+    );
+    let errors = bad(&["feed", "no-such-file", main.path()], b"", 1);
+    assert!(errors.starts_with("venue feed: no-such-file: "), "{errors}");
 }
 
 #[test]
