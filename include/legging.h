@@ -11,7 +11,8 @@
  * MEMORY
  *   All memory is the host's. A call keeps no pointer after it returns, allocates
  *   nothing, reads and writes no file, and needs less than 32 KiB of stack.
- *   - `messages` (or `message`) is only read. Bytes past its length are not.
+ *   - `messages` (or `message`) and the lines `main` and `spare` are only read. Bytes
+ *     past their lengths are not.
  *   - `venue` is read and written; legging_fresh only writes it. Unless the message
  *     was accepted, it holds after the call what it held before.
  *   - `report` is written from its first byte to its last, whatever the call
@@ -24,7 +25,7 @@
  * THREADS
  *   There is no state outside the memory lent: no global or static variable. Any
  *   number of calls may run at once, each upon memory of its own; they may share
- *   messages.
+ *   messages and lines.
  *
  * BYTES
  *   Numbers are little-endian, without padding. A message or record is its length
@@ -52,6 +53,9 @@
  *   Legging orders that go together are told by rising place, 2 * series + side.
  *   So the messages and the length of the report memory fix every byte of it.
  *
+ *   A line of a feed is messages, each after its number (u32, not counted in the
+ *   message's length). Numbers count from 1 and rise; a line may lack some.
+ *
  * NUMBERS
  *   Each call returns one of these, and fails in no other way.
  */
@@ -72,6 +76,9 @@
 #define LEGGING_NO_SUCH_ORDER 8u /* no resting order has the id */
 #define LEGGING_UNSOUND       9u /* the venue given is no sound venue */
 #define LEGGING_NO_ROOM      10u /* the next message's records do not fit, or its number would pass 4,294,967,295 */
+#define LEGGING_DIFFERS      19u /* both lines have the next number, but their bytes differ */
+#define LEGGING_LOST         20u /* neither line has the next number, though a later one stands on either */
+#define LEGGING_BAD_LINE     21u /* a line is torn, does not rise, or has a length below 4 or number 0 */
 
 #define LEGGING_VENUE_BYTES 2604u /* a venue held by a host */
 #define LEGGING_MOST_BYTES 10112u /* no message upon a sound venue writes more */
@@ -96,6 +103,31 @@ extern "C" {
  */
 uint8_t legging_run(const uint8_t *messages, size_t messages_len,
                     uint8_t *report, size_t report_len);
+
+/*
+ * Runs the messages that come over a main and a spare line, from a fresh venue.
+ *
+ * Both lines carry one list. The message of each number from 1 on is taken from `main`,
+ * or from `spare` where `main` lacks it, and done as in legging_run; it is not copied.
+ * So lines of one list that do not both lack a message give what legging_run gives of
+ * that list. Returns
+ *   LEGGING_DONE      neither line has more: all messages were done, the refused ones
+ *                     included;
+ *   LEGGING_NO_ROOM   as in legging_run;
+ *   LEGGING_DIFFERS   both lines have the next number, but not the same bytes;
+ *   LEGGING_LOST      neither line has the next number, though a later one stands on
+ *                     either. With both of these all messages before were done, and
+ *                     nothing after;
+ *   LEGGING_BAD_LINE  a line ends within a number or a message, has a number that is 0
+ *                     or not above the one before it, or a length below 4, zeros at its
+ *                     end too. Both lines are looked at whole before a message is
+ *                     taken: nothing was done, `report` is all zeros.
+ * LEGGING_DIFFERS and LEGGING_LOST come before LEGGING_NO_ROOM of the same message.
+ * LEGGING_TORN is not returned, since every message taken is whole.
+ */
+uint8_t legging_feed(const uint8_t *main, size_t main_len,
+                     const uint8_t *spare, size_t spare_len,
+                     uint8_t *report, size_t report_len);
 
 /*
  * Writes a fresh venue, a host's first: no orders, all series open, no away prices.

@@ -1,8 +1,9 @@
 /*
- * A host of the legging order engine in C: does a message list, by one run or
- * message by message, and prints a line for each record and the number at the end.
+ * A host of the legging order engine in C: does a message list, by one run, message
+ * by message or over two lines, and prints a line for each record and the number at
+ * the end.
  *
- *     host [--each] [--hex] [--room BYTES] [FILE]
+ *     host [--each | --spare FILE] [--hex] [--room BYTES] [FILE]
  */
 #include "legging.h"
 
@@ -16,23 +17,26 @@
 enum { ENDED_EARLY = 3 }; /* exit status: the list's end was not reached */
 
 static const char USAGE[] =
-    "usage: host [--each] [--hex] [--room BYTES] [FILE]\n"
+    "usage: host [--each | --spare FILE] [--hex] [--room BYTES] [FILE]\n"
     "\n"
     "Does the message list in FILE, or on standard input where FILE is left out or -,\n"
     "from a fresh venue. Prints a line for each record, its kind and its fields in\n"
     "table order, and last the number that ended it.\n"
     "\n"
     "  --each        message by message, upon a venue held here; otherwise by one run\n"
+    "  --spare FILE  the list comes over two lines, each message after its number: this\n"
+    "                is the spare one, and the FILE at the end the main one\n"
     "  --hex         print each record's bytes in hexadecimal\n"
     "  --room BYTES  report memory of this length; otherwise it is always enough\n"
     "  --help        this text\n"
     "\n"
     "The exit status is 0 when the whole list was done, 3 when it ended early\n"
-    "(number 1 or 10), 1 when the input was not read or memory not had, 2 for a wrong\n"
-    "command line.\n";
+    "(number 1, 10 or 19 to 21), 1 when the input was not read or memory not had, 2 for\n"
+    "a wrong command line.\n";
 
 struct options {
     const char *file;
+    const char *spare;
     bool each;
     bool hex;
     bool has_room;
@@ -62,9 +66,15 @@ static size_t room_of(const char *word)
     return (size_t)value;
 }
 
+/* Whether a file stands for standard input. */
+static bool is_input(const char *file)
+{
+    return file == NULL || strcmp(file, "-") == 0;
+}
+
 static struct options options_of(int count, char **words)
 {
-    struct options options = {.file = NULL, .each = false, .hex = false, .has_room = false, .room = 0};
+    struct options options = {.file = NULL, .spare = NULL, .each = false, .hex = false, .has_room = false, .room = 0};
     for (int i = 1; i < count; i++) {
         const char *word = words[i];
         if (strcmp(word, "--help") == 0) {
@@ -72,6 +82,10 @@ static struct options options_of(int count, char **words)
             exit(0);
         } else if (strcmp(word, "--each") == 0) {
             options.each = true;
+        } else if (strcmp(word, "--spare") == 0) {
+            if (++i == count)
+                wrong_usage("expected a file after", word);
+            options.spare = words[i];
         } else if (strcmp(word, "--hex") == 0) {
             options.hex = true;
         } else if (strcmp(word, "--room") == 0) {
@@ -87,6 +101,10 @@ static struct options options_of(int count, char **words)
             options.file = word;
         }
     }
+    if (options.spare != NULL && options.each)
+        wrong_usage("not with --each", "--spare");
+    if (options.spare != NULL && is_input(options.spare) && is_input(options.file))
+        wrong_usage("standard input cannot be both lines", "--spare -");
     return options;
 }
 
@@ -129,7 +147,7 @@ static struct bytes read_all(FILE *from, const char *name)
 
 static struct bytes read_messages(const char *file)
 {
-    if (file == NULL || strcmp(file, "-") == 0)
+    if (is_input(file))
         return read_all(stdin, "standard input");
     FILE *opened = fopen(file, "rb");
     if (opened == NULL) {
@@ -217,15 +235,20 @@ static void print_records(struct bytes report, bool hex)
 
 /* The calls -------------------------------------------------------------------- */
 
-/* A run starts from a fresh venue, so where the memory was too short it is made
- * again with more. */
-static uint8_t run(struct options options, struct bytes messages)
+/* By one call: the run of the messages, or with a spare line the feed of both. It
+ * starts from a fresh venue, so where the memory was too short it is made again with
+ * more. */
+static uint8_t run(struct options options, struct bytes messages, struct bytes spare)
 {
     struct bytes report = {NULL, options.has_room ? options.room : 65536};
     uint8_t number = LEGGING_DONE;
     for (;;) {
         report.at = resized(report.at, report.length);
-        number = legging_run(messages.at, messages.length, report.at, report.length);
+        if (options.spare != NULL)
+            number = legging_feed(messages.at, messages.length, spare.at, spare.length,
+                                  report.at, report.length);
+        else
+            number = legging_run(messages.at, messages.length, report.at, report.length);
         bool is_short = number == LEGGING_NO_ROOM && report.length <= PTRDIFF_MAX / 2;
         if (options.has_room || !is_short)
             break;
@@ -272,6 +295,12 @@ static const char *meaning(uint8_t number)
         return "the venue is unsound";
     case LEGGING_NO_ROOM:
         return "the report memory is full, or the message numbers are used up";
+    case LEGGING_DIFFERS:
+        return "the lines differ in the next message";
+    case LEGGING_LOST:
+        return "the next message is lost from both lines";
+    case LEGGING_BAD_LINE:
+        return "a line is torn, does not rise, or has a length below 4 or number 0";
     default:
         return "not a number that ends a list";
     }
@@ -281,9 +310,13 @@ int main(int count, char **words)
 {
     struct options options = options_of(count, words);
     struct bytes messages = read_messages(options.file);
-    uint8_t number = options.each ? run_each(options, messages) : run(options, messages);
+    struct bytes spare = {NULL, 0};
+    if (options.spare != NULL)
+        spare = read_messages(options.spare);
+    uint8_t number = options.each ? run_each(options, messages) : run(options, messages, spare);
     printf("number %u: %s\n", (unsigned)number, meaning(number));
     free(messages.at);
+    free(spare.at);
     if (fflush(stdout) != 0) {
         fprintf(stderr, "host: the output was not written: %s\n", strerror(errno));
         return 1;

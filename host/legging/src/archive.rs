@@ -11,6 +11,15 @@ extern "C" {
         report_len: usize,
     ) -> u8;
 
+    fn legging_feed(
+        main: *const u8,
+        main_len: usize,
+        spare: *const u8,
+        spare_len: usize,
+        report: *mut u8,
+        report_len: usize,
+    ) -> u8;
+
     fn legging_fresh(venue: *mut u8, venue_len: usize) -> u8;
 
     fn legging_message(
@@ -38,6 +47,31 @@ pub fn run(messages: &[u8], report: &mut [u8]) -> Number {
         legging_run(
             messages.as_ptr(),
             messages.len(),
+            report.as_mut_ptr(),
+            report.len(),
+        )
+    };
+    Number::new(number)
+}
+
+/// Runs the messages that come over two lines, from a fresh venue.
+///
+/// On a line each message stands after its number, a little-endian u32; numbers count
+/// from 1 and rise, and a line may lack some. The message of each number is taken from
+/// `main`, or from `spare` where `main` lacks it. The number is [`Number::DONE`] when
+/// neither line has more, and [`Number::NO_ROOM`] as of [`run`]. It is
+/// [`Number::DIFFERS`] or [`Number::LOST`] where the next message is not to be had:
+/// what went before was done. With [`Number::BAD_LINE`], asked of both whole lines
+/// first, nothing was done and `report` is all zeros.
+pub fn feed(main: &[u8], spare: &[u8], report: &mut [u8]) -> Number {
+    // SAFETY: the three slices are whole for their lengths, and `report` cannot overlap
+    // the lines; the call reads them, writes `report`, and keeps none.
+    let number = unsafe {
+        legging_feed(
+            main.as_ptr(),
+            main.len(),
+            spare.as_ptr(),
+            spare.len(),
             report.as_mut_ptr(),
             report.len(),
         )

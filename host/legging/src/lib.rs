@@ -1,11 +1,11 @@
 //! The legging order engine for Rust hosts: a safe wrapper over the archive that
 //! `rt staticlib engine` writes.
 //!
-//! [`run`] takes a whole message list from a fresh venue. [`one_message`] takes one
-//! message upon a venue that the host holds as [`VenueBytes`]. After a call the
-//! report memory is the records done, then zeros to its end; what it held before is
-//! not read. A call keeps nothing, allocates nothing and shares no state with
-//! another, so calls may run on any number of threads at once.
+//! [`run`] takes a whole message list from a fresh venue, and [`feed`] one that comes
+//! over two lines. [`one_message`] takes one message upon a venue that the host holds
+//! as [`VenueBytes`]. After a call the report memory is the records done, then zeros to
+//! its end; what it held before is not read. A call keeps nothing, allocates nothing
+//! and shares no state with another, so calls may run on any number of threads at once.
 //!
 //! The bytes of messages and records are told in `include/legging.h`.
 //!
@@ -30,12 +30,25 @@
 //! assert_eq!(number, Number::DONE);
 //! assert_ne!(venue, VenueBytes::fresh());
 //! ```
+//!
+//! ```
+//! use legging::{feed, Number};
+//!
+//! // Three sweeps over two lines, each of which lost one.
+//! let main = [1, 0, 0, 0, 4, 0, 6, 0, 3, 0, 0, 0, 4, 0, 6, 0];
+//! let spare = [1, 0, 0, 0, 4, 0, 6, 0, 2, 0, 0, 0, 4, 0, 6, 0];
+//! let mut report = [0xFF; 40];
+//! assert_eq!(feed(&main, &spare, &mut report), Number::DONE);
+//! assert_eq!(report[24..29], [12, 0, 64, 0, 3]);
+//! assert_eq!(feed(&main, &[], &mut report), Number::LOST);
+//! assert_eq!(report[12..], [0; 28]);
+//! ```
 
 mod archive;
 mod number;
 mod venue;
 
-pub use archive::{fresh_in, one_message, one_message_in, run};
+pub use archive::{feed, fresh_in, one_message, one_message_in, run};
 pub use number::Number;
 pub use venue::{VenueBytes, VENUE_BYTES};
 

@@ -2,7 +2,7 @@
 
 use std::fmt::{self, Display};
 
-/// What a call returned, 0 to 10.
+/// What a call returned: 0 to 10, and 19 to 21 of a feed.
 #[derive(Clone, Copy, Debug, PartialEq, Eq, PartialOrd, Ord, Hash)]
 pub struct Number(u8);
 
@@ -31,6 +31,13 @@ impl Number {
     /// The next message's records do not fit, or its number would pass
     /// 4,294,967,295.
     pub const NO_ROOM: Number = Number(10);
+    /// Both lines have the number that comes next, but their bytes differ.
+    pub const DIFFERS: Number = Number(19);
+    /// Neither line has the number that comes next, though a later one stands on
+    /// either.
+    pub const LOST: Number = Number(20);
+    /// A line is torn, does not rise, or has a length below 4 or number 0.
+    pub const BAD_LINE: Number = Number(21);
 
     pub(crate) fn new(number: u8) -> Self {
         Number(number)
@@ -61,6 +68,9 @@ impl Number {
             8 => "no resting order has the id",
             9 => "the venue is unsound",
             10 => "the report memory is full, or the message numbers are used up",
+            19 => "the lines differ in a message",
+            20 => "a message is lost from both lines",
+            21 => "a line is torn, does not rise, or has a length below 4 or number 0",
             _ => "not a number of the engine",
         }
     }

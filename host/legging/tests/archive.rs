@@ -1,6 +1,6 @@
 //! The wrapper over the archive: what its callers are promised.
 
-use legging::{fresh_in, one_message, one_message_in, run};
+use legging::{feed, fresh_in, one_message, one_message_in, run};
 use legging::{Number, VenueBytes, MOST_BYTES, VENUE_BYTES};
 use reference::Venue;
 use sessions::held::to_bytes;
@@ -8,9 +8,11 @@ use sessions::message::split;
 use sessions::profile::Profile;
 use sessions::record::{print_sheet, read_report};
 use sessions::soak::generate;
-use sessions::text::encode_session;
+use sessions::text::{encode_line, encode_session};
 
 const SESSION: &str = include_str!("../../venue/tests/sessions/printed.txt");
+const MAIN: &str = include_str!("../../venue/tests/sessions/printed-main.txt");
+const SPARE: &str = include_str!("../../venue/tests/sessions/printed-spare.txt");
 
 const SHEET: &str = "\
 64 1 0 0 0
@@ -30,6 +32,10 @@ const SHEET: &str = "\
 
 fn messages() -> Vec<u8> {
     encode_session(SESSION).expect("the stored session is good")
+}
+
+fn lines() -> [Vec<u8>; 2] {
+    [MAIN, SPARE].map(|text| encode_line(text).expect("the stored line is good"))
 }
 
 fn sheet(report: &[u8]) -> String {
@@ -74,6 +80,79 @@ fn empty_slices() {
     let mut report = [0xC3; 3];
     assert_eq!(run(&[], &mut report), Number::DONE);
     assert_eq!(report, [0; 3]);
+}
+
+#[test]
+fn the_printed_session_over_two_lines() {
+    let [main, spare] = lines();
+    for length in 0..400 {
+        let mut wanted = vec![0xC3; length];
+        let number = run(&messages(), &mut wanted);
+        let mut report = vec![0xC3; length];
+        assert_eq!(feed(&main, &spare, &mut report), number, "{length}");
+        assert_eq!(report, wanted);
+    }
+    let mut report = [0xC3; 400];
+    assert_eq!(feed(&main, &spare, &mut report), Number::DONE);
+    assert_eq!(sheet(&report), SHEET);
+}
+
+/// The number and the sheet of two lines of text.
+fn fed(main: &str, spare: &str, length: usize) -> (Number, String) {
+    let [main, spare] = [main, spare].map(|text| encode_line(text).expect("a good line"));
+    let mut report = vec![0xC3; length];
+    let number = feed(&main, &spare, &mut report);
+    let records = sheet(&report);
+    let written = 12 * records.lines().count();
+    assert!(report[written..].iter().all(|byte| *byte == 0));
+    (number, records)
+}
+
+#[test]
+fn a_message_that_is_not_to_be_had_stops_the_lines() {
+    let two = "64 1 0 0 0\n64 2 0 0 0\n".to_string();
+    let main = "1 sweep\n2 sweep\n3 sweep\n";
+    for length in [24, 35, 36, 100] {
+        let differs = fed(main, "3 cancel 1\n4 sweep\n", length);
+        assert_eq!(differs, (Number::DIFFERS, two.clone()));
+        let lost = fed("1 sweep\n4 sweep\n", "2 sweep\n", length);
+        assert_eq!(lost, (Number::LOST, two.clone()));
+    }
+    let one = "64 1 0 0 0\n".to_string();
+    assert_eq!(fed(main, "3 cancel 1\n", 23), (Number::NO_ROOM, one));
+}
+
+#[test]
+fn a_bad_line_leaves_a_report_of_zeros() {
+    let good = "1 sweep\n2 sweep\n";
+    for bad in [
+        "raw 03 00",
+        "3 raw 03 00 06 00",
+        "3 raw 05 00 06 00",
+        "0 sweep",
+        "1 sweep",
+        "raw 00 00 00 00 00 00 00 00",
+    ] {
+        let line = format!("1 sweep\n{bad}\n");
+        for length in [0, 11, 100] {
+            let stopped = (Number::BAD_LINE, String::new());
+            assert_eq!(fed(&line, good, length), stopped, "{bad}");
+            assert_eq!(fed(good, &line, length), stopped, "{bad}");
+        }
+    }
+}
+
+#[test]
+fn lines_may_be_empty_and_may_be_one_memory() {
+    assert_eq!(feed(&[], &[], &mut []), Number::DONE);
+    let mut report = [0xC3; 20];
+    assert_eq!(feed(&[], &[], &mut report), Number::DONE);
+    assert_eq!(report, [0; 20]);
+    let line = encode_line("1 sweep\n").expect("a good line");
+    for [main, spare] in [[&line[..], &[]], [&[], &line], [&line, &line]] {
+        assert_eq!(feed(main, spare, &mut report), Number::DONE);
+        assert_eq!(sheet(&report), "64 1 0 0 0\n");
+    }
 }
 
 #[test]
@@ -178,6 +257,15 @@ fn venue_memory_of_another_length_is_unsound() {
 extern "C" {
     fn legging_run(messages: *const u8, n: usize, report: *mut u8, m: usize) -> u8;
 
+    fn legging_feed(
+        main: *const u8,
+        main_len: usize,
+        spare: *const u8,
+        spare_len: usize,
+        report: *mut u8,
+        m: usize,
+    ) -> u8;
+
     fn legging_fresh(venue: *mut u8, venue_len: usize) -> u8;
 
     fn legging_message(
@@ -203,6 +291,8 @@ fn null_with_length_0() {
         assert_eq!(legging_run(nothing, 0, nowhere, 0), 0);
         assert_eq!(legging_run(sweep.as_ptr(), 4, nowhere, 0), 10);
         assert_eq!(legging_run(nothing, 0, report.as_mut_ptr(), 3), 0);
+        assert_eq!(legging_feed(nothing, 0, nothing, 0, nowhere, 0), 0);
+        assert_eq!(legging_feed(sweep.as_ptr(), 4, nothing, 0, nowhere, 0), 21);
         assert_eq!(legging_fresh(nowhere, 0), 9);
         assert_eq!(legging_message(nowhere, 0, 0, nothing, 0, nowhere, 0), 9);
         let torn = legging_message(at, VENUE_BYTES, 0, nothing, 0, nowhere, 0);
@@ -215,12 +305,15 @@ fn null_with_length_0() {
 #[test]
 fn calls_at_once_do_not_meet() {
     let messages = messages();
+    let [main, spare] = lines();
     std::thread::scope(|scope| {
         for _ in 0..4 {
             scope.spawn(|| {
                 for _ in 0..500 {
                     let mut report = [0xC3; 400];
                     run(&messages, &mut report);
+                    assert_eq!(sheet(&report), SHEET);
+                    feed(&main, &spare, &mut report);
                     assert_eq!(sheet(&report), SHEET);
                 }
             });
@@ -231,8 +324,13 @@ fn calls_at_once_do_not_meet() {
 #[test]
 fn a_stack_of_32_kibibytes_is_enough() {
     let list = generate(Profile::Sweeps, 3, 600);
+    let numbered = list.iter().zip(1u32..);
+    let line: Vec<u8> = numbered
+        .flat_map(|(message, number)| [&number.to_le_bytes(), &message[..]].concat())
+        .collect();
     let mut report = vec![0xC3; 1 << 20];
     let work = move || {
+        assert_eq!(feed(&line, &line, &mut report), Number::DONE);
         let mut venue = VenueBytes::fresh();
         for (message, before) in list.iter().zip(0..) {
             one_message(&mut venue, before, message, &mut report);
@@ -250,4 +348,9 @@ fn numbers_have_words() {
     assert_eq!(Number::UNSOUND.to_string(), "9: the venue is unsound");
     assert!(Number::NO_SUCH_ORDER.is_done() && !Number::UNSOUND.is_done());
     assert_eq!(Number::NO_ROOM.get(), 10);
+    assert_eq!(
+        Number::LOST.to_string(),
+        "20: a message is lost from both lines"
+    );
+    assert!(!Number::DIFFERS.is_done() && !Number::BAD_LINE.is_done());
 }

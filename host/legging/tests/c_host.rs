@@ -1,12 +1,14 @@
 //! The host in C: built without a warning, its output and its exit status.
 
-use sessions::text::encode_session;
+use sessions::text::{encode_line, encode_session};
 use std::io::Write;
 use std::path::{Path, PathBuf};
 use std::process::{Command, Output, Stdio};
 use std::sync::OnceLock;
 
 const SESSION: &str = include_str!("../../venue/tests/sessions/printed.txt");
+const MAIN: &str = include_str!("../../venue/tests/sessions/printed-main.txt");
+const SPARE: &str = include_str!("../../venue/tests/sessions/printed-spare.txt");
 
 fn top() -> PathBuf {
     Path::new(env!("CARGO_MANIFEST_DIR")).join("../..")
@@ -78,6 +80,41 @@ fn the_printed_session() {
     assert_eq!(told.lines().count(), 14);
 }
 
+/// The host given the spare line as a file of this name and the main line as its input.
+fn host_of_lines(name: &str, main: &str, spare: &str, rest: &[&str]) -> (i32, String) {
+    let [main, spare] = [main, spare].map(|text| encode_line(text).expect("a good line"));
+    let file = Path::new(env!("CARGO_TARGET_TMPDIR")).join(name);
+    std::fs::write(&file, spare).expect("the file is written");
+    let file = file.to_str().expect("a name in text");
+    let (status, told, _) = host(&[&["--spare", file], rest].concat(), &main);
+    (status, told)
+}
+
+#[test]
+fn the_printed_session_over_two_lines() {
+    let messages = encode_session(SESSION).expect("the stored session is good");
+    let (status, told, _) = host(&[], &messages);
+    assert_eq!(host_of_lines("whole", MAIN, SPARE, &[]), (status, told));
+    let (status, told, _) = host(&["--room", "30", "--hex"], &messages);
+    let short = host_of_lines("short", MAIN, SPARE, &["--room", "30", "--hex", "-"]);
+    assert_eq!(short, (status, told));
+}
+
+#[test]
+fn lines_that_stop() {
+    let main = "1 sweep\n2 sweep\n";
+    for (spare, answers, ending) in [
+        ("2 cancel 1\n", 1, "number 19: the lines differ in "),
+        ("4 sweep\n", 2, "number 20: the next message is lost "),
+        ("1 sweep\nraw 02\n", 0, "number 21: a line is torn, "),
+    ] {
+        let (status, told) = host_of_lines("stopped", main, spare, &[]);
+        assert_eq!((status, told.lines().count()), (3, answers + 1), "{told}");
+        let last = told.lines().last().expect("a line");
+        assert!(last.starts_with(ending), "{told}");
+    }
+}
+
 #[test]
 fn series_are_open_at_the_start_until_they_are_closed() {
     let text = "order 1 sell 5 series 3 at 100\nclose 3\norder 2 sell 5 series 3 at 100\n";
@@ -136,6 +173,10 @@ fn errors_name_what_was_wrong() {
         (&["--room"], 2, "after: --room"),
         (&["--what"], 2, "--what"),
         (&["a", "b"], 2, "too many: b"),
+        (&["--spare"], 2, "after: --spare"),
+        (&["--spare", "-"], 2, "both lines: --spare -"),
+        (&["--each", "--spare", "a"], 2, "not with --each: --spare"),
+        (&["--spare", "no-such-file"], 1, "no-such-file"),
         (&["no-such-file"], 1, "no-such-file"),
     ] {
         let (found, told, error) = host(arguments, &[]);
