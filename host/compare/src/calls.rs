@@ -6,6 +6,7 @@ use reference::Venue;
 use sessions::held::{from_bytes, to_bytes, VENUE_BYTES};
 use sessions::lent::Lent;
 use sessions::record::{read_report_into, Record};
+use sessions::text::decode_line;
 
 /// How much was compared.
 #[derive(Clone, Debug, Default)]
@@ -13,11 +14,15 @@ pub struct Counts {
     pub sessions: u64,
     pub messages: u64,
     pub runs: u64,
+    pub feeds: u64,
     pub calls: u64,
     pub bytes: u64,
     /// How often each number was returned.
-    pub numbers: [u64; 11],
+    pub numbers: [u64; NUMBERS],
 }
+
+/// One more than the highest number of a call.
+const NUMBERS: usize = 22;
 
 /// What a one-message call has to return and leave.
 pub struct Expected {
@@ -67,6 +72,8 @@ pub struct Comparer<'a> {
     /// The engine's report memory and venue memory.
     report: Lent,
     venue: Lent,
+    /// The engine's two lines, main first.
+    lines: [Lent; 2],
     /// The reference's report memory.
     wanted: Lent,
     records: Vec<Record>,
@@ -80,6 +87,7 @@ impl<'a> Comparer<'a> {
             fault,
             report: Lent::new(),
             venue: Lent::new(),
+            lines: [Lent::new(), Lent::new()],
             wanted: Lent::new(),
             records: Vec::new(),
             counts: Counts::default(),
@@ -96,6 +104,38 @@ impl<'a> Comparer<'a> {
             .same_number(number, wanted.number)
             .and_then(|()| self.same_report(wanted.done, wanted.written));
         same.map_err(|what| format!("report memory of {length} bytes: {what}"))
+    }
+
+    /// A feed of both with report memory of this length. Tells the bytes written.
+    pub fn feed(
+        &mut self,
+        check: Check,
+        lines: [&[u8]; 2],
+        length: usize,
+    ) -> Result<usize, String> {
+        let wanted = reference::feed(lines[0], lines[1], self.wanted.lend(length));
+        for (lent, line) in self.lines.iter_mut().zip(lines) {
+            lent.lend(line.len()).copy_from_slice(line);
+        }
+        let [main, spare] = &self.lines;
+        let report = self.report.lend(length);
+        let number = self.engine.feed(main.memory(), spare.memory(), report);
+        let number = self.spoiled(check, number);
+        self.counts.feeds += 1;
+        let same = self
+            .same_number(number, wanted.number)
+            .and_then(|()| self.same_report(wanted.done, wanted.written))
+            .and_then(|()| self.same_lines(lines));
+        match same {
+            Ok(()) => Ok(wanted.written),
+            Err(what) => {
+                let [main, spare] = lines.map(decode_line);
+                Err(format!(
+                    "report memory of {length} bytes: {what}\nmain line:\n{main}spare line:\n{}",
+                    spare.trim_end()
+                ))
+            }
+        }
     }
 
     /// A fresh venue of both, in venue memory of this length. Tells what is left.
@@ -159,6 +199,8 @@ impl<'a> Comparer<'a> {
             Part::Venue => self.venue.spoil((venue - 1).max(0)),
             Part::BeforeVenue => self.venue.spoil(-1),
             Part::AfterVenue => self.venue.spoil(venue),
+            Part::Main => self.lines[0].spoil(0),
+            Part::Spare => self.lines[1].spoil(0),
         }
         number
     }
@@ -189,6 +231,16 @@ impl<'a> Comparer<'a> {
             return Err(format!(
                 "{answers} messages done and {bytes} bytes written, expected {done} and {written}"
             ));
+        }
+        Ok(())
+    }
+
+    /// The lines were only read.
+    fn same_lines(&self, wanted: [&[u8]; 2]) -> Result<(), String> {
+        for ((lent, line), name) in self.lines.iter().zip(wanted).zip(["main", "spare"]) {
+            if lent.memory() != line || !lent.is_guarded() {
+                return Err(format!("the {name} line was written"));
+            }
         }
         Ok(())
     }

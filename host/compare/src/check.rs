@@ -9,6 +9,9 @@ pub enum Check {
     RunTorn,
     RunChanged,
     RunNoise,
+    FeedWhole,
+    FeedSpoiled,
+    FeedShort,
     Fresh,
     Call,
     CallShort,
@@ -19,13 +22,16 @@ pub enum Check {
 }
 
 impl Check {
-    pub const ALL: [Check; 13] = [
+    pub const ALL: [Check; 16] = [
         Check::RunWhole,
         Check::RunShort,
         Check::RunEveryLength,
         Check::RunTorn,
         Check::RunChanged,
         Check::RunNoise,
+        Check::FeedWhole,
+        Check::FeedSpoiled,
+        Check::FeedShort,
         Check::Fresh,
         Check::Call,
         Check::CallShort,
@@ -43,6 +49,9 @@ impl Check {
             Check::RunTorn => "run-torn",
             Check::RunChanged => "run-changed",
             Check::RunNoise => "run-noise",
+            Check::FeedWhole => "feed-whole",
+            Check::FeedSpoiled => "feed-spoiled",
+            Check::FeedShort => "feed-short",
             Check::Fresh => "fresh",
             Check::Call => "call",
             Check::CallShort => "call-short",
@@ -62,6 +71,9 @@ impl Check {
             Check::RunTorn => "a run of a list cut off",
             Check::RunChanged => "a run of a list with changed bytes",
             Check::RunNoise => "a run of a list with random bytes after it",
+            Check::FeedWhole => "a feed of two lines that lost no message from both",
+            Check::FeedSpoiled => "a feed of two lines with lost or spoiled messages",
+            Check::FeedShort => "a feed with report memory that ends near a message's records",
             Check::Fresh => "a fresh venue, in venue memory of any length",
             Check::Call => "a one-message call",
             Check::CallShort => "a one-message call with short report memory",
@@ -78,10 +90,13 @@ impl Check {
 
     /// Whether its answer has this part.
     pub fn has(self, part: Part) -> bool {
-        match self {
-            Check::Fresh => part.is_of_venue() || part == Part::Number,
-            _ if self.name().starts_with("call") => true,
-            _ => !part.is_of_venue(),
+        match part {
+            Part::Number => true,
+            Part::Main | Part::Spare => self.name().starts_with("feed"),
+            Part::Venue | Part::BeforeVenue | Part::AfterVenue => {
+                self == Check::Fresh || self.name().starts_with("call")
+            }
+            _ => self != Check::Fresh,
         }
     }
 }
@@ -96,10 +111,12 @@ pub enum Part {
     Venue,
     BeforeVenue,
     AfterVenue,
+    Main,
+    Spare,
 }
 
 impl Part {
-    pub const ALL: [Part; 7] = [
+    pub const ALL: [Part; 9] = [
         Part::Number,
         Part::Report,
         Part::BeforeReport,
@@ -107,6 +124,8 @@ impl Part {
         Part::Venue,
         Part::BeforeVenue,
         Part::AfterVenue,
+        Part::Main,
+        Part::Spare,
     ];
 
     pub fn name(self) -> &'static str {
@@ -118,15 +137,13 @@ impl Part {
             Part::Venue => "venue",
             Part::BeforeVenue => "before-venue",
             Part::AfterVenue => "after-venue",
+            Part::Main => "main",
+            Part::Spare => "spare",
         }
     }
 
     pub fn from_name(name: &str) -> Option<Part> {
         Part::ALL.into_iter().find(|part| part.name() == name)
-    }
-
-    pub fn is_of_venue(self) -> bool {
-        matches!(self, Part::Venue | Part::BeforeVenue | Part::AfterVenue)
     }
 }
 

@@ -4,6 +4,9 @@
 pub trait Engine {
     fn run(&self, messages: &[u8], report: &mut [u8]) -> u8;
 
+    /// A run of what two lines hand out.
+    fn feed(&self, main: &[u8], spare: &[u8], report: &mut [u8]) -> u8;
+
     /// A fresh venue, in venue memory of any length.
     fn fresh(&self, venue: &mut [u8]) -> u8;
 
@@ -17,6 +20,10 @@ pub struct Archive;
 impl Engine for Archive {
     fn run(&self, messages: &[u8], report: &mut [u8]) -> u8 {
         legging::run(messages, report).get()
+    }
+
+    fn feed(&self, main: &[u8], spare: &[u8], report: &mut [u8]) -> u8 {
+        legging::feed(main, spare, report).get()
     }
 
     fn fresh(&self, venue: &mut [u8]) -> u8 {
@@ -34,6 +41,10 @@ pub struct Reference;
 impl Engine for Reference {
     fn run(&self, messages: &[u8], report: &mut [u8]) -> u8 {
         reference::run(messages, report).number
+    }
+
+    fn feed(&self, main: &[u8], spare: &[u8], report: &mut [u8]) -> u8 {
+        reference::feed(main, spare, report).number
     }
 
     fn fresh(&self, venue: &mut [u8]) -> u8 {

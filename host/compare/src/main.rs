@@ -20,13 +20,14 @@ compare: the engine against the reference, byte for byte
 
 Each session of the generator is run whole, with report memory that ends near each
 message's records and of every short length, cut off, with changed and with random
-bytes; and message by message, the first upon a fresh venue and each other upon the
-venue that the last one left, with calls beside them upon short memory, the last
-message numbers, torn bytes, changed venues and venue memory of other lengths.
-Compared are the number, every byte of the report memory (lent full of junk) and of
-the venue, and the bytes around both. The first difference ends it with exit status 1,
-and names what repeats it. A soak tries report memory that ends near one in ten
-messages' records; the others try all of them.
+bytes; over two lines, with messages lost, cut, doubled, swapped and spoiled; and
+message by message, the first upon a fresh venue and each other upon the venue that
+the last one left, with calls beside them upon short memory, the last message numbers,
+torn bytes, changed venues and venue memory of other lengths. Compared are the number,
+every byte of the report memory (lent full of junk), of the venue and of the lines, and
+the bytes around them. The first difference ends it with exit status 1, and names what
+repeats it. A soak tries report memory that ends near one in ten messages' records; the
+others try all of them.
 ";
 
 /// When to stop.
@@ -195,13 +196,15 @@ fn told(counts: &Counts) -> String {
         (counts.sessions, "sessions"),
         (counts.messages, "messages"),
         (counts.runs, "runs"),
+        (counts.feeds, "feeds of two lines"),
         (counts.calls, "one-message calls"),
         (counts.bytes, "bytes of reports and venues"),
     ];
     for (count, name) in lines {
         text += &format!("{count:>14}  {name}\n");
     }
-    for (number, count) in counts.numbers.iter().enumerate() {
+    for number in (0..=10).chain(19..=21) {
+        let count = counts.numbers[number];
         text += &format!("{count:>14}  number {number}\n");
     }
     text

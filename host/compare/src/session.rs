@@ -3,6 +3,7 @@
 use crate::calls::{Comparer, Expected};
 use crate::check::Check;
 use sessions::corrupt::corrupt;
+use sessions::feed_generator::draw_feed;
 use sessions::generator::Generator;
 use sessions::held::{from_bytes, to_bytes, VENUE_BYTES};
 use sessions::profile::Profile;
@@ -46,6 +47,8 @@ struct Session<'a, 'b> {
     /// Draws the messages whose ends are tried; apart from the other draws, so
     /// that they are the same however many ends are tried.
     chosen: Random,
+    /// Draws the lines over which the list comes; apart from the other draws too.
+    fed: Random,
     one_in: u64,
 }
 
@@ -67,6 +70,7 @@ pub fn compare_session(
         ends: Vec::new(),
         generator: Generator::new(profile, !seed),
         chosen: Random::new(seed),
+        fed: Random::new(seed ^ (profile as u64 + 1).rotate_left(32)),
         one_in,
         pieces,
     };
@@ -91,6 +95,7 @@ impl Session<'_, '_> {
         self.torn_runs()?;
         self.changed_runs()?;
         self.noisy_runs()?;
+        self.feeds()?;
         if self.list != kept {
             return Err((Check::RunWhole, "the messages were written".to_string()));
         }
@@ -184,6 +189,50 @@ impl Session<'_, '_> {
             self.run(Check::RunNoise, &list, room)?;
         }
         Ok(())
+    }
+
+    /// The list over two lines with losses that the other line makes good, then parts
+    /// of it over lines that befell more.
+    fn feeds(&mut self) -> Checked {
+        const FEEDS: usize = 12;
+        let pieces = std::mem::take(&mut self.pieces);
+        for count in 0..FEEDS {
+            let most = if count == 0 { pieces.len() } else { 60 };
+            let messages = self.fed.below(pieces.len().min(most) as u64 + 1) as usize;
+            let feed = draw_feed(&pieces[..messages], &mut self.fed);
+            let check = match feed.is_whole {
+                true => Check::FeedWhole,
+                false => Check::FeedSpoiled,
+            };
+            self.feed(check, [&feed.main, &feed.spare])?;
+        }
+        self.pieces = pieces;
+        Ok(())
+    }
+
+    /// Two lines with room for all, and with report memory that ends where that of all
+    /// ends, near it, at the end of another message's records, near that, and anywhere.
+    fn feed(&mut self, check: Check, lines: [&[u8]; 2]) -> Checked {
+        let room = 2 * (lines[0].len() + lines[1].len()) + ROOM;
+        let written = self.feed_in(check, lines, room)?;
+        let any = self.fed.below(written as u64 + 1) as usize;
+        let end = self.feed_in(Check::FeedShort, lines, any)?;
+        for end in [written, end] {
+            for length in [end.saturating_sub(1), end, end + 1, end + 11, end + 12] {
+                self.feed_in(Check::FeedShort, lines, length)?;
+            }
+        }
+        Ok(())
+    }
+
+    fn feed_in(
+        &mut self,
+        check: Check,
+        lines: [&[u8]; 2],
+        length: usize,
+    ) -> Result<usize, (Check, String)> {
+        let same = self.comparer.feed(check, lines, length);
+        same.map_err(|what| (check, what))
     }
 
     fn call(

@@ -35,6 +35,17 @@ fn the_reference_does_not_differ_from_itself() {
 }
 
 #[test]
+fn lines_stop_with_every_number() {
+    let mut comparer = Comparer::new(&Reference, None);
+    for seed in 0..10 {
+        let compared = compare_session(&mut comparer, Profile::Hits, seed, 50);
+        assert!(compared.is_ok());
+    }
+    let stops = &comparer.counts.numbers[19..];
+    assert!(stops.iter().all(|count| *count > 0), "{stops:?}");
+}
+
+#[test]
 fn the_engine_does_not_differ() {
     assert_eq!(found(&Archive, None), None);
 }
@@ -53,6 +64,8 @@ fn each_spoiled_part_is_found_where_it_was_spoiled() {
             Part::BeforeReport | Part::AfterReport => "report memory",
             Part::Venue => "venue",
             Part::BeforeVenue | Part::AfterVenue => "venue memory",
+            Part::Main => "the main line was written",
+            Part::Spare => "the spare line was written",
         };
         assert!(told.contains(word), "{told}");
     }

@@ -18,22 +18,15 @@ pub struct Feed {
 /// The messages of both lines, main first.
 type Parts = [Vec<Numbered>; 2];
 
-/// What may befall the messages of the lines.
-const ON_PARTS: [fn(&mut Parts, &mut Random); 10] = [
-    lose,
-    lose_from_both,
-    lose_last,
-    double,
-    swap,
-    differ,
-    exchange,
-    renumber,
-    shorten,
-    lengthen,
-];
+/// What may befall the messages, each line still good by itself: lost and differing
+/// ones.
+const LOSSES: [OnParts; 5] = [lose, lose_from_both, lose_last, differ, exchange];
+
+/// What may befall the messages of a line so that it is a bad one.
+const ON_PARTS: [OnParts; 5] = [double, swap, renumber, shorten, lengthen];
 
 /// What may befall the bytes of a line.
-const ON_BYTES: [fn(&mut Vec<u8>, &mut Random); 7] = [
+const ON_BYTES: [OnBytes; 7] = [
     cut,
     begin_number,
     begin_message,
@@ -43,16 +36,19 @@ const ON_BYTES: [fn(&mut Vec<u8>, &mut Random); 7] = [
     add_noise,
 ];
 
+type OnParts = fn(&mut Parts, &mut Random);
+type OnBytes = fn(&mut Vec<u8>, &mut Random);
+
 /// Sends a list of whole messages over two lines.
 pub fn draw_feed(list: &[Vec<u8>], random: &mut Random) -> Feed {
     let mut parts = carried(list, random);
     let mishaps = random.pick(&[0, 0, 0, 1, 1, 1, 1, 1, 2, 3]);
     let mut on_bytes = Vec::new();
     for _ in 0..mishaps {
-        let drawn = random.below((ON_PARTS.len() + ON_BYTES.len()) as u64) as usize;
-        match ON_PARTS.get(drawn) {
-            Some(befall) => befall(&mut parts, random),
-            None => on_bytes.push(ON_BYTES[drawn - ON_PARTS.len()]),
+        match random.below(100) {
+            ..60 => random.pick(&LOSSES)(&mut parts, random),
+            60..77 => random.pick(&ON_PARTS)(&mut parts, random),
+            _ => on_bytes.push(random.pick(&ON_BYTES)),
         }
     }
     let mut lines = parts.map(|parts| line_bytes(&parts));
