@@ -3,6 +3,7 @@
 
 mod calls;
 mod clock;
+mod feeds;
 mod layers;
 mod lists;
 mod machine;
@@ -21,7 +22,8 @@ bench: the engine timed beside the reference, in ns
   bench [TABLE ...] [--rounds N] [--seeds N] [--sessions N] [--only NAME] [--quick]
   bench spin NAME [--book N] [--times N] [--who engine|reference]
 
-Tables: profiles, blocks, growing, books, layers, calls, call-layers; all of them where none is named.
+Tables: profiles, blocks, growing, books, layers, feeds, calls, call-layers; all of them
+where none is named.
 Each cell is the least and the median of the rounds (default 15), the ratio is
 reference / engine of the least: above 1 the engine is faster.
 
@@ -32,6 +34,8 @@ reference / engine of the least: above 1 the engine is faster.
   books      an order that rests and its cancel, on books from 1 to 128 orders
   layers     one piece of work at a time on books of 8, 32 and 128 orders: the run of
              a prefix and 1,000 units, less the run of the prefix, by 1,000
+  feeds      the sessions of `profiles` over two whole lines, each one feed, beside the
+             engine's own run of the list
   calls      each message of the generator's sessions as a one-message call upon the
              venue before it, with report memory of 10,112 bytes: eight calls are
              timed together, least of the rounds for each message
@@ -141,6 +145,11 @@ const TABLES: &[(&str, &str, Make)] = &[
         runs::books,
     ),
     ("layers", "Run, ns for a unit: layers", runs::layers),
+    (
+        "feeds",
+        "Feed of two whole lines, ns for a message: whole sessions",
+        feeds::profiles,
+    ),
     (
         "calls",
         "One-message call, ns: each message of the sessions",

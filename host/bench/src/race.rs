@@ -16,8 +16,13 @@ impl Times {
         quantile(&self.0, 0.5)
     }
 
+    /// One round more.
+    pub fn add(&mut self, time: f64) {
+        self.0.push(time);
+    }
+
     /// Each time less another, by a number of units.
-    fn each(&self, less: f64, units: usize) -> Times {
+    pub fn each(&self, less: f64, units: usize) -> Times {
         let times = self.0.iter().map(|time| (time - less) / units as f64);
         Times(times.collect())
     }
@@ -64,8 +69,8 @@ impl Both<Times> {
 
     /// One round more.
     pub fn add(&mut self, round: Both<f64>) {
-        self.engine.0.push(round.engine);
-        self.reference.0.push(round.reference);
+        self.engine.add(round.engine);
+        self.reference.add(round.reference);
     }
 }
 
@@ -95,6 +100,18 @@ impl Both<f64> {
 /// contender has to keep its state before a message.
 const SPARE: usize = 16_384;
 
+/// The length of report memory that a list's runs get: its records and that room.
+pub fn room_of(messages: &[u8]) -> usize {
+    let mut room = 2 * messages.len() + SPARE;
+    loop {
+        let returned = reference::run(messages, &mut vec![0; room]);
+        if returned.number != 10 {
+            return returned.written + SPARE;
+        }
+        room *= 2;
+    }
+}
+
 /// A message list, and how long a report memory its runs get.
 pub struct List {
     messages: Vec<u8>,
@@ -117,18 +134,8 @@ impl Track {
 
     /// A list to be timed; both contenders must make the same report of it.
     pub fn list(&mut self, messages: Vec<u8>) -> Result<List, String> {
-        let mut room = 2 * messages.len() + SPARE;
-        let written = loop {
-            let returned = reference::run(&messages, self.report(room));
-            if returned.number != 10 {
-                break returned.written;
-            }
-            room *= 2;
-        };
-        let list = List {
-            messages,
-            room: written + SPARE,
-        };
+        let room = room_of(&messages);
+        let list = List { messages, room };
         self.agree(&list)?;
         Ok(list)
     }

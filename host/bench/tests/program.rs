@@ -24,6 +24,7 @@ fn every_table_has_its_rows() {
         ("growing", 4),
         ("books", 8),
         ("layers", 27),
+        ("feeds", 13),
         ("calls", 13),
         ("call-layers", 27),
     ] {

@@ -4,6 +4,7 @@ use legging::{feed, fresh_in, one_message, one_message_in, run};
 use legging::{Number, VenueBytes, MOST_BYTES, VENUE_BYTES};
 use reference::Venue;
 use sessions::held::to_bytes;
+use sessions::line::{line_bytes, numbered};
 use sessions::message::split;
 use sessions::profile::Profile;
 use sessions::record::{print_sheet, read_report};
@@ -324,10 +325,7 @@ fn calls_at_once_do_not_meet() {
 #[test]
 fn a_stack_of_32_kibibytes_is_enough() {
     let list = generate(Profile::Sweeps, 3, 600);
-    let numbered = list.iter().zip(1u32..);
-    let line: Vec<u8> = numbered
-        .flat_map(|(message, number)| [&number.to_le_bytes(), &message[..]].concat())
-        .collect();
+    let line = line_bytes(&numbered(&list));
     let mut report = vec![0xC3; 1 << 20];
     let work = move || {
         assert_eq!(feed(&line, &line, &mut report), Number::DONE);

@@ -1,7 +1,7 @@
 //! Two lines of one list, with messages lost, cut, doubled, swapped and spoiled at
 //! drawn places: equal numbers drawn, equal lines.
 
-use crate::line::{line_bytes, Numbered};
+use crate::line::{line_bytes, numbered, Numbered};
 use crate::message::Message;
 use crate::random::Random;
 
@@ -71,7 +71,7 @@ fn carried(list: &[Vec<u8>], random: &mut Random) -> Parts {
     let overlap = random.below(4) as usize;
     let mut alone = 0;
     let mut parts = [Vec::new(), Vec::new()];
-    for (index, (message, number)) in list.iter().zip(1..).enumerate() {
+    for (index, part) in numbered(list).into_iter().enumerate() {
         if random.chance(20) {
             alone = 1 - alone;
         }
@@ -86,8 +86,7 @@ fn carried(list: &[Vec<u8>], random: &mut Random) -> Parts {
         };
         for (line, parts) in parts.iter_mut().enumerate() {
             if lost != Some(line) {
-                let message = message.clone();
-                parts.push(Numbered { number, message });
+                parts.push(part.clone());
             }
         }
     }

@@ -102,6 +102,15 @@ fn first_part(bytes: &[u8], last: u32) -> Result<Numbered, Fault> {
     }
 }
 
+/// The messages of a list with their numbers.
+pub fn numbered(list: &[Vec<u8>]) -> Vec<Numbered> {
+    let numbered = list.iter().zip(1..).map(|(message, number)| Numbered {
+        number,
+        message: message.clone(),
+    });
+    numbered.collect()
+}
+
 /// The bytes of a line.
 pub fn line_bytes(parts: &[Numbered]) -> Vec<u8> {
     parts.iter().flat_map(Numbered::bytes).collect()

@@ -3,7 +3,7 @@
 use crate::common::{bytes, with_legging};
 use reference::{feed, run, Returned, Venue};
 use sessions::lent::Lent;
-use sessions::line::{line_bytes, Numbered};
+use sessions::line::{line_bytes, numbered};
 use sessions::message::split;
 use sessions::record::{print_sheet, read_report};
 use sessions::text::encode_line;
@@ -27,12 +27,9 @@ fn fed(main: &str, spare: &str, room: usize) -> (u8, String) {
 
 /// A line of the messages that came over it.
 fn line(list: &[u8], came: impl Fn(usize) -> bool) -> Vec<u8> {
-    let numbered = split(list).into_iter().zip(1..);
-    let parts = numbered.map(|(message, number)| Numbered {
-        number,
-        message: message.to_vec(),
-    });
-    let parts: Vec<Numbered> = parts.filter(|part| came(part.number as usize)).collect();
+    let pieces: Vec<Vec<u8>> = split(list).into_iter().map(<[u8]>::to_vec).collect();
+    let mut parts = numbered(&pieces);
+    parts.retain(|part| came(part.number as usize));
     line_bytes(&parts)
 }
 
