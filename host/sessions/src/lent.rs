@@ -61,7 +61,8 @@ impl Lent {
             return Err("more bytes were told than the report memory has".to_string());
         }
         let (records, rest) = self.memory().split_at(written);
-        if rest.iter().any(|byte| *byte != 0) {
+        // Without an early end the bytes are looked at many at a time.
+        if rest.iter().fold(0, |any, byte| any | byte) != 0 {
             return Err("report bytes after the records are not zero".to_string());
         }
         Ok(records)
