@@ -6,6 +6,7 @@ use crate::race::{room_of, Both, Times};
 use crate::table::{header, number, pair, ratio, row};
 use crate::Options;
 use sessions::line::{line_bytes, numbered};
+use sessions::profile::Profile;
 use std::hint::black_box;
 
 /// A session as one list, and as a line that came twice: whole over main and spare.
@@ -95,8 +96,59 @@ impl Track {
     }
 }
 
-/// Whole sessions over two lines: ns for each message.
+/// The sessions of a profile, and how many messages they have.
+struct Group {
+    profile: Profile,
+    messages: usize,
+    sessions: Vec<Session>,
+}
+
+impl Group {
+    fn new(profile: Profile, seeds: u64) -> Result<Self, String> {
+        let pieces = (0..seeds).map(|seed| session(profile, seed));
+        let pieces: Vec<Vec<Vec<u8>>> = pieces.collect();
+        let sessions: Vec<Session> = pieces.iter().map(|pieces| Session::new(pieces)).collect();
+        sessions.iter().try_for_each(Session::agrees)?;
+        Ok(Group {
+            profile,
+            messages: pieces.iter().map(Vec::len).sum(),
+            sessions,
+        })
+    }
+
+    /// Its row: ns for each message.
+    fn told(&self, times: &Three) -> String {
+        let run = times.run.each(0.0, self.messages);
+        let feed = times.feed.each(&Both::default(), self.messages);
+        let (least, median) = (feed.least(), feed.median());
+        row(&[
+            self.profile.name().to_string(),
+            number(self.messages as f64),
+            pair(run.least(), run.median()),
+            pair(least.engine, median.engine),
+            format!("{:.2}", least.engine / run.least()),
+            pair(least.reference, median.reference),
+            ratio(&least),
+        ])
+    }
+}
+
+/// Whole sessions over two lines.
 pub fn profiles(options: &Options) -> Result<String, String> {
+    let groups = options.profiles().map(|of| Group::new(of, options.seeds));
+    let groups: Vec<Group> = groups.collect::<Result<_, _>>()?;
+    let sessions = groups.iter().flat_map(|group| &group.sessions);
+    let most = sessions.map(|session| session.room).max().unwrap_or(0);
+    let mut track = Track {
+        clock: Clock::new(),
+        report: vec![0; most],
+    };
+    let mut times = vec![Three::default(); groups.len()];
+    for round in 0..options.rounds {
+        for (group, times) in groups.iter().zip(&mut times) {
+            track.race(&group.sessions, round, times);
+        }
+    }
     let mut table = header(&[
         "profile",
         "messages",
@@ -106,43 +158,8 @@ pub fn profiles(options: &Options) -> Result<String, String> {
         "reference: feed, ns",
         "ratio",
     ]);
-    let mut track = Track {
-        clock: Clock::new(),
-        report: Vec::new(),
-    };
-    let mut groups = Vec::new();
-    for profile in options.profiles() {
-        let pieces = (0..options.seeds).map(|seed| session(profile, seed));
-        let pieces: Vec<Vec<Vec<u8>>> = pieces.collect();
-        let sessions: Vec<Session> = pieces.iter().map(|pieces| Session::new(pieces)).collect();
-        sessions.iter().try_for_each(Session::agrees)?;
-        let most = sessions
-            .iter()
-            .map(|session| session.room)
-            .max()
-            .unwrap_or(0);
-        track.report.resize(track.report.len().max(most), 0);
-        let messages: usize = pieces.iter().map(Vec::len).sum();
-        groups.push((profile, messages, sessions, Three::default()));
-    }
-    for round in 0..options.rounds {
-        for (_, _, sessions, times) in &mut groups {
-            track.race(sessions, round, times);
-        }
-    }
-    for (profile, messages, _, times) in groups {
-        let run = times.run.each(0.0, messages);
-        let feed = times.feed.each(&Both::default(), messages);
-        let (least, median) = (feed.least(), feed.median());
-        table += &row(&[
-            profile.name().to_string(),
-            number(messages as f64),
-            pair(run.least(), run.median()),
-            pair(least.engine, median.engine),
-            format!("{:.2}", least.engine / run.least()),
-            pair(least.reference, median.reference),
-            ratio(&least),
-        ]);
+    for (group, times) in groups.iter().zip(&times) {
+        table += &group.told(times);
     }
     Ok(table)
 }

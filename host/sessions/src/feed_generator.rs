@@ -32,7 +32,7 @@ const ON_BYTES: [OnBytes; 7] = [
     begin_message,
     leave_out_end,
     add_zeros,
-    spoil,
+    |line, random| spoil(line, random),
     add_noise,
 ];
 
@@ -242,7 +242,7 @@ fn add_zeros(line: &mut Vec<u8>, random: &mut Random) {
     line.extend(vec![0; random.between(1, 12) as usize]);
 }
 
-fn spoil(line: &mut Vec<u8>, random: &mut Random) {
+fn spoil(line: &mut [u8], random: &mut Random) {
     for _ in 0..random.between(1, 3) {
         if !line.is_empty() {
             let at = random.below(line.len() as u64) as usize;
