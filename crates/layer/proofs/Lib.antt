@@ -1,0 +1,16 @@
+-- Proofs of the statements of specs/, in the order in which each file uses the ones before it:
+--
+--   Ways        a one-message call, an arrival and a turn, each by the ways in which it ends
+--   Lanes       a lane put into the layer, and the venue that a turn serves
+--   Keeping     gets-nine, fresh-layer, kept, never-nine, room-enough, answered, unchanged
+--   Fairness    fair
+--   Order       ordered
+--   Apart       each-apart, each-holds
+--   Witness     the claims are not empty
+pub mod Ways
+pub mod Lanes
+pub mod Keeping
+pub mod Fairness
+pub mod Order
+pub mod Apart
+pub mod Witness
