@@ -1,0 +1,11 @@
+pub mod Bytes
+pub mod Figures
+pub mod Checking
+pub mod Lent
+pub mod Places
+pub mod Joining
+pub mod Taking
+pub mod Fresh
+pub mod Held
+pub mod Calling
+pub mod Writing

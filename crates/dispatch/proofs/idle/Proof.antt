@@ -1,0 +1,24 @@
+-- `dispatch::idle` meets its contract.
+use mathlib.Core.Path.{refl}
+use borrow.Author.Needs.{needs}
+use Rattle.rules.specs.Records.{sheet, encodeAll}
+use Rattle.dispatch.proofs.idle.Statement.{statement}
+use Rattle.dispatch.proofs.idle.Tie as tie
+
+zero-from-requires : tie.Need-zero-from-requires
+zero-from-requires c κs = search needs
+
+same-length : tie.Need-same-length
+same-length c = search needs
+
+returns : tie.Need-returns
+unfolding sheet encodeAll
+returns c = (refl, c .before .before .zero-from .ensures)
+
+pub idle-spec : {M : Type 1} → statement M
+idle-spec =
+    tie.close
+    (tie.spec
+    zero-from-requires
+    same-length
+    returns)

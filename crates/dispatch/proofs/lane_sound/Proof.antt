@@ -1,0 +1,47 @@
+-- `dispatch::lane_sound` meets its contract.
+use mathlib.Core.Path.{sym}
+use lib.Seq.{length-take-le}
+use native.Mathlib.Omega.{arith}
+use borrow.Author.Tests.{not-true, not-false}
+use borrow.Author.Needs.{needs}
+use Rattle.state.specs.Held.{venueSize}
+use Rattle.dispatch.proofs.Figures.{lane-waits, lane-passed, lane-checked}
+use Rattle.dispatch.proofs.lane_sound.Statement.{statement}
+use Rattle.dispatch.proofs.lane_sound.Tie as tie
+
+wait-sound-requires : tie.Need-wait-sound-requires
+wait-sound-requires c κs = search needs
+
+returns : tie.Need-returns
+returns c = lane-waits _ _ _ _ (c .before .wait-sound .ensures) (not-true _ (c .if1 .taken))
+
+returns-2 : tie.Need-returns-2
+returns-2 c = lane-passed _ _ _ _ (c .before .before .wait-sound .ensures) (not-false _ (c .before .if1 .left)) (c .if2 .taken)
+
+slice-aggregate-venue-from : tie.Need-slice-aggregate-venue-from
+slice-aggregate-venue-from c = let p = c .before .before .before .before .before .pre in sym (length-take-le venueSize (c .before .before .before .before .before .args .lane .now) (omega arith))
+
+venue-from-requires : tie.Need-venue-from-requires
+venue-from-requires c κs = let p = c .before .before .before .before .before .pre in length-take-le venueSize (c .before .before .before .before .before .args .lane .now) (omega arith)
+
+slice-aggregate-load-sound : tie.Need-slice-aggregate-load-sound
+slice-aggregate-load-sound c = search needs
+
+load-sound-requires : tie.Need-load-sound-requires
+load-sound-requires c κs = search needs
+
+returns-3 : tie.Need-returns-3
+returns-3 c = lane-checked _ _ _ _ (c .before .before .before .before .before .before .before .wait-sound .ensures) _ _ (not-false _ (c .before .before .before .before .before .before .if1 .left)) (c .before .before .before .before .before .if2 .left) (c .before .before .before .venue-from .ensures) (c .before .load-sound .ensures .answer)
+
+pub lane-sound-spec : {M : Type 1} → statement M
+lane-sound-spec =
+    tie.close
+    (tie.spec
+    wait-sound-requires
+    returns
+    returns-2
+    slice-aggregate-venue-from
+    venue-from-requires
+    slice-aggregate-load-sound
+    load-sound-requires
+    returns-3)
