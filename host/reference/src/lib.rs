@@ -3,8 +3,9 @@
 //! It shares nothing with the proved engine: it is what that engine is compared
 //! with, and the baseline for its speed. [`run`] takes a whole message list from
 //! a fresh venue; [`one_message`] takes one message upon a venue held by value;
-//! [`feed`] runs the messages that come over two lines. After each call the report
-//! memory is the records, then zeros to its end.
+//! [`feed`] runs the messages that come over two lines; [`arrive`] and [`turn`] are the
+//! calls of four venues behind one line. After each call the report memory is the
+//! records, then zeros to its end.
 
 #![forbid(unsafe_code)]
 
@@ -12,6 +13,7 @@ mod book;
 mod books;
 mod calls;
 mod feed;
+mod layer;
 mod legging;
 mod matching;
 mod price;
@@ -21,5 +23,7 @@ mod wire;
 
 pub use calls::{one_message, run};
 pub use feed::feed;
+pub use layer::{arrive, turn, Lane, Layer, Turned};
+pub use layer::{MOST_MESSAGE, MOST_WAITING, NONE_SERVED, VENUES};
 pub use sound::is_sound;
 pub use types::*;

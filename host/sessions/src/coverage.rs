@@ -2,6 +2,7 @@
 
 use crate::check::{Seen, Step};
 use crate::feed_check::FeedCoverage;
+use crate::layer_check::LayerCoverage;
 use crate::message::{Leg, Message};
 use crate::model::AboveLegs;
 use crate::phases::Phases;
@@ -133,6 +134,7 @@ pub struct Coverage {
     declined: [u64; 9],
     rare: [u64; 22],
     pub feeds: FeedCoverage,
+    pub layers: LayerCoverage,
 }
 
 impl Coverage {
@@ -340,6 +342,9 @@ impl Coverage {
         for (way, count) in self.feeds.counts() {
             missing.extend((count == 0).then(|| format!("feed {way}")));
         }
+        for (way, count) in self.layers.counts() {
+            missing.extend((count == 0).then(|| format!("layer {way}")));
+        }
         missing
     }
 }
@@ -376,6 +381,9 @@ impl Display for Coverage {
         }
         for (way, count) in self.feeds.counts() {
             writeln!(f, "{count:>10}  feed {way}")?;
+        }
+        for (way, count) in self.layers.counts() {
+            writeln!(f, "{count:>10}  layer {way}")?;
         }
         Ok(())
     }

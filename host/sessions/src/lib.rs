@@ -3,6 +3,7 @@
 
 #![forbid(unsafe_code)]
 
+pub mod asked;
 pub mod audit;
 pub mod check;
 pub mod corrupt;
@@ -13,6 +14,9 @@ pub mod feed_check;
 pub mod feed_generator;
 pub mod generator;
 pub mod held;
+pub mod held_layer;
+pub mod layer_check;
+pub mod layer_generator;
 pub mod ledger;
 pub mod lent;
 pub mod line;

@@ -5,6 +5,7 @@ use crate::corrupt::corrupt;
 use crate::coverage::Coverage;
 use crate::feed_check::check_feeds;
 use crate::generator::Generator;
+use crate::layer_check::check_layer;
 use crate::lent::Lent;
 use crate::message::{split, Message};
 use crate::profile::Profile;
@@ -80,7 +81,8 @@ pub fn check_session(profile: Profile, seed: u64, coverage: &mut Coverage) -> Re
     let mut session = Session::new(profile, seed, coverage);
     let checked = session
         .check_all(profile, session_length(profile, seed))
-        .and_then(|()| check_feeds(profile, seed, &session.pieces, &mut session.coverage.feeds));
+        .and_then(|()| check_feeds(profile, seed, &session.pieces, &mut session.coverage.feeds))
+        .and_then(|()| check_layer(profile, seed, &mut session.coverage.layers));
     let after = session.pieces.len();
     checked.map_err(|what| Failure {
         profile,

@@ -46,7 +46,7 @@ pub fn parse_session(text: &str) -> Result<Vec<Message>, LineError> {
 }
 
 /// The lines that say something, without their comments.
-fn bodies(text: &str) -> impl Iterator<Item = Words<'_>> {
+pub(crate) fn bodies(text: &str) -> impl Iterator<Item = Words<'_>> {
     let lines = text.lines().enumerate().map(|(index, line)| Words {
         words: line.split('#').next().unwrap_or("").split_whitespace(),
         line: index + 1,
@@ -99,7 +99,7 @@ pub fn decode_line(bytes: &[u8]) -> String {
     text
 }
 
-fn parse_line(mut words: Words) -> Result<Message, LineError> {
+pub(crate) fn parse_line(mut words: Words) -> Result<Message, LineError> {
     let message = parse_message(&mut words)?;
     words.end()?;
     Ok(message)
@@ -173,13 +173,13 @@ fn parse_away(words: &mut Words) -> Result<Message, LineError> {
 }
 
 /// The words of one line, read from left to right.
-struct Words<'a> {
+pub(crate) struct Words<'a> {
     words: std::str::SplitWhitespace<'a>,
-    line: usize,
+    pub line: usize,
 }
 
 /// Number fields, with the range that their width allows.
-trait Width: FromStr {
+pub(crate) trait Width: FromStr {
     const RANGE: &'static str;
 }
 
@@ -196,16 +196,16 @@ impl Width for i32 {
 }
 
 impl<'a> Words<'a> {
-    fn next(&mut self) -> Option<&'a str> {
+    pub fn next(&mut self) -> Option<&'a str> {
         self.words.next()
     }
 
     /// The word to come.
-    fn first(&self) -> Option<&'a str> {
+    pub fn first(&self) -> Option<&'a str> {
         self.words.clone().next()
     }
 
-    fn error(&self, expected: &str, found: Option<&str>) -> LineError {
+    pub fn error(&self, expected: &str, found: Option<&str>) -> LineError {
         LineError {
             line: self.line,
             expected: expected.to_string(),
@@ -223,7 +223,7 @@ impl<'a> Words<'a> {
         }
     }
 
-    fn number<T: Width>(&mut self, name: &str) -> Result<T, LineError> {
+    pub fn number<T: Width>(&mut self, name: &str) -> Result<T, LineError> {
         let found = self.next();
         let digits = found.filter(|word| !word.starts_with('+'));
         match digits.and_then(|word| word.parse().ok()) {
@@ -280,7 +280,7 @@ impl<'a> Words<'a> {
         Ok(bytes)
     }
 
-    fn end(&mut self) -> Result<(), LineError> {
+    pub fn end(&mut self) -> Result<(), LineError> {
         match self.next() {
             None => Ok(()),
             found => Err(self.error("the end of the line", found)),

@@ -2,6 +2,7 @@
 
 mod common;
 mod feed;
+mod layer;
 mod random_sessions;
 mod refusals;
 mod report_memory;
