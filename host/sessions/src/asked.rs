@@ -49,7 +49,7 @@ pub fn parse_script(text: &str) -> Result<Vec<(usize, Asked)>, LineError> {
             Some("arrive") => script.push((line, parse_arrival(words)?)),
             Some("turn") => script.push((line, parse_turn(words)?)),
             Some("turns") => {
-                let count: u32 = words.number("a count of turns")?;
+                let count: u8 = words.number("a count of turns")?;
                 words.end()?;
                 script.extend((0..count).map(|_| (line, Asked::Turn { room: ENOUGH })));
             }
@@ -112,7 +112,7 @@ mod tests {
             ("arrive 1", "line 1: expected a message (order, complex, cancel, away, status, open, close, auction, sweep or raw), found the end of the line"),
             ("turn x", "line 1: expected a length of report memory, a number from 0 to 4294967295, found \"x\""),
             ("turn 1 2", "line 1: expected the end of the line, found \"2\""),
-            ("turns", "line 1: expected a count of turns, a number from 0 to 4294967295, found the end of the line"),
+            ("turns", "line 1: expected a count of turns, a number from 0 to 255, found the end of the line"),
         ];
         for (text, expected) in cases {
             assert_eq!(parse_script(text).unwrap_err().to_string(), expected);

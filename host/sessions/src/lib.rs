@@ -23,6 +23,7 @@ pub mod line;
 pub mod message;
 pub mod model;
 pub mod phases;
+pub mod play;
 pub mod profile;
 pub mod random;
 pub mod record;

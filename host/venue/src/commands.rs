@@ -3,11 +3,13 @@
 use crate::arguments::Arguments;
 use crate::help;
 use crate::Failure;
+use sessions::asked::parse_script;
 use sessions::audit::audit;
 use sessions::coverage::Coverage;
 use sessions::explain::explain;
 use sessions::feed::{hand_out, Line, Stop};
 use sessions::message::Message;
+use sessions::play::play;
 use sessions::profile::Profile;
 use sessions::record::{parse_sheet, print_sheet, read_report};
 use sessions::sheet::{feed_whole, run_whole, sheet_of, MOST_INPUT};
@@ -29,6 +31,7 @@ pub fn perform(arguments: Vec<String>) -> Output {
         "decode" => decode(rest),
         "print" => print(rest),
         "feed" => feed(rest),
+        "four" => four(rest),
         "audit" => audit_sheet(rest),
         "explain" => explain_session(rest),
         "generate" => generate_session(rest),
@@ -155,6 +158,28 @@ fn feed(rest: &[String]) -> Output {
         }
         _ => Err(Failure::Disagreement(output, told)),
     }
+}
+
+/// The sheets of four venues behind one line; calls that did nothing and messages that
+/// still wait are told beside them.
+fn four(rest: &[String]) -> Output {
+    let arguments = Arguments::parse(rest, &[], &[], 1)?;
+    let input = read(arguments.word(0))?;
+    let text = as_text(&input).map_err(Failure::Input)?;
+    let script = parse_script(text).map_err(|error| Failure::Input(error.to_string()))?;
+    let played = play(&script).map_err(Failure::Input)?;
+    for note in &played.notes {
+        eprintln!("venue four: {note}");
+    }
+    let mut output = String::new();
+    for (venue, sheet) in played.sheets.iter().enumerate() {
+        output += &format!("# venue {venue}\n{}", print_sheet(sheet));
+        let waiting = played.waiting[venue];
+        if waiting > 0 {
+            eprintln!("venue four: {waiting} still waiting for venue {venue}");
+        }
+    }
+    Ok(output.into_bytes())
 }
 
 fn print(rest: &[String]) -> Output {

@@ -8,6 +8,7 @@ venue: session tools for the legging order engine
   venue decode [--line] [FILE]          message bytes to text
   venue print [FILE]                    report bytes to sheet lines
   venue feed [--text] MAIN SPARE        print the sheet of two lines of one feed
+  venue four [SCRIPT]                   print the sheets of four venues behind one line
   venue audit [--text] SESSION [SHEET]  sums of every complex order
   venue explain [--text] [FILE]         what happened, message by message
   venue generate --profile P --seed N --messages M [--text]
@@ -74,6 +75,23 @@ messages each line served and what stopped them:
 With 19 to 21 the exit status is 1.
 ";
 
+const FOUR: &str = "\
+venue four [SCRIPT]
+
+Plays arrivals and turns upon four fresh venues behind one line, and prints the sheet
+of each venue under its number. The script is text, one call a line:
+
+  arrive VENUE MESSAGE      MESSAGE as in a session's text, or nothing: no bytes
+  turn                      also: turn BYTES, the length of its report memory
+  turns COUNT               so many turns, up to 255
+
+A venue's wait holds up to 8 messages of up to 32 bytes. A turn does the message at the
+head of the next venue's wait, going round from venue 0. Report memory is 10,112 bytes
+where no other length is said: enough for any message. Standard error tells the
+arrivals that were refused (17 or 18), the turns that served no venue (0 or 10), and
+what still waits at the end.
+";
+
 const AUDIT: &str = "\
 venue audit [--text] SESSION [SHEET]
 
@@ -132,6 +150,7 @@ pub fn of(command: &str) -> Option<String> {
         ),
         "print" => PRINT.to_string(),
         "feed" => FEED.to_string(),
+        "four" => FOUR.to_string(),
         "audit" => AUDIT.to_string(),
         "explain" => EXPLAIN.to_string(),
         "generate" => GENERATE.to_string(),

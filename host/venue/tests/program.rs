@@ -157,7 +157,8 @@ fn missing_file_is_told_by_name() {
 fn help_names_every_command() {
     let text = String::from_utf8(good(&["help"], b"")).unwrap();
     for command in [
-        "sheet", "encode", "decode", "print", "feed", "audit", "explain", "generate", "check",
+        "sheet", "encode", "decode", "print", "feed", "four", "audit", "explain", "generate",
+        "check",
     ] {
         assert!(text.contains(&format!("venue {command}")), "{command}");
         let more = String::from_utf8(good(&["help", command], b"")).unwrap();
@@ -301,6 +302,34 @@ fn feed_names_the_file_that_is_wrong() {
     );
     let errors = bad(&["feed", "no-such-file", main.path()], b"", 1);
     assert!(errors.starts_with("venue feed: no-such-file: "), "{errors}");
+}
+
+const FOUR_SCRIPT: &str = include_str!("sessions/four.txt");
+
+#[test]
+fn four_prints_the_sheet_of_each_venue() {
+    let output = venue(&["four"], FOUR_SCRIPT.as_bytes());
+    assert_eq!(output.status.code(), Some(0));
+    let sheets = "# venue 0\n64 1 0 0 0\n64 2 0 0 0\n64 3 0 5 2\n67 3 0 0 115 115 8\n\
+        67 3 1 0 75 75 8\n64 4 0 0 0\n65 0 1 115 5 4 3\n65 1 0 90 5 3 2\n66 3 205 5\n\
+        68 3 0 0 3\n68 3 1 0 3\n# venue 1\n64 1 0 0 0\n64 2 5 0 0\n# venue 2\n# venue 3\n64 1 1 0 0\n";
+    assert_eq!(String::from_utf8(output.stdout).unwrap(), sheets);
+    let told = "\
+        venue four: line 11: turn ended by 10: the records do not fit, or the message numbers are used up\n\
+        venue four: line 13: arrival for venue 2 refused with 17: its wait holds 8, or the message is over 32 bytes\n\
+        venue four: line 14: arrival for venue 4 refused with 18: there is no such venue\n\
+        venue four: line 15: turn with number 0: nothing waits\n\
+        venue four: 1 still waiting for venue 2\n";
+    assert_eq!(String::from_utf8(output.stderr).unwrap(), told);
+}
+
+#[test]
+fn four_names_the_line_that_is_wrong() {
+    let errors = bad(&["four"], b"turn\nserve\n", 1);
+    let expected = "venue four: line 2: expected a call (arrive, turn or turns), found \"serve\"\n";
+    assert_eq!(errors, expected);
+    let errors = bad(&["four", "no-such-file"], b"", 1);
+    assert!(errors.starts_with("venue four: no-such-file: "), "{errors}");
 }
 
 #[test]
