@@ -15,6 +15,7 @@
  *     past their lengths are not.
  *   - `venue` is read and written; legging_fresh only writes it. Unless the message
  *     was accepted, it holds after the call what it held before.
+ *   - `layer` is read and written; legging_layer_fresh only writes it.
  *   - `report` is written from its first byte to its last, whatever the call
  *     ends with: the records done, then zeros. What it held before is not read.
  *   - A pointer with the length 0 may be NULL; otherwise it points to as many
@@ -74,14 +75,22 @@
 #define LEGGING_CLOSED        6u /* a series of the order is closed */
 #define LEGGING_BOOK_FULL     7u /* 128 regular or 32 complex orders rest already */
 #define LEGGING_NO_SUCH_ORDER 8u /* no resting order has the id */
-#define LEGGING_UNSOUND       9u /* the venue given is no sound venue */
+#define LEGGING_UNSOUND       9u /* the venue or the layer given is not sound */
 #define LEGGING_NO_ROOM      10u /* the next message's records do not fit, or its number would pass 4,294,967,295 */
+#define LEGGING_NO_PLACE     17u /* the venue's wait holds 8 messages, or the message is over 32 bytes */
+#define LEGGING_NO_VENUE     18u /* venue number above 3 */
 #define LEGGING_DIFFERS      19u /* both lines have the next number, but their bytes differ */
 #define LEGGING_LOST         20u /* neither line has the next number, though a later one stands on either */
 #define LEGGING_BAD_LINE     21u /* a line is torn, does not rise, or has a length below 4 or number 0 */
 
 #define LEGGING_VENUE_BYTES 2604u /* a venue held by a host */
 #define LEGGING_MOST_BYTES 10112u /* no message upon a sound venue writes more */
+
+#define LEGGING_VENUES       4u /* behind one line */
+#define LEGGING_MOST_WAITING 8u /* messages that wait for a venue */
+#define LEGGING_MOST_MESSAGE 32u /* bytes of a message that waits */
+#define LEGGING_LANE_BYTES   (LEGGING_VENUE_BYTES + 5u + LEGGING_MOST_WAITING * (1u + LEGGING_MOST_MESSAGE))
+#define LEGGING_LAYER_BYTES  (LEGGING_VENUES * LEGGING_LANE_BYTES + 1u) /* four venues held by a host */
 
 #ifdef __cplusplus
 extern "C" {
@@ -172,6 +181,71 @@ uint8_t legging_fresh(uint8_t *venue, size_t venue_len);
 uint8_t legging_message(uint8_t *venue, size_t venue_len, uint32_t before,
                         const uint8_t *message, size_t message_len,
                         uint8_t *report, size_t report_len);
+
+/*
+ * FOUR VENUES BEHIND ONE LINE
+ *
+ * A layer is four venues, each with up to 8 waiting messages of at most 32 bytes:
+ * legging_arrive puts a message at the end of a venue's wait, and legging_turn does the
+ * message at the head of one. Turns go round, from the venue after the one served last
+ * to the next that has a message waiting. So while no turn is ended by LEGGING_UNSOUND
+ * or LEGGING_NO_ROOM, the message at the head of each wait is done by the fourth turn,
+ * whatever arrives; a venue's messages keep their order; and a venue's records are those
+ * of legging_message upon it alone.
+ *
+ * `layer` is LEGGING_LAYER_BYTES bytes: first those that legging_layer_fresh writes, then
+ * hand over what the last call left. They are, without padding, four lanes of
+ * LEGGING_LANE_BYTES and the number of the venue served last u8; and of each lane
+ *
+ *       the venue, as legging_message has it
+ *       messages done u32
+ *       messages waiting u8
+ *     8 places             length u8, 32 bytes; those in use come first, the head in front
+ *
+ * A place that is free, and what stands in a place after its message, is not read. A call
+ * tests all four venues; what the calls left is always sound.
+ */
+
+/*
+ * Writes a layer of four fresh venues with nothing waiting; the first turn looks at venue
+ * 0 first. What `layer` held before is not read. Returns
+ *   LEGGING_DONE     `layer` is the fresh layer;
+ *   LEGGING_UNSOUND  `layer_len` is not LEGGING_LAYER_BYTES: `layer` as it was.
+ */
+uint8_t legging_layer_fresh(uint8_t *layer, size_t layer_len);
+
+/*
+ * Puts a message at the end of a venue's wait. Any bytes may wait, none too: what they
+ * are is told at their turn. Returns
+ *   LEGGING_DONE      the message waits;
+ *   LEGGING_UNSOUND   `layer_len` is not LEGGING_LAYER_BYTES, or the layer is not sound: a
+ *                     venue is not, more than 8 messages wait, one that waits is over 32
+ *                     bytes, or the venue served last is above 3;
+ *   LEGGING_NO_VENUE  `venue` is above 3;
+ *   LEGGING_NO_PLACE  8 messages wait for it already, or `message_len` is above 32.
+ * Unless LEGGING_DONE is returned, `layer` is as it was.
+ */
+uint8_t legging_arrive(uint8_t *layer, size_t layer_len, uint8_t venue,
+                       const uint8_t *message, size_t message_len);
+
+/*
+ * Does the message at the head of the next venue's wait, as legging_message would with
+ * the venue's own messages gone before. Returns the number, and 256 times the venue
+ * served: LEGGING_TURN_NUMBER and LEGGING_TURN_VENUE take them apart.
+ *   LEGGING_DONE, 1 to 8  with a venue: its message was accepted, or refused as the number
+ *                         says. It waits no more, and `report` is its answer and records;
+ *   LEGGING_DONE          with LEGGING_NONE: nothing waits;
+ *   LEGGING_UNSOUND       with LEGGING_NONE: as of legging_arrive;
+ *   LEGGING_NO_ROOM       with LEGGING_NONE: the records do not fit, or the venue's message
+ *                         numbers are used up. The same message is tried again by the next
+ *                         turn, and the others wait. LEGGING_MOST_BYTES are always enough.
+ * With LEGGING_NONE `layer` is as it was, and `report` all zeros.
+ */
+uint32_t legging_turn(uint8_t *layer, size_t layer_len, uint8_t *report, size_t report_len);
+
+#define LEGGING_NONE 4u /* the venue served by a turn that served none */
+#define LEGGING_TURN_NUMBER(turned) ((uint8_t)((turned)&0xFFu))
+#define LEGGING_TURN_VENUE(turned)  ((uint8_t)((turned) >> 8))
 
 #ifdef __cplusplus
 }

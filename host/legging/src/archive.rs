@@ -1,5 +1,6 @@
 //! The calls of the archive. All of the wrapper's unsafe code is here.
 
+use crate::layer::{LayerBytes, Turned};
 use crate::number::Number;
 use crate::venue::VenueBytes;
 
@@ -31,6 +32,18 @@ extern "C" {
         report: *mut u8,
         report_len: usize,
     ) -> u8;
+
+    fn legging_layer_fresh(layer: *mut u8, layer_len: usize) -> u8;
+
+    fn legging_arrive(
+        layer: *mut u8,
+        layer_len: usize,
+        venue: u8,
+        message: *const u8,
+        message_len: usize,
+    ) -> u8;
+
+    fn legging_turn(layer: *mut u8, layer_len: usize, report: *mut u8, report_len: usize) -> u32;
 }
 
 /// Runs a message list from a fresh venue.
@@ -121,4 +134,64 @@ pub fn one_message_in(venue: &mut [u8], before: u32, message: &[u8], report: &mu
         )
     };
     Number::new(number)
+}
+
+/// Writes a layer of four fresh venues into layer memory: [`Number::DONE`]. With other
+/// than [`LAYER_BYTES`](crate::LAYER_BYTES) bytes the number is [`Number::UNSOUND`], and
+/// the memory as it was.
+pub fn layer_fresh_in(layer: &mut [u8]) -> Number {
+    // SAFETY: the slice is whole for its length; the call writes it and keeps nothing.
+    let number = unsafe { legging_layer_fresh(layer.as_mut_ptr(), layer.len()) };
+    Number::new(number)
+}
+
+/// Puts a message at the end of a venue's wait: [`Number::DONE`]. Otherwise the layer is
+/// as given: [`Number::NO_VENUE`] for a venue above 3, [`Number::NO_PLACE`] where 8
+/// messages wait already or the message is over 32 bytes, and before both
+/// [`Number::UNSOUND`].
+pub fn arrive(layer: &mut LayerBytes, venue: u8, message: &[u8]) -> Number {
+    arrive_in(layer.as_mut_bytes(), venue, message)
+}
+
+/// As [`arrive`], upon layer memory of any length: with other than
+/// [`LAYER_BYTES`](crate::LAYER_BYTES) bytes the number is [`Number::UNSOUND`].
+pub fn arrive_in(layer: &mut [u8], venue: u8, message: &[u8]) -> Number {
+    // SAFETY: both slices are whole for their lengths and cannot overlap; the call reads
+    // `message`, writes `layer`, and keeps neither.
+    let number = unsafe {
+        legging_arrive(
+            layer.as_mut_ptr(),
+            layer.len(),
+            venue,
+            message.as_ptr(),
+            message.len(),
+        )
+    };
+    Number::new(number)
+}
+
+/// Does the message at the head of the next venue's wait, as [`one_message`] would: the
+/// next venue after the one served last, going round, that has a message waiting.
+///
+/// A turn that serves no venue leaves the layer as given and `report` all zeros: its
+/// number is [`Number::DONE`] where nothing waits, [`Number::UNSOUND`], or
+/// [`Number::NO_ROOM`], and then the next turn tries the same message again.
+pub fn turn(layer: &mut LayerBytes, report: &mut [u8]) -> Turned {
+    turn_in(layer.as_mut_bytes(), report)
+}
+
+/// As [`turn`], upon layer memory of any length: with other than
+/// [`LAYER_BYTES`](crate::LAYER_BYTES) bytes the number is [`Number::UNSOUND`].
+pub fn turn_in(layer: &mut [u8], report: &mut [u8]) -> Turned {
+    // SAFETY: both slices are whole for their lengths and cannot overlap; the call writes
+    // them and keeps neither.
+    let turned = unsafe {
+        legging_turn(
+            layer.as_mut_ptr(),
+            layer.len(),
+            report.as_mut_ptr(),
+            report.len(),
+        )
+    };
+    Turned::new(turned)
 }

@@ -3,8 +3,9 @@
 //!
 //! [`run`] takes a whole message list from a fresh venue, and [`feed`] one that comes
 //! over two lines. [`one_message`] takes one message upon a venue that the host holds
-//! as [`VenueBytes`]. After a call the report memory is the records done, then zeros to
-//! its end; what it held before is not read. A call keeps nothing, allocates nothing
+//! as [`VenueBytes`]. [`arrive`] and [`turn`] are the calls of four venues behind one
+//! line, held as [`LayerBytes`]. After a call the report memory is the records done, then
+//! zeros to its end; what it held before is not read. A call keeps nothing, allocates nothing
 //! and shares no state with another, so calls may run on any number of threads at once.
 //!
 //! The bytes of messages and records are told in `include/legging.h`.
@@ -43,12 +44,27 @@
 //! assert_eq!(feed(&main, &[], &mut report), Number::LOST);
 //! assert_eq!(report[12..], [0; 28]);
 //! ```
+//!
+//! ```
+//! use legging::{arrive, turn, LayerBytes, Number, MOST_BYTES};
+//!
+//! // A sweep for venue 2: the next turn does it, and then nothing waits.
+//! let mut layer = LayerBytes::fresh();
+//! assert_eq!(arrive(&mut layer, 2, &[4, 0, 6, 0]), Number::DONE);
+//! let mut report = [0; MOST_BYTES];
+//! let turned = turn(&mut layer, &mut report);
+//! assert_eq!((turned.number(), turned.venue()), (Number::DONE, Some(2)));
+//! assert_eq!(turn(&mut layer, &mut report).venue(), None);
+//! ```
 
 mod archive;
+mod layer;
 mod number;
 mod venue;
 
+pub use archive::{arrive, arrive_in, layer_fresh_in, turn, turn_in};
 pub use archive::{feed, fresh_in, one_message, one_message_in, run};
+pub use layer::{LayerBytes, Turned, LAYER_BYTES, MOST_MESSAGE, MOST_WAITING, VENUES};
 pub use number::Number;
 pub use venue::{VenueBytes, VENUE_BYTES};
 

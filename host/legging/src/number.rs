@@ -2,7 +2,7 @@
 
 use std::fmt::{self, Display};
 
-/// What a call returned: 0 to 10, and 19 to 21 of a feed.
+/// What a call returned: 0 to 10, 17 and 18 of an arrival, 19 to 21 of a feed.
 #[derive(Clone, Copy, Debug, PartialEq, Eq, PartialOrd, Ord, Hash)]
 pub struct Number(u8);
 
@@ -26,11 +26,15 @@ impl Number {
     pub const BOOK_FULL: Number = Number(7);
     /// No resting order has the id.
     pub const NO_SUCH_ORDER: Number = Number(8);
-    /// The venue given is no sound venue.
+    /// The venue or the layer given is not sound.
     pub const UNSOUND: Number = Number(9);
     /// The next message's records do not fit, or its number would pass
     /// 4,294,967,295.
     pub const NO_ROOM: Number = Number(10);
+    /// The venue's wait holds 8 messages, or the message is over 32 bytes.
+    pub const NO_PLACE: Number = Number(17);
+    /// The venue's number is above 3.
+    pub const NO_VENUE: Number = Number(18);
     /// Both lines have the number that comes next, but their bytes differ.
     pub const DIFFERS: Number = Number(19);
     /// Neither line has the number that comes next, though a later one stands on
@@ -66,8 +70,10 @@ impl Number {
             6 => "a series is closed",
             7 => "the book is full",
             8 => "no resting order has the id",
-            9 => "the venue is unsound",
+            9 => "the venue or the layer is unsound",
             10 => "the report memory is full, or the message numbers are used up",
+            17 => "the wait is full, or the message is too long to wait",
+            18 => "there is no such venue",
             19 => "the lines differ in a message",
             20 => "a message is lost from both lines",
             21 => "a line is torn, does not rise, or has a length below 4 or number 0",

@@ -1,9 +1,11 @@
 //! The wrapper over the archive: what its callers are promised.
 
+use legging::{arrive, arrive_in, layer_fresh_in, turn, turn_in};
 use legging::{feed, fresh_in, one_message, one_message_in, run};
-use legging::{Number, VenueBytes, MOST_BYTES, VENUE_BYTES};
-use reference::Venue;
+use legging::{LayerBytes, Number, VenueBytes, LAYER_BYTES, MOST_BYTES, VENUE_BYTES};
+use reference::{Layer, Venue};
 use sessions::held::to_bytes;
+use sessions::held_layer;
 use sessions::line::{line_bytes, numbered};
 use sessions::message::split;
 use sessions::profile::Profile;
@@ -255,6 +257,98 @@ fn venue_memory_of_another_length_is_unsound() {
     }
 }
 
+#[test]
+fn the_fresh_layer_is_written_whole() {
+    let mut layer = vec![0x77; LAYER_BYTES];
+    assert_eq!(layer_fresh_in(&mut layer), Number::DONE);
+    assert_eq!(layer, *held_layer::to_bytes(&Layer::fresh()));
+    assert_eq!(LayerBytes::fresh().as_bytes()[..], layer);
+    assert_eq!(
+        LayerBytes::fresh().venues(),
+        [(); 4].map(|()| VenueBytes::fresh())
+    );
+}
+
+/// The number of a turn and the venue that it served, with the sheet.
+fn turned(layer: &mut LayerBytes, length: usize) -> (Number, Option<usize>, String) {
+    let mut report = vec![0xC3; length];
+    let turned = turn(layer, &mut report);
+    (turned.number(), turned.venue(), sheet(&report))
+}
+
+#[test]
+fn four_venues_are_served_in_turn() {
+    let mut layer = LayerBytes::fresh();
+    for (venue, message) in [
+        (3, &[4, 0, 6, 0][..]),
+        (1, &[]),
+        (1, &[8, 0, 3, 0, 9, 0, 0, 0]),
+    ] {
+        assert_eq!(arrive(&mut layer, venue, message), Number::DONE);
+    }
+    assert_eq!((layer.waiting(), layer.done()), ([0, 2, 0, 1], [0; 4]));
+    let answer = |number, refusal| format!("64 {number} {refusal} 0 0\n");
+    assert_eq!(
+        turned(&mut layer, 12),
+        (Number::TORN, Some(1), answer(1, 1))
+    );
+    assert_eq!(
+        turned(&mut layer, 12),
+        (Number::DONE, Some(3), answer(1, 0))
+    );
+    let cancel = (Number::NO_SUCH_ORDER, Some(1), answer(2, 8));
+    assert_eq!(turned(&mut layer, 12), cancel);
+    assert_eq!((layer.waiting(), layer.done()), ([0; 4], [0, 2, 0, 1]));
+    assert_eq!(turned(&mut layer, 12), (Number::DONE, None, String::new()));
+}
+
+#[test]
+fn an_arrival_that_is_refused_leaves_the_layer() {
+    let mut layer = LayerBytes::fresh();
+    for _ in 0..8 {
+        assert_eq!(arrive(&mut layer, 2, &[7; 32]), Number::DONE);
+    }
+    let full = layer.clone();
+    assert_eq!(arrive(&mut layer, 2, &[]), Number::NO_PLACE);
+    assert_eq!(arrive(&mut layer, 0, &[7; 33]), Number::NO_PLACE);
+    assert_eq!(arrive(&mut layer, 4, &[7; 33]), Number::NO_VENUE);
+    assert_eq!(layer, full);
+}
+
+#[test]
+fn a_turn_that_is_ended_leaves_the_layer() {
+    let mut layer = LayerBytes::fresh();
+    arrive(&mut layer, 2, &[4, 0, 6, 0]);
+    let given = layer.clone();
+    let mut report = [0xC3; 11];
+    let ended = turn(&mut layer, &mut report);
+    assert_eq!(ended.get(), 10 + 4 * 256);
+    assert_eq!((&layer, report), (&given, [0; 11]));
+    let mut bytes = *layer.as_bytes();
+    bytes[LAYER_BYTES - 1] = 4;
+    let unsound = LayerBytes::from_bytes(bytes);
+    let mut layer = unsound.clone();
+    assert_eq!(
+        turned(&mut layer, 20),
+        (Number::UNSOUND, None, String::new())
+    );
+    assert_eq!(arrive(&mut layer, 4, &[0; 33]), Number::UNSOUND);
+    assert_eq!(layer, unsound);
+}
+
+#[test]
+fn layer_memory_of_another_length_is_unsound() {
+    for length in [0, 1, LAYER_BYTES - 1, LAYER_BYTES + 1] {
+        let mut layer = vec![0x77; length];
+        assert_eq!(layer_fresh_in(&mut layer), Number::UNSOUND);
+        assert_eq!(arrive_in(&mut layer, 4, &[0; 33]), Number::UNSOUND);
+        let mut report = [0xC3; 20];
+        let ended = turn_in(&mut layer, &mut report);
+        assert_eq!((ended.get(), report), (9 + 4 * 256, [0; 20]));
+        assert_eq!(layer, vec![0x77; length]);
+    }
+}
+
 extern "C" {
     fn legging_run(messages: *const u8, n: usize, report: *mut u8, m: usize) -> u8;
 
@@ -278,6 +372,18 @@ extern "C" {
         report: *mut u8,
         m: usize,
     ) -> u8;
+
+    fn legging_layer_fresh(layer: *mut u8, layer_len: usize) -> u8;
+
+    fn legging_arrive(
+        layer: *mut u8,
+        layer_len: usize,
+        venue: u8,
+        message: *const u8,
+        n: usize,
+    ) -> u8;
+
+    fn legging_turn(layer: *mut u8, layer_len: usize, report: *mut u8, m: usize) -> u32;
 }
 
 #[test]
@@ -286,6 +392,7 @@ fn null_with_length_0() {
     let sweep = [4, 0, 6, 0];
     let mut venue = [0; VENUE_BYTES];
     let at = venue.as_mut_ptr();
+    let mut layer = [0; LAYER_BYTES];
     let mut report = [0xC3; 3];
     // SAFETY: each pointer is null with the length 0, or an array with its length.
     unsafe {
@@ -298,6 +405,13 @@ fn null_with_length_0() {
         assert_eq!(legging_message(nowhere, 0, 0, nothing, 0, nowhere, 0), 9);
         let torn = legging_message(at, VENUE_BYTES, 0, nothing, 0, nowhere, 0);
         assert_eq!(torn, 10);
+        assert_eq!(legging_layer_fresh(nowhere, 0), 9);
+        assert_eq!(legging_arrive(nowhere, 0, 0, nothing, 0), 9);
+        assert_eq!(legging_turn(nowhere, 0, nowhere, 0), 9 + 4 * 256);
+        let layer = layer.as_mut_ptr();
+        assert_eq!(legging_layer_fresh(layer, LAYER_BYTES), 0);
+        assert_eq!(legging_arrive(layer, LAYER_BYTES, 0, nothing, 0), 0);
+        assert_eq!(legging_turn(layer, LAYER_BYTES, nowhere, 0), 10 + 4 * 256);
     }
     assert_eq!(report, [0; 3]);
     assert_eq!(venue, [0; VENUE_BYTES]);
@@ -322,13 +436,28 @@ fn calls_at_once_do_not_meet() {
     });
 }
 
+/// Sends a list to each of the four venues, and takes turns until nothing waits.
+fn serve_all(layer: &mut LayerBytes, list: &[Vec<u8>], report: &mut [u8]) {
+    for message in list.iter().filter(|message| message.len() <= 32) {
+        for venue in 0..4 {
+            assert_eq!(arrive(layer, venue, message), Number::DONE);
+        }
+        for venue in 0..4 {
+            assert_eq!(turn(layer, report).venue(), Some(venue));
+        }
+    }
+    assert_eq!(turn(layer, report).venue(), None);
+}
+
 #[test]
 fn a_stack_of_32_kibibytes_is_enough() {
     let list = generate(Profile::Sweeps, 3, 600);
     let line = line_bytes(&numbered(&list));
     let mut report = vec![0xC3; 1 << 20];
+    let mut layer = Box::new(LayerBytes::fresh());
     let work = move || {
         assert_eq!(feed(&line, &line, &mut report), Number::DONE);
+        serve_all(&mut layer, &list, &mut report);
         let mut venue = VenueBytes::fresh();
         for (message, before) in list.iter().zip(0..) {
             one_message(&mut venue, before, message, &mut report);
@@ -343,7 +472,10 @@ fn a_stack_of_32_kibibytes_is_enough() {
 #[test]
 fn numbers_have_words() {
     assert_eq!(Number::DONE.to_string(), "0: done");
-    assert_eq!(Number::UNSOUND.to_string(), "9: the venue is unsound");
+    assert_eq!(
+        Number::UNSOUND.to_string(),
+        "9: the venue or the layer is unsound"
+    );
     assert!(Number::NO_SUCH_ORDER.is_done() && !Number::UNSOUND.is_done());
     assert_eq!(Number::NO_ROOM.get(), 10);
     assert_eq!(

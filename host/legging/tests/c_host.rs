@@ -1,5 +1,9 @@
-//! The host in C: built without a warning, its output and its exit status.
+//! The hosts in C: built without a warning, their output and their exit status.
 
+use sessions::profile::Profile;
+use sessions::record::{print_sheet, read_report};
+use sessions::sheet::run_whole;
+use sessions::soak::generate;
 use sessions::text::{encode_line, encode_session};
 use std::io::Write;
 use std::path::{Path, PathBuf};
@@ -21,28 +25,36 @@ fn archive() -> PathBuf {
     }
 }
 
-/// The program, built once.
-fn program() -> &'static Path {
-    static PROGRAM: OnceLock<PathBuf> = OnceLock::new();
-    PROGRAM.get_or_init(|| {
-        let program = Path::new(env!("CARGO_TARGET_TMPDIR")).join("host");
-        let built = Command::new("cc")
-            .args(["-std=c11", "-Wall", "-Wextra", "-Werror", "-O2", "-I"])
-            .arg(top().join("include"))
-            .arg(top().join("examples/c/host.c"))
-            .arg(archive())
-            .arg("-o")
-            .arg(&program)
-            .output()
-            .expect("a C compiler as cc");
-        let told = String::from_utf8_lossy(&built.stderr);
-        assert!(built.status.success() && told.is_empty(), "{told}");
-        program
-    })
+/// A program of examples/c, built.
+fn built(name: &str) -> PathBuf {
+    let program = Path::new(env!("CARGO_TARGET_TMPDIR")).join(name);
+    let built = Command::new("cc")
+        .args(["-std=c11", "-Wall", "-Wextra", "-Werror", "-O2", "-I"])
+        .arg(top().join("include"))
+        .arg(top().join("examples/c").join(name).with_extension("c"))
+        .arg(archive())
+        .arg("-o")
+        .arg(&program)
+        .output()
+        .expect("a C compiler as cc");
+    let told = String::from_utf8_lossy(&built.stderr);
+    assert!(built.status.success() && told.is_empty(), "{told}");
+    program
 }
 
 fn host(arguments: &[&str], input: &[u8]) -> (i32, String, String) {
-    let mut child = Command::new(program())
+    static PROGRAM: OnceLock<PathBuf> = OnceLock::new();
+    run(PROGRAM.get_or_init(|| built("host")), arguments, input)
+}
+
+fn four(arguments: &[&str], input: &[u8]) -> (i32, String, String) {
+    static PROGRAM: OnceLock<PathBuf> = OnceLock::new();
+    run(PROGRAM.get_or_init(|| built("four")), arguments, input)
+}
+
+/// The status, output and errors of a program.
+fn run(program: &Path, arguments: &[&str], input: &[u8]) -> (i32, String, String) {
+    let mut child = Command::new(program)
         .args(arguments)
         .stdin(Stdio::piped())
         .stdout(Stdio::piped())
@@ -83,10 +95,8 @@ fn the_printed_session() {
 /// The host given the spare line as a file of this name and the main line as its input.
 fn host_of_lines(name: &str, main: &str, spare: &str, rest: &[&str]) -> (i32, String) {
     let [main, spare] = [main, spare].map(|text| encode_line(text).expect("a good line"));
-    let file = Path::new(env!("CARGO_TARGET_TMPDIR")).join(name);
-    std::fs::write(&file, spare).expect("the file is written");
-    let file = file.to_str().expect("a name in text");
-    let (status, told, _) = host(&[&["--spare", file], rest].concat(), &main);
+    let spare = file(name, &spare);
+    let (status, told, _) = host(&[&["--spare", &spare], rest].concat(), &main);
     (status, told)
 }
 
@@ -113,6 +123,82 @@ fn lines_that_stop() {
         let last = told.lines().last().expect("a line");
         assert!(last.starts_with(ending), "{told}");
     }
+}
+
+/// A file of these bytes.
+fn file(name: &str, bytes: &[u8]) -> String {
+    let file = Path::new(env!("CARGO_TARGET_TMPDIR")).join(name);
+    std::fs::write(&file, bytes).expect("the file is written");
+    file.to_str().expect("a name in text").to_string()
+}
+
+#[test]
+fn four_lists_are_done_each_at_its_own_venue() {
+    let printed = encode_session(SESSION).expect("the stored session is good");
+    let generated = |profile, messages| {
+        let mut list = generate(profile, 3, messages);
+        list.retain(|message| message.len() <= 32);
+        list.concat()
+    };
+    let torn = [&generated(Profile::Hits, 30)[..], &[9, 0, 6]].concat();
+    let names = ["list-0", "list-1", "list-2"].into_iter();
+    let lists = [printed, generated(Profile::Mixed, 200), torn];
+    let files: Vec<String> = names
+        .zip(&lists)
+        .map(|(name, list)| file(name, list))
+        .collect();
+    let arguments = [files[0].as_str(), &files[1], "-", &files[2]];
+    let (status, told, errors) = four(&arguments, &[]);
+    assert_eq!((status, errors.as_str()), (0, ""));
+    for (venue, list) in [(0, &lists[0]), (1, &lists[1]), (3, &lists[2])] {
+        let prefix = format!("{venue}: ");
+        let own = told.lines().filter_map(|line| line.strip_prefix(&prefix));
+        let own: String = own.map(|line| format!("{line}\n")).collect();
+        let (_, report) = run_whole(list);
+        let sheet = print_sheet(&read_report(&report).expect("whole records"));
+        assert_eq!(own, sheet, "venue {venue}");
+    }
+    assert!(!told.contains("2: "), "{told}");
+    let starts: Vec<&str> = told.lines().take(4).collect();
+    assert_eq!(
+        starts,
+        [
+            "0: 64 1 0 0 0",
+            "1: 64 1 0 0 0",
+            "3: 64 1 0 0 0",
+            "0: 64 2 0 0 0"
+        ]
+    );
+}
+
+#[test]
+fn a_message_that_is_too_long_to_wait_is_told_and_passed_over() {
+    let mut list = vec![33, 0, 99, 0];
+    list.resize(33, 0);
+    list.extend([4, 0, 6, 0]);
+    let none = file("list-none", &[]);
+    let (status, told, errors) = four(&["--hex", &none, &none, &none, "-"], &list);
+    let sweep = "3: 0c 00 40 00 01 00 00 00 00 00 00 00\n";
+    assert_eq!((status, told.as_str()), (0, sweep));
+    let long = "four: venue 3: a message of 33 bytes is passed over: number 17\n";
+    assert_eq!(errors, long);
+}
+
+#[test]
+fn errors_of_four_name_what_was_wrong() {
+    for (arguments, status, word) in [
+        (&[][..], 2, "expected four lists: too few"),
+        (&["a", "b", "c"], 2, "too few were given"),
+        (&["a", "b", "c", "d", "e"], 2, "too many: e"),
+        (&["-", "a", "-", "b"], 2, "one list only: -"),
+        (&["--what"], 2, "--what"),
+        (&["no-such-file", "a", "b", "c"], 1, "no-such-file"),
+    ] {
+        let (found, told, error) = four(arguments, &[]);
+        assert_eq!((found, told.as_str()), (status, ""), "{error}");
+        assert!(error.contains(word), "{error}");
+    }
+    assert!(four(&["--help"], &[]).1.starts_with("usage: four "));
 }
 
 #[test]
