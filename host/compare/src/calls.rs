@@ -16,6 +16,8 @@ pub struct Counts {
     pub runs: u64,
     pub feeds: u64,
     pub calls: u64,
+    pub arrivals: u64,
+    pub turns: u64,
     pub bytes: u64,
     /// How often each number was returned.
     pub numbers: [u64; NUMBERS],
@@ -67,15 +69,16 @@ pub fn expected(venue: &[u8], before: u32, message: &[u8], report: &mut [u8]) ->
 
 /// Calls of both, compared as they are made.
 pub struct Comparer<'a> {
-    engine: &'a dyn Engine,
+    pub(crate) engine: &'a dyn Engine,
     fault: Option<Fault>,
-    /// The engine's report memory and venue memory.
-    report: Lent,
+    /// The engine's report memory, venue memory and layer memory.
+    pub(crate) report: Lent,
     venue: Lent,
+    pub(crate) layer: Lent,
     /// The engine's two lines, main first.
     lines: [Lent; 2],
     /// The reference's report memory.
-    wanted: Lent,
+    pub(crate) wanted: Lent,
     records: Vec<Record>,
     pub counts: Counts,
 }
@@ -87,6 +90,7 @@ impl<'a> Comparer<'a> {
             fault,
             report: Lent::new(),
             venue: Lent::new(),
+            layer: Lent::new(),
             lines: [Lent::new(), Lent::new()],
             wanted: Lent::new(),
             records: Vec::new(),
@@ -184,15 +188,22 @@ impl<'a> Comparer<'a> {
     }
 
     /// The number, with a part of the answer spoiled if that was asked for.
-    fn spoiled(&mut self, check: Check, number: u8) -> u8 {
+    pub(crate) fn spoiled(&mut self, check: Check, number: u8) -> u8 {
+        self.spoiled_turn(check, number.into()) as u8
+    }
+
+    /// The number and 256 times the venue served, with a part spoiled.
+    pub(crate) fn spoiled_turn(&mut self, check: Check, turned: u32) -> u32 {
         let part = match self.fault {
             Some(fault) if fault.check == check => fault.part,
-            _ => return number,
+            _ => return turned,
         };
         let report = self.report.memory().len() as isize;
         let venue = self.venue.memory().len() as isize;
+        let layer = self.layer.memory().len() as isize;
         match part {
-            Part::Number => return number ^ 1,
+            Part::Number => return turned ^ 1,
+            Part::Served => return turned ^ 256,
             Part::Report => self.report.spoil((report - 1).max(0)),
             Part::BeforeReport => self.report.spoil(-1),
             Part::AfterReport => self.report.spoil(report),
@@ -201,11 +212,14 @@ impl<'a> Comparer<'a> {
             Part::AfterVenue => self.venue.spoil(venue),
             Part::Main => self.lines[0].spoil(0),
             Part::Spare => self.lines[1].spoil(0),
+            Part::Layer => self.layer.spoil((layer - 1).max(0)),
+            Part::BeforeLayer => self.layer.spoil(-1),
+            Part::AfterLayer => self.layer.spoil(layer),
         }
-        number
+        turned
     }
 
-    fn same_number(&mut self, number: u8, wanted: u8) -> Result<(), String> {
+    pub(crate) fn same_number(&mut self, number: u8, wanted: u8) -> Result<(), String> {
         if number != wanted {
             return Err(format!("number {number}, expected {wanted}"));
         }
@@ -217,7 +231,7 @@ impl<'a> Comparer<'a> {
 
     /// Every byte of the memory, the guards, and what the records tell of the
     /// messages done and the bytes written.
-    fn same_report(&mut self, done: u32, written: usize) -> Result<(), String> {
+    pub(crate) fn same_report(&mut self, done: u32, written: usize) -> Result<(), String> {
         if !self.report.is_guarded() {
             return Err("bytes outside the report memory were written".to_string());
         }
@@ -251,6 +265,14 @@ impl<'a> Comparer<'a> {
         }
         self.counts.bytes += wanted.len() as u64;
         same_bytes("venue", self.venue.memory(), wanted)
+    }
+
+    pub(crate) fn same_layer(&mut self, wanted: &[u8]) -> Result<(), String> {
+        if !self.layer.is_guarded() {
+            return Err("bytes outside the layer memory were written".to_string());
+        }
+        self.counts.bytes += wanted.len() as u64;
+        same_bytes("layer", self.layer.memory(), wanted)
     }
 }
 

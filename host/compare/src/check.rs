@@ -19,10 +19,18 @@ pub enum Check {
     CallBytes,
     CallVenue,
     CallVenueLength,
+    LayerFresh,
+    Arrive,
+    ArriveChanged,
+    ArriveLength,
+    Turn,
+    TurnShort,
+    TurnChanged,
+    TurnLength,
 }
 
 impl Check {
-    pub const ALL: [Check; 16] = [
+    pub const ALL: [Check; 24] = [
         Check::RunWhole,
         Check::RunShort,
         Check::RunEveryLength,
@@ -39,6 +47,14 @@ impl Check {
         Check::CallBytes,
         Check::CallVenue,
         Check::CallVenueLength,
+        Check::LayerFresh,
+        Check::Arrive,
+        Check::ArriveChanged,
+        Check::ArriveLength,
+        Check::Turn,
+        Check::TurnShort,
+        Check::TurnChanged,
+        Check::TurnLength,
     ];
 
     pub fn name(self) -> &'static str {
@@ -59,6 +75,14 @@ impl Check {
             Check::CallBytes => "call-bytes",
             Check::CallVenue => "call-venue",
             Check::CallVenueLength => "call-venue-length",
+            Check::LayerFresh => "layer-fresh",
+            Check::Arrive => "arrive",
+            Check::ArriveChanged => "arrive-changed",
+            Check::ArriveLength => "arrive-length",
+            Check::Turn => "turn",
+            Check::TurnShort => "turn-short",
+            Check::TurnChanged => "turn-changed",
+            Check::TurnLength => "turn-length",
         }
     }
 
@@ -81,6 +105,14 @@ impl Check {
             Check::CallBytes => "a one-message call with torn, random or further bytes",
             Check::CallVenue => "a one-message call upon a changed venue",
             Check::CallVenueLength => "a one-message call upon venue memory of another length",
+            Check::LayerFresh => "a fresh layer, in layer memory of any length",
+            Check::Arrive => "an arrival",
+            Check::ArriveChanged => "an arrival at a changed layer",
+            Check::ArriveLength => "an arrival at layer memory of another length",
+            Check::Turn => "a turn",
+            Check::TurnShort => "a turn with short report memory",
+            Check::TurnChanged => "a turn of a changed layer",
+            Check::TurnLength => "a turn of layer memory of another length",
         }
     }
 
@@ -90,13 +122,18 @@ impl Check {
 
     /// Whether its answer has this part.
     pub fn has(self, part: Part) -> bool {
+        let is = |kind: &str| self.name().starts_with(kind);
+        let venue = is("call") || self == Check::Fresh;
+        let layer = is("arrive") || is("turn") || self == Check::LayerFresh;
         match part {
             Part::Number => true,
-            Part::Main | Part::Spare => self.name().starts_with("feed"),
-            Part::Venue | Part::BeforeVenue | Part::AfterVenue => {
-                self == Check::Fresh || self.name().starts_with("call")
+            Part::Report | Part::BeforeReport | Part::AfterReport => {
+                is("run") || is("feed") || is("call") || is("turn")
             }
-            _ => self != Check::Fresh,
+            Part::Venue | Part::BeforeVenue | Part::AfterVenue => venue,
+            Part::Main | Part::Spare => is("feed"),
+            Part::Layer | Part::BeforeLayer | Part::AfterLayer => layer,
+            Part::Served => is("turn"),
         }
     }
 }
@@ -113,10 +150,14 @@ pub enum Part {
     AfterVenue,
     Main,
     Spare,
+    Layer,
+    BeforeLayer,
+    AfterLayer,
+    Served,
 }
 
 impl Part {
-    pub const ALL: [Part; 9] = [
+    pub const ALL: [Part; 13] = [
         Part::Number,
         Part::Report,
         Part::BeforeReport,
@@ -126,6 +167,10 @@ impl Part {
         Part::AfterVenue,
         Part::Main,
         Part::Spare,
+        Part::Layer,
+        Part::BeforeLayer,
+        Part::AfterLayer,
+        Part::Served,
     ];
 
     pub fn name(self) -> &'static str {
@@ -139,6 +184,10 @@ impl Part {
             Part::AfterVenue => "after-venue",
             Part::Main => "main",
             Part::Spare => "spare",
+            Part::Layer => "layer",
+            Part::BeforeLayer => "before-layer",
+            Part::AfterLayer => "after-layer",
+            Part::Served => "served",
         }
     }
 

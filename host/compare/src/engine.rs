@@ -12,6 +12,15 @@ pub trait Engine {
 
     /// One message upon venue memory of any length.
     fn message(&self, venue: &mut [u8], before: u32, message: &[u8], report: &mut [u8]) -> u8;
+
+    /// A fresh layer, in layer memory of any length.
+    fn layer_fresh(&self, layer: &mut [u8]) -> u8;
+
+    /// An arrival at layer memory of any length.
+    fn arrive(&self, layer: &mut [u8], venue: u8, message: &[u8]) -> u8;
+
+    /// A turn of layer memory of any length: its number, and 256 times the venue served.
+    fn turn(&self, layer: &mut [u8], report: &mut [u8]) -> u32;
 }
 
 /// The engine's archive.
@@ -32,6 +41,18 @@ impl Engine for Archive {
 
     fn message(&self, venue: &mut [u8], before: u32, message: &[u8], report: &mut [u8]) -> u8 {
         legging::one_message_in(venue, before, message, report).get()
+    }
+
+    fn layer_fresh(&self, layer: &mut [u8]) -> u8 {
+        legging::layer_fresh_in(layer).get()
+    }
+
+    fn arrive(&self, layer: &mut [u8], venue: u8, message: &[u8]) -> u8 {
+        legging::arrive_in(layer, venue, message).get()
+    }
+
+    fn turn(&self, layer: &mut [u8], report: &mut [u8]) -> u32 {
+        legging::turn_in(layer, report).get()
     }
 }
 
@@ -57,5 +78,23 @@ impl Engine for Reference {
         let expected = crate::calls::expected(venue, before, message, report);
         venue.copy_from_slice(&expected.venue);
         expected.number
+    }
+
+    fn layer_fresh(&self, layer: &mut [u8]) -> u8 {
+        let (number, fresh) = crate::layers::expected_fresh(layer);
+        layer.copy_from_slice(&fresh);
+        number
+    }
+
+    fn arrive(&self, layer: &mut [u8], venue: u8, message: &[u8]) -> u8 {
+        let (number, left) = crate::layers::expected_arrival(layer, venue, message);
+        layer.copy_from_slice(&left);
+        number
+    }
+
+    fn turn(&self, layer: &mut [u8], report: &mut [u8]) -> u32 {
+        let (turned, left) = crate::layers::expected_turn(layer, report);
+        layer.copy_from_slice(&left);
+        u32::from(turned.number) + 256 * u32::from(turned.served)
     }
 }

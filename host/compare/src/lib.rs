@@ -1,5 +1,6 @@
 //! The engine compared with the reference over random sessions: the number, every
-//! byte of a report memory lent full of junk, the bytes around it, and the venue.
+//! byte of a report memory lent full of junk, the bytes around it, the venue and the
+//! layer.
 //!
 //! A session is named by its profile and seed alone, and so is all that is
 //! compared on it.
@@ -9,4 +10,5 @@
 pub mod calls;
 pub mod check;
 pub mod engine;
+pub mod layers;
 pub mod session;

@@ -2,6 +2,7 @@
 
 use crate::calls::{Comparer, Expected};
 use crate::check::Check;
+use crate::layers::compare_layer;
 use sessions::corrupt::corrupt;
 use sessions::feed_generator::draw_feed;
 use sessions::generator::Generator;
@@ -52,7 +53,7 @@ struct Session<'a, 'b> {
     one_in: u64,
 }
 
-type Checked = Result<(), (Check, String)>;
+pub type Checked = Result<(), (Check, String)>;
 
 /// Compares all of a session, with short report memory at one in so many messages:
 /// such a run does again all that went before, so they take most of the time.
@@ -75,6 +76,7 @@ pub fn compare_session(
         pieces,
     };
     let checked = session.compare_all();
+    let checked = checked.and_then(|()| compare_layer(session.comparer, profile, seed));
     session.comparer.counts.sessions += 1;
     session.comparer.counts.messages += messages;
     checked.map_err(|(check, what)| Difference {

@@ -35,14 +35,14 @@ fn the_reference_does_not_differ_from_itself() {
 }
 
 #[test]
-fn lines_stop_with_every_number() {
+fn arrivals_and_lines_get_every_number() {
     let mut comparer = Comparer::new(&Reference, None);
     for seed in 0..10 {
         let compared = compare_session(&mut comparer, Profile::Hits, seed, 50);
         assert!(compared.is_ok());
     }
-    let stops = &comparer.counts.numbers[19..];
-    assert!(stops.iter().all(|count| *count > 0), "{stops:?}");
+    let numbers = &comparer.counts.numbers[17..];
+    assert!(numbers.iter().all(|count| *count > 0), "{numbers:?}");
 }
 
 #[test]
@@ -66,6 +66,9 @@ fn each_spoiled_part_is_found_where_it_was_spoiled() {
             Part::BeforeVenue | Part::AfterVenue => "venue memory",
             Part::Main => "the main line was written",
             Part::Spare => "the spare line was written",
+            Part::Layer => "layer",
+            Part::BeforeLayer | Part::AfterLayer => "layer memory",
+            Part::Served => "served",
         };
         assert!(told.contains(word), "{told}");
     }

@@ -53,9 +53,24 @@ impl LayerGenerator {
         if self.random.chance(8) {
             self.arrivals = self.random.pick(&[10, 50, 80, 95]);
         }
-        match self.random.chance(self.arrivals) {
-            true => self.arrival(layer),
-            false => self.turn(),
+        if !self.random.chance(self.arrivals) {
+            return self.turn();
+        }
+        let asked = self.arrival();
+        if let Asked::Arrive { venue, message } = &asked {
+            self.count(layer, usize::from(*venue), message);
+        }
+        asked
+    }
+
+    /// Counts a message of a venue's own session that has room to wait.
+    fn count(&mut self, layer: &Layer, venue: usize, message: &[u8]) {
+        let Some(lane) = layer.lanes.get(venue) else {
+            return;
+        };
+        let next = self.lists[venue].get(self.sent[venue]);
+        if next.is_some_and(|next| next == message) && lane.wait.len() < MOST_WAITING {
+            self.sent[venue] += 1;
         }
     }
 
@@ -70,7 +85,7 @@ impl LayerGenerator {
     }
 
     /// Mostly the next message of a venue's own session.
-    pub fn arrival(&mut self, layer: &Layer) -> Asked {
+    pub fn arrival(&mut self) -> Asked {
         let venue = match self.flooded {
             Some(flooded) if self.random.chance(70) => flooded,
             _ => self.random.below(VENUES as u64) as usize,
@@ -84,9 +99,6 @@ impl LayerGenerator {
         let Some(message) = self.lists[venue].get(at).cloned() else {
             return self.odd_arrival(venue);
         };
-        if layer.lanes[venue].wait.len() < MOST_WAITING {
-            self.sent[venue] += 1;
-        }
         let venue = venue as u8;
         Asked::Arrive { venue, message }
     }
