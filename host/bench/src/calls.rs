@@ -14,17 +14,17 @@ use sessions::message::split;
 use sessions::profile::Profile;
 use std::hint::black_box;
 
-const ROOM: usize = MOST_BYTES;
+pub const ROOM: usize = MOST_BYTES;
 
 /// Calls timed together; the engine's are each upon a copy of the venue, made
 /// beforehand.
 const CALLS: usize = 8;
 
 /// One message, with the venue before it in both forms.
-struct Call {
-    message: Vec<u8>,
-    before: u32,
-    venue: Venue,
+pub struct Call {
+    pub message: Vec<u8>,
+    pub before: u32,
+    pub venue: Venue,
     held: VenueBytes,
 }
 
@@ -57,14 +57,14 @@ impl Call {
 }
 
 /// What all calls share: the clock, the report memory, copies of a venue.
-struct Track {
+pub struct Track {
     clock: Clock,
     report: Vec<u8>,
     copies: Vec<VenueBytes>,
 }
 
 impl Track {
-    fn new() -> Self {
+    pub fn new() -> Self {
         Track {
             clock: Clock::new(),
             report: vec![0; ROOM],
@@ -72,7 +72,7 @@ impl Track {
         }
     }
 
-    fn engine(&mut self, call: &Call) -> f64 {
+    pub fn engine(&mut self, call: &Call) -> f64 {
         self.copies.fill(call.held.clone());
         let (copies, report) = (&mut self.copies, &mut self.report);
         let time = self.clock.time(|| {
@@ -120,7 +120,7 @@ impl Track {
 }
 
 /// The messages of a session as calls.
-fn calls_of(profile: Profile, seed: u64) -> Result<Vec<Call>, String> {
+pub fn calls_of(profile: Profile, seed: u64) -> Result<Vec<Call>, String> {
     let mut venue = Venue::fresh();
     let mut calls = Vec::new();
     for (message, before) in session(profile, seed).iter().zip(0..) {
@@ -165,7 +165,7 @@ pub fn profiles(options: &Options) -> Result<String, String> {
     Ok(table)
 }
 
-fn mean(values: &[f64]) -> f64 {
+pub fn mean(values: &[f64]) -> f64 {
     values.iter().sum::<f64>() / values.len() as f64
 }
 

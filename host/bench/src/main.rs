@@ -11,6 +11,7 @@ mod race;
 mod runs;
 mod spin;
 mod table;
+mod turns;
 
 use layers::Layer;
 use sessions::profile::Profile;
@@ -22,8 +23,8 @@ bench: the engine timed beside the reference, in ns
   bench [TABLE ...] [--rounds N] [--seeds N] [--sessions N] [--only NAME] [--quick]
   bench spin NAME [--book N] [--times N] [--who engine|reference]
 
-Tables: profiles, blocks, growing, books, layers, feeds, calls, call-layers; all of them
-where none is named.
+Tables: profiles, blocks, growing, books, layers, feeds, calls, call-layers, turns; all of
+them where none is named.
 Each cell is the least and the median of the rounds (default 15), the ratio is
 reference / engine of the least: above 1 the engine is faster.
 
@@ -40,6 +41,8 @@ reference / engine of the least: above 1 the engine is faster.
              venue before it, with report memory of 10,112 bytes: eight calls are
              timed together, least of the rounds for each message
   call-layers  the messages of a unit as such calls
+  turns      the messages of `calls` that can wait, each as an arrival and as a turn upon
+             four copies of its venue behind one line, beside the engine's own call
 
 --only keeps the profiles and layers of that name. --quick is 5 rounds, 10 seeds and
 200 sessions. Times are processor times of the thread. Both contenders run in turn,
@@ -159,6 +162,11 @@ const TABLES: &[(&str, &str, Make)] = &[
         "call-layers",
         "One-message calls, ns for a unit: layers",
         calls::layers,
+    ),
+    (
+        "turns",
+        "Arrival and turn beside the one-message call, ns: means of the least times",
+        turns::profiles,
     ),
 ];
 

@@ -27,6 +27,7 @@ fn every_table_has_its_rows() {
         ("feeds", 13),
         ("calls", 13),
         ("call-layers", 27),
+        ("turns", 13),
     ] {
         let (succeeded, told, error) = bench(&[&[table], &sizes[..]].concat());
         assert!(succeeded, "{error}");
