@@ -1,12 +1,14 @@
 /*
  * The legging order engine, for hosts in C and C++.
  *
- * Link with the archive that `rt staticlib engine` writes:
+ * Link with the archive that `rt staticlib engine` writes, and for the calls of four
+ * venues behind one line with the one that `rt staticlib dispatch` writes:
  *
  *     cc -Iinclude host.c target/staticlib/libengine.a
+ *     cc -Iinclude four.c target/staticlib/libdispatch.a
  *
- * The archive is for x86-64 Linux. It calls memcpy and memset of the C library
- * and nothing else.
+ * Both are for x86-64 Linux, and may be linked together. They call memcpy, memmove and
+ * memset of the C library and nothing else.
  *
  * MEMORY
  *   All memory is the host's. A call keeps no pointer after it returns, allocates

@@ -1,45 +1,57 @@
-//! Finds the archive that `rt staticlib engine` writes, links it, and tells the tests
-//! its path.
+//! Finds the archives that `rt staticlib engine` and `rt staticlib dispatch` write, links
+//! them, and tells the tests their paths.
 
 use std::env;
 use std::path::{Path, PathBuf};
 use std::process::exit;
 
+/// Names other archives by their whole paths, as PATH names folders.
 const VARIABLE: &str = "LEGGING_ARCHIVE";
+
+/// What they are without it, in target/staticlib.
+const ARCHIVES: [&str; 2] = ["libengine.a", "libdispatch.a"];
 
 fn main() {
     println!("cargo:rerun-if-env-changed={VARIABLE}");
-    let archive = archive();
+    let archives = archives();
+    archives.iter().for_each(|archive| link(archive));
+    // The tests of the hosts in C link the same ones.
+    if let Ok(paths) = env::join_paths(&archives) {
+        println!("cargo:rustc-env=ARCHIVES={}", paths.display());
+    }
+}
+
+fn archives() -> Vec<PathBuf> {
+    match env::var_os(VARIABLE) {
+        Some(paths) => env::split_paths(&paths).collect(),
+        None => {
+            let package = env::var_os("CARGO_MANIFEST_DIR").unwrap_or_default();
+            let folder = Path::new(&package).join("../../target/staticlib");
+            ARCHIVES.map(|name| folder.join(name)).into()
+        }
+    }
+}
+
+fn link(archive: &Path) {
     println!("cargo:rerun-if-changed={}", archive.display());
     if !archive.is_file() {
         eprintln!(
-            "the engine's archive is not there: {}\n\
-             write it with `rt staticlib engine` at the top of the repository,\n\
-             or name one by the variable {VARIABLE}",
+            "the archive is not there: {}\n\
+             write it with `rt staticlib engine` or `rt staticlib dispatch` at the top of the\n\
+             repository, or name others by the variable {VARIABLE}",
             archive.display()
         );
         exit(1);
     }
-    let Some((folder, name)) = folder_and_name(&archive) else {
+    let Some((folder, name)) = folder_and_name(archive) else {
         eprintln!(
-            "expected {VARIABLE} to name a file libNAME.a, found {}",
+            "expected {VARIABLE} to name files libNAME.a, found {}",
             archive.display()
         );
         exit(1);
     };
-    println!("cargo:rustc-env=ENGINE_ARCHIVE={folder}/lib{name}.a");
     println!("cargo:rustc-link-search=native={folder}");
     println!("cargo:rustc-link-lib=static={name}");
-}
-
-fn archive() -> PathBuf {
-    match env::var_os(VARIABLE) {
-        Some(path) => PathBuf::from(path),
-        None => {
-            let package = env::var_os("CARGO_MANIFEST_DIR").unwrap_or_default();
-            Path::new(&package).join("../../target/staticlib/libengine.a")
-        }
-    }
 }
 
 /// The folder of an archive and the name by which a linker asks for it.

@@ -1,4 +1,4 @@
-//! The calls of the archive. All of the wrapper's unsafe code is here.
+//! The calls of the archives. All of the wrapper's unsafe code is here.
 
 use crate::layer::{LayerBytes, Turned};
 use crate::number::Number;

@@ -1,5 +1,6 @@
-//! The legging order engine for Rust hosts: a safe wrapper over the archive that
-//! `rt staticlib engine` writes.
+//! The legging order engine for Rust hosts: a safe wrapper over the archives that
+//! `rt staticlib engine` and, for four venues behind one line, `rt staticlib dispatch`
+//! write.
 //!
 //! [`run`] takes a whole message list from a fresh venue, and [`feed`] one that comes
 //! over two lines. [`one_message`] takes one message upon a venue that the host holds

@@ -449,24 +449,35 @@ fn serve_all(layer: &mut LayerBytes, list: &[Vec<u8>], report: &mut [u8]) {
     assert_eq!(turn(layer, report).venue(), None);
 }
 
+/// Does some work upon a stack of so many bytes, those of the thread itself included.
+fn upon_stack(bytes: usize, work: impl FnOnce() + Send + 'static) {
+    let thread = std::thread::Builder::new().stack_size(bytes);
+    let ended = thread.spawn(work).expect("a thread").join();
+    ended.expect("it ends");
+}
+
 #[test]
 fn a_stack_of_32_kibibytes_is_enough() {
     let list = generate(Profile::Sweeps, 3, 600);
     let line = line_bytes(&numbered(&list));
     let mut report = vec![0xC3; 1 << 20];
-    let mut layer = Box::new(LayerBytes::fresh());
-    let work = move || {
-        assert_eq!(feed(&line, &line, &mut report), Number::DONE);
-        serve_all(&mut layer, &list, &mut report);
+    upon_stack(32 << 10, move || {
         let mut venue = VenueBytes::fresh();
         for (message, before) in list.iter().zip(0..) {
             one_message(&mut venue, before, message, &mut report);
         }
-        run(&list.concat(), &mut report)
-    };
-    let thread = std::thread::Builder::new().stack_size(32 << 10);
-    let ended = thread.spawn(work).expect("a thread").join();
-    assert_eq!(ended.expect("it ends"), Number::DONE);
+        assert_eq!(run(&list.concat(), &mut report), Number::DONE);
+        assert_eq!(feed(&line, &line, &mut report), Number::DONE);
+    });
+}
+
+#[test]
+fn a_turn_takes_less_than_32_kibibytes_of_stack() {
+    let list = generate(Profile::Sweeps, 3, 300);
+    let mut report = vec![0xC3; MOST_BYTES];
+    let mut layer = Box::new(LayerBytes::fresh());
+    // The thread takes some for itself.
+    upon_stack(36 << 10, move || serve_all(&mut layer, &list, &mut report));
 }
 
 #[test]

@@ -18,10 +18,15 @@ fn top() -> PathBuf {
     Path::new(env!("CARGO_MANIFEST_DIR")).join("../..")
 }
 
-fn archive() -> PathBuf {
+fn archives() -> Vec<PathBuf> {
     match std::env::var_os("LEGGING_ARCHIVE") {
-        Some(path) => PathBuf::from(path),
-        None => top().join("target/staticlib/libengine.a"),
+        Some(paths) => std::env::split_paths(&paths).collect(),
+        None => {
+            let folder = top().join("target/staticlib");
+            ["libengine.a", "libdispatch.a"]
+                .map(|name| folder.join(name))
+                .into()
+        }
     }
 }
 
@@ -32,7 +37,7 @@ fn built(name: &str) -> PathBuf {
         .args(["-std=c11", "-Wall", "-Wextra", "-Werror", "-O2", "-I"])
         .arg(top().join("include"))
         .arg(top().join("examples/c").join(name).with_extension("c"))
-        .arg(archive())
+        .args(archives())
         .arg("-o")
         .arg(&program)
         .output()
