@@ -227,7 +227,7 @@ uint8_t legging_layer_fresh(uint8_t *layer, size_t layer_len);
  *   LEGGING_NO_PLACE  8 messages wait for it already, or `message_len` is above 32.
  * Unless LEGGING_DONE is returned, `layer` is as it was.
  */
-uint8_t legging_arrive(uint8_t *layer, size_t layer_len, uint8_t venue,
+uint8_t legging_arrive(uint8_t *layer, size_t layer_len, uint32_t venue,
                        const uint8_t *message, size_t message_len);
 
 /*

@@ -45,7 +45,7 @@ static size_t next_length(const struct sender *sender)
 }
 
 /* A venue's next messages arrive, while there are some and its wait has room. */
-static void deliver(uint8_t venue, struct sender *sender)
+static void deliver(uint32_t venue, struct sender *sender)
 {
     while (sender->sent < sender->list.length) {
         size_t length = next_length(sender);
@@ -53,7 +53,7 @@ static void deliver(uint8_t venue, struct sender *sender)
         if (number == LEGGING_NO_PLACE && length <= LEGGING_MOST_MESSAGE)
             return;
         if (number != LEGGING_DONE)
-            fprintf(stderr, PROGRAM ": venue %u: a message of %zu bytes is passed over: number %u\n", (unsigned)venue,
+            fprintf(stderr, PROGRAM ": venue %" PRIu32 ": a message of %zu bytes is passed over: number %u\n", venue,
                     length, (unsigned)number);
         sender->sent += length;
     }
@@ -63,7 +63,7 @@ static void deliver(uint8_t venue, struct sender *sender)
 static uint8_t serve(struct sender senders[LEGGING_VENUES], bool hex)
 {
     for (;;) {
-        for (uint8_t venue = 0; venue < LEGGING_VENUES; venue++)
+        for (uint32_t venue = 0; venue < LEGGING_VENUES; venue++)
             deliver(venue, &senders[venue]);
         uint32_t turned = legging_turn(layer, sizeof layer, report, sizeof report);
         uint8_t served = LEGGING_TURN_VENUE(turned);

@@ -17,7 +17,7 @@ pub trait Engine {
     fn layer_fresh(&self, layer: &mut [u8]) -> u8;
 
     /// An arrival at layer memory of any length.
-    fn arrive(&self, layer: &mut [u8], venue: u8, message: &[u8]) -> u8;
+    fn arrive(&self, layer: &mut [u8], venue: u32, message: &[u8]) -> u8;
 
     /// A turn of layer memory of any length: its number, and 256 times the venue served.
     fn turn(&self, layer: &mut [u8], report: &mut [u8]) -> u32;
@@ -47,7 +47,7 @@ impl Engine for Archive {
         legging::layer_fresh_in(layer).get()
     }
 
-    fn arrive(&self, layer: &mut [u8], venue: u8, message: &[u8]) -> u8 {
+    fn arrive(&self, layer: &mut [u8], venue: u32, message: &[u8]) -> u8 {
         legging::arrive_in(layer, venue, message).get()
     }
 
@@ -86,7 +86,7 @@ impl Engine for Reference {
         number
     }
 
-    fn arrive(&self, layer: &mut [u8], venue: u8, message: &[u8]) -> u8 {
+    fn arrive(&self, layer: &mut [u8], venue: u32, message: &[u8]) -> u8 {
         let (number, left) = crate::layers::expected_arrival(layer, venue, message);
         layer.copy_from_slice(&left);
         number

@@ -25,13 +25,13 @@ pub fn expected_fresh(layer: &[u8]) -> (u8, Vec<u8>) {
 }
 
 /// The reference's arrival at layer memory: the number, and what is left.
-pub fn expected_arrival(layer: &[u8], venue: u8, message: &[u8]) -> (u8, Vec<u8>) {
+pub fn expected_arrival(layer: &[u8], venue: u32, message: &[u8]) -> (u8, Vec<u8>) {
     let Ok(mut held) = Held::try_from(layer) else {
         return (UNSOUND, layer.to_vec());
     };
     let number = arrive(&mut from_bytes(&held), venue, message);
     if number == 0 {
-        write_arrival(&mut held, usize::from(venue), message);
+        write_arrival(&mut held, venue as usize, message);
     }
     (number, held.to_vec())
 }
@@ -93,7 +93,7 @@ impl Comparer<'_> {
         &mut self,
         check: Check,
         layer: &[u8],
-        venue: u8,
+        venue: u32,
         message: &[u8],
     ) -> Result<Vec<u8>, String> {
         let (wanted, left) = expected_arrival(layer, venue, message);
@@ -225,7 +225,7 @@ impl Session<'_, '_> {
             256 + 4,
             65_536,
         ];
-        for venue in [0, 1, 2, 3, 4, 5, 255] {
+        for venue in [0, 1, 2, 3, 4, 5, 255, 256, 1 << 16, 1 << 31, u32::MAX] {
             for length in (0..=MOST_MESSAGE).step_by(8).chain(long) {
                 let message = vec![0x81; length];
                 let asked = Asked::Arrive { venue, message };

@@ -38,7 +38,7 @@ extern "C" {
     fn legging_arrive(
         layer: *mut u8,
         layer_len: usize,
-        venue: u8,
+        venue: u32,
         message: *const u8,
         message_len: usize,
     ) -> u8;
@@ -149,13 +149,13 @@ pub fn layer_fresh_in(layer: &mut [u8]) -> Number {
 /// as given: [`Number::NO_VENUE`] for a venue above 3, [`Number::NO_PLACE`] where 8
 /// messages wait already or the message is over 32 bytes, and before both
 /// [`Number::UNSOUND`].
-pub fn arrive(layer: &mut LayerBytes, venue: u8, message: &[u8]) -> Number {
+pub fn arrive(layer: &mut LayerBytes, venue: u32, message: &[u8]) -> Number {
     arrive_in(layer.as_mut_bytes(), venue, message)
 }
 
 /// As [`arrive`], upon layer memory of any length: with other than
 /// [`LAYER_BYTES`](crate::LAYER_BYTES) bytes the number is [`Number::UNSOUND`].
-pub fn arrive_in(layer: &mut [u8], venue: u8, message: &[u8]) -> Number {
+pub fn arrive_in(layer: &mut [u8], venue: u32, message: &[u8]) -> Number {
     // SAFETY: both slices are whole for their lengths and cannot overlap; the call reads
     // `message`, writes `layer`, and keeps neither.
     let number = unsafe {

@@ -311,7 +311,9 @@ fn an_arrival_that_is_refused_leaves_the_layer() {
     let full = layer.clone();
     assert_eq!(arrive(&mut layer, 2, &[]), Number::NO_PLACE);
     assert_eq!(arrive(&mut layer, 0, &[7; 33]), Number::NO_PLACE);
-    assert_eq!(arrive(&mut layer, 4, &[7; 33]), Number::NO_VENUE);
+    for venue in [4, 256, u32::MAX] {
+        assert_eq!(arrive(&mut layer, venue, &[7; 33]), Number::NO_VENUE);
+    }
     assert_eq!(layer, full);
 }
 
@@ -378,7 +380,7 @@ extern "C" {
     fn legging_arrive(
         layer: *mut u8,
         layer_len: usize,
-        venue: u8,
+        venue: u32,
         message: *const u8,
         n: usize,
     ) -> u8;
@@ -443,7 +445,7 @@ fn serve_all(layer: &mut LayerBytes, list: &[Vec<u8>], report: &mut [u8]) {
             assert_eq!(arrive(layer, venue, message), Number::DONE);
         }
         for venue in 0..4 {
-            assert_eq!(turn(layer, report).venue(), Some(venue));
+            assert_eq!(turn(layer, report).venue(), Some(venue as usize));
         }
     }
     assert_eq!(turn(layer, report).venue(), None);

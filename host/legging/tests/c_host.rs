@@ -18,18 +18,6 @@ fn top() -> PathBuf {
     Path::new(env!("CARGO_MANIFEST_DIR")).join("../..")
 }
 
-fn archives() -> Vec<PathBuf> {
-    match std::env::var_os("LEGGING_ARCHIVE") {
-        Some(paths) => std::env::split_paths(&paths).collect(),
-        None => {
-            let folder = top().join("target/staticlib");
-            ["libengine.a", "libdispatch.a"]
-                .map(|name| folder.join(name))
-                .into()
-        }
-    }
-}
-
 /// A program of examples/c, built.
 fn built(name: &str) -> PathBuf {
     let program = Path::new(env!("CARGO_TARGET_TMPDIR")).join(name);
@@ -37,7 +25,7 @@ fn built(name: &str) -> PathBuf {
         .args(["-std=c11", "-Wall", "-Wextra", "-Werror", "-O2", "-I"])
         .arg(top().join("include"))
         .arg(top().join("examples/c").join(name).with_extension("c"))
-        .args(archives())
+        .args(std::env::split_paths(env!("ARCHIVES")))
         .arg("-o")
         .arg(&program)
         .output()

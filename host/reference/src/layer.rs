@@ -84,11 +84,11 @@ impl Lane {
 }
 
 /// Takes up a message for a venue: 0, or the number that it was refused with.
-pub fn arrive(layer: &mut Layer, venue: u8, message: &[u8]) -> u8 {
+pub fn arrive(layer: &mut Layer, venue: u32, message: &[u8]) -> u8 {
     if !layer.is_sound() {
         return UNSOUND;
     }
-    let Some(lane) = layer.lanes.get_mut(usize::from(venue)) else {
+    let Some(lane) = layer.lanes.get_mut(venue as usize) else {
         return NO_VENUE;
     };
     if lane.wait.len() == MOST_WAITING || message.len() > MOST_MESSAGE {

@@ -16,7 +16,7 @@ pub const ENOUGH: u32 = 10_112;
 #[derive(Clone, Debug, PartialEq, Eq)]
 pub enum Asked {
     Arrive {
-        venue: u8,
+        venue: u32,
         message: Vec<u8>,
     },
     /// With report memory of this length.
@@ -87,7 +87,7 @@ mod tests {
 
     #[test]
     fn every_call_reads_back_as_written() {
-        let text = "arrive 0 order 4 sell 5 series 0 at 115\narrive 255 sweep\n\
+        let text = "arrive 0 order 4 sell 5 series 0 at 115\narrive 4294967295 sweep\n\
             arrive 3 raw 09 00 06\narrive 2 nothing\nturn\nturn 0\nturn 4294967295\n";
         let script = parse_script(text).unwrap();
         let told: String = script.iter().map(|(_, call)| format!("{call}\n")).collect();
@@ -106,7 +106,7 @@ mod tests {
     fn errors_name_the_line_and_what_was_expected() {
         let cases = [
             ("turn\nserve", "line 2: expected a call (arrive, turn or turns), found \"serve\""),
-            ("arrive 256 sweep", "line 1: expected a venue, a number from 0 to 255, found \"256\""),
+            ("arrive x sweep", "line 1: expected a venue, a number from 0 to 4294967295, found \"x\""),
             ("arrive 1 nothing more", "line 1: expected the end of the line, found \"more\""),
             ("arrive 1 sweep now", "line 1: expected the end of the line, found \"now\""),
             ("arrive 1", "line 1: expected a message (order, complex, cancel, away, status, open, close, auction, sweep or raw), found the end of the line"),

@@ -96,8 +96,8 @@ impl Model {
         }
     }
 
-    fn arrival(&mut self, venue: u8, message: &[u8]) -> u8 {
-        let venue = usize::from(venue);
+    fn arrival(&mut self, venue: u32, message: &[u8]) -> u8 {
+        let venue = venue as usize;
         if venue >= VENUES {
             return 18;
         }
@@ -223,24 +223,24 @@ impl Session<'_> {
         Ok(())
     }
 
-    fn arrival(&mut self, venue: u8, message: &[u8]) -> Result<(), String> {
+    fn arrival(&mut self, venue: u32, message: &[u8]) -> Result<(), String> {
         let wanted = self.model.arrival(venue, message);
         let number = arrive(&mut self.layer, venue, message);
         if number != wanted {
             return Err(format!("number {number}, expected {wanted}"));
         }
         if number == 0 {
-            write_arrival(&mut self.held, usize::from(venue), message);
+            write_arrival(&mut self.held, venue as usize, message);
         }
         self.observe_arrival(number, venue, message);
         Ok(())
     }
 
-    fn observe_arrival(&mut self, number: u8, venue: u8, message: &[u8]) {
+    fn observe_arrival(&mut self, number: u8, venue: u32, message: &[u8]) {
         let long = message.len() > 32;
         match number {
             0 => {
-                match self.layer.lanes[usize::from(venue)].wait.len() {
+                match self.layer.lanes[venue as usize].wait.len() {
                     1 => self.coverage.add("arrival 0: the first of a wait"),
                     8 => self.coverage.add("arrival 0: the eighth of a wait"),
                     _ => {}

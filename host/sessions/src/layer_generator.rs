@@ -58,7 +58,7 @@ impl LayerGenerator {
         }
         let asked = self.arrival();
         if let Asked::Arrive { venue, message } = &asked {
-            self.count(layer, usize::from(*venue), message);
+            self.count(layer, *venue as usize, message);
         }
         asked
     }
@@ -99,7 +99,7 @@ impl LayerGenerator {
         let Some(message) = self.lists[venue].get(at).cloned() else {
             return self.odd_arrival(venue);
         };
-        let venue = venue as u8;
+        let venue = venue as u32;
         Asked::Arrive { venue, message }
     }
 
@@ -107,15 +107,15 @@ impl LayerGenerator {
     fn old_arrival(&mut self, venue: usize) -> Asked {
         let at = self.random.below(self.sent[venue] as u64) as usize;
         let message = self.lists[venue][at].clone();
-        let venue = venue as u8;
+        let venue = venue as u32;
         Asked::Arrive { venue, message }
     }
 
     /// Any bytes, torn, none or too many, some for a venue that is not there.
     fn odd_arrival(&mut self, venue: usize) -> Asked {
         let venue = match self.random.below(6) {
-            0 => self.random.pick(&[4, 5, 255]),
-            _ => venue as u8,
+            0 => self.random.pick(&[4, 5, 255, 256, 1 << 16, u32::MAX]),
+            _ => venue as u32,
         };
         let most = MOST_MESSAGE as u64;
         let length = match self.random.below(8) {

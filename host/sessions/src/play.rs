@@ -45,7 +45,7 @@ pub fn play(script: &[(usize, Asked)]) -> Result<Played, String> {
 }
 
 /// Why an arrival was refused.
-fn refused(number: u8, venue: u8) -> Option<String> {
+fn refused(number: u8, venue: u32) -> Option<String> {
     let why = match number {
         0 => return None,
         17 => "its wait holds 8, or the message is over 32 bytes",

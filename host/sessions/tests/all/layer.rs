@@ -142,7 +142,7 @@ fn a_full_wait_and_a_long_message_are_17() {
 #[test]
 fn a_venue_above_3_is_18_before_17() {
     let mut layer = Layer::fresh();
-    for venue in [4, 5, 255] {
+    for venue in [4, 5, 255, 256, u32::MAX] {
         assert_eq!(arrive(&mut layer, venue, &SWEEP), 18);
         assert_eq!(arrive(&mut layer, venue, &[0; 33]), 18);
     }
