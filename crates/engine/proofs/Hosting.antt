@@ -118,7 +118,7 @@ unfolding freshHosted
 held-first memory size = rw (eq-eqb (length memory) venueSize size) (held-whole freshVenue (declared freshVenue fresh-sound))
 
 -- what is held has the arrays of its type
-held-shaped : (memory : List ℕ) → Shaped (venueFrom memory)
+pub held-shaped : (memory : List ℕ) → Shaped (venueFrom memory)
 unfolding venueFrom
 held-shaped memory = record { regular = upto-length _ 0 128; complex = upto-length _ 0 32; legging = upto-length _ 0 16; series = upto-length _ 0 8 }
 

@@ -2,3 +2,4 @@ pub mod Rows
 pub mod Widths
 pub mod Whole
 pub mod Back
+pub mod Sizes
