@@ -1,9 +1,10 @@
-//! The archive's read-only memory (request (c)): code, and a few constants of single
+//! The archives' read-only memory (request (c)): code, and a few constants of single
 //! instructions. No table of lengths, kinds or increments.
 
 use legging::{one_message, Number, VenueBytes, MOST_BYTES};
+use std::path::Path;
 
-/// What a board may be asked to keep beside the code.
+/// What a board may be asked to keep beside an archive's code.
 const MOST_READ_ONLY: usize = 128;
 
 const WRITE: u64 = 1;
@@ -153,8 +154,12 @@ fn each_kind_has_its_length_and_no_other_number_is_a_kind() {
 }
 
 #[test]
-fn the_archive_keeps_no_table() {
-    let archive = std::fs::read(env!("ENGINE_ARCHIVE")).expect("the archive");
+fn no_archive_keeps_a_table() {
+    std::env::split_paths(env!("ARCHIVES")).for_each(|path| keeps_no_table(&path));
+}
+
+fn keeps_no_table(path: &Path) {
+    let archive = std::fs::read(path).expect("the archive");
     let (code, others): (Vec<Section>, Vec<Section>) =
         sections(&archive).into_iter().partition(|s| s.is(CODE));
     let length = |all: &[Section]| all.iter().map(|s| s.bytes.len()).sum::<usize>();
@@ -165,7 +170,11 @@ fn the_archive_keeps_no_table() {
     assert!(faults.is_empty(), "{faults:#?}");
     let bytes = length(&others);
     assert!(bytes <= MOST_READ_ONLY, "{bytes} read-only bytes");
-    println!("{} bytes of code, {bytes} read-only", length(&code));
+    println!(
+        "{}: {} bytes of code, {bytes} read-only",
+        path.display(),
+        length(&code)
+    );
 }
 
 /// Constants of single instructions, 16 bytes each.
