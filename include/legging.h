@@ -24,6 +24,8 @@
  *     bytes as its length says, no more than PTRDIFF_MAX of them, at any alignment.
  *   - Memory that a call writes overlaps no other memory of the same call, and
  *     no other thread reads or writes it meanwhile.
+ *   - The archive itself is code and at most 128 bytes of read-only constants:
+ *     no table, and no data that is written.
  *
  * THREADS
  *   There is no state outside the memory lent: no global or static variable. Any
