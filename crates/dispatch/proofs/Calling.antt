@@ -22,7 +22,7 @@ use Rattle.layer.specs.Layer.{Lane, Layer, laneAt, getsNine, layerSound, arrive
 use Rattle.layer.proofs.Ways.{ending, not-done, Did, does, turn-by}
 use Rattle.layer.proofs.Keeping.{gets-nine, each-lane, lane-wait, answered}
 use Rattle.dispatch.specs.declared.TurnReturned.{TurnReturned}
-use Rattle.dispatch.specs.Memory.{doneAt, countAt, placesAt, laneSize, lastAt, layerSize, placeFrom, laneFrom, lanePart, layerFrom, withPart, joinedBytes, headCalled, advancedBytes}
+use Rattle.dispatch.specs.Memory.{doneAt, countAt, placesAt, laneSize, lastAt, layerSize, placeFrom, lanePart, layerFrom, withPart, joinedBytes, headCalled, advancedBytes}
 use Rattle.dispatch.specs.Checks.{layerSoundBut}
 use Rattle.dispatch.specs.Hosts.{replyOf, arriveHeld, TurnReply, idleReturned, turnReplyOf, servedBytes, turnLeaves, turnHeld}
 use Rattle.dispatch.proofs.Bytes.{part-back}

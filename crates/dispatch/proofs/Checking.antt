@@ -1,17 +1,16 @@
 -- The checks but one, and the layer's soundness.
 use mathlib.Core.Path.{_≡_, refl, sym, ap, _∙_}
-use mathlib.Core.Bool.{Bool, true, false, not, _&&_, _||_, true≢false}
-use mathlib.Core.List.{List}
-use Prim.Native.Nat.{ℕ, _≤_, _<_}
+use mathlib.Core.Bool.{Bool, true, false, not, _||_, true≢false}
+use Prim.Native.Nat.{ℕ, _<_}
 use native.Mathlib.Omega.{arith}
 use native.Mathlib.Decide.{decLt, ℕ-discrete}
 use lib.Dec.{eqb, leb}
 use lib.ListN.{length, List·getD-eq-default}
-use borrow.Author.Tests.{eq-eqb, ne-eqb, leb-true, le-leb}
+use borrow.Author.Tests.{ne-eqb, leb-true, le-leb}
 use Rattle.rules.proofs.Tests.{and-l, and-r}
 use Rattle.layer.specs.Layer.{Lane, Layer, freshLane, laneAt, getsNine, waitSound, laneSound, layerSound}
 use Rattle.layer.proofs.Lanes.{sound-last, layer-sound}
-use Rattle.layer.proofs.Keeping.{lane-wait, each-lane, fresh-lane}
+use Rattle.layer.proofs.Keeping.{each-lane, fresh-lane}
 use Rattle.dispatch.specs.Checks.{laneSoundBut, ofFour, layerSoundBut}
 use Rattle.dispatch.proofs.Figures.{four-at, four-in}
 

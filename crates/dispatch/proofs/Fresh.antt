@@ -1,14 +1,13 @@
 -- The layer's bytes read back, lane by lane; and the fresh layer's.
 use mathlib.Core.Path.{_≡_, refl, sym, ap, _∙_}
 use mathlib.Core.List.{List, [], _∷_, _++_, append-assoc}
-use Prim.Native.Nat.{ℕ, zero, suc, _+_, _-_, _*_, _%_, _≤_, _<_}
+use Prim.Native.Nat.{ℕ, zero, suc, _+_, _-_, _*_, _%_, _<_}
 use native.Mathlib.Omega.{arith}
 use lib.ListN.{length, getD, take, drop, replicate, length-append, length-replicate, getD-replicate}
 use lib.Seq.{take-at, drop-at, drop-drop, ext-getD}
 use borrow.Author.Tests.{eq-eqb}
-use Rattle.rules.specs.declared.Venue.{Venue}
 use Rattle.rules.specs.Words.{freshVenue}
-use Rattle.rules.specs.Bytes.{u8At, u16At, u32At, u8, u32, bytes}
+use Rattle.rules.specs.Bytes.{u8At, u16At, u32At, u8, bytes}
 use Rattle.rules.proofs.Reading.{byte}
 use Rattle.demands.proofs.Calls.{fresh-sound}
 use Rattle.wire.proofs.Numbers.{u8-drop, u32-here}
@@ -19,7 +18,7 @@ use Rattle.state.proofs.Sizes.{venue-length}
 use Rattle.engine.specs.Hosts.{freshHosted}
 use Rattle.engine.proofs.Hosting.{held-first}
 use Rattle.layer.specs.Layer.{Lane, Layer, freshLane, freshLayer, laneAt}
-use Rattle.dispatch.specs.Memory.{doneAt, countAt, placesAt, placeSize, laneSize, lastAt, layerSize, placeFrom, laneFrom, lanePart, laneOf, layerFrom, placeBytes, laneBytes, layerBytes}
+use Rattle.dispatch.specs.Memory.{doneAt, countAt, laneSize, lastAt, layerSize, placeFrom, laneFrom, lanePart, laneOf, layerFrom, laneBytes, layerBytes}
 use Rattle.dispatch.proofs.Joining.{lane-eq}
 use Rattle.dispatch.proofs.Lent.{layer-eq}
 

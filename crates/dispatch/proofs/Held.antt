@@ -1,23 +1,23 @@
 -- The calls upon a memory are those upon the layer that it holds.
-use mathlib.Core.Path.{_≡_, refl, sym, ap, ap₂, _∙_}
+use mathlib.Core.Path.{_≡_, refl, sym, ap, _∙_}
 use mathlib.Core.Bool.{true}
 use mathlib.Core.Logic.{_≢_}
 use mathlib.Core.List.{List, [], _∷_}
-use Prim.Native.Nat.{ℕ, _+_, _*_, _≤_, _<_}
+use Prim.Native.Nat.{ℕ, _*_, _≤_, _<_}
 use native.Mathlib.Omega.{arith}
 use lib.Dec.{eqb, leb}
-use lib.ListN.{length, set, take, drop, length-set}
+use lib.ListN.{length, set, length-set}
 use borrow.Author.Tests.{eq-eqb, ne-eqb, leb-true, eqb-false, not-true}
 use Rattle.rules.specs.Base.{if_then_else_, all}
 use Rattle.rules.specs.Bytes.{u8At}
 use Rattle.rules.specs.Calls.{Call}
 use Rattle.rules.proofs.Tests.{and-l}
 use Rattle.places.proofs.Tables.{upto-length}
-use Rattle.layer.specs.Layer.{Lane, Layer, Asked, arrival, turning, laneAt, withLane, waitSound, laneSound, layerSound, joins, arrive, waiting, next, headCall, idle, advanced, serve, turn, after, afterAll}
+use Rattle.layer.specs.Layer.{Lane, Layer, Asked, arrival, turning, laneAt, withLane, waitSound, layerSound, joins, arrive, waiting, next, headCall, idle, advanced, serve, turn, after, afterAll}
 use Rattle.layer.proofs.Ways.{Waits, arrive-by, turn-by}
 use Rattle.layer.proofs.Lanes.{next-some}
 use Rattle.layer.proofs.Keeping.{each-lane, lane-wait}
-use Rattle.dispatch.specs.Memory.{countAt, laneSize, lastAt, layerSize, laneFrom, lanePart, laneOf, layerFrom, layerBytes, withPart, joinedBytes, headCalled, advancedBytes}
+use Rattle.dispatch.specs.Memory.{countAt, laneSize, lastAt, layerSize, laneFrom, lanePart, laneOf, layerFrom, withPart, joinedBytes, headCalled, advancedBytes}
 use Rattle.dispatch.specs.Hosts.{freshHeld, arriveHeld, servedBytes, turnLeaves, turnHeld, memoryAfter, memoryAfterAll, Held}
 use Rattle.dispatch.proofs.Bytes.{part-length}
 use Rattle.dispatch.proofs.Figures.{lane-of}

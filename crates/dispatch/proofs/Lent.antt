@@ -1,5 +1,5 @@
 -- A lane of the layer lent and put back, and the venue served last written.
-use mathlib.Core.Path.{_≡_, refl, sym, ap, ap₂, _∙_}
+use mathlib.Core.Path.{_≡_, sym, ap, _∙_}
 use mathlib.Core.Logic.{_≢_}
 use mathlib.Core.List.{List}
 use Prim.Native.Nat.{ℕ, _+_, _*_, _<_}
@@ -12,7 +12,7 @@ use Rattle.wire.specs.Seen.{pasted}
 use Rattle.wire.proofs.Writes.{pasted-from, pasted-length}
 use Rattle.places.specs.Layout.{upto}
 use Rattle.places.proofs.Tables.{upto-same, upto-set}
-use Rattle.layer.specs.Layer.{Lane, Layer, freshLane, withLane}
+use Rattle.layer.specs.Layer.{Layer, freshLane, withLane}
 use Rattle.dispatch.specs.Memory.{laneSize, lastAt, layerSize, laneFrom, lanePart, laneOf, layerFrom, withPart}
 use Rattle.dispatch.proofs.Bytes.{byte-below, byte-above, same-part}
 

@@ -13,7 +13,6 @@ use Rattle.rules.specs.Bytes.{u8At, u8, bytes}
 use Rattle.rules.proofs.Arranging.{all-at}
 use Rattle.rules.proofs.Reading.{byte}
 use Rattle.rules.proofs.Tests.{and-r}
-use Rattle.wire.proofs.Numbers.{u8-drop}
 use Rattle.places.specs.Layout.{upto}
 use Rattle.places.proofs.Tables.{upto-length, upto-at, upto-same}
 use Rattle.layer.specs.Layer.{waitSound}

@@ -1,12 +1,12 @@
 -- The head of a lane's wait done by a call.
-use mathlib.Core.Path.{_≡_, refl, sym, ap, ap₂, subst, _∙_}
+use mathlib.Core.Path.{_≡_, refl, sym, ap, _∙_}
 use mathlib.Core.Bool.{Bool, true, false}
 use mathlib.Core.Logic.{_≢_}
 use mathlib.Core.List.{List, [], _∷_, _++_, append-assoc}
 use Prim.Native.Nat.{ℕ, zero, suc, _+_, _-_, _*_, _≤_, _<_}
 use native.Mathlib.Omega.{arith}
 use lib.Dec.{eqb}
-use lib.ListN.{length, getD, take, drop, replicate, length-append, length-drop, length-replicate, List·getD-append}
+use lib.ListN.{length, take, drop, replicate, length-append, length-drop, length-replicate, List·getD-append}
 use lib.Seq.{length-take-le, take-at, drop-at, drop-append-le, drop-drop}
 use borrow.Author.Tests.{eq-eqb}
 use Rattle.rules.specs.declared.Venue.{Venue}
@@ -22,7 +22,7 @@ use Rattle.state.specs.Held.{venueSize, venueBytes, venueFrom}
 use Rattle.state.proofs.Sizes.{venue-length}
 use Rattle.engine.specs.Hosts.{oneHosted, leaves}
 use Rattle.engine.proofs.Hosting.{held-shaped, held-next}
-use Rattle.layer.specs.Layer.{Lane, waitSound, head, headCall, advanced}
+use Rattle.layer.specs.Layer.{waitSound, head, headCall, advanced}
 use Rattle.layer.proofs.Ways.{sound-for-in, sound-for-out, ending, does}
 use Rattle.dispatch.specs.Memory.{doneAt, countAt, placesAt, placeSize, laneSize, messageFrom, placeFrom, laneFrom, headCalled, venuePart, advancedBytes}
 use Rattle.dispatch.proofs.Places.{message-same, waits-short}

@@ -1,21 +1,19 @@
 -- What each small function writes, as the equation of its contract.
 use mathlib.Core.Path.{_≡_, refl, sym, ap, ap₂, _∙_}
 use mathlib.Core.Logic.{_≢_}
-use mathlib.Core.List.{List, [], _∷_, _++_, append-assoc, append-nil}
+use mathlib.Core.List.{List, [], _∷_, _++_, append-assoc}
 use Prim.Native.Nat.{ℕ, suc, _+_, _-_, _*_, _≤_, _<_}
 use native.Mathlib.Omega.{arith}
 use native.Mathlib.Numerals.{add-one}
-use lib.Dec.{eqb}
 use lib.ListN.{length, getD, set, take, drop, replicate, length-append, length-drop, length-set, take-append-drop}
 use lib.Seq.{length-take-le, take-all, take-suc, take-at, drop-at, drop-cons, drop-drop, set-at, getD-drop, paste, paste-zero, paste-suc, take-paste, drop-paste}
 use borrow.Author.Tests.{eq-eqb, ne-eqb}
 use borrow.Rule.Slice.PartMut.{putMid}
 use Rattle.rules.specs.declared.Venue.{Venue}
 use Rattle.rules.specs.declared.Returned.{Returned}
-use Rattle.rules.specs.Base.{if_then_else_}
 use Rattle.rules.specs.Words.{freshVenue}
 use Rattle.rules.specs.Bytes.{u8At, u32At, u8, u32, bytes}
-use Rattle.rules.specs.Calls.{Call, one}
+use Rattle.rules.specs.Calls.{one}
 use Rattle.rules.proofs.Reading.{byte}
 use Rattle.wire.specs.Seen.{Seen, seen, pasted, _plus_}
 use Rattle.wire.proofs.Numbers.{u8-drop, u32-here}
@@ -26,7 +24,7 @@ use Rattle.engine.specs.Runs.{callOf}
 use Rattle.layer.specs.Layer.{Lane, freshLane, freshLayer}
 use Rattle.dispatch.specs.Memory.{doneAt, countAt, placesAt, placeSize, laneSize, lastAt, layerSize, placeFrom, placeBytes, laneBytes, layerBytes, joinedBytes, headCalled, venuePart, advancedBytes}
 use Rattle.dispatch.specs.Hosts.{replyOf, freshHeld}
-use Rattle.dispatch.proofs.Bytes.{byte-above, part-back}
+use Rattle.dispatch.proofs.Bytes.{part-back}
 use Rattle.dispatch.proofs.Places.{place-size}
 use Rattle.dispatch.proofs.Fresh.{fresh-bytes, fresh-size, fresh-whole, lanes-length}
 

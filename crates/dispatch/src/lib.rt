@@ -15,9 +15,12 @@ ghost use Rattle.dispatch.specs.Memory.{doneAt, countAt, placesAt, place
 ghost use Rattle.dispatch.specs.Checks.{laneSoundBut, layerSoundBut};
 ghost use Rattle.dispatch.specs.Hosts.{replyOf, freshHeld, arriveHeld, idleReturned, turnReplyOf, turnHeld, toldOf, hostTurn};
 
-// The venue's bytes are the state crate's; the other positions follow from them.
+// A venue's bytes, as crate state has them, and the numbers that it is laid out in to be checked, as crate places has them.
 const VENUE: usize = 2604;
 
+const NUMBERS: usize = 830;
+
+// What follows from them: where the parts of a lane begin (specs/Memory.antt), and the last byte.
 const DONE: usize = VENUE;
 
 const COUNT: usize = VENUE + 4;
@@ -40,7 +43,7 @@ const LAYER: usize = LAST + 1;
 
 // Is the layer sound? -------------------------------------------------------------------------
 
-// How many messages wait, and how long each is: each figure of a lane's wait is in its range.
+// How many messages wait in a lane, and how long each is, are in their ranges.
 fn wait_sound(lane: &[u8]) -> bool
     ensures { λ r. ⌜ r ≡ waitSound (laneFrom (now (lane .entry)) .wait) ⌝ }
 {
@@ -72,7 +75,7 @@ fn lane_sound(lane: &[u8], v: usize, but: usize) -> bool
     }
     let end = VENUE;
     let venue = state::venue_from(&lane[..end]);
-    let mut b = [0u32; 830];
+    let mut b = [0u32; NUMBERS];
     soundness::load_sound(&mut b, venue)
 }
 
@@ -255,7 +258,7 @@ fn advance(lane: &mut [u8], number: u8, venue: Venue)
     drop_head(lane);
 }
 
-// What a turn returns beside the layer and the report; where it did no message, 4 is served.
+// What a turn returns beside the layer and the report; 4 is served where no message was done.
 pub struct TurnReturned {
     pub number: u8,
     pub done: u32,
@@ -315,6 +318,7 @@ pub fn turn(layer: &mut [u8], report: &mut [u8]) -> TurnReturned
 
 // For a host ------------------------------------------------------------------------------------
 
+// An arrival.
 #[no_mangle]
 pub extern "C" fn legging_arrive(layer: &mut [u8], venue: u32, message: &[u8]) -> u8
     ensures { λ r. ⌜ replyOf r (now (layer .exit)) ≡ arriveHeld (now (layer .entry)) venue (now (message .entry)) ⌝ }
@@ -322,7 +326,7 @@ pub extern "C" fn legging_arrive(layer: &mut [u8], venue: u32, message: &[u8]) -
     arrive(layer, venue, message)
 }
 
-// The number, and 256 times the venue served.
+// A turn: its number, and 256 times the venue served.
 #[no_mangle]
 pub extern "C" fn legging_turn(layer: &mut [u8], report: &mut [u8]) -> u32
     ensures { λ r. ⌜ toldOf r (now (layer .exit)) (now (report .exit)) ≡ hostTurn (turnHeld (now (layer .entry)) (length (now (report .entry)))) ⌝ }
