@@ -1,17 +1,19 @@
 -- After every message all are tested: whatever an accepted message does, every legging order stands when it has settled.
 use mathlib.Core.Path.{_≡_, refl}
+use Prim.Native.Nat.{ℕ}
 use Rattle.rules.specs.declared.Complex.{Complex}
 use Rattle.rules.specs.declared.Message.{Message}
-use Rattle.rules.specs.declared.Message.the-variants.{Away, Cancel, Order, Status, Sweep, TwoLeg}
+use Rattle.rules.specs.declared.Message.the-variants.{Away, Cancel, Increment, Order, Percent, Status, Sweep, TwoLeg}
 use Rattle.rules.specs.declared.Venue.{Venue}
 use Rattle.rules.specs.Words.{withLast}
+use Rattle.rules.specs.Settings.{percentage}
 use Rattle.rules.specs.Effects.{Effect, _⟫_}
 use Rattle.rules.specs.Standing.{settle}
 use Rattle.rules.specs.Trading.{freeComplex, putComplex}
 use Rattle.rules.specs.Order.{enterRegular, order}
 use Rattle.rules.specs.Generation.{generate}
 use Rattle.rules.specs.Complex.{cancel, complex, each, sweep, work}
-use Rattle.rules.specs.Step.{perform, setAway, setStatus}
+use Rattle.rules.specs.Step.{perform, setAway, setFigure, setStatus}
 use Rattle.rules.proofs.Generating.{AllStand}
 use Rattle.rules.proofs.Settling.{settle-stands}
 
@@ -31,16 +33,20 @@ Quiet (Cancel id) = Unit {0}
 Quiet (Away s bid offer) = Unit {0}
 Quiet (Status s x) = Unit {0}
 Quiet Sweep = ⊥
+Quiet (Increment s i e) = Unit {0}
+Quiet (Percent x e) = Unit {0}
 
 -- "After every accepted message all are tested against the same state, failures go together": none is left that fails
-pub perform-stands : (m : Message) → Quiet m → (v : Venue) → AllStand (perform m v .venue)
+pub perform-stands : (number : ℕ) (m : Message) → Quiet m → (v : Venue) → AllStand (perform number m v .venue)
 unfolding perform order cancel
-perform-stands (Order o) q v = settled (enterRegular o (withLast v (o .id)))
-perform-stands (TwoLeg c) q v = absurd q
-perform-stands (Cancel id) q v = settled _
-perform-stands (Away s bid offer) q v = settle-all (setAway s bid offer v)
-perform-stands (Status s x) q v = settle-all (setStatus s x v)
-perform-stands Sweep q v = absurd q
+perform-stands number (Order o) q v = settled (enterRegular o (withLast v (o .id)))
+perform-stands number (TwoLeg c) q v = absurd q
+perform-stands number (Cancel id) q v = settled _
+perform-stands number (Away s bid offer) q v = settle-all (setAway s bid offer v)
+perform-stands number (Status s x) q v = settle-all (setStatus s x v)
+perform-stands number Sweep q v = absurd q
+perform-stands number (Increment s i e) q v = settle-all (setFigure number s i e v)
+perform-stands number (Percent x e) q v = settle-all (setFigure number percentage x e v)
 
 -- A message that generates has settled before it does; `Generating.generate-stands` has that generation keeps it.
 pub complex-stands : (c : Complex) (v : Venue) →

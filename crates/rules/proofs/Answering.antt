@@ -59,7 +59,7 @@ pub record Told (v : Venue) (n : ℕ) (bs : List ℕ) : Type 0 where
   pub ranged : Ranged (step v n bs .effect .venue)
   pub fits : FourBytes n → ForAll Fits (step v n bs .effect .reports)
 
-told-of : (n x : ℕ) (e : Effect) → x ≤ 8 → Writes e → FourBytes n → ForAll Fits (answered n x e .effect .reports)
+told-of : (n x : ℕ) (e : Effect) → x ≤ 13 → Writes e → FourBytes n → ForAll Fits (answered n x e .effect .reports)
 unfolding answered
 told-of n x e s w h =
     ((h, omega arith, mask-fits (e .venue .legging) (w .ranged .len), count-fits (e .venue .legging) (w .ranged .len)), w .fits)
@@ -67,14 +67,14 @@ told-of n x e s w h =
 pub told : (v : Venue) → Ranged v → (n : ℕ) (bs : List ℕ) → Told v n bs
 unfolding step answered
 told v r n bs =
-    let e = if eqb (refusal v bs) 0 then accept (messageOf bs) v else nothing v in
-    let w : Writes e = step-by Writes v bs (λ h. writes-accept (messageOf bs) v (accepted v bs h .range) r) (λ _. writes-nothing v r) in
+    let e = if eqb (refusal v bs) 0 then accept n (messageOf bs) v else nothing v in
+    let w : Writes e = step-by Writes v n bs (λ h. writes-accept n (messageOf bs) v (accepted v bs h .range) r) (λ _. writes-nothing v r) in
     record {
       mask = mask (e .venue .legging);
       count = filled (e .venue .legging);
       effects = e .reports;
       is = refl;
-      quiet = step-by Quiet v bs (λ _. quiet-accept (messageOf bs) v) (λ _. quiet-nothing v);
+      quiet = step-by Quiet v n bs (λ _. quiet-accept n (messageOf bs) v) (λ _. quiet-nothing v);
       ranged = w .ranged;
       fits = told-of n (refusal v bs) e (refusal-small v bs) w;
     }

@@ -14,13 +14,15 @@ use Rattle.rules.specs.declared.Complex.{Complex}
 use Rattle.rules.specs.declared.Regular.{Regular}
 use Rattle.rules.specs.declared.Venue.{Venue}
 use Rattle.rules.specs.Base.{held}
-use Rattle.rules.specs.Words.{buy, increment, isAway, isId, isPrice, isQuantity, leggingAt, noRegular, notListed, opposite, sell, signed, within}
+use Rattle.rules.specs.Words.{buy, isAway, isId, isPrice, isQuantity, leggingAt, noRegular, notListed, opposite, sell, signed, within}
+use Rattle.rules.specs.Settings.{increment}
 use Rattle.rules.specs.Records.{FourSigned}
 use Rattle.rules.specs.Prices.{away, bestIn, bestOwn, bestRegular, better, betterOf, clearPrice, displayed, inBand, marketBest, ownPrice, reaches, showsAt, taken1, taken2}
 use Rattle.rules.specs.Standing.{otherSize}
 use Rattle.rules.specs.Generation.{legPrice, newLegging, reachesAny}
 use Rattle.rules.specs.Refusals.{complexInRange}
 use Rattle.rules.specs.Sound.{listedInRange}
+use Rattle.rules.proofs.Editions.{dated-steps}
 use Rattle.rules.proofs.Cases.{if-by}
 use Rattle.rules.proofs.Generating.{Makes, zero-out}
 use Rattle.rules.proofs.Integers.{add-is, minus, neg-minus, neg-plus, plus}
@@ -99,10 +101,6 @@ pub shown-small : (low i d p : ℕ) → within low 100000 (displayed i d p) ≡ 
 unfolding within
 shown-small low i d p z = leb-true (displayed i d p) 100000 (and-r (leb low (displayed i d p)) _ z)
 
-pub increment-some : (s : ℕ) → 0 < increment s
-unfolding increment
-increment-some s = if-by (λ i. 0 < i) (ltb s 6) (λ _. omega arith) (λ _. omega arith)
-
 away-small : (v : Venue) → Ranged v → (s d : ℕ) → away v s d ≤ 100000
 unfolding away listedInRange isAway within
 away-small v r s d =
@@ -143,25 +141,25 @@ buy-small v s p r m inside outside =
     not-reached p _ (o .0) (omega arith) inside)
     (better-either sell (away v s sell) (bestRegular v s sell) m)
 
-pub price-small : (v : Venue) (c : Complex) (s d : ℕ) → d < 2 → Makes v c s d → held (marketBest v s (opposite d)) ≡ true → Ranged v → legPrice v c s d ≤ 100000
+pub price-small : (v : Venue) (c : Complex) (s d : ℕ) → s < 8 → d < 2 → Makes v c s d → held (marketBest v s (opposite d)) ≡ true → Ranged v → legPrice v c s d ≤ 100000
 unfolding opposite
-price-small v c s zero d2 m t r = buy-small v s (legPrice v c s 0) r t (m .inside) (m .outside)
-price-small v c s (suc zero) d2 m t r =
-    let x = shown-small _ (increment s) 1 (legPrice v c s 1) (m .range) in
-    let y = sell-shown (increment s) 1 (legPrice v c s 1) (increment-some s) refl in
+price-small v c s zero s8 d2 m t r = buy-small v s (legPrice v c s 0) r t (m .inside) (m .outside)
+price-small v c s (suc zero) s8 d2 m t r =
+    let x = shown-small _ (increment v s) 1 (legPrice v c s 1) (m .range) in
+    let y = sell-shown (increment v s) 1 (legPrice v c s 1) (dated-steps v (r .dated) s s8) refl in
     omega arith
-price-small v c s (suc (suc d)) d2 m t r = absurd (omega arith)
+price-small v c s (suc (suc d)) s8 d2 m t r = absurd (omega arith)
 
 -- the new order is in range
-pub new-fits : (v : Venue) (c : Complex) (s d : ℕ) → CxFits c → held (c .quantity) ≡ true → d < 2 → Makes v c s d → held (marketBest v s (opposite d)) ≡ true → Ranged v →
+pub new-fits : (v : Venue) (c : Complex) (s d : ℕ) → CxFits c → held (c .quantity) ≡ true → s < 8 → d < 2 → Makes v c s d → held (marketBest v s (opposite d)) ≡ true → Ranged v →
     LgFits (newLegging v c s d)
 unfolding newLegging complexInRange isId isPrice isQuantity within
-new-fits v c s d f h d2 m t r =
+new-fits v c s d f h s8 d2 m t r =
     let z = f .ok h in
     let i1 : leb 1 (c .id) ≡ true = search (and-l, and-r, z) depth 14 in
     let i2 : leb (c .id) 4294967295 ≡ true = search (and-l, and-r, z) depth 14 in
-    let p = held-pos (legPrice v c s d) (zero-out s d (legPrice v c s d) (m .range)) in
-    let u = price-small v c s d d2 m t r in
+    let p = held-pos (legPrice v c s d) (zero-out (increment v s) d (legPrice v c s d) (dated-steps v (r .dated) s s8) (m .range)) in
+    let u = price-small v c s d s8 d2 m t r in
     let q = f .quantity in
     let n : 0 < min (c .quantity) (otherSize v c s) = (let x = held-pos (c .quantity) h in let y = other-some v c s (m .clear) in omega arith) in
     record {

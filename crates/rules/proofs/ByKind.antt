@@ -7,7 +7,7 @@ use types.Run.{OneOf, miss}
 use denote.Enum.Declared.{tagOf}
 use Rattle.rules.proofs.Message.{the-type}
 use Rattle.rules.specs.declared.Message.{Message}
-use Rattle.rules.specs.declared.Message.the-variants.{Order, TwoLeg, Cancel, Away, Status, Sweep}
+use Rattle.rules.specs.declared.Message.the-variants.{Order, TwoLeg, Cancel, Away, Status, Sweep, Increment, Percent}
 use Rattle.rules.specs.Bytes.{bytes, framed}
 use Rattle.rules.specs.Messages.{lengthOf, messageKind, encodeMessage, KindLengths}
 
@@ -19,21 +19,37 @@ kind-lengths (Cancel id) = refl
 kind-lengths (Away s bid offer) = refl
 kind-lengths (Status s x) = refl
 kind-lengths Sweep = refl
+kind-lengths (Increment s i e) = refl
+kind-lengths (Percent x e) = refl
 
--- Matches in two halves: what a match of kinds 1 to 3 leaves is of a higher kind, and of these a match of 4 and 5 leaves the sweep. A case's place
--- among those declared is one less than its kind.
-pub kinds-left : (m : Message) → OneOf (3 ∷ 4 ∷ 5 ∷ []) (tagOf the-type m) → 3 < messageKind m
-kinds-left (Order o) h = absurd (miss (3 ∷ 4 ∷ 5 ∷ []) 0 tt h)
-kinds-left (TwoLeg c) h = absurd (miss (3 ∷ 4 ∷ 5 ∷ []) 1 tt h)
-kinds-left (Cancel id) h = absurd (miss (3 ∷ 4 ∷ 5 ∷ []) 2 tt h)
+-- Matches in three parts: what a match of kinds 1 to 3 leaves is of a higher kind, what one of 7 and 8 leaves of a lower, and of those between one of 4 and 5
+-- leaves the sweep. A case's place among those declared is one less than its kind.
+pub kinds-left : (m : Message) → OneOf (3 ∷ 4 ∷ 5 ∷ 6 ∷ 7 ∷ []) (tagOf the-type m) → 3 < messageKind m
+kinds-left (Order o) h = absurd (miss (3 ∷ 4 ∷ 5 ∷ 6 ∷ 7 ∷ []) 0 tt h)
+kinds-left (TwoLeg c) h = absurd (miss (3 ∷ 4 ∷ 5 ∷ 6 ∷ 7 ∷ []) 1 tt h)
+kinds-left (Cancel id) h = absurd (miss (3 ∷ 4 ∷ 5 ∷ 6 ∷ 7 ∷ []) 2 tt h)
 kinds-left (Away s bid offer) h = omega arith
 kinds-left (Status s x) h = omega arith
 kinds-left Sweep h = omega arith
+kinds-left (Increment s i e) h = omega arith
+kinds-left (Percent x e) h = omega arith
 
-pub sweep-left : (m : Message) → OneOf (0 ∷ 1 ∷ 2 ∷ 5 ∷ []) (tagOf the-type m) → 3 < messageKind m → m ≡ Sweep
-sweep-left (Order o) h k = absurd (omega arith)
-sweep-left (TwoLeg c) h k = absurd (omega arith)
-sweep-left (Cancel id) h k = absurd (omega arith)
-sweep-left (Away s bid offer) h k = absurd (miss (0 ∷ 1 ∷ 2 ∷ 5 ∷ []) 3 tt h)
-sweep-left (Status s x) h k = absurd (miss (0 ∷ 1 ∷ 2 ∷ 5 ∷ []) 4 tt h)
-sweep-left Sweep h k = refl
+pub sweep-left : (m : Message) → OneOf (0 ∷ 1 ∷ 2 ∷ 5 ∷ 6 ∷ 7 ∷ []) (tagOf the-type m) → 3 < messageKind m → messageKind m < 7 → m ≡ Sweep
+sweep-left (Order o) h k l = absurd (omega arith)
+sweep-left (TwoLeg c) h k l = absurd (omega arith)
+sweep-left (Cancel id) h k l = absurd (omega arith)
+sweep-left (Away s bid offer) h k l = absurd (miss (0 ∷ 1 ∷ 2 ∷ 5 ∷ 6 ∷ 7 ∷ []) 3 tt h)
+sweep-left (Status s x) h k l = absurd (miss (0 ∷ 1 ∷ 2 ∷ 5 ∷ 6 ∷ 7 ∷ []) 4 tt h)
+sweep-left Sweep h k l = refl
+sweep-left (Increment s i e) h k l = absurd (omega arith)
+sweep-left (Percent x e) h k l = absurd (omega arith)
+
+pub lower-left : (m : Message) → OneOf (0 ∷ 1 ∷ 2 ∷ 3 ∷ 4 ∷ 5 ∷ []) (tagOf the-type m) → messageKind m < 7
+lower-left (Order o) h = omega arith
+lower-left (TwoLeg c) h = omega arith
+lower-left (Cancel id) h = omega arith
+lower-left (Away s bid offer) h = omega arith
+lower-left (Status s x) h = omega arith
+lower-left Sweep h = omega arith
+lower-left (Increment s i e) h = absurd (miss (0 ∷ 1 ∷ 2 ∷ 3 ∷ 4 ∷ 5 ∷ []) 6 tt h)
+lower-left (Percent x e) h = absurd (miss (0 ∷ 1 ∷ 2 ∷ 3 ∷ 4 ∷ 5 ∷ []) 7 tt h)

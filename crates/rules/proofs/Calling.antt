@@ -1,6 +1,6 @@
 -- One message and the two calls, by their cases; a call's records fit the report memory, whatever the venue and the bytes.
 use mathlib.Core.Path.{_≡_, refl, sym}
-use mathlib.Core.Bool.{Bool, false, not, true}
+use mathlib.Core.Bool.{Bool, _&&_, false, not, true}
 use mathlib.Core.Logic.{_≢_}
 use mathlib.Core.List.{List, [], _++_, _∷_, append-assoc}
 use Prim.Native.Nat.{_-_, _<_, _≤_, suc, zero, ℕ}
@@ -17,16 +17,16 @@ use Rattle.rules.specs.Records.{Report, encode, encodeAll, sheet}
 use Rattle.rules.specs.Effects.{Effect, nothing}
 use Rattle.rules.specs.Refusals.{full, refusal, torn}
 use Rattle.rules.specs.Step.{StepOutcome, accept, answered, step}
-use Rattle.rules.specs.Sound.{sound}
+use Rattle.rules.specs.Sound.{follows, sound}
 use Rattle.rules.specs.Calls.{Outcome, after, called, ends, exceeds, one, oneFrom, run, runFrom}
 use Rattle.rules.proofs.Cases.{if-by}
 use Rattle.rules.proofs.Refusing.{not-torn, whole}
 use Rattle.rules.proofs.Tests.{or-false-l, or-false-r}
 
 -- one message: accepted, or refused and then nothing is done
-module _ {ℓ} (Q : Effect → Type ℓ) (v : Venue) (bs : List ℕ) where
-  pub step-by : (refusal v bs ≡ 0 → Q (accept (messageOf bs) v)) → (refusal v bs ≢ 0 → Q (nothing v)) →
-      Q (if eqb (refusal v bs) 0 then accept (messageOf bs) v else nothing v)
+module _ {ℓ} (Q : Effect → Type ℓ) (v : Venue) (number : ℕ) (bs : List ℕ) where
+  pub step-by : (refusal v bs ≡ 0 → Q (accept number (messageOf bs) v)) → (refusal v bs ≢ 0 → Q (nothing v)) →
+      Q (if eqb (refusal v bs) 0 then accept number (messageOf bs) v else nothing v)
   step-by accepts refuses = if-by Q (eqb (refusal v bs) 0) (λ e. accepts (eqb-true (refusal v bs) 0 e)) (λ e. refuses (eqb-false (refusal v bs) 0 e))
 
 -- a message that does not exceed: its number and its records fit
@@ -87,14 +87,18 @@ module _ {ℓ} (Q : Outcome → Type ℓ) (v : Venue) (n room : ℕ) (bs : List 
       go false a false b true c = last (within-room (suc n) room (e .reports) b) (eqb-true (x .refused) 1 c)
       go false a false b false c = on (within-room (suc n) room (e .reports) b) (eqb-false (x .refused) 1 c)
 
+  -- what a one-message call asks of the venue and of its number
+  abbrev pub taken : Bool
+  taken = sound v && follows (suc n) v
+
   -- a one-message call
-  pub oneFrom-by : (sound v ≡ false → Q (ends 9 v)) → (sound v ≡ true → exceeds (suc n) room (e .reports) ≡ true → Q (ends 10 v)) →
-      (sound v ≡ true → Done → Q (after e (ends (x .refused) (e .venue)))) →
+  pub oneFrom-by : (taken ≡ false → Q (ends 9 v)) → (taken ≡ true → exceeds (suc n) room (e .reports) ≡ true → Q (ends 10 v)) →
+      (taken ≡ true → Done → Q (after e (ends (x .refused) (e .venue)))) →
       Q (oneFrom v n room bs)
   unfolding oneFrom
-  oneFrom-by unsound full done = go (sound v) refl (exceeds (suc n) room (e .reports)) refl
+  oneFrom-by unsound full done = go taken refl (exceeds (suc n) room (e .reports)) refl
     where
-      go : (p : Bool) → sound v ≡ p → (q : Bool) → exceeds (suc n) room (e .reports) ≡ q →
+      go : (p : Bool) → taken ≡ p → (q : Bool) → exceeds (suc n) room (e .reports) ≡ q →
           Q (if not p then ends 9 v else if q then ends 10 v else after e (ends (x .refused) (e .venue)))
       go false a q b = unsound a
       go true a true b = full a b
@@ -123,11 +127,11 @@ unfolding runFrom
 run-none zero v n room = refl
 run-none (suc fuel) v n room = refl
 
--- upon a sound venue, a message that does not exceed is done
-pub oneFrom-done : (v : Venue) (n room : ℕ) (bs : List ℕ) → sound v ≡ true → exceeds (suc n) room (step v (suc n) bs .effect .reports) ≡ false →
+-- upon a sound venue, a message that follows and does not exceed is done
+pub oneFrom-done : (v : Venue) (n room : ℕ) (bs : List ℕ) → sound v ≡ true → follows (suc n) v ≡ true → exceeds (suc n) room (step v (suc n) bs .effect .reports) ≡ false →
     oneFrom v n room bs ≡ after (step v (suc n) bs .effect) (ends (step v (suc n) bs .refused) (step v (suc n) bs .effect .venue))
 unfolding oneFrom
-oneFrom-done v n room bs s e = rw (s, e)
+oneFrom-done v n room bs s f e = rw (s, f, e)
 
 -- The report memory ---------------------------------------------------------------------------
 

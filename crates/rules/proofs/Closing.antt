@@ -12,11 +12,12 @@ use Rattle.rules.specs.declared.Regular.{Regular}
 use Rattle.rules.specs.declared.Complex.{Complex}
 use Rattle.rules.specs.declared.Legging.{Legging}
 use Rattle.rules.specs.declared.Venue.{Venue}
-use Rattle.rules.specs.Base.{if_then_else_, held}
+use Rattle.rules.specs.Base.{if_then_else_, held, keep}
 use Rattle.rules.specs.Words.{noRegular, noComplex, withRegular, withComplex, leggingAt, statusOf, isComplexOf}
+use Rattle.rules.specs.Settings.{figureNow, increment, percent}
 use Rattle.rules.specs.Prices.{betterOf, shown, showsAt, bestIn, sizeIn, bestRegular, bestSize, clearPrice, away, marketBest, taken1, taken2, inBand, showsFor}
 use Rattle.rules.specs.Standing.{findComplex, parentOf, bothOpen, shownWell, pairs, verdictOf, verdict, otherClear, otherSize}
-use Rattle.rules.specs.Places.{holdsRegular, holdsComplex, keep, packed, closeGaps}
+use Rattle.rules.specs.Places.{holdsRegular, holdsComplex, packed, closeGaps}
 
 -- Places --------------------------------------------------------------------------------------
 
@@ -248,11 +249,11 @@ module _ (v : Venue) where
 
   pub band-closed : (c : Complex) (n : ℤ) → inBand (closeGaps v) c n ≡ inBand v c n
   unfolding inBand taken1 taken2
-  band-closed c n = simp market-closed
+  band-closed c n = simp market-closed (unfold percent figureNow closeGaps withRegular withComplex in refl)
 
   pub shown-closed : (s d p : ℕ) → shownWell (closeGaps v) s d p ≡ shownWell v s d p
   unfolding shownWell
-  shown-closed s d p = rw best-closed
+  shown-closed s d p = rw best-closed (unfold increment figureNow closeGaps withRegular withComplex in refl)
 
   pub pairs-closed : (c : Complex) (s d p k : ℕ) → pairs (closeGaps v) c s d p k ≡ pairs v c s d p k
   unfolding pairs otherClear otherSize

@@ -10,7 +10,7 @@ use lib.ListN.{length, take, drop, length-append, List·getD-append, take-append
 use borrow.Author.Tests.{eqb-true}
 use Rattle.rules.specs.declared.Venue.{Venue}
 use Rattle.rules.specs.declared.Message.{Message}
-use Rattle.rules.specs.declared.Message.the-variants.{Order, TwoLeg, Cancel, Away, Status, Sweep}
+use Rattle.rules.specs.declared.Message.the-variants.{Order, TwoLeg, Cancel, Away, Status, Sweep, Increment, Percent}
 use Rattle.rules.specs.declared.Decoded.{Decoded}
 use Rattle.rules.specs.declared.Decoded.the-variants.{Taken, Refused}
 use Rattle.rules.specs.Base.{if_then_else_}
@@ -66,28 +66,35 @@ module _ (m rest : List ℕ) where
   unfolding kindField
   kind-same h = u16-same 2 (omega arith)
 
-  message-same : 4 ≤ length m → lengthOf (kindField m) ≤ length m → messageOf (m ++ rest) ≡ messageOf m
+  message-same : 4 ≤ length m → (4 ≤ lengthOf (kindField m)) × (lengthOf (kindField m) ≤ length m) → messageOf (m ++ rest) ≡ messageOf m
   unfolding messageOf lengthOf
-  message-same h le = rw (kind-same h) (go (eqb k 1) (eqb k 2) (eqb k 3) (eqb k 4) (eqb k 5) (eqb k 6) le)
+  message-same h le = rw (kind-same h) (go (eqb k 1) (eqb k 2) (eqb k 3) (eqb k 4) (eqb k 5) (eqb k 6) (eqb k 7) (eqb k 8) le)
     where
       k : ℕ
       k = kindField m
 
-      go : (a b c d e f : Bool) →
-          (if a then 18 else if b then 21 else if c then 8 else if d then 13 else if e then 6 else if f then 4 else 0) ≤ length m →
+      go : (a b c d e f g h : Bool) →
+          (let n : ℕ = if a then 18 else if b then 21 else if c then 8 else if d then 13 else if e then 6 else if f then 4 else if g then 10 else if h then 9 else 0 in
+          (4 ≤ n) × (n ≤ length m)) →
           _≡_ {A = Message}
           (if a then Order (orderAt (m ++ rest)) else if b then TwoLeg (twoLegAt (m ++ rest)) else if c then Cancel (u32At (m ++ rest) 4)
           else if d then Away (u8At (m ++ rest) 4) (u32At (m ++ rest) 5) (u32At (m ++ rest) 9)
-          else if e then Status (u8At (m ++ rest) 4) (u8At (m ++ rest) 5) else Sweep)
+          else if e then Status (u8At (m ++ rest) 4) (u8At (m ++ rest) 5) else if f then Sweep
+          else if g then Increment (u8At (m ++ rest) 4) (u8At (m ++ rest) 5) (u32At (m ++ rest) 6)
+          else Percent (u8At (m ++ rest) 4) (u32At (m ++ rest) 5))
           (if a then Order (orderAt m) else if b then TwoLeg (twoLegAt m) else if c then Cancel (u32At m 4)
           else if d then Away (u8At m 4) (u32At m 5) (u32At m 9)
-          else if e then Status (u8At m 4) (u8At m 5) else Sweep)
-      go true b c d e f le = rw (order-same le)
-      go false true c d e f le = rw (complex-same le)
-      go false false true d e f le = rw (u32-same 4 (omega arith))
-      go false false false true e f le = rw (u8-same 4 (omega arith), u32-same 5 (omega arith), u32-same 9 (omega arith))
-      go false false false false true f le = rw (u8-same 4 (omega arith), u8-same 5 (omega arith))
-      go false false false false false f le = refl
+          else if e then Status (u8At m 4) (u8At m 5) else if f then Sweep
+          else if g then Increment (u8At m 4) (u8At m 5) (u32At m 6) else Percent (u8At m 4) (u32At m 5))
+      go true b c d e f g h le = rw (order-same (le .1))
+      go false true c d e f g h le = rw (complex-same (le .1))
+      go false false true d e f g h le = let q = le .1 in rw (u32-same 4 (omega arith))
+      go false false false true e f g h le = let q = le .1 in rw (u8-same 4 (omega arith), u32-same 5 (omega arith), u32-same 9 (omega arith))
+      go false false false false true f g h le = let q = le .1 in rw (u8-same 4 (omega arith), u8-same 5 (omega arith))
+      go false false false false false true g h le = refl
+      go false false false false false false true h le = let q = le .1 in rw (u8-same 4 (omega arith), u8-same 5 (omega arith), u32-same 6 (omega arith))
+      go false false false false false false false true le = let q = le .1 in rw (u8-same 4 (omega arith), u32-same 5 (omega arith))
+      go false false false false false false false false le = let q = le .0 in absurd (omega arith)
 
   module _ (w : Whole m) where
     four : 4 ≤ length m
@@ -104,7 +111,8 @@ module _ (m rest : List ℕ) where
     fits-kind e =
         let l = eqb-true (lengthField m) (lengthOf (kindField m)) e in
         let b = w .1 in
-        message-same four (omega arith)
+        let a = w .0 in
+        message-same four (omega arith, omega arith)
 
     decoded-same : decoded (m ++ rest) ≡ decoded m
     unfolding decoded
@@ -130,7 +138,7 @@ module _ (m rest : List ℕ) where
     step-same v number = rw (refusal-same v) (go (eqb (refusal v m) 0) refl)
       where
         go : (b : Bool) → eqb (refusal v m) 0 ≡ b →
-            answered number (refusal v m) (if b then accept (messageOf (m ++ rest)) v else nothing v) ≡ answered number (refusal v m) (if b then accept (messageOf m) v else nothing v)
+            answered number (refusal v m) (if b then accept number (messageOf (m ++ rest)) v else nothing v) ≡ answered number (refusal v m) (if b then accept number (messageOf m) v else nothing v)
         go true e = rw (fits-kind (accepted-length v m (eqb-true (refusal v m) 0 e)))
         go false e = refl
 

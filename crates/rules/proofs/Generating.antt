@@ -3,16 +3,16 @@ use mathlib.Core.Path.{_≡_, refl}
 use mathlib.Core.Bool.{Bool, true, false, not, _&&_, _||_, false≢true}
 use mathlib.Core.Logic.{_≢_}
 use mathlib.Core.List.{List, [], _∷_}
-use Prim.Native.Nat.{ℕ, zero, suc, _+_, _-_, _*_, _/_, _%_, _≤_, _<_}
+use Prim.Native.Nat.{ℕ, zero, suc, _+_, _-_, _/_, _%_, _≤_, _<_}
 use native.Mathlib.Omega.{arith}
-use lib.Dec.{leb, ltb, eqb, eqb·suc-zero}
+use lib.Dec.{eqb, eqb·suc-zero}
 use native.Mathlib.Decide.{ℕ-discrete}
 use lib.IntN.{ℤ, pos, negsuc, negℤ, _+ℤ_, negℤ-negℤ, -ℤ-+ℤ-cancel}
 use lib.Signed.{leZ}
 use lib.ListN.{length, getD, set}
 use lib.Seq.{getD-set-other, getD-set-same}
-use native.Mathlib.Nat.{min-le-right, add-zero, add-suc, suc-add, zero-add}
-use borrow.Author.Tests.{le-leb, ne-eqb}
+use native.Mathlib.Nat.{min-le-right, div-eq-of-lt, zero-mul, add-zero, add-suc, suc-add, zero-add}
+use borrow.Author.Tests.{le-leb, leb-true, ne-eqb}
 use Rattle.rules.specs.declared.Complex.{Complex}
 use Rattle.rules.specs.declared.Legging.{Legging}
 use Rattle.rules.specs.declared.Venue.{Venue}
@@ -20,10 +20,12 @@ use Rattle.rules.specs.declared.Verdict.{Verdict}
 use Rattle.rules.specs.declared.Verdict.the-variants.{Stands, Fails}
 use Rattle.rules.specs.declared.Cause.the-variants.{Replaced}
 use Rattle.rules.proofs.Tests.{and-l, and-r, or-r, if-same}
+use Rattle.rules.proofs.Cases.{if-by}
 use Rattle.rules.proofs.Settling.{free-stands}
 use Rattle.rules.proofs.Verdicts.{Passes, passing}
 use Rattle.rules.specs.Base.{if_then_else_, held}
-use Rattle.rules.specs.Words.{within, buy, opposite, signed, increment, noLegging, placeOf, leggingAt, statusOf, withLegging}
+use Rattle.rules.specs.Words.{within, buy, opposite, signed, noLegging, placeOf, leggingAt, statusOf, withLegging}
+use Rattle.rules.specs.Settings.{figureNow, increment, percent}
 use Rattle.rules.specs.Effects.{_⟫_, report, nothing}
 use Rattle.rules.specs.Prices.{bestRegular, bestSize, clearPrice, bestOwn, displayed, marketBest, away, taken1, taken2, inBand}
 use Rattle.rules.specs.Removal.{stay, stayers, remove, failIf}
@@ -50,19 +52,19 @@ leZ-refl (pos n) = le-leb n n (omega arith)
 leZ-refl (negsuc n) = le-leb n n (omega arith)
 
 -- a price of 0 is shown as 0, which is below the increment
-pub zero-out : (s d p : ℕ) → within (increment s) 100000 (displayed (increment s) d p) ≡ true → held p ≡ true
-unfolding within displayed increment
-zero-out s d zero h = go (ltb s 6) (eqb d buy) h
+zero-shown : (i d : ℕ) → 0 < i → displayed i d 0 ≡ 0
+unfolding displayed
+zero-shown i d h =
+    if-by (λ x. x ≡ 0) (eqb d buy) (λ _. rw (below 0 i (omega arith), zero-mul))
+    (λ _. rw (below (0 + (i - 1)) i (omega arith), zero-mul))
   where
-    go : (a b : Bool) →
-        (let i = if a then 5 else 10 in
-        let x = if b then 0 / i * i else (0 + (i - 1)) / i * i in
-        leb i x && leb x 100000) ≡ true → held 0 ≡ true
-    go true true e = e
-    go true false e = e
-    go false true e = e
-    go false false e = e
-zero-out s d (suc p) h = rw eqb·suc-zero
+    below : (a b : ℕ) → a < b → a / b ≡ 0
+    below a b l = div-eq-of-lt l
+
+pub zero-out : (i d p : ℕ) → 0 < i → within i 100000 (displayed i d p) ≡ true → held p ≡ true
+unfolding within
+zero-out i d zero k h = let z = leb-true i 0 (and-l _ _ (rw (zero-shown i d k) at h)) in absurd (omega arith)
+zero-out i d (suc p) k h = rw eqb·suc-zero
 
 -- at its own price, a leg nets to N with the other leg's clear price
 leg-nets : (v : Venue) (c : Complex) (s d : ℕ) → held (legPrice v c s d) ≡ true →
@@ -102,7 +104,7 @@ pub record Makes (v : Venue) (c : Complex) (s d : ℕ) : Type 0 where
   pub opens : bothOpen v c ≡ true
   pub band : inBand v c (c .limit) ≡ true
   pub clear : held (otherClear v c s) ≡ true
-  pub range : within (increment s) 100000 (displayed (increment s) d (legPrice v c s d)) ≡ true
+  pub range : within (increment v s) 100000 (displayed (increment v s) d (legPrice v c s d)) ≡ true
   pub shown : shownWell v s d (legPrice v c s d) ≡ true
   pub inside : not (reachesAny d (legPrice v c s d) (bestOwn v s (opposite d))) ≡ true
   pub outside : not (reachesAny d (legPrice v c s d) (away v s (opposite d))) ≡ true
@@ -124,16 +126,16 @@ module _ (v : Venue) (c : Complex) (s d : ℕ) where
   after = placed (placeOf s d) new v
 
   -- k contracts of the other leg can be had, at a net of N
-  new-pairs : Makes v c s d → pairs v c s d (new .price) (new .quantity) ≡ true
+  new-pairs : 0 < increment v s → Makes v c s d → pairs v c s d (new .price) (new .quantity) ≡ true
   unfolding pairs newLegging
-  new-pairs m =
-      rw (m .clear, leg-nets v c s d (zero-out s d _ (m .range)), leZ-refl, le-leb _ _ (min-le-right (c .quantity) (otherSize v c s)))
+  new-pairs k m =
+      rw (m .clear, leg-nets v c s d (zero-out (increment v s) d _ k (m .range)), leZ-refl, le-leb _ _ (min-le-right (c .quantity) (otherSize v c s)))
 
-  new-passes : d < 2 → opposite (otherLeg c s .side) < 2 → s ≢ otherLeg c s .series → Makes v c s d → Passes after c s d new
-  unfolding shownWell bestRegular placed withLegging newLegging inBand taken1 taken2 marketBest away bothOpen statusOf
-  new-passes d2 e2 ne m = record {
+  new-passes : 0 < increment v s → d < 2 → opposite (otherLeg c s .side) < 2 → s ≢ otherLeg c s .series → Makes v c s d → Passes after c s d new
+  unfolding shownWell increment percent figureNow bestRegular placed withLegging newLegging inBand taken1 taken2 marketBest away bothOpen statusOf
+  new-passes k d2 e2 ne m = record {
     shown = m .shown;
-    pair = rw (pairs-elsewhere (placeOf s d) new v, place-apart s _ d _ d2 e2 ne) (new-pairs m);
+    pair = rw (pairs-elsewhere (placeOf s d) new v, place-apart s _ d _ d2 e2 ne) (new-pairs k m);
     band = m .band;
     opens = m .opens;
   }
@@ -183,13 +185,13 @@ others-stand w m n (l ∷ ls) (suc i) h ne =
 
 -- Generation keeps every legging order standing -----------------------------------------------
 
-module _ (v : Venue) (c : Complex) (s d : ℕ)
+module _ (v : Venue) (c : Complex) (s d : ℕ) (step : 0 < increment v s)
     (d2 : d < 2) (e2 : opposite (otherLeg c s .side) < 2) (ne : s ≢ otherLeg c s .series)
     (own : findComplex (c .id) (v .complex) ≡ c) (fits : placeOf s d < length (v .legging)) where
   new-stands : Makes v c s d → verdict (after v c s d) (placeOf s d) (new v c s d) ≡ Stands
   unfolding verdict parentOf placed withLegging newLegging
   new-stands m =
-      rw (own, place-series s d d2, place-side s d d2, passing (new-passes v c s d d2 e2 ne m), if-same)
+      rw (own, place-series s d d2, place-side s d d2, passing (new-passes v c s d step d2 e2 ne m), if-same)
 
   after-stands : Makes v c s d → AllStand (after v c s d)
   unfolding AllStand placed withLegging

@@ -3,15 +3,15 @@ use mathlib.Core.Path.{_≡_, refl, sym, ap, ap₂, _∙_}
 use mathlib.Core.Bool.{Bool, true, false}
 use Prim.Native.Nat.{ℕ, _+_, _-_, _*_, _/_, _≤_, _<_}
 use native.Mathlib.Omega.{arith}
-use native.Mathlib.Nat.{mul-add, mul-zero}
-use lib.Dec.{leb, ltb, eqb}
+use native.Mathlib.Nat.{mul-add, mul-le-mul-right, mul-zero}
+use lib.Dec.{leb, eqb}
 use lib.IntN.{ℤ, pos, negsuc, natAbs, negℤ, _+ℤ_, _-ℤ_, _*ℤ_, +ℤ-idl}
 use lib.Signed.{leZ}
 use mir.Syntax.{w32, w64}
 use mir.Val.{SFits, toZ, ofZ}
 use mir.ValLaws.{toZ-ofZ}
 use Rattle.rules.specs.Base.{if_then_else_}
-use Rattle.rules.specs.Words.{signed, increment}
+use Rattle.rules.specs.Words.{signed}
 use Rattle.rules.specs.Prices.{displayed, nearNet}
 use Rattle.rules.proofs.Integers.{plus, minus, add-is, abs-is, abs-add, abs-neg, mul-plus, mul-minus, le-is, leb-same}
 
@@ -65,46 +65,113 @@ mul-fits k {z} f h =
 
 -- The band ------------------------------------------------------------------------------------
 
--- k t ≤ m o, as the machine tests it
-module _ (k m : ℕ) {t o : ℤ} (ft : SFits w64 t) (fo : SFits w64 o) where
-  pub tested : SFits w64 (pos k *ℤ toZ w64 (ofZ w64 t)) → SFits w64 (pos m *ℤ toZ w64 (ofZ w64 o)) →
-      leZ (toZ w64 (ofZ w64 (pos k *ℤ toZ w64 (ofZ w64 t)))) (toZ w64 (ofZ w64 (pos m *ℤ toZ w64 (ofZ w64 o))))
-      ≡ leb (k * plus t + m * minus o) (m * plus o + k * minus t)
-  tested gt go =
-      ap₂ leZ (back gt ∙ ap (λ (z : ℤ). pos k *ℤ z) (back ft)) (back go ∙ ap (λ (z : ℤ). pos m *ℤ z) (back fo))
-      ∙ le-is (pos k *ℤ t) (pos m *ℤ o)
-      ∙ rw (mul-plus k t, mul-minus k t, mul-plus m o, mul-minus m o) refl
-
 -- 100 t ≤ 100 o + x |o|, as a test of numbers
 near-is : (x : ℕ) (o t : ℤ) →
     nearNet x o t ≡ leb (100 * plus t + minus (pos 100 *ℤ o +ℤ pos (x * natAbs o))) (plus (pos 100 *ℤ o +ℤ pos (x * natAbs o)) + 100 * minus t)
 unfolding nearNet
 near-is x o t = le-is (pos 100 *ℤ t) (pos 100 *ℤ o +ℤ pos (x * natAbs o)) ∙ rw (mul-plus 100 t, mul-minus 100 t) refl
 
--- of a credit the band is 95 o, of a debit 105 o
-pub near-credit : (o t : ℤ) → plus o ≡ 0 → leb (100 * plus t + 95 * minus o) (95 * plus o + 100 * minus t) ≡ nearNet 5 o t
-unfolding plus minus
-near-credit o t h =
-    let a = add-is (pos 100 *ℤ o) (pos (5 * natAbs o)) in
-    let p = mul-plus 100 o in
-    let m = mul-minus 100 o in
-    let n = abs-is o in
-    leb-same (100 * plus t + 95 * minus o) (95 * plus o + 100 * minus t)
-    (100 * plus t + minus (pos 100 *ℤ o +ℤ pos (5 * natAbs o))) (plus (pos 100 *ℤ o +ℤ pos (5 * natAbs o)) + 100 * minus t)
-    (omega arith) (omega arith)
-    ∙ sym (near-is 5 o t)
+-- x |o| by its parts, one of which is 0
+by-parts : (x : ℕ) (o : ℤ) → x * natAbs o ≡ x * plus o + x * minus o
+by-parts x o = ap (λ (n : ℕ). x * n) (abs-is o) ∙ mul-add x (plus o) (minus o)
 
-pub near-debit : (o t : ℤ) → minus o ≡ 0 → leb (100 * plus t + 105 * minus o) (105 * plus o + 100 * minus t) ≡ nearNet 5 o t
+none-of : (x n : ℕ) → n ≡ 0 → x * n ≡ 0
+none-of x n h = rw h (mul-zero x)
+
+-- of a credit it is 100 t + x o ≤ 100 o, of a debit 100 t ≤ 100 o + x o
+near-credit : (x : ℕ) (o t : ℤ) → plus o ≡ 0 → leZ (pos 100 *ℤ t +ℤ pos x *ℤ o) (pos 100 *ℤ o) ≡ nearNet x o t
 unfolding plus minus
-near-debit o t h =
-    let a = add-is (pos 100 *ℤ o) (pos (5 * natAbs o)) in
+near-credit x o t h =
+    let a = add-is (pos 100 *ℤ t) (pos x *ℤ o) in
+    let b = add-is (pos 100 *ℤ o) (pos (x * natAbs o)) in
     let p = mul-plus 100 o in
     let m = mul-minus 100 o in
-    let n = abs-is o in
-    leb-same (100 * plus t + 105 * minus o) (105 * plus o + 100 * minus t)
-    (100 * plus t + minus (pos 100 *ℤ o +ℤ pos (5 * natAbs o))) (plus (pos 100 *ℤ o +ℤ pos (5 * natAbs o)) + 100 * minus t)
+    let p′ = mul-plus 100 t in
+    let m′ = mul-minus 100 t in
+    let q = mul-plus x o in
+    let n = mul-minus x o in
+    let y = by-parts x o in
+    let z = none-of x (plus o) h in
+    le-is (pos 100 *ℤ t +ℤ pos x *ℤ o) (pos 100 *ℤ o)
+    ∙ leb-same (plus (pos 100 *ℤ t +ℤ pos x *ℤ o) + minus (pos 100 *ℤ o)) (plus (pos 100 *ℤ o) + minus (pos 100 *ℤ t +ℤ pos x *ℤ o))
+    (100 * plus t + minus (pos 100 *ℤ o +ℤ pos (x * natAbs o))) (plus (pos 100 *ℤ o +ℤ pos (x * natAbs o)) + 100 * minus t)
     (omega arith) (omega arith)
-    ∙ sym (near-is 5 o t)
+    ∙ sym (near-is x o t)
+
+near-debit : (x : ℕ) (o t : ℤ) → minus o ≡ 0 → leZ (pos 100 *ℤ t) (pos 100 *ℤ o +ℤ pos x *ℤ o) ≡ nearNet x o t
+unfolding plus minus
+near-debit x o t h =
+    let a = add-is (pos 100 *ℤ o) (pos x *ℤ o) in
+    let b = add-is (pos 100 *ℤ o) (pos (x * natAbs o)) in
+    let p = mul-plus 100 o in
+    let m = mul-minus 100 o in
+    let p′ = mul-plus 100 t in
+    let m′ = mul-minus 100 t in
+    let q = mul-plus x o in
+    let n = mul-minus x o in
+    let y = by-parts x o in
+    let z = none-of x (minus o) h in
+    le-is (pos 100 *ℤ t) (pos 100 *ℤ o +ℤ pos x *ℤ o)
+    ∙ leb-same (plus (pos 100 *ℤ t) + minus (pos 100 *ℤ o +ℤ pos x *ℤ o)) (plus (pos 100 *ℤ o +ℤ pos x *ℤ o) + minus (pos 100 *ℤ t))
+    (100 * plus t + minus (pos 100 *ℤ o +ℤ pos (x * natAbs o))) (plus (pos 100 *ℤ o +ℤ pos (x * natAbs o)) + 100 * minus t)
+    (omega arith) (omega arith)
+    ∙ sym (near-is x o t)
+
+-- the machine's test, for a percentage of one byte and nets of two prices
+module _ (x : ℕ) (small : x < 256) {o t : ℤ} (fo : SFits w64 o) (ft : SFits w64 t) (os : natAbs o ≤ 8589934590) (ts : natAbs t ≤ 8589934590) where
+  -- what the machine has of o, of t and of x
+  abbrev O : ℤ
+  O = toZ w64 (ofZ w64 o)
+
+  abbrev T : ℤ
+  T = toZ w64 (ofZ w64 t)
+
+  abbrev X : ℤ
+  X = toZ w64 x
+
+  x-is : X ≡ pos x
+  x-is = cast-of x (omega arith)
+
+  below : x * natAbs o ≤ 255 * natAbs o
+  below = mul-le-mul-right (natAbs o) (omega arith)
+
+  pub part-fits : SFits w64 (X *ℤ O)
+  part-fits = rw x-is (mul-fits x fo (let z = below in omega arith))
+
+  pub hundred-o : SFits w64 (pos 100 *ℤ O)
+  hundred-o = mul-fits 100 fo (omega arith)
+
+  pub hundred-t : SFits w64 (pos 100 *ℤ T)
+  hundred-t = mul-fits 100 ft (omega arith)
+
+  size : (k : ℕ) (z : ℤ) → natAbs (pos k *ℤ z) ≡ k * natAbs z
+  size k z = rw (abs-is (pos k *ℤ z), mul-plus k z, mul-minus k z, ← mul-add k (plus z) (minus z), ← abs-is z) refl
+
+  small-100 : {z : ℤ} → SFits w64 z → natAbs z ≤ 8589934590 → natAbs (pos 100 *ℤ toZ w64 (ofZ w64 z)) ≤ 858993459000
+  small-100 {z} f h = rw (back f, size 100 z) (omega arith)
+
+  small-part : natAbs (X *ℤ O) ≤ 2190433320450
+  small-part = rw (x-is, back fo, size x o) (let z = below in omega arith)
+
+  pub credit-fits : SFits w64 (toZ w64 (ofZ w64 (pos 100 *ℤ T)) +ℤ toZ w64 (ofZ w64 (X *ℤ O)))
+  credit-fits = sum-fits hundred-t part-fits (let a = small-100 ft ts in let b = small-part in omega arith)
+
+  pub debit-fits : SFits w64 (toZ w64 (ofZ w64 (pos 100 *ℤ O)) +ℤ toZ w64 (ofZ w64 (X *ℤ O)))
+  debit-fits = sum-fits hundred-o part-fits (let a = small-100 fo os in let b = small-part in omega arith)
+
+  pub credit-ok : plus o ≡ 0 →
+      leZ (toZ w64 (ofZ w64 (toZ w64 (ofZ w64 (pos 100 *ℤ T)) +ℤ toZ w64 (ofZ w64 (X *ℤ O))))) (toZ w64 (ofZ w64 (pos 100 *ℤ O))) ≡ nearNet x o t
+  credit-ok h =
+      ap₂ leZ (sum-ok hundred-t part-fits credit-fits ∙ ap₂ (λ (a b : ℤ). a +ℤ b) (ap (λ (z : ℤ). pos 100 *ℤ z) (back ft)) (ap₂ (λ (a b : ℤ). a *ℤ b) x-is (back fo)))
+      (back hundred-o ∙ ap (λ (z : ℤ). pos 100 *ℤ z) (back fo))
+      ∙ near-credit x o t h
+
+  pub debit-ok : minus o ≡ 0 →
+      leZ (toZ w64 (ofZ w64 (pos 100 *ℤ T))) (toZ w64 (ofZ w64 (toZ w64 (ofZ w64 (pos 100 *ℤ O)) +ℤ toZ w64 (ofZ w64 (X *ℤ O))))) ≡ nearNet x o t
+  debit-ok h =
+      ap₂ leZ (back hundred-t ∙ ap (λ (z : ℤ). pos 100 *ℤ z) (back ft))
+      (sum-ok hundred-o part-fits debit-fits ∙ ap₂ (λ (a b : ℤ). a +ℤ b) (ap (λ (z : ℤ). pos 100 *ℤ z) (back fo)) (ap₂ (λ (a b : ℤ). a *ℤ b) x-is (back fo)))
+      ∙ near-debit x o t h
 
 -- Signs ---------------------------------------------------------------------------------------
 
@@ -115,15 +182,6 @@ abs-if false p = abs-neg (pos p)
 pub abs-signed : (d p : ℕ) → natAbs (signed d (pos p)) ≡ p
 unfolding signed
 abs-signed d p = abs-if (eqb d 0) p
-
--- an increment is 5 or 10
-increment-if : (b : Bool) → (5 ≤ (if b then 5 else 10)) × ((if b then 5 else 10) ≤ 10)
-increment-if true = (omega arith, omega arith)
-increment-if false = (omega arith, omega arith)
-
-pub increment-small : (s : ℕ) → (5 ≤ increment s) × (increment s ≤ 10)
-unfolding increment
-increment-small s = increment-if (ltb s 6)
 
 -- Displayed prices ----------------------------------------------------------------------------
 

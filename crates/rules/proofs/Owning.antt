@@ -12,7 +12,7 @@ use Rattle.rules.specs.declared.Regular.{Regular}
 use Rattle.rules.specs.declared.Venue.{Venue}
 use Rattle.rules.specs.declared.Verdict.{Verdict}
 use Rattle.rules.specs.Base.{held, if_then_else_}
-use Rattle.rules.specs.Words.{isPrice, isRegularPrice, leggingAt, noLegging, placeOf, regularAt, withComplex, withLegging, withRegular, within}
+use Rattle.rules.specs.Words.{isPrice, leggingAt, noLegging, placeOf, regularAt, withComplex, withLegging, withRegular, within}
 use Rattle.rules.specs.Prices.{bestIn, bestOwn, bestRegular, better, betterOf, ownPrice, restsAt}
 use Rattle.rules.specs.Removal.{remove}
 use Rattle.rules.specs.Trading.{fillComplex, fillRegular}
@@ -122,7 +122,7 @@ own-closed v {s} {d} (byLegging h e) =
 -- The best own price --------------------------------------------------------------------------
 
 regular-pos : (o : Regular) → RegFits o → held (o .quantity) ≡ true → 0 < o .price
-unfolding regularInRange isRegularPrice isPrice within
+unfolding regularInRange isPrice within
 regular-pos o f h = let z = f .ok h in leb-true 1 (o .price) (search (and-l, and-r, z) depth 12)
 
 legging-pos : (l : Legging) → LgFits l → held (l .quantity) ≡ true → 0 < l .price

@@ -10,7 +10,7 @@ use Rattle.rules.specs.declared.Complex.{Complex}
 use Rattle.rules.specs.declared.Legging.{Legging}
 use Rattle.rules.specs.declared.Venue.{Venue}
 use Rattle.rules.specs.declared.Message.{Message}
-use Rattle.rules.specs.declared.Message.the-variants.{Order, TwoLeg, Cancel, Away, Status, Sweep}
+use Rattle.rules.specs.declared.Message.the-variants.{Order, TwoLeg, Cancel, Away, Status, Sweep, Increment, Percent}
 use Rattle.rules.specs.declared.Cause.{Cause}
 use Rattle.rules.specs.declared.Verdict.{Verdict}
 use Rattle.rules.specs.Base.{held}
@@ -190,16 +190,18 @@ quiet-work i v =
     if-by Quiet (anyClosed v (complexAt v i)) (λ _. all-nothing NoAnswer no-answer v)
     (λ _. all-then NoAnswer no-answer _ _ (all-then NoAnswer no-answer _ _ (all-repeat NoAnswer no-answer _ (quiet-crossTurn i) n v) (all-touch NoAnswer no-answer i _)) (all-legging NoAnswer no-answer i n _))
 
-quiet-perform : (m : Message) (v : Venue) → Quiet (perform m v)
+quiet-perform : (number : ℕ) (m : Message) (v : Venue) → Quiet (perform number m v)
 unfolding perform complex sweep
-quiet-perform (Order o) v = all-order NoAnswer no-answer o _
-quiet-perform (TwoLeg c) v = all-then NoAnswer no-answer _ _ (all-then NoAnswer no-answer _ _ (quiet-work _ _) (all-settle NoAnswer no-answer _)) (all-generate NoAnswer no-answer _ _)
-quiet-perform (Cancel id) v = all-cancel NoAnswer no-answer id v
-quiet-perform (Away s bid offer) v = all-settle NoAnswer no-answer _
-quiet-perform (Status s x) v = all-settle NoAnswer no-answer _
-quiet-perform Sweep v =
+quiet-perform number (Order o) v = all-order NoAnswer no-answer o _
+quiet-perform number (TwoLeg c) v = all-then NoAnswer no-answer _ _ (all-then NoAnswer no-answer _ _ (quiet-work _ _) (all-settle NoAnswer no-answer _)) (all-generate NoAnswer no-answer _ _)
+quiet-perform number (Cancel id) v = all-cancel NoAnswer no-answer id v
+quiet-perform number (Away s bid offer) v = all-settle NoAnswer no-answer _
+quiet-perform number (Status s x) v = all-settle NoAnswer no-answer _
+quiet-perform number Sweep v =
     all-then NoAnswer no-answer _ _ (all-then NoAnswer no-answer _ _ (all-each NoAnswer no-answer work quiet-work 32 0 v) (all-settle NoAnswer no-answer _)) (all-each NoAnswer no-answer generate (all-generate NoAnswer no-answer) 32 0 _)
+quiet-perform number (Increment s i e) v = all-settle NoAnswer no-answer _
+quiet-perform number (Percent x e) v = all-settle NoAnswer no-answer _
 
-pub quiet-accept : (m : Message) (v : Venue) → Quiet (accept m v)
+pub quiet-accept : (number : ℕ) (m : Message) (v : Venue) → Quiet (accept number m v)
 unfolding accept
-quiet-accept m v = all-then NoAnswer no-answer (perform m v) (λ w. nothing (closeGaps w)) (quiet-perform m v) (all-nothing NoAnswer no-answer _)
+quiet-accept number m v = all-then NoAnswer no-answer (perform number m v) (λ w. nothing (closeGaps w)) (quiet-perform number m v) (all-nothing NoAnswer no-answer _)

@@ -1,8 +1,9 @@
--- Refusals: what an accepted message has passed, what a message that is not torn has, and that a refusal is at most 8.
+-- Refusals: what an accepted message has passed, what a message that is not torn has, and that a refusal is at most 13.
 use mathlib.Core.Path.{_≡_, refl, sym}
 use mathlib.Core.Bool.{Bool, true, false, not, _||_}
+use mathlib.Core.Logic.{_≢_}
 use mathlib.Core.List.{List}
-use Prim.Native.Nat.{ℕ, _≤_}
+use Prim.Native.Nat.{ℕ, _≤_, _<_}
 use native.Mathlib.Omega.{arith}
 use lib.Dec.{eqb, ltb}
 use lib.ListN.{length}
@@ -13,7 +14,7 @@ use Rattle.rules.specs.declared.Decoded.{Decoded}
 use Rattle.rules.specs.declared.Decoded.the-variants.{Taken, Refused}
 use Rattle.rules.specs.Bytes.{lengthField, kindField}
 use Rattle.rules.specs.Messages.{messageOf}
-use Rattle.rules.specs.Refusals.{torn, isKind, isLength, inRange, decoded, idTooLow, onClosed, full, unknown, refusalOf, refusal}
+use Rattle.rules.specs.Refusals.{torn, isKind, isLength, inRange, decoded, offIncrement, editionTooLow, inUse, noEditionLeft, idTooLow, onClosed, full, unknown, refusalOf, refusal}
 use Rattle.rules.proofs.Tests.{not-out, or-false-l, or-false-r}
 use Rattle.rules.proofs.Cases.{if-by}
 
@@ -35,17 +36,25 @@ module _ {ℓ} (Q : Decoded → Type ℓ) (bs : List ℕ) where
       was true e = refl
       was false e = sym e
 
--- the refusals 5 to 8
+-- the refusals of the venue: 4, 11 to 13 and 5 to 8
 module _ {ℓ} (Q : ℕ → Type ℓ) (v : Venue) (m : Message) where
-  pub refusalOf-by : Q 5 → Q 6 → Q 7 → Q 8 → (idTooLow v m ≡ false → onClosed v m ≡ false → full v m ≡ false → unknown v m ≡ false → Q 0) → Q (refusalOf v m)
+  pub refusalOf-by : Q 4 → Q 11 → Q 12 → Q 13 → Q 5 → Q 6 → Q 7 → Q 8 →
+      (offIncrement v m ≡ false → editionTooLow v m ≡ false → inUse v m ≡ false → noEditionLeft v m ≡ false →
+      idTooLow v m ≡ false → onClosed v m ≡ false → full v m ≡ false → unknown v m ≡ false → Q 0) →
+      Q (refusalOf v m)
   unfolding refusalOf
-  refusalOf-by r5 r6 r7 r8 none =
-      if-by Q (idTooLow v m) (λ _. r5)
-      (λ a. if-by Q (onClosed v m) (λ _. r6) (λ b. if-by Q (full v m) (λ _. r7) (λ c. if-by Q (unknown v m) (λ _. r8) (none a b c))))
+  refusalOf-by r4 r11 r12 r13 r5 r6 r7 r8 none =
+      if-by Q (offIncrement v m) (λ _. r4) (λ w. if-by Q (editionTooLow v m) (λ _. r11) (λ x. if-by Q (inUse v m) (λ _. r12) (λ y. if-by Q (noEditionLeft v m) (λ _. r13)
+      (λ z. if-by Q (idTooLow v m) (λ _. r5)
+      (λ a. if-by Q (onClosed v m) (λ _. r6) (λ b. if-by Q (full v m) (λ _. r7) (λ c. if-by Q (unknown v m) (λ _. r8) (none w x y z a b c))))))))
 
 -- what an accepted message has passed
 pub record Passed (v : Venue) (m : Message) : Type 0 where
   pub range : inRange m ≡ true
+  pub stepped : offIncrement v m ≡ false
+  pub rising : editionTooLow v m ≡ false
+  pub unused : inUse v m ≡ false
+  pub place : noEditionLeft v m ≡ false
   pub fresh-id : idTooLow v m ≡ false
   pub series-open : onClosed v m ≡ false
   pub room : full v m ≡ false
@@ -62,7 +71,8 @@ accepted v bs =
     (λ _ h. absurd (omega arith)) (λ _ _ h. absurd (omega arith)) (λ _ _ h. absurd (omega arith)) (λ _ _ h. absurd (omega arith))
     (λ _ _ r. refusalOf-by (λ x. x ≡ 0 → Passed v (messageOf bs)) v (messageOf bs)
     (λ h. absurd (omega arith)) (λ h. absurd (omega arith)) (λ h. absurd (omega arith)) (λ h. absurd (omega arith))
-    (λ a b c d _. record { range = r; fresh-id = a; series-open = b; room = c; known = d }))
+    (λ h. absurd (omega arith)) (λ h. absurd (omega arith)) (λ h. absurd (omega arith)) (λ h. absurd (omega arith))
+    (λ w x y z a b c d _. record { range = r; stepped = w; rising = x; unused = y; place = z; fresh-id = a; series-open = b; room = c; known = d }))
 
 pub accepted-length : (v : Venue) (bs : List ℕ) → refusal v bs ≡ 0 → isLength (kindField bs) (lengthField bs) ≡ true
 unfolding refusal
@@ -70,11 +80,20 @@ accepted-length v bs =
     decoded-by (λ x. of v x ≡ 0 → isLength (kindField bs) (lengthField bs) ≡ true) bs
     (λ _ h. absurd (omega arith)) (λ _ _ h. absurd (omega arith)) (λ _ _ h. absurd (omega arith)) (λ _ _ h. absurd (omega arith)) (λ _ l _ _. l)
 
-pub refusal-small : (v : Venue) (bs : List ℕ) → refusal v bs ≤ 8
+pub refusal-small : (v : Venue) (bs : List ℕ) → refusal v bs ≤ 13
 unfolding refusal
 refusal-small v bs =
-    decoded-by (λ x. of v x ≤ 8) bs (λ _. omega arith) (λ _ _. omega arith) (λ _ _. omega arith) (λ _ _. omega arith)
-    (λ _ _ _. refusalOf-by (λ x. x ≤ 8) v (messageOf bs) (omega arith) (omega arith) (omega arith) (omega arith) (λ _ _ _ _. omega arith))
+    decoded-by (λ x. of v x ≤ 13) bs (λ _. omega arith) (λ _ _. omega arith) (λ _ _. omega arith) (λ _ _. omega arith)
+    (λ _ _ _. refusalOf-by (λ x. x ≤ 13) v (messageOf bs) (omega arith) (omega arith) (omega arith) (omega arith) (omega arith) (omega arith) (omega arith) (omega arith)
+    (λ _ _ _ _ _ _ _ _. omega arith))
+
+-- and is none of 9 and 10, which are a call's
+pub refusal-own : (v : Venue) (bs : List ℕ) (k : ℕ) → 8 < k → k < 11 → refusal v bs ≢ k
+unfolding refusal
+refusal-own v bs k low high =
+    decoded-by (λ x. of v x ≢ k) bs (λ _ e. omega arith) (λ _ _ e. omega arith) (λ _ _ e. omega arith) (λ _ _ e. omega arith)
+    (λ _ _ _. refusalOf-by (λ x. x ≢ k) v (messageOf bs) (λ e. omega arith) (λ e. omega arith) (λ e. omega arith) (λ e. omega arith) (λ e. omega arith) (λ e. omega arith) (λ e. omega arith) (λ e. omega arith)
+    (λ _ _ _ _ _ _ _ _ e. omega arith))
 
 -- a message that is not torn has its length
 pub not-torn : (v : Venue) (bs : List ℕ) → eqb (refusal v bs) 1 ≡ false → torn bs ≡ false

@@ -17,6 +17,7 @@ use Rattle.rules.proofs.Verdicts.{passed, passing}
 use Rattle.rules.proofs.Tests.{and-l, if-same}
 use Rattle.rules.specs.Base.{if_then_else_, held}
 use Rattle.rules.specs.Words.{opposite, noLegging, placeOf, leggingAt, statusOf, withLegging}
+use Rattle.rules.specs.Settings.{figureNow, increment, percent}
 use Rattle.rules.specs.Prices.{better, bestRegular, bestSize, ownPrice, clearPrice, marketBest, away, taken1, taken2, inBand}
 use Rattle.rules.specs.Removal.{remove, stay, stayers}
 use Rattle.rules.specs.Standing.{parentOf, bothOpen, shownWell, pairs, verdictOf, verdict, settle, otherClear, otherSize, otherLeg}
@@ -45,16 +46,17 @@ none-better : (d p : ℕ) → better d 0 p ≡ false
 unfolding better
 none-better d p = simp (le-ltb p 0 zero-le, if-same)
 
--- the venue w has v's books, complex orders and series, and of the legging orders at most those of v
+-- the venue w has v's books, complex orders, series and editions, and of the legging orders at most those of v
 pub record Thinned (v w : Venue) : Type 0 where
   pub regular : w .regular ≡ v .regular
   pub complex : w .complex ≡ v .complex
   pub series : w .series ≡ v .series
+  pub editions : w .editions ≡ v .editions
   pub legging : (i : ℕ) → Kept (getD (w .legging) i noLegging) (getD (v .legging) i noLegging)
 
 remove-thins : (f : ℕ → Legging → Verdict) (v : Venue) → Thinned v (remove f v .venue)
 unfolding remove withLegging
-remove-thins f v = record { regular = refl; complex = refl; series = refl; legging = stayers-kept f 0 (v .legging) }
+remove-thins f v = record { regular = refl; complex = refl; series = refl; editions = refl; legging = stayers-kept f 0 (v .legging) }
 
 -- a clear price is the best regular price
 pub clear-best : (v : Venue) (s d : ℕ) → held (clearPrice v s d) ≡ true → clearPrice v s d ≡ bestRegular v s d
@@ -90,12 +92,12 @@ module _ {v w : Venue} (t : Thinned v w) where
   market-kept s d = rw (best-kept, t .series)
 
   band-kept : (c : Complex) (n : ℤ) → inBand w c n ≡ inBand v c n
-  unfolding inBand taken1 taken2
-  band-kept c n = simp market-kept
+  unfolding inBand taken1 taken2 percent figureNow
+  band-kept c n = simp (market-kept, t .editions)
 
   shown-kept : (s d p : ℕ) → shownWell w s d p ≡ shownWell v s d p
-  unfolding shownWell
-  shown-kept s d p = rw best-kept
+  unfolding shownWell increment figureNow
+  shown-kept s d p = rw (best-kept, t .editions)
 
   parent-kept : (l : Legging) → parentOf w l ≡ parentOf v l
   unfolding parentOf

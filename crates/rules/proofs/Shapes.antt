@@ -1,4 +1,4 @@
--- A message leaves the venue's arrays of their lengths, upon every venue: "At most 128 regular and 32 complex orders rest", "16 places".
+-- A message leaves the venue's arrays of their lengths, upon every venue: "At most 128 regular and 32 complex orders rest", "16 places", "up to 32 editions".
 use mathlib.Core.Path.{_≡_, _∙_}
 use mathlib.Core.Bool.{_&&_}
 use mathlib.Core.List.{List}
@@ -9,9 +9,10 @@ use Rattle.rules.specs.declared.Complex.{Complex}
 use Rattle.rules.specs.declared.Legging.{Legging}
 use Rattle.rules.specs.declared.Venue.{Venue}
 use Rattle.rules.specs.declared.Message.{Message}
-use Rattle.rules.specs.declared.Message.the-variants.{Order, TwoLeg, Cancel, Away, Status, Sweep}
+use Rattle.rules.specs.declared.Message.the-variants.{Order, TwoLeg, Cancel, Away, Status, Sweep, Increment, Percent}
 use Rattle.rules.specs.Base.{held}
-use Rattle.rules.specs.Words.{noRegular, noComplex, withRegular, withComplex, withLegging, withSeries, withLast}
+use Rattle.rules.specs.Words.{noRegular, noComplex, withRegular, withComplex, withLegging, withSeries, withEditions, withLast}
+use Rattle.rules.specs.Settings.{enterEdition}
 use Rattle.rules.specs.Messages.{messageOf}
 use Rattle.rules.specs.Effects.{Effect, nothing, report, _⟫_}
 use Rattle.rules.specs.Removal.{remove}
@@ -21,66 +22,72 @@ use Rattle.rules.specs.Generation.{placed, makes, make, generateLeg, gen
 use Rattle.rules.specs.Complex.{work, complex, sweep}
 use Rattle.rules.specs.Places.{holdsRegular, holdsComplex, closeGaps}
 use Rattle.rules.specs.Refusals.{refusal}
-use Rattle.rules.specs.Step.{setAway, setStatus, perform, accept, answered, step}
+use Rattle.rules.specs.Step.{setAway, setStatus, setFigure, perform, accept, answered, step}
 use Rattle.rules.proofs.Cases.{if-by}
 use Rattle.rules.proofs.Closing.{length-packed}
 use Rattle.rules.proofs.Keeping.{Lasts, keeps-each, keeps-settle, keeps-matching, keeps-work, keeps-cancel}
 use Rattle.rules.proofs.Removing.{length-stayers}
 
-pub record Sized (r c l s : ℕ) (v : Venue) : Type 0 where
+pub record Sized (r c l s e : ℕ) (v : Venue) : Type 0 where
   pub regular : length (v .regular) ≡ r
   pub complex : length (v .complex) ≡ c
   pub legging : length (v .legging) ≡ l
   pub series : length (v .series) ≡ s
+  pub editions : length (v .editions) ≡ e
 
-module _ {r c l s : ℕ} where
-  lasts : Lasts (Sized r c l s)
+module _ {r c l s e : ℕ} where
+  lasts : Lasts (Sized r c l s e)
   unfolding fillRegular fillComplex remove withRegular withComplex withLegging
   lasts = record {
-    fillR = λ i k v z. record { regular = length-set (v .regular) i _ ∙ z .regular; complex = z .complex; legging = z .legging; series = z .series };
-    fillC = λ i k v z. record { regular = z .regular; complex = length-set (v .complex) i _ ∙ z .complex; legging = z .legging; series = z .series };
-    gone = λ f v z. record { regular = z .regular; complex = z .complex; legging = length-stayers f 0 (v .legging) ∙ z .legging; series = z .series };
+    fillR = λ i k v z. record { regular = length-set (v .regular) i _ ∙ z .regular; complex = z .complex; legging = z .legging; series = z .series; editions = z .editions };
+    fillC = λ i k v z. record { regular = z .regular; complex = length-set (v .complex) i _ ∙ z .complex; legging = z .legging; series = z .series; editions = z .editions };
+    gone = λ f v z. record { regular = z .regular; complex = z .complex; legging = length-stayers f 0 (v .legging) ∙ z .legging; series = z .series; editions = z .editions };
   }
 
-  placed-sized : (n : ℕ) (x : Legging) (v : Venue) → Sized r c l s v → Sized r c l s (placed n x v)
+  placed-sized : (n : ℕ) (x : Legging) (v : Venue) → Sized r c l s e v → Sized r c l s e (placed n x v)
   unfolding placed withLegging
-  placed-sized n x v z = record { regular = z .regular; complex = z .complex; legging = length-set (v .legging) n x ∙ z .legging; series = z .series }
+  placed-sized n x v z = record { regular = z .regular; complex = z .complex; legging = length-set (v .legging) n x ∙ z .legging; series = z .series; editions = z .editions }
 
-  leg-sized : (x : Complex) (t d : ℕ) (v : Venue) → Sized r c l s v → Sized r c l s (generateLeg x t d v .venue)
+  leg-sized : (x : Complex) (t d : ℕ) (v : Venue) → Sized r c l s e v → Sized r c l s e (generateLeg x t d v .venue)
   unfolding generateLeg make report nothing _⟫_
-  leg-sized x t d v z = if-by (λ (e : Effect). Sized r c l s (e .venue)) (held (x .quantity) && makes v x t d) (λ _. placed-sized _ _ _ (lasts .gone _ v z)) (λ _. z)
+  leg-sized x t d v z = if-by (λ (f : Effect). Sized r c l s e (f .venue)) (held (x .quantity) && makes v x t d) (λ _. placed-sized _ _ _ (lasts .gone _ v z)) (λ _. z)
 
-  generate-sized : (i : ℕ) (v : Venue) → Sized r c l s v → Sized r c l s (generate i v .venue)
+  generate-sized : (i : ℕ) (v : Venue) → Sized r c l s e v → Sized r c l s e (generate i v .venue)
   unfolding generate _⟫_
   generate-sized i v z = leg-sized _ _ _ _ (leg-sized _ _ _ v z)
 
-  closed-sized : (v : Venue) → Sized r c l s v → Sized r c l s (closeGaps v)
+  closed-sized : (v : Venue) → Sized r c l s e v → Sized r c l s e (closeGaps v)
   unfolding closeGaps withRegular withComplex
   closed-sized v z = record {
     regular = length-packed holdsRegular noRegular (v .regular) ∙ z .regular;
     complex = length-packed holdsComplex noComplex (v .complex) ∙ z .complex;
     legging = z .legging;
     series = z .series;
+    editions = z .editions;
   }
 
-  perform-sized : (m : Message) (v : Venue) → Sized r c l s v → Sized r c l s (perform m v .venue)
-  unfolding perform order enterRegular putRegular complex putComplex sweep setAway setStatus withRegular withComplex withSeries withLast _⟫_
-  perform-sized (Order o) v z =
+  perform-sized : (number : ℕ) (m : Message) (v : Venue) → Sized r c l s e v → Sized r c l s e (perform number m v .venue)
+  unfolding perform order enterRegular putRegular complex putComplex sweep setAway setStatus setFigure enterEdition withRegular withComplex withSeries withEditions withLast _⟫_
+  perform-sized number (Order o) v z =
       keeps-settle lasts _ (keeps-matching lasts _ _ _
-      (record { regular = length-set (v .regular) _ o ∙ z .regular; complex = z .complex; legging = z .legging; series = z .series }))
-  perform-sized (TwoLeg x) v z =
+      (record { regular = length-set (v .regular) _ o ∙ z .regular; complex = z .complex; legging = z .legging; series = z .series; editions = z .editions }))
+  perform-sized number (TwoLeg x) v z =
       generate-sized _ _ (keeps-settle lasts _ (keeps-work lasts _ _
-      (record { regular = z .regular; complex = length-set (v .complex) _ x ∙ z .complex; legging = z .legging; series = z .series })))
-  perform-sized (Cancel id) v z = keeps-cancel lasts id v z
-  perform-sized (Away t b o) v z =
-      keeps-settle lasts _ (record { regular = z .regular; complex = z .complex; legging = z .legging; series = length-set (v .series) t _ ∙ z .series })
-  perform-sized (Status t x) v z =
-      keeps-settle lasts _ (record { regular = z .regular; complex = z .complex; legging = z .legging; series = length-set (v .series) t _ ∙ z .series })
-  perform-sized Sweep v z =
-      keeps-each (Sized r c l s) generate generate-sized 32 0 _ (keeps-settle lasts _ (keeps-each (Sized r c l s) work (keeps-work lasts) 32 0 v z))
+      (record { regular = z .regular; complex = length-set (v .complex) _ x ∙ z .complex; legging = z .legging; series = z .series; editions = z .editions })))
+  perform-sized number (Cancel id) v z = keeps-cancel lasts id v z
+  perform-sized number (Away t b o) v z =
+      keeps-settle lasts _ (record { regular = z .regular; complex = z .complex; legging = z .legging; series = length-set (v .series) t _ ∙ z .series; editions = z .editions })
+  perform-sized number (Status t x) v z =
+      keeps-settle lasts _ (record { regular = z .regular; complex = z .complex; legging = z .legging; series = length-set (v .series) t _ ∙ z .series; editions = z .editions })
+  perform-sized number Sweep v z =
+      keeps-each (Sized r c l s e) generate generate-sized 32 0 _ (keeps-settle lasts _ (keeps-each (Sized r c l s e) work (keeps-work lasts) 32 0 v z))
+  perform-sized number (Increment t i k) v z =
+      keeps-settle lasts _ (record { regular = z .regular; complex = z .complex; legging = z .legging; series = z .series; editions = length-set (v .editions) _ _ ∙ z .editions })
+  perform-sized number (Percent x k) v z =
+      keeps-settle lasts _ (record { regular = z .regular; complex = z .complex; legging = z .legging; series = z .series; editions = length-set (v .editions) _ _ ∙ z .editions })
 
   -- every step leaves the arrays of their lengths
-  pub step-sized : (v : Venue) (number : ℕ) (bs : List ℕ) → Sized r c l s v → Sized r c l s (step v number bs .effect .venue)
+  pub step-sized : (v : Venue) (number : ℕ) (bs : List ℕ) → Sized r c l s e v → Sized r c l s e (step v number bs .effect .venue)
   unfolding step answered accept nothing _⟫_
   step-sized v number bs z =
-      if-by (λ (e : Effect). Sized r c l s (e .venue)) (eqb (refusal v bs) 0) (λ _. closed-sized _ (perform-sized (messageOf bs) v z)) (λ _. z)
+      if-by (λ (f : Effect). Sized r c l s e (f .venue)) (eqb (refusal v bs) 0) (λ _. closed-sized _ (perform-sized number (messageOf bs) v z)) (λ _. z)

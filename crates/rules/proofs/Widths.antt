@@ -13,18 +13,20 @@ use borrow.Author.Tests.{le-leb, leb-true}
 use Rattle.rules.specs.declared.Complex.{Complex}
 use Rattle.rules.specs.declared.Legging.{Legging}
 use Rattle.rules.specs.declared.Listed.{Listed}
-use Rattle.rules.specs.declared.Message.the-variants.{Away, Status}
+use Rattle.rules.specs.declared.Message.the-variants.{Away, Increment, Percent, Status}
 use Rattle.rules.specs.declared.Regular.{Regular}
 use Rattle.rules.specs.declared.Venue.{Venue}
 use Rattle.rules.specs.Base.{held}
-use Rattle.rules.specs.Words.{complexAt, increment, isAway, isClass, isId, isLimit, isPrice, isQuantity, isRegularPrice, isSeries, isSide, isStatus, noComplex, noLegging, noRegular, notListed, regularAt, statusOf, withComplex, withLast, withLegging, withRegular, withSeries, within}
+use Rattle.rules.specs.Words.{complexAt, isAway, isClass, isId, isLimit, isPrice, isQuantity, isSeries, isSide, isStatus, noComplex, noEdition, noLegging, noRegular, notListed, regularAt, statusOf, withComplex, withEditions, withLast, withLegging, withRegular, withSeries, within}
+use Rattle.rules.specs.Settings.{enterEdition, freeEdition, isIncrement, percentage}
 use Rattle.rules.specs.Records.{ForAll, Report, FourBytes}
 use Rattle.rules.specs.Trading.{fillComplex, fillRegular, lessComplex, lessRegular}
 use Rattle.rules.specs.Generation.{placed}
 use Rattle.rules.specs.Places.{blankLegging, closeGaps}
 use Rattle.rules.specs.Refusals.{complexInRange, inRange, regularInRange}
-use Rattle.rules.specs.Step.{setAway, setStatus}
-use Rattle.rules.specs.Sound.{listedInRange}
+use Rattle.rules.specs.Step.{setAway, setFigure, setStatus}
+use Rattle.rules.specs.Sound.{figureInRange, listedInRange}
+use Rattle.rules.proofs.Editions.{Dated}
 use Rattle.rules.proofs.Filling.{cx, lg, reg}
 use Rattle.rules.proofs.Gaps.{was, wasC}
 use Rattle.rules.proofs.Integers.{le-out, minus, plus}
@@ -72,6 +74,7 @@ pub record Ranged (v : Venue) : Type 0 where
   pub last : v .last ≤ 4294967295
   pub len : length (v .legging) ≡ 16
   pub eight : length (v .series) ≡ 8
+  pub dated : Dated v
 
 pub no-cx : CxFits noComplex
 unfolding plus minus
@@ -113,7 +116,7 @@ less-fits k o f = record {
       let a : isId (o .id) ≡ true = search (and-l, and-r, z) depth 8 in
       let b : isSeries (o .series) ≡ true = search (and-l, and-r, z) depth 8 in
       let c : isSide (o .side) ≡ true = search (and-l, and-r, z) depth 8 in
-      let d : isRegularPrice (increment (o .series)) (o .price) ≡ true = search (and-l, and-r, z) depth 8 in
+      let d : isPrice (o .price) ≡ true = search (and-l, and-r, z) depth 8 in
       let e : isQuantity (o .quantity) ≡ true = search (and-l, and-r, z) depth 8 in
       rw (a, b, c, d, quantity-less (o .quantity) k e t));
 }
@@ -144,23 +147,23 @@ lessC-fits k c f = record {
 module _ {v : Venue} (r : Ranged v) where
   with-regular : (l : List Regular) → ((i : ℕ) → RegFits (getD l i noRegular)) → Ranged (withRegular v l)
   unfolding withRegular
-  with-regular l h = record { regular = h; complex = r .complex; legging = r .legging; listed = r .listed; last = r .last; len = r .len; eight = r .eight }
+  with-regular l h = record { regular = h; complex = r .complex; legging = r .legging; listed = r .listed; last = r .last; len = r .len; eight = r .eight; dated = r .dated }
 
   with-complex : (l : List Complex) → ((i : ℕ) → CxFits (getD l i noComplex)) → Ranged (withComplex v l)
   unfolding withComplex
-  with-complex l h = record { regular = r .regular; complex = h; legging = r .legging; listed = r .listed; last = r .last; len = r .len; eight = r .eight }
+  with-complex l h = record { regular = r .regular; complex = h; legging = r .legging; listed = r .listed; last = r .last; len = r .len; eight = r .eight; dated = r .dated }
 
   pub with-legging : (l : List Legging) → ((i : ℕ) → LgFits (getD l i noLegging)) → length l ≡ length (v .legging) → Ranged (withLegging v l)
   unfolding withLegging
-  with-legging l h e = record { regular = r .regular; complex = r .complex; legging = h; listed = r .listed; last = r .last; len = e ∙ r .len; eight = r .eight }
+  with-legging l h e = record { regular = r .regular; complex = r .complex; legging = h; listed = r .listed; last = r .last; len = e ∙ r .len; eight = r .eight; dated = r .dated }
 
   with-series : (l : List Listed) → ((i : ℕ) → listedInRange (getD l i notListed) ≡ true) → length l ≡ length (v .series) → Ranged (withSeries v l)
   unfolding withSeries
-  with-series l h e = record { regular = r .regular; complex = r .complex; legging = r .legging; listed = h; last = r .last; len = r .len; eight = e ∙ r .eight }
+  with-series l h e = record { regular = r .regular; complex = r .complex; legging = r .legging; listed = h; last = r .last; len = r .len; eight = e ∙ r .eight; dated = r .dated }
 
 pub last-ranged : (n : ℕ) (v : Venue) → FourBytes n → Ranged v → Ranged (withLast v n)
 unfolding withLast
-last-ranged n v h r = record { regular = r .regular; complex = r .complex; legging = r .legging; listed = r .listed; last = omega arith; len = r .len; eight = r .eight }
+last-ranged n v h r = record { regular = r .regular; complex = r .complex; legging = r .legging; listed = r .listed; last = omega arith; len = r .len; eight = r .eight; dated = r .dated }
 
 -- an order put, or with less open
 pub put-ranged : (i : ℕ) (o : Regular) (v : Venue) → RegFits o → Ranged v → Ranged (withRegular v (set (v .regular) i o))
@@ -203,6 +206,35 @@ status-ranged s x v z r =
     let q : isAway (getD (v .series) s notListed .offer) ≡ true = search (and-l, and-r, y) depth 6 in
     rw (a, p, q))) r
 
+-- an edition entered: of a series' increment, or of the percentage
+pub figure-ranged : (number f x e : ℕ) (v : Venue) → figureInRange (record { edition = e; message = number; figure = f; value = x }) ≡ true → Ranged v → Ranged (setFigure number f x e v)
+unfolding setFigure enterEdition withEditions
+figure-ranged number f x e v h r = record {
+  regular = r .regular;
+  complex = r .complex;
+  legging = r .legging;
+  listed = r .listed;
+  last = r .last;
+  len = r .len;
+  eight = r .eight;
+  dated = set-each (λ y. held (y .edition) ≡ true → figureInRange y ≡ true) noEdition (v .editions) (freeEdition v) _ (λ _. h) (r .dated);
+}
+
+series-figure : (number s i e : ℕ) → leb s 7 ≡ true → isIncrement i ≡ true → figureInRange (record { edition = e; message = number; figure = s; value = i }) ≡ true
+unfolding figureInRange
+series-figure number s i e a h = rw a h
+
+pub increment-ranged : (number s i e : ℕ) (v : Venue) → inRange (Increment s i e) ≡ true → Ranged v → Ranged (setFigure number s i e v)
+unfolding inRange isSeries within
+increment-ranged number s i e v h r =
+    let a : leb s 7 ≡ true = search (and-l, and-r, h) depth 6 in
+    let b : isIncrement i ≡ true = search (and-l, and-r, h) depth 6 in
+    figure-ranged number s i e v (series-figure number s i e a b) r
+
+pub percent-ranged : (number x e : ℕ) (v : Venue) → inRange (Percent x e) ≡ true → Ranged v → Ranged (setFigure number percentage x e v)
+unfolding inRange
+percent-ranged number x e v h r = figure-ranged number percentage x e v (unfold figureInRange in (and-l _ _ h)) r
+
 pub closed-ranged : (v : Venue) → Ranged v → Ranged (closeGaps v)
 unfolding closeGaps withRegular withComplex
 closed-ranged v r =
@@ -212,7 +244,7 @@ closed-ranged v r =
 
 -- a message in range brings an order in range
 pub order-fits : (o : Regular) → regularInRange o ≡ true → RegFits o
-unfolding regularInRange isId isSeries isSide isRegularPrice isPrice isQuantity within
+unfolding regularInRange isId isSeries isSide isPrice isQuantity within
 order-fits o z =
     let a : leb (o .id) 4294967295 ≡ true = search (and-l, and-r, z) depth 12 in
     let b : leb (o .series) 7 ≡ true = search (and-l, and-r, z) depth 12 in

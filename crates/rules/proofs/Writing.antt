@@ -14,12 +14,13 @@ use Rattle.rules.specs.declared.Complex.{Complex}
 use Rattle.rules.specs.declared.Leg.{Leg}
 use Rattle.rules.specs.declared.Legging.{Legging}
 use Rattle.rules.specs.declared.Message.{Message}
-use Rattle.rules.specs.declared.Message.the-variants.{Away, Cancel, Order, Status, Sweep, TwoLeg}
+use Rattle.rules.specs.declared.Message.the-variants.{Away, Cancel, Increment, Order, Percent, Status, Sweep, TwoLeg}
 use Rattle.rules.specs.declared.Venue.{Venue}
 use Rattle.rules.specs.declared.Verdict.{Verdict}
 use Rattle.rules.specs.declared.Verdict.the-variants.{Fails, Stands}
 use Rattle.rules.specs.Base.{held, if_then_else_}
-use Rattle.rules.specs.Words.{complexAt, increment, isComplexOf, leggingAt, noComplex, noLegging, opposite, regularAt, withLegging}
+use Rattle.rules.specs.Words.{complexAt, isComplexOf, leggingAt, noComplex, noLegging, opposite, regularAt, withLegging}
+use Rattle.rules.specs.Settings.{increment}
 use Rattle.rules.specs.Records.{ForAll, Fits, FourSigned, Report, FourBytes, removed}
 use Rattle.rules.specs.Effects.{Effect, Turn, _⟫_, ended, nothing, repeat, report, turned}
 use Rattle.rules.specs.Prices.{clearPrice, inBand, marketBest, net, ratio1, ratio2, shown, weighed}
@@ -38,7 +39,7 @@ use Rattle.rules.proofs.Generating.{Makes, made}
 use Rattle.rules.proofs.Removing.{length-stayers}
 use Rattle.rules.proofs.Settling.{Kept, stayers-kept}
 use Rattle.rules.proofs.Tests.{and-l, and-r}
-use Rattle.rules.proofs.Widths.{CxFits, LgFits, Ranged, away-ranged, closed-ranged, complex-fits, each-append, fill-ranged, fillC-ranged, last-ranged, no-cx, no-lg, order-fits, placed-ranged, put-ranged, putC-ranged, status-ranged, with-legging}
+use Rattle.rules.proofs.Widths.{CxFits, LgFits, Ranged, away-ranged, closed-ranged, complex-fits, each-append, fill-ranged, fillC-ranged, increment-ranged, last-ranged, no-cx, no-lg, order-fits, percent-ranged, placed-ranged, put-ranged, putC-ranged, status-ranged, with-legging}
 
 -- an effect that writes records that fit and leaves the fields in range
 pub record Writes (e : Effect) : Type 0 where
@@ -230,9 +231,9 @@ writes-work i v r =
 writes-make : (c : Complex) (s d : ℕ) (v : Venue) → CxFits c → held (c .quantity) ≡ true → s < 8 → d < 2 → Makes v c s d → held (marketBest v s (opposite d)) ≡ true → Ranged v → Writes (make c s d v)
 unfolding make newLegging
 writes-make c s d v f h s8 d2 m t r =
-    let n = new-fits v c s d f h d2 m t r in
+    let n = new-fits v c s d f h s8 d2 m t r in
     let a = n .price in
-    let b = shown-small _ (increment s) d (legPrice v c s d) (m .range) in
+    let b = shown-small _ (increment v s) d (legPrice v c s d) (m .range) in
     let q = f .quantity in
     writes-then _ _ (writes-remove _ v r)
     (λ w x. writes-report _ _ (f .id, omega arith, omega arith, omega arith, omega arith, omega arith) (placed-ranged _ _ w n x))
@@ -275,18 +276,20 @@ writes-cancel id v r =
     (λ _. writes-then _ _ (writes-report _ _ (r .complex j .id, (let z = r .complex j .quantity in omega arith)) (fillC-ranged j _ v r)) (writes-removeOf _ _)))
     writes-settle
 
-pub writes-perform : (m : Message) (v : Venue) → inRange m ≡ true → Ranged v → Writes (perform m v)
+pub writes-perform : (number : ℕ) (m : Message) (v : Venue) → inRange m ≡ true → Ranged v → Writes (perform number m v)
 unfolding perform order enterRegular putRegular complex putComplex sweep
-writes-perform (Order o) v h r =
+writes-perform number (Order o) v h r =
     writes-then _ _ (writes-repeat _ (writes-meetTurn _) (o .quantity) _ (let f = order-fits o (unfold inRange in h) in put-ranged _ o _ f (last-ranged (o .id) v (f .id) r))) writes-settle
-writes-perform (TwoLeg c) v h r =
+writes-perform number (TwoLeg c) v h r =
     writes-then _ _ (writes-then _ _ (writes-work _ _ (let f = complex-fits c (unfold inRange in h) in putC-ranged _ c _ f (last-ranged (c .id) v (f .id) r))) writes-settle) (writes-generate _)
-writes-perform (Cancel id) v h r = writes-cancel id v r
-writes-perform (Away s b o) v h r = writes-settle _ (away-ranged s b o v h r)
-writes-perform (Status s x) v h r = writes-settle _ (status-ranged s x v h r)
-writes-perform Sweep v h r =
+writes-perform number (Cancel id) v h r = writes-cancel id v r
+writes-perform number (Away s b o) v h r = writes-settle _ (away-ranged s b o v h r)
+writes-perform number (Status s x) v h r = writes-settle _ (status-ranged s x v h r)
+writes-perform number Sweep v h r =
     writes-then _ _ (writes-then _ _ (writes-each work writes-work 32 0 v r) writes-settle) (writes-each generate writes-generate 32 0)
+writes-perform number (Increment s i e) v h r = writes-settle _ (increment-ranged number s i e v h r)
+writes-perform number (Percent x e) v h r = writes-settle _ (percent-ranged number x e v h r)
 
-pub writes-accept : (m : Message) (v : Venue) → inRange m ≡ true → Ranged v → Writes (accept m v)
+pub writes-accept : (number : ℕ) (m : Message) (v : Venue) → inRange m ≡ true → Ranged v → Writes (accept number m v)
 unfolding accept
-writes-accept m v h r = writes-then _ _ (writes-perform m v h r) (λ w x. writes-nothing _ (closed-ranged w x))
+writes-accept number m v h r = writes-then _ _ (writes-perform number m v h r) (λ w x. writes-nothing _ (closed-ranged w x))

@@ -5,10 +5,11 @@ use native.Mathlib.Omega.{arith}
 use Rattle.rules.specs.declared.Cause.the-variants.{Withdrawn}
 use Rattle.rules.specs.declared.Complex.{Complex}
 use Rattle.rules.specs.declared.Message.{Message}
-use Rattle.rules.specs.declared.Message.the-variants.{Away, Cancel, Order, Status, Sweep, TwoLeg}
+use Rattle.rules.specs.declared.Message.the-variants.{Away, Cancel, Increment, Order, Percent, Status, Sweep, TwoLeg}
 use Rattle.rules.specs.declared.Venue.{Venue}
 use Rattle.rules.specs.Base.{if_then_else_}
-use Rattle.rules.specs.Words.{withLast, withSeries}
+use Rattle.rules.specs.Words.{withEditions, withLast, withSeries}
+use Rattle.rules.specs.Settings.{enterEdition, percentage}
 use Rattle.rules.specs.Messages.{messageOf}
 use Rattle.rules.specs.Records.{cancelled}
 use Rattle.rules.specs.Effects.{_⟫_, nothing}
@@ -16,7 +17,7 @@ use Rattle.rules.specs.Standing.{parentOf, settle}
 use Rattle.rules.specs.Trading.{fillComplex, fillRegular, freeComplex, putComplex}
 use Rattle.rules.specs.Generation.{generate}
 use Rattle.rules.specs.Complex.{cancel, cancelComplex, cancelRegular, complex, complexPlace, each, regularPlace, restsRegular, sweep, work}
-use Rattle.rules.specs.Step.{accept, answered, perform, setAway, setStatus, step}
+use Rattle.rules.specs.Step.{accept, answered, perform, setAway, setFigure, setStatus, step}
 use Rattle.rules.specs.Sums.{total}
 use Rattle.rules.specs.Lengths.{perComplex, perLeg, recordLength}
 use Rattle.rules.proofs.Adding.{total-append}
@@ -63,22 +64,24 @@ costs-cancel id v = costs-then 12 0 v _ settle (costs-cancelled id v) (costs-set
 abbrev pub dearest : ℕ
 dearest = perComplex + 2 * perLeg
 
-perform-writes : (m : Message) (v : Venue) → ((n : ℕ) → Housed n v) → total recordLength (perform m v .reports) ≤ worth v + dearest
-unfolding perform withLast withSeries setAway setStatus Costs spent worth Housed parentOf
-perform-writes (Order o) v h = omega (arith, costs-order o (withLast v (o .id)) h)
-perform-writes (TwoLeg c) v h = omega (arith, costs-complex c (withLast v (c .id)))
-perform-writes (Cancel id) v h = omega (arith, costs-cancel id v)
-perform-writes (Away s bid offer) v h = omega (arith, costs-settle (setAway s bid offer v))
-perform-writes (Status s x) v h = omega (arith, costs-settle (setStatus s x v))
-perform-writes Sweep v h = omega (arith, sweep-writes v)
+perform-writes : (number : ℕ) (m : Message) (v : Venue) → ((n : ℕ) → Housed n v) → total recordLength (perform number m v .reports) ≤ worth v + dearest
+unfolding perform withLast withSeries withEditions setAway setStatus setFigure enterEdition Costs spent worth Housed parentOf
+perform-writes number (Order o) v h = omega (arith, costs-order o (withLast v (o .id)) h)
+perform-writes number (TwoLeg c) v h = omega (arith, costs-complex c (withLast v (c .id)))
+perform-writes number (Cancel id) v h = omega (arith, costs-cancel id v)
+perform-writes number (Away s bid offer) v h = omega (arith, costs-settle (setAway s bid offer v))
+perform-writes number (Status s x) v h = omega (arith, costs-settle (setStatus s x v))
+perform-writes number Sweep v h = omega (arith, sweep-writes v)
+perform-writes number (Increment s i e) v h = omega (arith, costs-settle (setFigure number s i e v))
+perform-writes number (Percent x e) v h = omega (arith, costs-settle (setFigure number percentage x e v))
 
 -- closing the gaps writes nothing
-accept-writes : (m : Message) (v : Venue) → ((n : ℕ) → Housed n v) → total recordLength (accept m v .reports) ≤ worth v + dearest
+accept-writes : (number : ℕ) (m : Message) (v : Venue) → ((n : ℕ) → Housed n v) → total recordLength (accept number m v .reports) ≤ worth v + dearest
 unfolding accept _⟫_ nothing total
-accept-writes m v h = rw (total-append recordLength (perform m v .reports) []) (omega (arith, perform-writes m v h))
+accept-writes number m v h = rw (total-append recordLength (perform number m v .reports) []) (omega (arith, perform-writes number m v h))
 
 pub step-writes : (v : Venue) → ((n : ℕ) → Housed n v) → (number : ℕ) (bs : List ℕ) → total recordLength (step v number bs .effect .reports) ≤ 12 + (worth v + dearest)
 unfolding step answered total recordLength nothing
 step-writes v h number bs =
-    step-by (λ e. 12 + total recordLength (e .reports) ≤ 12 + (worth v + dearest)) v bs
-    (λ _. let z = accept-writes (messageOf bs) v h in omega arith) (λ _. omega arith)
+    step-by (λ e. 12 + total recordLength (e .reports) ≤ 12 + (worth v + dearest)) v number bs
+    (λ _. let z = accept-writes number (messageOf bs) v h in omega arith) (λ _. omega arith)

@@ -19,6 +19,11 @@ unfoldable pub all : {A : Type 0} → (A → Bool) → List A → Bool
 all f [] = true
 all f (x ∷ xs) = f x && all f xs
 
+-- those of a list that pass a test, in their order
+unfoldable pub keep : {A : Type 0} → (A → Bool) → List A → List A
+keep f [] = []
+keep f (x ∷ xs) = if f x then x ∷ keep f xs else keep f xs
+
 -- the first place that passes a test; past the end if none does
 unfoldable pub placeWhere {ℓ} : {A : Type ℓ} → (A → Bool) → List A → ℕ
 placeWhere f [] = 0

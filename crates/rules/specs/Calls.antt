@@ -1,19 +1,21 @@
 -- Document 01, "Refusals": "Two calls: a run from fresh over a message list, and one message upon a venue held by value, the caller giving
--- how many messages went before it, a u32; its number is one more." Refusals 9 and 10.
-use mathlib.Core.Bool.{Bool, true, false, not, _||_}
-use mathlib.Core.List.{List, [], _++_}
+-- how many messages went before it, a u32; its number is one more." Refusals 9 and 10. And document 02 (d)'s call, which tells the settings.
+use mathlib.Core.Bool.{Bool, true, false, not, _&&_, _||_}
+use mathlib.Core.List.{List, [], _∷_, _++_, map}
 use Prim.Native.Nat.{ℕ, zero, suc, _-_}
 use lib.Dec.{ltb, eqb}
-use lib.ListN.{length, drop}
+use lib.ListN.{length, drop, replicate}
 use Rattle.rules.specs.declared.Venue.{Venue}
 use Rattle.rules.specs.declared.Returned.{Returned}
+use Rattle.rules.specs.declared.Settings.{Settings}
 use Rattle.rules.specs.Base.{if_then_else_}
 use Rattle.rules.specs.Words.{freshVenue}
+use Rattle.rules.specs.Settings.{percentage, inForce}
 use Rattle.rules.specs.Bytes.{lengthField}
 use Rattle.rules.specs.Records.{Report, encodeAll, sheet}
 use Rattle.rules.specs.Effects.{Effect}
 use Rattle.rules.specs.Step.{step}
-use Rattle.rules.specs.Sound.{sound}
+use Rattle.rules.specs.Sound.{sound, follows}
 
 -- how a call goes: its number, the messages done, the venue, and the records of these messages
 pub record Outcome : Type 0 where
@@ -68,13 +70,21 @@ runFrom (suc fuel) v n room bs =
 unfoldable pub run : (room : ℕ) → List ℕ → Call
 run room bs = called room (runFrom (length bs) freshVenue 0 room bs)
 
--- "one message upon a venue", n messages having gone before: "9 before all"; "a one-message call's is 9, 10 or its message's own"
+-- "one message upon a venue", n messages having gone before: "9 before all"; "a one-message call's is 9, 10 or its message's own".
+-- 02 (d): "A one-message call whose number is not above every kept edition's gets 9."
 unfoldable pub oneFrom : Venue → (n room : ℕ) → List ℕ → Outcome
 oneFrom v n room bs =
     let a = step v (suc n) bs in
-    if not (sound v) then ends 9 v
+    if not (sound v && follows (suc n) v) then ends 9 v
     else if exceeds (suc n) room (a .effect .reports) then ends 10 v
     else after (a .effect) (ends (a .refused) (a .effect .venue))
 
 unfoldable pub one : Venue → (n room : ℕ) → List ℕ → Call
 one v n room bs = called room (oneFrom v n room bs)
+
+-- Document 02 (d): "tells the eight increments and the percent in force at any message number"; "asked of an unsound venue, the settings are told as 9 and zeros"
+unfoldable pub settings : Venue → (number : ℕ) → Settings
+settings v n =
+    if sound v
+    then record { number = 0; increments = map (inForce v n) (0 ∷ 1 ∷ 2 ∷ 3 ∷ 4 ∷ 5 ∷ 6 ∷ 7 ∷ []); percent = inForce v n percentage }
+    else record { number = 9; increments = replicate 8 0; percent = 0 }

@@ -10,7 +10,8 @@ use Rattle.rules.specs.declared.Legging.{Legging}
 use Rattle.rules.specs.declared.Venue.{Venue}
 use Rattle.rules.specs.declared.Cause.the-variants.{Replaced}
 use Rattle.rules.specs.Base.{if_then_else_, held}
-use Rattle.rules.specs.Words.{within, opposite, signed, increment, customer, otherClass, withLegging, placeOf, complexAt, leggingAt}
+use Rattle.rules.specs.Words.{within, opposite, signed, customer, otherClass, withLegging, placeOf, complexAt, leggingAt}
+use Rattle.rules.specs.Settings.{increment}
 use Rattle.rules.specs.Prices.{better, reaches, bestOwn, ownPrice, displayed, away, inBand}
 use Rattle.rules.specs.Records.{generated}
 use Rattle.rules.specs.Effects.{Effect, nothing, report, _⟫_}
@@ -70,7 +71,7 @@ makes v c s d =
     -- "clear price present"; (C)(1)(ii)
     && held (otherClear v c s)
     -- "displayed price from the increment to 100,000"
-    && within (increment s) 100000 (displayed (increment s) d p)
+    && within (increment v s) 100000 (displayed (increment v s) d p)
     -- "not worse than best regular of its side"; (C)(1)(i)
     && shownWell v s d p
     -- "p itself not reaching any own price opposite in its series": not the best of them
@@ -89,7 +90,7 @@ unfoldable pub make : Complex → (series side : ℕ) → Venue → Effect
 make c s d v =
     let l = newLegging v c s d in
     remove (λ n _. failIf (eqb n (placeOf s d)) Replaced) v
-    ⟫ (λ w. report (generated (c .id) s d (l .price) (displayed (increment s) d (l .price)) (l .quantity)) (placed (placeOf s d) l w))
+    ⟫ (λ w. report (generated (c .id) s d (l .price) (displayed (increment v s) d (l .price)) (l .quantity)) (placed (placeOf s d) l w))
 
 unfoldable pub generateLeg : Complex → (series side : ℕ) → Venue → Effect
 generateLeg c s d v = if held (c .quantity) && makes v c s d then make c s d v else nothing v

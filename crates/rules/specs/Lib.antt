@@ -1,8 +1,8 @@
--- Document 01 as definitions, a file for each of its sections, in the order in which each uses the ones before it.
+-- Document 01 as definitions, and what document 02 adds to them, a file for each section, in the order in which each uses the ones before it.
 --
 --   "Words and ranges"                       Words
 --   "Message and record bytes"               Bytes, Messages, Records
---   "Refusals": 1 to 8                       Refusals; 9 and 10, and the two calls: Calls
+--   "Refusals": 1 to 8, 02 (d)'s 11 to 13    Refusals; 9 and 10, and the two calls: Calls
 --   "Prices of a side"                       Prices
 --   "Order (kind 1)"                         Order; the trades that it and a complex order have in common: Trading
 --   "Standing test and settling"             Standing; legging orders that go, whatever the cause: Removal
@@ -11,6 +11,7 @@
 --   each kind's effect, and its 64           Step
 --   "A venue is sound when …"                Sound
 --   Demand 3's sums over the records         Sums
+--   02 (d), the figures in force             Settings; the call that tells them: Calls
 --   "Trials"                                 Trials: each definition above at work, with what 01 says must come out
 --
 -- Not 01's: Base (choice, the first in rank), Effects (venue and records, one step after another), Places (how places are arranged),
@@ -30,6 +31,7 @@
 --   unfoldable, abbrev        a definition that a proof opens by name, or one that is always open;  pub: seen by other files
 pub mod Base
 pub mod Words
+pub mod Settings
 pub mod Bytes
 pub mod Messages
 pub mod Records

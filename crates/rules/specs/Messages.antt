@@ -1,4 +1,4 @@
--- Document 01, "Message and record bytes": the messages, kinds 1 to 6.
+-- Document 01, "Message and record bytes": the messages, kinds 1 to 6, and document 02 (d)'s, kinds 7 and 8.
 use mathlib.Core.Path.{_≡_}
 use mathlib.Core.List.{List, [], _++_}
 use Prim.Native.Nat.{ℕ}
@@ -7,7 +7,7 @@ use lib.ListN.{length}
 use Rattle.rules.specs.declared.Regular.{Regular}
 use Rattle.rules.specs.declared.Complex.{Complex}
 use Rattle.rules.specs.declared.Message.{Message}
-use Rattle.rules.specs.declared.Message.the-variants.{Order, TwoLeg, Cancel, Away, Status, Sweep}
+use Rattle.rules.specs.declared.Message.the-variants.{Order, TwoLeg, Cancel, Away, Status, Sweep, Increment, Percent}
 use Rattle.rules.specs.Base.{if_then_else_}
 use Rattle.rules.specs.Bytes.{u8At, u32At, asSigned, kindField, u8, u32, i32, framed}
 
@@ -20,6 +20,8 @@ lengthOf k =
     else if eqb k 4 then 13
     else if eqb k 5 then 6
     else if eqb k 6 then 4
+    else if eqb k 7 then 10
+    else if eqb k 8 then 9
     else 0
 
 -- 1 order: id u32, series u8, side u8, price u32, quantity u32
@@ -39,8 +41,9 @@ twoLegAt bs = record {
   quantity = u32At bs 17;
 }
 
--- the message at the front of bs, whose kind is one of 1 to 6:
--- 3 cancel: id u32; 4 away: series u8, bid u32, offer u32; 5 status: series u8, status u8; 6 sweep: none
+-- the message at the front of bs, whose kind is one of 1 to 8:
+-- 3 cancel: id u32; 4 away: series u8, bid u32, offer u32; 5 status: series u8, status u8; 6 sweep: none;
+-- "Kind 7 carries series u8, increment u8 … and edition u32. Kind 8 carries percent u8 … and edition u32."
 unfoldable pub messageOf : List ℕ → Message
 messageOf bs =
     let k = kindField bs in
@@ -49,7 +52,9 @@ messageOf bs =
     else if eqb k 3 then Cancel (u32At bs 4)
     else if eqb k 4 then Away (u8At bs 4) (u32At bs 5) (u32At bs 9)
     else if eqb k 5 then Status (u8At bs 4) (u8At bs 5)
-    else Sweep
+    else if eqb k 6 then Sweep
+    else if eqb k 7 then Increment (u8At bs 4) (u8At bs 5) (u32At bs 6)
+    else Percent (u8At bs 4) (u32At bs 5)
 
 -- the table's column "Kind", of a message
 abbrev pub messageKind : Message → ℕ
@@ -59,6 +64,8 @@ messageKind (Cancel id) = 3
 messageKind (Away s bid offer) = 4
 messageKind (Status s x) = 5
 messageKind Sweep = 6
+messageKind (Increment s i e) = 7
+messageKind (Percent x e) = 8
 
 -- the bytes of a message
 unfoldable pub encodeMessage : Message → List ℕ
@@ -70,6 +77,8 @@ encodeMessage (Cancel id) = framed 3 (u32 id)
 encodeMessage (Away s bid offer) = framed 4 (u8 s ++ u32 bid ++ u32 offer)
 encodeMessage (Status s x) = framed 5 (u8 s ++ u8 x)
 encodeMessage Sweep = framed 6 []
+encodeMessage (Increment s i e) = framed 7 (u8 s ++ u8 i ++ u32 e)
+encodeMessage (Percent x e) = framed 8 (u8 x ++ u32 e)
 
 -- "the lengths by kind … be proved those of document 01 for every kind" (request (c)): each message has as many bytes as its kind's length
 abbrev pub KindLengths : Type 0

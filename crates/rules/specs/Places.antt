@@ -9,8 +9,9 @@ use lib.ListN.{length, replicate}
 use Rattle.rules.specs.declared.Regular.{Regular}
 use Rattle.rules.specs.declared.Complex.{Complex}
 use Rattle.rules.specs.declared.Legging.{Legging}
+use Rattle.rules.specs.declared.Edition.{Edition}
 use Rattle.rules.specs.declared.Venue.{Venue}
-use Rattle.rules.specs.Base.{if_then_else_, held, all}
+use Rattle.rules.specs.Base.{if_then_else_, held, all, keep}
 use Rattle.rules.specs.Words.{noRegular, noComplex, withRegular, withComplex}
 
 abbrev pub holdsRegular : Regular → Bool
@@ -18,6 +19,9 @@ holdsRegular o = held (o .quantity)
 
 abbrev pub holdsComplex : Complex → Bool
 holdsComplex c = held (c .quantity)
+
+abbrev pub holdsEdition : Edition → Bool
+holdsEdition e = held (e .edition)
 
 -- a place that is all zero
 unfoldable pub blankRegular : Regular → Bool
@@ -28,17 +32,15 @@ blankComplex c =
     eqb (c .id) 0 && eqb (c .series1) 0 && eqb (c .side1) 0 && eqb (c .series2) 0 && eqb (c .side2) 0
     && eqb (c .class) 0 && eqb (natAbs (c .limit)) 0 && eqb (c .quantity) 0
 
+unfoldable pub blankEdition : Edition → Bool
+blankEdition e = eqb (e .edition) 0 && eqb (e .message) 0 && eqb (e .figure) 0 && eqb (e .value) 0
+
 unfoldable pub blankLegging : Legging → Bool
 blankLegging l = eqb (l .parent) 0 && eqb (l .price) 0 && eqb (l .quantity) 0
 
 -- Closing gaps --------------------------------------------------------------------------------
 
--- the held places, in their order
-unfoldable pub keep : {A : Type 0} → (A → Bool) → List A → List A
-keep holds [] = []
-keep holds (x ∷ l) = if holds x then x ∷ keep holds l else keep holds l
-
--- and after them free places, to the length that there was
+-- the held places, in their order, and after them free places, to the length that there was
 unfoldable pub packed : {A : Type 0} → (A → Bool) → A → List A → List A
 packed holds none l = keep holds l ++ replicate (length l - length (keep holds l)) none
 
@@ -47,7 +49,7 @@ closeGaps v = withComplex (withRegular v (packed holdsRegular noRegular (v .regu
 
 -- The test of the arrangement -----------------------------------------------------------------
 
--- held places first, in rising id from above `low` on and each as asked; then places that are all zero
+-- held places first, in rising number (of orders: their id) from above `low` on and each as asked; then places that are all zero
 unfoldable pub arranged : {A : Type 0} → (holds asked blank : A → Bool) → (A → ℕ) → (low : ℕ) → List A → Bool
 arranged holds asked blank id low [] = true
 arranged holds asked blank id low (x ∷ l) =

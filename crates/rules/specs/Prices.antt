@@ -12,6 +12,7 @@ use Rattle.rules.specs.declared.Legging.{Legging}
 use Rattle.rules.specs.declared.Venue.{Venue}
 use Rattle.rules.specs.Base.{if_then_else_, held}
 use Rattle.rules.specs.Words.{buy, opposite, signed, leggingAt, listedAt}
+use Rattle.rules.specs.Settings.{percent}
 
 -- Prices compared -----------------------------------------------------------------------------
 
@@ -133,18 +134,14 @@ taken1 v c = marketBest v (c .series1) (opposite (c .side1))
 unfoldable pub taken2 : Venue → Complex → ℕ
 taken2 v c = marketBest v (c .series2) (opposite (c .side2))
 
--- the band's percentage: "ACE of 5 percent"
-abbrev pub percent : ℕ
-percent = 5
-
--- "100t ≤ 100·O + 5·|O|"
+-- "100t ≤ 100·O + 5·|O|", with a percentage
 unfoldable pub nearNet : (percent : ℕ) (O t : ℤ) → Bool
 nearNet x O t = leZ (pos 100 *ℤ t) (pos 100 *ℤ O +ℤ pos (x * natAbs O))
 
 -- "O = net of the market bests that the legs would take. A net t is in band when 100t ≤ 100·O + 5·|O| (ACE of 5 percent);
--- never if a market best is missing." The ACE parameter of (C)(2)(iii) and (C)(4)(v).
+-- never if a market best is missing." The ACE parameter of (C)(2)(iii) and (C)(4)(v); its percentage is the one in force.
 unfoldable pub inBand : Venue → Complex → (t : ℤ) → Bool
 inBand v c t =
     let a = taken1 v c in
     let b = taken2 v c in
-    held a && held b && nearNet percent (net c a b) t
+    held a && held b && nearNet (percent v) (net c a b) t

@@ -1,18 +1,19 @@
--- Document 01, "Refusals", 1 to 8: "Checked in number order".
+-- Document 01, "Refusals", 1 to 8: "Checked in number order"; and document 02 (d), 11 to 13: "checked after 4, in this order".
 use mathlib.Core.Bool.{Bool, true, false, not, _&&_, _||_}
 use mathlib.Core.List.{List}
-use Prim.Native.Nat.{ℕ}
+use Prim.Native.Nat.{ℕ, _%_}
 use lib.Dec.{leb, ltb, eqb}
 use lib.ListN.{length}
 use Rattle.rules.specs.declared.Regular.{Regular}
 use Rattle.rules.specs.declared.Complex.{Complex}
 use Rattle.rules.specs.declared.Venue.{Venue}
 use Rattle.rules.specs.declared.Message.{Message}
-use Rattle.rules.specs.declared.Message.the-variants.{Order, TwoLeg, Cancel, Away, Status, Sweep}
+use Rattle.rules.specs.declared.Message.the-variants.{Order, TwoLeg, Cancel, Away, Status, Sweep, Increment, Percent}
 use Rattle.rules.specs.declared.Decoded.{Decoded}
 use Rattle.rules.specs.declared.Decoded.the-variants.{Taken, Refused}
-use Rattle.rules.specs.Base.{if_then_else_}
-use Rattle.rules.specs.Words.{increment, closed, statusOf, within, isId, isSeries, isSide, isClass, isStatus, isQuantity, isAway, isRegularPrice, isLimit}
+use Rattle.rules.specs.Base.{if_then_else_, held, all}
+use Rattle.rules.specs.Words.{closed, statusOf, within, isId, isSeries, isSide, isClass, isStatus, isQuantity, isAway, isPrice, isLimit}
+use Rattle.rules.specs.Settings.{isIncrement, isPercent, isEdition, increment, freeEdition}
 use Rattle.rules.specs.Bytes.{lengthField, kindField}
 use Rattle.rules.specs.Messages.{lengthOf, messageOf}
 use Rattle.rules.specs.Trading.{freeRegular, freeComplex}
@@ -24,18 +25,17 @@ use Rattle.rules.specs.Complex.{anyClosed, restsRegular, restsComplex}
 unfoldable pub torn : List ℕ → Bool
 torn bs = ltb (length bs) 4 || ltb (lengthField bs) 4 || ltb (length bs) (lengthField bs)
 
--- 2: "kind not 1 to 6"
+-- 2: "kind not 1 to 6"; "Refusal 2 no longer meets the message kinds that this and later requests add"
 unfoldable pub isKind : ℕ → Bool
-isKind = within 1 6
+isKind = within 1 8
 
 -- 3: "length not its kind's"
 unfoldable pub isLength : (kind length : ℕ) → Bool
 isLength k n = eqb n (lengthOf k)
 
--- 4: "field outside its range, both legs in one series, price off the increment"
+-- 4: "field outside its range, both legs in one series"; "price off the increment" is asked of the venue, below
 unfoldable pub regularInRange : Regular → Bool
-regularInRange o =
-    isId (o .id) && isSeries (o .series) && isSide (o .side) && isRegularPrice (increment (o .series)) (o .price) && isQuantity (o .quantity)
+regularInRange o = isId (o .id) && isSeries (o .series) && isSide (o .side) && isPrice (o .price) && isQuantity (o .quantity)
 
 unfoldable pub complexInRange : Complex → Bool
 complexInRange c =
@@ -49,13 +49,15 @@ inRange (Cancel id) = isId id
 inRange (Away s bid offer) = isSeries s && isAway bid && isAway offer
 inRange (Status s x) = isSeries s && isStatus x
 inRange Sweep = true
+inRange (Increment s i e) = isSeries s && isIncrement i && isEdition e
+inRange (Percent x e) = isPercent x && isEdition e
 
 -- the refusal's number that a decoding tells; 0 for a message
 abbrev pub decodedNumber : Decoded → ℕ
 decodedNumber (Taken m) = 0
 decodedNumber (Refused x) = x
 
--- the message at the front of bs, or the first of 1 to 4 that it meets
+-- the message at the front of bs, or the first of 1 to 4 that its bytes meet
 unfoldable pub decoded : List ℕ → Decoded
 decoded bs =
     if torn bs then Refused 1
@@ -64,7 +66,62 @@ decoded bs =
     else if not (inRange (messageOf bs)) then Refused 4
     else Taken (messageOf bs)
 
--- 5 to 8: of the venue ------------------------------------------------------------------------
+-- 4, 11 to 13, and 5 to 8: of the venue ---------------------------------------------------------
+
+-- "a regular price a multiple of its series' increment", the one in force
+unfoldable pub onIncrement : Venue → Regular → Bool
+onIncrement v o = eqb (o .price % increment v (o .series)) 0
+
+-- 4: "price off the increment"
+unfoldable pub offIncrement : Venue → Message → Bool
+offIncrement v (Order o) = not (onIncrement v o)
+offIncrement v (TwoLeg c) = false
+offIncrement v (Cancel id) = false
+offIncrement v (Away s bid offer) = false
+offIncrement v (Status s x) = false
+offIncrement v Sweep = false
+offIncrement v (Increment s i e) = false
+offIncrement v (Percent x e) = false
+
+-- 11: "edition not above the last of either kind, at first 0": not above each that is kept; a free place has edition 0
+unfoldable pub editionTooLow : Venue → Message → Bool
+editionTooLow v (Order o) = false
+editionTooLow v (TwoLeg c) = false
+editionTooLow v (Cancel id) = false
+editionTooLow v (Away s bid offer) = false
+editionTooLow v (Status s x) = false
+editionTooLow v Sweep = false
+editionTooLow v (Increment s i e) = not (all (λ k. ltb (k .edition) e) (v .editions))
+editionTooLow v (Percent x e) = not (all (λ k. ltb (k .edition) e) (v .editions))
+
+-- a series is closed, and no order or leg rests in it
+unfoldable pub idle : Venue → (series : ℕ) → Bool
+idle v s =
+    eqb (statusOf v s) closed
+    && all (λ o. not (held (o .quantity) && eqb (o .series) s)) (v .regular)
+    && all (λ c. not (held (c .quantity) && (eqb (c .series1) s || eqb (c .series2) s))) (v .complex)
+
+-- 12: "kind 7 for a series that isn't closed or has a resting order or leg"
+unfoldable pub inUse : Venue → Message → Bool
+inUse v (Order o) = false
+inUse v (TwoLeg c) = false
+inUse v (Cancel id) = false
+inUse v (Away s bid offer) = false
+inUse v (Status s x) = false
+inUse v Sweep = false
+inUse v (Increment s i e) = not (idle v s)
+inUse v (Percent x e) = false
+
+-- 13: "32 editions held already": no place is free
+unfoldable pub noEditionLeft : Venue → Message → Bool
+noEditionLeft v (Order o) = false
+noEditionLeft v (TwoLeg c) = false
+noEditionLeft v (Cancel id) = false
+noEditionLeft v (Away s bid offer) = false
+noEditionLeft v (Status s x) = false
+noEditionLeft v Sweep = false
+noEditionLeft v (Increment s i e) = leb 32 (freeEdition v)
+noEditionLeft v (Percent x e) = leb 32 (freeEdition v)
 
 -- 5: "id not above the last accepted (kinds 1, 2)"
 unfoldable pub idTooLow : Venue → Message → Bool
@@ -74,6 +131,8 @@ idTooLow v (Cancel id) = false
 idTooLow v (Away s bid offer) = false
 idTooLow v (Status s x) = false
 idTooLow v Sweep = false
+idTooLow v (Increment s i e) = false
+idTooLow v (Percent x e) = false
 
 -- 6: "a series of the order is closed"
 unfoldable pub onClosed : Venue → Message → Bool
@@ -83,6 +142,8 @@ onClosed v (Cancel id) = false
 onClosed v (Away s bid offer) = false
 onClosed v (Status s x) = false
 onClosed v Sweep = false
+onClosed v (Increment s i e) = false
+onClosed v (Percent x e) = false
 
 -- 7: "128 regular (kind 1) or 32 complex (kind 2) rest already, even if the order would trade": no place is free
 unfoldable pub full : Venue → Message → Bool
@@ -92,6 +153,8 @@ full v (Cancel id) = false
 full v (Away s bid offer) = false
 full v (Status s x) = false
 full v Sweep = false
+full v (Increment s i e) = false
+full v (Percent x e) = false
 
 -- 8: "no resting order has the id (kind 3)"
 unfoldable pub unknown : Venue → Message → Bool
@@ -101,11 +164,17 @@ unknown v (Cancel id) = not (restsRegular v id || restsComplex v id)
 unknown v (Away s bid offer) = false
 unknown v (Status s x) = false
 unknown v Sweep = false
+unknown v (Increment s i e) = false
+unknown v (Percent x e) = false
 
--- the first of 5 to 8 that a message meets upon v; 0 where it meets none and is accepted
+-- the first of these that a message meets upon v; 0 where it meets none and is accepted
 unfoldable pub refusalOf : Venue → Message → ℕ
 refusalOf v m =
-    if idTooLow v m then 5
+    if offIncrement v m then 4
+    else if editionTooLow v m then 11
+    else if inUse v m then 12
+    else if noEditionLeft v m then 13
+    else if idTooLow v m then 5
     else if onClosed v m then 6
     else if full v m then 7
     else if unknown v m then 8

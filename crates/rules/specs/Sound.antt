@@ -1,19 +1,22 @@
 -- Document 01: "A venue is sound when fields are in range, resting ids distinct and at most the last id, no series is locked or crossed
 -- counting own prices, and each legging order matches an open parent leg, is no larger than what its parent has open, and passes its test."
+-- Document 02 (d): "Editions that don't rise from 0 in both numbers are unsound".
 use mathlib.Core.Bool.{Bool, true, not, _&&_, _||_}
 use mathlib.Core.List.{List, [], _∷_}
 use Prim.Native.Nat.{ℕ, suc, _/_, _%_}
-use lib.Dec.{leb, ltb}
+use lib.Dec.{leb, ltb, eqb}
 use Rattle.rules.specs.declared.Legging.{Legging}
 use Rattle.rules.specs.declared.Listed.{Listed}
+use Rattle.rules.specs.declared.Edition.{Edition}
 use Rattle.rules.specs.declared.Venue.{Venue}
 use Rattle.rules.specs.Base.{if_then_else_, held, all}
 use Rattle.rules.specs.Words.{buy, sell, isPrice, isQuantity, isAway, isStatus, isId}
+use Rattle.rules.specs.Settings.{percentage, isIncrement, isPercent, isEdition}
 use Rattle.rules.specs.Prices.{bestOwn}
 use Rattle.rules.specs.Standing.{parentOf, hasLeg, verdict, stands}
 use Rattle.rules.specs.Complex.{restsComplex}
-use Rattle.rules.specs.Places.{holdsRegular, holdsComplex, blankRegular, blankComplex, blankLegging, arranged}
-use Rattle.rules.specs.Refusals.{regularInRange, complexInRange}
+use Rattle.rules.specs.Places.{holdsRegular, holdsComplex, holdsEdition, blankRegular, blankComplex, blankEdition, blankLegging, arranged}
+use Rattle.rules.specs.Refusals.{regularInRange, onIncrement, complexInRange}
 
 -- "no series is locked or crossed counting own prices"
 unfoldable pub apart : Venue → (series : ℕ) → Bool
@@ -43,9 +46,9 @@ unfoldable pub leggingsSound : Venue → (n : ℕ) → List Legging → Bool
 leggingsSound v n [] = true
 leggingsSound v n (l ∷ ls) = leggingSound v n l && leggingsSound v (suc n) ls
 
--- the resting orders: in range, with ids "at most the last id", and arranged, so that ids of one book are distinct
+-- the resting orders: in range, prices on the increments in force, with ids "at most the last id", and arranged, so that ids of one book are distinct
 unfoldable pub regularsSound : Venue → Bool
-regularsSound v = arranged holdsRegular (λ o. regularInRange o && leb (o .id) (v .last)) blankRegular (λ o. o .id) 0 (v .regular)
+regularsSound v = arranged holdsRegular (λ o. regularInRange o && onIncrement v o && leb (o .id) (v .last)) blankRegular (λ o. o .id) 0 (v .regular)
 
 unfoldable pub complexesSound : Venue → Bool
 complexesSound v = arranged holdsComplex (λ c. complexInRange c && leb (c .id) (v .last)) blankComplex (λ c. c .id) 0 (v .complex)
@@ -54,12 +57,30 @@ complexesSound v = arranged holdsComplex (λ c. complexInRange c && leb (c .id) 
 unfoldable pub idsDistinct : Venue → Bool
 idsDistinct v = all (λ o. not (held (o .quantity)) || not (restsComplex v (o .id))) (v .regular)
 
+-- the fields of an edition: the figure that it sets and its value, and its numbers
+unfoldable pub figureInRange : Edition → Bool
+figureInRange e = if leb (e .figure) 7 then isIncrement (e .value) else eqb (e .figure) percentage && isPercent (e .value)
+
+unfoldable pub editionInRange : Edition → Bool
+editionInRange e = figureInRange e && isEdition (e .edition) && leb (e .message) 4294967295
+
+-- editions "rise from 0 in both numbers": the edition's and the message's
+unfoldable pub editionsSound : Venue → Bool
+editionsSound v =
+    arranged holdsEdition editionInRange blankEdition (λ e. e .edition) 0 (v .editions)
+    && arranged holdsEdition (λ _. true) blankEdition (λ e. e .message) 0 (v .editions)
+
 unfoldable pub sound : Venue → Bool
 sound v =
     regularsSound v
     && complexesSound v
     && all listedInRange (v .series)
+    && editionsSound v
     && leb (v .last) 4294967295
     && idsDistinct v
     && all (apart v) (0 ∷ 1 ∷ 2 ∷ 3 ∷ 4 ∷ 5 ∷ 6 ∷ 7 ∷ [])
     && leggingsSound v 0 (v .legging)
+
+-- a message's number is "above every kept edition's"; a free place has number 0
+unfoldable pub follows : (number : ℕ) → Venue → Bool
+follows number v = all (λ e. ltb (e .message) number) (v .editions)

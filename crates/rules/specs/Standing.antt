@@ -13,7 +13,8 @@ use Rattle.rules.specs.declared.Cause.the-variants.{Worse, Unpaired, Out
 use Rattle.rules.specs.declared.Verdict.{Verdict}
 use Rattle.rules.specs.declared.Verdict.the-variants.{Stands, Fails}
 use Rattle.rules.specs.Base.{if_then_else_, held}
-use Rattle.rules.specs.Words.{opposite, signed, increment, opened, statusOf, noComplex, isComplexOf}
+use Rattle.rules.specs.Words.{opposite, signed, opened, statusOf, noComplex, isComplexOf}
+use Rattle.rules.specs.Settings.{increment}
 use Rattle.rules.specs.Prices.{better, bestRegular, bestSize, clearPrice, displayed, inBand}
 use Rattle.rules.specs.Records.{causeNumber}
 use Rattle.rules.specs.Effects.{Effect}
@@ -59,7 +60,7 @@ bothOpen v c = eqb (statusOf v (c .series1)) opened && eqb (statusOf v (c .serie
 
 -- "its displayed price is no worse than the best regular of its side (else 1)", for own price p at side d of series s; (C)(4)(i)
 unfoldable pub shownWell : Venue → (series side p : ℕ) → Bool
-shownWell v s d p = not (better d (bestRegular v s d) (displayed (increment s) d p))
+shownWell v s d p = not (better d (bestRegular v s d) (displayed (increment v s) d p))
 
 -- "the other leg has a clear price, net with it ≤ N, size there ≥ its quantity (else 2)",
 -- for a legging order of c for k contracts at own price p at side d of series s; (C)(4)(ii)

@@ -6,9 +6,10 @@ use lib.ListN.{set}
 use Rattle.rules.specs.declared.Legging.{Legging}
 use Rattle.rules.specs.declared.Venue.{Venue}
 use Rattle.rules.specs.declared.Message.{Message}
-use Rattle.rules.specs.declared.Message.the-variants.{Order, TwoLeg, Cancel, Away, Status, Sweep}
+use Rattle.rules.specs.declared.Message.the-variants.{Order, TwoLeg, Cancel, Away, Status, Sweep, Increment, Percent}
 use Rattle.rules.specs.Base.{if_then_else_, held}
 use Rattle.rules.specs.Words.{statusOf, listedAt, withSeries, withLast}
+use Rattle.rules.specs.Settings.{percentage, enterEdition}
 use Rattle.rules.specs.Messages.{messageOf}
 use Rattle.rules.specs.Records.{answer}
 use Rattle.rules.specs.Effects.{Effect, nothing, _⟫_}
@@ -31,18 +32,24 @@ setStatus s x v =
     let old = listedAt v s in
     withSeries v (set (v .series) s (record { status = x; bid = old .bid; offer = old .offer }))
 
--- by kind; "After every accepted message all are tested"; an order's id is the last accepted from then on
-unfoldable pub perform : Message → Venue → Effect
-perform (Order o) v = order o (withLast v (o .id))
-perform (TwoLeg c) v = complex c (withLast v (c .id))
-perform (Cancel id) v = cancel id v
-perform (Away s bid offer) v = settle (setAway s bid offer v)
-perform (Status s x) v = settle (setStatus s x v)
-perform Sweep v = sweep v
+-- 7 and 8: the edition with the number of its message; figure 0 to 7 is a series' increment
+unfoldable pub setFigure : (number figure value edition : ℕ) → Venue → Venue
+setFigure number f x e v = enterEdition (record { edition = e; message = number; figure = f; value = x }) v
+
+-- by kind, the message of this number; "After every accepted message all are tested"; an order's id is the last accepted from then on
+unfoldable pub perform : (number : ℕ) → Message → Venue → Effect
+perform number (Order o) v = order o (withLast v (o .id))
+perform number (TwoLeg c) v = complex c (withLast v (c .id))
+perform number (Cancel id) v = cancel id v
+perform number (Away s bid offer) v = settle (setAway s bid offer v)
+perform number (Status s x) v = settle (setStatus s x v)
+perform number Sweep v = sweep v
+perform number (Increment s i e) v = settle (setFigure number s i e v)
+perform number (Percent x e) v = settle (setFigure number percentage x e v)
 
 -- and when all is done the gaps that it left are closed
-unfoldable pub accept : Message → Venue → Effect
-accept m v = perform m v ⟫ (λ w. nothing (closeGaps w))
+unfoldable pub accept : (number : ℕ) → Message → Venue → Effect
+accept number m v = perform number m v ⟫ (λ w. nothing (closeGaps w))
 
 -- The answer ----------------------------------------------------------------------------------
 
@@ -74,4 +81,4 @@ answered number refused e = record {
 unfoldable pub step : Venue → (number : ℕ) → List ℕ → StepOutcome
 step v number bs =
     let x = refusal v bs in
-    answered number x (if eqb x 0 then accept (messageOf bs) v else nothing v)
+    answered number x (if eqb x 0 then accept number (messageOf bs) v else nothing v)

@@ -2,7 +2,7 @@
 -- of each kind of message and record, the ends of each range, the refusals by the examples of their table, then section by section what a wrong definition
 -- would do otherwise (tests/wrong_definitions.py tries such), and soundness clause by clause: all in one statement over a list.
 -- A session's messages go in as bytes and its records are read from the report memory's bytes.
-use mathlib.Core.Bool.{Bool, true, false}
+use mathlib.Core.Bool.{Bool, true, false, not, _&&_}
 use mathlib.Core.Path.{_≡_, refl}
 use mathlib.Core.List.{List, [], _∷_, _++_, map}
 use Prim.Native.Nat.{ℕ, zero, suc}
@@ -13,21 +13,23 @@ use Rattle.rules.specs.declared.Complex.{Complex}
 use Rattle.rules.specs.declared.Venue.{Venue}
 use Rattle.rules.specs.declared.Legging.{Legging}
 use Rattle.rules.specs.declared.Listed.{Listed}
+use Rattle.rules.specs.declared.Edition.{Edition}
+use Rattle.rules.specs.declared.Settings.{Settings}
 use Rattle.rules.specs.declared.Cause.{Cause}
 use Rattle.rules.specs.declared.Decoded.{Decoded}
 use Rattle.rules.specs.declared.Decoded.the-variants.{Taken, Refused}
 use Rattle.rules.specs.declared.Message.{Message}
-use Rattle.rules.specs.declared.Message.the-variants.{Order, TwoLeg, Cancel, Away, Status, Sweep}
+use Rattle.rules.specs.declared.Message.the-variants.{Order, TwoLeg, Cancel, Away, Status, Sweep, Increment, Percent}
 use Rattle.rules.specs.declared.Cause.the-variants.{Worse, Unpaired, Executed, Withdrawn, OutOfBand, NotOpen, Replaced, Touched}
 use Rattle.rules.specs.declared.Verdict.the-variants.{Stands, Fails}
-use Rattle.rules.specs.Words.{buy, sell, closed, opened, noRegular, noComplex, noLegging, notListed, freshVenue, withRegular, withComplex, withLegging, withSeries, withLast}
+use Rattle.rules.specs.Words.{buy, sell, closed, opened, noRegular, noComplex, noLegging, notListed, noEdition, freshVenue, withRegular, withComplex, withLegging, withSeries, withEditions, withLast}
 use Rattle.rules.specs.Messages.{lengthOf, encodeMessage}
 use Rattle.rules.specs.Records.{Report, answer, trade, pair, generated, removed, crossed, cancelled, encode, encodeAll, recordOf, records, sheet}
 use Rattle.rules.specs.Prices.{inBand}
 use Rattle.rules.specs.Standing.{verdictNumber}
-use Rattle.rules.specs.Refusals.{decoded, decodedNumber, inRange}
-use Rattle.rules.specs.Step.{setAway}
-use Rattle.rules.specs.Calls.{called, run, runFrom, one}
+use Rattle.rules.specs.Refusals.{decoded, decodedNumber, inRange, offIncrement}
+use Rattle.rules.specs.Step.{setAway, setStatus}
+use Rattle.rules.specs.Calls.{called, run, runFrom, one, settings}
 use Rattle.rules.specs.Sums.{total, contracts, contractsAt, paired, crossedFor, cancelledOf, openRegular, openComplex}
 use Rattle.rules.specs.Opened.{opened-rules}
 
@@ -44,13 +46,15 @@ pub data Trial : Type 0 where
   onward : (v : Venue) (before room : ℕ) (bytes : List ℕ) (number done : ℕ) → List Report → (w : Venue) → Trial
   -- a net t against O, which is the offer of series 1 less the bid of series 0
   band : (bid offer : ℕ) (t : ℤ) → Bool → Trial
-  -- a message's fields in their ranges
+  -- a message's fields in their ranges, and its price on the increment
   ranged : Message → Bool → Trial
   -- the bytes of a message, both ways, and of a record
   taken : (bytes : List ℕ) → Message → Trial
   told : Report → (bytes : List ℕ) → Trial
   -- a number
   counted : (is should : ℕ) → Trial
+  -- the settings of a venue at a message number
+  inforce : Venue → (number : ℕ) → Settings → Trial
 
 pub data Outcome : Type 0 where
   ended : (number done written : ℕ) → (read : List Report) → (report : List ℕ) → Outcome
@@ -59,6 +63,7 @@ pub data Outcome : Type 0 where
   read : Decoded → (bytes : List ℕ) → Outcome
   laid : (bytes : List ℕ) → Report → Outcome
   numbered : ℕ → Outcome
+  figures : Settings → Outcome
 
 -- a complex order that sells series 0 and buys series 1
 spread : Complex
@@ -75,6 +80,7 @@ legsUp b os i c n l = record {
   legging = set (freshVenue .legging) n l;
   series = open1 b ∷ replicate 7 (open1 0);
   last = 3;
+  editions = freshVenue .editions;
 }
 
 rest : (id series side price quantity : ℕ) → Regular
@@ -108,10 +114,11 @@ outcome (onward v before room bytes number done rs w) =
     let c = called room (runFrom (length bytes) v before room bytes) in
     returned (c .returned .number) (c .returned .done) (c .returned .written) (records (c .report)) (c .report) (c .returned .venue)
 outcome (band bid offer t b) = near (inBand (setAway 1 0 offer (setAway 0 bid 0 freshVenue)) spread t)
-outcome (ranged m b) = near (inRange m)
+outcome (ranged m b) = near (inRange m && not (offIncrement freshVenue m))
 outcome (taken bytes m) = read (decoded bytes) (encodeMessage m)
 outcome (told r bytes) = laid (encode r) (recordOf bytes)
 outcome (counted is should) = numbered is
+outcome (inforce v n s) = figures (settings v n)
 
 pub expected : Trial → Outcome
 expected (session room bytes number done rs) = ended number done (length (encodeAll rs)) rs (sheet room rs)
@@ -123,6 +130,7 @@ expected (ranged m b) = near b
 expected (taken bytes m) = read (Taken m) bytes
 expected (told r bytes) = laid bytes r
 expected (counted is should) = numbered should
+expected (inforce v n s) = figures s
 
 -- Messages ------------------------------------------------------------------------------------
 
@@ -411,6 +419,8 @@ layouts =
     ∷ taken (13 ∷ 0 ∷ 4 ∷ 0 ∷ 3 ∷ 44 ∷ 1 ∷ 0 ∷ 0 ∷ 160 ∷ 134 ∷ 1 ∷ 0 ∷ []) (Away 3 300 100000)
     ∷ taken (6 ∷ 0 ∷ 5 ∷ 0 ∷ 7 ∷ 2 ∷ []) (Status 7 2)
     ∷ taken (4 ∷ 0 ∷ 6 ∷ 0 ∷ []) Sweep
+    ∷ taken (10 ∷ 0 ∷ 7 ∷ 0 ∷ 6 ∷ 5 ∷ 1 ∷ 2 ∷ 3 ∷ 4 ∷ []) (Increment 6 5 67305985)
+    ∷ taken (9 ∷ 0 ∷ 8 ∷ 0 ∷ 50 ∷ 1 ∷ 2 ∷ 3 ∷ 4 ∷ []) (Percent 50 67305985)
     ∷ told (answer 67305985 7 513 2) (12 ∷ 0 ∷ 64 ∷ 0 ∷ 1 ∷ 2 ∷ 3 ∷ 4 ∷ 7 ∷ 1 ∷ 2 ∷ 2 ∷ [])
     ∷ told (trade 5 1 100000 10000 67305985 134678021)
     (22 ∷ 0 ∷ 65 ∷ 0 ∷ 5 ∷ 1 ∷ 160 ∷ 134 ∷ 1 ∷ 0 ∷ 16 ∷ 39 ∷ 0 ∷ 0 ∷ 1 ∷ 2 ∷ 3 ∷ 4 ∷ 5 ∷ 6 ∷ 7 ∷ 8 ∷ [])
@@ -456,6 +466,9 @@ edges =
     ∷ ranged (Cancel 0) false ∷ ranged (Cancel 1) true
     ∷ ranged (Away 7 100000 0) true ∷ ranged (Away 8 0 0) false ∷ ranged (Away 0 100001 0) false ∷ ranged (Away 0 0 100001) false
     ∷ ranged (Status 7 2) true ∷ ranged (Status 8 0) false ∷ ranged (Status 0 3) false
+    ∷ ranged (Increment 7 1 0) true ∷ ranged (Increment 0 5 4294967295) true ∷ ranged (Increment 0 10 1) true
+    ∷ ranged (Increment 8 5 1) false ∷ ranged (Increment 0 0 1) false ∷ ranged (Increment 0 2 1) false
+    ∷ ranged (Percent 0 0) true ∷ ranged (Percent 50 4294967295) true ∷ ranged (Percent 51 1) false
     ∷ []
 
 -- The refusals' table -------------------------------------------------------------------------
@@ -489,7 +502,7 @@ refused =
     ∷ session 100 ((4 ∷ 0 ∷ 6 ∷ 1 ∷ []) ++ (4 ∷ 1 ∷ 6 ∷ 0 ∷ [])) 1 2 (answer 1 2 0 0 ∷ answer 2 1 0 0 ∷ [])
     -- 2: "04 00 63 00"
     ∷ session 100 (4 ∷ 0 ∷ 99 ∷ 0 ∷ []) 0 1 (answer 1 2 0 0 ∷ [])
-    ∷ session 100 ((5 ∷ 0 ∷ 0 ∷ 0 ∷ 7 ∷ []) ++ (4 ∷ 0 ∷ 7 ∷ 0 ∷ []) ++ (4 ∷ 0 ∷ 64 ∷ 0 ∷ [])) 0 3 (answer 1 2 0 0 ∷ answer 2 2 0 0 ∷ answer 3 2 0 0 ∷ [])
+    ∷ session 100 ((5 ∷ 0 ∷ 0 ∷ 0 ∷ 7 ∷ []) ++ (4 ∷ 0 ∷ 12 ∷ 0 ∷ []) ++ (4 ∷ 0 ∷ 64 ∷ 0 ∷ [])) 0 3 (answer 1 2 0 0 ∷ answer 2 2 0 0 ∷ answer 3 2 0 0 ∷ [])
     -- 3: "05 00 06 00 00"
     ∷ session 100 (5 ∷ 0 ∷ 6 ∷ 0 ∷ 0 ∷ []) 0 1 (answer 1 3 0 0 ∷ [])
     -- too short; 3 before 4, which a cancel of id 0 is
@@ -822,6 +835,7 @@ allHeld os q ls = record {
   legging = ls ++ drop (length ls) (freshVenue .legging);
   series = open1 0 ∷ open1 0 ∷ replicate 6 notListed;
   last = 40;
+  editions = freshVenue .editions;
 }
 
 pub lefts : List Trial
@@ -865,7 +879,7 @@ numbers =
     counted (length (freshVenue .regular)) 128 ∷ counted (length (freshVenue .complex)) 32
     ∷ counted (length (freshVenue .legging)) 16 ∷ counted (length (freshVenue .series)) 8
     -- no length where there is no such kind
-    ∷ counted (lengthOf 0) 0 ∷ counted (lengthOf 7) 0
+    ∷ counted (lengthOf 0) 0 ∷ counted (lengthOf 9) 0
     -- the numbers of answers that are enums
     ∷ counted (verdictNumber Stands) 0 ∷ counted (verdictNumber (Fails NotOpen)) 6 ∷ counted (decodedNumber (Taken Sweep)) 0 ∷ counted (decodedNumber (Refused 3)) 3
     -- "contracts in a series from that series' 65, as taker or maker; pairs, or paired, from 66; crossed from 70, as taker or maker; cancelled from 71"
@@ -878,9 +892,83 @@ numbers =
     ∷ counted (openRegular 2 resting) 12 ∷ counted (openRegular 3 resting) 0 ∷ counted (openComplex 3 (both 2 8 ∷ both 3 9 ∷ [])) 9
     ∷ []
 
+-- Settings with dates -------------------------------------------------------------------------
+
+increments : (series increment edition : ℕ) → List ℕ
+increments s i e = encodeMessage (Increment s i e)
+
+bands : (percent edition : ℕ) → List ℕ
+bands x e = encodeMessage (Percent x e)
+
+-- series 6 closed, editions 1 and 3, entered by messages 1 and 2, and then one more place
+dating : Edition → Venue
+dating e =
+    withEditions (setStatus 6 closed freshVenue) (record { edition = 1; message = 1; figure = 0; value = 1 } ∷ record { edition = 3; message = 2; figure = 8; value = 4 } ∷ e ∷ replicate 29 noEdition)
+
+-- and edition 7, entered by message 4
+dated : Venue
+dated = dating (record { edition = 7; message = 4; figure = 6; value = 5 })
+
+-- editions of the percentage from n on
+many : (count n : ℕ) → List ℕ
+many zero n = []
+many (suc count) n = bands 5 n ++ many count (suc n)
+
+-- 32 editions, the last of them with this number and this message
+full : (edition message : ℕ) → Venue
+full e n = withEditions freshVenue (kept 31 1)
+  where
+    kept : (count n : ℕ) → List Edition
+    kept zero k = record { edition = e; message = n; figure = 8; value = 5 } ∷ []
+    kept (suc count) k = record { edition = k; message = k; figure = 8; value = 5 } ∷ kept count (suc k)
+
+inAll : (first sixth percent : ℕ) → Settings
+inAll a g x = record { number = 0; increments = a ∷ 5 ∷ 5 ∷ 5 ∷ 5 ∷ 5 ∷ g ∷ 10 ∷ []; percent = x }
+
+pub seasons : List Trial
+seasons =
+    -- "of each, the last entered by a message numbered no higher"
+    upon (dating noEdition) 3 100 (increments 6 5 7) 0 1 (answer 4 0 0 0 ∷ []) dated
+    ∷ inforce dated 0 (inAll 5 10 5) ∷ inforce dated 1 (inAll 1 10 5) ∷ inforce dated 2 (inAll 1 10 4) ∷ inforce dated 3 (inAll 1 10 4)
+    ∷ inforce dated 4 (inAll 1 5 4) ∷ inforce dated 4294967295 (inAll 1 5 4)
+    -- "asked of an unsound venue, the settings are told as 9 and zeros"; editions that do not rise, in either number
+    ∷ inforce twice 1 (record { number = 9; increments = 0 ∷ 0 ∷ 0 ∷ 0 ∷ 0 ∷ 0 ∷ 0 ∷ 0 ∷ []; percent = 0 })
+    ∷ upon (full 31 32) 40 100 sweeps 9 0 [] (full 31 32)
+    ∷ upon (full 32 31) 40 100 sweeps 9 0 [] (full 32 31)
+    -- "A one-message call whose number is not above every kept edition's gets 9."
+    ∷ upon dated 3 100 sweeps 9 0 [] dated
+    ∷ upon dated 4 100 sweeps 0 1 (answer 5 0 0 0 ∷ []) dated
+    -- "Every band and increment in the rules reads the edition in force": 113 is shown at 113, and 4 percent leave 105 out of the band of 100
+    ∷ session 300 (closes 0 ++ increments 0 1 1 ++ opening ++ enters 3 0 sell 131 1 ++ buysBoth 4 (pos 203) 8) 0 8
+    (accepted 1 7 ++ (answer 8 0 5 2 ∷ generated 4 0 0 113 113 8 ∷ generated 4 1 0 73 70 8 ∷ []))
+    ∷ session 300 (opening ++ awayAdded ++ buysBoth 3 (pos 105) 8 ++ bands 4 1) 0 8
+    (accepted 1 6 ++ (answer 7 0 1 1 ∷ generated 3 0 0 15 15 8 ∷ answer 8 0 0 0 ∷ removed 3 0 0 OutOfBand ∷ []))
+    -- an edition holds from its own message on: the settling of that message reads it
+    ∷ session 300 (encodeMessage (Away 0 0 100) ++ enters 1 0 sell 130 15 ++ enters 2 1 sell 90 12 ++ buysBoth 3 (pos 195) 8 ++ bands 2 1) 0 5
+    (accepted 1 3 ++ (answer 4 0 4 1 ∷ generated 3 1 0 65 65 8 ∷ answer 5 0 0 0 ∷ removed 3 1 0 OutOfBand ∷ []))
+    -- by an increment of 1, too: no legging order below it, and none shown above 100,000
+    ∷ session 300 (closes 0 ++ increments 0 1 1 ++ opening ++ buysBoth 3 (pos 50) 8) 0 7 (accepted 1 7)
+    ∷ session 300 (closes 0 ++ increments 0 1 1 ++ opens 0 ++ enters 1 0 buy 130 15 ++ enters 2 1 buy 90 12 ++ pairUp 3 0 1 sell (negℤ (pos 100091)) 8) 0 6
+    (accepted 1 5 ++ (answer 6 0 8 1 ∷ generated 3 1 1 99961 99965 8 ∷ []))
+    -- 3, 4 before 11, 11 before 12: "edition not above the last of either kind, at first 0"
+    ∷ session 200 ((4 ∷ 0 ∷ 7 ∷ 0 ∷ []) ++ increments 0 2 0 ++ increments 0 1 0 ++ bands 4 1 ++ opens 0 ++ increments 0 1 1 ++ bands 4 1) 0 7
+    (answer 1 3 0 0 ∷ answer 2 4 0 0 ∷ answer 3 11 0 0 ∷ answer 4 0 0 0 ∷ answer 5 0 0 0 ∷ answer 6 11 0 0 ∷ answer 7 11 0 0 ∷ [])
+    -- 12: "a series that isn't closed or has a resting order or leg"
+    ∷ session 300 (opening ++ buysBoth 3 (pos 50) 1 ++ increments 0 1 1 ++ closes 0 ++ increments 0 1 1 ++ cancels 1 ++ increments 0 1 1
+    ++ cancels 3 ++ increments 0 1 1 ++ closes 2 ++ increments 2 1 2) 0 14
+    (accepted 1 5 ++ (answer 6 12 0 0 ∷ answer 7 0 0 0 ∷ answer 8 12 0 0 ∷ answer 9 0 0 0 ∷ cancelled 1 15 ∷ answer 10 12 0 0 ∷ answer 11 0 0 0 ∷ cancelled 3 1
+    ∷ answer 12 0 0 0 ∷ answer 13 0 0 0 ∷ answer 14 0 0 0 ∷ []))
+    -- 13: "32 editions held already", after 11 and 12
+    ∷ session 500 (many 33 1 ++ bands 5 32 ++ opens 0 ++ increments 0 1 33) 0 36 (accepted 1 32 ++ (answer 33 13 0 0 ∷ answer 34 11 0 0 ∷ answer 35 0 0 0 ∷ answer 36 12 0 0 ∷ []))
+    ∷ []
+
 pub trials : List Trial
 trials = starred ++ wrongs ++ choices ++ respecting ++ layouts ++ edges ++ refused ++ met ++ settled ++ worked ++ made ++ faults ++ lefts ++ numbers
 
 pub trials-hold : map outcome trials ≡ map expected trials
 unfolding opened-rules outcome expected spread open1 legsUp rest both leg resting leggedVenue minus opens closes enters pairUp buysBoth cancels sweeps opening accepted awayAdded starred together wrongs twoLeg legged leggedSheet quoted relying inAuction restingBefore keptApart choices quotes bidding asked dearer respecting gone layouts single double edges offers pairs twice refused met settled threeOpen farApart worked awayAlone nearTop made standing base atTop isSound unsound locked stale staleComplex staleLegging listing market spreading faults lone quoting idle allHeld lefts named numbers trials
 trials-hold = refl
+
+pub seasons-hold : map outcome seasons ≡ map expected seasons
+unfolding opened-rules outcome expected opens closes enters pairUp buysBoth cancels sweeps opening accepted awayAdded twice increments bands dating dated many full inAll seasons
+seasons-hold = refl

@@ -1,7 +1,7 @@
 -- Document 01, "Words and ranges".
 use mathlib.Core.Bool.{Bool, _&&_}
 use mathlib.Core.List.{List}
-use Prim.Native.Nat.{ℕ, _+_, _-_, _*_, _%_}
+use Prim.Native.Nat.{ℕ, _+_, _-_, _*_}
 use lib.Dec.{leb, ltb, eqb}
 use lib.ListN.{getD, replicate}
 use lib.IntN.{ℤ, pos, negsuc, negℤ}
@@ -10,6 +10,7 @@ use Rattle.rules.specs.declared.Regular.{Regular}
 use Rattle.rules.specs.declared.Complex.{Complex}
 use Rattle.rules.specs.declared.Legging.{Legging}
 use Rattle.rules.specs.declared.Listed.{Listed}
+use Rattle.rules.specs.declared.Edition.{Edition}
 use Rattle.rules.specs.declared.Venue.{Venue}
 use Rattle.rules.specs.Base.{if_then_else_, held}
 
@@ -78,14 +79,6 @@ isAway = within 0 100000
 unfoldable pub isPrice : ℕ → Bool
 isPrice = within 1 100000
 
--- "its series' increment: 5 in series 0 to 5, 10 in series 6 and 7"
-unfoldable pub increment : (series : ℕ) → ℕ
-increment s = if ltb s 6 then 5 else 10
-
--- "a regular price a multiple of its series' increment"
-unfoldable pub isRegularPrice : (increment price : ℕ) → Bool
-isRegularPrice i p = isPrice p && eqb (p % i) 0
-
 -- "a complex order's limit N, from -200,000 to 200,000"
 unfoldable pub isLimit : ℤ → Bool
 isLimit n = leZ (negsuc 199999) n && leZ n (pos 200000)
@@ -113,14 +106,18 @@ notListed = record { status = 0; bid = 0; offer = 0 }
 abbrev pub newlyListed : Listed
 newlyListed = record { status = opened; bid = 0; offer = 0 }
 
+abbrev pub noEdition : Edition
+noEdition = record { edition = 0; message = 0; figure = 0; value = 0 }
+
 -- "Fresh: no orders, all series closed, no away prices, last id 0."; request (l): "A fresh venue now has every series open."
--- "At most 128 regular and 32 complex orders rest"
+-- "At most 128 regular and 32 complex orders rest"; 02 (d): "The venue keeps up to 32 editions"
 unfoldable pub freshVenue : Venue
 freshVenue = record {
   regular = replicate 128 noRegular;
   complex = replicate 32 noComplex;
   legging = replicate 16 noLegging;
   series = replicate 8 newlyListed;
+  editions = replicate 32 noEdition;
   last = 0;
 }
 
@@ -142,19 +139,22 @@ statusOf v s = listedAt v s .status
 
 -- the venue with one part anew
 unfoldable pub withRegular : Venue → List Regular → Venue
-withRegular v x = record { regular = x; complex = v .complex; legging = v .legging; series = v .series; last = v .last }
+withRegular v x = record { regular = x; complex = v .complex; legging = v .legging; series = v .series; editions = v .editions; last = v .last }
 
 unfoldable pub withComplex : Venue → List Complex → Venue
-withComplex v x = record { regular = v .regular; complex = x; legging = v .legging; series = v .series; last = v .last }
+withComplex v x = record { regular = v .regular; complex = x; legging = v .legging; series = v .series; editions = v .editions; last = v .last }
 
 unfoldable pub withLegging : Venue → List Legging → Venue
-withLegging v x = record { regular = v .regular; complex = v .complex; legging = x; series = v .series; last = v .last }
+withLegging v x = record { regular = v .regular; complex = v .complex; legging = x; series = v .series; editions = v .editions; last = v .last }
 
 unfoldable pub withSeries : Venue → List Listed → Venue
-withSeries v x = record { regular = v .regular; complex = v .complex; legging = v .legging; series = x; last = v .last }
+withSeries v x = record { regular = v .regular; complex = v .complex; legging = v .legging; series = x; editions = v .editions; last = v .last }
+
+unfoldable pub withEditions : Venue → List Edition → Venue
+withEditions v x = record { regular = v .regular; complex = v .complex; legging = v .legging; series = v .series; editions = x; last = v .last }
 
 unfoldable pub withLast : Venue → ℕ → Venue
-withLast v x = record { regular = v .regular; complex = v .complex; legging = v .legging; series = v .series; last = x }
+withLast v x = record { regular = v .regular; complex = v .complex; legging = v .legging; series = v .series; editions = v .editions; last = x }
 
 -- Resting orders ------------------------------------------------------------------------------
 

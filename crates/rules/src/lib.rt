@@ -3,10 +3,11 @@
 ghost use mathlib.Core.Path.{_≡_};
 ghost use Prim.Native.Nat.{ℕ, min, _+_, _≤_};
 ghost use lib.IntN.{ℤ, pos, natAbs, _+ℤ_};
-ghost use Rattle.rules.specs.Words.{opposite, signed, increment, placeOf, freshVenue};
+ghost use Rattle.rules.specs.Words.{opposite, signed, placeOf, freshVenue};
+ghost use Rattle.rules.specs.Settings.{baseFigure};
 ghost use Rattle.rules.specs.Messages.{lengthOf, messageKind};
 ghost use Rattle.rules.specs.Records.{causeNumber};
-ghost use Rattle.rules.specs.Prices.{displayed, weighed, percent, nearNet};
+ghost use Rattle.rules.specs.Prices.{displayed, weighed, nearNet};
 ghost use Rattle.rules.specs.Standing.{verdictNumber};
 ghost use Rattle.rules.specs.Refusals.{decodedNumber};
 
@@ -45,11 +46,21 @@ pub struct Listed {
     pub offer: u32,
 }
 
+// An edition of a figure, with the number of the message that entered it: figure 0 to 7 is the increment of that series, 8 the percent of the band.
+// Its place is free when its edition is 0.
+pub struct Edition {
+    pub edition: u32,
+    pub message: u32,
+    pub figure: u8,
+    pub value: u8,
+}
+
 pub struct Venue {
     pub regular: [Regular; 128],
     pub complex: [Complex; 32],
     pub legging: [Legging; 16],
     pub series: [Listed; 8],
+    pub editions: [Edition; 32],
     pub last: u32,
 }
 
@@ -67,7 +78,14 @@ pub struct Returned {
     pub venue: Venue,
 }
 
-// A message, kinds 1 to 6.
+// The settings in force at a message number, with the number 0; of an unsound venue 9 and zeros.
+pub struct Settings {
+    pub number: u8,
+    pub increments: [u8; 8],
+    pub percent: u8,
+}
+
+// A message, kinds 1 to 8.
 pub enum Message {
     Order(Regular),
     TwoLeg(Complex),
@@ -75,6 +93,8 @@ pub enum Message {
     Away(u8, u32, u32),
     Status(u8, u8),
     Sweep,
+    Increment(u8, u8, u32),
+    Percent(u8, u32),
 }
 
 // The bytes at the front of a message list: a message whose fields are in range, or the refusal, 1 to 4, that they meet.
@@ -132,11 +152,18 @@ pub fn fresh() -> Venue
         bid: 0,
         offer: 0,
     };
+    let edition = Edition {
+        edition: 0,
+        message: 0,
+        figure: 0,
+        value: 0,
+    };
     Venue {
         regular: [regular; 128],
         complex: [complex; 32],
         legging: [legging; 16],
         series: [listed; 8],
+        editions: [edition; 32],
         last: 0,
     }
 }
@@ -151,14 +178,17 @@ pub fn opposite_of(side: u8) -> u8
     0
 }
 
-// A series' increment.
-pub fn increment_of(series: u8) -> u32
-    ensures { λ r. ⌜ r ≡ increment series ⌝ }
+// A figure of edition 0: the increment of series 0 to 7, and the percent.
+pub fn base_figure(figure: u8) -> u8
+    ensures { λ r. ⌜ r ≡ baseFigure figure ⌝ }
 {
-    if series < 6 {
+    if figure < 6 {
         return 5;
     }
-    10
+    if figure < 8 {
+        return 10;
+    }
+    5
 }
 
 // A legging order's displayed price: its own, down (buy) or up (sell) to the increment of its series.
@@ -174,13 +204,6 @@ pub fn displayed_price(increment: u8, side: u8, price: u32) -> u64
         return p / i * i;
     }
     (p + (i - 1)) / i * i
-}
-
-// The same in a series.
-pub fn displayed_in(series: u8, side: u8, price: u32) -> u64
-    ensures { λ r. ⌜ r ≡ displayed (increment series) side price ⌝ }
-{
-    displayed_price(increment_of(series) as u8, side, price)
 }
 
 // The place of a legging order.
@@ -227,15 +250,16 @@ pub fn net_of(side1: u8, a: u32, side2: u8, b: u32) -> i64
     x + y
 }
 
-// The net t is within 5 percent of the net o of the market bests: 100 t ≤ 100 o + 5 |o|.
-pub fn near_net(o: i64, t: i64) -> bool
+// The net t is within some percent of the net o of the market bests: 100 t ≤ 100 o + percent |o|.
+pub fn near_net(percent: u8, o: i64, t: i64) -> bool
     requires { ⌜ (natAbs o ≤ 8589934590) × (natAbs t ≤ 8589934590) ⌝ }
     ensures { λ r. ⌜ r ≡ nearNet percent o t ⌝ }
 {
+    let x = percent as i64;
     if o < 0 {
-        return 100 * t <= 95 * o;
+        return 100 * t + x * o <= 100 * o;
     }
-    100 * t <= 105 * o
+    100 * t <= 100 * o + x * o
 }
 
 // A message's kind.
@@ -249,6 +273,8 @@ pub fn message_kind(m: Message) -> u16
         Message::Away(_, _, _) => 4,
         Message::Status(_, _) => 5,
         Message::Sweep => 6,
+        Message::Increment(_, _, _) => 7,
+        Message::Percent(_, _) => 8,
     }
 }
 
@@ -276,6 +302,12 @@ pub fn length_of(kind: u16) -> u16
     }
     if kind <= 6 {
         return 4;
+    }
+    if kind <= 7 {
+        return 10;
+    }
+    if kind <= 8 {
+        return 9;
     }
     0
 }
