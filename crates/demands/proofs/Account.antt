@@ -19,6 +19,7 @@ use Rattle.rules.specs.Messages.{messageOf}
 use Rattle.rules.specs.Records.{ForAll, Report, FourBytes, answer}
 use Rattle.rules.specs.Effects.{Effect}
 use Rattle.rules.specs.Prices.{ratio1, ratio2}
+use Rattle.rules.specs.Sound.{follows}
 use Rattle.rules.specs.Sums.{cancelledOf, contracts, crossedFor, openComplex, openRegular, paired, total}
 use Rattle.demands.specs.Demand.{Accepted, Seen, start}
 use Rattle.rules.proofs.Adding.{open-none, total-append}
@@ -56,6 +57,7 @@ pub record Unnamed (y : ℕ) (rs : List Report) : Type 0 where
 pub record Account (s : Seen) : Type 0 where
   pub invariant : Invariant (s .venue)
   pub few : FourBytes (s .done)
+  pub dated : follows (suc (s .done)) (s .venue) ≡ true
   pub count : length (s .messages) ≡ s .done
   pub numbers : (j x m c : ℕ) → List·Memᴰ (answer j x m c) (s .reports) → j ≤ s .done
   pub orders : (o : Regular) → Accepted s (Order o) → OrderAccount s o
@@ -118,7 +120,8 @@ pub record Takes (v : Venue) (qs : List Report) (w : Venue) (ms : List Message) 
 -- the message bs, and its effect e: what it brings in, its records with its 64 first, and the venue that is returned
 module _ {s : Seen} {u : Venue} {ns : List Message} (bs : List ℕ) {e : Effect} (a : Account s) (t : Takes (s .venue) (e .reports) u ns) (z : Ends u (e .venue))
     (x k l : ℕ) (es : List Report) (is : e .reports ≡ answer (suc (s .done)) x k l ∷ es) (quiet : ForAll NoAnswer es)
-    (brings : x ≡ 0 → ns ≡ messageOf bs ∷ []) (invariant : Invariant (e .venue)) (few : FourBytes (suc (s .done))) where
+    (brings : x ≡ 0 → ns ≡ messageOf bs ∷ []) (invariant : Invariant (e .venue)) (few : FourBytes (suc (s .done)))
+    (next : follows (suc (suc (s .done))) (e .venue) ≡ true) where
   abbrev qs : List Report
   qs = e .reports
 
@@ -232,6 +235,7 @@ module _ {s : Seen} {u : Venue} {ns : List Message} (bs : List ℕ) {e : Effect}
   advance = record {
     invariant = unfold onto in invariant;
     few = unfold onto in few;
+    dated = unfold onto in next;
     count = unfold onto in (simp length-append (let c = a .count in omega arith));
     numbers = unfold onto in told-by;
     orders = λ o m. ⊎-elim (λ x. old-order o (a .orders o x)) (λ x. new-order o (t .orders o x)) (cases (Order o) m);

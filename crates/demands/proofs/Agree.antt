@@ -16,10 +16,9 @@ use Rattle.rules.specs.Records.{Report, encodeAll, sheet}
 use Rattle.rules.specs.Effects.{Effect}
 use Rattle.rules.specs.Refusals.{torn}
 use Rattle.rules.specs.Step.{step}
-use Rattle.rules.specs.Sound.{sound}
 use Rattle.rules.specs.Calls.{Outcome, after, called, ends, exceeds, one, oneFrom, run, runFrom}
 use Rattle.demands.specs.Agree.{Agree, Ended, Enough, NeverFills, Progress, ReadsOne, atEnd, atFull, atTorn, begun, byCalls, onward, wrote}
-use Rattle.demands.specs.Kept.{SoundVenue}
+use Rattle.demands.specs.Kept.{SoundAt}
 use Rattle.demands.specs.Most.{most}
 use Rattle.rules.proofs.Calling.{encode-append, no-bytes, not-exceeds, oneFrom-done, runFrom-by, torn-not}
 use Rattle.rules.proofs.Front.{reads-one}
@@ -49,7 +48,7 @@ unfolding ends byCalls encodeAll
 stops n room b number v p d w c e [] h = record { done = omega arith; venue = w; bytes = c ∙ sym (append-nil b); number = e }
 stops n room b number v p d w c e (r ∷ rs) h = absurd (omega arith)
 
-module _ (v : Venue) (n room : ℕ) (bs : List ℕ) (s : SoundVenue v) (x : ℕ) (b : List ℕ) where
+module _ (v : Venue) (n room : ℕ) (bs : List ℕ) (s : SoundAt (suc n) v) (x : ℕ) (b : List ℕ) where
   abbrev reports : List Report
   reports = step v (suc n) bs .effect .reports
 
@@ -81,10 +80,10 @@ module _ (v : Venue) (n room : ℕ) (bs : List ℕ) (s : SoundVenue v) (x : ℕ)
   moved : (r : ℕ) → most ≤ r → Done → onward here (one v n r bs) ≡ there
   unfolding one
   moved r enough e =
-      let w = writes-at-most v s (suc n) bs in
+      let w = writes-at-most v (s .venue) (suc n) bs in
       let few = e .0 in
       let f = not-exceeds (suc n) r reports (omega arith) (omega arith) in
-      ap (λ (o : Outcome). onward here (called r o)) (oneFrom-done v n r bs (s .is) f) ∙ called-on r (step v (suc n) bs .refused) (step v (suc n) bs .effect)
+      ap (λ (o : Outcome). onward here (called r o)) (oneFrom-done v n r bs (s .venue .is) (s .next) f) ∙ called-on r (step v (suc n) bs .refused) (step v (suc n) bs .effect)
 
   same-room : Done → room - size + length (b ++ encodeAll reports) ≡ room + length b
   same-room e = let h = e .1 in rw (length-append b (encodeAll reports)) (omega arith)
@@ -103,21 +102,21 @@ module _ (v : Venue) (n room : ℕ) (bs : List ℕ) (s : SoundVenue v) (x : ℕ)
       })
 
 -- refusal 10 ends the next call too
-full-too : (v : Venue) (n room : ℕ) (bs : List ℕ) → sound v ≡ true → exceeds (suc n) room (step v (suc n) bs .effect .reports) ≡ true →
+full-too : (v : Venue) (n room : ℕ) (bs : List ℕ) → SoundAt (suc n) v → exceeds (suc n) room (step v (suc n) bs .effect .reports) ≡ true →
     one v n room bs .returned .number ≡ 10
 unfolding one oneFrom called ends
-full-too v n room bs s e = rw (s, e)
+full-too v n room bs s e = rw (s .venue .is, s .next, e)
 
 back : (a b : ℕ) → a + b - b ≡ a
 back a b = omega arith
 
 -- what a run with this fuel does, calls do
 abbrev Followed : (fuel : ℕ) → Type 0
-Followed fuel = (v : Venue) (n room : ℕ) (bs : List ℕ) (s : SoundVenue v) → length bs ≤ fuel → (x : ℕ) (b : List ℕ) → x ≢ 1 →
+Followed fuel = (v : Venue) (n room : ℕ) (bs : List ℕ) (s : SoundAt (suc n) v) → length bs ≤ fuel → (x : ℕ) (b : List ℕ) → x ≢ 1 →
     (rooms : List ℕ) → Enough rooms → length rooms ≡ runFrom fuel v n room bs .done → Follows n room b (runFrom fuel v n room bs) (byCalls rooms (here v n room bs s x b))
 
 -- one message more, by what the run does then
-module _ (v : Venue) (n room : ℕ) (bs : List ℕ) (s : SoundVenue v) (x : ℕ) (b : List ℕ) where
+module _ (v : Venue) (n room : ℕ) (bs : List ℕ) (s : SoundAt (suc n) v) (x : ℕ) (b : List ℕ) where
   -- as many calls as o has messages do what o does
   abbrev FollowedBy : Outcome → Type 0
   FollowedBy o = (rooms : List ℕ) → Enough rooms → length rooms ≡ o .done → Follows n room b o (byCalls rooms (here v n room bs s x b))
@@ -139,11 +138,11 @@ followed zero v n room bs s le x b not-one = unfold runFrom in (λ rooms enough 
 followed (suc fuel) v n room bs s le x b not-one =
     runFrom-by (FollowedBy v n room bs s x b) v n room bs fuel
     (λ e rooms _ h. stops n room b 0 v _ refl refl refl (atEnd not-one (no-bytes bs e)) rooms h)
-    (λ _ e rooms _ h. stops n room b 10 v _ refl refl refl (atFull not-one (rw (back room (length b)) (full-too v n room bs (s .is) e))) rooms h)
+    (λ _ e rooms _ h. stops n room b 10 v _ refl refl refl (atFull not-one (rw (back room (length b)) (full-too v n room bs s e))) rooms h)
     (λ d t. done-follows v n room bs s x b d _ (λ rooms _ h. stops (suc n) _ _ 1 _ _ refl refl refl (atTorn t) rooms h))
     (λ d t. done-follows v n room bs s x b d _
     (λ rooms enough h.
-    followed fuel _ (suc n) _ _ (kept v s (suc n) bs) (shorter fuel bs le (torn-not v n bs t)) (step v (suc n) bs .refused) _ t rooms enough h))
+    followed fuel _ (suc n) _ _ (kept v (suc n) (d .0) s bs) (shorter fuel bs le (torn-not v n bs t)) (step v (suc n) bs .refused) _ t rooms enough h))
 
 pub agree : Agree
 unfolding run called begun
@@ -161,14 +160,14 @@ agree room bs rooms enough h =
 
 -- each message takes a byte of the list at least, and writes no more than the most
 abbrev Roomy : (fuel : ℕ) → Type 0
-Roomy fuel = (v : Venue) (n room : ℕ) (bs : List ℕ) → SoundVenue v → n + length bs ≤ 4294967295 → most * length bs ≤ room → runFrom fuel v n room bs .number ≢ 10
+Roomy fuel = (v : Venue) (n room : ℕ) (bs : List ℕ) → SoundAt (suc n) v → n + length bs ≤ 4294967295 → most * length bs ≤ room → runFrom fuel v n room bs .number ≢ 10
 
 roomy : (fuel : ℕ) → Roomy fuel
 unfolding ends after
 roomy zero v n room bs s few enough = unfold runFrom in (λ e. omega arith)
 roomy (suc fuel) v n room bs s few enough =
     let rs = step v (suc n) bs .effect .reports in
-    let w = writes-at-most v s (suc n) bs in
+    let w = writes-at-most v (s .venue) (suc n) bs in
     runFrom-by (λ o. o .number ≢ 10) v n room bs fuel (λ _ h. omega arith)
     (λ some e. absurd (true≢false (sym e ∙ not-exceeds (suc n) room rs (omega arith) (omega arith))))
     (λ _ _ h. omega arith)
@@ -177,7 +176,7 @@ roomy (suc fuel) v n room bs s few enough =
     let l = f .0 in
     let g = f .1 in
     let q = length-drop (lengthField bs) bs in
-    roomy fuel _ (suc n) _ _ (kept v s (suc n) bs) (omega arith) (omega arith))
+    roomy fuel _ (suc n) _ _ (kept v (suc n) (d .0) s bs) (omega arith) (omega arith))
 
 pub never-fills : NeverFills
 unfolding run called

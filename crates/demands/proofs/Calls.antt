@@ -1,6 +1,6 @@
 -- The theorems but those of Most, Agree and Truth: of one message, and by the induction over calls with the account as its invariant.
-use mathlib.Core.Path.{_∙_, _≡_, sym}
-use mathlib.Core.Bool.{true, true≢false}
+use mathlib.Core.Path.{_∙_, sym}
+use mathlib.Core.Bool.{true≢false}
 use mathlib.Core.Logic.{_≢_}
 use mathlib.Core.List.{List}
 use Prim.Native.Nat.{suc, ℕ}
@@ -11,17 +11,19 @@ use Rattle.rules.specs.Words.{freshVenue}
 use Rattle.rules.specs.Records.{FourBytes}
 use Rattle.rules.specs.Prices.{ratio1, ratio2}
 use Rattle.rules.specs.Step.{answered, step}
-use Rattle.rules.specs.Sound.{sound}
 use Rattle.rules.specs.Calls.{after, called, ends, one, oneFrom}
-use Rattle.demands.specs.Kept.{AlwaysSound, DoneFits, FreshSound, Kept, NeverNine}
+use Rattle.demands.specs.Kept.{AlwaysSound, DoneFits, FreshSound, Kept, NeverNine, SoundAt}
 use Rattle.demands.specs.Demand.{ComplexAdds, Demand3, Given, Opening, Seen, calls, opening}
 use Rattle.demands.specs.ReadsBack.{ReadsBack, StepFits, WholeMemory}
 use Rattle.rules.proofs.Answering.{told}
 use Rattle.rules.proofs.Calling.{one-memory, oneFrom-by, run-memory}
+use Rattle.rules.proofs.Dating.{some-number, step-follows}
+use Rattle.rules.proofs.Editions.{dated-steps}
 use Rattle.rules.proofs.Reading.{reads-back}
-use Rattle.rules.proofs.Refusing.{refusal-small}
+use Rattle.rules.proofs.Refusing.{refusal-own}
+use Rattle.rules.proofs.Tests.{and-in}
 use Rattle.demands.proofs.Account.{Account, ComplexAccount, advance, onto}
-use Rattle.demands.proofs.Fresh.{fresh-invariant, start-account}
+use Rattle.demands.proofs.Fresh.{fresh-follows, fresh-invariant, start-account}
 use Rattle.demands.proofs.Induction.{all-keep}
 use Rattle.demands.proofs.Messages.{step-invariant, step-takes}
 use Rattle.demands.proofs.Soundness.{sound-in, sound-out}
@@ -31,10 +33,15 @@ use Rattle.demands.proofs.Standing.{standing}
 
 -- soundness is kept by every message
 pub kept : Kept
-kept v s n bs = sound-in _ (step-invariant v (sound-out v s) n bs)
+kept v n few s bs =
+    let k = sound-out v (s .venue) in
+    record {
+      venue = sound-in _ (step-invariant v k n (omega arith) (s .next) bs);
+      next = step-follows v n bs (some-number n v (k .edited .len) (s .next)) (s .next);
+    }
 
 pub fresh-sound : FreshSound
-fresh-sound = sound-in freshVenue fresh-invariant
+fresh-sound = record { venue = sound-in freshVenue fresh-invariant; next = fresh-follows }
 
 pub step-fits : StepFits
 step-fits v s n h bs = told v (sound-out v s .ranged) n bs .fits h
@@ -44,9 +51,10 @@ step-account : (s : Seen) (bs : List ℕ) → Account s → FourBytes (suc (s .d
 step-account s bs a few =
     let i = a .invariant in
     let n = suc (s .done) in
-    let t = step-takes (s .venue) (i .fine) (i .stand) (i .tidy) n bs in
+    let t = step-takes (s .venue) (i .fine) (dated-steps (s .venue) (i .ranged .dated)) (i .stand) (i .tidy) n bs in
     let y = told (s .venue) (i .ranged) n bs in
-    advance bs a (t .takes) (t .ends) (step (s .venue) n bs .refused) (y .mask) (y .count) (y .effects) (y .is) (y .quiet) (t .brings) (step-invariant (s .venue) i n bs) few
+    advance bs a (t .takes) (t .ends) (step (s .venue) n bs .refused) (y .mask) (y .count) (y .effects) (y .is) (y .quiet) (t .brings)
+    (step-invariant (s .venue) i n (omega arith) (a .dated) bs) few (step-follows (s .venue) n bs (omega arith) (a .dated))
 
 all-account : (o : Opening) (gs : List Given) → Account (calls (opening o) gs)
 all-account = all-keep Account (λ s a. a .invariant .ranged) start-account step-account
@@ -68,20 +76,20 @@ demand3 o gs =
     }
 
 pub always-sound : AlwaysSound
-always-sound o gs = sound-in _ (all-account o gs .invariant)
+always-sound o gs = let a = all-account o gs in record { venue = sound-in _ (a .invariant); next = a .dated }
 
 -- upon a sound venue the number is 10, or the message's own
-not-nine : (v : Venue) → sound v ≡ true → (n room : ℕ) (bs : List ℕ) → oneFrom v n room bs .number ≢ 9
+not-nine : (v : Venue) (n : ℕ) → SoundAt (suc n) v → (room : ℕ) (bs : List ℕ) → oneFrom v n room bs .number ≢ 9
 unfolding ends after step answered
-not-nine v h n room bs =
-    oneFrom-by (λ r. r .number ≢ 9) v n room bs (λ u _. true≢false (sym h ∙ u)) (λ _ _ e. omega arith)
-    (λ _ _ e. (let z = refusal-small v bs in omega arith))
+not-nine v n h room bs =
+    oneFrom-by (λ r. r .number ≢ 9) v n room bs (λ u _. true≢false (sym (and-in _ _ (h .venue .is) (h .next)) ∙ u)) (λ _ _ e. omega arith)
+    (λ _ _. refusal-own v bs 9 (omega arith) (omega arith))
 
 pub never-nine : NeverNine
 unfolding one called
 never-nine o gs g =
     let s = calls (opening o) gs in
-    not-nine (s .venue) (always-sound o gs .is) (s .done) (g .room) (g .bytes)
+    not-nine (s .venue) (s .done) (always-sound o gs) (g .room) (g .bytes)
 
 pub done-fits : DoneFits
 done-fits o gs = all-account o gs .few

@@ -7,7 +7,7 @@ use lib.Dec.{eqb}
 use lib.IntN.{negℤ}
 use Rattle.rules.specs.declared.Complex.{Complex}
 use Rattle.rules.specs.declared.Message.{Message}
-use Rattle.rules.specs.declared.Message.the-variants.{Order, TwoLeg, Cancel, Away, Status, Sweep}
+use Rattle.rules.specs.declared.Message.the-variants.{Order, TwoLeg, Cancel, Away, Status, Sweep, Increment, Percent}
 use Rattle.rules.specs.declared.Venue.{Venue}
 use Rattle.rules.specs.Base.{Choice, nobody, picked, if_then_else_}
 use Rattle.rules.specs.Words.{complexAt, freshVenue}
@@ -113,23 +113,25 @@ does-each (suc fuel) id v = go (nextAbove id v) (λ k w. does-each fuel k w)
     go nobody on = idle v
     go (picked i c) on = does-then _ _ (work i v) (each fuel work (c .id)) (does-work i v) (on (c .id) _)
 
-does-perform : (m : Message) (v : Venue) → Does (inMessage m v) (perform m v)
+does-perform : (number : ℕ) (m : Message) (v : Venue) → Does (inMessage m v) (perform number m v)
 unfolding inMessage perform complex sweep
-does-perform (Order o) v = no-deals _ (all-order NoCross no-cross o _)
-does-perform (TwoLeg c) v = does-plain _ _ _ (does-plain _ _ _ (does-work _ _) (all-settle NoCross no-cross _)) (all-generate NoCross no-cross _ _)
-does-perform (Cancel id) v = no-deals _ (all-cancel NoCross no-cross id v)
-does-perform (Away s bid offer) v = no-deals _ (all-settle NoCross no-cross _)
-does-perform (Status s x) v = no-deals _ (all-settle NoCross no-cross _)
-does-perform Sweep v =
+does-perform number (Order o) v = no-deals _ (all-order NoCross no-cross o _)
+does-perform number (TwoLeg c) v = does-plain _ _ _ (does-plain _ _ _ (does-work _ _) (all-settle NoCross no-cross _)) (all-generate NoCross no-cross _ _)
+does-perform number (Cancel id) v = no-deals _ (all-cancel NoCross no-cross id v)
+does-perform number (Away s bid offer) v = no-deals _ (all-settle NoCross no-cross _)
+does-perform number (Status s x) v = no-deals _ (all-settle NoCross no-cross _)
+does-perform number Sweep v =
     does-plain _ _ _ (does-plain _ _ _ (does-each 32 0 v) (all-settle NoCross no-cross _)) (all-each NoCross no-cross generate (all-generate NoCross no-cross) 32 0 _)
+does-perform number (Increment s i e) v = no-deals _ (all-settle NoCross no-cross _)
+does-perform number (Percent x e) v = no-deals _ (all-settle NoCross no-cross _)
 
-does-accept : (m : Message) (v : Venue) → Does (inMessage m v) (accept m v)
+does-accept : (number : ℕ) (m : Message) (v : Venue) → Does (inMessage m v) (accept number m v)
 unfolding accept
-does-accept m v = does-plain _ (perform m v) (λ w. nothing (closeGaps w)) (does-perform m v) (all-nothing NoCross no-cross _)
+does-accept number m v = does-plain _ (perform number m v) (λ w. nothing (closeGaps w)) (does-perform number m v) (all-nothing NoCross no-cross _)
 
 does-step : (v : Venue) (n : ℕ) (bs : List ℕ) → Does (inStep v bs) (step v n bs .effect)
 unfolding step answered inStep
-does-step v n bs = other tt (does-if (eqb (refusal v bs) 0) _ _ _ _ (does-accept (messageOf bs) v) (idle v))
+does-step v n bs = other tt (does-if (eqb (refusal v bs) 0) _ _ _ _ (does-accept n (messageOf bs) v) (idle v))
 
 -- Calls ---------------------------------------------------------------------------------------
 
@@ -159,4 +161,4 @@ more-respected s bs h few = record {
 }
 
 pub crosses-respect : CrossesRespect
-crosses-respect o gs = all-keep Respected (λ s h. sound-out (s .venue) (h .so .sound) .ranged) start-respected more-respected o gs .dealt
+crosses-respect o gs = all-keep Respected (λ s h. sound-out (s .venue) (h .so .sound .venue) .ranged) start-respected more-respected o gs .dealt

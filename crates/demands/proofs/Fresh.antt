@@ -6,10 +6,10 @@ use Prim.Native.Nat.{suc, zero, ℕ}
 use native.Mathlib.Omega.{arith}
 use lib.ListN.{getD, length, replicate}
 use Rattle.rules.specs.Base.{all, held}
-use Rattle.rules.specs.Words.{freshVenue, isAway, isStatus, leggingAt, noComplex, noLegging, noRegular, notListed, placeOf, regularAt, within}
+use Rattle.rules.specs.Words.{freshVenue, isAway, isStatus, leggingAt, noComplex, noEdition, noLegging, noRegular, notListed, placeOf, regularAt, within}
 use Rattle.rules.specs.Prices.{restsAt}
-use Rattle.rules.specs.Places.{blankComplex, blankRegular}
-use Rattle.rules.specs.Sound.{listedInRange}
+use Rattle.rules.specs.Places.{arranged, blankComplex, blankEdition, blankRegular}
+use Rattle.rules.specs.Sound.{editionsSound, follows, listedInRange}
 use Rattle.rules.specs.Sums.{total}
 use Rattle.demands.specs.Demand.{start}
 use Rattle.rules.proofs.Arranging.{all-at}
@@ -20,7 +20,7 @@ use Rattle.rules.proofs.Owning.{Own, byLegging, byRegular}
 use Rattle.rules.proofs.Settling.{free-stands}
 use Rattle.rules.proofs.Widths.{Ranged, no-cx, no-lg}
 use Rattle.demands.proofs.Account.{Account}
-use Rattle.demands.proofs.Homes.{Invariant, Tidy}
+use Rattle.demands.proofs.Homes.{Edited, Invariant, Tidy}
 
 pub getD-rep : {A : Type 0} (n i : ℕ) (a : A) → getD (replicate n a) i a ≡ a
 getD-rep zero i a = refl
@@ -57,6 +57,7 @@ fresh-ranged = record {
   last = omega arith;
   len = refl;
   eight = refl;
+  dated = λ i h. absurd (false≢true (rw (getD-rep 32 i noEdition) at h));
 }
 
 fresh-tidy : Tidy freshVenue
@@ -72,6 +73,14 @@ fresh-own : {s d p : ℕ} → Own freshVenue s d p → ⊥
 unfolding freshVenue regularAt leggingAt restsAt
 fresh-own (byRegular i r e) = false≢true (rw (getD-rep 128 i noRegular) at r)
 fresh-own {s} {d} (byLegging h e) = false≢true (rw (getD-rep 16 (placeOf s d) noLegging) at h)
+
+fresh-edited : Edited freshVenue
+unfolding freshVenue editionsSound arranged all blankEdition
+fresh-edited = record { len = refl; rise = refl }
+
+pub fresh-follows : follows 1 freshVenue ≡ true
+unfolding freshVenue follows all
+fresh-follows = refl
 
 pub fresh-invariant : Invariant freshVenue
 fresh-invariant = record {
@@ -92,6 +101,8 @@ fresh-invariant = record {
   tidy = fresh-tidy;
   ranged = fresh-ranged;
   uncrossed = λ s a b s8 p q. absurd (fresh-own p);
+  edited = fresh-edited;
+  priced = λ i h. absurd (fresh-reg i h);
 }
 
 pub start-account : Account start
@@ -99,6 +110,7 @@ unfolding start total
 start-account = record {
   invariant = fresh-invariant;
   few = omega arith;
+  dated = fresh-follows;
   count = refl;
   numbers = λ j x m c h. absurd (List·Memᴰ·not-nil h);
   orders = λ o m. absurd (List·Memᴰ·not-nil (m .told));

@@ -1,6 +1,7 @@
 -- The invariant of a venue, place by place: what soundness asks (`Soundness` has the test), in the form that every effect keeps.
 -- `Good`: shapes, ranges and ids. `Homes`: each legging order has a resting parent whose leg it is and which has as much open.
 -- `Tidy`: no gap, and free places are all zero; this holds between messages. `Uncrossed`: no series is locked or crossed.
+-- `Edited`: editions rise in both numbers. `Priced`: resting prices are on the increments in force.
 use mathlib.Core.Path.{_∙_, _≡_, ap, refl, sym}
 use mathlib.Core.Bool.{Bool, false, false≢true, true, true≢false}
 use mathlib.Core.Logic.{_≢_, _⊎_, inl, inr}
@@ -25,6 +26,8 @@ use Rattle.rules.specs.Removal.{remove, removeOf}
 use Rattle.rules.specs.Standing.{findComplex, otherLeg, parentOf}
 use Rattle.rules.specs.Trading.{fillComplex, lessComplex, pairOff}
 use Rattle.rules.specs.Places.{blankComplex, blankRegular}
+use Rattle.rules.specs.Sound.{editionsSound}
+use Rattle.rules.proofs.Dating.{Priced}
 use Rattle.rules.proofs.Filling.{LesserC, cx, lg, reg, still-held, still-heldC}
 use Rattle.rules.proofs.Finding.{LegOf, leg-series, place-is}
 use Rattle.rules.proofs.Generating.{AllStand}
@@ -235,9 +238,16 @@ after-complex {v} t = after-all (λ i. held (cx v i .quantity)) (t .dense2)
 abbrev pub Uncrossed : Venue → Type 0
 Uncrossed v = (s a b : ℕ) → s < 8 → Own v s buy a → Own v s sell b → a < b
 
+-- editions: their places, and that they rise in both numbers
+pub record Edited (v : Venue) : Type 0 where
+  pub len : length (v .editions) ≡ 32
+  pub rise : editionsSound v ≡ true
+
 pub record Invariant (v : Venue) : Type 0 where
   pub fine : Fine v
   pub stand : AllStand v
   pub tidy : Tidy v
   pub ranged : Ranged v
   pub uncrossed : Uncrossed v
+  pub edited : Edited v
+  pub priced : Priced v

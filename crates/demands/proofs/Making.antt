@@ -26,6 +26,8 @@ use Rattle.rules.specs.Complex.{each, sweep, work}
 use Rattle.rules.proofs.Afforded.{new-open}
 use Rattle.rules.proofs.AllSettled.{settled}
 use Rattle.rules.proofs.Cases.{each-by, if-by, isAbove}
+use Rattle.rules.proofs.Dating.{steps-generate, steps-leg, steps-swept}
+use Rattle.rules.proofs.Editions.{Stepped}
 use Rattle.rules.proofs.Filling.{cx}
 use Rattle.rules.proofs.Finding.{LegOf}
 use Rattle.rules.proofs.Generating.{AllStand, generate-stands, place-series, place-side}
@@ -106,8 +108,8 @@ module _ (v : Venue) (i : ℕ) (i32 : i < 32) (f : Fine v) (h : held (cx v i .qu
   unfolding opposite
   opposite-small x = omega arith
 
-  pub leg-stands : AllStand v → AllStand (generateLeg c s d v .venue)
-  leg-stands = generate-stands v c s d (g .side) (opposite-small _) (g .other) (found v (f .good) i fitsC h) fitsL
+  pub leg-stands : Stepped v → AllStand v → AllStand (generateLeg c s d v .venue)
+  leg-stands z = generate-stands v c s d (z s (g .series)) (g .side) (opposite-small _) (g .other) (found v (f .good) i fitsC h) fitsL
 
 -- Both legs -----------------------------------------------------------------------------------
 
@@ -122,27 +124,27 @@ stood-then e f a b = record { carries = carries-then e f a (b .carries); stand =
 
 module _ (i : ℕ) (i32 : i < 32) where
   -- a leg of the order at place i, or of a free place
-  one-leg : (v : Venue) (c : Complex) (s d : ℕ) → c ≡ cx v i → (held (c .quantity) ≡ true → IsLeg c s d) → Fine v → AllStand v → Stood v (generateLeg c s d v)
+  one-leg : (v : Venue) (c : Complex) (s d : ℕ) → c ≡ cx v i → (held (c .quantity) ≡ true → IsLeg c s d) → Fine v → Stepped v → AllStand v → Stood v (generateLeg c s d v)
   unfolding generateLeg nothing
-  one-leg v c s d e g f st = go (held (c .quantity)) refl
+  one-leg v c s d e g f z st = go (held (c .quantity)) refl
     where
       go : (b : Bool) → held (c .quantity) ≡ b → Stood v (if held (c .quantity) && makes v c s d then make c s d v else nothing v)
       go true h =
           subst (λ (x : Complex). Stood v (generateLeg x s d v)) (sym e)
           (let h′ = subst (λ (x : Complex). held (x .quantity) ≡ true) e h in
           let g′ = subst (λ (x : Complex). IsLeg x s d) e (g h) in
-          record { carries = leg-carries v i i32 f h′ s d g′; stand = leg-stands v i i32 f h′ s d g′ st })
+          record { carries = leg-carries v i i32 f h′ s d g′; stand = leg-stands v i i32 f h′ s d g′ z st })
       go false h = rw h (record { carries = carries-nothing v f; stand = st })
 
-  pub generate-stood : (v : Venue) → Fine v → AllStand v → Stood v (generate i v)
+  pub generate-stood : (v : Venue) → Fine v → Stepped v → AllStand v → Stood v (generate i v)
   unfolding generate complexAt
-  generate-stood v f st =
+  generate-stood v f z st =
       let c = cx v i in
-      let a = one-leg v c (c .series1) (c .side1) refl (λ h. first-leg c (f .good .ranges i h)) f st in
+      let a = one-leg v c (c .series1) (c .side1) refl (λ h. first-leg c (f .good .ranges i h)) f z st in
       stood-then _ _ (a .carries)
       (one-leg (generateLeg c (c .series1) (c .side1) v .venue) c (c .series2) (c .side2)
       (ap (λ (x : List Complex). getD x i noComplex) (sym (leg-same v c (c .series1) (c .side1))))
-      (λ h. second-leg c (f .good .ranges i h)) (fine-after f (a .carries)) (a .stand))
+      (λ h. second-leg c (f .good .ranges i h)) (fine-after f (a .carries)) (steps-leg c (c .series1) (c .side1) v z) (a .stand))
 
 -- Sweep ---------------------------------------------------------------------------------------
 
@@ -161,17 +163,17 @@ stood-nothing : (v : Venue) → Fine v → AllStand v → Stood v (nothing v)
 unfolding nothing
 stood-nothing v f st = record { carries = carries-nothing v f; stand = st }
 
-pub each-stood : (fuel id : ℕ) (v : Venue) → Fine v → AllStand v → Stood v (each fuel generate id v)
-each-stood zero id v f st = unfold each in (stood-nothing v f st)
-each-stood (suc fuel) id v f st =
+pub each-stood : (fuel id : ℕ) (v : Venue) → Fine v → Stepped v → AllStand v → Stood v (each fuel generate id v)
+each-stood zero id v f z st = unfold each in (stood-nothing v f st)
+each-stood (suc fuel) id v f z st =
     each-by (Stood v) fuel generate id v (λ _. stood-nothing v f st)
     (λ i c _ a.
-    let k = generate-stood i (each-place id v f i c a) v f st in
-    stood-then _ _ (k .carries) (each-stood fuel (c .id) _ (fine-after f (k .carries)) (k .stand)))
+    let k = generate-stood i (each-place id v f i c a) v f z st in
+    stood-then _ _ (k .carries) (each-stood fuel (c .id) _ (fine-after f (k .carries)) (steps-generate i v z) (k .stand)))
 
-pub sweep-stood : (v : Venue) → Fine v → Stood v (sweep v)
+pub sweep-stood : (v : Venue) → Fine v → Stepped v → Stood v (sweep v)
 unfolding sweep
-sweep-stood v f =
+sweep-stood v f z =
     let a = each-carries work work-carries 32 0 v f in
     let b = carries-then _ settle a (settle-carries _ (fine-after f a)) in
-    stood-then _ _ b (each-stood 32 0 _ (fine-after f b) (settled (each 32 work 0 v)))
+    stood-then _ _ b (each-stood 32 0 _ (fine-after f b) (steps-swept v z) (settled (each 32 work 0 v)))

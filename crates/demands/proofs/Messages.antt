@@ -2,18 +2,20 @@
 use mathlib.Core.Path.{_≡_, ap, refl, subst, sym}
 use mathlib.Core.Bool.{_||_, false, not, true}
 use mathlib.Core.List.{List, List·Memᴰ, List·Memᴰ·eq-of-singleton, List·Memᴰ·not-nil, [], _∷_, append-nil}
-use Prim.Native.Nat.{_<_, ℕ}
+use Prim.Native.Nat.{_<_, _≤_, ℕ}
 use native.Mathlib.Omega.{arith}
 use lib.Dec.{eqb}
+use lib.ListN.{length}
 use borrow.Author.Tests.{leb-false, not-false, not-true}
 use Rattle.rules.specs.declared.Cause.the-variants.{Withdrawn}
 use Rattle.rules.specs.declared.Complex.{Complex}
 use Rattle.rules.specs.declared.Message.{Message}
-use Rattle.rules.specs.declared.Message.the-variants.{Away, Cancel, Order, Status, Sweep, TwoLeg}
+use Rattle.rules.specs.declared.Message.the-variants.{Away, Cancel, Increment, Order, Percent, Status, Sweep, TwoLeg}
 use Rattle.rules.specs.declared.Regular.{Regular}
 use Rattle.rules.specs.declared.Venue.{Venue}
 use Rattle.rules.specs.Base.{held}
-use Rattle.rules.specs.Words.{complexAt, isComplexOf, isRegularOf, noComplex, noRegular, regularAt, withLast, withRegular, withSeries}
+use Rattle.rules.specs.Words.{complexAt, isComplexOf, isRegularOf, noComplex, noRegular, regularAt, withComplex, withEditions, withLast, withRegular, withSeries}
+use Rattle.rules.specs.Settings.{enterEdition, percentage}
 use Rattle.rules.specs.Messages.{messageOf}
 use Rattle.rules.specs.Records.{Report, answer}
 use Rattle.rules.specs.Effects.{Effect, _⟫_, nothing, report}
@@ -22,25 +24,29 @@ use Rattle.rules.specs.Trading.{fillRegular, freeComplex, freeRegular, putCompl
 use Rattle.rules.specs.Order.{enterRegular, order}
 use Rattle.rules.specs.Complex.{cancel, cancelComplex, cancelRegular, complex, complexPlace, regularPlace, restsComplex, restsRegular, work}
 use Rattle.rules.specs.Refusals.{full, idTooLow, inRange, refusal, unknown}
-use Rattle.rules.specs.Step.{accept, answered, perform, setAway, setStatus, step}
+use Rattle.rules.specs.Step.{accept, answered, perform, setAway, setFigure, setStatus, step}
+use Rattle.rules.specs.Sound.{follows}
 use Rattle.rules.specs.Sums.{cancelledOf, contracts, crossedFor, paired, total}
 use Rattle.rules.proofs.AllSettled.{settle-all, settled}
 use Rattle.rules.proofs.Answering.{told}
 use Rattle.rules.proofs.Calling.{left, step-by}
 use Rattle.rules.proofs.Cases.{if-by}
+use Rattle.rules.proofs.Dating.{step-priced, step-rises, steps-settled, steps-work}
+use Rattle.rules.proofs.Editions.{Stepped, dated-steps, steps-same}
 use Rattle.rules.proofs.Filling.{cx, held-fits, held-fitsC, reg}
 use Rattle.rules.proofs.Finding.{where-passes}
 use Rattle.rules.proofs.Generating.{AllStand, new}
 use Rattle.rules.proofs.Ledger.{Moved, moved-silent, moved-trans, silent-nil}
 use Rattle.rules.proofs.Moving.{moves-cancelComplex, moves-cancelRegular}
 use Rattle.rules.proofs.Refusing.{Passed, accepted}
+use Rattle.rules.proofs.Shapes.{Sized, step-sized}
 use Rattle.rules.proofs.Tests.{and-l, or-r}
 use Rattle.demands.proofs.Account.{Takes}
 use Rattle.demands.proofs.Admitting.{Admitted, Joins, JoinsC, NewComplex, NewOrder, admitted-none, complex-admitted, complex-new, order-admitted, order-new, order-ready, withComplexOrder, withOrder}
 use Rattle.demands.proofs.Carrying.{Carries, carries-then, fine-after, settle-carries, work-carries}
 use Rattle.demands.proofs.Closed.{Ends, ends-closed, ends-here}
 use Rattle.demands.proofs.Entering.{enter-carries}
-use Rattle.demands.proofs.Homes.{Fine, Invariant, Tidy, Uncrossed, after-complex, after-regular, good-kept, homes-fill, homes-same}
+use Rattle.demands.proofs.Homes.{Edited, Fine, Invariant, Tidy, Uncrossed, after-complex, after-regular, good-kept, homes-fill, homes-same}
 use Rattle.demands.proofs.Making.{Stood, generate-stood, stood-then, sweep-stood}
 use Rattle.demands.proofs.Soundness.{range-of}
 use Rattle.demands.proofs.Uncrossed.{uncrossed-closed, uncrossed-perform}
@@ -73,6 +79,8 @@ kind (Cancel id) = 3
 kind (Away s b o) = 4
 kind (Status s x) = 5
 kind Sweep = 6
+kind (Increment s i e) = 7
+kind (Percent x e) = 8
 
 no-order : (m : Message) → 2 < kind m → NoOrder (m ∷ [])
 unfolding kind
@@ -86,7 +94,7 @@ no-message = record { regular = λ o x. List·Memᴰ·not-nil x; complex = λ c 
 
 -- Settling after a change of a series ---------------------------------------------------------
 
--- w is v but for its series
+-- w is v but for its series and its editions
 takes-series : (v w : Venue) {ns : List Message} → NoOrder ns → w .regular ≡ v .regular → w .complex ≡ v .complex → w .legging ≡ v .legging → w .last ≡ v .last →
     Fine v → Takes v (settle w .reports) (settle w .venue) ns
 takes-series v w n r c l e f =
@@ -144,7 +152,7 @@ free-isC : (v : Venue) → freeComplex v < 32 → Fine v → held (cx v (freeCom
 unfolding freeComplex
 free-isC v i f = not-true _ (where-passes noComplex (λ o. not (held (o .quantity))) (v .complex) (rw (f .good .len2) i))
 
-module _ (v : Venue) (f : Fine v) (st : AllStand v) (td : Tidy v) where
+module _ (number : ℕ) (v : Venue) (f : Fine v) (z : Stepped v) (st : AllStand v) (td : Tidy v) where
   module _ (o : Regular) (p : Passed v (Order o)) where
     abbrev i : ℕ
     i = freeRegular v
@@ -161,11 +169,11 @@ module _ (v : Venue) (f : Fine v) (st : AllStand v) (td : Tidy v) where
     admitted : Admitted v w
     admitted = order-admitted v o i joins
 
-    order-stood : Stood w (perform (Order o) v)
+    order-stood : Stood w (perform number (Order o) v)
     unfolding perform order enterRegular putRegular freeRegular withLast
     order-stood = end-settled _ (admitted .fine) (enter-carries i (o .series) (o .side) (o .quantity) w (admitted .fine) (order-ready v o i joins st))
 
-    order-takes : Takes v (perform (Order o) v .reports) (perform (Order o) v .venue) (Order o ∷ [])
+    order-takes : Takes v (perform number (Order o) v .reports) (perform number (Order o) v .venue) (Order o ∷ [])
     order-takes = record {
       start = w;
       admitted = admitted;
@@ -199,14 +207,14 @@ module _ (v : Venue) (f : Fine v) (st : AllStand v) (td : Tidy v) where
     admittedC : Admitted v u
     admittedC = complex-admitted v c j joinsC
 
-    complex-stood : Stood u (perform (TwoLeg c) v)
-    unfolding perform complex putComplex freeComplex withLast
+    complex-stood : Stood u (perform number (TwoLeg c) v)
+    unfolding perform complex putComplex freeComplex withLast withComplex
     complex-stood =
         let f₀ = admittedC .fine in
         let k = end-settled (work j u) f₀ (work-carries j (joinsC .there) u f₀) in
-        stood-then _ _ (k .carries) (generate-stood j (joinsC .there) _ (fine-after f₀ (k .carries)) (k .stand))
+        stood-then _ _ (k .carries) (generate-stood j (joinsC .there) _ (fine-after f₀ (k .carries)) (steps-settled (work j u) (steps-work j u (steps-same v u refl z))) (k .stand))
 
-    complex-takes : Takes v (perform (TwoLeg c) v .reports) (perform (TwoLeg c) v .venue) (TwoLeg c ∷ [])
+    complex-takes : Takes v (perform number (TwoLeg c) v .reports) (perform number (TwoLeg c) v .venue) (TwoLeg c ∷ [])
     complex-takes = record {
       start = u;
       admitted = admittedC;
@@ -218,14 +226,16 @@ module _ (v : Venue) (f : Fine v) (st : AllStand v) (td : Tidy v) where
     }
 
   -- Every message
-  perform-takes : (m : Message) → Passed v m → Takes v (perform m v .reports) (perform m v .venue) (m ∷ [])
-  unfolding perform setAway setStatus withSeries unknown kind
+  perform-takes : (m : Message) → Passed v m → Takes v (perform number m v .reports) (perform number m v .venue) (m ∷ [])
+  unfolding perform setAway setStatus setFigure enterEdition withSeries withEditions unknown kind
   perform-takes (Order o) p = order-takes o p
   perform-takes (TwoLeg c) p = complex-takes c p
   perform-takes (Cancel id) p = takes-stood (no-order (Cancel id) (omega arith)) f (cancel-stood id v f (not-false _ (p .known)))
   perform-takes (Away s b o) p = takes-series v (setAway s b o v) (no-order (Away s b o) (omega arith)) refl refl refl refl f
   perform-takes (Status s x) p = takes-series v (setStatus s x v) (no-order (Status s x) (omega arith)) refl refl refl refl f
-  perform-takes Sweep p = takes-stood (no-order Sweep (omega arith)) f (sweep-stood v f)
+  perform-takes Sweep p = takes-stood (no-order Sweep (omega arith)) f (sweep-stood v f z)
+  perform-takes (Increment s i e) p = takes-series v (setFigure number s i e v) (no-order (Increment s i e) (omega arith)) refl refl refl refl f
+  perform-takes (Percent x e) p = takes-series v (setFigure number percentage x e v) (no-order (Percent x e) (omega arith)) refl refl refl refl f
 
 -- A step --------------------------------------------------------------------------------------
 
@@ -256,37 +266,52 @@ pub record Steps (v : Venue) (qs : List Report) (w : Venue) (accepts : Type 0) (
   pub ends : Ends left w
   pub brings : accepts → new ≡ m ∷ []
 
-accept-takes : (v : Venue) → Fine v → AllStand v → Tidy v → (m : Message) → Passed v m → {t : Type 0} → Steps v (accept m v .reports) (accept m v .venue) t m
+accept-takes : (number : ℕ) (v : Venue) → Fine v → Stepped v → AllStand v → Tidy v → (m : Message) → Passed v m → {t : Type 0} →
+    Steps v (accept number m v .reports) (accept number m v .venue) t m
 unfolding accept _⟫_ nothing
-accept-takes v f st td m p =
-    let t = perform-takes v f st td m p in
+accept-takes number v f z st td m p =
+    let t = perform-takes number v f z st td m p in
     record {
-      left = perform m v .venue;
+      left = perform number m v .venue;
       new = m ∷ [];
       takes = rw append-nil t;
-      ends = ends-closed (perform m v .venue) (t .fine) (t .stand);
+      ends = ends-closed (perform number m v .venue) (t .fine) (t .stand);
       brings = λ _. refl;
     }
 
 steps-answer : {v w : Venue} {qs : List Report} {t : Type 0} {m : Message} (n x k l : ℕ) → Steps v qs w t m → Steps v (answer n x k l ∷ qs) w t m
 steps-answer n x k l s = record { left = s .left; new = s .new; takes = with-answer n x k l (s .takes); ends = s .ends; brings = s .brings }
 
-pub step-takes : (v : Venue) → Fine v → AllStand v → Tidy v → (n : ℕ) (bs : List ℕ) →
+pub step-takes : (v : Venue) → Fine v → Stepped v → AllStand v → Tidy v → (n : ℕ) (bs : List ℕ) →
     Steps v (step v n bs .effect .reports) (step v n bs .effect .venue) (step v n bs .refused ≡ 0) (messageOf bs)
 unfolding step answered nothing
-step-takes v f st td n bs =
-    steps-answer _ _ _ _ (step-by (λ e. Steps v (e .reports) (e .venue) (refusal v bs ≡ 0) (messageOf bs)) v bs
-    (λ h. accept-takes v f st td (messageOf bs) (accepted v bs h))
+step-takes v f z st td n bs =
+    steps-answer _ _ _ _ (step-by (λ e. Steps v (e .reports) (e .venue) (refusal v bs ≡ 0) (messageOf bs)) v n bs
+    (λ h. accept-takes n v f z st td (messageOf bs) (accepted v bs h))
     (λ h. record { left = v; new = []; takes = nothing-takes v f st; ends = ends-here f st td; brings = λ e. absurd (h e) }))
 
 step-uncrossed : (v : Venue) → Invariant v → (n : ℕ) (bs : List ℕ) → Uncrossed (step v n bs .effect .venue)
 unfolding step answered
 step-uncrossed v k n bs =
-    step-by (λ e. Uncrossed (e .venue)) v bs
-    (λ h. unfold accept nothing _⟫_ in (uncrossed-closed _ (uncrossed-perform (messageOf bs) v (accepted v bs h .range) (record { ranged = k .ranged; uncrossed = k .uncrossed }))))
+    step-by (λ e. Uncrossed (e .venue)) v n bs
+    (λ h. unfold accept nothing _⟫_ in (uncrossed-closed _ (uncrossed-perform n (messageOf bs) v (accepted v bs h .range) (record { ranged = k .ranged; uncrossed = k .uncrossed }))))
     (λ _. unfold nothing in (k .uncrossed))
 
-pub step-invariant : (v : Venue) → Invariant v → (n : ℕ) (bs : List ℕ) → Invariant (step v n bs .effect .venue)
-step-invariant v k n bs =
-    let t = step-takes v (k .fine) (k .stand) (k .tidy) n bs .ends in
-    record { fine = t .fine; stand = t .stand; tidy = t .tidy; ranged = told v (k .ranged) n bs .ranged; uncrossed = step-uncrossed v k n bs }
+step-edited : (v : Venue) → Edited v → (n : ℕ) → n ≤ 4294967295 → follows n v ≡ true → (bs : List ℕ) → Edited (step v n bs .effect .venue)
+step-edited v k n few next bs = record { len = step-sized {e = 32} v n bs (sizes v (k .len)) .editions; rise = step-rises v n bs (k .len) few next (k .rise) }
+  where
+    sizes : (w : Venue) → length (w .editions) ≡ 32 → Sized (length (w .regular)) (length (w .complex)) (length (w .legging)) (length (w .series)) 32 w
+    sizes w e = record { regular = refl; complex = refl; legging = refl; series = refl; editions = e }
+
+pub step-invariant : (v : Venue) → Invariant v → (n : ℕ) → n ≤ 4294967295 → follows n v ≡ true → (bs : List ℕ) → Invariant (step v n bs .effect .venue)
+step-invariant v k n few next bs =
+    let t = step-takes v (k .fine) (dated-steps v (k .ranged .dated)) (k .stand) (k .tidy) n bs .ends in
+    record {
+      fine = t .fine;
+      stand = t .stand;
+      tidy = t .tidy;
+      ranged = told v (k .ranged) n bs .ranged;
+      uncrossed = step-uncrossed v k n bs;
+      edited = step-edited v (k .edited) n few next bs;
+      priced = step-priced v n bs (k .edited .len) (k .ranged) (k .priced);
+    }

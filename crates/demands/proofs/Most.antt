@@ -39,6 +39,6 @@ writes-at-most v s number bs =
 
 pub room-enough : RoomEnough
 unfolding one called after ends
-room-enough v s n room bs few enough =
-    let w = writes-at-most v s (suc n) bs in
-    rw (oneFrom-done v n room bs (s .is) (not-exceeds (suc n) room (step v (suc n) bs .effect .reports) (omega arith) (omega arith)))
+room-enough v n s room bs few enough =
+    let w = writes-at-most v (s .venue) (suc n) bs in
+    rw (oneFrom-done v n room bs (s .venue .is) (s .next) (not-exceeds (suc n) room (step v (suc n) bs .effect .reports) (omega arith) (omega arith)))

@@ -15,14 +15,16 @@ use Rattle.rules.specs.declared.Regular.{Regular}
 use Rattle.rules.specs.declared.Venue.{Venue}
 use Rattle.rules.specs.declared.Verdict.the-variants.{Stands}
 use Rattle.rules.specs.Base.{all, held, if_then_else_}
-use Rattle.rules.specs.Words.{isAway, isId, isPrice, isQuantity, isStatus, noComplex, noLegging, noRegular, notListed, within}
+use Rattle.rules.specs.Words.{isAway, isId, isPrice, isQuantity, isStatus, noComplex, noEdition, noLegging, noRegular, notListed, within}
 use Rattle.rules.specs.Standing.{findComplex, hasLeg, parentOf, stands, verdict}
 use Rattle.rules.specs.Complex.{restsComplex}
-use Rattle.rules.specs.Places.{blankComplex, blankLegging, blankRegular, holdsComplex, holdsRegular}
-use Rattle.rules.specs.Refusals.{complexInRange, regularInRange}
-use Rattle.rules.specs.Sound.{apart, complexesSound, idsDistinct, leggingSound, leggingsSound, listedInRange, regularsSound, sound}
+use Rattle.rules.specs.Places.{blankComplex, blankEdition, blankLegging, blankRegular, holdsComplex, holdsEdition, holdsRegular}
+use Rattle.rules.specs.Refusals.{complexInRange, onIncrement, regularInRange}
+use Rattle.rules.specs.Sound.{apart, complexesSound, editionInRange, editionsSound, idsDistinct, leggingSound, leggingsSound, listedInRange, regularsSound, sound}
 use Rattle.demands.specs.Kept.{Shaped, SoundVenue}
 use Rattle.rules.proofs.Arranging.{Arranged, all-at, all-in, arranged-in, arranged-out, blank-free, blank-freeC}
+use Rattle.rules.proofs.Dating.{edition-free}
+use Rattle.rules.proofs.Editions.{Dated}
 use Rattle.rules.proofs.Filling.{cx, lg, reg}
 use Rattle.rules.proofs.Finding.{LegOf, find-at, leg-in, leg-out, rests-in, rests-out}
 use Rattle.rules.proofs.Generating.{AllStand, is-stands}
@@ -79,6 +81,7 @@ record Asked (v : Venue) : Type 0 where
   regulars : regularsSound v ≡ true
   complexes : complexesSound v ≡ true
   listed : all listedInRange (v .series) ≡ true
+  editions : editionsSound v ≡ true
   last : leb (v .last) 4294967295 ≡ true
   ids : idsDistinct v ≡ true
   apart : all (apart v) (0 ∷ 1 ∷ 2 ∷ 3 ∷ 4 ∷ 5 ∷ 6 ∷ 7 ∷ []) ≡ true
@@ -99,6 +102,13 @@ blank-noneC = refl
 listed-none : listedInRange notListed ≡ true
 unfolding listedInRange isStatus isAway within
 listed-none = refl
+
+-- each edition kept sets a figure in range
+dated-out : (v : Venue) → editionsSound v ≡ true → Dated v
+unfolding editionsSound editionInRange
+dated-out v h i t =
+    let a = arranged-out noEdition holdsEdition editionInRange blankEdition (λ e. e .edition) edition-free (unfold blankEdition in refl) 0 (v .editions) (and-l _ _ h) in
+    and-l _ _ (and-l _ _ (a .asks i t))
 
 -- a complex order in range
 pub range-of : (c : Complex) → complexInRange c ≡ true → InRange c
@@ -158,7 +168,7 @@ legging-fits l z h = record {
 
 module _ (v : Venue) (sh : Shaped v) (t : Asked v) where
   abbrev askR : Regular → Bool
-  askR o = regularInRange o && leb (o .id) (v .last)
+  askR o = regularInRange o && onIncrement v o && leb (o .id) (v .last)
 
   abbrev askC : Complex → Bool
   askC c = complexInRange c && leb (c .id) (v .last)
@@ -172,7 +182,7 @@ module _ (v : Venue) (sh : Shaped v) (t : Asked v) where
   C = arranged-out noComplex holdsComplex askC blankComplex (λ c. c .id) blank-freeC blank-noneC 0 (v .complex) (t .complexes)
 
   okR : (i : ℕ) → held (reg v i .quantity) ≡ true → regularInRange (reg v i) ≡ true
-  okR i h = and-l _ (leb (reg v i .id) (v .last)) (R .asks i h)
+  okR i h = and-l _ (onIncrement v (reg v i)) (and-l _ (leb (reg v i .id) (v .last)) (R .asks i h))
 
   okC : (j : ℕ) → held (cx v j .quantity) ≡ true → complexInRange (cx v j) ≡ true
   okC j h = and-l _ (leb (cx v j .id) (v .last)) (C .asks j h)
@@ -189,6 +199,7 @@ module _ (v : Venue) (sh : Shaped v) (t : Asked v) where
     last = leb-true (v .last) 4294967295 (t .last);
     len = sh .legging;
     eight = sh .series;
+    dated = dated-out v (t .editions);
   }
     where
       reg-fits : (i : ℕ) (b : Bool) → held (reg v i .quantity) ≡ b → RegFits (reg v i)
@@ -259,7 +270,7 @@ module _ (v : Venue) (sh : Shaped v) (t : Asked v) where
         rise1 = R .rises;
         rise2 = C .rises;
         rx = apart-ids;
-        rlast = λ i h. leb-true (reg v i .id) (v .last) (and-r (regularInRange (reg v i)) _ (R .asks i h));
+        rlast = λ i h. leb-true (reg v i .id) (v .last) (and-r (regularInRange (reg v i) && onIncrement v (reg v i)) _ (R .asks i h));
         xlast = λ j h. leb-true (cx v j .id) (v .last) (and-r (complexInRange (cx v j)) _ (C .asks j h));
       };
       homes = record { len = sh .legging; home = home-out };
@@ -268,6 +279,8 @@ module _ (v : Venue) (sh : Shaped v) (t : Asked v) where
     tidy = record { dense1 = R .dense; dense2 = C .dense; blank1 = R .blanks; blank2 = C .blanks };
     ranged = ranged-out;
     uncrossed = apart-out v ranged-out apart-at;
+    edited = record { len = sh .editions; rise = t .editions };
+    priced = λ i h. and-r (regularInRange (reg v i)) _ (and-l _ (leb (reg v i .id) (v .last)) (R .asks i h));
   }
 
 pub sound-out : (v : Venue) → SoundVenue v → Invariant v
@@ -288,7 +301,7 @@ module _ (v : Venue) (k : Invariant v) where
   unfolding regularsSound
   regulars-in = arranged-in noRegular holdsRegular _ blankRegular (λ o. o .id) blank-free blank-none 0 (v .regular) (record {
     above = λ i h. some-id (reg v i) (k .ranged .regular i .ok h);
-    asks = λ i h. and-in (regularInRange (reg v i)) _ (k .ranged .regular i .ok h) (le-leb (reg v i .id) (v .last) (k .fine .good .rlast i h));
+    asks = λ i h. and-in (regularInRange (reg v i) && onIncrement v (reg v i)) _ (and-in _ _ (k .ranged .regular i .ok h) (k .priced i h)) (le-leb (reg v i .id) (v .last) (k .fine .good .rlast i h));
     rises = k .fine .good .rise1;
     dense = k .tidy .dense1;
     blanks = k .tidy .blank1;
@@ -342,10 +355,10 @@ module _ (v : Venue) (k : Invariant v) where
 
   pub sound-in : SoundVenue v
   sound-in = record {
-    shaped = record { regular = k .fine .good .len1; complex = k .fine .good .len2; legging = k .fine .homes .len; series = k .ranged .eight };
+    shaped = record { regular = k .fine .good .len1; complex = k .fine .good .len2; legging = k .fine .homes .len; series = k .ranged .eight; editions = k .edited .len };
     is = unfold sound in
-        (and-in _ _ (and-in _ _ (and-in _ _ (and-in _ _ (and-in _ _ (and-in _ _ regulars-in complexes-in)
-        (all-in listedInRange notListed (v .series) (k .ranged .listed)))
+        (and-in _ _ (and-in _ _ (and-in _ _ (and-in _ _ (and-in _ _ (and-in _ _ (and-in _ _ regulars-in complexes-in)
+        (all-in listedInRange notListed (v .series) (k .ranged .listed))) (k .edited .rise))
         (le-leb (v .last) 4294967295 (k .ranged .last))) ids-in) aparts-in)
         (leggings-in v 0 (v .legging) (λ i. rw zero-add (legging-in i))));
   }

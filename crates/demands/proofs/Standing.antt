@@ -15,7 +15,8 @@ use Rattle.rules.specs.declared.Legging.{Legging}
 use Rattle.rules.specs.declared.Regular.{Regular}
 use Rattle.rules.specs.declared.Venue.{Venue}
 use Rattle.rules.specs.Base.{all, held}
-use Rattle.rules.specs.Words.{increment, isComplexOf, leggingAt, noRegular, opposite, placeOf, regularAt, withRegular}
+use Rattle.rules.specs.Words.{isComplexOf, leggingAt, noRegular, opposite, placeOf, regularAt, withRegular}
+use Rattle.rules.specs.Settings.{increment}
 use Rattle.rules.specs.Prices.{bestIn, bestRegular, bestSize, better, clearPrice, displayed, restsAt, showsAt, sizeIn}
 use Rattle.rules.specs.Records.{Report, pair, trade}
 use Rattle.rules.specs.Removal.{remove, removeOf}
@@ -130,11 +131,11 @@ module _ {x s d p : ℕ} (v : Venue) where
 
 module _ (v : Venue) (c : Complex) (s d : ℕ) (l : Legging) (p : Passes v c s d l) where
   -- no regular order is better than what is displayed
-  shown-best : (i : ℕ) → restsAt s d (regularAt v i) ≡ true → better d (regularAt v i .price) (displayed (increment s) d (l .price)) ≡ false
+  shown-best : (i : ℕ) → restsAt s d (regularAt v i) ≡ true → better d (regularAt v i .price) (displayed (increment v s) d (l .price)) ≡ false
   unfolding shownWell bestRegular regularAt
   shown-best i r =
       is-false _ (λ b. true≢false
-      (sym (better-past d (reg v i .price) (bestIn s d (v .regular)) (displayed (increment s) d (l .price)) b (best-best s d (v .regular) i (rests-shows s d _ r)))
+      (sym (better-past d (reg v i .price) (bestIn s d (v .regular)) (displayed (increment v s) d (l .price)) b (best-best s d (v .regular) i (rests-shows s d _ r)))
       ∙ not-true _ (p .shown)))
 
   -- the size at the clear price is at least its quantity, so k contracts are there

@@ -17,7 +17,7 @@ use Rattle.rules.specs.Effects.{Effect, nothing}
 use Rattle.rules.specs.Refusals.{refusal}
 use Rattle.rules.specs.Step.{accept, answered, step}
 use Rattle.demands.specs.Demand.{Given, Opening, Seen, calls, opening, start}
-use Rattle.demands.specs.Kept.{SoundVenue}
+use Rattle.demands.specs.Kept.{SoundAt}
 use Rattle.demands.specs.Truth.{AnswersOnce, OneMessage, RefusedAlone, Truth, answerOf, answers, answersOf, from, leaves, numbers, venueAfter}
 use Rattle.rules.proofs.Calling.{step-by}
 use Rattle.rules.proofs.Quiet.{NoAnswer, quiet-accept}
@@ -55,9 +55,9 @@ answers-append (cancelled _ _ ∷ rs) b = answers-append rs b
 once : (v : Venue) (number : ℕ) (m : List ℕ) → AnswersOnce v number m
 unfolding step answered answerOf venueAfter nothing answers
 once v number m = record {
-  effects = (if eqb (refusal v m) 0 then accept (messageOf m) v else nothing v) .reports;
+  effects = (if eqb (refusal v m) 0 then accept number (messageOf m) v else nothing v) .reports;
   first = refl;
-  only = step-by (λ (e : Effect). answers (e .reports) ≡ []) v m (λ _. no-answers (accept (messageOf m) v .reports) (quiet-accept (messageOf m) v)) (λ _. refl);
+  only = step-by (λ (e : Effect). answers (e .reports) ≡ []) v number m (λ _. no-answers (accept number (messageOf m) v .reports) (quiet-accept number (messageOf m) v)) (λ _. refl);
 }
 
 refused-alone : (v : Venue) (number : ℕ) (m : List ℕ) → refusal v m ≢ 0 → RefusedAlone v number m
@@ -110,7 +110,7 @@ pub record Told (s : Seen) : Type 0 where
   pub told : answers (s .reports) ≡ answersOf freshVenue 0 (s .messages)
   pub messages : length (s .messages) ≡ s .done
   pub venue : s .venue ≡ leaves freshVenue 0 (s .messages)
-  pub sound : SoundVenue (s .venue)
+  pub sound : SoundAt (suc (s .done)) (s .venue)
 
 pub start-told : Told start
 unfolding start answers answersOf leaves
@@ -126,11 +126,11 @@ more-told s bs t few =
           rw (answers-append (s .reports) (step v n bs .effect .reports), t .told, step-answers v n bs, answersOf-more freshVenue 0 (s .messages) bs, zero-add, t .messages, ← t .venue);
       messages = rw (length-append (s .messages) (bs ∷ []), t .messages) (omega arith);
       venue = rw (leaves-more freshVenue 0 (s .messages) bs, zero-add, t .messages, ← t .venue);
-      sound = kept v (t .sound) n bs;
+      sound = kept v n few (t .sound) bs;
     }
 
 all-told : (o : Opening) (gs : List Given) → Told (calls (opening o) gs)
-all-told = all-keep Told (λ s t. sound-out (s .venue) (t .sound) .ranged) start-told more-told
+all-told = all-keep Told (λ s t. sound-out (s .venue) (t .sound .venue) .ranged) start-told more-told
 
 pub truth : Truth
 truth o gs =

@@ -13,11 +13,12 @@ use borrow.Author.Tests.{leb-false, lt-ltb, ltb-true, not-true}
 use Rattle.rules.specs.declared.Complex.{Complex}
 use Rattle.rules.specs.declared.Legging.{Legging}
 use Rattle.rules.specs.declared.Message.{Message}
-use Rattle.rules.specs.declared.Message.the-variants.{Away, Cancel, Order, Status, Sweep, TwoLeg}
+use Rattle.rules.specs.declared.Message.the-variants.{Away, Cancel, Increment, Order, Percent, Status, Sweep, TwoLeg}
 use Rattle.rules.specs.declared.Regular.{Regular}
 use Rattle.rules.specs.declared.Venue.{Venue}
 use Rattle.rules.specs.Base.{held}
-use Rattle.rules.specs.Words.{complexAt, leggingAt, noLegging, noRegular, opposite, placeOf, regularAt, withComplex, withLast, withLegging, withRegular, withSeries}
+use Rattle.rules.specs.Words.{complexAt, leggingAt, noLegging, noRegular, opposite, placeOf, regularAt, withComplex, withEditions, withLast, withLegging, withRegular, withSeries}
+use Rattle.rules.specs.Settings.{enterEdition, percentage}
 use Rattle.rules.specs.Effects.{Effect, _⟫_, nothing}
 use Rattle.rules.specs.Prices.{bestOwn, reaches, restsAt}
 use Rattle.rules.specs.Standing.{settle}
@@ -27,7 +28,7 @@ use Rattle.rules.specs.Generation.{generate, generateLeg, legPrice, makes, newL
 use Rattle.rules.specs.Complex.{cancel, complex, sweep, work}
 use Rattle.rules.specs.Places.{closeGaps}
 use Rattle.rules.specs.Refusals.{inRange}
-use Rattle.rules.specs.Step.{perform, setAway, setStatus}
+use Rattle.rules.specs.Step.{perform, setAway, setFigure, setStatus}
 use Rattle.rules.specs.Sound.{apart}
 use Rattle.rules.proofs.Bounds.{band-first, band-second}
 use Rattle.rules.proofs.Cases.{if-by}
@@ -265,26 +266,32 @@ uncrossed-status : (s x : ℕ) (v : Venue) → Uncrossed v → Uncrossed (setSta
 unfolding setStatus withSeries
 uncrossed-status s x v = uncrossed-same {v = v} refl refl
 
+uncrossed-figure : (number f x e : ℕ) (v : Venue) → Uncrossed v → Uncrossed (setFigure number f x e v)
+unfolding setFigure enterEdition withEditions
+uncrossed-figure number f x e v = uncrossed-same {v = v} refl refl
+
 clean-settle : (v : Venue) → Clean v → Clean (settle v .venue)
 clean-settle v k = record { ranged = writes-settle v (k .ranged) .ranged; uncrossed = uncrossed-settle v (k .uncrossed) }
 
 clean-work : (i : ℕ) (v : Venue) → Clean v → Clean (work i v .venue)
 clean-work i v k = record { ranged = writes-work i v (k .ranged) .ranged; uncrossed = uncrossed-work i v (k .uncrossed) }
 
-pub uncrossed-perform : (m : Message) (v : Venue) → inRange m ≡ true → Clean v → Uncrossed (perform m v .venue)
+pub uncrossed-perform : (number : ℕ) (m : Message) (v : Venue) → inRange m ≡ true → Clean v → Uncrossed (perform number m v .venue)
 unfolding perform order complex putComplex sweep _⟫_
-uncrossed-perform (Order o) v h k =
+uncrossed-perform number (Order o) v h k =
     let f = order-fits o (unfold inRange in h) in
     uncrossed-settle _ (uncrossed-enter (withLast v (o .id)) o (uncrossed-last (o .id) v (k .uncrossed)) (last-ranged (o .id) v (f .id) (k .ranged)) f)
-uncrossed-perform (TwoLeg c) v h k =
+uncrossed-perform number (TwoLeg c) v h k =
     let f = complex-fits c (unfold inRange in h) in
     let a : Clean (withComplex (withLast v (c .id)) (set (withLast v (c .id) .complex) (freeComplex (withLast v (c .id))) c)) = record {
       ranged = putC-ranged _ c _ f (last-ranged (c .id) v (f .id) (k .ranged));
       uncrossed = uncrossed-putC _ _ (uncrossed-last (c .id) v (k .uncrossed));
     } in
     clean-generate _ _ (clean-settle _ (clean-work _ _ a)) .uncrossed
-uncrossed-perform (Cancel id) v h k = uncrossed-cancel id v (k .uncrossed)
-uncrossed-perform (Away s b o) v h k = uncrossed-settle _ (uncrossed-away s b o v (k .uncrossed))
-uncrossed-perform (Status s x) v h k = uncrossed-settle _ (uncrossed-status s x v (k .uncrossed))
-uncrossed-perform Sweep v h k =
+uncrossed-perform number (Cancel id) v h k = uncrossed-cancel id v (k .uncrossed)
+uncrossed-perform number (Away s b o) v h k = uncrossed-settle _ (uncrossed-away s b o v (k .uncrossed))
+uncrossed-perform number (Status s x) v h k = uncrossed-settle _ (uncrossed-status s x v (k .uncrossed))
+uncrossed-perform number Sweep v h k =
     keeps-each Clean generate clean-generate 32 0 _ (clean-settle _ (keeps-each Clean work clean-work 32 0 v k)) .uncrossed
+uncrossed-perform number (Increment s i e) v h k = uncrossed-settle _ (uncrossed-figure number s i e v (k .uncrossed))
+uncrossed-perform number (Percent x e) v h k = uncrossed-settle _ (uncrossed-figure number percentage x e v (k .uncrossed))

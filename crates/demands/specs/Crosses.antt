@@ -9,7 +9,7 @@ use lib.IntN.{ℤ, negℤ}
 use lib.Signed.{leZ}
 use Rattle.rules.specs.declared.Complex.{Complex}
 use Rattle.rules.specs.declared.Message.{Message}
-use Rattle.rules.specs.declared.Message.the-variants.{Order, TwoLeg, Cancel, Away, Status, Sweep}
+use Rattle.rules.specs.declared.Message.the-variants.{Order, TwoLeg, Cancel, Away, Status, Sweep, Increment, Percent}
 use Rattle.rules.specs.declared.Venue.{Venue}
 use Rattle.rules.specs.Base.{if_then_else_, held, nobody, picked}
 use Rattle.rules.specs.Words.{complexAt, freshVenue, opposite, withLast}
@@ -56,6 +56,8 @@ inMessage (Cancel id) v = []
 inMessage (Away s bid offer) v = []
 inMessage (Status s x) v = []
 inMessage Sweep v = inEach 32 0 v
+inMessage (Increment s i e) v = []
+inMessage (Percent x e) v = []
 
 -- those of the message at the front of bs
 unfoldable pub inStep : Venue → (message : List ℕ) → List Moment

@@ -20,7 +20,8 @@ use Rattle.rules.specs.declared.Message.the-variants.{Order, TwoLeg}
 use Rattle.rules.specs.declared.Regular.{Regular}
 use Rattle.rules.specs.declared.Venue.{Venue}
 use Rattle.rules.specs.Base.{held}
-use Rattle.rules.specs.Words.{freshVenue, increment, isComplexOf, leggingAt, noLegging, opposite, regularAt}
+use Rattle.rules.specs.Words.{freshVenue, isComplexOf, leggingAt, noLegging, opposite, regularAt}
+use Rattle.rules.specs.Settings.{increment}
 use Rattle.rules.specs.Bytes.{lengthField}
 use Rattle.rules.specs.Messages.{messageOf}
 use Rattle.rules.specs.Records.{Report, answer, pair, records, trade}
@@ -123,10 +124,10 @@ pub record Standing (v : Venue) (s d : ℕ) (l : Legging) : Type 0 where
   pub rests : isComplexOf (l .parent) (parentOf v l) ≡ true
   pub leg : hasLeg (parentOf v l) s d ≡ true
   -- "Best displayed: no regular order's price … in the same series and side is better (higher to buy, lower to sell), away prices aside"
-  pub best : (i : ℕ) → restsAt s d (regularAt v i) ≡ true → better d (regularAt v i .price) (displayed (increment s) d (l .price)) ≡ false
+  pub best : (i : ℕ) → restsAt s d (regularAt v i) ≡ true → better d (regularAt v i .price) (displayed (increment v s) d (l .price)) ≡ false
   -- "and no legging order's displayed price": of what stands at a place m, which is side m % 2 of series m / 2
   pub bestLegging : (m : ℕ) → m / 2 ≡ s → m % 2 ≡ d → held (getD (v .legging) m noLegging .quantity) ≡ true →
-      better d (displayed (increment s) d (getD (v .legging) m noLegging .price)) (displayed (increment s) d (l .price)) ≡ false
+      better d (displayed (increment v s) d (getD (v .legging) m noLegging .price)) (displayed (increment v s) d (l .price)) ≡ false
   -- "Within the band: its complex order's N is in band."
   pub band : inBand v (parentOf v l) (parentOf v l .limit) ≡ true
   -- "for each k from 1 to its quantity"

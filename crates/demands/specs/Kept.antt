@@ -3,13 +3,13 @@ use mathlib.Core.Path.{_≡_}
 use mathlib.Core.Bool.{true}
 use mathlib.Core.Logic.{_≢_}
 use mathlib.Core.List.{List}
-use Prim.Native.Nat.{ℕ}
+use Prim.Native.Nat.{suc, ℕ}
 use lib.ListN.{length}
 use Rattle.rules.specs.declared.Venue.{Venue}
 use Rattle.rules.specs.Words.{freshVenue}
 use Rattle.rules.specs.Records.{FourBytes}
 use Rattle.rules.specs.Step.{step}
-use Rattle.rules.specs.Sound.{sound}
+use Rattle.rules.specs.Sound.{follows, sound}
 use Rattle.rules.specs.Calls.{one}
 use Rattle.demands.specs.Demand.{Given, Opening, calls, opening}
 
@@ -19,21 +19,29 @@ pub record Shaped (v : Venue) : Type 0 where
   pub complex : length (v .complex) ≡ 32
   pub legging : length (v .legging) ≡ 16
   pub series : length (v .series) ≡ 8
+  pub editions : length (v .editions) ≡ 32
 
 pub record SoundVenue (v : Venue) : Type 0 where
   pub shaped : Shaped v
   pub is : sound v ≡ true
 
+-- sound, and the number of the next message is above every kept edition's
+pub record SoundAt (number : ℕ) (v : Venue) : Type 0 where
+  pub venue : SoundVenue v
+  pub next : follows number v ≡ true
+
 -- under every message: any bytes, of every kind, accepted or refused
 abbrev pub Kept : Type 0
-Kept = (v : Venue) → SoundVenue v → (number : ℕ) (message : List ℕ) → SoundVenue (step v number message .effect .venue)
+Kept = (v : Venue) (number : ℕ) → FourBytes number → SoundAt number v → (message : List ℕ) → SoundAt (suc number) (step v number message .effect .venue)
 
 abbrev pub FreshSound : Type 0
-FreshSound = SoundVenue freshVenue
+FreshSound = SoundAt 1 freshVenue
 
 -- so every venue that the calls return is sound
 abbrev pub AlwaysSound : Type 0
-AlwaysSound = (o : Opening) (gs : List Given) → SoundVenue (calls (opening o) gs .venue)
+AlwaysSound = (o : Opening) (gs : List Given) →
+    let s = calls (opening o) gs in
+    SoundAt (suc (s .done)) (s .venue)
 
 -- and a one-message call upon a venue that came from the calls never answers 9
 abbrev pub NeverNine : Type 0

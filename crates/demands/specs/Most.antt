@@ -1,14 +1,14 @@
 -- The most bytes that one message writes, for whoever lends the memory of a one-message call.
 use mathlib.Core.Path.{_≡_}
 use mathlib.Core.List.{List}
-use Prim.Native.Nat.{ℕ, _+_, _*_, _≤_, _<_}
+use Prim.Native.Nat.{ℕ, suc, _+_, _*_, _≤_, _<_}
 use lib.ListN.{length}
 use Rattle.rules.specs.declared.Venue.{Venue}
 use Rattle.rules.specs.Records.{Report, encode, encodeAll}
 use Rattle.rules.specs.Lengths.{perComplex, perLeg, perLegging, perRegular, recordLength}
 use Rattle.rules.specs.Step.{step}
 use Rattle.rules.specs.Calls.{one}
-use Rattle.demands.specs.Kept.{SoundVenue}
+use Rattle.demands.specs.Kept.{SoundAt, SoundVenue}
 
 -- Each record's bytes are as many as document 01's column "Length" says.
 abbrev pub Lengths : Type 0
@@ -28,5 +28,5 @@ WritesAtMost = (v : Venue) → SoundVenue v → (number : ℕ) (message : List �
 
 -- So a one-message call upon a sound venue that is lent as many is not ended by refusal 10, its number permitting: its message is done.
 abbrev pub RoomEnough : Type 0
-RoomEnough = (v : Venue) → SoundVenue v → (before room : ℕ) (message : List ℕ) → before < 4294967295 → most ≤ room →
+RoomEnough = (v : Venue) (before : ℕ) → SoundAt (suc before) v → (room : ℕ) (message : List ℕ) → before < 4294967295 → most ≤ room →
     one v before room message .returned .done ≡ 1
