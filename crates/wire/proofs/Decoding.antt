@@ -1,6 +1,6 @@
 -- The refusals 1 to 4 and the message, each from what the code has found of the bytes.
 use mathlib.Core.Path.{_≡_, refl}
-use mathlib.Core.Bool.{Bool, true, false, not, _||_}
+use mathlib.Core.Bool.{Bool, true, false, not, _&&_, _||_}
 use mathlib.Core.List.{List}
 use Prim.Native.Nat.{ℕ, _<_, _≤_}
 use native.Mathlib.Omega.{arith}
@@ -12,14 +12,14 @@ use borrow.Author.Tests.{le-leb, lt-leb, lt-ltb, le-ltb, eq-eqb, ne-eqb, leb-tru
 use Rattle.rules.specs.declared.Regular.{Regular}
 use Rattle.rules.specs.declared.Complex.{Complex}
 use Rattle.rules.specs.declared.Message.{Message}
-use Rattle.rules.specs.declared.Message.the-variants.{Order, TwoLeg, Cancel, Away, Status, Sweep}
+use Rattle.rules.specs.declared.Message.the-variants.{Order, TwoLeg, Cancel, Away, Status, Sweep, Increment, Percent}
 use Rattle.rules.specs.declared.Decoded.the-variants.{Taken, Refused}
-use Rattle.rules.specs.Base.{if_then_else_}
-use Rattle.rules.specs.Words.{within, isId, isSeries, isSide, isClass, isQuantity, isRegularPrice, isLimit, increment}
+use Rattle.rules.specs.Words.{within, isId, isSeries, isSide, isClass, isQuantity, isPrice, isLimit}
+use Rattle.rules.specs.Settings.{isEdition}
 use Rattle.rules.specs.Bytes.{u8At, u16At, u32At, lengthField, kindField}
 use Rattle.rules.specs.Messages.{lengthOf, orderAt, twoLegAt, messageOf}
 use Rattle.rules.specs.Refusals.{torn, isKind, isLength, regularInRange, complexInRange, inRange, decoded}
-use Rattle.rules.proofs.Tests.{and-false}
+use Rattle.rules.proofs.Tests.{and-true, and-false}
 
 -- Ranges --------------------------------------------------------------------------------------
 
@@ -63,18 +63,14 @@ id-is x h = go (eqb x 0) refl
     go true e = let z = eqb-true x 0 e in rw (e, below 1 4294967295 x (omega arith))
     go false e = let z = eqb-false x 0 e in rw (e, inside 1 4294967295 x (omega arith) (omega arith))
 
--- an increment is not 0
-pub some-increment : (s : ℕ) → 0 < increment s
-unfolding increment
-some-increment s = go (ltb s 6)
-  where
-    go : (t : Bool) → 0 < (if t then 5 else 10)
-    go true = omega arith
-    go false = omega arith
+-- an edition is any number of 32 bits
+pub any-edition : (b : Bool) (x : ℕ) → x < 4294967296 → (b && isEdition x) ≡ b
+unfolding isEdition
+any-edition b x h = rw (inside 0 4294967295 x (omega arith) (omega arith)) (and-true b)
 
 -- a regular order whose other fields are in range
 pub regular-quantity : (o : Regular) → 0 < o .id → o .id ≤ 4294967295 → o .series ≤ 7 → o .side ≤ 1 →
-    isRegularPrice (increment (o .series)) (o .price) ≡ true → isQuantity (o .quantity) ≡ regularInRange o
+    isPrice (o .price) ≡ true → isQuantity (o .quantity) ≡ regularInRange o
 unfolding regularInRange isId isSeries isSide
 regular-quantity o a b s d p =
     rw (inside 1 4294967295 (o .id) a b, inside 0 7 (o .series) (omega arith) s, inside 0 1 (o .side) (omega arith) d, p)
@@ -101,10 +97,6 @@ complex-quantity c a b s d t e n k l =
 pub of-length : (s : List ℕ) (k : ℕ) → u16At s 2 ≡ k → lengthOf (u16At s 2) ≤ length s → lengthOf k ≤ length s
 of-length s k e h = rw (← e) h
 
-pub length-none : (k : ℕ) → (k ≡ 1 → ⊥) → (k ≡ 2 → ⊥) → (k ≡ 3 → ⊥) → (k ≡ 4 → ⊥) → (k ≡ 5 → ⊥) → (k ≡ 6 → ⊥) → lengthOf k ≡ 0
-unfolding lengthOf
-length-none k a b c d e f = rw (ne-eqb k 1 a, ne-eqb k 2 b, ne-eqb k 3 c, ne-eqb k 4 d, ne-eqb k 5 e, ne-eqb k 6 f)
-
 module _ (s : List ℕ) where
   pub message-order : u16At s 2 ≡ 1 → messageOf s ≡ Order (orderAt s)
   unfolding messageOf kindField
@@ -126,10 +118,17 @@ module _ (s : List ℕ) where
   unfolding messageOf kindField
   message-status e = rw e
 
-  pub message-sweep : (u16At s 2 ≡ 1 → ⊥) → (u16At s 2 ≡ 2 → ⊥) → (u16At s 2 ≡ 3 → ⊥) → (u16At s 2 ≡ 4 → ⊥) → (u16At s 2 ≡ 5 → ⊥) →
-      messageOf s ≡ Sweep
+  pub message-sweep : u16At s 2 ≡ 6 → messageOf s ≡ Sweep
   unfolding messageOf kindField
-  message-sweep a b c d e = rw (ne-eqb _ 1 a, ne-eqb _ 2 b, ne-eqb _ 3 c, ne-eqb _ 4 d, ne-eqb _ 5 e)
+  message-sweep e = rw e
+
+  pub message-increment : u16At s 2 ≡ 7 → messageOf s ≡ Increment (u8At s 4) (u8At s 5) (u32At s 6)
+  unfolding messageOf kindField
+  message-increment e = rw e
+
+  pub message-percent : u16At s 2 ≡ 8 → messageOf s ≡ Percent (u8At s 4) (u32At s 5)
+  unfolding messageOf kindField
+  message-percent e = rw e
 
 -- Refusals ------------------------------------------------------------------------------------
 

@@ -1,18 +1,19 @@
 -- A message is decoded from its bytes.
 use mathlib.Core.Path.{_≡_, refl, sym, ap, _∙_}
-use mathlib.Core.Bool.{true}
+use mathlib.Core.Bool.{Bool, true, false}
 use mathlib.Core.List.{List, [], _++_, append-nil}
 use Prim.Native.Nat.{ℕ, _≤_}
 use native.Mathlib.Omega.{arith}
-use lib.Dec.{leb}
+use lib.Dec.{leb, eqb}
 use lib.ListN.{length, length-append}
 use lib.IntN.{ℤ, pos, negsuc}
 use lib.Signed.{leZ}
-use borrow.Author.Tests.{leb-true}
+use borrow.Author.Tests.{leb-true, eqb-true}
 use Rattle.rules.specs.declared.Message.{Message}
-use Rattle.rules.specs.declared.Message.the-variants.{Order, TwoLeg, Cancel, Away, Status, Sweep}
+use Rattle.rules.specs.declared.Message.the-variants.{Order, TwoLeg, Cancel, Away, Status, Sweep, Increment, Percent}
 use Rattle.rules.specs.declared.Decoded.the-variants.{Taken}
-use Rattle.rules.specs.Words.{within, isId, isSeries, isSide, isClass, isStatus, isQuantity, isAway, isPrice, isRegularPrice, isLimit, increment}
+use Rattle.rules.specs.Words.{within, isId, isSeries, isSide, isClass, isStatus, isQuantity, isAway, isPrice, isLimit}
+use Rattle.rules.specs.Settings.{isIncrement, isPercent, isEdition}
 use Rattle.rules.specs.Bytes.{u8At, u16At, u32At, asUnsigned, lengthField, kindField, bytes, framed}
 use Rattle.rules.specs.Messages.{lengthOf, orderAt, twoLegAt, messageOf, encodeMessage}
 use Rattle.rules.specs.Records.{OneByte, FourBytes, FourSigned}
@@ -61,9 +62,26 @@ away-fits : (x : ℕ) → isAway x ≡ true → FourBytes x
 unfolding isAway
 away-fits x h = let k = at-most 0 100000 x h in omega arith
 
-price-fits : (i x : ℕ) → isRegularPrice i x ≡ true → FourBytes x
-unfolding isRegularPrice isPrice
-price-fits i x h = let z = h in let k = at-most 1 100000 x (search (and-l, z)) in omega arith
+price-fits : (x : ℕ) → isPrice x ≡ true → FourBytes x
+unfolding isPrice
+price-fits x h = let k = at-most 1 100000 x h in omega arith
+
+increment-fits : (x : ℕ) → isIncrement x ≡ true → OneByte x
+unfolding isIncrement
+increment-fits x h = go (eqb x 1) refl (eqb x 5) refl
+  where
+    go : (t : Bool) → eqb x 1 ≡ t → (u : Bool) → eqb x 5 ≡ u → OneByte x
+    go true e u f = let k = eqb-true x 1 e in omega arith
+    go false e true f = let k = eqb-true x 5 f in omega arith
+    go false e false f = let k = eqb-true x 10 (rw (e, f) at h) in omega arith
+
+percent-fits : (x : ℕ) → isPercent x ≡ true → OneByte x
+unfolding isPercent
+percent-fits x h = let k = at-most 0 50 x h in omega arith
+
+edition-fits : (x : ℕ) → isEdition x ≡ true → FourBytes x
+unfolding isEdition
+edition-fits x h = let k = at-most 0 4294967295 x h in omega arith
 
 -- A message's bytes ---------------------------------------------------------------------------
 
@@ -76,7 +94,7 @@ message-back (Order o) h rest =
       word (o .id) (id-fits _ (search (and-l, and-r, z) depth 8)),
       byte (o .series) (series-fits _ (search (and-l, and-r, z) depth 8)),
       byte (o .side) (side-fits _ (search (and-l, and-r, z) depth 8)),
-      word (o .price) (price-fits (increment (o .series)) _ (search (and-l, and-r, z) depth 8)),
+      word (o .price) (price-fits _ (search (and-l, and-r, z) depth 8)),
       word (o .quantity) (quantity-fits _ (search (and-l, and-r, z) depth 8)),
     )
 message-back (TwoLeg c) h rest =
@@ -104,6 +122,15 @@ message-back (Away s bid offer) h rest =
 message-back (Status s x) h rest =
     rw (byte s (series-fits s (and-l (isSeries s) (isStatus x) h)), byte x (status-fits x (and-r (isSeries s) (isStatus x) h)))
 message-back Sweep h rest = refl
+message-back (Increment s i e) h rest =
+    let z = h in
+    rw (
+      byte s (series-fits s (search (and-l, z))),
+      byte i (increment-fits i (search (and-l, and-r, z))),
+      word e (edition-fits e (search (and-l, and-r, z))),
+    )
+message-back (Percent x e) h rest =
+    rw (byte x (percent-fits x (and-l (isPercent x) (isEdition e) h)), word e (edition-fits e (and-r (isPercent x) (isEdition e) h)))
 
 -- what stands at the front of a message's bytes: its length, which is its kind's, and its kind
 pub record Front (s : List ℕ) (n : ℕ) : Type 0 where
@@ -120,6 +147,8 @@ front (Cancel id) rest = record { size = refl; kind = refl; kinds-size = refl; l
 front (Away s bid offer) rest = record { size = refl; kind = refl; kinds-size = refl; least = omega arith }
 front (Status s x) rest = record { size = refl; kind = refl; kinds-size = refl; least = omega arith }
 front Sweep rest = record { size = refl; kind = refl; kinds-size = refl; least = omega arith }
+front (Increment s i e) rest = record { size = refl; kind = refl; kinds-size = refl; least = omega arith }
+front (Percent x e) rest = record { size = refl; kind = refl; kinds-size = refl; least = omega arith }
 
 -- a message has the length of its kind
 pub message-length : (m : Message) → length (encodeMessage m) ≡ lengthOf (kindField (encodeMessage m))

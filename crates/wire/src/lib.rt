@@ -5,13 +5,15 @@ use rules::Decoded;
 use rules::Message;
 use rules::Regular;
 ghost use mathlib.Core.Path.{_≡_};
+ghost use mathlib.Core.Bool.{_&&_};
 ghost use mathlib.Core.List.{List, [], _∷_, _++_};
 ghost use Prim.Native.Nat.{_+_, _-_, _*_, _≤_, _<_};
 ghost use lib.ListN.{length, take, drop, replicate};
 ghost use Rattle.rules.specs.declared.Message.the-variants.{Away, Status};
-ghost use Rattle.rules.specs.Words.{increment, isRegularPrice, isQuantity, isLimit};
+ghost use Rattle.rules.specs.Words.{isSeries, isPrice, isQuantity, isLimit};
+ghost use Rattle.rules.specs.Settings.{isIncrement};
 ghost use Rattle.rules.specs.Bytes.{u8At, u16At, u32At, asSigned, bytes, i32};
-ghost use Rattle.rules.specs.Messages.{lengthOf, orderAt, twoLegAt, messageOf};
+ghost use Rattle.rules.specs.Messages.{lengthOf, messageKind, orderAt, twoLegAt, messageOf};
 ghost use Rattle.rules.specs.Refusals.{regularInRange, complexInRange, inRange, decoded};
 ghost use Rattle.rules.specs.Records.{answer, trade, pair, generated, removed, crossed, cancelled, causeNumber};
 ghost use Rattle.wire.specs.Seen.{seen, pasted, wordBytes, _plus_, _writes_};
@@ -61,7 +63,7 @@ pub fn u32_at(s: &[u8], at: usize) -> u32
 }
 
 // The signed number whose 32 bits, in two's complement, are `x`.
-fn signed(x: u32) -> i32
+pub fn signed(x: u32) -> i32
     ensures { λ r. ⌜ r ≡ asSigned x ⌝ }
 {
     if x < 2147483648 {
@@ -71,14 +73,8 @@ fn signed(x: u32) -> i32
     -1 - back
 }
 
-pub fn i32_at(s: &[u8], at: usize) -> i32
-    ensures { λ r. ⌜ r ≡ asSigned (u32At (now (s .entry)) at) ⌝ }
-{
-    signed(u32_at(s, at))
-}
-
-// A message's field, where the message is long enough to have it: the same numbers, with no test of the length.
-fn byte_at(s: &[u8], at: usize) -> u8
+// The same numbers where the bytes are long enough to have them, with no test of the length.
+pub fn byte_at(s: &[u8], at: usize) -> u8
     requires { ⌜ at < length (now s) ⌝ }
     ensures { λ r. ⌜ r ≡ u8At (now (s .entry)) at ⌝ }
 {
@@ -94,7 +90,7 @@ fn half_at(s: &[u8], at: usize) -> u16
     low + 256 * high
 }
 
-fn word_at(s: &[u8], at: usize) -> u32
+pub fn word_at(s: &[u8], at: usize) -> u32
     requires { ⌜ at + 4 ≤ length (now s) ⌝ }
     ensures { λ r. ⌜ r ≡ u32At (now (s .entry)) at ⌝ }
 {
@@ -105,17 +101,13 @@ fn word_at(s: &[u8], at: usize) -> u32
 
 // A message -----------------------------------------------------------------------------------
 
-fn is_regular_price(step: u32, price: u32) -> bool
-    requires { ⌜ 0 < step ⌝ }
-    ensures { λ r. ⌜ r ≡ isRegularPrice step price ⌝ }
+fn is_price(n: u32) -> bool
+    ensures { λ r. ⌜ r ≡ isPrice n ⌝ }
 {
-    if price == 0 {
+    if n == 0 {
         return false;
     }
-    if 100000 < price {
-        return false;
-    }
-    price % step == 0
+    n <= 100000
 }
 
 fn is_quantity(n: u32) -> bool
@@ -136,7 +128,19 @@ fn is_limit(n: i32) -> bool
     n <= 200000
 }
 
-// An order's fields are in their ranges, its price a multiple of the increment.
+pub fn is_increment(n: u8) -> bool
+    ensures { λ r. ⌜ r ≡ isIncrement n ⌝ }
+{
+    if n == 1 {
+        return true;
+    }
+    if n == 5 {
+        return true;
+    }
+    n == 10
+}
+
+// An order's fields are in their ranges; that its price is a multiple of the increment in force is asked of the venue.
 pub fn regular_in_range(o: Regular) -> bool
     ensures { λ r. ⌜ r ≡ regularInRange o ⌝ }
 {
@@ -149,7 +153,7 @@ pub fn regular_in_range(o: Regular) -> bool
     if 1 < o.side {
         return false;
     }
-    if !is_regular_price(rules::increment_of(o.series), o.price) {
+    if !is_price(o.price) {
         return false;
     }
     is_quantity(o.quantity)
@@ -207,11 +211,36 @@ fn status_in_range(series: u8, status: u8) -> bool
     status <= 2
 }
 
-// Every field of a message is in its range. In two halves, by the kind: of a match of all kinds a compiler makes a table of addresses.
+fn increment_in_range(series: u8, increment: u8) -> bool
+    ensures { λ r. ⌜ r ≡ (isSeries series && isIncrement increment) ⌝ }
+{
+    if 7 < series {
+        return false;
+    }
+    is_increment(increment)
+}
+
+// A new setting's fields are in their ranges; any u32 is an edition.
+fn setting_in_range(m: Message) -> bool
+    requires { ⌜ 6 < messageKind m ⌝ }
+    ensures { λ r. ⌜ r ≡ inRange m ⌝ }
+{
+    match m {
+        Message::Increment(series, increment, _) => increment_in_range(series, increment),
+        Message::Percent(percent, _) => percent <= 50,
+        _ => false,
+    }
+}
+
+// Every field of a message is in its range. In three parts, by the kind: of a match of all kinds a compiler makes a table of addresses.
 fn in_range(m: Message) -> bool
     ensures { λ r. ⌜ r ≡ inRange m ⌝ }
 {
-    if rules::message_kind(m) <= 3 {
+    let kind = rules::message_kind(m);
+    if 6 < kind {
+        return setting_in_range(m);
+    }
+    if kind <= 3 {
         return match m {
             Message::Order(o) => regular_in_range(o),
             Message::TwoLeg(c) => complex_in_range(c),
@@ -257,7 +286,7 @@ fn two_leg_at(s: &[u8]) -> Complex
 
 // The message at the front of `s`, of its kind's length, compared in order as in `length_of`.
 fn message_of(s: &[u8]) -> Message
-    requires { ⌜ (4 ≤ length (now s)) × (0 < u16At (now s) 2) × (lengthOf (u16At (now s) 2) ≤ length (now s)) ⌝ }
+    requires { ⌜ (4 ≤ length (now s)) × (0 < u16At (now s) 2) × (u16At (now s) 2 ≤ 8) × (lengthOf (u16At (now s) 2) ≤ length (now s)) ⌝ }
     ensures { λ r. ⌜ r ≡ messageOf (now (s .entry)) ⌝ }
 {
     let kind = half_at(s, 2);
@@ -276,7 +305,13 @@ fn message_of(s: &[u8]) -> Message
     if kind <= 5 {
         return Message::Status(byte_at(s, 4), byte_at(s, 5));
     }
-    Message::Sweep
+    if kind <= 6 {
+        return Message::Sweep;
+    }
+    if kind <= 7 {
+        return Message::Increment(byte_at(s, 4), byte_at(s, 5), word_at(s, 6));
+    }
+    Message::Percent(byte_at(s, 4), word_at(s, 5))
 }
 
 // The message at the front of `s`, or the first of the refusals 1 to 4 that it meets.
@@ -297,7 +332,7 @@ pub fn decode(s: &[u8]) -> Decoded
     if kind == 0 {
         return Decoded::Refused(2);
     }
-    if 6 < kind {
+    if 8 < kind {
         return Decoded::Refused(2);
     }
     if size != rules::length_of(kind) {

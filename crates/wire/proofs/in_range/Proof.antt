@@ -1,4 +1,4 @@
-use mathlib.Core.Path.{sym, ap, subst, _∙_}
+use mathlib.Core.Path.{sym, ap, _∙_}
 use native.Mathlib.Omega.{arith}
 use Rattle.rules.specs.Refusals.{inRange}
 use Rattle.rules.proofs.ByKind.{kinds-left, sweep-left}
@@ -9,6 +9,12 @@ use Rattle.wire.proofs.in_range.Tie as tie
 
 message-kind-requires : tie.Need-message-kind-requires
 message-kind-requires c κs = search needs
+
+setting-in-range-requires : tie.Need-setting-in-range-requires
+setting-in-range-requires c κs = search needs
+
+returns : tie.Need-returns
+returns c = search needs
 
 enum-known-m : tie.Need-enum-known-m
 enum-known-m c = search needs
@@ -25,20 +31,20 @@ complex-in-range-requires c κs = search needs
 enum-known-m-3 : tie.Need-enum-known-m-3
 enum-known-m-3 c = search needs
 
-returns : tie.Need-returns
-unfolding inRange
-returns c = c .regular-in-range .ensures ∙ sym (ap inRange (c .before .before .m .given .1))
-
 returns-2 : tie.Need-returns-2
 unfolding inRange
-returns-2 c = c .complex-in-range .ensures ∙ sym (ap inRange (c .before .before .m2 .given .1))
+returns-2 c = c .regular-in-range .ensures ∙ sym (ap inRange (c .before .before .m .given .1))
 
 returns-3 : tie.Need-returns-3
 unfolding inRange
-returns-3 c = id-is (c .before .m3 .given .0 .0) (omega arith) ∙ sym (ap inRange (c .before .m3 .given .1))
+returns-3 c = c .complex-in-range .ensures ∙ sym (ap inRange (c .before .before .m2 .given .1))
 
 returns-4 : tie.Need-returns-4
-returns-4 c = let k = kinds-left (c .before .before .before .args .m) (c .match .keys4) in let e = c .before .before .message-kind .ensures in absurd (omega arith)
+unfolding inRange
+returns-4 c = id-is (c .before .m3 .given .0 .0) (omega arith) ∙ sym (ap inRange (c .before .m3 .given .1))
+
+returns-5 : tie.Need-returns-5
+returns-5 c = let k = kinds-left (c .before .before .before .before .args .m) (c .match .keys4) in let e = c .before .before .before .message-kind .ensures in absurd (omega arith)
 
 enum-known-m-4 : tie.Need-enum-known-m-4
 enum-known-m-4 c = search needs
@@ -52,34 +58,38 @@ enum-known-m-5 c = search needs
 status-in-range-requires : tie.Need-status-in-range-requires
 status-in-range-requires c κs = search needs
 
-returns-5 : tie.Need-returns-5
-returns-5 c = c .away-in-range .ensures ∙ sym (ap inRange (c .before .before .m4 .given .1))
-
 returns-6 : tie.Need-returns-6
-returns-6 c = c .status-in-range .ensures ∙ sym (ap inRange (c .before .before .m5 .given .1))
+returns-6 c = c .away-in-range .ensures ∙ sym (ap inRange (c .before .before .m4 .given .1))
 
 returns-7 : tie.Need-returns-7
+returns-7 c = c .status-in-range .ensures ∙ sym (ap inRange (c .before .before .m5 .given .1))
+
+returns-8 : tie.Need-returns-8
 unfolding inRange
-returns-7 c = let e = c .before .before .message-kind .ensures in sym (ap inRange (sweep-left (c .before .before .before .args .m) (c .match2 .keys3) (omega arith)))
+returns-8 c =
+    let e = c .before .before .before .message-kind .ensures in
+    sym (ap inRange (sweep-left (c .before .before .before .before .args .m) (c .match2 .keys3) (omega arith) (omega arith)))
 
 pub in-range-spec : {M : Type 1} → statement M
 in-range-spec =
     tie.close
     (tie.spec
     message-kind-requires
+    setting-in-range-requires
+    returns
     enum-known-m
     regular-in-range-requires
     enum-known-m-2
     complex-in-range-requires
     enum-known-m-3
-    returns
     returns-2
     returns-3
     returns-4
+    returns-5
     enum-known-m-4
     away-in-range-requires
     enum-known-m-5
     status-in-range-requires
-    returns-5
     returns-6
-    returns-7)
+    returns-7
+    returns-8)

@@ -1,10 +1,10 @@
-use mathlib.Core.Path.{sym, ap, _∙_}
+use mathlib.Core.Path.{sym, _∙_}
 use native.Mathlib.Omega.{arith}
 use borrow.Author.Tests.{not-true, not-false}
-use Rattle.rules.specs.Words.{isRegularPrice, isId, isSeries, isSide}
+use Rattle.rules.specs.Words.{isId, isSeries, isSide}
 use Rattle.rules.specs.Refusals.{regularInRange}
 use Rattle.rules.proofs.Tests.{and-false}
-use Rattle.wire.proofs.Decoding.{below, above, some-increment, regular-quantity}
+use Rattle.wire.proofs.Decoding.{below, above, regular-quantity}
 use borrow.Author.Needs.{needs}
 use Rattle.wire.proofs.regular_in_range.Statement.{statement}
 use Rattle.wire.proofs.regular_in_range.Tie as tie
@@ -21,28 +21,21 @@ returns-3 : tie.Need-returns-3
 unfolding regularInRange isSide
 returns-3 c = let o = c .before .before .before .before .before .before .args .o in simp (above 0 1 (o .side) (c .if3 .taken), and-false)
 
-increment-of-requires : tie.Need-increment-of-requires
-increment-of-requires c κs = search needs
-
-is-regular-price-requires : tie.Need-is-regular-price-requires
-is-regular-price-requires c κs = omega (arith, c .increment-of .ensures, some-increment (c .before .before .before .before .before .before .before .args .o .series))
+is-price-requires : tie.Need-is-price-requires
+is-price-requires c κs = search needs
 
 returns-4 : tie.Need-returns-4
 unfolding regularInRange
-returns-4 c =
-    let o = c .before .before .before .before .before .before .before .before .before .args .o in
-    let e = c .before .is-regular-price .ensures ∙ ap (λ k. isRegularPrice k (o .price)) (c .before .before .increment-of .ensures) in
-    simp (sym e ∙ not-true _ (c .if4 .taken), and-false)
+returns-4 c = simp (sym (c .before .is-price .ensures) ∙ not-true _ (c .if4 .taken), and-false)
 
 is-quantity-requires : tie.Need-is-quantity-requires
 is-quantity-requires c κs = search needs
 
 returns-5 : tie.Need-returns-5
 returns-5 c =
-    let o = c .before .before .before .before .before .before .before .before .before .before .args .o in
-    let e = c .before .before .is-regular-price .ensures ∙ ap (λ k. isRegularPrice k (o .price)) (c .before .before .before .increment-of .ensures) in
+    let o = c .before .before .before .before .before .before .before .before .before .args .o in
     c .is-quantity .ensures
-    ∙ regular-quantity o (omega arith) (omega arith) (c .before .before .before .before .before .before .if2 .left) (c .before .before .before .before .if3 .left) (sym e ∙ not-false _ (c .before .if4 .left))
+    ∙ regular-quantity o (omega arith) (omega arith) (c .before .before .before .before .before .if2 .left) (c .before .before .before .if3 .left) (sym (c .before .before .is-price .ensures) ∙ not-false _ (c .before .if4 .left))
 
 pub regular-in-range-spec : {M : Type 1} → statement M
 regular-in-range-spec =
@@ -51,8 +44,7 @@ regular-in-range-spec =
     returns
     returns-2
     returns-3
-    increment-of-requires
-    is-regular-price-requires
+    is-price-requires
     returns-4
     is-quantity-requires
     returns-5)

@@ -1,0 +1,44 @@
+use mathlib.Core.Path.{sym, ap, _∙_}
+use native.Mathlib.Omega.{arith}
+use Rattle.rules.specs.Settings.{isPercent}
+use Rattle.rules.specs.Refusals.{inRange}
+use Rattle.rules.proofs.ByKind.{lower-left}
+use Rattle.wire.proofs.Decoding.{within-top, any-edition}
+use borrow.Author.Needs.{needs}
+use Rattle.wire.proofs.setting_in_range.Statement.{statement}
+use Rattle.wire.proofs.setting_in_range.Tie as tie
+
+enum-known-m : tie.Need-enum-known-m
+enum-known-m c = search needs
+
+increment-in-range-requires : tie.Need-increment-in-range-requires
+increment-in-range-requires c κs = search needs
+
+enum-known-m-2 : tie.Need-enum-known-m-2
+enum-known-m-2 c = search needs
+
+returns : tie.Need-returns
+unfolding inRange
+returns c =
+    let m = c .before .before .m .given in
+    c .increment-in-range .ensures ∙ sym (ap inRange (m .1) ∙ any-edition _ (m .0 .1 .1 .0) (omega arith))
+
+returns-2 : tie.Need-returns-2
+unfolding inRange isPercent
+returns-2 c =
+    let m = c .before .m2 .given in
+    within-top 0 50 (m .0 .0) (omega arith) ∙ sym (ap inRange (m .1) ∙ any-edition _ (m .0 .1 .0) (omega arith))
+
+returns-3 : tie.Need-returns-3
+returns-3 c = let k = lower-left (c .before .args .m) (c .match .keys3) in absurd (omega arith)
+
+pub setting-in-range-spec : {M : Type 1} → statement M
+setting-in-range-spec =
+    tie.close
+    (tie.spec
+    enum-known-m
+    increment-in-range-requires
+    enum-known-m-2
+    returns
+    returns-2
+    returns-3)
