@@ -1,6 +1,6 @@
 -- A venue is read back from its bytes.
 use mathlib.Core.Path.{_≡_, refl, sym, ap, _∙_}
-use mathlib.Core.List.{List, [], _++_, append-assoc}
+use mathlib.Core.List.{List, [], _++_, append-assoc, append-nil}
 use Prim.Native.Nat.{ℕ, suc, _+_, _*_, _<_}
 use native.Mathlib.Omega.{arith}
 use lib.ListN.{length, getD, take, drop, length-append, take-append-drop}
@@ -9,7 +9,8 @@ use Rattle.rules.specs.declared.Regular.{Regular}
 use Rattle.rules.specs.declared.Complex.{Complex}
 use Rattle.rules.specs.declared.Legging.{Legging}
 use Rattle.rules.specs.declared.Listed.{Listed}
-use Rattle.rules.specs.Words.{noRegular, noComplex, noLegging, notListed}
+use Rattle.rules.specs.declared.Edition.{Edition}
+use Rattle.rules.specs.Words.{noRegular, noComplex, noLegging, notListed, noEdition}
 use Rattle.rules.specs.Bytes.{u8At, u16At, u32At, asUnsigned, bytes, u32}
 use Rattle.rules.specs.Records.{FourBytes}
 use Rattle.rules.specs.Opened.{opened-rules}
@@ -18,12 +19,12 @@ use Rattle.wire.proofs.Numbers.{u32-here}
 use Rattle.places.specs.Layout.{upto}
 use Rattle.places.proofs.Tables.{upto-length, upto-at}
 use Rattle.places.proofs.Parts.{venue-is}
-use Rattle.state.specs.Held.{regularBytes, complexBytes, leggingBytes, listedBytes, rows, venueBytes, rowAt, venueFrom}
-use Rattle.state.specs.Held.{regularFrom, complexFrom, leggingFrom, listedFrom}
-use Rattle.state.specs.Held.{RegularFits, ComplexFits, LeggingFits, ListedFits, HeldWhole, zerosVenue, ZerosHeld, closings, ClosedFirst}
+use Rattle.state.specs.Held.{editionsAt, regularBytes, complexBytes, leggingBytes, listedBytes, editionBytes, rows, venueBytes, rowAt, venueFrom}
+use Rattle.state.specs.Held.{regularFrom, complexFrom, leggingFrom, listedFrom, editionFrom}
+use Rattle.state.specs.Held.{RegularFits, ComplexFits, LeggingFits, ListedFits, EditionFits, HeldWhole, zerosVenue, ZerosHeld, closings, ClosedFirst}
 use Rattle.state.proofs.Rows.{rows-append, rows-length}
-use Rattle.state.proofs.Widths.{regular-width, complex-width, legging-width, listed-width}
-use Rattle.state.proofs.Whole.{regular-part, complex-part, legging-part, series-part}
+use Rattle.state.proofs.Widths.{regular-width, complex-width, legging-width, listed-width, edition-width}
+use Rattle.state.proofs.Whole.{regular-part, complex-part, legging-part, series-part, last-part}
 
 -- A row ---------------------------------------------------------------------------------------
 
@@ -55,9 +56,13 @@ listed-back : (x : Listed) → ListedFits x → (rest : List ℕ) → listedFrom
 unfolding listedFrom listedBytes bytes u8At u16At u32At
 listed-back x f rest = rw (byte (x .status) (f .status), word (x .bid) (f .bid), word (x .offer) (f .offer))
 
-last-back : (x : ℕ) → FourBytes x → u32At (u32 x) 0 ≡ x
+edition-back : (e : Edition) → EditionFits e → (rest : List ℕ) → editionFrom (editionBytes e ++ rest) ≡ e
+unfolding editionFrom editionBytes bytes u8At u16At u32At
+edition-back e f rest = rw (word (e .edition) (f .edition), word (e .message) (f .message), byte (e .figure) (f .figure), byte (e .value) (f .value))
+
+last-back : (x : ℕ) → FourBytes x → (rest : List ℕ) → u32At (u32 x ++ rest) 0 ≡ x
 unfolding bytes u8At u16At u32At
-last-back x f = word x f
+last-back x f rest = word x f
 
 -- A table -------------------------------------------------------------------------------------
 
@@ -99,21 +104,27 @@ held-whole v d =
     let C : List ℕ = rows complexBytes (v .complex) in
     let L : List ℕ = rows leggingBytes (v .legging) in
     let S : List ℕ = rows listedBytes (v .series) in
-    let E : List ℕ = u32 (v .last) in
+    let Z : List ℕ = u32 (v .last) in
+    let E : List ℕ = rows editionBytes (v .editions) in
     let s = d .sized in
     venue-is _ _
-    (table-back regularBytes 14 regular-width noRegular regularFrom 0 128 (venueBytes v) [] (C ++ L ++ S ++ E) (v .regular) (simp append-assoc) refl (s .regular)
+    (table-back regularBytes 14 regular-width noRegular regularFrom 0 128 (venueBytes v) [] (C ++ L ++ S ++ Z ++ E) (v .regular) (simp append-assoc) refl (s .regular)
     (λ i r. regular-back _ (d .regular i) r))
-    (table-back complexBytes 17 complex-width noComplex complexFrom 1792 32 (venueBytes v) R (L ++ S ++ E) (v .complex) (simp append-assoc) (regular-part v s) (s .complex)
+    (table-back complexBytes 17 complex-width noComplex complexFrom 1792 32 (venueBytes v) R (L ++ S ++ Z ++ E) (v .complex) (simp append-assoc) (regular-part v s) (s .complex)
     (λ i r. complex-back _ (d .complex i) r))
-    (table-back leggingBytes 12 legging-width noLegging leggingFrom 2336 16 (venueBytes v) (R ++ C) (S ++ E) (v .legging) (simp append-assoc) (complex-part v s) (s .legging)
+    (table-back leggingBytes 12 legging-width noLegging leggingFrom 2336 16 (venueBytes v) (R ++ C) (S ++ Z ++ E) (v .legging) (simp append-assoc) (complex-part v s) (s .legging)
     (λ i r. legging-back _ (d .legging i) r))
-    (table-back listedBytes 9 listed-width notListed listedFrom 2528 8 (venueBytes v) (R ++ C ++ L) E (v .series) refl (legging-part v s) (s .series)
+    (table-back listedBytes 9 listed-width notListed listedFrom 2528 8 (venueBytes v) (R ++ C ++ L) (Z ++ E) (v .series) (simp append-assoc) (legging-part v s) (s .series)
     (λ i r. listed-back _ (d .series i) r))
-    (u32-here 2600 (venueBytes v) ∙ ap (λ (x : List ℕ). u32At x 0) (drop-at (R ++ C ++ L ++ S) E 2600 (series-part v s)) ∙ last-back (v .last) (d .last))
+    (table-back editionBytes 10 edition-width noEdition editionFrom editionsAt 32 (venueBytes v) (R ++ C ++ L ++ S ++ Z) [] (v .editions) (simp append-nil) (last-part v s) (s .editions)
+    (λ i r. edition-back _ (d .editions i) r))
+    (u32-here 2600 (venueBytes v)
+    ∙ ap (λ (x : List ℕ). u32At (drop 2600 x) 0) (append-assoc (R ++ C ++ L ++ S) Z E)
+    ∙ ap (λ (x : List ℕ). u32At x 0) (drop-at (R ++ C ++ L ++ S) (Z ++ E) 2600 (series-part v s))
+    ∙ last-back (v .last) (d .last) E)
 
 pub zeros-held : ZerosHeld
-unfolding opened-rules venueFrom rowAt upto regularFrom complexFrom leggingFrom listedFrom zerosVenue
+unfolding opened-rules venueFrom rowAt upto regularFrom complexFrom leggingFrom listedFrom editionFrom zerosVenue
 zeros-held = (refl, refl)
 
 pub closed-first : ClosedFirst

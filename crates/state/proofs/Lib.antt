@@ -2,4 +2,3 @@ pub mod Rows
 pub mod Widths
 pub mod Whole
 pub mod Back
-pub mod Sizes

@@ -8,9 +8,9 @@ use Rattle.rules.specs.declared.Venue.{Venue}
 use Rattle.rules.specs.Bytes.{u32, bytes}
 use Rattle.wire.specs.Seen.{Seen, seen, pasted, _plus_}
 use Rattle.wire.proofs.Writes.{plus-in, pasted-length, pasted-pasted}
-use Rattle.state.specs.Held.{venueSize, regularBytes, complexBytes, leggingBytes, listedBytes, rows, venueBytes, Sized}
+use Rattle.state.specs.Held.{editionsAt, venueSize, regularBytes, complexBytes, leggingBytes, listedBytes, editionBytes, rows, venueBytes, Sized}
 use Rattle.state.proofs.Rows.{rows-length}
-use Rattle.state.proofs.Widths.{regular-width, complex-width, legging-width, listed-width}
+use Rattle.state.proofs.Widths.{regular-width, complex-width, legging-width, listed-width, edition-width}
 
 -- bytes in the place of all
 all : (l x : List ℕ) → length l ≤ length x → pasted l 0 x ≡ x
@@ -36,6 +36,9 @@ module _ (v : Venue) (sized : Sized v) where
   abbrev S : List ℕ
   S = rows listedBytes (v .series)
 
+  abbrev E : List ℕ
+  E = rows editionBytes (v .editions)
+
   pub regular-part : length R ≡ 1792
   regular-part = let n = sized .regular in rows-length regularBytes 14 regular-width (v .regular) ∙ omega arith
 
@@ -48,14 +51,26 @@ module _ (v : Venue) (sized : Sized v) where
   pub series-part : length (R ++ C ++ L ++ S) ≡ 2600
   series-part = let n = sized .series in let k = legging-part in length-append (R ++ C ++ L) S ∙ omega (arith, rows-length listedBytes 9 listed-width (v .series))
 
-  pub venue-put : (l a b c d e : List ℕ) (end : ℕ) → length l ≡ venueSize → a ≡ pasted l 0 R → b ≡ pasted a 1792 C → c ≡ pasted b 2336 L → d ≡ pasted c 2528 S →
-      seen e end ≡ seen d 2600 plus u32 (v .last) → e ≡ venueBytes v
+  pub last-part : length (R ++ C ++ L ++ S ++ u32 (v .last)) ≡ editionsAt
+  unfolding bytes
+  last-part = let k = series-part in length-append (R ++ C ++ L ++ S) (u32 (v .last)) ∙ omega arith
+
+  pub venue-length : length (venueBytes v) ≡ venueSize
+  unfolding venueBytes
+  venue-length =
+      let n = sized .editions in
+      let k = last-part in
+      length-append (R ++ C ++ L ++ S ++ u32 (v .last)) E ∙ omega (arith, rows-length editionBytes 10 edition-width (v .editions))
+
+  pub venue-put : (l a b c d e f : List ℕ) (end : ℕ) → length l ≡ venueSize → a ≡ pasted l 0 R → b ≡ pasted a 1792 C → c ≡ pasted b 2336 L → d ≡ pasted c 2528 S →
+      seen e end ≡ seen d 2600 plus u32 (v .last) → f ≡ pasted e editionsAt E → f ≡ venueBytes v
   unfolding venueBytes seen bytes
-  venue-put l a b c d e end n p q r s t =
+  venue-put l a b c d e f end n p q r s t u =
       let rc = then l a b R C 1792 p q (omega (arith, regular-part)) (omega arith) in
       let rcl = then l b c (R ++ C) L 2336 rc r (omega (arith, complex-part)) (omega arith) in
       let rcls = then l c d (R ++ C ++ L) S 2528 rcl s (omega (arith, legging-part)) (omega arith) in
       let same : length d ≡ length l = ap length rcls ∙ pasted-length l (R ++ C ++ L ++ S) 0 (omega (arith, series-part)) in
       let last : e ≡ pasted d 2600 (u32 (v .last)) = ap (λ (w : Seen). w .memory) (t ∙ plus-in d (u32 (v .last)) 2600 (omega arith)) in
-      then l d e (R ++ C ++ L ++ S) (u32 (v .last)) 2600 rcls last (omega (arith, series-part)) (omega arith)
-      ∙ all l (R ++ C ++ L ++ S ++ u32 (v .last)) (omega (arith, series-part, length-append (R ++ C ++ L ++ S) (u32 (v .last))))
+      let rclsl = then l d e (R ++ C ++ L ++ S) (u32 (v .last)) 2600 rcls last (omega (arith, series-part)) (omega arith) in
+      then l e f (R ++ C ++ L ++ S ++ u32 (v .last)) E editionsAt rclsl u (omega (arith, last-part)) (omega arith)
+      ∙ all l (R ++ C ++ L ++ S ++ u32 (v .last) ++ E) (omega (arith, venue-length))

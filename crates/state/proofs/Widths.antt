@@ -5,8 +5,9 @@ use Rattle.rules.specs.declared.Regular.{Regular}
 use Rattle.rules.specs.declared.Complex.{Complex}
 use Rattle.rules.specs.declared.Legging.{Legging}
 use Rattle.rules.specs.declared.Listed.{Listed}
+use Rattle.rules.specs.declared.Edition.{Edition}
 use Rattle.rules.specs.Bytes.{bytes}
-use Rattle.state.specs.Held.{regularBytes, complexBytes, leggingBytes, listedBytes}
+use Rattle.state.specs.Held.{regularBytes, complexBytes, leggingBytes, listedBytes, editionBytes}
 
 pub regular-width : (o : Regular) → length (regularBytes o) ≡ 14
 unfolding regularBytes bytes
@@ -23,3 +24,7 @@ legging-width l = refl
 pub listed-width : (x : Listed) → length (listedBytes x) ≡ 9
 unfolding listedBytes bytes
 listed-width x = refl
+
+pub edition-width : (e : Edition) → length (editionBytes e) ≡ 10
+unfolding editionBytes bytes
+edition-width e = refl

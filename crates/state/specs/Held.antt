@@ -1,4 +1,5 @@
--- A venue as bytes, which a host holds between calls: 2,604 of them, each number as in a message, little-endian.
+-- A venue as bytes, which a host holds between calls: 2,924 of them, each number as in a message, little-endian. What a request adds to a venue
+-- stands after what there was before.
 --
 --   from   a row                                                                                      bytes   rows
 --      0   id u32, series u8, side u8, price u32, quantity u32                                           14   128 regular
@@ -6,6 +7,9 @@
 --   2336   parent u32, price u32, quantity u32                                                           12   16 legging
 --   2528   status u8, bid u32, offer u32                                                                  9   8 series
 --   2600   last id u32                                                                                    4
+--   2604   edition u32, message number u32, figure u8, value u8                                          10   32 editions
+--
+-- An edition's figure is 0 to 7, the increment of that series, or 8, the percent.
 use mathlib.Core.Path.{_≡_}
 use mathlib.Core.Bool.{true}
 use mathlib.Core.List.{List, [], _∷_, _++_}
@@ -15,9 +19,10 @@ use Rattle.rules.specs.declared.Regular.{Regular}
 use Rattle.rules.specs.declared.Complex.{Complex}
 use Rattle.rules.specs.declared.Legging.{Legging}
 use Rattle.rules.specs.declared.Listed.{Listed}
+use Rattle.rules.specs.declared.Edition.{Edition}
 use Rattle.rules.specs.declared.Venue.{Venue}
 use Rattle.rules.specs.declared.Message.the-variants.{Status}
-use Rattle.rules.specs.Words.{noRegular, noComplex, noLegging, notListed, closed, freshVenue, withSeries}
+use Rattle.rules.specs.Words.{noRegular, noComplex, noLegging, notListed, noEdition, closed, freshVenue, withSeries}
 use Rattle.rules.specs.Bytes.{u8At, u32At, asSigned, u8, u32, i32}
 use Rattle.rules.specs.Messages.{encodeMessage}
 use Rattle.rules.specs.Records.{OneByte, FourBytes, FourSigned}
@@ -25,8 +30,12 @@ use Rattle.rules.specs.Sound.{sound}
 use Rattle.rules.specs.Calls.{run}
 use Rattle.places.specs.Layout.{upto}
 
+-- where the editions begin
+abbrev pub editionsAt : ℕ
+editionsAt = 2604
+
 abbrev pub venueSize : ℕ
-venueSize = 2604
+venueSize = 2924
 
 -- Writing -------------------------------------------------------------------------------------
 
@@ -44,6 +53,9 @@ leggingBytes l = u32 (l .parent) ++ u32 (l .price) ++ u32 (l .quantity)
 unfoldable pub listedBytes : Listed → List ℕ
 listedBytes x = u8 (x .status) ++ u32 (x .bid) ++ u32 (x .offer)
 
+unfoldable pub editionBytes : Edition → List ℕ
+editionBytes e = u32 (e .edition) ++ u32 (e .message) ++ u8 (e .figure) ++ u8 (e .value)
+
 -- a table's: row after row
 unfoldable pub rows : {A : Type 0} → (A → List ℕ) → List A → List ℕ
 rows row [] = []
@@ -52,6 +64,7 @@ rows row (x ∷ xs) = row x ++ rows row xs
 unfoldable pub venueBytes : Venue → List ℕ
 venueBytes v =
     rows regularBytes (v .regular) ++ rows complexBytes (v .complex) ++ rows leggingBytes (v .legging) ++ rows listedBytes (v .series) ++ u32 (v .last)
+    ++ rows editionBytes (v .editions)
 
 -- Reading -------------------------------------------------------------------------------------
 
@@ -77,6 +90,9 @@ leggingFrom bs = record { parent = u32At bs 0; price = u32At bs 4; quantity = u3
 unfoldable pub listedFrom : List ℕ → Listed
 listedFrom bs = record { status = u8At bs 0; bid = u32At bs 1; offer = u32At bs 5 }
 
+unfoldable pub editionFrom : List ℕ → Edition
+editionFrom bs = record { edition = u32At bs 0; message = u32At bs 4; figure = u8At bs 8; value = u8At bs 9 }
+
 -- row i of a table whose rows are `width` bytes each, from a position on
 unfoldable pub rowAt : {A : Type 0} → (List ℕ → A) → (from width : ℕ) → List ℕ → (i : ℕ) → A
 rowAt row from width bs i = row (drop (width * i + from) bs)
@@ -87,6 +103,7 @@ venueFrom bs = record {
   complex = upto (rowAt complexFrom 1792 17 bs) 0 32;
   legging = upto (rowAt leggingFrom 2336 12 bs) 0 16;
   series = upto (rowAt listedFrom 2528 9 bs) 0 8;
+  editions = upto (rowAt editionFrom editionsAt 10 bs) 0 32;
   last = u32At bs 2600;
 }
 
@@ -120,12 +137,19 @@ pub record ListedFits (x : Listed) : Type 0 where
   pub bid : FourBytes (x .bid)
   pub offer : FourBytes (x .offer)
 
+pub record EditionFits (e : Edition) : Type 0 where
+  pub edition : FourBytes (e .edition)
+  pub message : FourBytes (e .message)
+  pub figure : OneByte (e .figure)
+  pub value : OneByte (e .value)
+
 -- each array has its length
 pub record Sized (v : Venue) : Type 0 where
   pub regular : length (v .regular) ≡ 128
   pub complex : length (v .complex) ≡ 32
   pub legging : length (v .legging) ≡ 16
   pub series : length (v .series) ≡ 8
+  pub editions : length (v .editions) ≡ 32
 
 -- a venue of the declared type
 pub record Declared (v : Venue) : Type 0 where
@@ -134,6 +158,7 @@ pub record Declared (v : Venue) : Type 0 where
   pub complex : (i : ℕ) → ComplexFits (getD (v .complex) i noComplex)
   pub legging : (i : ℕ) → LeggingFits (getD (v .legging) i noLegging)
   pub series : (i : ℕ) → ListedFits (getD (v .series) i notListed)
+  pub editions : (i : ℕ) → EditionFits (getD (v .editions) i noEdition)
   pub last : FourBytes (v .last)
 
 abbrev pub HeldWhole : Type 0

@@ -1,61 +1,85 @@
 // A venue as bytes (specs/Held.antt), for a host that holds it between calls: read, and written anew.
 use rules::Complex;
+use rules::Edition;
 use rules::Legging;
 use rules::Listed;
 use rules::Regular;
 use rules::Venue;
 ghost use mathlib.Core.Path.{_≡_};
+ghost use Prim.Native.Nat.{_≤_};
 ghost use lib.ListN.{length};
 ghost use Rattle.wire.specs.Seen.{seen, pasted, _plus_};
-ghost use Rattle.state.specs.Held.{venueSize, regularBytes, complexBytes, leggingBytes, listedBytes, rows, venueBytes};
-ghost use Rattle.state.specs.Held.{regularFrom, complexFrom, leggingFrom, listedFrom, venueFrom};
+ghost use Rattle.state.specs.Held.{editionsAt, venueSize, regularBytes, complexBytes, leggingBytes, listedBytes, editionBytes, rows, venueBytes};
+ghost use Rattle.state.specs.Held.{regularFrom, complexFrom, leggingFrom, listedFrom, editionFrom, venueFrom};
+
+// Where the editions begin.
+const EDITIONS_AT: usize = 2604;
+
+// How many bytes a venue has.
+pub const VENUE_SIZE: usize = EDITIONS_AT + 10 * 32;
 
 // A row read ----------------------------------------------------------------------------------
 
 fn regular_from(row: &[u8]) -> Regular
+    requires { ⌜ 14 ≤ length (now row) ⌝ }
     ensures { λ r. ⌜ r ≡ regularFrom (now (row .entry)) ⌝ }
 {
     Regular {
-        id: wire::u32_at(row, 0),
-        series: wire::u8_at(row, 4),
-        side: wire::u8_at(row, 5),
-        price: wire::u32_at(row, 6),
-        quantity: wire::u32_at(row, 10),
+        id: wire::word_at(row, 0),
+        series: wire::byte_at(row, 4),
+        side: wire::byte_at(row, 5),
+        price: wire::word_at(row, 6),
+        quantity: wire::word_at(row, 10),
     }
 }
 
 fn complex_from(row: &[u8]) -> Complex
+    requires { ⌜ 17 ≤ length (now row) ⌝ }
     ensures { λ r. ⌜ r ≡ complexFrom (now (row .entry)) ⌝ }
 {
     Complex {
-        id: wire::u32_at(row, 0),
-        series1: wire::u8_at(row, 4),
-        side1: wire::u8_at(row, 5),
-        series2: wire::u8_at(row, 6),
-        side2: wire::u8_at(row, 7),
-        class: wire::u8_at(row, 8),
-        limit: wire::i32_at(row, 9),
-        quantity: wire::u32_at(row, 13),
+        id: wire::word_at(row, 0),
+        series1: wire::byte_at(row, 4),
+        side1: wire::byte_at(row, 5),
+        series2: wire::byte_at(row, 6),
+        side2: wire::byte_at(row, 7),
+        class: wire::byte_at(row, 8),
+        limit: wire::signed(wire::word_at(row, 9)),
+        quantity: wire::word_at(row, 13),
     }
 }
 
 fn legging_from(row: &[u8]) -> Legging
+    requires { ⌜ 12 ≤ length (now row) ⌝ }
     ensures { λ r. ⌜ r ≡ leggingFrom (now (row .entry)) ⌝ }
 {
     Legging {
-        parent: wire::u32_at(row, 0),
-        price: wire::u32_at(row, 4),
-        quantity: wire::u32_at(row, 8),
+        parent: wire::word_at(row, 0),
+        price: wire::word_at(row, 4),
+        quantity: wire::word_at(row, 8),
     }
 }
 
 fn listed_from(row: &[u8]) -> Listed
+    requires { ⌜ 9 ≤ length (now row) ⌝ }
     ensures { λ r. ⌜ r ≡ listedFrom (now (row .entry)) ⌝ }
 {
     Listed {
-        status: wire::u8_at(row, 0),
-        bid: wire::u32_at(row, 1),
-        offer: wire::u32_at(row, 5),
+        status: wire::byte_at(row, 0),
+        bid: wire::word_at(row, 1),
+        offer: wire::word_at(row, 5),
+    }
+}
+
+fn edition_from(row: &[u8]) -> Edition
+    requires { ⌜ 10 ≤ length (now row) ⌝ }
+    ensures { λ r. ⌜ r ≡ editionFrom (now (row .entry)) ⌝ }
+{
+    Edition {
+        edition: wire::word_at(row, 0),
+        message: wire::word_at(row, 4),
+        figure: wire::byte_at(row, 8),
+        value: wire::byte_at(row, 9),
     }
 }
 
@@ -148,6 +172,27 @@ fn series_from(bytes: &[u8]) -> [Listed; 8]
     r
 }
 
+fn editions_from(bytes: &[u8]) -> [Edition; 32]
+    requires { ⌜ length (now bytes) ≡ venueSize ⌝ }
+    ensures { λ r. ⌜ r ≡ venueFrom (now (bytes .entry)) .editions ⌝ }
+{
+    let free = Edition {
+        edition: 0,
+        message: 0,
+        figure: 0,
+        value: 0,
+    };
+    let mut r = [free; 32];
+    let mut i: usize = 0;
+    while i < 32 {
+        let at = 10 * i + EDITIONS_AT;
+        let x = edition_from(&bytes[at..]);
+        r[i] = x;
+        i += 1;
+    }
+    r
+}
+
 // The venue that the bytes hold.
 pub fn venue_from(bytes: &[u8]) -> Venue
     requires { ⌜ length (now bytes) ≡ venueSize ⌝ }
@@ -157,12 +202,14 @@ pub fn venue_from(bytes: &[u8]) -> Venue
     let complex = complexes_from(bytes);
     let legging = leggings_from(bytes);
     let series = series_from(bytes);
-    let last = wire::u32_at(bytes, 2600);
+    let last = wire::word_at(bytes, 2600);
+    let editions = editions_from(bytes);
     Venue {
         regular,
         complex,
         legging,
         series,
+        editions,
         last,
     }
 }
@@ -211,6 +258,26 @@ fn put_listed(out: &mut [u8], at: usize, x: Listed)
     let head = [x.status];
     let words = [x.bid, x.offer];
     wire::put_words(out, at, &head, &words);
+}
+
+fn put_edition(out: &mut [u8], at: usize, x: Edition)
+    ensures { λ _. ⌜ now (out .exit) ≡ (seen (now (out .entry)) at plus editionBytes x) .memory ⌝ }
+{
+    let e = wire::bytes4(x.edition);
+    let m = wire::bytes4(x.message);
+    let row = [
+        e[0],
+        e[1],
+        e[2],
+        e[3],
+        m[0],
+        m[1],
+        m[2],
+        m[3],
+        x.figure,
+        x.value,
+    ];
+    wire::put(out, at, &row);
 }
 
 // The venue written, table by table -----------------------------------------------------------
@@ -263,6 +330,18 @@ fn put_series(out: &mut [u8], l: [Listed; 8])
     }
 }
 
+fn put_editions(out: &mut [u8], l: [Edition; 32])
+    requires { ⌜ length (now out) ≡ venueSize ⌝ }
+    ensures { λ _. ⌜ now (out .exit) ≡ pasted (now (out .entry)) editionsAt (rows editionBytes l) ⌝ }
+{
+    let mut i: usize = 0;
+    while i < 32 {
+        let x = l[i];
+        put_edition(out, 10 * i + EDITIONS_AT, x);
+        i += 1;
+    }
+}
+
 // The venue's bytes in the place of what stood there.
 pub fn put_venue(out: &mut [u8], v: Venue)
     requires { ⌜ length (now out) ≡ venueSize ⌝ }
@@ -278,4 +357,6 @@ pub fn put_venue(out: &mut [u8], v: Venue)
     put_series(out, series);
     let last = wire::bytes4(v.last);
     wire::put(out, 2600, &last);
+    let editions = v.editions;
+    put_editions(out, editions);
 }

@@ -4,18 +4,18 @@ use borrow.Author.Needs.{needs}
 use Rattle.state.proofs.listed_from.Statement.{statement}
 use Rattle.state.proofs.listed_from.Tie as tie
 
-u8-at-requires : tie.Need-u8-at-requires
-u8-at-requires c κs = search needs
+byte-at-requires : tie.Need-byte-at-requires
+byte-at-requires c κs = search needs
 
-u32-at-requires : tie.Need-u32-at-requires
-u32-at-requires c κs = search needs
+word-at-requires : tie.Need-word-at-requires
+word-at-requires c κs = search needs
 
-u32-at-requires-2 : tie.Need-u32-at-requires-2
-u32-at-requires-2 c κs = search needs
+word-at-requires-2 : tie.Need-word-at-requires-2
+word-at-requires-2 c κs = search needs
 
 returns : tie.Need-returns
 unfolding listedFrom
-returns c = rw (c .before .before .u8-at .ensures, c .before .u32-at .ensures, c .u32-at2 .ensures)
+returns c = rw (c .before .before .byte-at .ensures, c .before .word-at .ensures, c .word-at2 .ensures)
 
 pub listed-from-spec : {M : Type 1} → statement M
-listed-from-spec = tie.close (tie.spec u8-at-requires u32-at-requires u32-at-requires-2 returns)
+listed-from-spec = tie.close (tie.spec byte-at-requires word-at-requires word-at-requires-2 returns)

@@ -21,6 +21,7 @@ sized s =
       complex = long _ (s .args .v .complex) (s .good .1 .0 .1 .1 .1 .0 .1 .0 .1);
       legging = long _ (s .args .v .legging) (s .good .1 .0 .1 .1 .1 .1 .0 .1 .0 .1);
       series = long _ (s .args .v .series) (s .good .1 .0 .1 .1 .1 .1 .1 .0 .1 .0 .1);
+      editions = long _ (s .args .v .editions) (s .good .1 .0 .1 .1 .1 .1 .1 .1 .0 .1 .0 .1);
     }
 
 put-regulars-requires : tie.Need-put-regulars-requires
@@ -44,14 +45,23 @@ slice-aggregate-put c = search needs
 put-requires : tie.Need-put-requires
 put-requires c κs = search needs
 
+put-editions-requires : tie.Need-put-editions-requires
+put-editions-requires c κs = search needs
+
 same-length : tie.Need-same-length
 same-length c = search needs
 
 returns : tie.Need-returns
 returns c =
-    let s = c .before .before .before .before .before .before .before .before .before .before .before .before .before .before .before .before .before .before .before .before .before .before .before .before .before .before .before in
-    venue-put (s .args .v) (sized s) (s .args .out .now) _ _ _ _ _ _ (s .pre) (c .before .before .before .before .before .before .before .before .before .before .before .before .before .before .before .before .before .before .before .before .before .before .before .put-regulars .ensures) (c .before .before .before .before .before .before .before .before .before .before .before .before .before .before .before .before .before .before .put-complexes .ensures)
-    (c .before .before .before .before .before .before .before .before .before .before .before .before .before .put-leggings .ensures) (c .before .before .before .before .before .before .before .before .put-series .ensures) (c .before .before .put .ensures ∙ ap (λ (x : List ℕ). seen (c .before .before .before .before .before .before .before .before .put-series .last .0) 2600 plus x) (c .before .before .before .before .before .bytes4 .ensures))
+    let e = c .before .before in
+    let l = e .before .before .before .before .before in
+    let d = l .before .before .before .before .before .before in
+    let g = d .before .before .before .before .before in
+    let x = g .before .before .before .before .before in
+    let r = x .before .before .before .before .before in
+    let s = r .before .before .before .before in
+    venue-put (s .args .v) (sized s) (s .args .out .now) _ _ _ _ _ _ _ (s .pre) (r .put-regulars .ensures) (x .put-complexes .ensures) (g .put-leggings .ensures) (d .put-series .ensures)
+    (l .put .ensures ∙ ap (λ (y : List ℕ). seen (d .put-series .last .0) 2600 plus y) (l .before .before .before .bytes4 .ensures)) (e .put-editions .ensures)
 
 pub put-venue-spec : {M : Type 1} → statement M
 put-venue-spec =
@@ -64,5 +74,6 @@ put-venue-spec =
     bytes4-requires
     slice-aggregate-put
     put-requires
+    put-editions-requires
     same-length
     returns)

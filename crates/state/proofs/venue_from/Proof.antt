@@ -17,12 +17,17 @@ leggings-from-requires c κs = search needs
 series-from-requires : tie.Need-series-from-requires
 series-from-requires c κs = search needs
 
-u32-at-requires : tie.Need-u32-at-requires
-u32-at-requires c κs = search needs
+word-at-requires : tie.Need-word-at-requires
+word-at-requires c κs = search needs
+
+editions-from-requires : tie.Need-editions-from-requires
+editions-from-requires c κs = search needs
 
 returns : tie.Need-returns
 unfolding venueFrom
-returns c = venue-is _ _ (c .before .before .before .before .regulars-from .ensures) (c .before .before .before .complexes-from .ensures) (c .before .before .leggings-from .ensures) (c .before .series-from .ensures) (c .u32-at .ensures)
+returns c =
+    venue-is _ _ (c .before .before .before .before .before .regulars-from .ensures) (c .before .before .before .before .complexes-from .ensures) (c .before .before .before .leggings-from .ensures)
+    (c .before .before .series-from .ensures) (c .editions-from .ensures) (c .before .word-at .ensures)
 
 pub venue-from-spec : {M : Type 1} → statement M
 venue-from-spec =
@@ -32,5 +37,6 @@ venue-from-spec =
     complexes-from-requires
     leggings-from-requires
     series-from-requires
-    u32-at-requires
+    word-at-requires
+    editions-from-requires
     returns)
