@@ -3,7 +3,7 @@ use mathlib.Core.Path.{_≡_, refl, sym, ap, subst, _∙_}
 use mathlib.Core.Bool.{Bool, true}
 use mathlib.Core.Logic.{_≢_, _⊎_, inl, inr}
 use mathlib.Core.List.{List}
-use Prim.Native.Nat.{ℕ, _+_, _*_, _≤_, _<_, min}
+use Prim.Native.Nat.{ℕ, _+_, _*_, _%_, _≤_, _<_, min}
 use native.Mathlib.Omega.{arith}
 use native.Mathlib.Decide.{decLt, ℕ-discrete}
 use lib.ListN.{getD}
@@ -11,8 +11,10 @@ use Rattle.rules.specs.declared.Regular.{Regular}
 use Rattle.rules.specs.Words.{placeOf}
 use Rattle.rules.specs.Places.{holdsRegular, holdsComplex}
 use Rattle.rules.specs.Step.{mask}
-use Rattle.places.specs.Layout.{regularsUsed, complexesUsed, regularIn, complexIn, venueOf, Filled, levelOf, levelIn, Marked, Orderly, Right, SameCounts}
-use Rattle.places.proofs.Parts.{Outside, regulars-few, complexes-few, regular-kept, complex-kept, count-kept, count-kept2, regulars-kept, complexes-kept, leggings-kept, series-kept, last-kept, venue-is}
+use Rattle.rules.specs.Settings.{figureNow}
+use Rattle.rules.specs.declared.Venue.{Venue}
+use Rattle.places.specs.Layout.{regularsUsed, complexesUsed, regularIn, complexIn, venueOf, Filled, levelOf, levelIn, Marked, figureIn, Figured, Orderly, Right, SameCounts}
+use Rattle.places.proofs.Parts.{Outside, regulars-few, complexes-few, regular-kept, complex-kept, count-kept, count-kept2, regulars-kept, complexes-kept, leggings-kept, series-kept, editions-kept, last-kept, venue-is}
 
 -- the places known to be held are
 abbrev pub RegularsMarked : List ℕ → Type 0
@@ -40,6 +42,10 @@ level-fields : (a b : List ℕ) (n : ℕ) → getD b (3 * n + 779) 0 ≡ getD a 
     getD b (3 * n + 781) 0 ≡ getD a (3 * n + 781) 0 → levelIn b n ≡ levelIn a n
 unfolding levelIn
 level-fields a b n p q r = rw (p, q, r)
+
+pub figure-same : (a b : List ℕ) (f : ℕ) → venueOf b .editions ≡ venueOf a .editions → figureNow (venueOf b) f ≡ figureNow (venueOf a) f
+unfolding figureNow
+figure-same a b f e = rw e
 
 -- What a store does not reach -----------------------------------------------------------------
 
@@ -72,17 +78,34 @@ module _ {low high : ℕ} {a b : List ℕ} (o : Outside low high a b) where
       go k w (inl x) = inr (omega arith)
       go k w (inr x) = inl (omega arith)
 
-  pub legging-marked : (high ≤ 704) ⊎ (752 ≤ low) → high ≤ 829 → LeggingMarked a → LeggingMarked b
-  legging-marked h k e = o .same 829 (inr k) ∙ e ∙ ap mask (sym (leggings-kept o h))
+  pub legging-marked : (high ≤ 704) ⊎ (752 ≤ low) → (829 < low) ⊎ (high ≤ 829) → LeggingMarked a → LeggingMarked b
+  legging-marked h k e = o .same 829 k ∙ e ∙ ap mask (sym (leggings-kept o h))
+
+  figure-kept : (f : ℕ) → f < 9 → (high ≤ 830) ⊎ (975 ≤ low) → figureIn b f ≡ figureIn a f
+  unfolding figureIn
+  figure-kept f w (inl h) = ap (λ (x : ℕ). x % 256) (o .same (2 * f + 958) (inr (omega arith)))
+  figure-kept f w (inr h) = ap (λ (x : ℕ). x % 256) (o .same (2 * f + 958) (inl (omega arith)))
+
+  -- the figures are of the editions alone
+  pub figures-marked : (high ≤ 830) ⊎ (975 ≤ low) → Figured a → Figured b
+  figures-marked h e = record {
+    so = λ f w. figure-kept f w h ∙ e .so f w ∙ sym (figure-same a b f (editions-kept o (near h)));
+    some = λ s w. rw (figure-kept s (omega arith) h) (e .some s w);
+  }
+    where
+      near : (high ≤ 830) ⊎ (975 ≤ low) → (high ≤ 830) ⊎ (958 ≤ low)
+      near (inl x) = inl x
+      near (inr x) = inr (omega arith)
 
   -- what is kept beside the venue is no part of it
-  pub beside-venue : 779 ≤ low → venueOf b ≡ venueOf a
-  beside-venue h =
+  pub beside-venue : 779 ≤ low → (high ≤ 830) ⊎ (958 ≤ low) → venueOf b ≡ venueOf a
+  beside-venue h k =
       venue-is (venueOf b) (venueOf a)
       (regulars-kept o (omega arith) (inl (omega arith)))
       (complexes-kept o (inr (omega arith)) (inl (omega arith)))
       (leggings-kept o (inr (omega arith)))
       (series-kept o (inr (omega arith)))
+      (editions-kept o k)
       (last-kept o (inl (omega arith)))
 
 -- A mark that is lowered ----------------------------------------------------------------------
@@ -124,7 +147,7 @@ complex-holds a b i h o held full =
 
 -- All that is kept ----------------------------------------------------------------------------
 
-place-few : (s d : ℕ) → s < 8 → d < 2 → placeOf s d < 16
+pub place-few : (s d : ℕ) → s < 8 → d < 2 → placeOf s d < 16
 unfolding placeOf
 place-few s d h k = omega arith
 
@@ -149,7 +172,8 @@ counts-kept {low = low} {high = high} {a = a} {b = b} o l h w = record {
   right = right-kept a b (levels-kept o (inr h)) (regulars-kept o (omega arith) (one w)) (λ m. record {
     regulars = regulars-marked o (omega arith) (one w) (inr (omega arith)) (m .regulars);
     complexes = complexes-marked o (inr (omega arith)) (two w) (inr (omega arith)) (m .complexes);
-    legging = legging-marked o (inr l) (omega arith) (m .legging);
+    legging = legging-marked o (inr l) (inr (omega arith)) (m .legging);
+    figures = figures-marked o (inl (omega arith)) (m .figures);
   });
 }
   where

@@ -14,11 +14,12 @@ use Rattle.rules.specs.declared.Venue.{Venue}
 use Rattle.rules.specs.Words.{noRegular, noComplex, regularAt, complexAt, withRegular, withComplex}
 use Rattle.rules.specs.Trading.{freeRegular, freeComplex}
 use Rattle.rules.specs.Prices.{bestRegular, bestSize}
-use Rattle.rules.specs.Places.{holdsRegular, holdsComplex, keep, closeGaps}
+use Rattle.rules.specs.Base.{keep}
+use Rattle.rules.specs.Places.{holdsRegular, holdsComplex, closeGaps}
 use Rattle.rules.proofs.Closing.{best-closed, size-closed}
-use Rattle.places.specs.Layout.{size, inUse, regularsUsed, complexesUsed, regularIn, complexIn, venueOf, regularRow, complexRow, limitNumber, Kept, levelOf, levelIn, Orderly, Right, SameCounts, Filled, Dense, closeRegulars, closeComplexes, regularsHeld, complexesHeld, RegularsClosed, ComplexesClosed, GapsClosed}
-use Rattle.places.proofs.Parts.{Outside, stored, wider, regulars-few, complexes-few, regular-at, complex-at, regular-kept, complex-kept, count-kept, count-kept2, regulars-kept, complexes-kept, leggings-kept, series-kept, last-kept, venue-is, regulars-counted, complexes-counted}
-use Rattle.places.proofs.Beside.{RegularsMarked, ComplexesMarked, LeggingMarked, levels-kept, regulars-marked, complexes-marked, legging-marked, beside-venue, right-on, right-kept}
+use Rattle.places.specs.Layout.{size, inUse, regularsUsed, complexesUsed, regularIn, complexIn, venueOf, regularRow, complexRow, limitNumber, Kept, levelOf, levelIn, Figured, Orderly, Right, SameCounts, Filled, Dense, closeRegulars, closeComplexes, regularsHeld, complexesHeld, RegularsClosed, ComplexesClosed, GapsClosed}
+use Rattle.places.proofs.Parts.{Outside, stored, wider, regulars-few, complexes-few, regular-at, complex-at, regular-kept, complex-kept, count-kept, count-kept2, regulars-kept, complexes-kept, leggings-kept, series-kept, editions-kept, last-kept, venue-is, regulars-counted, complexes-counted}
+use Rattle.places.proofs.Beside.{RegularsMarked, ComplexesMarked, LeggingMarked, levels-kept, regulars-marked, complexes-marked, legging-marked, figures-marked, beside-venue, right-on, right-kept}
 use Rattle.places.proofs.Orderly.{orderly-packed}
 use Rattle.places.proofs.Stores.{regular-back, complex-back, counted, counted2}
 use Rattle.places.proofs.Gaps.{closing-start, closed-count, closed-part, free-place, Moving, moving-start, moving-skip, moving-keep}
@@ -96,13 +97,13 @@ others-regular : (a b : List ℕ) (l : List Regular) → Outside 0 512 a b → w
 unfolding withRegular
 others-regular a b l o =
     venue-is (withRegular (venueOf b) l) (withRegular (venueOf a) l) refl (complexes-kept o (inl (omega arith)) (inr (omega arith)))
-    (leggings-kept o (inl (omega arith))) (series-kept o (inl (omega arith))) (last-kept o (inr (omega arith)))
+    (leggings-kept o (inl (omega arith))) (series-kept o (inl (omega arith))) (editions-kept o (inl (omega arith))) (last-kept o (inr (omega arith)))
 
 others-complex : (a b : List ℕ) (l : List Complex) → Outside 512 704 a b → withComplex (venueOf b) l ≡ withComplex (venueOf a) l
 unfolding withComplex
 others-complex a b l o =
     venue-is (withComplex (venueOf b) l) (withComplex (venueOf a) l) (regulars-kept o (omega arith) (inr (omega arith))) refl
-    (leggings-kept o (inl (omega arith))) (series-kept o (inl (omega arith))) (last-kept o (inr (omega arith)))
+    (leggings-kept o (inl (omega arith))) (series-kept o (inl (omega arith))) (editions-kept o (inl (omega arith))) (last-kept o (inr (omega arith)))
 
 -- closing gaps leaves the levels of the orders as they are
 level-is : (s d : ℕ) (v : Venue) → levelOf s d (v .regular) ≡ record { price = bestRegular v s d; size = bestSize v s d }
@@ -119,8 +120,8 @@ level-packed s d v = level-closed s d v
 -- gaps are closed; then all places in use become known to be held
 regulars-known : (a b : List ℕ) (j : ℕ) → venueOf b ≡ closeRegulars (venueOf a) → regularsUsed b ≡ regularsHeld a → complexesUsed b ≡ complexesUsed a →
     Filled holdsRegular (regularIn b) (regularsUsed b) → ((n : ℕ) → n < 16 → levelIn b n ≡ levelIn a n) → (ComplexesMarked a → ComplexesMarked b) →
-    (LeggingMarked a → LeggingMarked b) → RegularsClosed a (set b 827 j)
-regulars-known a b j same used others full levels marks legs = record {
+    (LeggingMarked a → LeggingMarked b) → (Figured a → Figured b) → RegularsClosed a (set b 827 j)
+regulars-known a b j same used others full levels marks legs figs = record {
   venue = venue;
   counts = record {
     regulars = count-kept o (inl (omega arith)) ∙ used;
@@ -131,7 +132,8 @@ regulars-known a b j same used others full levels marks legs = record {
         (λ m. record {
           regulars = λ k w. filled k (omega arith);
           complexes = complexes-marked o (inr (omega arith)) (inl (omega arith)) (inr (omega arith)) (marks (m .complexes));
-          legging = legging-marked o (inr (omega arith)) (omega arith) (legs (m .legging));
+          legging = legging-marked o (inr (omega arith)) (inr (omega arith)) (legs (m .legging));
+          figures = figures-marked o (inl (omega arith)) (figs (m .figures));
         });
   };
   filled = filled;
@@ -141,7 +143,7 @@ regulars-known a b j same used others full levels marks legs = record {
     o = stored b 827 j
 
     venue : venueOf (set b 827 j) ≡ closeRegulars (venueOf a)
-    venue = beside-venue o (omega arith) ∙ same
+    venue = beside-venue o (omega arith) (inl (omega arith)) ∙ same
 
     filled : Filled holdsRegular (regularIn (set b 827 j)) (regularsUsed (set b 827 j))
     filled k w =
@@ -151,8 +153,8 @@ regulars-known a b j same used others full levels marks legs = record {
 
 complexes-known : (a b : List ℕ) (j : ℕ) → venueOf b ≡ closeComplexes (venueOf a) → complexesUsed b ≡ complexesHeld a → regularsUsed b ≡ regularsUsed a →
     Filled holdsComplex (complexIn b) (complexesUsed b) → ((n : ℕ) → n < 16 → levelIn b n ≡ levelIn a n) → (RegularsMarked a → RegularsMarked b) →
-    (LeggingMarked a → LeggingMarked b) → ComplexesClosed a (set b 828 j)
-complexes-known a b j same used others full levels marks legs = record {
+    (LeggingMarked a → LeggingMarked b) → (Figured a → Figured b) → ComplexesClosed a (set b 828 j)
+complexes-known a b j same used others full levels marks legs figs = record {
   venue = venue;
   counts = record {
     complexes = count-kept2 o (inl (omega arith)) ∙ used;
@@ -162,7 +164,8 @@ complexes-known a b j same used others full levels marks legs = record {
         (λ m. record {
           regulars = regulars-marked o (omega arith) (inl (omega arith)) (inl (omega arith)) (marks (m .regulars));
           complexes = λ k w. filled k (omega arith);
-          legging = legging-marked o (inr (omega arith)) (omega arith) (legs (m .legging));
+          legging = legging-marked o (inr (omega arith)) (inr (omega arith)) (legs (m .legging));
+          figures = figures-marked o (inl (omega arith)) (figs (m .figures));
         });
   };
   filled = filled;
@@ -172,7 +175,7 @@ complexes-known a b j same used others full levels marks legs = record {
     o = stored b 828 j
 
     venue : venueOf (set b 828 j) ≡ closeComplexes (venueOf a)
-    venue = beside-venue o (omega arith) ∙ same
+    venue = beside-venue o (omega arith) (inl (omega arith)) ∙ same
 
     filled : Filled holdsComplex (complexIn (set b 828 j)) (complexesUsed (set b 828 j))
     filled k w =
@@ -187,8 +190,8 @@ regulars-same a j full =
     let n = regularsUsed a in
     let p = closing-start holdsRegular n (regularIn a) n (omega arith) full in
     regulars-known a a j
-    (venue-is (venueOf a) (closeRegulars (venueOf a)) (closed-part holdsRegular noRegular refl n 128 (regularIn a) (regularIn a) n p (regulars-few a)) refl refl refl refl)
-    (sym (closed-count holdsRegular noRegular refl n 128 (regularIn a) (regularIn a) n p (regulars-few a))) refl full (λ k w. refl) (λ m. m) (λ m. m)
+    (venue-is (venueOf a) (closeRegulars (venueOf a)) (closed-part holdsRegular noRegular refl n 128 (regularIn a) (regularIn a) n p (regulars-few a)) refl refl refl refl refl)
+    (sym (closed-count holdsRegular noRegular refl n 128 (regularIn a) (regularIn a) n p (regulars-few a))) refl full (λ k w. refl) (λ m. m) (λ m. m) (λ m. m)
 
 complexes-same : (a : List ℕ) (j : ℕ) → Filled holdsComplex (complexIn a) (complexesUsed a) → ComplexesClosed a (set a 828 j)
 unfolding closeComplexes withComplex venueOf
@@ -196,8 +199,8 @@ complexes-same a j full =
     let n = complexesUsed a in
     let p = closing-start holdsComplex n (complexIn a) n (omega arith) full in
     complexes-known a a j
-    (venue-is (venueOf a) (closeComplexes (venueOf a)) refl (closed-part holdsComplex noComplex refl n 32 (complexIn a) (complexIn a) n p (complexes-few a)) refl refl refl)
-    (sym (closed-count holdsComplex noComplex refl n 32 (complexIn a) (complexIn a) n p (complexes-few a))) refl full (λ k w. refl) (λ m. m) (λ m. m)
+    (venue-is (venueOf a) (closeComplexes (venueOf a)) refl (closed-part holdsComplex noComplex refl n 32 (complexIn a) (complexIn a) n p (complexes-few a)) refl refl refl refl)
+    (sym (closed-count holdsComplex noComplex refl n 32 (complexIn a) (complexIn a) n p (complexes-few a))) refl full (λ k w. refl) (λ m. m) (λ m. m) (λ m. m)
 
 -- the book becomes l, of which j places are in use
 pub record RegularsSet (a : List ℕ) (l : List Regular) (j : ℕ) (c : List ℕ) : Type 0 where
@@ -234,7 +237,8 @@ regulars-closed a b j m =
     (s .regulars ∙ sym (closed-count holdsRegular noRegular refl (regularsUsed a) 128 (regularIn a) (regularIn b) j (m .places) few)) (s .complexes) (s .filled)
     (λ n w. levels-kept o (inr (omega arith)) n w ∙ levels-kept near (inr (omega arith)) n w)
     (λ x. complexes-marked o (inr (omega arith)) (inr (omega arith)) (inr (omega arith)) (complexes-marked near (inl (omega arith)) (inr (omega arith)) (inr (omega arith)) x))
-    (λ x. legging-marked o (inr (omega arith)) (omega arith) (legging-marked near (inl (omega arith)) (omega arith) x))
+    (λ x. legging-marked o (inr (omega arith)) (inr (omega arith)) (legging-marked near (inl (omega arith)) (inr (omega arith)) x))
+    (λ x. figures-marked o (inl (omega arith)) (figures-marked near (inl (omega arith)) x))
 
 -- the book becomes l, of which j places are in use
 pub record ComplexesSet (a : List ℕ) (l : List Complex) (j : ℕ) (c : List ℕ) : Type 0 where
@@ -271,7 +275,8 @@ complexes-closed a b j m =
     (s .complexes ∙ sym (closed-count holdsComplex noComplex refl (complexesUsed a) 32 (complexIn a) (complexIn b) j (m .places) few)) (s .regulars) (s .filled)
     (λ n w. levels-kept o (inr (omega arith)) n w ∙ levels-kept near (inr (omega arith)) n w)
     (λ x. regulars-marked o (omega arith) (inl (omega arith)) (inr (omega arith)) (regulars-marked near (omega arith) (inr (omega arith)) (inr (omega arith)) x))
-    (λ x. legging-marked o (inr (omega arith)) (omega arith) (legging-marked near (inl (omega arith)) (omega arith) x))
+    (λ x. legging-marked o (inr (omega arith)) (inr (omega arith)) (legging-marked near (inl (omega arith)) (inr (omega arith)) x))
+    (λ x. figures-marked o (inl (omega arith)) (figures-marked near (inl (omega arith)) x))
 
 pub regulars-whole : (a : List ℕ) (n r : ℕ) → n ≡ regularsUsed a → r ≡ n → Filled holdsRegular (regularIn a) r → RegularsClosed a (set a 827 n)
 regulars-whole a n r e h full = regulars-same a n (λ k w. full k (omega arith))

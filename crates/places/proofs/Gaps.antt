@@ -10,7 +10,8 @@ use native.Mathlib.Numerals.{add-one}
 use lib.ListN.{length, replicate}
 use lib.Seq.{sets}
 use Rattle.rules.specs.Base.{if_then_else_, placeWhere}
-use Rattle.rules.specs.Places.{keep, packed}
+use Rattle.rules.specs.Base.{keep}
+use Rattle.rules.specs.Places.{packed}
 use Rattle.places.specs.Layout.{size, upto, inUse, Filled}
 use Rattle.places.proofs.Tables.{upto-length, upto-same, upto-more, used-length}
 use Rattle.places.proofs.Parts.{Outside, wider, joined}

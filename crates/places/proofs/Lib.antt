@@ -7,5 +7,6 @@ pub mod Limits
 pub mod Stores
 pub mod Gaps
 pub mod Closed
+pub mod Figures
 pub mod Loaded
 pub mod Starting

@@ -1,7 +1,7 @@
 -- Loading a venue: its books row by row to the first free place, its other parts place by place.
 use mathlib.Core.Path.{_≡_, refl, sym, ap, _∙_}
 use mathlib.Core.Bool.{Bool, true, false, _&&_, true≢false}
-use mathlib.Core.Logic.{_⊎_, inl}
+use mathlib.Core.Logic.{_⊎_, inl, inr}
 use mathlib.Core.List.{List, [], _∷_, _++_}
 use Prim.Native.Nat.{ℕ, _+_, _*_, _≤_, _<_}
 use native.Mathlib.Omega.{arith}
@@ -14,22 +14,27 @@ use Rattle.rules.specs.declared.Regular.{Regular}
 use Rattle.rules.specs.declared.Complex.{Complex}
 use Rattle.rules.specs.declared.Legging.{Legging}
 use Rattle.rules.specs.declared.Listed.{Listed}
+use Rattle.rules.specs.declared.Edition.{Edition}
 use Rattle.rules.specs.declared.Venue.{Venue}
-use Rattle.rules.specs.Words.{noRegular, noComplex, noLegging, notListed, withRegular, withComplex, withLegging, withSeries, withLast, isSeries, isSide, within}
-use Rattle.rules.specs.Places.{holdsRegular, holdsComplex, blankRegular, blankComplex, packed, closeGaps}
+use Rattle.rules.specs.Words.{noRegular, noComplex, noLegging, notListed, noEdition, withRegular, withComplex, withLegging, withSeries, withEditions, withLast, isSeries, isSide, within}
+use Rattle.rules.specs.Places.{holdsRegular, holdsComplex, holdsEdition, blankRegular, blankComplex, blankEdition, packed, closeGaps}
 use Rattle.rules.specs.Step.{mask}
+use Rattle.rules.specs.Settings.{figureNow, increment}
 use Rattle.rules.specs.Refusals.{regularInRange, complexInRange}
-use Rattle.rules.specs.Sound.{regularsSound, complexesSound, sound}
+use Rattle.rules.specs.Sound.{regularsSound, complexesSound, editionsSound, editionInRange, figureInRange, sound}
 use Rattle.rules.proofs.Tests.{and-l, and-r}
+use Rattle.rules.proofs.Editions.{ed, Dated, Stepped, dated-steps}
+use Rattle.rules.proofs.Dating.{edition-free}
 use Rattle.rules.proofs.Closing.{packed-free}
 use Rattle.rules.proofs.Arranging.{arranged-out, blank-free, blank-freeC, closed-same}
 use Rattle.places.proofs.Orderly.{sound-orderly}
-use Rattle.places.specs.Layout.{size, inUse, regularIn, complexIn, listedIn, venueOf, regularRow, complexRow, Kept, SameCounts, Filled, Placed, OnSide, RegularsPlaced, ComplexesPlaced, Loadable, RegularsLoaded, ComplexesLoaded, Laid}
-use Rattle.places.proofs.Tables.{upto-length, used-length, used-at, used-free}
-use Rattle.places.proofs.Parts.{Outside, stored, wider, joined, count-kept, count-kept2}
+use Rattle.places.specs.Layout.{size, inUse, regularIn, complexIn, listedIn, editionIn, venueOf, regularRow, complexRow, editionRow, Figured, FiguresCounted, Kept, SameCounts, Filled, Placed, OnSide, RegularsPlaced, ComplexesPlaced, Loadable, RegularsLoaded, ComplexesLoaded, EditionsLoaded, Laid}
+use Rattle.places.proofs.Tables.{upto-length, used-length, used-at, used-free, whole}
+use Rattle.places.proofs.Parts.{Outside, stored, wider, joined, edition-kept, count-kept, count-kept2, regulars-kept, complexes-kept, leggings-kept, series-kept, last-kept, venue-is}
 use Rattle.places.proofs.Masks.{legging-many}
-use Rattle.places.proofs.Beside.{beside-venue}
-use Rattle.places.proofs.Stores.{sets-outside, sets-length, regular-back, complex-back}
+use Rattle.places.proofs.Beside.{figures-marked, beside-venue}
+use Rattle.places.proofs.Figures.{counted-outside}
+use Rattle.places.proofs.Stores.{sets-outside, sets-length, regular-back, complex-back, edition-back}
 use Rattle.places.proofs.Gaps.{filled-more}
 use Rattle.places.proofs.Closed.{lowRegular, lowComplex, regular-wide, complex-wide, regular-agree, complex-agree, regulars-set, complexes-set, regulars-filled, complexes-filled}
 
@@ -214,34 +219,94 @@ pub series-last : (a : List ℕ) (l : List Listed) (b : List ℕ) (i : ℕ) → 
 unfolding withSeries
 series-last = loading-last withSeries (λ v. v .series) notListed 8 (λ v x y. refl) (λ v x. refl) (λ v. refl) series-many
 
+-- Editions, each of which a place holds as it is -------------------------------------------------
+
+abbrev lowEdition : ℕ → ℕ
+lowEdition i = 4 * i + 830
+
+edition-wide : (i : ℕ) (e : Edition) → 4 * i + 830 + length (editionRow e) ≡ 4 * (i + 1) + 830
+unfolding editionRow
+edition-wide i e = omega arith
+
+edition-agree : (a b : List ℕ) (l h i : ℕ) → Outside l h a b → (4 * (i + 1) + 830 ≤ l) ⊎ (h ≤ 4 * i + 830) → editionIn a i ≡ editionIn b i
+edition-agree a b l h i o (inl w) = edition-kept o i (inl (omega arith))
+edition-agree a b l h i o (inr w) = edition-kept o i (inr w)
+
+abbrev pub LayingEditions : (a b : List ℕ) (l : List Edition) (i : ℕ) → Type 0
+LayingEditions = Laying (λ _. true) noEdition lowEdition editionIn
+
+pub editions-first : (a : List ℕ) (l : List Edition) → length a ≡ size → LayingEditions a a l 0
+editions-first = laying-first (λ _. true) noEdition 32 lowEdition editionIn editionRow (λ i j h. omega arith) edition-wide edition-agree
+
+pub editions-next : (a b b′ : List ℕ) (l : List Edition) (i : ℕ) → LayingEditions a b l i → i < 32 → (e : Edition) → e ≡ getD l i noEdition →
+    e .figure < 256 → e .value < 256 → b′ ≡ sets b (4 * i + 830) (editionRow e) → LayingEditions a b′ l (i + 1)
+editions-next a b b′ l i m lt e is w x q =
+    rw (q, is) (laying-next (λ _. true) noEdition 32 lowEdition editionIn editionRow (λ i j h. omega arith) edition-wide edition-agree a b l i m refl
+    (edition-back b i (getD l i noEdition) (m .long) lt (rw is at w) (rw is at x)))
+
+editions-part : (b : List ℕ) → venueOf b .editions ≡ inUse (editionIn b) noEdition 32 32
+unfolding venueOf
+editions-part b = sym (whole (editionIn b) noEdition 32)
+
+pub editions-last : (a b : List ℕ) (l : List Edition) (i : ℕ) → LayingEditions a b l i → length l ≡ 32 → i ≡ 32 → EditionsLoaded a l b
+unfolding withEditions
+editions-last a b l i m n e = record {
+  venue = venue-is (venueOf b) (withEditions (venueOf a) l) (regulars-kept o (omega arith) (inl (omega arith))) (complexes-kept o (inr (omega arith)) (inl (omega arith)))
+      (leggings-kept o (inr (omega arith))) (series-kept o (inr (omega arith))) part (last-kept o (inl (omega arith)));
+  regulars = count-kept o (inl (omega arith));
+  complexes = count-kept2 o (inl (omega arith));
+}
+  where
+    o : Outside 830 958 a b
+    o = wider (omega arith) (omega arith) (m .outside)
+
+    part : venueOf b .editions ≡ l
+    part = editions-part b ∙ sym (ap (λ (k : ℕ). inUse (editionIn b) noEdition k 32) e)
+        ∙ laid (λ _. true) noEdition 32 lowEdition editionIn editionRow (λ i j h. omega arith) edition-wide edition-agree a b l i m n (omega arith)
+        (past-end noEdition l i (omega arith))
+
 -- The whole venue -----------------------------------------------------------------------------
 
-pub loaded : (v : Venue) (a b c d e f : List ℕ) (x : ℕ) → RegularsLoaded a (v .regular) b → ComplexesLoaded b (v .complex) c →
+figures-some : (v : Venue) (s : ℕ) → 0 < increment v s → 0 < figureNow v s
+unfolding increment
+figures-some v s h = h
+
+pub loaded : (v : Venue) (a b c d e g h f : List ℕ) (x : ℕ) → RegularsLoaded a (v .regular) b → ComplexesLoaded b (v .complex) c →
     venueOf d ≡ withLegging (venueOf c) (v .legging) → SameCounts c d → venueOf e ≡ withSeries (venueOf d) (v .series) → SameCounts d e →
-    venueOf f ≡ withLast (venueOf e) (v .last) → SameCounts e f → length f ≡ size → x ≡ mask (venueOf f .legging) →
-    Laid v (set (set (set f 827 0) 828 0) 829 x)
-unfolding withRegular withComplex withLegging withSeries withLast
-loaded v a b c d e f x rs cs ls n ss o lt p long count =
+    EditionsLoaded e (v .editions) g → venueOf h ≡ withLast (venueOf g) (v .last) → SameCounts g h → length h ≡ size → x ≡ mask (venueOf h .legging) →
+    length f ≡ length h → FiguresCounted h f → ((s : ℕ) → s < 8 → 0 < increment v s) → Laid v (set (set (set f 827 0) 828 0) 829 x)
+unfolding withRegular withComplex withLegging withSeries withEditions withLast
+loaded v a b c d e g h f x rs cs ls n ss o es lt p wide count even figs steps =
+    let aside = counted-outside h f wide even figs in
+    let long : length f ≡ size = even ∙ wide in
+    let beside : venueOf f ≡ venueOf h = beside-venue aside (omega arith) (inr (omega arith)) in
+    let is : venueOf h ≡ v = lt ∙ ap (λ (w : Venue). withLast w (v .last)) (es .venue ∙ ap (λ (w : Venue). withEditions w (v .editions)) (ss ∙ ap (λ (w : Venue). withSeries w (v .series)) (ls ∙ ap (λ (w : Venue). withLegging w (v .legging)) (cs .venue ∙ ap (λ (w : Venue). withComplex w (v .complex)) (rs .venue))))) in
+    let figured : Figured f = record { so = figs .figures; some = λ s w. rw (figs .figures s (omega arith), beside, is) (figures-some v s (steps s w)) } in
     let one = stored f 827 0 in
     let two = stored (set f 827 0) 828 0 in
     let three = stored (set (set f 827 0) 828 0) 829 x in
-    let same : venueOf (set (set (set f 827 0) 828 0) 829 x) ≡ venueOf f = beside-venue three (omega arith) ∙ beside-venue two (omega arith) ∙ beside-venue one (omega arith) in
+    let same : venueOf (set (set (set f 827 0) 828 0) 829 x) ≡ venueOf f = beside-venue three (omega arith) (inl (omega arith)) ∙ beside-venue two (omega arith) (inl (omega arith)) ∙ beside-venue one (omega arith) (inl (omega arith)) in
     record {
-      venue = same ∙ lt ∙ ap (λ (w : Venue). withLast w (v .last)) (ss ∙ ap (λ (w : Venue). withSeries w (v .series)) (ls ∙ ap (λ (w : Venue). withLegging w (v .legging)) (cs .venue ∙ ap (λ (w : Venue). withComplex w (v .complex)) (rs .venue))));
+      venue = same ∙ beside ∙ is;
       regulars = regulars-filled f (set (set (set f 827 0) 828 0) 829 x) (ap (λ (w : Venue). w .regular) same) (count-kept three (inl (omega arith)) ∙ count-kept two (inl (omega arith)) ∙ count-kept one (inl (omega arith)))
-          (regulars-filled e f (ap (λ (w : Venue). w .regular) lt) (p .regulars)
+          (regulars-filled h f (ap (λ (w : Venue). w .regular) beside) (count-kept aside (inl (omega arith)))
+          (regulars-filled g h (ap (λ (w : Venue). w .regular) lt) (p .regulars)
+          (regulars-filled e g (ap (λ (w : Venue). w .regular) (es .venue)) (es .regulars)
           (regulars-filled d e (ap (λ (w : Venue). w .regular) ss) (o .regulars)
           (regulars-filled c d (ap (λ (w : Venue). w .regular) ls) (n .regulars)
-          (regulars-filled b c (ap (λ (w : Venue). w .regular) (cs .venue)) (cs .regulars) (rs .filled)))));
+          (regulars-filled b c (ap (λ (w : Venue). w .regular) (cs .venue)) (cs .regulars) (rs .filled)))))));
       complexes = complexes-filled f (set (set (set f 827 0) 828 0) 829 x) (ap (λ (w : Venue). w .complex) same) (count-kept2 three (inl (omega arith)) ∙ count-kept2 two (inl (omega arith)) ∙ count-kept2 one (inl (omega arith)))
-          (complexes-filled e f (ap (λ (w : Venue). w .complex) lt) (p .complexes)
+          (complexes-filled h f (ap (λ (w : Venue). w .complex) beside) (count-kept2 aside (inl (omega arith)))
+          (complexes-filled g h (ap (λ (w : Venue). w .complex) lt) (p .complexes)
+          (complexes-filled e g (ap (λ (w : Venue). w .complex) (es .venue)) (es .complexes)
           (complexes-filled d e (ap (λ (w : Venue). w .complex) ss) (o .complexes)
-          (complexes-filled c d (ap (λ (w : Venue). w .complex) ls) (n .complexes) (cs .filled))));
+          (complexes-filled c d (ap (λ (w : Venue). w .complex) ls) (n .complexes) (cs .filled))))));
       marked = record {
         regulars = λ k w. absurd (omega (arith, three .same 827 (inl (omega arith)), two .same 827 (inl (omega arith)), getD-set-same f 827 0 0 (omega arith)));
         complexes = λ k w. absurd (omega (arith, three .same 828 (inl (omega arith)), getD-set-same (set f 827 0) 828 0 0 (omega (arith, length-set f 827 0))));
         legging = getD-set-same (set (set f 827 0) 828 0) 829 x 0 (omega (arith, length-set (set f 827 0) 828 0, length-set f 827 0))
-            ∙ count ∙ ap (λ (w : Venue). mask (w .legging)) (sym same);
+            ∙ count ∙ ap (λ (w : Venue). mask (w .legging)) (sym (same ∙ beside));
+        figures = figures-marked three (inl (omega arith)) (figures-marked two (inl (omega arith)) (figures-marked one (inl (omega arith)) figured));
       };
     }
 
@@ -263,22 +328,31 @@ complex-sides c t z =
     let f = leb-true (c .side2) 1 (search (and-l, and-r, z) depth 12) in
     (record { series = omega arith; side = omega arith }, record { series = omega arith; side = omega arith })
 
-books-load : (v : Venue) → regularsSound v ≡ true → complexesSound v ≡ true → closeGaps v ≡ v → Loadable v
+books-load : (v : Venue) → regularsSound v ≡ true → complexesSound v ≡ true → closeGaps v ≡ v → Stepped v → Loadable v
 unfolding regularsSound complexesSound closeGaps withRegular withComplex
-books-load v r c e =
+books-load v r c e steps =
     let a = arranged-out noRegular holdsRegular _ blankRegular (λ o. o .id) blank-free (unfold blankRegular in refl) 0 (v .regular) r in
     let b = arranged-out noComplex holdsComplex _ blankComplex (λ c. c .id) blank-freeC (unfold blankComplex in refl) 0 (v .complex) c in
     let p : packed holdsRegular noRegular (v .regular) ≡ v .regular = ap (λ (w : Venue). w .regular) e in
     let q : packed holdsComplex noComplex (v .complex) ≡ v .complex = ap (λ (w : Venue). w .complex) e in
     record {
-      regulars = record { dense = a .dense; blank = rw p at (packed-free holdsRegular noRegular (v .regular)); asked = λ i h. regular-side _ _ (a .asks i h) };
+      regulars = record { dense = a .dense; blank = rw p at (packed-free holdsRegular noRegular (v .regular)); asked = λ i h. regular-side _ _ (and-l _ _ (a .asks i h)) };
       complexes = record { dense = b .dense; blank = rw q at (packed-free holdsComplex noComplex (v .complex)); asked = λ i h. complex-sides _ _ (b .asks i h) };
       orders = sound-orderly v r;
+      increments = steps;
     }
+
+pub editions-dated : (v : Venue) → editionsSound v ≡ true → Dated v
+unfolding editionsSound editionInRange
+editions-dated v h i w =
+    let a = arranged-out noEdition holdsEdition _ blankEdition (λ e. e .edition) edition-free (unfold blankEdition in refl) 0 (v .editions) (and-l _ _ h) in
+    let z = a .asks i w in
+    and-l _ _ (and-l _ _ z)
 
 pub sound-loads : (v : Venue) → sound v ≡ true → Loadable v
 unfolding sound
 sound-loads v h =
     let r : regularsSound v ≡ true = search (and-l, and-r, h) depth 10 in
     let c : complexesSound v ≡ true = search (and-l, and-r, h) depth 10 in
-    books-load v r c (closed-same v r c)
+    let e : editionsSound v ≡ true = search (and-l, and-r, h) depth 10 in
+    books-load v r c (closed-same v r c) (dated-steps v (editions-dated v e))

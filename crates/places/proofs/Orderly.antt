@@ -12,7 +12,7 @@ use lib.Seq.{getD-set-same, getD-set-other}
 use Rattle.rules.specs.declared.Regular.{Regular}
 use Rattle.rules.specs.declared.Venue.{Venue}
 use Rattle.rules.specs.Base.{held}
-use Rattle.rules.specs.Words.{noRegular, within, isPrice, isRegularPrice}
+use Rattle.rules.specs.Words.{noRegular, within, isPrice}
 use Rattle.rules.specs.Places.{holdsRegular, packed, blankRegular}
 use Rattle.rules.specs.Refusals.{regularInRange}
 use Rattle.rules.specs.Sound.{regularsSound}
@@ -69,7 +69,7 @@ module _ (os : List Regular) (n : ℕ) (x : Regular) (fits : n < length os) (pri
 
 -- an order in range has a price
 pub range-priced : (o : Regular) → regularInRange o ≡ true → held (o .price) ≡ true
-unfolding regularInRange isRegularPrice isPrice within
+unfolding regularInRange isPrice within
 range-priced o h =
     let z : leb 1 (o .price) ≡ true = search (and-l, and-r, h) in
     let y = leb-true 1 (o .price) z in
@@ -80,4 +80,4 @@ pub sound-orderly : (v : Venue) → regularsSound v ≡ true → Orderly (v .reg
 unfolding regularsSound
 sound-orderly v h =
     let a = arranged-out noRegular holdsRegular _ blankRegular (λ o. o .id) blank-free (unfold blankRegular in refl) 0 (v .regular) h in
-    record { priced = λ i q. range-priced (getD (v .regular) i noRegular) (and-l _ _ (a .asks i q)); rises = a .rises }
+    record { priced = λ i q. range-priced (getD (v .regular) i noRegular) (and-l _ _ (and-l _ _ (a .asks i q))); rises = a .rises }

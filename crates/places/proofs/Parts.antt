@@ -8,8 +8,8 @@ use native.Mathlib.Decide.{decLt}
 use lib.ListN.{getD, set}
 use lib.Seq.{getD-set-other}
 use Rattle.rules.specs.declared.Venue.{Venue}
-use Rattle.rules.specs.Words.{noRegular, noComplex, noLegging, notListed, regularAt, complexAt, withRegular, withComplex, withLegging, withSeries, withLast}
-use Rattle.places.specs.Layout.{inUse, regularsUsed, complexesUsed, regularIn, complexIn, leggingIn, listedIn, venueOf}
+use Rattle.rules.specs.Words.{noRegular, noComplex, noLegging, notListed, noEdition, regularAt, complexAt, withRegular, withComplex, withLegging, withSeries, withEditions, withLast}
+use Rattle.places.specs.Layout.{inUse, regularsUsed, complexesUsed, regularIn, complexIn, leggingIn, listedIn, editionIn, venueOf}
 use Rattle.places.proofs.Tables.{upto-same, upto-set, used-same, used-set, used-at, used-free}
 
 -- a and b have the same numbers but for those from low to below high
@@ -56,6 +56,11 @@ listed-fields : (a b : List ℕ) (i : ℕ) → getD b (3 * i + 752) 0 ≡ getD a
 unfolding listedIn
 listed-fields a b i p q r = rw (p, q, r)
 
+edition-fields : (a b : List ℕ) (i : ℕ) → getD b (4 * i + 830) 0 ≡ getD a (4 * i + 830) 0 → getD b (4 * i + 831) 0 ≡ getD a (4 * i + 831) 0 →
+    getD b (4 * i + 832) 0 ≡ getD a (4 * i + 832) 0 → getD b (4 * i + 833) 0 ≡ getD a (4 * i + 833) 0 → editionIn a i ≡ editionIn b i
+unfolding editionIn
+edition-fields a b i p q r s = rw (p, q, r, s)
+
 -- Places that the store does not reach --------------------------------------------------------
 
 module _ {low high : ℕ} {a b : List ℕ} (o : Outside low high a b) where
@@ -78,6 +83,12 @@ module _ {low high : ℕ} {a b : List ℕ} (o : Outside low high a b) where
   pub listed-kept : (i : ℕ) → (3 * i + 755 ≤ low) ⊎ (high ≤ 3 * i + 752) → listedIn a i ≡ listedIn b i
   listed-kept i (inl h) = listed-fields a b i (o .same (3 * i + 752) (inl (omega arith))) (o .same (3 * i + 753) (inl (omega arith))) (o .same (3 * i + 754) (inl (omega arith)))
   listed-kept i (inr h) = listed-fields a b i (o .same (3 * i + 752) (inr (omega arith))) (o .same (3 * i + 753) (inr (omega arith))) (o .same (3 * i + 754) (inr (omega arith)))
+
+  pub edition-kept : (i : ℕ) → (4 * i + 834 ≤ low) ⊎ (high ≤ 4 * i + 830) → editionIn a i ≡ editionIn b i
+  edition-kept i (inl h) = edition-fields a b i (o .same (4 * i + 830) (inl (omega arith))) (o .same (4 * i + 831) (inl (omega arith)))
+      (o .same (4 * i + 832) (inl (omega arith))) (o .same (4 * i + 833) (inl (omega arith)))
+  edition-kept i (inr h) = edition-fields a b i (o .same (4 * i + 830) (inr (omega arith))) (o .same (4 * i + 831) (inr (omega arith)))
+      (o .same (4 * i + 832) (inr (omega arith))) (o .same (4 * i + 833) (inr (omega arith)))
 
 -- The counts and whole parts ------------------------------------------------------------------
 
@@ -145,6 +156,14 @@ module _ {low high : ℕ} {a b : List ℕ} (o : Outside low high a b) where
       go j q (inl x) = inr (omega arith)
       go j q (inr x) = inl (omega arith)
 
+  pub editions-kept : (high ≤ 830) ⊎ (958 ≤ low) → venueOf b .editions ≡ venueOf a .editions
+  unfolding venueOf
+  editions-kept h = upto-same (editionIn b) (editionIn a) 0 32 (λ j p q. sym (edition-kept o j (go j (omega arith) h)))
+    where
+      go : (j : ℕ) → j < 32 → (high ≤ 830) ⊎ (958 ≤ low) → (4 * j + 834 ≤ low) ⊎ (high ≤ 4 * j + 830)
+      go j q (inl x) = inr (omega arith)
+      go j q (inr x) = inl (omega arith)
+
   pub last-kept : (778 < low) ⊎ (high ≤ 778) → venueOf b .last ≡ venueOf a .last
   unfolding venueOf
   last-kept h = o .same 778 h
@@ -152,8 +171,8 @@ module _ {low high : ℕ} {a b : List ℕ} (o : Outside low high a b) where
 -- One place anew ------------------------------------------------------------------------------
 
 -- venues with the same parts are the same
-pub venue-is : (v w : Venue) → v .regular ≡ w .regular → v .complex ≡ w .complex → v .legging ≡ w .legging → v .series ≡ w .series → v .last ≡ w .last → v ≡ w
-venue-is v w p q r s t = rw (p, q, r, s, t)
+pub venue-is : (v w : Venue) → v .regular ≡ w .regular → v .complex ≡ w .complex → v .legging ≡ w .legging → v .series ≡ w .series → v .editions ≡ w .editions → v .last ≡ w .last → v ≡ w
+venue-is v w p q r s e t = rw (p, q, r, s, e, t)
 
 module _ {i : ℕ} {a b : List ℕ} where
   pub regular-set : Outside (4 * i) (4 * i + 4) a b → i < regularsUsed a → venueOf b ≡ withRegular (venueOf a) (set (venueOf a .regular) i (regularIn b i))
@@ -165,6 +184,7 @@ module _ {i : ℕ} {a b : List ℕ} where
       (complexes-kept o (inl (omega arith)) (inr (omega arith)))
       (leggings-kept o (inl (omega arith)))
       (series-kept o (inl (omega arith)))
+      (editions-kept o (inl (omega arith)))
       (last-kept o (inr (omega arith)))
     where
       near : (j : ℕ) → j ≢ i → (4 * j + 4 ≤ 4 * i) ⊎ (4 * i + 4 ≤ 4 * j)
@@ -182,6 +202,7 @@ module _ {i : ℕ} {a b : List ℕ} where
       (part (count-kept2 o (inr (omega arith))))
       (leggings-kept o (inl (omega arith)))
       (series-kept o (inl (omega arith)))
+      (editions-kept o (inl (omega arith)))
       (last-kept o (inr (omega arith)))
     where
       near : (j : ℕ) → j ≢ i → (6 * j + 518 ≤ 6 * i + 512) ⊎ (6 * i + 518 ≤ 6 * j + 512)
@@ -198,6 +219,7 @@ module _ {i : ℕ} {a b : List ℕ} where
       (complexes-kept o (inr (omega arith)) (inr (omega arith)))
       part
       (series-kept o (inl (omega arith)))
+      (editions-kept o (inl (omega arith)))
       (last-kept o (inr (omega arith)))
     where
       near : (j : ℕ) → j ≢ i → (3 * j + 707 ≤ 3 * i + 704) ⊎ (3 * i + 707 ≤ 3 * j + 704)
@@ -214,6 +236,7 @@ module _ {i : ℕ} {a b : List ℕ} where
       (complexes-kept o (inr (omega arith)) (inr (omega arith)))
       (leggings-kept o (inr (omega arith)))
       part
+      (editions-kept o (inl (omega arith)))
       (last-kept o (inr (omega arith)))
     where
       near : (j : ℕ) → j ≢ i → (3 * j + 755 ≤ 3 * i + 752) ⊎ (3 * i + 755 ≤ 3 * j + 752)
@@ -221,6 +244,23 @@ module _ {i : ℕ} {a b : List ℕ} where
 
       part : venueOf b .series ≡ set (venueOf a .series) i (listedIn b i)
       part = unfold venueOf in (upto-set (listedIn a) (listedIn b) notListed i 8 h (λ j q n. listed-kept o j (near j n)))
+
+  pub edition-set : Outside (4 * i + 830) (4 * i + 834) a b → i < 32 → venueOf b ≡ withEditions (venueOf a) (set (venueOf a .editions) i (editionIn b i))
+  unfolding withEditions
+  edition-set o h =
+      venue-is (venueOf b) (withEditions (venueOf a) (set (venueOf a .editions) i (editionIn b i)))
+      (regulars-kept o (omega arith) (inl (omega arith)))
+      (complexes-kept o (inr (omega arith)) (inl (omega arith)))
+      (leggings-kept o (inr (omega arith)))
+      (series-kept o (inr (omega arith)))
+      part
+      (last-kept o (inl (omega arith)))
+    where
+      near : (j : ℕ) → j ≢ i → (4 * j + 834 ≤ 4 * i + 830) ⊎ (4 * i + 834 ≤ 4 * j + 830)
+      near j n = elim (decLt j i) [ yes q ↦ inl (omega arith) | no q ↦ inr (omega arith) ]
+
+      part : venueOf b .editions ≡ set (venueOf a .editions) i (editionIn b i)
+      part = unfold venueOf in (upto-set (editionIn a) (editionIn b) noEdition i 32 h (λ j q n. edition-kept o j (near j n)))
 
 module _ {a b : List ℕ} where
   pub last-set : Outside 778 779 a b → venueOf b ≡ withLast (venueOf a) (getD b 778 0)
@@ -231,6 +271,7 @@ module _ {a b : List ℕ} where
       (complexes-kept o (inr (omega arith)) (inl (omega arith)))
       (leggings-kept o (inr (omega arith)))
       (series-kept o (inr (omega arith)))
+      (editions-kept o (inl (omega arith)))
       (unfold venueOf in refl)
 
   -- a store into a place that is not in use changes nothing
@@ -241,6 +282,7 @@ module _ {a b : List ℕ} where
       (complexes-kept o (inl (omega arith)) (inr (omega arith)))
       (leggings-kept o (inl (omega arith)))
       (series-kept o (inl (omega arith)))
+      (editions-kept o (inl (omega arith)))
       (last-kept o (inr (omega arith)))
     where
       part : regularsUsed b ≡ regularsUsed a → venueOf b .regular ≡ venueOf a .regular
@@ -253,6 +295,7 @@ module _ {a b : List ℕ} where
       (part (count-kept2 o (inr (omega arith))))
       (leggings-kept o (inl (omega arith)))
       (series-kept o (inl (omega arith)))
+      (editions-kept o (inl (omega arith)))
       (last-kept o (inr (omega arith)))
     where
       part : complexesUsed b ≡ complexesUsed a → venueOf b .complex ≡ venueOf a .complex
@@ -267,6 +310,7 @@ module _ {a b : List ℕ} where
       (complexes-kept o (inr (omega arith)) (inr (omega arith)))
       (leggings-kept o (inr (omega arith)))
       (series-kept o (inr (omega arith)))
+      (editions-kept o (inl (omega arith)))
       (last-kept o (inr (omega arith)))
     where
       part : venueOf b .regular ≡ inUse (regularIn a) noRegular (regularsUsed b) 128
@@ -280,6 +324,7 @@ module _ {a b : List ℕ} where
       part
       (leggings-kept o (inr (omega arith)))
       (series-kept o (inr (omega arith)))
+      (editions-kept o (inl (omega arith)))
       (last-kept o (inr (omega arith)))
     where
       part : venueOf b .complex ≡ inUse (complexIn a) noComplex (complexesUsed b) 32

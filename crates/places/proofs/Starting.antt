@@ -2,6 +2,7 @@
 use mathlib.Core.Path.{_≡_, refl, sym, ap, subst, _∙_}
 use mathlib.Core.Bool.{true≢false}
 use mathlib.Core.List.{List}
+use mathlib.Core.Logic.{inl, inr}
 use Prim.Native.Nat.{ℕ, zero, suc, _+_, _*_, _≤_, _<_}
 use native.Mathlib.Omega.{arith}
 use native.Mathlib.Numerals.{add-one}
@@ -12,9 +13,14 @@ use Rattle.rules.specs.declared.Venue.{Venue}
 use Rattle.rules.specs.Base.{held}
 use Rattle.rules.specs.Words.{placeOf, noRegular, freshVenue}
 use Rattle.rules.specs.Prices.{shown, showsAt, showsFor, bestIn, sizeIn}
+use Rattle.rules.specs.Settings.{baseFigure, sets, lastValue, figureNow}
 use Rattle.rules.specs.Step.{mask}
-use Rattle.places.specs.Layout.{size, upto, inUse, regularsUsed, complexesUsed, leggingIn, listedIn, venueOf, levelOf, levelIn, Orderly, Marked, Right, Dense, Loaded}
+use Rattle.places.specs.Layout.{size, upto, inUse, regularsUsed, complexesUsed, leggingIn, listedIn, editionIn, venueOf, levelOf, levelIn, Orderly, Right, Loaded, FiguresBase}
 use Rattle.places.proofs.Tables.{free-getD}
+use Rattle.places.proofs.Parts.{Outside, count-kept, count-kept2}
+use Rattle.places.proofs.Beside.{place-few, levels-kept, beside-venue}
+use Rattle.places.proofs.Figures.{aside-outside}
+use Rattle.rules.proofs.Editions.{base-some}
 
 -- zeros, with the first so many series open
 unfoldable pub openTo : (series : ℕ) → List ℕ
@@ -26,7 +32,7 @@ unfolding openTo
 open-length zero = refl
 open-length (suc s) = length-set (openTo s) (3 * s + 752) 1 ∙ open-length s
 
-pub open-first : replicate 830 0 ≡ openTo 0
+pub open-first : replicate 975 0 ≡ openTo 0
 unfolding openTo
 open-first = refl
 
@@ -41,7 +47,7 @@ zero-after zero k h = free-getD 0 size k
 zero-after (suc s) k h = getD-set-other (openTo s) (3 * s + 752) k 1 0 (λ e. omega arith) ∙ zero-after s k (omega arith)
 
 fresh-venue : venueOf (openTo 8) ≡ freshVenue
-unfolding openTo venueOf freshVenue inUse upto regularsUsed complexesUsed leggingIn listedIn
+unfolding openTo venueOf freshVenue inUse upto regularsUsed complexesUsed leggingIn listedIn editionIn
 fresh-venue = refl
 
 -- the levels of no orders are zeros, no place is known to be held, and no legging order stands
@@ -53,20 +59,9 @@ nobody-level : (s d : ℕ) → levelOf s d (freshVenue .regular) ≡ record { pr
 unfolding levelOf bestIn sizeIn showsFor showsAt shown freshVenue
 nobody-level s d = refl
 
-fresh-levels : (s d : ℕ) → s < 8 → d < 2 → levelIn (openTo 8) (placeOf s d) ≡ levelOf s d (venueOf (openTo 8) .regular)
-fresh-levels s d hs hd = zeros-level (placeOf s d) ∙ sym (ap (λ (v : Venue). levelOf s d (v .regular)) fresh-venue ∙ nobody-level s d)
-
 nobody-stands : mask (freshVenue .legging) ≡ 0
 unfolding mask freshVenue
 nobody-stands = refl
-
-fresh-marked : Marked (openTo 8)
-unfolding regularsUsed complexesUsed openTo
-fresh-marked = record {
-  regulars = λ k h. absurd (omega arith);
-  complexes = λ k h. absurd (omega arith);
-  legging = sym (ap (λ (v : Venue). mask (v .legging)) fresh-venue ∙ nobody-stands);
-}
 
 fresh-orders : Orderly (freshVenue .regular)
 unfolding freshVenue
@@ -75,12 +70,52 @@ fresh-orders = record {
   rises = λ i j w h k. absurd (true≢false (sym h ∙ ap (λ (o : Regular). held (o .quantity)) (free-getD noRegular 128 i)));
 }
 
-fresh-right : Right (openTo 8)
-fresh-right = record { levels = fresh-levels; orders = subst (λ (v : Venue). Orderly (v .regular)) (sym fresh-venue) fresh-orders; marked = fresh-marked }
+-- no edition is kept
+fresh-figure : (f : ℕ) → figureNow freshVenue f ≡ baseFigure f
+unfolding figureNow lastValue sets freshVenue
+fresh-figure f = refl
 
-fresh-dense : Dense (openTo 8)
+none-used : (regularsUsed (openTo 8) ≡ 0) × (complexesUsed (openTo 8) ≡ 0)
 unfolding regularsUsed complexesUsed openTo
-fresh-dense = record { regulars = λ k h. absurd (omega arith); complexes = λ k h. absurd (omega arith); right = fresh-right }
+none-used = (refl, refl)
 
-pub fresh-loaded : (b : List ℕ) (s : ℕ) → b ≡ openTo s → s ≡ 8 → Loaded freshVenue b
-fresh-loaded b s e h = rw (e, h) (record { venue = fresh-venue; dense = fresh-dense })
+-- with the figures of edition 0
+module _ (b : List ℕ) (long : length b ≡ size) (base : FiguresBase (openTo 8) b) where
+  o : Outside 958 975 (openTo 8) b
+  o = aside-outside (openTo 8) b (open-length 8) (record { long = long; others = base .others })
+
+  venue : venueOf b ≡ freshVenue
+  venue = beside-venue o (omega arith) (inr (omega arith)) ∙ fresh-venue
+
+  no-regular : regularsUsed b ≡ 0
+  no-regular = count-kept o (inl (omega arith)) ∙ none-used .0
+
+  no-complex : complexesUsed b ≡ 0
+  no-complex = count-kept2 o (inl (omega arith)) ∙ none-used .1
+
+  fresh-right : Right b
+  fresh-right = record {
+    levels = λ s d hs hd. levels-kept o (inl (omega arith)) (placeOf s d) (place-few s d hs hd) ∙ zeros-level (placeOf s d)
+        ∙ sym (ap (λ (v : Venue). levelOf s d (v .regular)) venue ∙ nobody-level s d);
+    orders = subst (λ (v : Venue). Orderly (v .regular)) (sym venue) fresh-orders;
+    marked = record {
+      regulars = λ k h. absurd (omega (arith, no-regular));
+      complexes = λ k h. absurd (omega (arith, no-complex));
+      legging = o .same 829 (inl (omega arith)) ∙ zero-after 8 829 (omega arith) ∙ sym (ap (λ (v : Venue). mask (v .legging)) venue ∙ nobody-stands);
+      figures = record {
+        so = λ f w. base .figures f w ∙ sym (ap (λ (v : Venue). figureNow v f) venue ∙ fresh-figure f);
+        some = λ s w. rw (base .figures s (omega arith)) (base-some s);
+      };
+    };
+  }
+
+  fresh-held : Loaded freshVenue b
+  fresh-held = record {
+    venue = venue;
+    dense = record { regulars = λ k h. absurd (omega (arith, no-regular)); complexes = λ k h. absurd (omega (arith, no-complex)); right = fresh-right };
+  }
+
+pub fresh-loaded : (a b : List ℕ) (s : ℕ) → a ≡ openTo s → s ≡ 8 → length b ≡ length a → FiguresBase a b → Loaded freshVenue b
+fresh-loaded a b s e h l base =
+    let z : a ≡ openTo 8 = e ∙ ap openTo h in
+    fresh-held b (l ∙ ap length z ∙ open-length 8) (rw z at base)

@@ -14,6 +14,7 @@ use Rattle.rules.specs.declared.Regular.{Regular}
 use Rattle.rules.specs.declared.Complex.{Complex}
 use Rattle.rules.specs.declared.Legging.{Legging}
 use Rattle.rules.specs.declared.Listed.{Listed}
+use Rattle.rules.specs.declared.Edition.{Edition}
 use Rattle.rules.specs.declared.Venue.{Venue}
 use Rattle.rules.specs.Base.{held}
 use Rattle.rules.specs.Words.{placeOf, noRegular, noComplex, withRegular, withComplex, withLegging, withSeries, withLast}
@@ -22,11 +23,11 @@ use Rattle.rules.specs.Generation.{placed}
 use Rattle.rules.specs.Places.{holdsRegular, holdsComplex}
 use Rattle.rules.specs.Step.{mask}
 use Rattle.places.specs.declared.Level.{Level}
-use Rattle.places.specs.Layout.{size, inUse, regularsUsed, complexesUsed, regularIn, complexIn, leggingIn, listedIn, venueOf, regularRow, legsKey, limitNumber, complexRow, Kept, bitOf, levelOf, levelIn, Beside, SameBeside, LevelPut, Counts, SameCounts}
+use Rattle.places.specs.Layout.{size, inUse, regularsUsed, complexesUsed, regularIn, complexIn, leggingIn, listedIn, editionIn, venueOf, regularRow, editionRow, legsKey, limitNumber, complexRow, Kept, bitOf, levelOf, levelIn, Beside, SameBeside, LevelPut, Counts, SameCounts}
 use Rattle.places.proofs.Tables.{used-more}
 use Rattle.places.proofs.Parts.{Outside, stored, wider, joined, regulars-few, complexes-few, regular-kept, complex-kept, regulars-kept, regular-at, complex-at, regular-set, complex-set, legging-set, listed-set, last-set, regular-unused, complex-unused, regulars-counted, complexes-counted, count-kept, count-kept2}
 use Rattle.places.proofs.Masks.{mask-put}
-use Rattle.places.proofs.Beside.{level-kept, levels-kept, regulars-marked, complexes-marked, legging-marked, regulars-lowered, complexes-lowered, regular-holds, complex-holds, beside-venue, right-kept}
+use Rattle.places.proofs.Beside.{level-kept, levels-kept, regulars-marked, complexes-marked, legging-marked, figures-marked, regulars-lowered, complexes-lowered, regular-holds, complex-holds, beside-venue, right-kept}
 
 -- A fill --------------------------------------------------------------------------------------
 
@@ -74,7 +75,8 @@ module _ (a : List ℕ) (i k r : ℕ) (n : length a ≡ size) (h : i < regularsU
           marked = λ m. record {
             regulars = regular-holds a (set a (4 * i + 3) q) i h (wider (omega arith) (omega arith) o) (less-holds a i k (omega arith) lt) (m .regulars);
             complexes = complexes-marked o (inl (omega arith)) (inr (omega arith)) (inr (omega arith)) (m .complexes);
-            legging = legging-marked o (inl (omega arith)) (omega arith) (m .legging);
+            legging = legging-marked o (inl (omega arith)) (inr (omega arith)) (m .legging);
+            figures = figures-marked o (inl (omega arith)) (m .figures);
           };
         },
       )
@@ -86,7 +88,7 @@ module _ (a : List ℕ) (i k r : ℕ) (n : length a ≡ size) (h : i < regularsU
       let o = stored a (4 * i + 3) (getD a (4 * i + 3) 0 - k) in
       let p = stored b 827 (min (getD b 827 0) i) in
       rw (f, e) (
-        beside-venue p (omega arith) ∙ filled-venue a i k n h,
+        beside-venue p (omega arith) (inl (omega arith)) ∙ filled-venue a i k n h,
         record {
           regulars = count-kept p (inl (omega arith)) ∙ count-kept o (inr (omega arith));
           complexes = count-kept2 p (inl (omega arith)) ∙ count-kept2 o (inr (omega arith));
@@ -98,7 +100,8 @@ module _ (a : List ℕ) (i k r : ℕ) (n : length a ≡ size) (h : i < regularsU
                 (λ j w. regular-kept o j (inl (omega arith)) ∙ regular-kept p j (inl (omega arith))) (m .regulars);
             complexes = complexes-marked p (inr (omega arith)) (inl (omega arith)) (inr (omega arith))
                 (complexes-marked o (inl (omega arith)) (inr (omega arith)) (inr (omega arith)) (m .complexes));
-            legging = legging-marked p (inr (omega arith)) (omega arith) (legging-marked o (inl (omega arith)) (omega arith) (m .legging));
+            legging = legging-marked p (inr (omega arith)) (inr (omega arith)) (legging-marked o (inl (omega arith)) (inr (omega arith)) (m .legging));
+            figures = figures-marked p (inl (omega arith)) (figures-marked o (inl (omega arith)) (m .figures));
           };
         },
       )
@@ -141,7 +144,8 @@ module _ (a : List ℕ) (i k r : ℕ) (n : length a ≡ size) (h : i < complexes
               (λ m. record {
                 regulars = regulars-marked o (omega arith) (inr (omega arith)) (inr (omega arith)) (m .regulars);
                 complexes = complex-holds a (set a (6 * i + 517) q) i h (wider (omega arith) (omega arith) o) (less-holds2 a i k (omega arith) lt) (m .complexes);
-                legging = legging-marked o (inl (omega arith)) (omega arith) (m .legging);
+                legging = legging-marked o (inl (omega arith)) (inr (omega arith)) (m .legging);
+                figures = figures-marked o (inl (omega arith)) (m .figures);
               });
         },
       )
@@ -153,7 +157,7 @@ module _ (a : List ℕ) (i k r : ℕ) (n : length a ≡ size) (h : i < complexes
       let o = stored a (6 * i + 517) (getD a (6 * i + 517) 0 - k) in
       let p = stored b 828 (min (getD b 828 0) i) in
       rw (f, e) (
-        beside-venue p (omega arith) ∙ filled-venue2 a i k n h,
+        beside-venue p (omega arith) (inl (omega arith)) ∙ filled-venue2 a i k n h,
         record {
           regulars = count-kept p (inl (omega arith)) ∙ count-kept o (inr (omega arith));
           complexes = count-kept2 p (inl (omega arith)) ∙ count-kept2 o (inr (omega arith));
@@ -165,7 +169,8 @@ module _ (a : List ℕ) (i k r : ℕ) (n : length a ≡ size) (h : i < complexes
                     (getD-set-same b 828 (min (getD b 828 0) i) 0 (omega (arith, length-set a (6 * i + 517) (getD a (6 * i + 517) 0 - k)))
                     ∙ ap (λ (x : ℕ). min x i) (o .same 828 (inr (omega arith))))
                     (λ j w. complex-kept o j (inl (omega arith)) ∙ complex-kept p j (inl (omega arith))) (m .complexes);
-                legging = legging-marked p (inr (omega arith)) (omega arith) (legging-marked o (inl (omega arith)) (omega arith) (m .legging));
+                legging = legging-marked p (inr (omega arith)) (inr (omega arith)) (legging-marked o (inl (omega arith)) (inr (omega arith)) (m .legging));
+                figures = figures-marked p (inl (omega arith)) (figures-marked o (inl (omega arith)) (m .figures));
               });
         },
       )
@@ -267,7 +272,7 @@ pub added-regular : (a b c : List ℕ) (n : ℕ) (o : Regular) → length a ≡ 
     n ≡ regularsUsed a → b ≡ sets a (4 * n) (regularRow o) → c ≡ lowered (set b 776 (n + 1)) 827 n →
     (venueOf c ≡ putRegular (regularsUsed a) o (venueOf a)) × Beside (suc (regularsUsed a)) (complexesUsed a) a c
 added-regular a b c n o m h s d p q r = rw (r, q, p) (
-  beside-venue mark (omega arith) ∙ added-venue a o m h s d,
+  beside-venue mark (omega arith) (inl (omega arith)) ∙ added-venue a o m h s d,
   record {
     regulars = count-kept mark (inl (omega arith)) ∙ count-is a wrote m long h;
     complexes = count-kept2 mark (inl (omega arith)) ∙ count-kept2 count (inr (omega arith)) ∙ count-kept2 row (inr (omega arith));
@@ -280,8 +285,10 @@ added-regular a b c n o m h s d p q r = rw (r, q, p) (
       complexes = complexes-marked mark (inr (omega arith)) (inl (omega arith)) (inr (omega arith))
           (complexes-marked count (inr (omega arith)) (inr (omega arith)) (inr (omega arith))
           (complexes-marked row (inl (omega arith)) (inr (omega arith)) (inr (omega arith)) (x .complexes)));
-      legging = legging-marked mark (inr (omega arith)) (omega arith)
-          (legging-marked count (inr (omega arith)) (omega arith) (legging-marked row (inl (omega arith)) (omega arith) (x .legging)));
+      legging = legging-marked mark (inr (omega arith)) (inr (omega arith))
+          (legging-marked count (inr (omega arith)) (inr (omega arith)) (legging-marked row (inl (omega arith)) (inr (omega arith)) (x .legging)));
+      figures = figures-marked mark (inl (omega arith))
+          (figures-marked count (inl (omega arith)) (figures-marked row (inl (omega arith)) (x .figures)));
     };
   },
 )
@@ -386,7 +393,7 @@ pub added-complex : (a b c : List ℕ) (n : ℕ) (o : Complex) → length a ≡ 
     n ≡ complexesUsed a → b ≡ sets a (6 * n + 512) (complexRow o) → c ≡ lowered (set b 777 (n + 1)) 828 n →
     (venueOf c ≡ putComplex (complexesUsed a) o (venueOf a)) × Counts (regularsUsed a) (suc (complexesUsed a)) a c
 added-complex a b c n o m h s1 d1 s2 d2 k p q r = rw (r, q, p) (
-  beside-venue mark (omega arith) ∙ added-venue2 a o m h s1 d1 s2 d2 k,
+  beside-venue mark (omega arith) (inl (omega arith)) ∙ added-venue2 a o m h s1 d1 s2 d2 k,
   record {
     regulars = count-kept mark (inl (omega arith)) ∙ count-kept count (inl (omega arith)) ∙ count-kept row (inr (omega arith));
     complexes = count-kept2 mark (inl (omega arith)) ∙ count-is2 a wrote m long h;
@@ -401,8 +408,10 @@ added-complex a b c n o m h s1 d1 s2 d2 k p q r = rw (r, q, p) (
               (getD-set-same more 828 (min (getD more 828 0) i) 0 (omega (arith, length-set wrote 777 (i + 1), long))
               ∙ ap (λ (y : ℕ). min y i) (count .same 828 (inr (omega arith)) ∙ row .same 828 (inr (omega arith))))
               (λ j w. complex-kept row j (inl (omega arith)) ∙ complex-kept count j (inl (omega arith)) ∙ complex-kept mark j (inl (omega arith))) (x .complexes);
-          legging = legging-marked mark (inr (omega arith)) (omega arith)
-              (legging-marked count (inr (omega arith)) (omega arith) (legging-marked row (inl (omega arith)) (omega arith) (x .legging)));
+          legging = legging-marked mark (inr (omega arith)) (inr (omega arith))
+              (legging-marked count (inr (omega arith)) (inr (omega arith)) (legging-marked row (inl (omega arith)) (inr (omega arith)) (x .legging)));
+          figures = figures-marked mark (inl (omega arith))
+              (figures-marked count (inl (omega arith)) (figures-marked row (inl (omega arith)) (x .figures)));
         });
   },
 )
@@ -464,6 +473,7 @@ put-legging a n rest u w old l m h e r p q = (
               (complexes-marked one (inr (omega arith)) (inl (omega arith)) (inl (omega arith)) (x .complexes));
           legging = row .same 829 (inr (omega arith)) ∙ getD-set-same a 829 (rest + w) 0 (omega arith)
               ∙ mask-put a n rest u w old l h (x .legging) e r p q ∙ sym (ap (λ (v : Venue). mask (v .legging)) venue ∙ (unfold placed withLegging in refl));
+          figures = figures-marked row (inl (omega arith)) (figures-marked one (inl (omega arith)) (x .figures));
         });
   },
 )
@@ -481,7 +491,7 @@ put-legging a n rest u w old l m h e r p q = (
     row = wider (omega arith) (omega arith) (sets-outside b (3 * n + 704) (l .parent ∷ l .price ∷ l .quantity ∷ []))
 
     venue : venueOf c ≡ placed n l (venueOf a)
-    venue = legging-put b n l (length-set a 829 (rest + w) ∙ m) h ∙ ap (placed n l) (beside-venue one (omega arith))
+    venue = legging-put b n l (length-set a 829 (rest + w) ∙ m) h ∙ ap (placed n l) (beside-venue one (omega arith) (inl (omega arith)))
 
 listed-back : (a : List ℕ) (s : ℕ) (x : Listed) → length a ≡ size → s < 8 → x .status < 256 → listedIn (sets a (3 * s + 752) (x .status ∷ x .bid ∷ x .offer ∷ [])) s ≡ x
 unfolding listedIn
@@ -498,6 +508,18 @@ pub put-listed : (a : List ℕ) (s : ℕ) (x : Listed) → length a ≡ size →
 put-listed a s x m h w =
     listed-set {a = a} {b = sets a (3 * s + 752) (x .status ∷ x .bid ∷ x .offer ∷ [])} (wider (omega arith) (omega arith) (sets-outside a (3 * s + 752) (x .status ∷ x .bid ∷ x .offer ∷ []))) h
     ∙ ap (λ (y : Listed). withSeries (venueOf a) (set (venueOf a .series) s y)) (listed-back a s x m h w)
+
+pub edition-back : (a : List ℕ) (i : ℕ) (e : Edition) → length a ≡ size → i < 32 → e .figure < 256 → e .value < 256 → editionIn (sets a (4 * i + 830) (editionRow e)) i ≡ e
+unfolding editionIn editionRow
+edition-back a i e n h w x =
+    let xs : List ℕ = e .edition ∷ e .message ∷ e .figure ∷ e .value ∷ [] in
+    let e0 : getD (sets a (4 * i + 830) xs) (4 * i + 830) 0 ≡ e .edition = row-at a (4 * i + 830) (4 * i + 830) xs 0 (omega arith) (omega arith) (omega arith) in
+    let e1 : getD (sets a (4 * i + 830) xs) (4 * i + 831) 0 ≡ e .message = row-at a (4 * i + 830) (4 * i + 831) xs 1 (omega arith) (omega arith) (omega arith) in
+    let e2 : getD (sets a (4 * i + 830) xs) (4 * i + 832) 0 ≡ e .figure = row-at a (4 * i + 830) (4 * i + 832) xs 2 (omega arith) (omega arith) (omega arith) in
+    let e3 : getD (sets a (4 * i + 830) xs) (4 * i + 833) 0 ≡ e .value = row-at a (4 * i + 830) (4 * i + 833) xs 3 (omega arith) (omega arith) (omega arith) in
+    let f : e .figure % 256 ≡ e .figure = omega arith in
+    let g : e .value % 256 ≡ e .value = omega arith in
+    rw (e0, e1, e2, e3, f, g) refl
 
 pub put-last : (a : List ℕ) (id : ℕ) → length a ≡ size → venueOf (set a 778 id) ≡ withLast (venueOf a) id
 put-last a id n = last-set (stored a 778 id) ∙ ap (λ (k : ℕ). withLast (venueOf a) k) (getD-set-same a 778 id 0 (omega arith))
@@ -518,7 +540,7 @@ level-back a n l m h =
 pub put-level : (a : List ℕ) (n : ℕ) (l : Level) → length a ≡ size → n < 16 →
     LevelPut n l a (sets a (3 * n + 779) (l .price ∷ l .size % 4294967296 ∷ l .size / 4294967296 ∷ []))
 put-level a n l m h = record {
-  venue = beside-venue o (omega arith);
+  venue = beside-venue o (omega arith) (inl (omega arith));
   regulars = count-kept o (inl (omega arith));
   complexes = count-kept2 o (inl (omega arith));
   here = level-back a n l m h;
@@ -526,7 +548,8 @@ put-level a n l m h = record {
   marked = λ x. record {
     regulars = regulars-marked o (omega arith) (inl (omega arith)) (inr (omega arith)) (x .regulars);
     complexes = complexes-marked o (inr (omega arith)) (inl (omega arith)) (inr (omega arith)) (x .complexes);
-    legging = legging-marked o (inr (omega arith)) (omega arith) (x .legging);
+    legging = legging-marked o (inr (omega arith)) (inr (omega arith)) (x .legging);
+    figures = figures-marked o (inl (omega arith)) (x .figures);
   };
 }
   where

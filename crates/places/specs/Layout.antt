@@ -9,9 +9,12 @@
 --    779   price, size mod 2^32, size / 2^32                                   16 levels, by legging place
 --    827   regular places, then complex places, known to be held
 --    829   mask of the legging places filled
+--    830   edition, message, figure, value                                     32 editions
+--    958   figures in force: the increments of series 0 to 7, the percentage, in every second number
 --
 -- Legs is 16 * the legging place of the first leg + that of the second.
--- What stands in regular and complex places that are not in use means nothing. The numbers from 779 on are kept beside the venue.
+-- What stands in regular and complex places that are not in use means nothing. The numbers from 779 to 829 and from 958 on are kept beside the
+-- venue. Figures stand apart, since of those next to each other a compiler keeps the first ones, edition 0's, as a table.
 use mathlib.Core.Path.{_≡_}
 use mathlib.Core.Bool.{Bool, true, false}
 use mathlib.Core.List.{List, [], _∷_, _++_}
@@ -22,17 +25,19 @@ use Rattle.rules.specs.declared.Regular.{Regular}
 use Rattle.rules.specs.declared.Complex.{Complex}
 use Rattle.rules.specs.declared.Legging.{Legging}
 use Rattle.rules.specs.declared.Listed.{Listed}
+use Rattle.rules.specs.declared.Edition.{Edition}
 use Rattle.rules.specs.declared.Venue.{Venue}
 use Rattle.places.specs.declared.Level.{Level}
-use Rattle.rules.specs.Words.{placeOf, noRegular, noComplex, withRegular, withComplex}
-use Rattle.rules.specs.Base.{if_then_else_, held}
+use Rattle.rules.specs.Words.{placeOf, noRegular, noComplex, withRegular, withComplex, withEditions}
+use Rattle.rules.specs.Base.{if_then_else_, held, keep}
+use Rattle.rules.specs.Settings.{baseFigure, sets, figureNow, increment}
 use Rattle.rules.specs.Prices.{bestIn, sizeIn}
-use Rattle.rules.specs.Places.{holdsRegular, holdsComplex, keep, packed, closeGaps}
+use Rattle.rules.specs.Places.{holdsRegular, holdsComplex, packed, closeGaps}
 use Rattle.rules.specs.Step.{mask}
 
 -- the slice's length
 abbrev pub size : ℕ
-size = 830
+size = 975
 
 -- f of each number from i on, k of them
 unfoldable pub upto : {A : Type 0} → (ℕ → A) → (i k : ℕ) → List A
@@ -78,6 +83,14 @@ leggingIn b n = record { parent = getD b (3 * n + 704) 0; price = getD b (3 * n 
 unfoldable pub listedIn : List ℕ → ℕ → Listed
 listedIn b s = record { status = getD b (3 * s + 752) 0 % 256; bid = getD b (3 * s + 753) 0; offer = getD b (3 * s + 754) 0 }
 
+unfoldable pub editionIn : List ℕ → ℕ → Edition
+editionIn b i = record {
+  edition = getD b (4 * i + 830) 0;
+  message = getD b (4 * i + 831) 0;
+  figure = getD b (4 * i + 832) 0 % 256;
+  value = getD b (4 * i + 833) 0 % 256;
+}
+
 -- an order's series and side as one number, by which a scan passes over the others, and so the legs of a complex order
 unfoldable pub regularKey : Regular → ℕ
 regularKey o = placeOf (o .series) (o .side)
@@ -92,6 +105,7 @@ venueOf b = record {
   complex = inUse (complexIn b) noComplex (complexesUsed b) 32;
   legging = upto (leggingIn b) 0 16;
   series = upto (listedIn b) 0 8;
+  editions = upto (editionIn b) 0 32;
   last = getD b 778 0;
 }
 
@@ -107,6 +121,10 @@ limitNumber z = natAbs (z +ℤ pos 2147483648)
 
 unfoldable pub complexRow : Complex → List ℕ
 complexRow c = c .id ∷ legsKey c ∷ 0 ∷ c .class ∷ limitNumber (c .limit) ∷ c .quantity ∷ []
+
+-- an edition's
+unfoldable pub editionRow : Edition → List ℕ
+editionRow e = e .edition ∷ e .message ∷ e .figure ∷ e .value ∷ []
 
 -- a class and a limit that are kept whole
 pub record Kept (c : Complex) : Type 0 where
@@ -129,6 +147,30 @@ levelOf s d os = record { price = bestIn s d os; size = sizeIn s d (bestIn s d o
 unfoldable pub levelIn : List ℕ → (n : ℕ) → Level
 levelIn b n = record { price = getD b (3 * n + 779) 0; size = getD b (3 * n + 780) 0 + 4294967296 * getD b (3 * n + 781) 0 }
 
+-- Figures: the increments and the percentage in force -----------------------------------------
+
+-- the one that is kept
+unfoldable pub figureIn : List ℕ → (figure : ℕ) → ℕ
+figureIn b f = getD b (2 * f + 958) 0 % 256
+
+-- they are those in force, and no increment is 0
+pub record Figured (b : List ℕ) : Type 0 where
+  pub so : (f : ℕ) → f < 9 → figureIn b f ≡ figureNow (venueOf b) f
+  pub some : (s : ℕ) → s < 8 → 0 < figureIn b s
+
+-- from a to b the figures become those of edition 0, an edition's value becomes its figure's, or they become those in force; nothing else changes
+pub record FiguresBase (a b : List ℕ) : Type 0 where
+  pub others : (k : ℕ) → k < 958 → getD b k 0 ≡ getD a k 0
+  pub figures : (f : ℕ) → f < 9 → figureIn b f ≡ baseFigure f
+
+pub record FigureSet (e : Edition) (a b : List ℕ) : Type 0 where
+  pub others : (k : ℕ) → k < 958 → getD b k 0 ≡ getD a k 0
+  pub figures : (f : ℕ) → f < 9 → figureIn b f ≡ (if sets f e then e .value else figureIn a f)
+
+pub record FiguresCounted (a b : List ℕ) : Type 0 where
+  pub others : (k : ℕ) → k < 958 → getD b k 0 ≡ getD a k 0
+  pub figures : (f : ℕ) → f < 9 → figureIn b f ≡ figureNow (venueOf b) f
+
 -- What is kept beside the venue ---------------------------------------------------------------
 
 -- every order that rests has a price, and an id above those of the orders at places before it
@@ -144,11 +186,12 @@ Below id os = (i : ℕ) → held (getD os i noRegular .quantity) ≡ true → ge
 unfoldable pub bitOf : Legging → ℕ
 bitOf l = if held (l .quantity) then 1 else 0
 
--- what is known of the places: those known to be held are, and the mask is that of the legging places
+-- what is known of the places: those known to be held are, and the mask is that of the legging places; and the figures are those in force
 pub record Marked (b : List ℕ) : Type 0 where
   pub regulars : Filled holdsRegular (regularIn b) (min (getD b 827 0) (regularsUsed b))
   pub complexes : Filled holdsComplex (complexIn b) (min (getD b 828 0) (complexesUsed b))
   pub legging : getD b 829 0 ≡ mask (venueOf b .legging)
+  pub figures : Figured b
 
 -- and the levels are those of the regular orders, which are in order
 pub record Right (b : List ℕ) : Type 0 where
@@ -248,6 +291,7 @@ pub record Loadable (v : Venue) : Type 0 where
   pub regulars : RegularsPlaced (v .regular)
   pub complexes : ComplexesPlaced (v .complex)
   pub orders : Orderly (v .regular)
+  pub increments : (s : ℕ) → s < 8 → 0 < increment v s
 
 -- from a to b one book becomes l, and is dense
 pub record RegularsLoaded (a : List ℕ) (l : List Regular) (b : List ℕ) : Type 0 where
@@ -260,7 +304,13 @@ pub record ComplexesLoaded (a : List ℕ) (l : List Complex) (b : List ℕ) : Ty
   pub regulars : regularsUsed b ≡ regularsUsed a
   pub filled : Filled holdsComplex (complexIn b) (complexesUsed b)
 
--- b stands for v, all places in use are held, none is known to be, and the mask is right
+-- from a to b the editions become l
+pub record EditionsLoaded (a : List ℕ) (l : List Edition) (b : List ℕ) : Type 0 where
+  pub venue : venueOf b ≡ withEditions (venueOf a) l
+  pub regulars : regularsUsed b ≡ regularsUsed a
+  pub complexes : complexesUsed b ≡ complexesUsed a
+
+-- b stands for v, all places in use are held, none is known to be, and mask and figures are right
 pub record Laid (v : Venue) (b : List ℕ) : Type 0 where
   pub venue : venueOf b ≡ v
   pub regulars : Filled holdsRegular (regularIn b) (regularsUsed b)

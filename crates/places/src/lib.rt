@@ -1,20 +1,25 @@
 // The venue inside a call: numbers in one lent slice (specs/Layout.antt). Only this crate knows the layout: the others read and write places, and
 // speak of the venue that the numbers stand for.
 ghost use mathlib.Core.Path.{_≡_};
+ghost use mathlib.Core.Bool.{false};
+ghost use mathlib.Core.Logic.{_⊎_};
 ghost use Prim.Native.Nat.{ℕ, suc, min, _+_, _-_, _*_, _^_, _≤_, _<_};
 ghost use lib.IntN.{pos, _-ℤ_};
 ghost use lib.ListN.{length, getD, set};
 ghost use lib.Seq.{sets};
-ghost use Rattle.rules.specs.Words.{placeOf, freshVenue, withLegging, withSeries, withLast};
+ghost use Rattle.rules.specs.Words.{placeOf, freshVenue, withLegging, withSeries, withEditions, withLast};
+ghost use Rattle.rules.specs.Settings.{figureNow, freeEdition};
 ghost use Rattle.rules.specs.Trading.{fillRegular, fillComplex, putRegular, putComplex};
 ghost use Rattle.rules.specs.Generation.{placed};
-ghost use Rattle.rules.specs.Places.{holdsRegular, holdsComplex};
+ghost use Rattle.rules.specs.Places.{holdsRegular, holdsComplex, holdsEdition};
 ghost use Rattle.rules.specs.Step.{mask};
-ghost use Rattle.places.specs.Layout.{size, regularsUsed, complexesUsed, regularIn, complexIn, leggingIn, listedIn, levelIn, regularKey, legsKey, venueOf, regularRow, limitNumber, complexRow, Kept, bitOf};
+ghost use Rattle.places.specs.Layout.{size, regularsUsed, complexesUsed, regularIn, complexIn, leggingIn, listedIn, editionIn, levelIn, regularKey, legsKey, venueOf, regularRow, limitNumber, complexRow, editionRow, Kept, bitOf};
+ghost use Rattle.places.specs.Layout.{Figured, FiguresBase, FigureSet, FiguresCounted};
 ghost use Rattle.places.specs.Layout.{Marked, Right, Beside, SameBeside, LevelPut, Counts, SameCounts};
 ghost use Rattle.places.specs.Layout.{Filled, RegularsClosed, ComplexesClosed, GapsClosed};
-ghost use Rattle.places.specs.Layout.{RegularsPlaced, ComplexesPlaced, Loadable, RegularsLoaded, ComplexesLoaded, Laid, Loaded};
+ghost use Rattle.places.specs.Layout.{RegularsPlaced, ComplexesPlaced, Loadable, RegularsLoaded, ComplexesLoaded, EditionsLoaded, Laid, Loaded};
 use rules::Complex;
+use rules::Edition;
 use rules::Legging;
 use rules::Listed;
 use rules::Regular;
@@ -112,6 +117,44 @@ pub fn listed_at(b: &[u32], s: usize) -> Listed
         bid: b[3 * s + 753],
         offer: b[3 * s + 754],
     }
+}
+
+// What stands at a place of the editions.
+pub fn edition_at(b: &[u32], i: usize) -> Edition
+    requires { ⌜ (length (now b) ≡ size) × (i < 32) ⌝ }
+    ensures { λ r. ⌜ r ≡ editionIn (now (b .entry)) i ⌝ }
+{
+    let figure = b[4 * i + 832];
+    let value = b[4 * i + 833];
+    Edition {
+        edition: b[4 * i + 830],
+        message: b[4 * i + 831],
+        figure: (figure % 256) as u8,
+        value: (value % 256) as u8,
+    }
+}
+
+// The first place of the editions that is free; 32 where all are held.
+pub fn free_edition(b: &[u32]) -> usize
+    requires { ⌜ length (now b) ≡ size ⌝ }
+    ensures { λ r. ⌜ r ≡ freeEdition (venueOf (now (b .entry))) ⌝ }
+{
+    let mut i: usize = 0;
+    while i < 32 {
+        if b[4 * i + 830] == 0 {
+            return i;
+        }
+        i += 1;
+    }
+    32
+}
+
+// A figure in force, as it is kept: the increment of a series, or the percentage.
+pub fn figure_at(b: &[u32], f: usize) -> u8
+    requires { ⌜ (length (now b) ≡ size) × (f < 9) × (Figured (now b)) ⌝ }
+    ensures { λ r. ⌜ r ≡ figureNow (venueOf (now (b .entry))) f ⌝ }
+{
+    (b[2 * f + 958] % 256) as u8
 }
 
 // The legging places that are filled, as they are kept: bit n is place n.
@@ -339,6 +382,69 @@ pub fn put_listed(b: &mut [u32], s: usize, x: Listed)
     b[3 * s + 754] = x.offer;
 }
 
+// An edition's numbers at place i. The figures stay as they are.
+fn write_edition(b: &mut [u32], i: usize, e: Edition)
+    requires { ⌜ (length (now b) ≡ size) × (i < 32) ⌝ }
+    ensures { λ _. ⌜ (now (b .exit) ≡ sets (now (b .entry)) (4 * i + 830) (editionRow e)) × (e .figure < 256) × (e .value < 256) ⌝ }
+{
+    b[4 * i + 830] = e.edition;
+    b[4 * i + 831] = e.message;
+    b[4 * i + 832] = e.figure as u32;
+    b[4 * i + 833] = e.value as u32;
+}
+
+// The figures of edition 0.
+fn base_figures(b: &mut [u32])
+    requires { ⌜ length (now b) ≡ size ⌝ }
+    ensures { λ _. ⌜ FiguresBase (now (b .entry)) (now (b .exit)) ⌝ }
+{
+    let mut f: u8 = 0;
+    while f < 9 {
+        let x = rules::base_figure(f);
+        b[2 * (f as usize) + 958] = x as u32;
+        f += 1;
+    }
+}
+
+// An edition's value becomes that of its figure; a free place has none.
+fn set_figure(b: &mut [u32], e: Edition)
+    requires { ⌜ length (now b) ≡ size ⌝ }
+    ensures { λ _. ⌜ FigureSet e (now (b .entry)) (now (b .exit)) ⌝ }
+{
+    if e.edition == 0 {
+        return;
+    }
+    if 8 < e.figure {
+        return;
+    }
+    let f = e.figure as usize;
+    b[2 * f + 958] = e.value as u32;
+}
+
+// The figures in force: those of edition 0, and then those of each edition in turn.
+fn count_figures(b: &mut [u32])
+    requires { ⌜ length (now b) ≡ size ⌝ }
+    ensures { λ _. ⌜ FiguresCounted (now (b .entry)) (now (b .exit)) ⌝ }
+{
+    base_figures(b);
+    let mut i: usize = 0;
+    while i < 32 {
+        let e = edition_at(b, i);
+        set_figure(b, e);
+        i += 1;
+    }
+}
+
+// An edition at a free place; the figures are counted anew.
+pub fn put_edition(b: &mut [u32], i: usize, e: Edition)
+    requires { ⌜ (length (now b) ≡ size) × (i < 32) × (holdsEdition (editionIn (now b) i) ≡ false) × (0 < e .value ⊎ 7 < e .figure) ⌝ }
+    ensures { λ _. ⌜ venueOf (now (b .exit)) ≡ withEditions (venueOf (now (b .entry))) (set (venueOf (now (b .entry)) .editions) i e) ⌝ }
+    ensures counts { λ _. ⌜ SameCounts (now (b .entry)) (now (b .exit)) ⌝ }
+{
+    write_edition(b, i, e);
+    count_figures(b);
+}
+
 // The last id accepted.
 pub fn put_last(b: &mut [u32], id: u32)
     requires { ⌜ length (now b) ≡ size ⌝ }
@@ -439,16 +545,17 @@ pub fn close_gaps(b: &mut [u32])
 
 // A fresh venue -------------------------------------------------------------------------------
 
-// A fresh venue's numbers: zeros, but that every series is open.
-pub fn fresh_numbers() -> [u32; 830]
+// A fresh venue's numbers: zeros, but that every series is open and the figures are those of edition 0.
+pub fn fresh_numbers() -> [u32; 975]
     ensures { λ r. ⌜ Loaded freshVenue r ⌝ }
 {
-    let mut b = [0u32; 830];
+    let mut b = [0u32; 975];
     let mut s: usize = 0;
     while s < 8 {
         b[3 * s + 752] = 1;
         s += 1;
     }
+    base_figures(&mut b);
     b
 }
 
@@ -539,6 +646,26 @@ fn series_of(b: &[u32]) -> [Listed; 8]
     r
 }
 
+fn editions_of(b: &[u32]) -> [Edition; 32]
+    requires { ⌜ length (now b) ≡ size ⌝ }
+    ensures { λ r. ⌜ r ≡ venueOf (now (b .entry)) .editions ⌝ }
+{
+    let free = Edition {
+        edition: 0,
+        message: 0,
+        figure: 0,
+        value: 0,
+    };
+    let mut r = [free; 32];
+    let mut i: usize = 0;
+    while i < 32 {
+        let x = edition_at(b, i);
+        r[i] = x;
+        i += 1;
+    }
+    r
+}
+
 // The venue that the numbers stand for.
 pub fn venue_of(b: &[u32]) -> Venue
     requires { ⌜ length (now b) ≡ size ⌝ }
@@ -548,12 +675,14 @@ pub fn venue_of(b: &[u32]) -> Venue
     let complex = complexes_of(b);
     let legging = leggings_of(b);
     let series = series_of(b);
+    let editions = editions_of(b);
     let last = last_id(b);
     Venue {
         regular,
         complex,
         legging,
         series,
+        editions,
         last,
     }
 }
@@ -622,6 +751,18 @@ fn load_series(b: &mut [u32], l: [Listed; 8])
     }
 }
 
+fn load_editions(b: &mut [u32], l: [Edition; 32])
+    requires { ⌜ length (now b) ≡ size ⌝ }
+    ensures { λ _. ⌜ EditionsLoaded (now (b .entry)) l (now (b .exit)) ⌝ }
+{
+    let mut i: usize = 0;
+    while i < 32 {
+        let x = l[i];
+        write_edition(b, i, x);
+        i += 1;
+    }
+}
+
 fn bit(l: Legging) -> u16
     ensures { λ r. ⌜ r ≡ bitOf l ⌝ }
 {
@@ -646,7 +787,7 @@ fn count_mask(b: &[u32]) -> u16
     m
 }
 
-// A venue's numbers. No place is known to be held, the mask is counted, and the levels stay as they are.
+// A venue's numbers. No place is known to be held, mask and figures are counted, and the levels stay as they are.
 pub fn load(b: &mut [u32], v: Venue)
     requires { ⌜ (length (now b) ≡ size) × Loadable v ⌝ }
     ensures { λ _. ⌜ Laid v (now (b .exit)) ⌝ }
@@ -659,8 +800,11 @@ pub fn load(b: &mut [u32], v: Venue)
     load_leggings(b, legging);
     let series = v.series;
     load_series(b, series);
+    let editions = v.editions;
+    load_editions(b, editions);
     put_last(b, v.last);
     let mask = count_mask(b);
+    count_figures(b);
     b[827] = 0;
     b[828] = 0;
     b[829] = mask as u32;

@@ -16,11 +16,14 @@ leggings-of-requires c κs = search needs
 series-of-requires : tie.Need-series-of-requires
 series-of-requires c κs = search needs
 
+editions-of-requires : tie.Need-editions-of-requires
+editions-of-requires c κs = search needs
+
 last-id-requires : tie.Need-last-id-requires
 last-id-requires c κs = search needs
 
 returns : tie.Need-returns
-returns c = venue-is _ _ (c .before .before .before .before .regulars-of .ensures) (c .before .before .before .complexes-of .ensures) (c .before .before .leggings-of .ensures) (c .before .series-of .ensures) (c .last-id .ensures)
+returns c = venue-is _ _ (c .before .before .before .before .before .regulars-of .ensures) (c .before .before .before .before .complexes-of .ensures) (c .before .before .before .leggings-of .ensures) (c .before .before .series-of .ensures) (c .before .editions-of .ensures) (c .last-id .ensures)
 
 pub venue-of-spec : {M : Type 1} → statement M
 venue-of-spec =
@@ -30,5 +33,6 @@ venue-of-spec =
     complexes-of-requires
     leggings-of-requires
     series-of-requires
+    editions-of-requires
     last-id-requires
     returns)

@@ -1,0 +1,71 @@
+-- `places::free_edition` meets its contract.
+use mathlib.Core.Path.{_≡_, ap}
+use mathlib.Core.Bool.{not}
+use mathlib.Core.Logic.{inl, inr}
+use Prim.Native.Nat.{_-_, _≤_}
+use native.Mathlib.Omega.{arith}
+use borrow.Author.Tests.{eq-eqb, ne-eqb}
+use Rattle.rules.specs.Places.{holdsEdition}
+use Rattle.places.specs.Layout.{editionIn, Filled}
+use Rattle.places.proofs.Gaps.{filled-more}
+use Rattle.places.proofs.Figures.{free-edition-is}
+use borrow.Author.Needs.{needs}
+use Rattle.places.proofs.free_edition.Statement.{statement}
+use Rattle.places.proofs.free_edition.Tie as tie
+
+abbrev Inv-loop : tie.InvT-loop
+Inv-loop b i₀ i = (i ≤ 32) × Filled holdsEdition (editionIn b) i
+
+abbrev μ-loop : tie.MeasureT-loop
+μ-loop b i₀ i = 32 - i
+
+loop-holds : tie.Need-loop-holds Inv-loop μ-loop
+loop-holds c = (omega arith, λ k w. absurd (omega arith))
+
+mul-if1 : tie.Need-mul-if1 Inv-loop μ-loop
+mul-if1 c = search needs
+
+add-if1 : tie.Need-add-if1 Inv-loop μ-loop
+add-if1 c = search needs
+
+mul-if1-2 : tie.Need-mul-if1-2 Inv-loop μ-loop
+mul-if1-2 c = search needs
+
+shared-slice-read-if1 : tie.Need-shared-slice-read-if1 Inv-loop μ-loop
+shared-slice-read-if1 c = search needs
+
+returns : tie.Need-returns Inv-loop μ-loop
+unfolding editionIn
+returns c = let h = c .before .before .before in
+    free-edition-is (h .before .args .b .now) _ (h .loop .inv .0) (h .loop .inv .1) (inr (ap not (eq-eqb _ _ (c .if1 .taken))))
+
+add-i : tie.Need-add-i Inv-loop μ-loop
+add-i c = search needs
+
+loop-less : tie.Need-loop-less Inv-loop μ-loop
+loop-less c = search needs
+
+loop-again : tie.Need-loop-again Inv-loop μ-loop
+unfolding editionIn
+loop-again c = let h = c .before .before .before in
+    (omega arith, filled-more holdsEdition (editionIn (h .before .args .b .now)) (h .loop .i) (h .loop .inv .1) (ap not (ne-eqb _ _ (c .if1 .left))))
+
+returns-2 : tie.Need-returns-2 Inv-loop μ-loop
+returns-2 c = free-edition-is (c .before .before .args .b .now) 32 (omega arith) (λ k w. c .before .loop .inv .1 k (omega arith)) (inl (omega arith))
+
+pub free-edition-spec : {M : Type 1} → statement M
+free-edition-spec =
+    tie.close
+    (tie.spec
+    Inv-loop
+    μ-loop
+    loop-holds
+    mul-if1
+    add-if1
+    mul-if1-2
+    shared-slice-read-if1
+    returns
+    add-i
+    loop-less
+    loop-again
+    returns-2)
