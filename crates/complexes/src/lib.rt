@@ -16,14 +16,14 @@ ghost use Rattle.rules.specs.Complex.{legsIn, legInTurn, each, complexPlace, ca
 ghost use Rattle.rules.specs.Complex as complex;
 ghost use Rattle.wire.specs.Seen.{seen};
 ghost use Rattle.wire.specs.Stage.{stage, _does_};
-ghost use Rattle.places.specs.Layout.{size, regularsUsed, complexesUsed, venueOf, Right, Below, Counts, SameCounts, Dense};
+ghost use Rattle.places.specs.Layout.{size, regularsUsed, complexesUsed, venueOf, Figured, Right, Below, Counts, SameCounts, Dense};
 ghost use Rattle.levels.specs.Grid.{LegsIn, TakenOf};
 ghost use Rattle.complexes.specs.Effects.{withdrawn};
 ghost use Rattle.complexes.specs.Rising.{Rising};
 
 // The best regular prices a and p that c would take net to its limit or less, and that net is in band.
 fn can_leg_in(b: &[u32], taken: Taken, c: Complex, a: u32, p: u32) -> bool
-    requires { ⌜ (length (now b) ≡ size) × (TakenOf taken c (venueOf (now b) .regular)) × (LegsIn c) ⌝ }
+    requires { ⌜ (length (now b) ≡ size) × (TakenOf taken c (venueOf (now b) .regular)) × (LegsIn c) × (Figured (now b)) ⌝ }
     ensures { λ r. ⌜ r ≡ legsIn (venueOf (now (b .entry))) c a p ⌝ }
 {
     if c.quantity == 0 {

@@ -4,6 +4,7 @@ use mathlib.Core.Bool.{Bool, true, false, not, _&&_, _||_, true≢false, false�
 use mathlib.Core.List.{List, [], _∷_}
 use Prim.Native.Nat.{ℕ, _+_, _*_, _/_, _-_, _≤_, _<_, min}
 use native.Mathlib.Omega.{arith}
+use native.Mathlib.Nat.{div-add-mod', mod-lt}
 use borrow.Author.Tests.{eq-eqb, ne-eqb, le-leb, lt-leb, leb-true}
 use lib.Dec.{eqb, ltb, leb}
 use lib.IntN.{ℤ, pos, natAbs, negℤ, _-ℤ_, +ℤ-idl}
@@ -18,7 +19,8 @@ use Rattle.rules.specs.declared.Leg.{Leg}
 use Rattle.rules.specs.declared.Venue.{Venue}
 use Rattle.rules.specs.declared.Cause.the-variants.{Replaced}
 use Rattle.rules.specs.Base.{if_then_else_, held}
-use Rattle.rules.specs.Words.{buy, within, opposite, signed, increment, noComplex, noLegging, placeOf, leggingAt, complexAt, statusOf, withLegging}
+use Rattle.rules.specs.Words.{buy, within, opposite, signed, noComplex, noLegging, placeOf, leggingAt, complexAt, statusOf, withLegging}
+use Rattle.rules.specs.Settings.{figureNow, increment, percent}
 use Rattle.rules.specs.Prices.{better, bestRegular, ownPrice, bestOwn, displayed, away, marketBest, taken1, taken2, inBand}
 use Rattle.rules.specs.Records.{generated}
 use Rattle.rules.specs.Effects.{Effect, nothing, report, _⟫_}
@@ -33,7 +35,7 @@ use Rattle.rules.proofs.Generating.{Makes, made, zero-out, make-venue}
 use Rattle.wire.specs.Seen.{seen, _writes_}
 use Rattle.wire.specs.Stage.{stage, _does_}
 use Rattle.wire.proofs.Stages.{follow, does-report}
-use Rattle.places.specs.Layout.{leggingIn, complexIn, venueOf, complexesUsed, levelOf}
+use Rattle.places.specs.Layout.{leggingIn, complexIn, venueOf, complexesUsed, levelOf, Figured}
 use Rattle.places.proofs.Parts.{complex-at, complex-past}
 use Rattle.places.specs.declared.Level.{Level}
 use Rattle.levels.specs.Grid.{GridOf, LegsIn}
@@ -70,38 +72,34 @@ module _ {a b : ℤ} (fa : SFits w64 a) (fb : SFits w64 b) (h : natAbs a + natAb
 
 -- The price of a leg --------------------------------------------------------------------------
 
--- displayed, a price above 100,009 is above 100,000
-pub ranged-far : (s d p : ℕ) → 100009 < p → 0 ≡ rangedPrice s d p
-unfolding rangedPrice within displayed increment
-ranged-far s d p h = go (ltb s 6) (eqb d buy)
+-- displayed, a price above 100,254 is above 100,000, whatever the increment of one byte
+pub ranged-far : (v : Venue) (s d p i : ℕ) → i ≡ increment v s → 0 < i → i < 256 → 100254 < p → 0 ≡ rangedPrice v s d p
+unfolding rangedPrice within displayed
+ranged-far v s d p i e some few h = rw (← e) (go (eqb d buy))
   where
-    out : (i x : ℕ) → 100000 < x → 0 ≡ (if leb i x && leb x 100000 then p else 0)
-    out i x k = rw (lt-leb x 100000 k) (far (leb i x))
+    out : (x : ℕ) → 100000 < x → 0 ≡ (if leb i x && leb x 100000 then p else 0)
+    out x k = rw (lt-leb x 100000 k) (far (leb i x))
       where
         far : (t : Bool) → 0 ≡ (if t && false then p else 0)
         far true = refl
         far false = refl
 
-    go : (a b : Bool) →
-        0 ≡ (if leb (if a then 5 else 10) (if b then p / (if a then 5 else 10) * (if a then 5 else 10) else (p + ((if a then 5 else 10) - 1)) / (if a then 5 else 10) * (if a then 5 else 10))
-        && leb (if b then p / (if a then 5 else 10) * (if a then 5 else 10) else (p + ((if a then 5 else 10) - 1)) / (if a then 5 else 10) * (if a then 5 else 10)) 100000 then p else 0)
-    go true true = out 5 (p / 5 * 5) (omega arith)
-    go true false = out 5 ((p + 4) / 5 * 5) (omega arith)
-    go false true = out 10 (p / 10 * 10) (omega arith)
-    go false false = out 10 ((p + 9) / 10 * 10) (omega arith)
+    go : (b : Bool) → 0 ≡ (if leb i (if b then p / i * i else (p + (i - 1)) / i * i) && leb (if b then p / i * i else (p + (i - 1)) / i * i) 100000 then p else 0)
+    go true = out (p / i * i) (let a = div-add-mod' p i in let b = mod-lt p some in omega arith)
+    go false = out ((p + (i - 1)) / i * i) (let a = div-add-mod' (p + (i - 1)) i in let b = mod-lt (p + (i - 1)) some in omega arith)
 
-module _ (s d p q i : ℕ) (eq : q ≡ displayed (increment s) d p) (ei : i ≡ increment s) where
-  ranged-is : rangedPrice s d p ≡ (if leb i q && leb q 100000 then p else 0)
+module _ (v : Venue) (s d p q i : ℕ) (eq : q ≡ displayed i d p) (ei : i ≡ increment v s) where
+  ranged-is : rangedPrice v s d p ≡ (if leb i q && leb q 100000 then p else 0)
   unfolding rangedPrice within
-  ranged-is = rw (← eq, ← ei)
+  ranged-is = rw (← ei, ← eq)
 
-  pub ranged-low : q < i → 0 ≡ rangedPrice s d p
+  pub ranged-low : q < i → 0 ≡ rangedPrice v s d p
   ranged-low h = sym (ranged-is ∙ rw (lt-leb i q h))
 
-  pub ranged-high : i ≤ q → 100000 < q → 0 ≡ rangedPrice s d p
+  pub ranged-high : i ≤ q → 100000 < q → 0 ≡ rangedPrice v s d p
   ranged-high h k = sym (ranged-is ∙ rw (le-leb i q h, lt-leb q 100000 k))
 
-  pub ranged-in : i ≤ q → q ≤ 100000 → p ≡ rangedPrice s d p
+  pub ranged-in : i ≤ q → q ≤ 100000 → p ≡ rangedPrice v s d p
   ranged-in h k = sym (ranged-is ∙ rw (le-leb i q h, le-leb q 100000 k))
 
 module _ (v : Venue) (c : Complex) (s d x : ℕ) (ex : x ≡ otherClear v c s) where
@@ -110,11 +108,11 @@ module _ (v : Venue) (c : Complex) (s d x : ℕ) (ex : x ≡ otherClear v c s) w
   priced-none h = rw (← ex, h)
 
   pub priced-is : (x ≡ 0 → ⊥) → (o : Leg) → o ≡ otherLeg c s → (m n y z : ℤ) (p r : ℕ) → m ≡ c .limit → n ≡ signed (o .side) (pos x) → y ≡ m -ℤ n → z ≡ signed d y →
-      p ≡ asPrice z → r ≡ rangedPrice s d p → r ≡ pricedLeg v c s d
+      p ≡ asPrice z → r ≡ rangedPrice v s d p → r ≡ pricedLeg v c s d
   unfolding pricedLeg legPrice
   priced-is h o eo m n y z p r em en ey ez ep er =
       let k : n ≡ signed (otherLeg c s .side) (pos x) = en ∙ ap (λ (l : Leg). signed (l .side) (pos x)) eo in
-      er ∙ ap (rangedPrice s d) (ep ∙ ap asPrice (ez ∙ ap (signed d) (ey ∙ ap₂ (λ (a b : ℤ). a -ℤ b) em k)))
+      er ∙ ap (rangedPrice v s d) (ep ∙ ap asPrice (ez ∙ ap (signed d) (ey ∙ ap₂ (λ (a b : ℤ). a -ℤ b) em k)))
       ∙ rw (← ex, ne-eqb x 0 h) refl
 
 -- Conditions ----------------------------------------------------------------------------------
@@ -148,8 +146,13 @@ module _ (v : Venue) (c : Complex) (d p own : ℕ) (l : Legging) (ew : own ≡ o
 
 -- no legging order has a part in whether the market is open
 market-beside : (n : ℕ) (l : Legging) (v : Venue) (c : Complex) → marketOpen (placed n l v) c ≡ marketOpen v c
-unfolding marketOpen bothOpen statusOf inBand taken1 taken2 marketBest away bestRegular placed withLegging
+unfolding marketOpen bothOpen statusOf inBand percent figureNow taken1 taken2 marketBest away bestRegular placed withLegging
 market-beside n l v c = refl
+
+-- the increments in force
+pub steps-some : (b : List ℕ) (s : ℕ) → Figured b → s < 8 → 0 < increment (venueOf b) s
+unfolding increment
+steps-some b s f h = let z = f .some s h in omega (arith, f .so s (omega arith))
 
 -- The order as planned ------------------------------------------------------------------------
 
@@ -171,7 +174,7 @@ module _ (v : Venue) (c : Complex) (s d : ℕ) where
     planned-not k m = sym (planned-if false (rw (pos-held (c .quantity) h, ← ep, ne-eqb p 0 k, m)))
 
   -- a price that is there is the leg's
-  priced-back : (t u : Bool) → held (otherClear v c s) ≡ t → within (increment s) 100000 (displayed (increment s) d (legPrice v c s d)) ≡ u →
+  priced-back : (t u : Bool) → held (otherClear v c s) ≡ t → within (increment v s) 100000 (displayed (increment v s) d (legPrice v c s d)) ≡ u →
       held (pricedLeg v c s d) ≡ true → (t ≡ true) × (u ≡ true)
   unfolding pricedLeg rangedPrice
   priced-back true true e f h = (refl, refl)
@@ -179,12 +182,12 @@ module _ (v : Venue) (c : Complex) (s d : ℕ) where
   priced-back false u e f h = absurd (false≢true (rw e at h))
 
   priced-clear : held (pricedLeg v c s d) ≡ true → held (otherClear v c s) ≡ true
-  priced-clear h = priced-back (held (otherClear v c s)) (within (increment s) 100000 (displayed (increment s) d (legPrice v c s d))) refl refl h .0
+  priced-clear h = priced-back (held (otherClear v c s)) (within (increment v s) 100000 (displayed (increment v s) d (legPrice v c s d))) refl refl h .0
 
-  pub priced-range : held (pricedLeg v c s d) ≡ true → within (increment s) 100000 (displayed (increment s) d (legPrice v c s d)) ≡ true
-  priced-range h = priced-back (held (otherClear v c s)) (within (increment s) 100000 (displayed (increment s) d (legPrice v c s d))) refl refl h .1
+  pub priced-range : held (pricedLeg v c s d) ≡ true → within (increment v s) 100000 (displayed (increment v s) d (legPrice v c s d)) ≡ true
+  priced-range h = priced-back (held (otherClear v c s)) (within (increment v s) 100000 (displayed (increment v s) d (legPrice v c s d))) refl refl h .1
 
-  priced-leg : held (otherClear v c s) ≡ true → within (increment s) 100000 (displayed (increment s) d (legPrice v c s d)) ≡ true → pricedLeg v c s d ≡ legPrice v c s d
+  priced-leg : held (otherClear v c s) ≡ true → within (increment v s) 100000 (displayed (increment v s) d (legPrice v c s d)) ≡ true → pricedLeg v c s d ≡ legPrice v c s d
   unfolding pricedLeg rangedPrice
   priced-leg h k = rw (h, k)
 
@@ -207,11 +210,11 @@ module _ (v : Venue) (c : Complex) (s d : ℕ) where
   unfolding mayStand standsClear
   may-made m = rw (market-made m, m .shown, m .inside, m .outside, m .way)
 
-  planned-made : held (c .quantity) ≡ true → Makes v c s d → plannedLeg v c s d ≡ newLegging v c s d
+  planned-made : 0 < increment v s → held (c .quantity) ≡ true → Makes v c s d → plannedLeg v c s d ≡ newLegging v c s d
   unfolding asked
-  planned-made h m =
+  planned-made k h m =
       let e = priced-leg (m .clear) (m .range) in
-      planned-if true (rw (h, e, zero-out s d (legPrice v c s d) (m .range), may-made m))
+      planned-if true (rw (h, e, zero-out (increment v s) d (legPrice v c s d) k (m .range), may-made m))
 
   not-made : (held (c .quantity) && makes v c s d) ≡ false → nothing v ≡ generateLeg c s d v
   unfolding generateLeg
@@ -234,14 +237,14 @@ module _ (v : Venue) (c : Complex) (s d : ℕ) where
       go true = ap (λ (x : Venue). marketOpen x c) (make-venue v c s d) ∙ market-beside (placeOf s d) (newLegging v c s d) v c
       go false = refl
 
-  pub made-none : (l : Legging) → l ≡ plannedLeg v c s d → l .price ≡ 0 → nothing v ≡ generateLeg c s d v
+  pub made-none : 0 < increment v s → (l : Legging) → l ≡ plannedLeg v c s d → l .price ≡ 0 → nothing v ≡ generateLeg c s d v
   unfolding newLegging
-  made-none l el h = not-made (is-false (held (c .quantity) && makes v c s d) (λ t. go (and-l (held (c .quantity)) (makes v c s d) t) (made (and-r (held (c .quantity)) (makes v c s d) t))))
+  made-none k l el h = not-made (is-false (held (c .quantity) && makes v c s d) (λ t. go (and-l (held (c .quantity)) (makes v c s d) t) (made (and-r (held (c .quantity)) (makes v c s d) t))))
     where
       go : held (c .quantity) ≡ true → Makes v c s d → ⊥
       go q m =
-          let z = held-pos (legPrice v c s d) (zero-out s d (legPrice v c s d) (m .range)) in
-          let e : l .price ≡ legPrice v c s d = ap (λ (x : Legging). x .price) (el ∙ planned-made q m) in
+          let z = held-pos (legPrice v c s d) (zero-out (increment v s) d (legPrice v c s d) k (m .range)) in
+          let e : l .price ≡ legPrice v c s d = ap (λ (x : Legging). x .price) (el ∙ planned-made k q m) in
           omega arith
 
   module _ (l : Legging) (el : l ≡ plannedLeg v c s d) (n : l .price ≡ 0 → ⊥) where
@@ -270,9 +273,9 @@ module _ (v : Venue) (c : Complex) (s d : ℕ) where
     pub planned-is : l ≡ newLegging v c s d
     planned-is = el ∙ planned-if true asked-all
 
-    pub planned-shown : displayed (increment s) d (l .price) ≤ 100000
+    pub planned-shown : displayed (increment v s) d (l .price) ≤ 100000
     unfolding newLegging within
-    planned-shown = rw planned-is (leb-true _ _ (and-r (leb (increment s) (displayed (increment s) d (legPrice v c s d))) _ (priced-range asked-priced)))
+    planned-shown = rw planned-is (leb-true _ _ (and-r (leb (increment v s) (displayed (increment v s) d (legPrice v c s d))) _ (priced-range asked-priced)))
 
     module _ (k : ℕ) (ek : k ≡ placeOf s d) where
       others-is : othersStand (placed k l v) k 0 (placed k l v .legging) ≡ othersStand (placed (placeOf s d) (newLegging v c s d) v) (placeOf s d) 0 (placed (placeOf s d) (newLegging v c s d) v .legging)
@@ -337,7 +340,7 @@ same-place n k v e =
     one true = refl
     one false = refl
 
-pub made-law : (id s d n shown : ℕ) (l : Legging) (v v₁ v₂ : Venue) (o₀ o₁ o₂ : List ℕ) (at mid r : ℕ) → n ≡ placeOf s d → shown ≡ displayed (increment s) d (l .price) →
+pub made-law : (id s d n shown : ℕ) (l : Legging) (v v₁ v₂ : Venue) (o₀ o₁ o₂ : List ℕ) (at mid r : ℕ) → n ≡ placeOf s d → shown ≡ displayed (increment v s) d (l .price) →
     stage v₁ o₁ mid ≡ seen o₀ at does remove (λ m _. failIf (eqb m n || eqb m n) Replaced) v →
     v₂ ≡ placed n l v₁ →
     seen o₂ r ≡ seen o₁ mid writes (generated id s d (l .price) shown (l .quantity) ∷ []) →
@@ -345,7 +348,7 @@ pub made-law : (id s d n shown : ℕ) (l : Legging) (v v₁ v₂ : Venue) (o₀ 
 unfolding madeBy
 made-law id s d n shown l v v₁ v₂ o₀ o₁ o₂ at mid r en es p q w =
     follow (seen o₀ at) (remove (λ m _. failIf (eqb m (placeOf s d)) Replaced) v)
-    (λ u. report (generated id s d (l .price) (displayed (increment s) d (l .price)) (l .quantity)) (placed (placeOf s d) l u)) v₁ v₂ o₁ o₂ mid r
+    (λ u. report (generated id s d (l .price) (displayed (increment v s) d (l .price)) (l .quantity)) (placed (placeOf s d) l u)) v₁ v₂ o₁ o₂ mid r
     (p ∙ ap (λ (e : Effect). seen o₀ at does e) (same-place n (placeOf s d) v en))
     (does-report v₂ o₂ o₁ r mid (generated id s d (l .price) shown (l .quantity)) w
     ∙ ap (λ (e : Effect). seen o₁ mid does e)

@@ -14,7 +14,8 @@ use Rattle.rules.specs.declared.Venue.{Venue}
 use Rattle.rules.specs.declared.Verdict.{Verdict}
 use Rattle.rules.specs.declared.Verdict.the-variants.{Stands}
 use Rattle.rules.specs.Base.{if_then_else_}
-use Rattle.rules.specs.Words.{opposite, signed, increment}
+use Rattle.rules.specs.Words.{opposite, signed}
+use Rattle.rules.specs.Settings.{increment}
 use Rattle.rules.specs.Prices.{better, bestRegular, displayed, clearPrice, weighed}
 use Rattle.rules.specs.Standing.{otherLeg, otherClear, otherSize, parentOf, shownWell, pairs, verdictOf, verdict}
 use Rattle.places.specs.declared.Level.{Level}
@@ -36,9 +37,9 @@ on r false e h = absurd (true≢false (rw e at h))
 
 -- Prices --------------------------------------------------------------------------------------
 
-pub shown-is : (v : Venue) (s d p best : ℕ) (t : Bool) → best ≡ bestRegular v s d → t ≡ not (better d best (displayed (increment s) d p)) → t ≡ shownWell v s d p
+pub shown-is : (v : Venue) (s d p best : ℕ) (t : Bool) → best ≡ bestRegular v s d → t ≡ not (better d best (displayed (increment v s) d p)) → t ≡ shownWell v s d p
 unfolding shownWell
-shown-is v s d p best t eb e = e ∙ ap (λ (x : ℕ). not (better d x (displayed (increment s) d p))) eb
+shown-is v s d p best t eb e = e ∙ ap (λ (x : ℕ). not (better d x (displayed (increment v s) d p))) eb
 
 module _ (c : Complex) (s : ℕ) (o : Leg) (eo : o ≡ otherLeg c s) where
   pub other-in : LegsIn c → o .series < 8

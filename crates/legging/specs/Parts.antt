@@ -7,7 +7,8 @@ use Rattle.rules.specs.declared.Legging.{Legging}
 use Rattle.rules.specs.declared.Venue.{Venue}
 use Rattle.rules.specs.declared.Cause.the-variants.{Replaced}
 use Rattle.rules.specs.Base.{if_then_else_, held}
-use Rattle.rules.specs.Words.{within, opposite, increment, noLegging, placeOf, leggingAt}
+use Rattle.rules.specs.Words.{within, opposite, noLegging, placeOf, leggingAt}
+use Rattle.rules.specs.Settings.{increment}
 use Rattle.rules.specs.Prices.{bestOwn, displayed, away, inBand}
 use Rattle.rules.specs.Standing.{otherClear, bothOpen, shownWell}
 use Rattle.rules.specs.Records.{generated}
@@ -22,12 +23,12 @@ unfoldable pub otherTaken : Taken → Complex → (series : ℕ) → Level
 otherTaken t c s = if eqb (c .series1) s then t .second else t .first
 
 -- a price p of side d in series s whose displayed price is from the increment to 100,000; else none
-unfoldable pub rangedPrice : (series side p : ℕ) → ℕ
-rangedPrice s d p = if within (increment s) 100000 (displayed (increment s) d p) then p else 0
+unfoldable pub rangedPrice : Venue → (series side p : ℕ) → ℕ
+rangedPrice v s d p = if within (increment v s) 100000 (displayed (increment v s) d p) then p else 0
 
 -- the price of a leg of c; none where the other leg has no clear price, or where it is out of range
 unfoldable pub pricedLeg : Venue → Complex → (series side : ℕ) → ℕ
-pricedLeg v c s d = if held (otherClear v c s) then rangedPrice s d (legPrice v c s d) else 0
+pricedLeg v c s d = if held (otherClear v c s) then rangedPrice v s d (legPrice v c s d) else 0
 
 -- the market is open to legging orders of c
 unfoldable pub marketOpen : Venue → Complex → Bool
@@ -53,4 +54,4 @@ plannedLeg v c s d =
 unfoldable pub madeBy : (id series side : ℕ) → Legging → Venue → Effect
 madeBy id s d l v =
     remove (λ n _. failIf (eqb n (placeOf s d)) Replaced) v
-    ⟫ (λ w. report (generated id s d (l .price) (displayed (increment s) d (l .price)) (l .quantity)) (placed (placeOf s d) l w))
+    ⟫ (λ w. report (generated id s d (l .price) (displayed (increment v s) d (l .price)) (l .quantity)) (placed (placeOf s d) l w))

@@ -14,22 +14,32 @@ ghost use lib.IntN.{natAbs};
 ghost use lib.Dec.{eqb};
 ghost use lib.ListN.{length, getD};
 ghost use Rattle.rules.specs.Step.{mask};
-ghost use Rattle.rules.specs.Words.{noLegging, opposite, signed, increment, leggingAt};
+ghost use Rattle.rules.specs.Words.{noLegging, opposite, signed, leggingAt};
+ghost use Rattle.rules.specs.Settings.{increment};
 ghost use Rattle.rules.specs.Prices.{better, bestRegular, displayed};
 ghost use Rattle.rules.specs.Standing.{otherClear, pairs, verdictOf, verdict, verdictNumber, settle};
 ghost use Rattle.rules.specs.Generation.{asPrice, givesWay, placed, othersStand, generateLeg, generate};
 ghost use Rattle.wire.specs.Seen.{seen};
 ghost use Rattle.wire.specs.Stage.{stage, _does_};
-ghost use Rattle.places.specs.Layout.{size, leggingIn, venueOf, Right, SameCounts};
+ghost use Rattle.places.specs.Layout.{size, leggingIn, venueOf, Figured, Right, SameCounts};
 ghost use Rattle.levels.specs.Grid.{GridOf, LegsIn, TakenOf, SidesOf};
 ghost use Rattle.removal.specs.Marks.{markAt};
 ghost use Rattle.legging.specs.Parts.{otherTaken, rangedPrice, pricedLeg, marketOpen, standsClear, mayStand, plannedLeg, madeBy};
 
-// A price p at side d of series s, displayed, is no worse than best, the best regular of its side.
-pub fn shown_well(best: u32, s: u8, d: u8, p: u32) -> bool
-    ensures { λ r. ⌜ r ≡ not (better d best (displayed (increment s) d p)) ⌝ }
+// A price p at side d of series s, displayed.
+fn shown_price(b: &[u32], s: u8, d: u8, p: u32) -> u64
+    requires { ⌜ (length (now b) ≡ size) × (s < 8) × (Figured (now b)) ⌝ }
+    ensures { λ r. ⌜ r ≡ displayed (increment (venueOf (now (b .entry))) s) d p ⌝ }
 {
-    !levels::is_better_wide(d, best as u64, rules::displayed_in(s, d, p))
+    rules::displayed_price(levels::increment_of(b, s), d, p)
+}
+
+// A price p at side d of series s, displayed, is no worse than best, the best regular of its side.
+pub fn shown_well(b: &[u32], best: u32, s: u8, d: u8, p: u32) -> bool
+    requires { ⌜ (length (now b) ≡ size) × (s < 8) × (Figured (now b)) ⌝ }
+    ensures { λ r. ⌜ r ≡ not (better d best (displayed (increment (venueOf (now (b .entry))) s) d p)) ⌝ }
+{
+    !levels::is_better_wide(d, best as u64, shown_price(b, s, d, p))
 }
 
 // The level that the leg of c takes that is not in series s.
@@ -73,10 +83,10 @@ pub fn can_pair(b: &[u32], taken: Taken, c: Complex, s: u8, d: u8, l: Legging) -
 
 // The test of a legging order of c at side d of series s: of the causes that apply, the first of 1, 5, 2, 6.
 pub fn test_order(b: &[u32], sides: LegSides, c: Complex, s: u8, d: u8, l: Legging) -> Verdict
-    requires { ⌜ (length (now b) ≡ size) × (SidesOf sides c s d (venueOf (now b) .regular)) × (LegsIn c) ⌝ }
+    requires { ⌜ (length (now b) ≡ size) × (SidesOf sides c s d (venueOf (now b) .regular)) × (LegsIn c) × (s < 8) × (Figured (now b)) ⌝ }
     ensures { λ r. ⌜ r ≡ verdictOf (venueOf (now (b .entry))) c s d l ⌝ }
 {
-    if !shown_well(sides.own, s, d, l.price) {
+    if !shown_well(b, sides.own, s, d, l.price) {
         return Verdict::Fails(Cause::Worse);
     }
     let taken = sides.taken;
@@ -94,7 +104,7 @@ pub fn test_order(b: &[u32], sides: LegSides, c: Complex, s: u8, d: u8, l: Leggi
 
 // The test of what stands at place n.
 pub fn judge(b: &[u32], g: [[Level; 2]; 8], n: usize) -> Verdict
-    requires { ⌜ (length (now b) ≡ size) × (GridOf g (venueOf (now b) .regular)) × (n < 16) ⌝ }
+    requires { ⌜ (length (now b) ≡ size) × (GridOf g (venueOf (now b) .regular)) × (n < 16) × (Figured (now b)) ⌝ }
     ensures { λ r. ⌜ r ≡ verdict (venueOf (now (b .entry))) n (getD (venueOf (now (b .entry)) .legging) n noLegging) ⌝ }
 {
     let l = places::legging_at(b, n);
@@ -110,7 +120,7 @@ pub fn judge(b: &[u32], g: [[Level; 2]; 8], n: usize) -> Verdict
 
 // The number of each place's verdict, by 4 bits, the lowest that of place 0; that of a free place is 0.
 fn verdicts(b: &[u32], g: [[Level; 2]; 8]) -> u64
-    requires { ⌜ (length (now b) ≡ size) × (GridOf g (venueOf (now b) .regular)) ⌝ }
+    requires { ⌜ (length (now b) ≡ size) × (GridOf g (venueOf (now b) .regular)) × (Figured (now b)) ⌝ }
     ensures { λ r. ⌜ ((n : ℕ) → n < 16 → markAt r n ≡ verdictNumber (verdict (venueOf (now (b .entry))) n (leggingIn (now (b .entry)) n))) ⌝ }
 {
     let mut marks: u64 = 0;
@@ -154,7 +164,7 @@ pub fn settle_all(b: &mut [u32], out: &mut [u8], at: usize) -> usize
 
 // Every legging order but the one at place m passes its test.
 pub fn others_stand(b: &[u32], g: [[Level; 2]; 8], m: usize) -> bool
-    requires { ⌜ (length (now b) ≡ size) × (GridOf g (venueOf (now b) .regular)) ⌝ }
+    requires { ⌜ (length (now b) ≡ size) × (GridOf g (venueOf (now b) .regular)) × (Figured (now b)) ⌝ }
     ensures { λ r. ⌜ r ≡ othersStand (venueOf (now (b .entry))) m 0 (venueOf (now (b .entry)) .legging) ⌝ }
 {
     let mut n: usize = 0;
@@ -197,15 +207,17 @@ fn as_price(z: i64) -> u64
 }
 
 // A price whose displayed price is from the increment to 100,000; else 0.
-fn ranged(s: u8, d: u8, p: u64) -> u32
-    ensures { λ r. ⌜ r ≡ rangedPrice s d p ⌝ }
+fn ranged(b: &[u32], s: u8, d: u8, p: u64) -> u32
+    requires { ⌜ (length (now b) ≡ size) × (s < 8) × (Figured (now b)) ⌝ }
+    ensures { λ r. ⌜ r ≡ rangedPrice (venueOf (now (b .entry))) s d p ⌝ }
 {
-    if 100009 < p {
+    let increment = levels::increment_of(b, s);
+    if 100254 < p {
         return 0;
     }
     let price = p as u32;
-    let shown = rules::displayed_in(s, d, price);
-    if shown < (rules::increment_of(s) as u64) {
+    let shown = rules::displayed_price(increment, d, price);
+    if shown < (increment as u64) {
         return 0;
     }
     if 100000 < shown {
@@ -216,7 +228,7 @@ fn ranged(s: u8, d: u8, p: u64) -> u32
 
 // The price of the leg of c at side d of series s: sign × (N - the other leg's sign × its clear price); 0 where there is none in range.
 pub fn leg_price(b: &[u32], taken: Taken, c: Complex, s: u8, d: u8) -> u32
-    requires { ⌜ (length (now b) ≡ size) × (TakenOf taken c (venueOf (now b) .regular)) × (LegsIn c) ⌝ }
+    requires { ⌜ (length (now b) ≡ size) × (TakenOf taken c (venueOf (now b) .regular)) × (LegsIn c) × (s < 8) × (Figured (now b)) ⌝ }
     ensures { λ r. ⌜ r ≡ pricedLeg (venueOf (now (b .entry))) c s d ⌝ }
 {
     let clear = other_clear(b, taken, c, s);
@@ -226,12 +238,12 @@ pub fn leg_price(b: &[u32], taken: Taken, c: Complex, s: u8, d: u8) -> u32
     let other = levels::other_leg(c, s);
     let limit = limit_of(c);
     let price = rules::signed_price(other.side, clear);
-    ranged(s, d, as_price(signed_of(d, limit - price)))
+    ranged(b, s, d, as_price(signed_of(d, limit - price)))
 }
 
 // Both series of c are open, and N is in band.
 fn market_open(b: &[u32], taken: Taken, c: Complex) -> bool
-    requires { ⌜ (length (now b) ≡ size) × (TakenOf taken c (venueOf (now b) .regular)) × (LegsIn c) ⌝ }
+    requires { ⌜ (length (now b) ≡ size) × (TakenOf taken c (venueOf (now b) .regular)) × (LegsIn c) × (Figured (now b)) ⌝ }
     ensures { λ r. ⌜ r ≡ marketOpen (venueOf (now (b .entry))) c ⌝ }
 {
     if !levels::both_open(b, c) {
@@ -242,10 +254,10 @@ fn market_open(b: &[u32], taken: Taken, c: Complex) -> bool
 
 // A price p at side d of series s is no worse than own, the best regular of its side, and reaches nothing opposite; facing is the best regular there.
 fn stands_clear(b: &[u32], own: u32, facing: u32, s: u8, d: u8, p: u32) -> bool
-    requires { ⌜ (length (now b) ≡ size) × (own ≡ bestRegular (venueOf (now b)) s d) × (facing ≡ bestRegular (venueOf (now b)) s (opposite d)) × (s < 8) ⌝ }
+    requires { ⌜ (length (now b) ≡ size) × (own ≡ bestRegular (venueOf (now b)) s d) × (facing ≡ bestRegular (venueOf (now b)) s (opposite d)) × (s < 8) × (Figured (now b)) ⌝ }
     ensures { λ r. ⌜ r ≡ standsClear (venueOf (now (b .entry))) s d p ⌝ }
 {
-    if !shown_well(own, s, d, p) {
+    if !shown_well(b, own, s, d, p) {
         return false;
     }
     let f = rules::opposite_of(d);
@@ -276,7 +288,7 @@ pub fn gives_way(b: &[u32], c: Complex, s: u8, d: u8, p: u32) -> bool
 
 // All that is asked of a legging order of c at price p but that the others stand; the market is open to it.
 fn may_stand(b: &[u32], sides: LegSides, c: Complex, s: u8, d: u8, p: u32) -> bool
-    requires { ⌜ (length (now b) ≡ size) × (SidesOf sides c s d (venueOf (now b) .regular)) × (LegsIn c) × (s < 8) × (d < 2) × (marketOpen (venueOf (now b)) c ≡ true) ⌝ }
+    requires { ⌜ (length (now b) ≡ size) × (SidesOf sides c s d (venueOf (now b) .regular)) × (LegsIn c) × (s < 8) × (d < 2) × (marketOpen (venueOf (now b)) c ≡ true) × (Figured (now b)) ⌝ }
     ensures { λ r. ⌜ r ≡ mayStand (venueOf (now (b .entry))) c s d p ⌝ }
 {
     if !stands_clear(b, sides.own, sides.facing, s, d, p) {
@@ -341,14 +353,14 @@ fn plan_leg(b: &[u32], c: Complex, s: u8, d: u8) -> Legging
 
 // The holder of the place goes, and then l is put there.
 fn make_leg(b: &mut [u32], id: u32, s: u8, d: u8, l: Legging, out: &mut [u8], at: usize) -> usize
-    requires { ⌜ (length (now b) ≡ size) × (s < 8) × (d < 2) × (displayed (increment s) d (l .price) ≤ 100000) ⌝ }
+    requires { ⌜ (length (now b) ≡ size) × (s < 8) × (d < 2) × (displayed (increment (venueOf (now b)) s) d (l .price) ≤ 100000) × (Figured (now b)) ⌝ }
     ensures { λ r. ⌜ stage (venueOf (now (b .exit))) (now (out .exit)) r ≡ seen (now (out .entry)) at does madeBy id s d l (venueOf (now (b .entry))) ⌝ }
     ensures counts { λ r. ⌜ SameCounts (now (b .entry)) (now (b .exit)) ⌝ }
 {
+    let shown = shown_price(b, s, d, l.price) as u32;
     let place = rules::place_of(s, d);
     let pos = removal::remove_at(b, place, place, Cause::Replaced, out, at);
     places::put_legging(b, place, l);
-    let shown = rules::displayed_in(s, d, l.price) as u32;
     wire::emit_generated(out, pos, id, s, d, l.price, shown, l.quantity)
 }
 

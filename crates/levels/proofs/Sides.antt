@@ -16,10 +16,11 @@ use Rattle.rules.specs.declared.Listed.{Listed}
 use Rattle.rules.specs.declared.Venue.{Venue}
 use Rattle.rules.specs.Base.{if_then_else_}
 use Rattle.rules.specs.Words.{opposite, noComplex, noLegging, notListed, placeOf, complexAt, leggingAt, listedAt, statusOf, isComplexOf}
-use Rattle.rules.specs.Prices.{better, betterOf, bestIn, bestRegular, bestSize, ownPrice, bestOwn, clearPrice, away, marketBest, ratio1, ratio2, weighed, net, taken1, taken2, percent, nearNet, inBand}
+use Rattle.rules.specs.Prices.{better, betterOf, bestIn, bestRegular, bestSize, ownPrice, bestOwn, clearPrice, away, marketBest, ratio1, ratio2, weighed, net, taken1, taken2, nearNet, inBand}
+use Rattle.rules.specs.Settings.{figureNow, percent, increment}
 use Rattle.rules.specs.Standing.{findComplex, parentOf, bothOpen}
 use Rattle.rules.specs.Complex.{anyClosed}
-use Rattle.places.specs.Layout.{upto, complexesUsed, complexIn, leggingIn, listedIn, venueOf, levelOf}
+use Rattle.places.specs.Layout.{Figured, upto, complexesUsed, complexIn, leggingIn, listedIn, venueOf, levelOf}
 use Rattle.places.proofs.Tables.{upto-at}
 use Rattle.places.proofs.Parts.{complex-at, complex-past}
 use Rattle.places.specs.declared.Level.{Level}
@@ -153,11 +154,18 @@ module _ (v : Venue) (c : Complex) (a f : ℕ) (ea : a ≡ marketBest v (c .seri
     unfolding inBand
     band-none2 t h = rw (← one, ← two) (simp (ne-eqb _ _ n, eq-eqb _ _ h))
 
-    pub band-near : (b ≡ 0 → ⊥) → (r : Bool) (o u t : ℤ) → o ≡ weighed 1 (c .side1) a +ℤ weighed 1 (c .side2) b → u ≡ t → r ≡ nearNet percent o u → r ≡ inBand v c t
-    unfolding inBand net ratio1 ratio2
-    band-near m r o u t eo eu h =
+    pub band-near : (b ≡ 0 → ⊥) → (r : Bool) (x : ℕ) (o u t : ℤ) → x ≡ figureNow v 8 → o ≡ weighed 1 (c .side1) a +ℤ weighed 1 (c .side2) b → u ≡ t → r ≡ nearNet x o u → r ≡ inBand v c t
+    unfolding inBand net ratio1 ratio2 percent
+    band-near m r x o u t ex eo eu h =
         rw (← one, ← two) (simp (ne-eqb _ _ n, ne-eqb _ _ m)
-        (h ∙ ap (λ (z : ℤ). nearNet percent z u) eo ∙ ap (nearNet percent (weighed 1 (c .side1) a +ℤ weighed 1 (c .side2) b)) eu))
+        (h ∙ ap (λ (k : ℕ). nearNet k o u) ex ∙ ap (λ (z : ℤ). nearNet (figureNow v 8) z u) eo
+        ∙ ap (nearNet (figureNow v 8) (weighed 1 (c .side1) a +ℤ weighed 1 (c .side2) b)) eu))
+
+-- The increment -------------------------------------------------------------------------------
+
+pub increment-is : (b : List ℕ) (s r : ℕ) → Figured b → s < 8 → r ≡ figureNow (venueOf b) s → (r ≡ increment (venueOf b) s) × (0 < r)
+unfolding increment
+increment-is b s r f h e = (e, let z = f .some s h in omega (arith, f .so s (omega arith)))
 
 -- Complex orders ------------------------------------------------------------------------------
 

@@ -12,12 +12,13 @@ ghost use lib.IntN.{natAbs};
 ghost use lib.ListN.{length};
 ghost use Rattle.rules.specs.Base.{held};
 ghost use Rattle.rules.specs.Words.{sell, leggingAt, statusOf, isComplexOf};
+ghost use Rattle.rules.specs.Settings.{increment};
 ghost use Rattle.rules.specs.Prices.{better, betterOf, reaches, bestRegular, ownPrice, bestOwn, clearPrice, away, marketBest, inBand};
 ghost use Rattle.rules.specs.Trading.{fillRegular, putRegular};
 ghost use Rattle.rules.specs.Generation.{reachesAny};
 ghost use Rattle.rules.specs.Standing.{otherLeg, parentOf, bothOpen};
 ghost use Rattle.rules.specs.Complex.{anyClosed};
-ghost use Rattle.places.specs.Layout.{size, regularsUsed, complexesUsed, venueOf, levelOf, Right, Below, Counts, SameCounts, Loadable, Loaded};
+ghost use Rattle.places.specs.Layout.{size, regularsUsed, complexesUsed, venueOf, levelOf, Figured, Right, Below, Counts, SameCounts, Loadable, Loaded};
 ghost use Rattle.levels.specs.Grid.{noLevel, withOrder, levelBy, sidesIn, GridOf, LevelsPut, LegsIn, TakenOf, SidesOf};
 
 // a is strictly better than b to sell: lower, and any price is better than none.
@@ -345,7 +346,7 @@ pub fn market_best(b: &[u32], best: u32, s: u8, d: u8) -> u32
 
 // The net t of a complex order is in band; taken has the levels that its legs take.
 pub fn in_band(b: &[u32], taken: Taken, c: Complex, t: i64) -> bool
-    requires { ⌜ (length (now b) ≡ size) × (TakenOf taken c (venueOf (now b) .regular)) × (LegsIn c) × (natAbs t ≤ 8589934590) ⌝ }
+    requires { ⌜ (length (now b) ≡ size) × (TakenOf taken c (venueOf (now b) .regular)) × (LegsIn c) × (natAbs t ≤ 8589934590) × (Figured (now b)) ⌝ }
     ensures { λ r. ⌜ r ≡ inBand (venueOf (now (b .entry))) c t ⌝ }
 {
     let one = taken.first;
@@ -359,7 +360,15 @@ pub fn in_band(b: &[u32], taken: Taken, c: Complex, t: i64) -> bool
         return false;
     }
     let o = rules::net_of(c.side1, first, c.side2, second);
-    rules::near_net(o, t)
+    rules::near_net(places::figure_at(b, 8), o, t)
+}
+
+// A series' increment in force. It is not 0.
+pub fn increment_of(b: &[u32], s: u8) -> u8
+    requires { ⌜ (length (now b) ≡ size) × (s < 8) × (Figured (now b)) ⌝ }
+    ensures { λ r. ⌜ (r ≡ increment (venueOf (now (b .entry))) s) × (0 < r) ⌝ }
+{
+    places::figure_at(b, s as usize)
 }
 
 // The leg of a complex order that is not in series s.

@@ -38,7 +38,7 @@ taken-at-requires c κs =
 can-leg-in-requires : tie.Need-can-leg-in-requires Inv-loop μ-loop
 can-leg-in-requires c κs =
     let l = c .before .before .before .before .before .before .before .before .loop in
-    (l .inv .whole, c .before .before .before .taken-at .ensures, subst LegsIn (sym (c .before .before .before .before .before .complex-at .ensures)) (legs-in (l .b) (c .before .before .before .before .before .before .before .before .before .before .before .args .i)))
+    (l .inv .whole, c .before .before .before .taken-at .ensures, subst LegsIn (sym (c .before .before .before .before .before .complex-at .ensures)) (legs-in (l .b) (c .before .before .before .before .before .before .before .before .before .before .before .args .i)), l .inv .counts .right (c .before .before .before .before .before .before .before .before .before .before .before .pre .1) .marked .figures)
 
 same-length : tie.Need-same-length Inv-loop μ-loop
 same-length c = c .before .before .before .before .before .before .before .before .before .before .loop .inv .whole ∙ sym (c .before .before .before .before .before .before .before .before .before .before .before .before .before .pre .0)

@@ -35,7 +35,7 @@ in-band-requires : tie.Need-in-band-requires
 in-band-requires c κs =
     let p = c .before .before .before .before .before .before .before .before .before .pre in
     let u = c .before .net-against in
-    (p .0, c .taken-at .ensures, p .2, omega (arith, ap natAbs (back {z = u .result} (record { sfits = u .ok })), u .ensures .1))
+    (p .0, c .taken-at .ensures, p .2, omega (arith, ap natAbs (back {z = u .result} (record { sfits = u .ok })), u .ensures .1), p .1 .marked .figures)
 
 returns-4 : tie.Need-returns-4
 returns-4 c =
@@ -54,7 +54,7 @@ in-band-requires-2 : tie.Need-in-band-requires-2
 in-band-requires-2 c κs =
     let p = c .before .before .before .before .before .before .before .before .before .before .before .before .before .pre in
     let w = c .before .limit-of in
-    (p .0, c .taken-at2 .ensures, p .3, omega (arith, ap natAbs (back {z = w .result} (record { sfits = w .ok })), w .ensures .1))
+    (p .0, c .taken-at2 .ensures, p .3, omega (arith, ap natAbs (back {z = w .result} (record { sfits = w .ok })), w .ensures .1), p .1 .marked .figures)
 
 returns-5 : tie.Need-returns-5
 returns-5 c =

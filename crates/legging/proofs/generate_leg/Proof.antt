@@ -1,5 +1,5 @@
 -- `legging::generate_leg` meets its contract.
-use Rattle.legging.proofs.Making.{made-none, made-alone, made-is, planned-shown}
+use Rattle.legging.proofs.Making.{steps-some, made-none, made-alone, made-is, planned-shown}
 use Rattle.legging.proofs.Testing.{off, on}
 use Rattle.legging.specs.Parts.{madeBy}
 use Rattle.removal.proofs.Removing.{counts-on}
@@ -22,9 +22,9 @@ same-length : tie.Need-same-length
 same-length c = search needs
 
 returns : tie.Need-returns
-returns c = let a = c .before .before .before .before .before .before .args in (
+returns c = let a = c .before .before .before .before .before .before .args in let p = c .before .before .before .before .before .before .pre in (
   does-nothing (venueOf (a .b .now)) (a .out .now) (a .at)
-      ∙ ap (λ (e : Effect). seen (a .out .now) (a .at) does e) (made-none _ (a .c) _ _ (c .before .before .plan-leg .result) (c .before .before .plan-leg .ensures) (c .if1 .taken)),
+      ∙ ap (λ (e : Effect). seen (a .out .now) (a .at) does e) (made-none _ (a .c) _ _ (steps-some _ _ (p .1 .marked .figures) (p .3)) (c .before .before .plan-leg .result) (c .before .before .plan-leg .ensures) (c .if1 .taken)),
   record { regulars = refl; complexes = refl; right = λ h. h },
 )
 
@@ -47,7 +47,7 @@ returns-2 c = let a = c .before .before .before .before .before .before .before 
 )
 
 make-leg-requires : tie.Need-make-leg-requires
-make-leg-requires c κs = let a = c .before .before .before .before .before .before .before .before .before .before .before .before .before .before .args in let p = c .before .before .before .before .before .before .before .before .before .before .before .before .before .before .pre in (search needs, p .3, p .4, planned-shown _ (a .c) _ _ (c .before .before .before .before .before .before .before .before .before .before .plan-leg .result) (c .before .before .before .before .before .before .before .before .before .before .plan-leg .ensures) (c .before .before .before .before .before .before .before .before .if1 .left))
+make-leg-requires c κs = let a = c .before .before .before .before .before .before .before .before .before .before .before .before .before .before .args in let p = c .before .before .before .before .before .before .before .before .before .before .before .before .before .before .pre in let w = c .before .before .before .before .before .others-stand-with .ensures in (search needs, p .3, p .4, rw (w .1 .0) (planned-shown _ (a .c) _ _ (c .before .before .before .before .before .before .before .before .before .before .plan-leg .result) (c .before .before .before .before .before .before .before .before .before .before .plan-leg .ensures) (c .before .before .before .before .before .before .before .before .if1 .left)), w .1 .1 .right (p .1) .marked .figures)
 
 same-length-3 : tie.Need-same-length-3
 same-length-3 c = search needs

@@ -65,7 +65,7 @@ market-open-requires c κs =
     let p4 = c .before .before .before .before in
     let s = p4 .before .before .before .before .before .before .before in
     let x = p4 .complex-at in
-    (s .pre .0, c .taken-at .ensures, complex-in _ _ (x .result) (x .ensures))
+    (s .pre .0, c .taken-at .ensures, complex-in _ _ (x .result) (x .ensures), s .pre .1 .marked .figures)
 
 same-length-3 : tie.Need-same-length-3
 same-length-3 c = search needs

@@ -31,7 +31,7 @@ test-order-requires : tie.Need-test-order-requires
 test-order-requires c κs =
     let p = c .before .before .before .before .before .before .pre in
     let legs : LegsIn (c .before .parent-of .result) = rw (c .before .parent-of .ensures) (parent-legs (c .before .before .before .before .before .before .args .b .now) (c .before .before .before .before .legging-at .result)) in
-    (p .0, sides-right (c .before .before .before .before .before .before .args .g) _ (p .1) (c .before .parent-of .result) legs _ _ (omega arith) (omega arith) (c .sides-of .result) (c .sides-of .ensures), legs)
+    (p .0, sides-right (c .before .before .before .before .before .before .args .g) _ (p .1) (c .before .parent-of .result) legs _ _ (omega arith) (omega arith) (c .sides-of .result) (c .sides-of .ensures), legs, omega arith, p .3)
 
 returns-2 : tie.Need-returns-2
 returns-2 c =

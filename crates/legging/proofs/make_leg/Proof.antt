@@ -6,6 +6,12 @@ use borrow.Author.Needs.{needs}
 use Rattle.legging.proofs.make_leg.Statement.{statement}
 use Rattle.legging.proofs.make_leg.Tie as tie
 
+shown-price-requires : tie.Need-shown-price-requires
+shown-price-requires c κs = search needs
+
+cast-shown : tie.Need-cast-shown
+cast-shown c = search needs
+
 place-of-requires : tie.Need-place-of-requires
 place-of-requires c κs = search needs
 
@@ -15,12 +21,6 @@ remove-at-requires c κs = search needs
 put-legging-requires : tie.Need-put-legging-requires
 unfolding placeOf
 put-legging-requires c κs = search needs
-
-displayed-in-requires : tie.Need-displayed-in-requires
-displayed-in-requires c κs = search needs
-
-cast-shown : tie.Need-cast-shown
-cast-shown c = search needs
 
 emit-generated-requires : tie.Need-emit-generated-requires
 emit-generated-requires c κs = search needs
@@ -32,7 +32,9 @@ same-length-2 : tie.Need-same-length-2
 same-length-2 c = search needs
 
 returns : tie.Need-returns
-returns c = (made-law _ _ _ _ _ (c .before .before .before .before .before .before .before .before .before .before .before .before .before .before .before .before .before .before .before .args .l) _ _ _ _ _ _ _ _ _ (c .before .before .before .before .before .before .before .before .before .before .before .before .before .before .before .before .place-of .ensures) (c .before .before .before .before .displayed-in .ensures) (c .before .before .before .before .before .before .before .before .before .before .before .before .before .remove-at .ensures .0) (c .before .before .before .before .before .before .before .put-legging .ensures .0) (c .before .before .emit-generated .ensures), counts-on _ _ _ (c .before .before .before .before .before .before .before .before .before .before .before .before .before .remove-at .ensures .1) (c .before .before .before .before .before .before .before .put-legging .ensures .1))
+returns c = let put = c .before .before .before .before .before .before .put-legging .ensures in
+    let gone = c .before .before .before .before .before .before .before .before .before .before .before .before .remove-at .ensures in
+    (made-law _ _ _ _ _ (c .before .before .before .before .before .before .before .before .before .before .before .before .before .before .before .before .before .before .before .before .args .l) _ _ _ _ _ _ _ _ _ (c .before .before .before .before .before .before .before .before .before .before .before .before .before .before .before .place-of .ensures) (c .before .before .before .before .before .before .before .before .before .before .before .before .before .before .before .before .shown-price .ensures) (gone .0) (put .0) (c .before .before .emit-generated .ensures), counts-on _ _ _ (gone .1) (put .1))
 
 pub make-leg-spec : {M : Type 1} → statement M
-make-leg-spec = tie.close (tie.spec place-of-requires remove-at-requires put-legging-requires displayed-in-requires cast-shown emit-generated-requires same-length same-length-2 returns)
+make-leg-spec = tie.close (tie.spec shown-price-requires cast-shown place-of-requires remove-at-requires put-legging-requires emit-generated-requires same-length same-length-2 returns)

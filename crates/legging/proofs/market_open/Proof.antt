@@ -22,7 +22,7 @@ limit-of-requires : tie.Need-limit-of-requires
 limit-of-requires c κs = search needs
 
 in-band-requires : tie.Need-in-band-requires
-in-band-requires c κs = let p = c .before .before .before .before .pre in let w = c .limit-of in let q = back {z = w .result} (record { sfits = w .ok }) in (p .0, p .1, p .2, omega (arith, ap natAbs q, w .ensures .1))
+in-band-requires c κs = let p = c .before .before .before .before .pre in let w = c .limit-of in let q = back {z = w .result} (record { sfits = w .ok }) in (p .0, p .1, p .2, omega (arith, ap natAbs q, w .ensures .1), p .3)
 
 returns-2 : tie.Need-returns-2
 unfolding marketOpen

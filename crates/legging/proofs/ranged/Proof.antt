@@ -1,32 +1,33 @@
 -- `legging::ranged` meets its contract.
+use native.Mathlib.Omega.{arith}
 use Rattle.legging.proofs.Making.{ranged-far, ranged-low, ranged-high, ranged-in}
 use borrow.Author.Needs.{needs}
 use Rattle.legging.proofs.ranged.Statement.{statement}
 use Rattle.legging.proofs.ranged.Tie as tie
 
+increment-of-requires : tie.Need-increment-of-requires
+increment-of-requires c κs = search needs
+
 returns : tie.Need-returns
-returns c = ranged-far _ _ _ (c .if1 .taken)
+returns c = let i = c .before .increment-of .ensures in ranged-far _ _ _ _ _ (i .0) (i .1) (omega arith) (c .if1 .taken)
 
 cast-price : tie.Need-cast-price
 cast-price c = search needs
 
-displayed-in-requires : tie.Need-displayed-in-requires
-displayed-in-requires c κs = search needs
-
-increment-of-requires : tie.Need-increment-of-requires
-increment-of-requires c κs = search needs
+displayed-price-requires : tie.Need-displayed-price-requires
+displayed-price-requires c κs = search needs
 
 cast-if2 : tie.Need-cast-if2
 cast-if2 c = search needs
 
 returns-2 : tie.Need-returns-2
-returns-2 c = ranged-low _ _ _ _ _ (c .before .before .displayed-in .ensures) (c .before .increment-of .ensures) (c .if2 .taken)
+returns-2 c = ranged-low _ _ _ _ _ _ (c .before .displayed-price .ensures) (c .before .before .before .increment-of .ensures .0) (c .if2 .taken)
 
 returns-3 : tie.Need-returns-3
-returns-3 c = ranged-high _ _ _ _ _ (c .before .before .before .displayed-in .ensures) (c .before .before .increment-of .ensures) (c .before .if2 .left) (c .if3 .taken)
+returns-3 c = ranged-high _ _ _ _ _ _ (c .before .before .displayed-price .ensures) (c .before .before .before .before .increment-of .ensures .0) (c .before .if2 .left) (c .if3 .taken)
 
 returns-4 : tie.Need-returns-4
-returns-4 c = ranged-in _ _ _ _ _ (c .before .before .before .displayed-in .ensures) (c .before .before .increment-of .ensures) (c .before .if2 .left) (c .if3 .left)
+returns-4 c = ranged-in _ _ _ _ _ _ (c .before .before .displayed-price .ensures) (c .before .before .before .before .increment-of .ensures .0) (c .before .if2 .left) (c .if3 .left)
 
 pub ranged-spec : {M : Type 1} → statement M
-ranged-spec = tie.close (tie.spec returns cast-price displayed-in-requires increment-of-requires cast-if2 returns-2 returns-3 returns-4)
+ranged-spec = tie.close (tie.spec increment-of-requires returns cast-price displayed-price-requires cast-if2 returns-2 returns-3 returns-4)

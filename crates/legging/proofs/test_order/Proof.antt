@@ -27,7 +27,7 @@ in-band-requires c κs =
     let p = c .before .before .before .before .before .pre in
     let w = c .limit-of in
     let q = back {z = w .result} (record { sfits = w .ok }) in
-    (p .0, p .1 .taken, p .2, omega (arith, ap natAbs q, w .ensures .1))
+    (p .0, p .1 .taken, p .2, omega (arith, ap natAbs q, w .ensures .1), p .4)
 
 returns-2 : tie.Need-returns-2
 unfolding verdictOf

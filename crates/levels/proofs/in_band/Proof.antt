@@ -34,16 +34,19 @@ returns-2 c =
 net-of-requires : tie.Need-net-of-requires
 net-of-requires c κs = search needs
 
+figure-at-requires : tie.Need-figure-at-requires
+figure-at-requires c κs = search needs
+
 near-net-requires : tie.Need-near-net-requires
 near-net-requires c κs = search needs
 
 returns-3 : tie.Need-returns-3
 returns-3 c =
-    let a = c .before .before .before .before .before .before .before .before .before .before .before .args in
-    let u = c .before .net-of in
-    band-near _ (a .c) _ _ (c .before .before .before .before .before .before .before .market-best .ensures) (c .before .before .before .before .before .before .before .before .opposite-of .ensures) (c .before .before .before .before .before .before .if1 .left) _ _
-    (c .before .before .before .market-best2 .ensures) (c .before .before .before .before .opposite-of2 .ensures) (c .before .before .if2 .left) _ _ _ _
-    (back {z = u .result} (record { sfits = u .ok }) ∙ u .ensures .0) (back {z = a .t} (c .before .before .before .before .before .before .before .before .before .before .before .fits .t)) (c .near-net .ensures)
+    let a = c .before .before .before .before .before .before .before .before .before .before .before .before .args in
+    let u = c .before .before .net-of in
+    band-near _ (a .c) _ _ (c .before .before .before .before .before .before .before .before .market-best .ensures) (c .before .before .before .before .before .before .before .before .before .opposite-of .ensures) (c .before .before .before .before .before .before .before .if1 .left) _ _
+    (c .before .before .before .before .market-best2 .ensures) (c .before .before .before .before .before .opposite-of2 .ensures) (c .before .before .before .if2 .left) _ _ _ _ _ (c .before .figure-at .ensures)
+    (back {z = u .result} (record { sfits = u .ok }) ∙ u .ensures .0) (back {z = a .t} (c .before .before .before .before .before .before .before .before .before .before .before .before .fits .t)) (c .near-net .ensures)
 
 pub in-band-spec : {M : Type 1} → statement M
 in-band-spec =
@@ -56,5 +59,6 @@ in-band-spec =
     market-best-requires-2
     returns-2
     net-of-requires
+    figure-at-requires
     near-net-requires
     returns-3)
