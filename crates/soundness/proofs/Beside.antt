@@ -14,18 +14,20 @@ use Rattle.rules.specs.declared.Legging.{Legging}
 use Rattle.rules.specs.declared.Venue.{Venue}
 use Rattle.rules.specs.Base.{if_then_else_, held, all}
 use Rattle.rules.specs.Words.{noRegular, isId, isPrice, isQuantity}
+use Rattle.rules.specs.Settings.{increment}
 use Rattle.rules.specs.Prices.{bestOwn}
+use Rattle.rules.specs.Refusals.{onIncrement}
 use Rattle.rules.specs.Standing.{hasLeg, parentOf, verdict, stands}
 use Rattle.rules.specs.Complex.{restsComplex, complexPlace}
 use Rattle.rules.specs.Places.{blankLegging}
-use Rattle.rules.specs.Sound.{apart, leggingSound, leggingsSound, idsDistinct}
+use Rattle.rules.specs.Sound.{apart, leggingSound, leggingsSound, idsDistinct, follows}
 use Rattle.wire.proofs.Decoding.{inside, within-top}
-use Rattle.places.specs.Layout.{upto, inUse, regularIn, regularsUsed, leggingIn, venueOf}
+use Rattle.places.specs.Layout.{upto, inUse, regularIn, regularsUsed, leggingIn, editionIn, venueOf}
 use Rattle.levels.proofs.Scans.{upto-on, upto-end}
 use Rattle.book.specs.declared.Found.{Found}
 use Rattle.book.specs.declared.Found.the-variants.{At, Nothing}
 use Rattle.book.specs.Picks.{complexFound}
-use Rattle.soundness.specs.Checked.{isAlone, eight, leggingInRange, hasHome}
+use Rattle.soundness.specs.Checked.{pricedOn, onIncrements, isAlone, eight, leggingInRange, hasHome}
 use Rattle.soundness.proofs.Passes.{all-past, all-stop, all-none}
 
 -- A pass over numbered places -----------------------------------------------------------------
@@ -46,6 +48,32 @@ unfolding all
 all-free f none h [] zero = refl
 all-free f none h [] (suc k) = rw h (all-free f none h [] k)
 all-free f none h (x ∷ l) k = ap (λ (t : Bool). f x && t) (all-free f none h l k)
+
+regulars-are : (b : List ℕ) → venueOf b .regular ≡ upto (regularIn b) 0 (regularsUsed b) ++ replicate (128 - regularsUsed b) noRegular
+unfolding venueOf inUse
+regulars-are b = refl
+
+-- a pass over the regular places in use is one over all
+regulars-scan : (b : List ℕ) (f : Regular → Bool) → f noRegular ≡ true → all f (upto (regularIn b) 0 (regularsUsed b)) ≡ all f (venueOf b .regular)
+regulars-scan b f h = sym (all-free f noRegular h (upto (regularIn b) 0 (regularsUsed b)) (128 - regularsUsed b)) ∙ ap (all f) (sym (regulars-are b))
+
+-- Prices --------------------------------------------------------------------------------------
+
+pub series-in : (b : List ℕ) (i : ℕ) → regularIn b i .series < 8
+unfolding regularIn
+series-in b i = omega arith
+
+pub priced-free : (v : Venue) (o : Regular) → o .quantity ≡ 0 → true ≡ pricedOn v o
+unfolding pricedOn
+priced-free v o h = rw (eq-eqb (o .quantity) 0 h)
+
+pub priced-held : (v : Venue) (o : Regular) (x : ℕ) → (o .quantity ≡ 0 → ⊥) → x ≡ increment v (o .series) → eqb (o .price % x) 0 ≡ pricedOn v o
+unfolding pricedOn onIncrement
+priced-held v o x h e = rw (ne-eqb (o .quantity) 0 h, e)
+
+pub prices-scan : (b : List ℕ) → all (pricedOn (venueOf b)) (upto (regularIn b) 0 (regularsUsed b)) ≡ onIncrements (venueOf b)
+unfolding onIncrements
+prices-scan b = regulars-scan b (pricedOn (venueOf b)) (sym (priced-free (venueOf b) noRegular refl))
 
 -- Ids -----------------------------------------------------------------------------------------
 
@@ -74,19 +102,12 @@ module _ (v : Venue) (o : Regular) (h : o .quantity ≡ 0 → ⊥) (r : Found) (
       go true w z = sym (alone-held ∙ ap not w)
       go false w z = let y : _≡_ {A = ℕ} 0 1 = cc in absurd (omega arith)
 
-regulars-are : (b : List ℕ) → venueOf b .regular ≡ upto (regularIn b) 0 (regularsUsed b) ++ replicate (128 - regularsUsed b) noRegular
-unfolding venueOf inUse
-regulars-are b = refl
-
 distinct-is : (v : Venue) → all (isAlone v) (v .regular) ≡ idsDistinct v
 unfolding idsDistinct isAlone
 distinct-is v = refl
 
 pub ids-scan : (b : List ℕ) → all (isAlone (venueOf b)) (upto (regularIn b) 0 (regularsUsed b)) ≡ idsDistinct (venueOf b)
-ids-scan b =
-    sym (all-free (isAlone (venueOf b)) noRegular (sym (alone-free (venueOf b) noRegular refl)) (upto (regularIn b) 0 (regularsUsed b)) (128 - regularsUsed b))
-    ∙ ap (all (isAlone (venueOf b))) (sym (regulars-are b))
-    ∙ distinct-is (venueOf b)
+ids-scan b = regulars-scan b (isAlone (venueOf b)) (sym (alone-free (venueOf b) noRegular refl)) ∙ distinct-is (venueOf b)
 
 -- Series --------------------------------------------------------------------------------------
 
@@ -108,6 +129,12 @@ module _ (v : Venue) (s x y : ℕ) (e : x ≡ bestOwn v s 0) (q : y ≡ bestOwn 
 pub series-scan : (f : ℕ → Bool) → all f (upto (λ (n : ℕ). n) 0 (8 - 0)) ≡ all f eight
 unfolding upto
 series-scan f = refl
+
+-- Editions ------------------------------------------------------------------------------------
+
+pub follows-scan : (b : List ℕ) (number : ℕ) → all (λ e. ltb (e .message) number) (upto (editionIn b) 0 (32 - 0)) ≡ follows number (venueOf b)
+unfolding follows venueOf
+follows-scan b number = refl
 
 -- Legging orders ------------------------------------------------------------------------------
 

@@ -1,6 +1,6 @@
 -- Laws of a pass over a list: every element passes a test, and the test of the arrangement.
-use mathlib.Core.Path.{_≡_, sym, ap, _∙_}
-use mathlib.Core.Bool.{Bool, true, false, _&&_, true≢false}
+use mathlib.Core.Path.{_≡_, refl, sym, ap, ap₂, _∙_}
+use mathlib.Core.Bool.{Bool, true, false, not, _&&_, _||_, true≢false}
 use mathlib.Core.List.{List, [], _∷_}
 use Prim.Native.Nat.{ℕ, suc, _+_, _≤_, _<_}
 use native.Mathlib.Omega.{arith}
@@ -14,8 +14,14 @@ use lib.Seq.{drop-cons}
 use Rattle.rules.specs.Base.{if_then_else_, all}
 use Rattle.rules.specs.declared.Regular.{Regular}
 use Rattle.rules.specs.declared.Complex.{Complex}
-use Rattle.rules.specs.Places.{blankRegular, blankComplex, arranged}
-use Rattle.rules.proofs.Tests.{and-false}
+use Rattle.rules.specs.declared.Edition.{Edition}
+use Rattle.rules.specs.Words.{noEdition}
+use Rattle.rules.specs.Settings.{isIncrement, isPercent, isEdition}
+use Rattle.rules.specs.Places.{holdsEdition, blankRegular, blankComplex, blankEdition, arranged}
+use Rattle.rules.specs.Sound.{figureInRange, editionInRange}
+use Rattle.rules.proofs.Tests.{and-l, and-r, and-in, and-true, and-false}
+use Rattle.wire.proofs.Decoding.{inside, within-top}
+use Rattle.soundness.specs.Checked.{editionsFrom}
 
 drop-on : {A : Type 0} (l : List A) (d : A) (i : ℕ) → i < length l → drop i l ≡ getD l i d ∷ drop (i + 1) l
 drop-on l d i h = drop-cons l i d h ∙ ap (λ (k : ℕ). getD l i d ∷ drop k l) (sym (add-one i))
@@ -79,15 +85,105 @@ module _ {A : Type 0} (holds asked blank : A → Bool) (id : A → ℕ) (d : A) 
           arranged holds asked blank id (id (getD l i d)) (drop (i + 1) l) ≡ arranged holds asked blank id low (drop i l)
       arranged-past q a = sym (arranged-on ∙ rw (h, lt-ltb low (id (getD l i d)) q, a))
 
+-- one more test of held places, apart from the arrangement
+module _ {A : Type 0} (holds asked also both blank : A → Bool) (id : A → ℕ) (free : (x : A) → blank x ≡ true → holds x ≡ false)
+    (same : (x : A) → both x ≡ (asked x && also x)) where
+  -- the test, passed by a free place
+  abbrev passes : A → Bool
+  passes x = not (holds x) || also x
+
+  blanks-pass : (l : List A) → all blank l ≡ true → all passes l ≡ true
+  unfolding all
+  blanks-pass [] h = refl
+  blanks-pass (x ∷ l) h = and-in (passes x) (all passes l) (rw (free x (and-l (blank x) (all blank l) h))) (blanks-pass l (and-r (blank x) (all blank l) h))
+
+  absorbs : (p q : Bool) → (p ≡ true → q ≡ true) → p ≡ (p && q)
+  absorbs true q h = sym (h refl)
+  absorbs false q h = refl
+
+  moved : (t a s r q : Bool) → (t && (a && s) && (r && q)) ≡ ((t && a && r) && (s && q))
+  moved true true true r q = refl
+  moved true true false true q = refl
+  moved true true false false q = refl
+  moved true false s r q = refl
+  moved false a s r q = refl
+
+  pub arranged-split : (low : ℕ) (l : List A) → arranged holds both blank id low l ≡ (arranged holds asked blank id low l && all passes l)
+  unfolding arranged all
+  arranged-split low [] = refl
+  arranged-split low (x ∷ l) = go (holds x) refl (arranged-split (id x) l)
+    where
+      go : (h : Bool) → holds x ≡ h → arranged holds both blank id (id x) l ≡ (arranged holds asked blank id (id x) l && all passes l) →
+          (if h then ltb low (id x) && both x && arranged holds both blank id (id x) l else blank x && all blank l) ≡
+          ((if h then ltb low (id x) && asked x && arranged holds asked blank id (id x) l else blank x && all blank l) && ((not h || also x) && all passes l))
+      go true e ih = rw (same x, ih) (moved (ltb low (id x)) (asked x) (also x) (arranged holds asked blank id (id x) l) (all passes l))
+      go false e ih = absorbs (blank x && all blank l) (all passes l) (λ h. blanks-pass l (and-r (blank x) (all blank l) h))
+
 -- what is asked of a held place
 pub out-of-range : (a b : Bool) → a ≡ false → (a && b) ≡ false
 out-of-range a b h = rw h
 
+pub out-of-last : (a b : Bool) → b ≡ false → (a && b) ≡ false
+out-of-last a b h = rw h (and-false a)
+
 pub above-last : (a : Bool) (x last : ℕ) → last < x → (a && leb x last) ≡ false
-above-last a x last h = rw (lt-leb x last h) (and-false a)
+above-last a x last h = out-of-last a (leb x last) (lt-leb x last h)
 
 pub in-range : (a : Bool) (x last : ℕ) → a ≡ true → x ≤ last → (a && leb x last) ≡ true
 in-range a x last h q = rw (h, le-leb x last q)
+
+-- Editions, arranged in both numbers ----------------------------------------------------------
+
+and-same : (a : Bool) → a ≡ (a && a)
+and-same true = refl
+and-same false = refl
+
+module _ (l : List Edition) (low past i : ℕ) where
+  pub editions-none : length l ≤ i → true ≡ editionsFrom low past (drop i l)
+  unfolding editionsFrom
+  editions-none le = ap₂ (λ (a b : Bool). a && b) (arranged-none holdsEdition editionInRange blankEdition (λ e. e .edition) noEdition l low i le) (arranged-none holdsEdition (λ _. true) blankEdition (λ e. e .message) noEdition l past i le)
+
+  module _ (lt : i < length l) where
+    pub editions-free : holdsEdition (getD l i noEdition) ≡ false → all blankEdition (drop i l) ≡ editionsFrom low past (drop i l)
+    unfolding editionsFrom
+    editions-free h = and-same _ ∙ ap₂ (λ (a b : Bool). a && b) (arranged-free holdsEdition editionInRange blankEdition (λ e. e .edition) noEdition l low i lt h) (arranged-free holdsEdition (λ _. true) blankEdition (λ e. e .message) noEdition l past i lt h)
+
+    module _ (h : holdsEdition (getD l i noEdition) ≡ true) where
+      pub editions-low : getD l i noEdition .edition ≤ low → false ≡ editionsFrom low past (drop i l)
+      unfolding editionsFrom
+      editions-low q = rw (sym (arranged-low holdsEdition editionInRange blankEdition (λ e. e .edition) noEdition l low i lt h q))
+
+      pub editions-late : getD l i noEdition .message ≤ past → false ≡ editionsFrom low past (drop i l)
+      unfolding editionsFrom
+      editions-late q = rw (sym (arranged-low holdsEdition (λ _. true) blankEdition (λ e. e .message) noEdition l past i lt h q)) (sym (and-false (arranged holdsEdition editionInRange blankEdition (λ e. e .edition) low (drop i l))))
+
+      pub editions-out : editionInRange (getD l i noEdition) ≡ false → false ≡ editionsFrom low past (drop i l)
+      unfolding editionsFrom
+      editions-out q = rw (sym (arranged-out-of holdsEdition editionInRange blankEdition (λ e. e .edition) noEdition l low i lt h q))
+
+      pub editions-past : low < getD l i noEdition .edition → past < getD l i noEdition .message → editionInRange (getD l i noEdition) ≡ true →
+          editionsFrom (getD l i noEdition .edition) (getD l i noEdition .message) (drop (i + 1) l) ≡ editionsFrom low past (drop i l)
+      unfolding editionsFrom
+      editions-past q k a = ap₂ (λ (a b : Bool). a && b) (arranged-past holdsEdition editionInRange blankEdition (λ e. e .edition) noEdition l low i lt h q a) (arranged-past holdsEdition (λ _. true) blankEdition (λ e. e .message) noEdition l past i lt h k refl)
+
+-- the figure that it sets
+module _ (e : Edition) where
+  pub figure-increment : e .figure ≤ 7 → isIncrement (e .value) ≡ figureInRange e
+  unfolding figureInRange
+  figure-increment h = rw (le-leb (e .figure) 7 h)
+
+  pub figure-none : 7 < e .figure → (e .figure ≡ 8 → ⊥) → false ≡ figureInRange e
+  unfolding figureInRange
+  figure-none h q = rw (lt-leb (e .figure) 7 h, ne-eqb (e .figure) 8 q)
+
+  pub figure-percent : e .figure ≡ 8 → leb (e .value) 50 ≡ figureInRange e
+  unfolding figureInRange isPercent
+  figure-percent h = rw h (within-top 0 50 (e .value) (omega arith))
+
+-- its numbers are in range
+pub edition-range : (e : Edition) → e .edition ≤ 4294967295 → e .message ≤ 4294967295 → figureInRange e ≡ editionInRange e
+unfolding editionInRange isEdition
+edition-range e a b = rw (inside 0 4294967295 (e .edition) (omega arith) a, le-leb (e .message) 4294967295 b) (sym (and-true _ ∙ and-true _))
 
 -- A limit of zero -----------------------------------------------------------------------------
 
@@ -108,6 +204,10 @@ none-beside (negsuc n) g h = absurd (true≢false g)
 pub regular-zero : (o : Regular) → o .id ≡ 0 → o .series ≡ 0 → o .side ≡ 0 → o .price ≡ 0 → eqb (o .quantity) 0 ≡ blankRegular o
 unfolding blankRegular
 regular-zero o a b c d = rw (eq-eqb (o .id) 0 a, eq-eqb (o .series) 0 b, eq-eqb (o .side) 0 c, eq-eqb (o .price) 0 d)
+
+pub edition-zero : (e : Edition) → e .edition ≡ 0 → e .message ≡ 0 → e .figure ≡ 0 → eqb (e .value) 0 ≡ blankEdition e
+unfolding blankEdition
+edition-zero e a b c = rw (eq-eqb (e .edition) 0 a, eq-eqb (e .message) 0 b, eq-eqb (e .figure) 0 c)
 
 pub complex-zero : (c : Complex) → c .id ≡ 0 → c .series1 ≡ 0 → c .side1 ≡ 0 → c .series2 ≡ 0 → c .side2 ≡ 0 → c .class ≡ 0 → eqb (natAbs (c .limit)) 0 ≡ true →
     eqb (c .quantity) 0 ≡ blankComplex c

@@ -7,14 +7,15 @@ use lib.Dec.{leb}
 use Rattle.rules.specs.declared.Regular.{Regular}
 use Rattle.rules.specs.declared.Complex.{Complex}
 use Rattle.rules.specs.declared.Legging.{Legging}
+use Rattle.rules.specs.declared.Edition.{Edition}
 use Rattle.rules.specs.declared.Venue.{Venue}
 use Rattle.rules.specs.Base.{held, all}
 use Rattle.rules.specs.Words.{isId, isPrice, isQuantity}
 use Rattle.rules.specs.Standing.{hasLeg, parentOf}
-use Rattle.rules.specs.Places.{holdsRegular, holdsComplex, blankRegular, blankComplex, arranged}
-use Rattle.rules.specs.Refusals.{regularInRange, complexInRange}
+use Rattle.rules.specs.Places.{holdsRegular, holdsComplex, holdsEdition, blankRegular, blankComplex, blankEdition, arranged}
+use Rattle.rules.specs.Refusals.{regularInRange, onIncrement, complexInRange}
 use Rattle.rules.specs.Complex.{restsComplex}
-use Rattle.rules.specs.Sound.{apart, listedInRange, leggingsSound, regularsSound, complexesSound, idsDistinct, sound}
+use Rattle.rules.specs.Sound.{apart, listedInRange, leggingsSound, complexesSound, idsDistinct, editionInRange, editionsSound, sound}
 use Rattle.places.specs.Layout.{Loaded}
 
 -- in range, with an id of at most `last`
@@ -31,9 +32,22 @@ regularsFrom last low l = arranged holdsRegular (askedRegular last) blankRegular
 unfoldable pub complexesFrom : (last low : ℕ) → List Complex → Bool
 complexesFrom last low l = arranged holdsComplex (askedComplex last) blankComplex (λ c. c .id) low l
 
--- what is asked of each place by itself: it makes a venue loadable
+-- the places of the editions, with editions above `low` and message numbers above `past`
+unfoldable pub editionsFrom : (low past : ℕ) → List Edition → Bool
+editionsFrom low past l =
+    arranged holdsEdition editionInRange blankEdition (λ e. e .edition) low l
+    && arranged holdsEdition (λ _. true) blankEdition (λ e. e .message) past l
+
+-- what is asked of each place by itself, but for the increments: it makes a venue loadable
 unfoldable pub placesSound : Venue → Bool
-placesSound v = regularsSound v && complexesSound v && all listedInRange (v .series)
+placesSound v = regularsFrom (v .last) 0 (v .regular) && complexesSound v && all listedInRange (v .series) && editionsSound v
+
+-- a regular order, where it rests, has a price on the increment in force
+unfoldable pub pricedOn : Venue → Regular → Bool
+pricedOn v o = not (held (o .quantity)) || onIncrement v o
+
+unfoldable pub onIncrements : Venue → Bool
+onIncrements v = all (pricedOn v) (v .regular)
 
 -- a regular order, where it rests, has its id alone
 unfoldable pub isAlone : Venue → Regular → Bool
@@ -51,9 +65,9 @@ leggingInRange l = isId (l .parent) && isPrice (l .price) && isQuantity (l .quan
 unfoldable pub hasHome : Venue → Legging → (series side : ℕ) → Bool
 hasHome v l s d = hasLeg (parentOf v l) s d && leb (l .quantity) (parentOf v l .quantity)
 
--- what is asked of the last id, and of orders beside one another
+-- what is asked of the last id, of prices beside the increments, and of orders beside one another
 unfoldable pub ordersSound : Venue → Bool
-ordersSound v = leb (v .last) 4294967295 && idsDistinct v && all (apart v) eight && leggingsSound v 0 (v .legging)
+ordersSound v = leb (v .last) 4294967295 && onIncrements v && idsDistinct v && all (apart v) eight && leggingsSound v 0 (v .legging)
 
 -- r tells whether v is sound; where it is, b stands for it
 pub record Checked (v : Venue) (r : Bool) (b : List ℕ) : Type 0 where

@@ -2,6 +2,7 @@
 use book::Found;
 use places::Level;
 use rules::Complex;
+use rules::Edition;
 use rules::Legging;
 use rules::Listed;
 use rules::Regular;
@@ -13,12 +14,12 @@ ghost use mathlib.Core.Bool.{_&&_};
 ghost use lib.Dec.{eqb};
 ghost use lib.ListN.{length, drop};
 ghost use Rattle.rules.specs.Base.{all};
-ghost use Rattle.rules.specs.Places.{blankRegular, blankComplex, blankLegging};
+ghost use Rattle.rules.specs.Places.{blankRegular, blankComplex, blankEdition, blankLegging};
 ghost use Rattle.rules.specs.Standing.{hasLeg};
-ghost use Rattle.rules.specs.Sound.{apart, listedInRange, leggingSound, leggingsSound, idsDistinct};
-ghost use Rattle.places.specs.Layout.{size, leggingIn, venueOf, Right};
+ghost use Rattle.rules.specs.Sound.{apart, listedInRange, leggingSound, leggingsSound, idsDistinct, editionInRange, follows};
+ghost use Rattle.places.specs.Layout.{size, leggingIn, venueOf, Figured, Right};
 ghost use Rattle.levels.specs.Grid.{GridOf};
-ghost use Rattle.soundness.specs.Checked.{regularsFrom, complexesFrom, placesSound, isAlone, eight, leggingInRange, hasHome, ordersSound, Checked};
+ghost use Rattle.soundness.specs.Checked.{regularsFrom, complexesFrom, editionsFrom, placesSound, pricedOn, onIncrements, isAlone, eight, leggingInRange, hasHome, ordersSound, Checked};
 
 // Places by themselves ------------------------------------------------------------------------
 
@@ -180,7 +181,78 @@ fn series_sound(l: [Listed; 8]) -> bool
     true
 }
 
-// Every place by itself is sound, and both books are arranged.
+// An edition place that is all zero.
+fn blank_edition(e: Edition) -> bool
+    ensures { λ r. ⌜ r ≡ blankEdition e ⌝ }
+{
+    if e.edition != 0 {
+        return false;
+    }
+    if e.message != 0 {
+        return false;
+    }
+    if e.figure != 0 {
+        return false;
+    }
+    e.value == 0
+}
+
+fn editions_blank(l: [Edition; 32], from: usize) -> bool
+    ensures { λ r. ⌜ r ≡ all blankEdition (drop from l) ⌝ }
+{
+    let mut i = from;
+    while i < 32 {
+        let e = l[i];
+        if !blank_edition(e) {
+            return false;
+        }
+        i += 1;
+    }
+    true
+}
+
+// A held edition sets an increment or the percent, to a value in its range; any u32 is an edition, and a message's number.
+fn edition_in_range(e: Edition) -> bool
+    ensures { λ r. ⌜ r ≡ editionInRange e ⌝ }
+{
+    if e.figure <= 7 {
+        return wire::is_increment(e.value);
+    }
+    if e.figure != 8 {
+        return false;
+    }
+    e.value <= 50
+}
+
+// Held places come first, in range, and rise in both numbers; then places that are all zero.
+fn editions_sound(l: [Edition; 32]) -> bool
+    ensures { λ r. ⌜ r ≡ editionsFrom 0 0 l ⌝ }
+{
+    let mut low: u32 = 0;
+    let mut past: u32 = 0;
+    let mut i: usize = 0;
+    while i < 32 {
+        let e = l[i];
+        if e.edition == 0 {
+            return editions_blank(l, i);
+        }
+        if e.edition <= low {
+            return false;
+        }
+        if e.message <= past {
+            return false;
+        }
+        if !edition_in_range(e) {
+            return false;
+        }
+        low = e.edition;
+        past = e.message;
+        i += 1;
+    }
+    true
+}
+
+// Every place by itself is sound but for the increments, and books and editions are arranged.
 fn places_sound(v: Venue) -> bool
     ensures { λ r. ⌜ r ≡ placesSound v ⌝ }
 {
@@ -193,10 +265,42 @@ fn places_sound(v: Venue) -> bool
         return false;
     }
     let series = v.series;
-    series_sound(series)
+    if !series_sound(series) {
+        return false;
+    }
+    let editions = v.editions;
+    editions_sound(editions)
 }
 
 // Orders beside one another -------------------------------------------------------------------
+
+// A regular order, where it rests, has a price on the increment in force.
+fn on_increment(b: &[u32], o: Regular) -> bool
+    requires { ⌜ (length (now b) ≡ size) × (o .series < 8) × (Figured (now b)) ⌝ }
+    ensures { λ r. ⌜ r ≡ pricedOn (venueOf (now (b .entry))) o ⌝ }
+{
+    if o.quantity == 0 {
+        return true;
+    }
+    let increment = levels::increment_of(b, o.series);
+    o.price % (increment as u32) == 0
+}
+
+fn on_increments(b: &[u32]) -> bool
+    requires { ⌜ (length (now b) ≡ size) × (Figured (now b)) ⌝ }
+    ensures { λ r. ⌜ r ≡ onIncrements (venueOf (now (b .entry))) ⌝ }
+{
+    let n = places::regulars_used(b);
+    let mut i: usize = 0;
+    while i < n {
+        let o = places::regular_at(b, i);
+        if !on_increment(b, o) {
+            return false;
+        }
+        i += 1;
+    }
+    true
+}
 
 // A regular order, where it rests, has its id alone.
 fn is_alone(b: &[u32], o: Regular) -> bool
@@ -325,7 +429,7 @@ fn has_home(b: &[u32], l: Legging, s: u8, d: u8) -> bool
 
 // What stands at a legging place is sound.
 fn legging_sound(b: &[u32], g: [[Level; 2]; 8], n: usize) -> bool
-    requires { ⌜ (length (now b) ≡ size) × (GridOf g (venueOf (now b) .regular)) × (n < 16) ⌝ }
+    requires { ⌜ (length (now b) ≡ size) × (GridOf g (venueOf (now b) .regular)) × (n < 16) × (Figured (now b)) ⌝ }
     ensures { λ r. ⌜ r ≡ leggingSound (venueOf (now (b .entry))) n (leggingIn (now (b .entry)) n) ⌝ }
 {
     let l = places::legging_at(b, n);
@@ -345,7 +449,7 @@ fn legging_sound(b: &[u32], g: [[Level; 2]; 8], n: usize) -> bool
 }
 
 fn leggings_sound(b: &[u32], g: [[Level; 2]; 8]) -> bool
-    requires { ⌜ (length (now b) ≡ size) × (GridOf g (venueOf (now b) .regular)) ⌝ }
+    requires { ⌜ (length (now b) ≡ size) × (GridOf g (venueOf (now b) .regular)) × (Figured (now b)) ⌝ }
     ensures { λ r. ⌜ r ≡ leggingsSound (venueOf (now (b .entry))) 0 (venueOf (now (b .entry)) .legging) ⌝ }
 {
     let mut n: usize = 0;
@@ -358,11 +462,14 @@ fn leggings_sound(b: &[u32], g: [[Level; 2]; 8]) -> bool
     true
 }
 
-// Ids are distinct, no series is locked or crossed, and each legging order is sound.
+// Prices are on the increments, ids are distinct, no series is locked or crossed, and each legging order is sound.
 fn orders_sound(b: &[u32]) -> bool
     requires { ⌜ (length (now b) ≡ size) × (Right (now b)) ⌝ }
     ensures { λ r. ⌜ r ≡ ordersSound (venueOf (now (b .entry))) ⌝ }
 {
+    if !on_increments(b) {
+        return false;
+    }
     if !ids_distinct(b) {
         return false;
     }
@@ -383,4 +490,20 @@ pub fn load_sound(b: &mut [u32], v: Venue) -> bool
     }
     levels::load(b, v);
     orders_sound(b)
+}
+
+// A message's number is above that of each edition kept.
+pub fn follows_editions(b: &[u32], number: u32) -> bool
+    requires { ⌜ length (now b) ≡ size ⌝ }
+    ensures { λ r. ⌜ r ≡ follows number (venueOf (now (b .entry))) ⌝ }
+{
+    let mut i: usize = 0;
+    while i < 32 {
+        let e = places::edition_at(b, i);
+        if number <= e.message {
+            return false;
+        }
+        i += 1;
+    }
+    true
 }

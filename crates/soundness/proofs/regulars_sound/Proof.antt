@@ -42,7 +42,7 @@ returns c = let n : length (c .before .before .before .before .before .before .a
 returns-2 : tie.Need-returns-2 Inv-loop μ-loop
 unfolding regularsFrom
 returns-2 c = let n : length (c .before .before .before .before .before .before .before .args .t1) ≡ 128 = search needs in
-    arranged-low holdsRegular (askedRegular (c .before .before .before .before .before .before .before .args .last)) blankRegular (λ x. x .id) noRegular (c .before .before .before .before .before .before .before .args .t1) (c .before .before .before .before .before .before .loop .low) (c .before .before .before .before .before .before .loop .i) (omega arith) (ap not (ne-eqb _ _ (c .before .before .if1 .left))) (c .if2 .taken)
+    arranged-low holdsRegular (askedRegular (c .before .before .before .before .before .before .before .args .last)) blankRegular (λ x. x .id) noRegular (c .before .before .before .before .before .before .before .args .t1) (c .before .before .before .before .before .before .loop .low) (c .before .before .before .before .before .before .loop .i) (omega arith) (ap not (ne-eqb _ _ (c .before .before .if1 .left))) (omega arith)
     ∙ c .before .before .before .before .before .before .loop .inv
 
 regular-in-range-requires : tie.Need-regular-in-range-requires Inv-loop μ-loop
