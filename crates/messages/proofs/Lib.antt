@@ -1,3 +1,4 @@
 pub mod Refusing
+pub mod Entering
 pub mod Stepping
 pub mod Trying

@@ -1,6 +1,6 @@
 -- A message upon the venue of a slice: what an accepted one has passed, its effects and closing, and its answer set last.
 use mathlib.Core.Path.{_≡_, refl, sym, ap, ap₂, subst, _∙_}
-use mathlib.Core.Bool.{Bool, true, false, _||_}
+use mathlib.Core.Bool.{Bool, true, false, _&&_, _||_}
 use mathlib.Core.List.{List, [], _∷_}
 use Prim.Native.Nat.{ℕ, _<_}
 use native.Mathlib.Omega.{arith}
@@ -12,18 +12,19 @@ use Rattle.rules.specs.declared.Regular.{Regular}
 use Rattle.rules.specs.declared.Complex.{Complex}
 use Rattle.rules.specs.declared.Venue.{Venue}
 use Rattle.rules.specs.declared.Message.{Message}
-use Rattle.rules.specs.declared.Message.the-variants.{Order, TwoLeg, Cancel}
+use Rattle.rules.specs.declared.Message.the-variants.{Order, TwoLeg, Cancel, Increment, Percent}
 use Rattle.rules.specs.declared.Decoded.{Decoded}
 use Rattle.rules.specs.declared.Decoded.the-variants.{Taken, Refused}
 use Rattle.rules.specs.Base.{if_then_else_}
 use Rattle.rules.specs.Words.{withLast, noRegular}
+use Rattle.rules.specs.Settings.{freeEdition}
 use Rattle.rules.specs.Messages.{messageOf}
 use Rattle.rules.specs.Records.{answer}
 use Rattle.rules.specs.Effects.{Effect, nothing}
 use Rattle.rules.specs.Trading.{freeRegular, freeComplex}
 use Rattle.rules.specs.Complex.{restsRegular, restsComplex}
 use Rattle.rules.specs.Places.{closeGaps, holdsRegular, blankRegular}
-use Rattle.rules.specs.Refusals.{regularInRange, inRange, decoded, idTooLow, full, unknown, refusalOf, refusal}
+use Rattle.rules.specs.Refusals.{regularInRange, inRange, decoded, onIncrement, noEditionLeft, idTooLow, full, unknown, refusalOf, refusal}
 use Rattle.rules.specs.Sound.{regularsSound, sound}
 use Rattle.rules.specs.Step.{perform, accept, mask, StepOutcome, answered, step}
 use Rattle.rules.proofs.Tests.{and-l, and-r}
@@ -41,29 +42,45 @@ use Rattle.messages.specs.Steps.{answeredBy, Steps}
 
 -- What a message that is not refused has passed -----------------------------------------------
 
-module _ (v : Venue) (m : Message) (e : refusalOf v m ≡ 0) where
-  passed : (full v m ≡ false) × (unknown v m ≡ false)
-  passed = refusalOf-by (λ x. x ≡ 0 → (full v m ≡ false) × (unknown v m ≡ false)) v m
-      (λ h. absurd (omega arith)) (λ h. absurd (omega arith)) (λ h. absurd (omega arith)) (λ h. absurd (omega arith)) (λ _ _ c d _. (c, d)) e
+record Passes (v : Venue) (m : Message) : Type 0 where
+  place : noEditionLeft v m ≡ false
+  fresh : idTooLow v m ≡ false
+  room : full v m ≡ false
+  known : unknown v m ≡ false
+
+passed : (v : Venue) (m : Message) → refusalOf v m ≡ 0 → Passes v m
+passed v m = refusalOf-by (λ x. x ≡ 0 → Passes v m) v m
+    (λ h. absurd (omega arith)) (λ h. absurd (omega arith)) (λ h. absurd (omega arith)) (λ h. absurd (omega arith))
+    (λ h. absurd (omega arith)) (λ h. absurd (omega arith)) (λ h. absurd (omega arith)) (λ h. absurd (omega arith))
+    (λ _ _ _ z a _ c d _. record { place = z; fresh = a; room = c; known = d })
 
 module _ (b : List ℕ) (d : Dense b) where
   pub order-room : (o : Regular) → refusalOf (venueOf b) (Order o) ≡ 0 → regularsUsed b < 128
   unfolding full
   order-room o e =
-      let h = leb-false 128 (freeRegular (venueOf b)) (passed (venueOf b) (Order o) e .0) in
+      let h = leb-false 128 (freeRegular (venueOf b)) (passed (venueOf b) (Order o) e .room) in
       let f = dense-regular b d in
       omega arith
 
   pub complex-room : (c : Complex) → refusalOf (venueOf b) (TwoLeg c) ≡ 0 → complexesUsed b < 32
   unfolding full
   complex-room c e =
-      let h = leb-false 32 (freeComplex (venueOf b)) (passed (venueOf b) (TwoLeg c) e .0) in
+      let h = leb-false 32 (freeComplex (venueOf b)) (passed (venueOf b) (TwoLeg c) e .room) in
       let f = dense-complex b d in
       omega arith
 
 pub cancel-known : (v : Venue) (id : ℕ) → refusalOf v (Cancel id) ≡ 0 → (restsRegular v id || restsComplex v id) ≡ true
 unfolding unknown
-cancel-known v id e = not-false _ (passed v (Cancel id) e .1)
+cancel-known v id e = not-false _ (passed v (Cancel id) e .known)
+
+-- a place is left for its edition
+pub increment-place : (v : Venue) (s x e : ℕ) → refusalOf v (Increment s x e) ≡ 0 → freeEdition v < 32
+unfolding noEditionLeft
+increment-place v s x e h = leb-false 32 (freeEdition v) (passed v (Increment s x e) h .place)
+
+pub percent-place : (v : Venue) (x e : ℕ) → refusalOf v (Percent x e) ≡ 0 → freeEdition v < 32
+unfolding noEditionLeft
+percent-place v x e h = leb-false 32 (freeEdition v) (passed v (Percent x e) h .place)
 
 -- a last id anew leaves the places as they were
 pub last-dense : (a b : List ℕ) (x : ℕ) → venueOf b ≡ withLast (venueOf a) x → SameCounts a b → Dense a → Dense b
@@ -78,14 +95,13 @@ last-below a b x p {id = id} h = subst (λ (w : Venue). Below id (w .regular)) (
 module _ (v : Venue) (o : Regular) (e : refusalOf v (Order o) ≡ 0) where
   order-last : v .last < o .id
   unfolding idTooLow
-  order-last = leb-false (o .id) (v .last) (refusalOf-by (λ x. x ≡ 0 → idTooLow v (Order o) ≡ false) v (Order o)
-      (λ h. absurd (omega arith)) (λ h. absurd (omega arith)) (λ h. absurd (omega arith)) (λ h. absurd (omega arith)) (λ a _ _ _ _. a) e)
+  order-last = leb-false (o .id) (v .last) (passed v (Order o) e .fresh)
 
   regulars-below : regularsSound v ≡ true → Below (o .id) (v .regular)
   unfolding regularsSound
   regulars-below h =
       let a = arranged-out noRegular holdsRegular _ blankRegular (λ o. o .id) blank-free (unfold blankRegular in refl) 0 (v .regular) h in
-      λ i q. let z = leb-true (getD (v .regular) i noRegular .id) (v .last) (and-r (regularInRange (getD (v .regular) i noRegular)) _ (a .asks i q)) in let w = order-last in omega arith
+      λ i q. let z = leb-true (getD (v .regular) i noRegular .id) (v .last) (and-r (regularInRange (getD (v .regular) i noRegular) && onIncrement v (getD (v .regular) i noRegular)) _ (a .asks i q)) in let w = order-last in omega arith
 
   pub order-below : sound v ≡ true → Below (o .id) (v .regular)
   unfolding sound
@@ -93,11 +109,11 @@ module _ (v : Venue) (o : Regular) (e : refusalOf v (Order o) ≡ 0) where
 
 -- Its effects, and then the gaps closed -------------------------------------------------------
 
-pub accept-law : (w : Seen) (m : Message) (v v₁ v₂ : Venue) (l : List ℕ) (at : ℕ) → stage v₁ l at ≡ w does perform m v → v₂ ≡ closeGaps v₁ →
-    stage v₂ l at ≡ w does accept m v
+pub accept-law : (w : Seen) (number : ℕ) (m : Message) (v v₁ v₂ : Venue) (l : List ℕ) (at : ℕ) → stage v₁ l at ≡ w does perform number m v → v₂ ≡ closeGaps v₁ →
+    stage v₂ l at ≡ w does accept number m v
 unfolding accept
-accept-law w m v v₁ v₂ l at p q =
-    follow w (perform m v) (λ (x : Venue). nothing (closeGaps x)) v₁ v₂ l l at at p
+accept-law w number m v v₁ v₂ l at p q =
+    follow w (perform number m v) (λ (x : Venue). nothing (closeGaps x)) v₁ v₂ l l at at p
     (ap (λ (x : Venue). stage x l at) q ∙ does-nothing (closeGaps v₁) l at)
 
 -- The answer ----------------------------------------------------------------------------------
@@ -127,15 +143,15 @@ pub steps-as : (a c : StepOutcome) (l : List ℕ) (r : Stepped) (b o : List ℕ)
 steps-as a c l r b o e s = rw e at s
 
 module _ (v : Venue) (number : ℕ) (m : Message) where
-  pub by-accepted : refusalOf v m ≡ 0 → answered number 0 (accept m v) ≡ answeredBy v number m
+  pub by-accepted : refusalOf v m ≡ 0 → answered number 0 (accept number m v) ≡ answeredBy v number m
   unfolding answeredBy
-  by-accepted e = ap (λ (x : ℕ). answered number x (if eqb x 0 then accept m v else nothing v)) (sym e)
+  by-accepted e = ap (λ (x : ℕ). answered number x (if eqb x 0 then accept number m v else nothing v)) (sym e)
 
   pub by-refused : (x : ℕ) → x ≡ refusalOf v m → (x ≡ 0 → ⊥) → answered number x (nothing v) ≡ answeredBy v number m
   unfolding answeredBy
   by-refused x e n =
-      ap (λ (t : Bool). answered number x (if t then accept m v else nothing v)) (sym (ne-eqb x 0 n))
-      ∙ ap (λ (y : ℕ). answered number y (if eqb y 0 then accept m v else nothing v)) e
+      ap (λ (t : Bool). answered number x (if t then accept number m v else nothing v)) (sym (ne-eqb x 0 n))
+      ∙ ap (λ (y : ℕ). answered number y (if eqb y 0 then accept number m v else nothing v)) e
 
 -- The bytes decoded ---------------------------------------------------------------------------
 
@@ -162,10 +178,10 @@ module _ (v : Venue) (number : ℕ) (bs : List ℕ) where
   pub step-taken : (m : Message) → Taken m ≡ decoded bs → answeredBy v number m ≡ step v number bs
   unfolding answeredBy step refusal
   step-taken m e =
-      ap₂ (λ (d : Decoded) (x : Message). answered number (of v d) (if eqb (of v d) 0 then accept x v else nothing v)) e (sym (taken-out bs m e .0))
+      ap₂ (λ (d : Decoded) (x : Message). answered number (of v d) (if eqb (of v d) 0 then accept number x v else nothing v)) e (sym (taken-out bs m e .0))
 
   pub step-refused : (x : ℕ) → Refused x ≡ decoded bs → answered number x (nothing v) ≡ step v number bs
   unfolding step refusal
   step-refused x e =
-      ap (λ (t : Bool). answered number x (if t then accept (messageOf bs) v else nothing v)) (sym (ne-eqb x 0 (refused-out bs x e)))
-      ∙ ap (λ (d : Decoded). answered number (of v d) (if eqb (of v d) 0 then accept (messageOf bs) v else nothing v)) e
+      ap (λ (t : Bool). answered number x (if t then accept number (messageOf bs) v else nothing v)) (sym (ne-eqb x 0 (refused-out bs x e)))
+      ∙ ap (λ (d : Decoded). answered number (of v d) (if eqb (of v d) 0 then accept number (messageOf bs) v else nothing v)) e

@@ -1,12 +1,14 @@
 -- What a step leaves of the venue's slice and of the report memory.
 use mathlib.Core.Path.{_≡_}
+use mathlib.Core.Bool.{Bool, not}
 use mathlib.Core.List.{List}
 use Prim.Native.Nat.{ℕ, _≤_, _<_}
-use lib.Dec.{eqb}
+use lib.Dec.{leb, ltb, eqb}
 use lib.ListN.{length}
 use Rattle.rules.specs.declared.Venue.{Venue}
 use Rattle.rules.specs.declared.Message.{Message}
-use Rattle.rules.specs.Base.{if_then_else_}
+use Rattle.rules.specs.Base.{if_then_else_, all}
+use Rattle.rules.specs.Settings.{freeEdition}
 use Rattle.rules.specs.Effects.{nothing}
 use Rattle.rules.specs.Refusals.{refusalOf}
 use Rattle.rules.specs.Step.{StepOutcome, answered, accept}
@@ -15,11 +17,19 @@ use Rattle.wire.specs.Stage.{stage, _does_}
 use Rattle.places.specs.Layout.{venueOf, Dense}
 use Rattle.messages.specs.declared.Stepped.{Stepped}
 
+-- the first of 11 to 13 that a new edition meets; `used` where its figure is the increment of a series that is not idle
+unfoldable pub editionRefusal : Venue → (edition : ℕ) → (used : Bool) → ℕ
+editionRefusal v e used =
+    if not (all (λ k. ltb (k .edition) e) (v .editions)) then 11
+    else if used then 12
+    else if leb 32 (freeEdition v) then 13
+    else 0
+
 -- the answer to a message whose fields are in range
 unfoldable pub answeredBy : Venue → (number : ℕ) → Message → StepOutcome
 answeredBy v number m =
     let x = refusalOf v m in
-    answered number x (if eqb x 0 then accept m v else nothing v)
+    answered number x (if eqb x 0 then accept number m v else nothing v)
 
 -- the answered message, done: its venue, its records from the start of the memory, and no gaps left
 pub record Steps (a : StepOutcome) (out₀ : List ℕ) (r : Stepped) (b out : List ℕ) : Type 0 where

@@ -2,36 +2,53 @@
 use book::Found;
 use rules::Complex;
 use rules::Decoded;
+use rules::Edition;
 use rules::Listed;
 use rules::Message;
 use rules::Regular;
 ghost use mathlib.Core.Path.{_≡_};
-ghost use mathlib.Core.Bool.{true, _||_};
+ghost use mathlib.Core.Bool.{true, not, _&&_, _||_};
+ghost use mathlib.Core.Logic.{_⊎_};
 ghost use Prim.Native.Nat.{_<_};
+ghost use lib.Dec.{ltb, eqb};
 ghost use lib.ListN.{length};
 ghost use Rattle.rules.specs.declared.Message.the-variants.{Order, TwoLeg, Cancel};
-ghost use Rattle.rules.specs.Base.{held};
+ghost use Rattle.rules.specs.Base.{held, all};
 ghost use Rattle.rules.specs.Words.{withLast};
+ghost use Rattle.rules.specs.Messages.{messageKind};
+ghost use Rattle.rules.specs.Settings.{freeEdition};
 ghost use Rattle.rules.specs.Effects.{nothing};
 ghost use Rattle.rules.specs.Order.{order};
 ghost use Rattle.rules.specs.Complex.{complex, restsRegular, restsComplex};
-ghost use Rattle.rules.specs.Refusals.{regularInRange, complexInRange, inRange, refusalOf};
-ghost use Rattle.rules.specs.Step.{setAway, setStatus, answered};
+ghost use Rattle.rules.specs.Refusals.{regularInRange, complexInRange, inRange, offIncrement, idle, refusalOf};
+ghost use Rattle.rules.specs.Step.{setAway, setStatus, setFigure, answered};
 ghost use Rattle.rules.specs.Step as step;
 ghost use Rattle.demands.specs.Kept.{SoundVenue};
 ghost use Rattle.rules.specs.Standing.{settle};
 ghost use Rattle.wire.specs.Seen.{seen};
 ghost use Rattle.wire.specs.Stage.{stage, _does_};
-ghost use Rattle.places.specs.Layout.{size, regularsUsed, complexesUsed, venueOf, Right, Below, SameCounts, Dense};
+ghost use Rattle.places.specs.Layout.{size, regularsUsed, complexesUsed, venueOf, Figured, Right, Below, SameCounts, Dense};
 ghost use Rattle.levels.specs.Grid.{LegsIn};
-ghost use Rattle.messages.specs.Steps.{answeredBy, Steps, Tries};
+ghost use Rattle.messages.specs.Steps.{editionRefusal, answeredBy, Steps, Tries};
 
-// Refusals 5 to 8 -----------------------------------------------------------------------------
+// Refusals 4 and 5 to 8: of orders --------------------------------------------------------------
+
+// An order's price is off its series' increment in force.
+fn off_increment(b: &[u32], o: Regular) -> bool
+    requires { ⌜ (length (now b) ≡ size) × (o .series < 8) × (Figured (now b)) ⌝ }
+    ensures { λ r. ⌜ r ≡ offIncrement (venueOf (now (b .entry))) (Order o) ⌝ }
+{
+    let increment = levels::increment_of(b, o.series);
+    o.price % (increment as u32) != 0
+}
 
 fn order_refusal(b: &[u32], o: Regular) -> u8
     requires { ⌜ (length (now b) ≡ size) × (Dense (now b)) × (regularInRange o ≡ true) ⌝ }
     ensures { λ r. ⌜ r ≡ refusalOf (venueOf (now (b .entry))) (Order o) ⌝ }
 {
+    if off_increment(b, o) {
+        return 4;
+    }
     if o.id <= places::last_id(b) {
         return 5;
     }
@@ -94,12 +111,135 @@ fn cancel_refusal(b: &[u32], id: u32) -> u8
     8
 }
 
-// The first of the refusals 5 to 8 that a message meets; 0 where it is accepted.
+// Refusals 11 to 13: of editions ----------------------------------------------------------------
+
+// An edition is above each that is kept.
+fn is_above(b: &[u32], edition: u32) -> bool
+    requires { ⌜ length (now b) ≡ size ⌝ }
+    ensures { λ r. ⌜ r ≡ all (λ k. ltb (k .edition) edition) (venueOf (now (b .entry)) .editions) ⌝ }
+{
+    let mut i: usize = 0;
+    while i < 32 {
+        let k = places::edition_at(b, i);
+        if edition <= k.edition {
+            return false;
+        }
+        i += 1;
+    }
+    true
+}
+
+// A regular order rests in a series.
+fn rests_in(o: Regular, s: u8) -> bool
+    ensures { λ r. ⌜ r ≡ (held (o .quantity) && eqb (o .series) s) ⌝ }
+{
+    if o.quantity == 0 {
+        return false;
+    }
+    o.series == s
+}
+
+fn no_order_in(b: &[u32], s: u8) -> bool
+    requires { ⌜ length (now b) ≡ size ⌝ }
+    ensures { λ r. ⌜ r ≡ all (λ o. not (held (o .quantity) && eqb (o .series) s)) (venueOf (now (b .entry)) .regular) ⌝ }
+{
+    let n = places::regulars_used(b);
+    let mut i: usize = 0;
+    while i < n {
+        let o = places::regular_at(b, i);
+        if rests_in(o, s) {
+            return false;
+        }
+        i += 1;
+    }
+    true
+}
+
+// A complex order rests with a leg in a series.
+fn has_leg_in(c: Complex, s: u8) -> bool
+    ensures { λ r. ⌜ r ≡ (held (c .quantity) && (eqb (c .series1) s || eqb (c .series2) s)) ⌝ }
+{
+    if c.quantity == 0 {
+        return false;
+    }
+    if c.series1 == s {
+        return true;
+    }
+    c.series2 == s
+}
+
+fn no_leg_in(b: &[u32], s: u8) -> bool
+    requires { ⌜ length (now b) ≡ size ⌝ }
+    ensures { λ r. ⌜ r ≡ all (λ c. not (held (c .quantity) && (eqb (c .series1) s || eqb (c .series2) s))) (venueOf (now (b .entry)) .complex) ⌝ }
+{
+    let n = places::complexes_used(b);
+    let mut i: usize = 0;
+    while i < n {
+        let c = places::complex_at(b, i);
+        if has_leg_in(c, s) {
+            return false;
+        }
+        i += 1;
+    }
+    true
+}
+
+// A series is closed, and no order or leg rests in it.
+fn is_idle(b: &[u32], s: u8) -> bool
+    requires { ⌜ (length (now b) ≡ size) × (s < 8) ⌝ }
+    ensures { λ r. ⌜ r ≡ idle (venueOf (now (b .entry))) s ⌝ }
+{
+    if levels::status_of(b, s) != 0 {
+        return false;
+    }
+    if !no_order_in(b, s) {
+        return false;
+    }
+    no_leg_in(b, s)
+}
+
+// The first of 11 to 13 that a new edition meets; `used` where its figure is the increment of a series in use.
+fn edition_refusal(b: &[u32], edition: u32, used: bool) -> u8
+    requires { ⌜ length (now b) ≡ size ⌝ }
+    ensures { λ r. ⌜ r ≡ editionRefusal (venueOf (now (b .entry))) edition used ⌝ }
+{
+    if !is_above(b, edition) {
+        return 11;
+    }
+    if used {
+        return 12;
+    }
+    if 32 <= places::free_edition(b) {
+        return 13;
+    }
+    0
+}
+
+// The first of 11 to 13 that a new setting meets.
+fn setting_refusal(b: &[u32], m: Message) -> u8
+    requires { ⌜ (length (now b) ≡ size) × (6 < messageKind m) × (inRange m ≡ true) ⌝ }
+    ensures { λ r. ⌜ r ≡ refusalOf (venueOf (now (b .entry))) m ⌝ }
+{
+    match m {
+        Message::Increment(series, _, edition) => {
+            let used = !is_idle(b, series);
+            edition_refusal(b, edition, used)
+        }
+        Message::Percent(_, edition) => edition_refusal(b, edition, false),
+        _ => 0,
+    }
+}
+
+// The first of the refusals 4, 11 to 13 and 5 to 8 that a message meets; 0 where it is accepted. In parts as in `wire::in_range`.
 fn refusal_of(b: &[u32], m: Message) -> u8
     requires { ⌜ (length (now b) ≡ size) × (Dense (now b)) × (inRange m ≡ true) ⌝ }
     ensures { λ r. ⌜ r ≡ refusalOf (venueOf (now (b .entry))) m ⌝ }
 {
-    if 3 < rules::message_kind(m) {
+    let kind = rules::message_kind(m);
+    if 6 < kind {
+        return setting_refusal(b, m);
+    }
+    if 3 < kind {
         return 0;
     }
     match m {
@@ -140,6 +280,31 @@ fn set_status(b: &mut [u32], s: u8, status: u8, out: &mut [u8], at: usize) -> us
     legging::settle_all(b, out, at)
 }
 
+// A figure's edition, entered by the message of this number at the first free place; then settling.
+fn set_figure(
+    b: &mut [u32],
+    number: u32,
+    f: u8,
+    x: u8,
+    edition: u32,
+    out: &mut [u8],
+    at: usize,
+) -> usize
+    requires { ⌜ (length (now b) ≡ size) × (freeEdition (venueOf (now b)) < 32) × (0 < x ⊎ 7 < f) × (Right (now b)) ⌝ }
+    ensures { λ r. ⌜ stage (venueOf (now (b .exit))) (now (out .exit)) r ≡ seen (now (out .entry)) at does settle (setFigure number f x edition (venueOf (now (b .entry)))) ⌝ }
+    ensures counts { λ _. ⌜ SameCounts (now (b .entry)) (now (b .exit)) ⌝ }
+{
+    let i = places::free_edition(b);
+    let e = Edition {
+        edition,
+        message: number,
+        figure: f,
+        value: x,
+    };
+    places::put_edition(b, i, e);
+    legging::settle_all(b, out, at)
+}
+
 // An order arrives, and its id is the last accepted.
 fn enter_order(b: &mut [u32], o: Regular, out: &mut [u8], at: usize) -> usize
     requires { ⌜ (length (now b) ≡ size) × (Dense (now b)) × (regularsUsed (now b) < 128) × (o .series < 8) × (o .side < 2) × (held (o .price) ≡ true) × (Below (o .id) (venueOf (now b) .regular)) ⌝ }
@@ -160,13 +325,32 @@ fn enter_complex(b: &mut [u32], c: Complex, out: &mut [u8], at: usize) -> usize
     complexes::complex_order(b, c, out, at)
 }
 
-// What a message that is not refused does, by its kind, in two halves as in `wire::in_range`.
-fn perform(b: &mut [u32], m: Message, out: &mut [u8], at: usize) -> usize
+// What a new setting that is not refused does.
+fn perform_setting(b: &mut [u32], number: u32, m: Message, out: &mut [u8], at: usize) -> usize
+    requires { ⌜ (length (now b) ≡ size) × (6 < messageKind m) × (inRange m ≡ true) × (refusalOf (venueOf (now b)) m ≡ 0) × (Right (now b)) ⌝ }
+    ensures { λ r. ⌜ stage (venueOf (now (b .exit))) (now (out .exit)) r ≡ seen (now (out .entry)) at does step.perform number m (venueOf (now (b .entry))) ⌝ }
+    ensures counts { λ _. ⌜ SameCounts (now (b .entry)) (now (b .exit)) ⌝ }
+{
+    match m {
+        Message::Increment(series, x, edition) => {
+            set_figure(b, number, series, x, edition, out, at)
+        }
+        Message::Percent(x, edition) => set_figure(b, number, 8, x, edition, out, at),
+        _ => at,
+    }
+}
+
+// What a message of this number that is not refused does, by its kind, in parts as in `wire::in_range`.
+fn perform(b: &mut [u32], number: u32, m: Message, out: &mut [u8], at: usize) -> usize
     requires { ⌜ (length (now b) ≡ size) × (Dense (now b)) × (inRange m ≡ true) × (refusalOf (venueOf (now b)) m ≡ 0) × (SoundVenue (venueOf (now b))) ⌝ }
-    ensures { λ r. ⌜ stage (venueOf (now (b .exit))) (now (out .exit)) r ≡ seen (now (out .entry)) at does step.perform m (venueOf (now (b .entry))) ⌝ }
+    ensures { λ r. ⌜ stage (venueOf (now (b .exit))) (now (out .exit)) r ≡ seen (now (out .entry)) at does step.perform number m (venueOf (now (b .entry))) ⌝ }
     ensures right { λ _. ⌜ Right (now (b .exit)) ⌝ }
 {
-    if rules::message_kind(m) <= 3 {
+    let kind = rules::message_kind(m);
+    if 6 < kind {
+        return perform_setting(b, number, m, out, at);
+    }
+    if kind <= 3 {
         return match m {
             Message::Order(o) => enter_order(b, o, out, at),
             Message::TwoLeg(c) => enter_complex(b, c, out, at),
@@ -182,12 +366,12 @@ fn perform(b: &mut [u32], m: Message, out: &mut [u8], at: usize) -> usize
 }
 
 // The same, and then the gaps that it left are closed.
-fn accept(b: &mut [u32], m: Message, out: &mut [u8], at: usize) -> usize
+fn accept(b: &mut [u32], number: u32, m: Message, out: &mut [u8], at: usize) -> usize
     requires { ⌜ (length (now b) ≡ size) × (Dense (now b)) × (inRange m ≡ true) × (refusalOf (venueOf (now b)) m ≡ 0) × (SoundVenue (venueOf (now b))) ⌝ }
-    ensures { λ r. ⌜ stage (venueOf (now (b .exit))) (now (out .exit)) r ≡ seen (now (out .entry)) at does step.accept m (venueOf (now (b .entry))) ⌝ }
+    ensures { λ r. ⌜ stage (venueOf (now (b .exit))) (now (out .exit)) r ≡ seen (now (out .entry)) at does step.accept number m (venueOf (now (b .entry))) ⌝ }
     ensures dense { λ _. ⌜ Dense (now (b .exit)) ⌝ }
 {
-    let end = perform(b, m, out, at);
+    let end = perform(b, number, m, out, at);
     places::close_gaps(b);
     end
 }
@@ -214,10 +398,10 @@ fn refuse(b: &[u32], number: u32, refused: u8, out: &mut [u8]) -> Stepped
 // An accepted message: the answer's record first, then its effects; mask and count are set last.
 fn answer_accepted(b: &mut [u32], number: u32, m: Message, out: &mut [u8]) -> Stepped
     requires { ⌜ (length (now b) ≡ size) × (Dense (now b)) × (inRange m ≡ true) × (refusalOf (venueOf (now b)) m ≡ 0) × (SoundVenue (venueOf (now b))) ⌝ }
-    ensures { λ r. ⌜ Steps (answered number 0 (step.accept m (venueOf (now (b .entry))))) (now (out .entry)) r (now (b .exit)) (now (out .exit)) ⌝ }
+    ensures { λ r. ⌜ Steps (answered number 0 (step.accept number m (venueOf (now (b .entry))))) (now (out .entry)) r (now (b .exit)) (now (out .exit)) ⌝ }
 {
     let at = wire::emit_answer(out, 0, number, 0, 0, 0);
-    let written = accept(b, m, out, at);
+    let written = accept(b, number, m, out, at);
     let mask = places::mask_of(b);
     let count = book::count_of(mask);
     wire::set_answer(out, 0, number, 0, mask, count);
@@ -270,7 +454,7 @@ fn step_or_leave(b: &mut [u32], number: u32, message: &[u8], out: &mut [u8]) -> 
     requires { ⌜ (length (now b) ≡ size) × (Dense (now b)) × (SoundVenue (venueOf (now b))) ⌝ }
     ensures { λ r. ⌜ Tries (step.step (venueOf (now (b .entry))) number (now (message .entry))) (now (b .entry)) (now (out .entry)) r (now (b .exit)) (now (out .exit)) ⌝ }
 {
-    let mut kept = [0u32; 830];
+    let mut kept = [0u32; 975];
     copy(b, &mut kept);
     let r = step(b, number, message, out);
     if r.written <= out.len() {

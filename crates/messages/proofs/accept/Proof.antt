@@ -22,7 +22,7 @@ same-length-2 : tie.Need-same-length-2
 same-length-2 c = search needs
 
 returns : tie.Need-returns
-returns c = let s = c .before .before .before .before .before .before .before .before .before .before .before .before .before in let g = c .before .before .close-gaps .ensures in (accept-law _ (s .args .m) (venueOf (s .args .b .now)) _ _ _ _ (c .before .before .before .before .before .before .before .before .perform .ensures .0) (g .venue), g .dense)
+returns c = let s = c .before .before .before .before .before .before .before .before .before .before .before .before .before in let g = c .before .before .close-gaps .ensures in (accept-law _ (s .args .number) (s .args .m) (venueOf (s .args .b .now)) _ _ _ _ (c .before .before .before .before .before .before .before .before .perform .ensures .0) (g .venue), g .dense)
 
 pub accept-spec : {M : Type 1} → statement M
 accept-spec =

@@ -4,12 +4,12 @@ use native.Mathlib.Omega.{arith}
 use Rattle.rules.specs.declared.Message.{Message}
 use Rattle.rules.specs.Refusals.{inRange, refusalOf}
 use Rattle.rules.specs.Step.{perform}
+use Rattle.rules.proofs.ByKind.{kinds-left, sweep-left}
 use Rattle.wire.specs.Seen.{seen}
 use Rattle.wire.specs.Stage.{_does_}
 use Rattle.places.specs.Layout.{venueOf}
 use Rattle.places.proofs.Orderly.{range-priced}
 use Rattle.complexes.proofs.Walking.{sound-rising}
-use Rattle.rules.proofs.ByKind.{kinds-left, sweep-left}
 use Rattle.messages.proofs.Refusing.{regular-side, legs-in, away-series, status-series}
 use Rattle.messages.proofs.Stepping.{order-below, order-room, complex-room, cancel-known}
 use borrow.Author.Needs.{needs}
@@ -19,25 +19,8 @@ use Rattle.messages.proofs.perform.Tie as tie
 message-kind-requires : tie.Need-message-kind-requires
 message-kind-requires c κs = search needs
 
-enum-known-m : tie.Need-enum-known-m
-enum-known-m c = search needs
-
-enter-order-requires : tie.Need-enter-order-requires
-unfolding inRange
-enter-order-requires c κs = let s = c .before .before .before .before .before .before .before .before .before in let e = c .before .before .before .m .given .1 in let z = regular-side _ (sym (ap inRange e) ∙ s .pre .2) in (s .pre .0, s .pre .1, order-room _ (s .pre .1) _ (sym (ap (refusalOf (venueOf (s .args .b .now))) e) ∙ s .pre .3), z .series, z .side, range-priced _ (sym (ap inRange e) ∙ s .pre .2), order-below (venueOf (s .args .b .now)) _ (sym (ap (refusalOf (venueOf (s .args .b .now))) e) ∙ s .pre .3) (s .pre .4 .is))
-
-enum-known-m-2 : tie.Need-enum-known-m-2
-enum-known-m-2 c = search needs
-
-enter-complex-requires : tie.Need-enter-complex-requires
-unfolding inRange
-enter-complex-requires c κs = let s = c .before .before .before .before .before .before .before .before .before in let e = c .before .before .before .m2 .given .1 in (s .pre .0, s .pre .1, complex-room _ (s .pre .1) _ (sym (ap (refusalOf (venueOf (s .args .b .now))) e) ∙ s .pre .3), legs-in _ (sym (ap inRange e) ∙ s .pre .2))
-
-enum-known-m-3 : tie.Need-enum-known-m-3
-enum-known-m-3 c = search needs
-
-cancel-requires : tie.Need-cancel-requires
-cancel-requires c κs = let s = c .before .before .before .before .before .before .before .before .before in let e = c .before .before .before .m3 .given .1 in (s .pre .0, s .pre .1, cancel-known _ _ (sym (ap (refusalOf (venueOf (s .args .b .now))) e) ∙ s .pre .3))
+perform-setting-requires : tie.Need-perform-setting-requires
+perform-setting-requires c κs = let s = c .before .before .before .before .before .before in let e = c .before .before .before .message-kind .ensures in (s .pre .0, omega arith, s .pre .2, s .pre .3, s .pre .1 .right)
 
 same-length : tie.Need-same-length
 same-length c = search needs
@@ -46,8 +29,27 @@ same-length-2 : tie.Need-same-length-2
 same-length-2 c = search needs
 
 returns : tie.Need-returns
-unfolding perform
-returns c = let s = c .before .before .before .before .before .before .before .before .before .before .before .before .before .before in let k = c .before .before .before .before .enter-order .ensures in (k .0 ∙ ap (λ (x : Message). seen (s .args .out .now) (s .args .at) does perform x (venueOf (s .args .b .now))) (sym (c .before .before .before .before .before .before .before .before .m .given .1)), k .1)
+returns c = let s = c .before .before .before .before .before .before .before .before .before .before .before in let k = c .before .before .before .before .perform-setting .ensures in (k .0, k .1 .right (s .pre .1 .right))
+
+enum-known-m : tie.Need-enum-known-m
+enum-known-m c = search needs
+
+enter-order-requires : tie.Need-enter-order-requires
+unfolding inRange
+enter-order-requires c κs = let s = c .before .before .before .before .before .before .before .before .before .before in let e = c .before .before .before .m .given .1 in let z = regular-side _ (sym (ap inRange e) ∙ s .pre .2) in (s .pre .0, s .pre .1, order-room _ (s .pre .1) _ (sym (ap (refusalOf (venueOf (s .args .b .now))) e) ∙ s .pre .3), z .series, z .side, range-priced _ (sym (ap inRange e) ∙ s .pre .2), order-below (venueOf (s .args .b .now)) _ (sym (ap (refusalOf (venueOf (s .args .b .now))) e) ∙ s .pre .3) (s .pre .4 .is))
+
+enum-known-m-2 : tie.Need-enum-known-m-2
+enum-known-m-2 c = search needs
+
+enter-complex-requires : tie.Need-enter-complex-requires
+unfolding inRange
+enter-complex-requires c κs = let s = c .before .before .before .before .before .before .before .before .before .before in let e = c .before .before .before .m2 .given .1 in (s .pre .0, s .pre .1, complex-room _ (s .pre .1) _ (sym (ap (refusalOf (venueOf (s .args .b .now))) e) ∙ s .pre .3), legs-in _ (sym (ap inRange e) ∙ s .pre .2))
+
+enum-known-m-3 : tie.Need-enum-known-m-3
+enum-known-m-3 c = search needs
+
+cancel-requires : tie.Need-cancel-requires
+cancel-requires c κs = let s = c .before .before .before .before .before .before .before .before .before .before in let e = c .before .before .before .m3 .given .1 in (s .pre .0, s .pre .1, cancel-known _ _ (sym (ap (refusalOf (venueOf (s .args .b .now))) e) ∙ s .pre .3))
 
 same-length-3 : tie.Need-same-length-3
 same-length-3 c = search needs
@@ -57,7 +59,7 @@ same-length-4 c = search needs
 
 returns-2 : tie.Need-returns-2
 unfolding perform
-returns-2 c = let s = c .before .before .before .before .before .before .before .before .before .before .before .before .before .before in let k = c .before .before .before .before .enter-complex .ensures in (k .0 ∙ ap (λ (x : Message). seen (s .args .out .now) (s .args .at) does perform x (venueOf (s .args .b .now))) (sym (c .before .before .before .before .before .before .before .before .m2 .given .1)), k .1)
+returns-2 c = let s = c .before .before .before .before .before .before .before .before .before .before .before .before .before .before .before in let k = c .before .before .before .before .enter-order .ensures in (k .0 ∙ ap (λ (x : Message). seen (s .args .out .now) (s .args .at) does perform (s .args .number) x (venueOf (s .args .b .now))) (sym (c .before .before .before .before .before .before .before .before .m .given .1)), k .1)
 
 same-length-5 : tie.Need-same-length-5
 same-length-5 c = search needs
@@ -67,25 +69,7 @@ same-length-6 c = search needs
 
 returns-3 : tie.Need-returns-3
 unfolding perform
-returns-3 c = let s = c .before .before .before .before .before .before .before .before .before .before .before .before .before .before in let k = c .before .before .before .before .cancel .ensures in (k .0 ∙ ap (λ (x : Message). seen (s .args .out .now) (s .args .at) does perform x (venueOf (s .args .b .now))) (sym (c .before .before .before .before .before .before .before .before .m3 .given .1)), k .1 .right (s .pre .1 .right))
-
-returns-4 : tie.Need-returns-4
-returns-4 c = let k = kinds-left (c .before .before .before .before .before .args .m) (c .match .keys4) in let e = c .before .before .message-kind .ensures in absurd (omega arith)
-
-enum-known-m-4 : tie.Need-enum-known-m-4
-enum-known-m-4 c = search needs
-
-set-away-requires : tie.Need-set-away-requires
-set-away-requires c κs = let s = c .before .before .before .before .before .before .before .before .before in let e = c .before .before .before .m4 .given .1 in (s .pre .0, away-series _ _ _ (sym (ap inRange e) ∙ s .pre .2), s .pre .1 .right)
-
-enum-known-m-5 : tie.Need-enum-known-m-5
-enum-known-m-5 c = search needs
-
-set-status-requires : tie.Need-set-status-requires
-set-status-requires c κs = let s = c .before .before .before .before .before .before .before .before .before in let e = c .before .before .before .m5 .given .1 in (s .pre .0, status-series _ _ (sym (ap inRange e) ∙ s .pre .2), s .pre .1 .right)
-
-sweep-requires : tie.Need-sweep-requires
-sweep-requires c κs = let s = c .before .before .before .before .before .before .before in (s .pre .0, s .pre .1 .right, sound-rising _ (s .pre .4 .is))
+returns-3 c = let s = c .before .before .before .before .before .before .before .before .before .before .before .before .before .before .before in let k = c .before .before .before .before .enter-complex .ensures in (k .0 ∙ ap (λ (x : Message). seen (s .args .out .now) (s .args .at) does perform (s .args .number) x (venueOf (s .args .b .now))) (sym (c .before .before .before .before .before .before .before .before .m2 .given .1)), k .1)
 
 same-length-7 : tie.Need-same-length-7
 same-length-7 c = search needs
@@ -93,9 +77,27 @@ same-length-7 c = search needs
 same-length-8 : tie.Need-same-length-8
 same-length-8 c = search needs
 
-returns-5 : tie.Need-returns-5
+returns-4 : tie.Need-returns-4
 unfolding perform
-returns-5 c = let s = c .before .before .before .before .before .before .before .before .before .before .before .before .before .before in let k = c .before .before .before .before .set-away .ensures in (k .0 ∙ ap (λ (x : Message). seen (s .args .out .now) (s .args .at) does perform x (venueOf (s .args .b .now))) (sym (c .before .before .before .before .before .before .before .before .m4 .given .1)), k .1 .right (s .pre .1 .right))
+returns-4 c = let s = c .before .before .before .before .before .before .before .before .before .before .before .before .before .before .before in let k = c .before .before .before .before .cancel .ensures in (k .0 ∙ ap (λ (x : Message). seen (s .args .out .now) (s .args .at) does perform (s .args .number) x (venueOf (s .args .b .now))) (sym (c .before .before .before .before .before .before .before .before .m3 .given .1)), k .1 .right (s .pre .1 .right))
+
+returns-5 : tie.Need-returns-5
+returns-5 c = let k = kinds-left (c .before .before .before .before .before .before .args .m) (c .match .keys4) in let e = c .before .before .before .message-kind .ensures in absurd (omega arith)
+
+enum-known-m-4 : tie.Need-enum-known-m-4
+enum-known-m-4 c = search needs
+
+set-away-requires : tie.Need-set-away-requires
+set-away-requires c κs = let s = c .before .before .before .before .before .before .before .before .before .before in let e = c .before .before .before .m4 .given .1 in (s .pre .0, away-series _ _ _ (sym (ap inRange e) ∙ s .pre .2), s .pre .1 .right)
+
+enum-known-m-5 : tie.Need-enum-known-m-5
+enum-known-m-5 c = search needs
+
+set-status-requires : tie.Need-set-status-requires
+set-status-requires c κs = let s = c .before .before .before .before .before .before .before .before .before .before in let e = c .before .before .before .m5 .given .1 in (s .pre .0, status-series _ _ (sym (ap inRange e) ∙ s .pre .2), s .pre .1 .right)
+
+sweep-requires : tie.Need-sweep-requires
+sweep-requires c κs = let s = c .before .before .before .before .before .before .before .before in (s .pre .0, s .pre .1 .right, sound-rising _ (s .pre .4 .is))
 
 same-length-9 : tie.Need-same-length-9
 same-length-9 c = search needs
@@ -105,7 +107,7 @@ same-length-10 c = search needs
 
 returns-6 : tie.Need-returns-6
 unfolding perform
-returns-6 c = let s = c .before .before .before .before .before .before .before .before .before .before .before .before .before .before in let k = c .before .before .before .before .set-status .ensures in (k .0 ∙ ap (λ (x : Message). seen (s .args .out .now) (s .args .at) does perform x (venueOf (s .args .b .now))) (sym (c .before .before .before .before .before .before .before .before .m5 .given .1)), k .1 .right (s .pre .1 .right))
+returns-6 c = let s = c .before .before .before .before .before .before .before .before .before .before .before .before .before .before .before in let k = c .before .before .before .before .set-away .ensures in (k .0 ∙ ap (λ (x : Message). seen (s .args .out .now) (s .args .at) does perform (s .args .number) x (venueOf (s .args .b .now))) (sym (c .before .before .before .before .before .before .before .before .m4 .given .1)), k .1 .right (s .pre .1 .right))
 
 same-length-11 : tie.Need-same-length-11
 same-length-11 c = search needs
@@ -115,40 +117,54 @@ same-length-12 c = search needs
 
 returns-7 : tie.Need-returns-7
 unfolding perform
-returns-7 c = let s = c .before .before .before .before .before .before .before .before .before .before .before .before in let e = c .before .before .before .before .before .before .before .before .before .message-kind .ensures in let sweeps = sweep-left (s .args .m) (c .before .before .before .before .before .before .before .match2 .keys3) (omega arith) in let k = c .before .before .before .before .sweep .ensures in (k .0 ∙ ap (λ (x : Message). seen (s .args .out .now) (s .args .at) does perform x (venueOf (s .args .b .now))) (sym sweeps), k .1 .right (s .pre .1 .right))
+returns-7 c = let s = c .before .before .before .before .before .before .before .before .before .before .before .before .before .before .before in let k = c .before .before .before .before .set-status .ensures in (k .0 ∙ ap (λ (x : Message). seen (s .args .out .now) (s .args .at) does perform (s .args .number) x (venueOf (s .args .b .now))) (sym (c .before .before .before .before .before .before .before .before .m5 .given .1)), k .1 .right (s .pre .1 .right))
+
+same-length-13 : tie.Need-same-length-13
+same-length-13 c = search needs
+
+same-length-14 : tie.Need-same-length-14
+same-length-14 c = search needs
+
+returns-8 : tie.Need-returns-8
+unfolding perform
+returns-8 c = let s = c .before .before .before .before .before .before .before .before .before .before .before .before .before in let e = c .before .before .before .before .before .before .before .before .before .before .message-kind .ensures in let sweeps = sweep-left (s .args .m) (c .before .before .before .before .before .before .before .match2 .keys3) (omega arith) (omega arith) in let k = c .before .before .before .before .sweep .ensures in (k .0 ∙ ap (λ (x : Message). seen (s .args .out .now) (s .args .at) does perform (s .args .number) x (venueOf (s .args .b .now))) (sym sweeps), k .1 .right (s .pre .1 .right))
 
 pub perform-spec : {M : Type 1} → statement M
 perform-spec =
     tie.close
     (tie.spec
     message-kind-requires
+    perform-setting-requires
+    same-length
+    same-length-2
+    returns
     enum-known-m
     enter-order-requires
     enum-known-m-2
     enter-complex-requires
     enum-known-m-3
     cancel-requires
-    same-length
-    same-length-2
-    returns
     same-length-3
     same-length-4
     returns-2
     same-length-5
     same-length-6
     returns-3
+    same-length-7
+    same-length-8
     returns-4
+    returns-5
     enum-known-m-4
     set-away-requires
     enum-known-m-5
     set-status-requires
     sweep-requires
-    same-length-7
-    same-length-8
-    returns-5
     same-length-9
     same-length-10
     returns-6
     same-length-11
     same-length-12
-    returns-7)
+    returns-7
+    same-length-13
+    same-length-14
+    returns-8)

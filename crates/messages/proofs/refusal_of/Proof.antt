@@ -4,7 +4,7 @@ use native.Mathlib.Omega.{arith}
 use Rattle.rules.specs.Refusals.{inRange, refusalOf}
 use Rattle.rules.proofs.ByKind.{kinds-left}
 use Rattle.places.specs.Layout.{venueOf}
-use Rattle.messages.proofs.Refusing.{late-accepted}
+use Rattle.messages.proofs.Refusing.{never-refused}
 use borrow.Author.Needs.{needs}
 use Rattle.messages.proofs.refusal_of.Statement.{statement}
 use Rattle.messages.proofs.refusal_of.Tie as tie
@@ -12,22 +12,28 @@ use Rattle.messages.proofs.refusal_of.Tie as tie
 message-kind-requires : tie.Need-message-kind-requires
 message-kind-requires c κs = search needs
 
+setting-refusal-requires : tie.Need-setting-refusal-requires
+setting-refusal-requires c κs = let s = c .before .before .before in let e = c .before .message-kind .ensures in (s .pre .0, omega arith, s .pre .2)
+
 returns : tie.Need-returns
-returns c = let s = c .before .before .before in let e = c .before .message-kind .ensures in late-accepted (venueOf (s .args .b .now)) (s .args .m) (omega arith)
+returns c = c .setting-refusal .ensures
+
+returns-2 : tie.Need-returns-2
+returns-2 c = let s = c .before .before .before .before in let e = c .before .before .message-kind .ensures in never-refused (venueOf (s .args .b .now)) (s .args .m) (omega arith) (omega arith)
 
 enum-known-m : tie.Need-enum-known-m
 enum-known-m c = search needs
 
 order-refusal-requires : tie.Need-order-refusal-requires
 unfolding inRange
-order-refusal-requires c κs = let s = c .before .before .before .before .before .before in (s .pre .0, s .pre .1, sym (ap inRange (c .before .m .given .1)) ∙ s .pre .2)
+order-refusal-requires c κs = let s = c .before .before .before .before .before .before .before in (s .pre .0, s .pre .1, sym (ap inRange (c .before .m .given .1)) ∙ s .pre .2)
 
 enum-known-m-2 : tie.Need-enum-known-m-2
 enum-known-m-2 c = search needs
 
 complex-refusal-requires : tie.Need-complex-refusal-requires
 unfolding inRange
-complex-refusal-requires c κs = let s = c .before .before .before .before .before .before in (s .pre .0, s .pre .1, sym (ap inRange (c .before .m2 .given .1)) ∙ s .pre .2)
+complex-refusal-requires c κs = let s = c .before .before .before .before .before .before .before in (s .pre .0, s .pre .1, sym (ap inRange (c .before .m2 .given .1)) ∙ s .pre .2)
 
 enum-known-m-3 : tie.Need-enum-known-m-3
 enum-known-m-3 c = search needs
@@ -35,31 +41,33 @@ enum-known-m-3 c = search needs
 cancel-refusal-requires : tie.Need-cancel-refusal-requires
 cancel-refusal-requires c κs = search needs
 
-returns-2 : tie.Need-returns-2
-returns-2 c = let s = c .before .before .before .before .before .before .before in c .order-refusal .ensures ∙ sym (ap (refusalOf (venueOf (s .args .b .now))) (c .before .before .m .given .1))
-
 returns-3 : tie.Need-returns-3
-returns-3 c = let s = c .before .before .before .before .before .before .before in c .complex-refusal .ensures ∙ sym (ap (refusalOf (venueOf (s .args .b .now))) (c .before .before .m2 .given .1))
+returns-3 c = let s = c .before .before .before .before .before .before .before .before in c .order-refusal .ensures ∙ sym (ap (refusalOf (venueOf (s .args .b .now))) (c .before .before .m .given .1))
 
 returns-4 : tie.Need-returns-4
-returns-4 c = let s = c .before .before .before .before .before .before .before in c .cancel-refusal .ensures ∙ sym (ap (refusalOf (venueOf (s .args .b .now))) (c .before .before .m3 .given .1))
+returns-4 c = let s = c .before .before .before .before .before .before .before .before in c .complex-refusal .ensures ∙ sym (ap (refusalOf (venueOf (s .args .b .now))) (c .before .before .m2 .given .1))
 
 returns-5 : tie.Need-returns-5
-returns-5 c = let s = c .before .before .before .before in late-accepted (venueOf (s .args .b .now)) (s .args .m) (kinds-left (s .args .m) (c .match .keys4))
+returns-5 c = let s = c .before .before .before .before .before .before .before .before in c .cancel-refusal .ensures ∙ sym (ap (refusalOf (venueOf (s .args .b .now))) (c .before .before .m3 .given .1))
+
+returns-6 : tie.Need-returns-6
+returns-6 c = let s = c .before .before .before .before .before in let k = kinds-left (s .args .m) (c .match .keys4) in let e = c .before .before .before .message-kind .ensures in absurd (omega arith)
 
 pub refusal-of-spec : {M : Type 1} → statement M
 refusal-of-spec =
     tie.close
     (tie.spec
     message-kind-requires
+    setting-refusal-requires
     returns
+    returns-2
     enum-known-m
     order-refusal-requires
     enum-known-m-2
     complex-refusal-requires
     enum-known-m-3
     cancel-refusal-requires
-    returns-2
     returns-3
     returns-4
-    returns-5)
+    returns-5
+    returns-6)
