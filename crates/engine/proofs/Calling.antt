@@ -1,6 +1,6 @@
 -- The laws of a one-message call, by the ways that it ends.
 use mathlib.Core.Path.{_≡_, refl, sym, ap, ap₂, _∙_}
-use mathlib.Core.Bool.{true, false}
+use mathlib.Core.Bool.{true, false, _&&_}
 use mathlib.Core.List.{List, _++_, append-nil}
 use Prim.Native.Nat.{ℕ, suc, _+_, _-_, _≤_, _<_}
 use native.Mathlib.Omega.{arith}
@@ -9,7 +9,7 @@ use lib.ListN.{length, take, replicate}
 use Rattle.rules.specs.declared.Venue.{Venue}
 use Rattle.rules.specs.Records.{Report, encodeAll, sheet}
 use Rattle.rules.specs.Step.{StepOutcome, step}
-use Rattle.rules.specs.Sound.{sound}
+use Rattle.rules.specs.Sound.{sound, follows}
 use Rattle.rules.specs.Calls.{called, exceeds, ends, after, oneFrom, one}
 use Rattle.rules.proofs.Calling.{no-number, no-room, not-exceeds}
 use Rattle.wire.proofs.Stages.{stage-venue, stage-written}
@@ -32,6 +32,7 @@ shaped b =
       complex = used-length _ _ _ 32 (complexes-few b);
       legging = upto-length _ 0 16;
       series = upto-length _ 0 8;
+      editions = upto-length _ 0 32;
     }
 
 -- the numbers of a venue that is sound
@@ -45,11 +46,11 @@ unfolding called ends sheet encodeAll
 call-ends l z number v e = ap (callOf (record { number = number; done = 0; written = 0; venue = v })) e
 
 module _ (v : Venue) (n room : ℕ) (m : List ℕ) where
-  pub one-unsound : sound v ≡ false → called room (ends 9 v) ≡ one v n room m
+  pub one-unready : (sound v && follows (suc n) v) ≡ false → called room (ends 9 v) ≡ one v n room m
   unfolding one oneFrom
-  one-unsound e = rw e
+  one-unready e = rw e
 
-  module _ (fine : sound v ≡ true) where
+  module _ (fine : (sound v && follows (suc n) v) ≡ true) where
     pub one-ends : exceeds (suc n) room (step v (suc n) m .effect .reports) ≡ true → called room (ends 10 v) ≡ one v n room m
     unfolding one oneFrom
     one-ends e = rw (fine, e)
@@ -63,7 +64,7 @@ module _ (v : Venue) (n room : ℕ) (m : List ℕ) where
     one-does e = rw (fine, e)
 
 -- the message was done upon b₀, which stands for v: r is what its step returned, b and o what it left
-module _ (v : Venue) (n : ℕ) (m b₀ b l o : List ℕ) (r : Stepped) (fine : sound v ≡ true) (stands : venueOf b₀ ≡ v) (few : n < 4294967295)
+module _ (v : Venue) (n : ℕ) (m b₀ b l o : List ℕ) (r : Stepped) (fine : (sound v && follows (suc n) v) ≡ true) (stands : venueOf b₀ ≡ v) (few : n < 4294967295)
     (steps : Steps (step (venueOf b₀) (n + 1) m) l r b o) where
   abbrev a : StepOutcome
   a = step v (suc n) m

@@ -16,7 +16,7 @@ use Rattle.rules.specs.Step.{StepOutcome, step}
 use Rattle.rules.specs.Calls.{Outcome, called, ends, after}
 use Rattle.rules.proofs.Calling.{no-room, not-exceeds}
 use Rattle.rules.proofs.Tests.{and-l, and-r, and-false}
-use Rattle.demands.specs.Kept.{SoundVenue}
+use Rattle.demands.specs.Kept.{SoundAt}
 use Rattle.demands.proofs.Calls.{kept, fresh-sound}
 use Rattle.places.specs.Layout.{size, venueOf, Dense, Loaded}
 use Rattle.messages.specs.declared.Stepped.{Stepped}
@@ -68,7 +68,7 @@ module _ (t : Fed) (main spare : List ℕ) where
   number = suc (t .done)
 
   -- 19 or 20 comes up
-  pub turn-stopped : (b l : List ℕ) (k : ℕ) → k ≡ stopOf number mainLeft spareLeft → (k ≡ 0 → ⊥) → t .written ≤ length l → Dense b → SoundVenue (venueOf b) →
+  pub turn-stopped : (b l : List ℕ) (k : ℕ) → k ≡ stopOf number mainLeft spareLeft → (k ≡ 0 → ⊥) → t .written ≤ length l → Dense b → SoundAt number (venueOf b) →
       Feeds main spare t b l (stopsAt t k) b l
   turn-stopped b l k e z w d s =
       record {
@@ -81,7 +81,7 @@ module _ (t : Fed) (main spare : List ℕ) where
 
   -- its message was tried: r is what was returned, and ys what is left of the report from t's position on
   module _ (b₀ b l ys part : List ℕ) (n : ℕ) (r : Stepped) (free : stopOf number mainLeft spareLeft ≡ 0) (n-is : n ≡ number) (few : n < 4294967296)
-      (part-is : part ≡ partOf n mainLeft spareLeft) (w : t .written ≤ length l) (s : SoundVenue (venueOf b₀))
+      (part-is : part ≡ partOf n mainLeft spareLeft) (w : t .written ≤ length l) (s : SoundAt number (venueOf b₀))
       (tries : Tries (step (venueOf b₀) n part) b₀ (take (length l - t .written) (drop (t .written) l)) r b ys) where
     abbrev v : Venue
     v = venueOf b₀
@@ -143,7 +143,7 @@ module _ (t : Fed) (main spare : List ℕ) where
               ∙ sym (goes-on 0 (venueOf b) _ refl)));
           moved = λ _. (n-is, xx, yy, omega arith);
           dense = tried .dense;
-          sound = rw same (kept v s number part);
+          sound = rw (n-is, same) (kept v number (omega arith) s part);
         }
 
 -- The loop ------------------------------------------------------------------------------------
@@ -164,7 +164,7 @@ pub record Feeding (main spare l₀ b l : List ℕ) (t : Fed) : Type 0 where
   pub spare-in : t .spare ≤ length spare
   pub count : t .done ≤ t .main + t .spare
   pub dense : Dense b
-  pub sound : SoundVenue (venueOf b)
+  pub sound : SoundAt (suc (t .done)) (venueOf b)
 
 abbrev pub FeedEnded : (main spare l₀ b l : List ℕ) (t : Fed) → Type 0
 FeedEnded main spare l₀ b l t = Ended (wholeFeed main spare l₀) l₀ b l (t .number) (t .done) (t .written)
@@ -192,7 +192,7 @@ feeding-start main spare b l n f a c =
       spare-in = zero-le;
       count = zero-le;
       dense = f .dense;
-      sound = subst SoundVenue (sym (f .venue)) fresh-sound;
+      sound = subst (SoundAt 1) (sym (f .venue)) fresh-sound;
     }
 
 -- the lines are not both at their ends

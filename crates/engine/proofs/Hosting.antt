@@ -1,13 +1,13 @@
 -- The laws of a host's first venue, and of one message upon the venue in its memory.
 use mathlib.Core.Path.{_≡_, refl, subst, ap, _∙_}
-use mathlib.Core.Bool.{Bool, true, false}
+use mathlib.Core.Bool.{Bool, true, false, _&&_}
 use mathlib.Core.List.{List, _++_}
 use Prim.Native.Nat.{ℕ, suc, _-_, _≤_}
 use native.Mathlib.Omega.{arith}
 use lib.IntN.{ℤ, pos, negsuc}
 use lib.ListN.{length, getD, take, replicate}
-use lib.Dec.{eqb}
-use borrow.Author.Tests.{leb-true, eqb-true, eqb-false, eq-eqb, ne-eqb}
+use lib.Dec.{ltb, eqb}
+use borrow.Author.Tests.{leb-true, ltb-false, eqb-true, eqb-false, eq-eqb, ne-eqb}
 use Rattle.rules.specs.declared.Complex.{Complex}
 use Rattle.rules.specs.declared.Listed.{Listed}
 use Rattle.rules.specs.declared.Venue.{Venue}
@@ -19,11 +19,11 @@ use Rattle.rules.specs.Effects.{Effect}
 use Rattle.rules.specs.Places.{blankComplex}
 use Rattle.rules.specs.Refusals.{complexInRange, refusal}
 use Rattle.rules.specs.Step.{StepOutcome, answered, step}
-use Rattle.rules.specs.Sound.{listedInRange, sound}
+use Rattle.rules.specs.Sound.{listedInRange, sound, follows}
 use Rattle.rules.specs.Calls.{Call, called, exceeds, ends, after, one}
 use Rattle.rules.proofs.Filling.{cx}
 use Rattle.rules.proofs.Integers.{plus, minus}
-use Rattle.rules.proofs.Tests.{and-l, and-r}
+use Rattle.rules.proofs.Tests.{and-l, and-r, or-false-l}
 use Rattle.demands.specs.Kept.{Shaped, SoundVenue}
 use Rattle.demands.specs.Truth.{venueAfter}
 use Rattle.demands.proofs.Calls.{kept, fresh-sound}
@@ -34,7 +34,8 @@ use Rattle.state.specs.Held.{venueSize, venueBytes, venueFrom, ListedFits, Decl
 use Rattle.state.proofs.Back.{held-whole}
 use Rattle.engine.specs.Runs.{callOf}
 use Rattle.engine.specs.Hosts.{begun, freshHosted, HeldFirst, hosted, leaves, oneHosted, HeldNext}
-use Rattle.engine.proofs.Calling.{one-unsound, one-ends, one-does}
+use Rattle.engine.proofs.Following.{editions-fit}
+use Rattle.engine.proofs.Calling.{one-unready, one-ends, one-does}
 
 -- The first venue -----------------------------------------------------------------------------
 
@@ -88,7 +89,7 @@ declared v s =
     let k = sound-out v s in
     let g = k .ranged in
     record {
-      sized = record { regular = s .shaped .regular; complex = s .shaped .complex; legging = s .shaped .legging; series = s .shaped .series };
+      sized = record { regular = s .shaped .regular; complex = s .shaped .complex; legging = s .shaped .legging; series = s .shaped .series; editions = s .shaped .editions };
       regular = λ i. let f = g .regular i in record { id = f .id; series = omega arith; side = omega arith; price = omega arith; quantity = omega arith };
       complex = λ i. let f = g .complex i in record {
         id = f .id;
@@ -102,6 +103,7 @@ declared v s =
       };
       legging = λ i. let f = g .legging i in record { parent = f .parent; price = omega arith; quantity = omega arith };
       series = λ i. listed-fits (getD (v .series) i notListed) (g .listed i);
+      editions = editions-fit v (k .edited .rise);
       last = omega arith;
     }
   where
@@ -115,12 +117,12 @@ declared v s =
 
 pub held-first : HeldFirst
 unfolding freshHosted
-held-first memory size = rw (eq-eqb (length memory) venueSize size) (held-whole freshVenue (declared freshVenue fresh-sound))
+held-first memory size = rw (eq-eqb (length memory) venueSize size) (held-whole freshVenue (declared freshVenue (fresh-sound .venue)))
 
 -- what is held has the arrays of its type
 pub held-shaped : (memory : List ℕ) → Shaped (venueFrom memory)
 unfolding venueFrom
-held-shaped memory = record { regular = upto-length _ 0 128; complex = upto-length _ 0 32; legging = upto-length _ 0 16; series = upto-length _ 0 8 }
+held-shaped memory = record { regular = upto-length _ 0 128; complex = upto-length _ 0 32; legging = upto-length _ 0 16; series = upto-length _ 0 8; editions = upto-length _ 0 32 }
 
 module _ (memory : List ℕ) (room : ℕ) where
   -- what a call leaves in the memory is the venue that it returned
@@ -156,21 +158,27 @@ module _ (memory : List ℕ) (n room : ℕ) (bs : List ℕ) where
   unfolding step answered venueAfter
   refused-leaves other = one-message .alone v (suc n) bs (eqb-false (refusal v bs) 0 other) .venue
 
-  next-done : (t : Bool) → sound v ≡ true → eqb (a .refused) 0 ≡ t → Next memory room (done memory room (a .effect) (a .refused))
-  next-done true fine e =
-      let w : Venue = a .effect .venue in
-      let s : SoundVenue w = kept v (record { shaped = held-shaped memory; is = fine }) (suc n) bs in
-      next-accepted memory room (a .effect) (a .refused) e (held-whole w (declared w s))
-  next-done false fine e = next-refused memory room (a .effect) (a .refused) e (refused-leaves e)
+  -- a message done has a number
+  numbered : exceeds (suc n) room (a .effect .reports) ≡ false → suc n ≤ 4294967295
+  unfolding exceeds
+  numbered e = ltb-false 4294967295 (suc n) (or-false-l (ltb 4294967295 (suc n)) _ e)
 
-  next-sound : (t : Bool) → sound v ≡ true → exceeds (suc n) room (a .effect .reports) ≡ t → Next memory room (one v n room bs)
-  next-sound true fine e = subst (Next memory room) (one-ends v n room bs fine e) (next-ended memory room 10 refl)
-  next-sound false fine e = subst (Next memory room) (one-does v n room bs fine e) (next-done (eqb (a .refused) 0) fine refl)
+  module _ (fine : (sound v && follows (suc n) v) ≡ true) where
+    next-done : (t : Bool) → suc n ≤ 4294967295 → eqb (a .refused) 0 ≡ t → Next memory room (done memory room (a .effect) (a .refused))
+    next-done true few e =
+        let w : Venue = a .effect .venue in
+        let s : SoundVenue w = kept v (suc n) (omega arith) (record { venue = record { shaped = held-shaped memory; is = and-l (sound v) _ fine }; next = and-r (sound v) _ fine }) bs .venue in
+        next-accepted memory room (a .effect) (a .refused) e (held-whole w (declared w s))
+    next-done false few e = next-refused memory room (a .effect) (a .refused) e (refused-leaves e)
 
-  next : (t : Bool) → sound v ≡ t → Next memory room (one v n room bs)
-  next true fine = next-sound (exceeds (suc n) room (a .effect .reports)) fine refl
-  next false e = subst (Next memory room) (one-unsound v n room bs e) (next-ended memory room 9 refl)
+    next-ready : (t : Bool) → exceeds (suc n) room (a .effect .reports) ≡ t → Next memory room (one v n room bs)
+    next-ready true e = subst (Next memory room) (one-ends v n room bs fine e) (next-ended memory room 10 refl)
+    next-ready false e = subst (Next memory room) (one-does v n room bs fine e) (next-done (eqb (a .refused) 0) (numbered e) refl)
+
+  next : (t : Bool) → (sound v && follows (suc n) v) ≡ t → Next memory room (one v n room bs)
+  next true fine = next-ready fine (exceeds (suc n) room (a .effect .reports)) refl
+  next false e = subst (Next memory room) (one-unready v n room bs e) (next-ended memory room 9 refl)
 
 pub held-next : HeldNext
 unfolding oneHosted
-held-next memory n room bs size = rw (eq-eqb (length memory) venueSize size) (next memory n room bs (sound (venueFrom memory)) refl)
+held-next memory n room bs size = rw (eq-eqb (length memory) venueSize size) (next memory n room bs (sound (venueFrom memory) && follows (suc n) (venueFrom memory)) refl)

@@ -1,7 +1,9 @@
 pub mod Proceeding
 pub mod Running
+pub mod Following
 pub mod Calling
 pub mod Hosting
+pub mod Telling
 pub mod Sheets
 pub mod Feeding
 pub mod Lists

@@ -17,7 +17,7 @@ use Rattle.rules.specs.Step.{StepOutcome, answered, step}
 use Rattle.rules.specs.Calls.{Outcome, exceeds, ends, after, runFrom, run}
 use Rattle.rules.proofs.Calling.{no-number, no-room, not-exceeds, run-full, run-torn, run-on, run-none}
 use Rattle.rules.proofs.Refusing.{whole}
-use Rattle.demands.specs.Kept.{SoundVenue}
+use Rattle.demands.specs.Kept.{SoundAt}
 use Rattle.demands.proofs.Calls.{kept, fresh-sound}
 use Rattle.wire.proofs.Writes.{part-all}
 use Rattle.reader.specs.declared.Head.{Head}
@@ -33,7 +33,7 @@ use Rattle.engine.proofs.Proceeding.{goes-on, goes-not, turn-ends, too-
 -- A turn --------------------------------------------------------------------------------------
 
 -- no number is left for the message
-pub turn-no-number : (t : Turn) (m b l : List ℕ) → t .at < length m → t .written ≤ length l → Dense b → SoundVenue (venueOf b) → t .done ≡ 4294967295 →
+pub turn-no-number : (t : Turn) (m b l : List ℕ) → t .at < length m → t .written ≤ length l → Dense b → SoundAt (suc (t .done)) (venueOf b) → t .done ≡ 4294967295 →
     Turns m t b l (record { number = 10; done = t .done; at = t .at; written = t .written }) b l
 turn-no-number t m b l a w d s e =
     record {
@@ -46,7 +46,7 @@ turn-no-number t m b l a w d s e =
     }
 
 -- the message was tried: r is what was returned, and ys what is left of the report from t's position on
-module _ (t : Turn) (m b₀ b l ys : List ℕ) (r : Stepped) (a : t .at < length m) (w : t .written ≤ length l) (s : SoundVenue (venueOf b₀)) (d : t .done < 4294967295)
+module _ (t : Turn) (m b₀ b l ys : List ℕ) (r : Stepped) (a : t .at < length m) (w : t .written ≤ length l) (s : SoundAt (suc (t .done)) (venueOf b₀)) (d : t .done < 4294967295)
     (tries : Tries (step (venueOf b₀) (t .done + 1) (take (length m - t .at) (drop (t .at) m))) b₀ (take (length l - t .written) (drop (t .written) l)) r b ys) where
   abbrev bs : List ℕ
   bs = drop (t .at) m
@@ -96,8 +96,8 @@ module _ (t : Turn) (m b₀ b l ys : List ℕ) (r : Stepped) (a : t .at < length
     same-venue : venueOf b ≡ done .effect .venue
     same-venue = venue-is done (t .written) b₀ b l ys r w tried h
 
-    sound-still : SoundVenue (venueOf b)
-    sound-still = rw same-venue (kept v s (suc (t .done)) bs)
+    sound-still : SoundAt (suc (t .done + 1)) (venueOf b)
+    sound-still = rw (same-venue, add-one (t .done)) (kept v (suc (t .done)) (omega arith) s bs)
 
     -- what is torn ends the run
     turn-torn : torn bs ≡ true → (n : ℕ) → Turns m t b₀ l (record { number = 1; done = t .done + 1; at = t .at + n; written = t .written + r .written }) b back
@@ -158,7 +158,7 @@ pub record Running (m l₀ b l : List ℕ) (t : Turn) : Type 0 where
   pub count : t .done ≤ t .at
   pub at-in : t .at ≤ length m
   pub dense : Dense b
-  pub sound : SoundVenue (venueOf b)
+  pub sound : SoundAt (suc (t .done)) (venueOf b)
 
 abbrev pub RunEnded : (m l₀ b l : List ℕ) (t : Turn) → Type 0
 RunEnded m l₀ b l t = Ended (wholeRun m l₀) l₀ b l (t .number) (t .done) (t .written)
@@ -224,7 +224,7 @@ running-start m b l n f =
       count = zero-le;
       at-in = zero-le;
       dense = f .dense;
-      sound = subst SoundVenue (sym (f .venue)) fresh-sound;
+      sound = subst (SoundAt 1) (sym (f .venue)) fresh-sound;
     }
 
 -- the rest of the report zeroed, and the venue read

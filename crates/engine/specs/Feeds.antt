@@ -3,7 +3,7 @@ use mathlib.Core.Path.{_≡_}
 use mathlib.Core.List.{List}
 use Prim.Native.Nat.{ℕ, suc, _+_, _-_, _<_}
 use lib.ListN.{length, drop}
-use Rattle.demands.specs.Kept.{SoundVenue}
+use Rattle.demands.specs.Kept.{SoundAt}
 use Rattle.places.specs.Layout.{venueOf, Dense}
 use Rattle.feed.specs.Feed.{Part, next}
 use Rattle.feed.specs.Cursors.{upNext, advanceOf}
@@ -23,4 +23,4 @@ pub record Feeds (main spare : List ℕ) (t : Fed) (b₀ l₀ : List ℕ) (r : F
   pub moved : r .number ≡ 0 → (r .done ≡ suc (t .done)) × (r .main ≡ t .main + advanceOf (suc (t .done)) (drop (t .main) main))
       × (r .spare ≡ t .spare + advanceOf (suc (t .done)) (drop (t .spare) spare)) × (t .main + t .spare < r .main + r .spare)
   pub dense : Dense b
-  pub sound : SoundVenue (venueOf b)
+  pub sound : SoundAt (suc (r .done)) (venueOf b)

@@ -1,13 +1,15 @@
--- What a host sees of its first venue, and of one message upon the venue in its memory.
+-- What a host sees of its first venue, of one message upon the venue in its memory, and of that venue's settings.
 use mathlib.Core.Path.{_≡_}
-use mathlib.Core.List.{List, []}
-use Prim.Native.Nat.{ℕ}
-use lib.Dec.{eqb}
-use lib.ListN.{length}
+use mathlib.Core.Bool.{_&&_}
+use mathlib.Core.List.{List, [], _∷_, _++_}
+use Prim.Native.Nat.{ℕ, _-_}
+use lib.Dec.{leb, eqb}
+use lib.ListN.{length, replicate}
+use Rattle.rules.specs.declared.Settings.{Settings}
 use Rattle.rules.specs.Base.{if_then_else_}
 use Rattle.rules.specs.Words.{freshVenue}
 use Rattle.rules.specs.Records.{sheet}
-use Rattle.rules.specs.Calls.{Call, one}
+use Rattle.rules.specs.Calls.{Call, one, settings}
 use Rattle.state.specs.Held.{venueSize, venueBytes, venueFrom}
 
 -- The first venue -----------------------------------------------------------------------------
@@ -51,3 +53,25 @@ oneHosted memory n room bs =
 abbrev pub HeldNext : Type 0
 HeldNext = (memory : List ℕ) (n room : ℕ) (bs : List ℕ) → length memory ≡ venueSize →
     venueFrom (oneHosted memory n room bs .venue) ≡ one (venueFrom memory) n room bs .returned .venue
+
+-- The settings --------------------------------------------------------------------------------
+
+-- the number, and what the memory for the settings holds
+pub record Told : Type 0 where
+  pub number : ℕ
+  pub memory : List ℕ
+
+abbrev pub told : (number : ℕ) (memory : List ℕ) → Told
+told n m = record { number = n; memory = m }
+
+-- the eight increments, then the percent
+unfoldable pub settingsBytes : Settings → List ℕ
+settingsBytes s = s .increments ++ s .percent ∷ []
+
+-- The settings at a message number of the venue that the memory holds: their nine bytes, then zeros. "asked of an unsound venue, the settings are told as 9
+-- and zeros"; a memory of another length holds no venue, and one of fewer than nine bytes cannot hold the settings: 9 and zeros too.
+unfoldable pub settingsHosted : (memory : List ℕ) (number room : ℕ) → Told
+settingsHosted memory n room =
+    if eqb (length memory) venueSize && leb 9 room
+    then (let s = settings (venueFrom memory) n in told (s .number) (settingsBytes s ++ replicate (room - 9) 0))
+    else told 9 (replicate room 0)

@@ -1,5 +1,6 @@
 -- Where a call stands that goes on in turns, and what a turn of a run and the call leave.
 use mathlib.Core.Path.{_≡_}
+use mathlib.Core.Bool.{Bool, true, _&&_}
 use mathlib.Core.List.{List, _++_}
 use Prim.Native.Nat.{ℕ, suc, _+_, _-_, _≤_, _<_}
 use lib.Dec.{eqb}
@@ -8,9 +9,10 @@ use Rattle.rules.specs.declared.Venue.{Venue}
 use Rattle.rules.specs.Base.{if_then_else_}
 use Rattle.rules.specs.Records.{Report, encodeAll}
 use Rattle.rules.specs.declared.Returned.{Returned}
+use Rattle.rules.specs.Sound.{sound, follows}
 use Rattle.rules.specs.Calls.{Outcome, Call, ends, runFrom}
-use Rattle.demands.specs.Kept.{SoundVenue}
-use Rattle.places.specs.Layout.{venueOf, Dense}
+use Rattle.demands.specs.Kept.{SoundAt}
+use Rattle.places.specs.Layout.{venueOf, Dense, Loaded}
 use Rattle.engine.specs.declared.Turn.{Turn}
 
 -- an outcome after k messages and their records
@@ -37,7 +39,12 @@ pub record Turns (m : List ℕ) (t : Turn) (b₀ l₀ : List ℕ) (r : Turn) (b 
       (runFrom fuel (venueOf b) (r .done) (length l₀ - r .written) (drop (r .at) m))
   pub moved : r .number ≡ 0 → (t .at < r .at) × (r .at ≤ length m) × (r .done ≡ suc (t .done))
   pub dense : Dense b
-  pub sound : SoundVenue (venueOf b)
+  pub sound : SoundAt (suc (r .done)) (venueOf b)
+
+-- r tells whether v is sound and the number after n above every kept edition's; where so, b stands for v
+pub record Ready (v : Venue) (n : ℕ) (r : Bool) (b : List ℕ) : Type 0 where
+  pub answer : r ≡ (sound v && follows (suc n) v)
+  pub loaded : r ≡ true → Loaded v b
 
 -- what a call returned and the report memory that it left
 abbrev pub callOf : Returned → List ℕ → Call

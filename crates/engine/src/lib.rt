@@ -1,20 +1,23 @@
-// The engine: the run of a message list; one message upon a venue held by value; the messages of two lines of one feed; each for a host.
+// The engine: the run of a message list; one message upon a venue held by value; the messages of two lines of one feed; each, and the settings at a message
+// number, for a host.
 use reader::Head;
 use rules::Returned;
+use rules::Settings;
 use rules::Venue;
 ghost use mathlib.Core.Path.{_≡_};
 ghost use mathlib.Core.Bool.{true};
-ghost use Prim.Native.Nat.{_+_, _≤_, _<_};
+ghost use Prim.Native.Nat.{suc, _+_, _≤_, _<_};
 ghost use lib.ListN.{length, drop};
 ghost use Rattle.rules.specs.Calls.{called, ends};
 ghost use Rattle.rules.specs.Calls as calls;
-ghost use Rattle.demands.specs.Kept.{SoundVenue};
+ghost use Rattle.demands.specs.Kept.{SoundAt};
 ghost use Rattle.reader.specs.Head.{headAt};
+ghost use Rattle.wire.specs.Seen.{pasted};
 ghost use Rattle.places.specs.Layout.{size, venueOf, Dense};
 ghost use Rattle.feed.specs.Cursors.{ready};
 ghost use Rattle.feed.specs.Feed as feeding;
-ghost use Rattle.engine.specs.Runs.{Turns, callOf};
-ghost use Rattle.engine.specs.Hosts.{begun, freshHosted, hosted, oneHosted};
+ghost use Rattle.engine.specs.Runs.{Turns, Ready, callOf};
+ghost use Rattle.engine.specs.Hosts.{begun, freshHosted, hosted, oneHosted, settingsBytes, told, settingsHosted};
 ghost use Rattle.engine.specs.Feeds.{stopsAt, Feeds};
 
 // A run -----------------------------------------------------------------------------------------
@@ -29,7 +32,7 @@ pub struct Turn {
 
 // One message more, or what is torn: `head` stands at the position.
 fn advance(t: Turn, head: Head, b: &mut [u32], messages: &[u8], report: &mut [u8]) -> Turn
-    requires { ⌜ (length (now b) ≡ size) × (Dense (now b)) × (SoundVenue (venueOf (now b))) × (t .at < length (now messages)) × (t .written ≤ length (now report)) × (head ≡ headAt (now messages) (t .at)) ⌝ }
+    requires { ⌜ (length (now b) ≡ size) × (Dense (now b)) × (SoundAt (suc (t .done)) (venueOf (now b))) × (t .at < length (now messages)) × (t .written ≤ length (now report)) × (head ≡ headAt (now messages) (t .at)) ⌝ }
     ensures { λ r. ⌜ Turns (now (messages .entry)) t (now (b .entry)) (now (report .entry)) r (now (b .exit)) (now (report .exit)) ⌝ }
 {
     let at = t.at;
@@ -96,6 +99,21 @@ pub fn run(messages: &[u8], report: &mut [u8]) -> Returned
 
 // One message upon a venue -----------------------------------------------------------------------
 
+// Whether a venue is sound and the number of its next message, one more than `before`, above every kept edition's; one for which this holds stands in
+// the slice afterwards. No edition kept has a number above the last that there is.
+pub fn load_ready(b: &mut [u32], venue: Venue, before: u32) -> bool
+    requires { ⌜ length (now b) ≡ size ⌝ }
+    ensures { λ r. ⌜ Ready venue before r (now (b .exit)) ⌝ }
+{
+    if !soundness::load_sound(b, venue) {
+        return false;
+    }
+    if before == 4294967295 {
+        return true;
+    }
+    soundness::follows_editions(b, before + 1)
+}
+
 // A call that ends before its message: the venue as it was given, and a report of zeros.
 fn end_call(number: u8, venue: Venue, report: &mut [u8]) -> Returned
     ensures { λ r. ⌜ callOf r (now (report .exit)) ≡ called (length (now (report .entry))) (ends number venue) ⌝ }
@@ -113,8 +131,8 @@ fn end_call(number: u8, venue: Venue, report: &mut [u8]) -> Returned
 pub fn one_message(venue: Venue, before: u32, message: &[u8], report: &mut [u8]) -> Returned
     ensures { λ r. ⌜ callOf r (now (report .exit)) ≡ calls.one venue before (length (now (report .entry))) (now (message .entry)) ⌝ }
 {
-    let mut b = [0u32; 830];
-    if !soundness::load_sound(&mut b, venue) {
+    let mut b = [0u32; 975];
+    if !load_ready(&mut b, venue, before) {
         return end_call(9, venue, report);
     }
     if before == 4294967295 {
@@ -161,7 +179,7 @@ fn stop_at(t: Fed, number: u8) -> Fed
 
 // One message more, or what stops it. The lines are not both at their ends.
 fn hand_out<'a>(t: Fed, b: &mut [u32], main: &'a [u8], spare: &'a [u8], report: &mut [u8]) -> Fed
-    requires { ⌜ (length (now b) ≡ size) × (Dense (now b)) × (SoundVenue (venueOf (now b))) × (t .written ≤ length (now report)) × (ready (t .done) (drop (t .main) (now main)) ≡ true) × (ready (t .done) (drop (t .spare) (now spare)) ≡ true) × (t .main ≤ length (now main)) × (t .spare ≤ length (now spare)) × (t .main + t .spare < length (now main) + length (now spare)) ⌝ }
+    requires { ⌜ (length (now b) ≡ size) × (Dense (now b)) × (SoundAt (suc (t .done)) (venueOf (now b))) × (t .written ≤ length (now report)) × (ready (t .done) (drop (t .main) (now main)) ≡ true) × (ready (t .done) (drop (t .spare) (now spare)) ≡ true) × (t .main ≤ length (now main)) × (t .spare ≤ length (now spare)) × (t .main + t .spare < length (now main) + length (now spare)) ⌝ }
     ensures { λ r. ⌜ Feeds (now (main .entry)) (now (spare .entry)) t (now (b .entry)) (now (report .entry)) r (now (b .exit)) (now (report .exit)) ⌝ }
 {
     let at = t.main;
@@ -251,7 +269,7 @@ pub extern "C" fn legging_run(messages: &[u8], report: &mut [u8]) -> u8
 pub extern "C" fn legging_fresh(venue: &mut [u8]) -> u8
     ensures { λ r. ⌜ begun r (now (venue .exit)) ≡ freshHosted (now (venue .entry)) ⌝ }
 {
-    if venue.len() != 2604 {
+    if venue.len() != state::VENUE_SIZE {
         return 9;
     }
     let fresh = rules::fresh();
@@ -270,7 +288,7 @@ pub extern "C" fn legging_message(
 ) -> u8
     ensures { λ r. ⌜ hosted r (now (venue .exit)) (now (report .exit)) ≡ oneHosted (now (venue .entry)) before (length (now (report .entry))) (now (message .entry)) ⌝ }
 {
-    if venue.len() != 2604 {
+    if venue.len() != state::VENUE_SIZE {
         wire::zero_from(report, 0);
         return 9;
     }
@@ -291,4 +309,34 @@ pub extern "C" fn legging_feed<'a>(main: &'a [u8], spare: &'a [u8], report: &mut
 {
     let r = feed(main, spare, report);
     r.number
+}
+
+// The settings' bytes at the front of a memory.
+fn put_settings(out: &mut [u8], s: Settings)
+    requires { ⌜ 9 ≤ length (now out) ⌝ }
+    ensures { λ _. ⌜ now (out .exit) ≡ pasted (now (out .entry)) 0 (settingsBytes s) ⌝ }
+{
+    let increments = s.increments;
+    let at = wire::put(out, 0, &increments);
+    let percent = [s.percent];
+    wire::put(out, at, &percent);
+}
+
+// The settings of the venue in a host's memory at a message number: the eight increments, then the percent, in the first nine bytes of the memory for
+// them, and zero in each byte after; the number is returned. A memory of another length holds no venue, and one of fewer bytes no settings.
+#[no_mangle]
+pub extern "C" fn legging_settings(venue: &[u8], number: u32, settings: &mut [u8]) -> u8
+    ensures { λ r. ⌜ told r (now (settings .exit)) ≡ settingsHosted (now (venue .entry)) number (length (now (settings .entry))) ⌝ }
+{
+    wire::zero_from(settings, 0);
+    if venue.len() != state::VENUE_SIZE {
+        return 9;
+    }
+    if settings.len() < 9 {
+        return 9;
+    }
+    let given = state::venue_from(venue);
+    let s = dates::settings(given, number);
+    put_settings(settings, s);
+    s.number
 }

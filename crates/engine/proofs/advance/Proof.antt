@@ -30,7 +30,7 @@ part-try-step-end-2 : tie.Need-part-try-step-end-2
 part-try-step-end-2 c = search needs
 
 try-step-requires : tie.Need-try-step-requires
-try-step-requires c κs = search needs
+try-step-requires c κs = let s = c .before .before .before .before .before .before .before in (s .pre .0, s .pre .1, s .pre .2 .venue)
 
 sub-if2 : tie.Need-sub-if2
 sub-if2 c = search needs

@@ -1,28 +1,29 @@
 -- `engine::one_message` meets its contract.
 use mathlib.Core.Path.{_≡_, sym, _∙_}
-use mathlib.Core.Bool.{true}
-use Prim.Native.Nat.{_<_}
+use mathlib.Core.Bool.{true, _&&_}
+use Prim.Native.Nat.{suc, _<_}
 use native.Mathlib.Omega.{arith}
 use borrow.Author.Tests.{not-true, not-false}
-use Rattle.rules.specs.Sound.{sound}
-use Rattle.engine.proofs.Calling.{laid-sound, one-unsound, one-no-number, one-no-room, one-done}
+use Rattle.rules.specs.Sound.{sound, follows}
+use Rattle.rules.proofs.Tests.{and-l}
+use Rattle.engine.proofs.Calling.{laid-sound, one-unready, one-no-number, one-no-room, one-done}
 use borrow.Author.Needs.{needs}
 use Rattle.engine.proofs.one_message.Statement.{statement}
 use Rattle.engine.proofs.one_message.Tie as tie
 
--- the venue is sound
-passed : (c : tie.Else1) → sound (c .before .before .before .before .before .before .args .venue) ≡ true
-passed c = sym (c .before .before .load-sound .ensures .answer) ∙ not-false _ (c .if1 .left)
+-- the venue is sound, and its editions are followed
+passed : (c : tie.Else1) → let a = c .before .before .before .before .before .before .args in (sound (a .venue) && follows (suc (a .before)) (a .venue)) ≡ true
+passed c = sym (c .before .before .load-ready .ensures .answer) ∙ not-false _ (c .if1 .left)
 
 -- a number is left for its message
 numbered : (c : tie.Else2) → c .before .before .before .before .before .before .before .args .before < 4294967295
 numbered c = omega arith
 
-slice-aggregate-load-sound : tie.Need-slice-aggregate-load-sound
-slice-aggregate-load-sound c = search needs
+slice-aggregate-load-ready : tie.Need-slice-aggregate-load-ready
+slice-aggregate-load-ready c = search needs
 
-load-sound-requires : tie.Need-load-sound-requires
-load-sound-requires c κs = search needs
+load-ready-requires : tie.Need-load-ready-requires
+load-ready-requires c κs = search needs
 
 end-call-requires : tie.Need-end-call-requires
 end-call-requires c κs = search needs
@@ -31,7 +32,7 @@ same-length : tie.Need-same-length
 same-length c = search needs
 
 returns : tie.Need-returns
-returns c = let s = c .before .before .before .before .before .before .before .before .before .before in c .before .before .end-call .ensures ∙ one-unsound (s .args .venue) (s .args .before) _ (s .args .message .now) (sym (c .before .before .before .before .before .before .load-sound .ensures .answer) ∙ not-true _ (c .before .before .before .before .if1 .taken))
+returns c = let s = c .before .before .before .before .before .before .before .before .before .before in c .before .before .end-call .ensures ∙ one-unready (s .args .venue) (s .args .before) _ (s .args .message .now) (sym (c .before .before .before .before .before .before .load-ready .ensures .answer) ∙ not-true _ (c .before .before .before .before .if1 .taken))
 
 end-call-requires-2 : tie.Need-end-call-requires-2
 end-call-requires-2 c κs = search needs
@@ -50,8 +51,8 @@ add-step c = search needs
 
 step-requires : tie.Need-step-requires
 step-requires c κs =
-    let l = c .before .before .before .before .before .load-sound .ensures .loaded (not-false _ (c .before .before .before .if1 .left)) in
-    (search needs, l .dense, laid-sound _ _ (passed (c .before .before .before)) (l .venue))
+    let l = c .before .before .before .before .before .load-ready .ensures .loaded (not-false _ (c .before .before .before .if1 .left)) in
+    (search needs, l .dense, laid-sound _ _ (and-l _ _ (passed (c .before .before .before))) (l .venue))
 
 end-call-requires-3 : tie.Need-end-call-requires-3
 end-call-requires-3 c κs = search needs
@@ -60,7 +61,7 @@ same-length-3 : tie.Need-same-length-3
 same-length-3 c = search needs
 
 returns-3 : tie.Need-returns-3
-returns-3 c = let s = c .before .before .before .before .before .before .before .before .before .before .before .before .before .before .before .before .before .before in let k = c .before .before .before .before .before .before .before .before .step in c .before .before .end-call3 .ensures ∙ one-no-room (s .args .venue) (s .args .before) (s .args .message .now) _ (k .last .0) (s .args .report .now) (k .last .1 .1 .1 .0) (k .result) (passed (c .before .before .before .before .before .before .before .before .before .before .before .before)) (c .before .before .before .before .before .before .before .before .before .before .before .before .before .before .load-sound .ensures .loaded (not-false _ (c .before .before .before .before .before .before .before .before .before .before .before .before .if1 .left)) .venue) (numbered (c .before .before .before .before .before .before .before .before .before .before .before)) (k .ensures) (omega arith)
+returns-3 c = let s = c .before .before .before .before .before .before .before .before .before .before .before .before .before .before .before .before .before .before in let k = c .before .before .before .before .before .before .before .before .step in c .before .before .end-call3 .ensures ∙ one-no-room (s .args .venue) (s .args .before) (s .args .message .now) _ (k .last .0) (s .args .report .now) (k .last .1 .1 .1 .0) (k .result) (passed (c .before .before .before .before .before .before .before .before .before .before .before .before)) (c .before .before .before .before .before .before .before .before .before .before .before .before .before .before .load-ready .ensures .loaded (not-false _ (c .before .before .before .before .before .before .before .before .before .before .before .before .if1 .left)) .venue) (numbered (c .before .before .before .before .before .before .before .before .before .before .before)) (k .ensures) (omega arith)
 
 zero-from-requires : tie.Need-zero-from-requires
 zero-from-requires c κs = search needs
@@ -75,14 +76,14 @@ same-length-4 : tie.Need-same-length-4
 same-length-4 c = search needs
 
 returns-4 : tie.Need-returns-4
-returns-4 c = let s = c .before .before .before .before .before .before .before .before .before .before .before .before .before .before .before .before .before .before .before .before in let k = c .before .before .before .before .before .before .before .before .before .before .step in one-done (s .args .venue) (s .args .before) (s .args .message .now) _ (k .last .0) (s .args .report .now) (k .last .1 .1 .1 .0) (k .result) (passed (c .before .before .before .before .before .before .before .before .before .before .before .before .before .before)) (c .before .before .before .before .before .before .before .before .before .before .before .before .before .before .before .before .load-sound .ensures .loaded (not-false _ (c .before .before .before .before .before .before .before .before .before .before .before .before .before .before .if1 .left)) .venue) (numbered (c .before .before .before .before .before .before .before .before .before .before .before .before .before)) (k .ensures) _ _ (omega arith) (c .before .before .before .before .zero-from .ensures) (c .venue-of .ensures)
+returns-4 c = let s = c .before .before .before .before .before .before .before .before .before .before .before .before .before .before .before .before .before .before .before .before in let k = c .before .before .before .before .before .before .before .before .before .before .step in one-done (s .args .venue) (s .args .before) (s .args .message .now) _ (k .last .0) (s .args .report .now) (k .last .1 .1 .1 .0) (k .result) (passed (c .before .before .before .before .before .before .before .before .before .before .before .before .before .before)) (c .before .before .before .before .before .before .before .before .before .before .before .before .before .before .before .before .load-ready .ensures .loaded (not-false _ (c .before .before .before .before .before .before .before .before .before .before .before .before .before .before .if1 .left)) .venue) (numbered (c .before .before .before .before .before .before .before .before .before .before .before .before .before)) (k .ensures) _ _ (omega arith) (c .before .before .before .before .zero-from .ensures) (c .venue-of .ensures)
 
 pub one-message-spec : {M : Type 1} → statement M
 one-message-spec =
     tie.close
     (tie.spec
-    slice-aggregate-load-sound
-    load-sound-requires
+    slice-aggregate-load-ready
+    load-ready-requires
     end-call-requires
     same-length
     returns

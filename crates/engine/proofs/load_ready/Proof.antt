@@ -1,0 +1,48 @@
+-- `engine::load_ready` meets its contract.
+use mathlib.Core.Path.{sym, _∙_}
+use borrow.Author.Tests.{not-true, not-false}
+use Rattle.engine.proofs.Following.{unready, ready-last, ready-next}
+use borrow.Author.Needs.{needs}
+use Rattle.engine.proofs.load_ready.Statement.{statement}
+use Rattle.engine.proofs.load_ready.Tie as tie
+
+load-sound-requires : tie.Need-load-sound-requires
+load-sound-requires c κs = search needs
+
+same-length : tie.Need-same-length
+same-length c = search needs
+
+returns : tie.Need-returns
+returns c = let s = c .before .before .before .before .before .before in unready (s .args .venue) (s .args .before) _ (sym (c .before .before .before .load-sound .ensures .answer) ∙ not-true _ (c .if1 .taken))
+
+same-length-2 : tie.Need-same-length-2
+same-length-2 c = search needs
+
+returns-2 : tie.Need-returns-2
+returns-2 c = let s = c .before .before .before .before .before .before .before in let k = c .before .before .before .before .load-sound .ensures in let t = not-false _ (c .before .if1 .left) in ready-last (s .args .venue) (s .args .before) _ (sym (k .answer) ∙ t) (k .loaded t) (c .if2 .taken)
+
+add-follows-editions : tie.Need-add-follows-editions
+add-follows-editions c = search needs
+
+follows-editions-requires : tie.Need-follows-editions-requires
+follows-editions-requires c κs = search needs
+
+same-length-3 : tie.Need-same-length-3
+same-length-3 c = search needs
+
+returns-3 : tie.Need-returns-3
+returns-3 c = let s = c .before .before .before .before .before .before .before .before .before in let k = c .before .before .before .before .before .before .load-sound .ensures in let t = not-false _ (c .before .before .before .if1 .left) in ready-next (s .args .venue) (s .args .before) _ (sym (k .answer) ∙ t) (k .loaded t) _ (c .follows-editions .ensures)
+
+pub load-ready-spec : {M : Type 1} → statement M
+load-ready-spec =
+    tie.close
+    (tie.spec
+    load-sound-requires
+    same-length
+    returns
+    same-length-2
+    returns-2
+    add-follows-editions
+    follows-editions-requires
+    same-length-3
+    returns-3)
