@@ -13,8 +13,7 @@ use lib.Seq.{getD-take, getD-drop}
 use borrow.Author.Tests.{le-leb, lt-leb, eq-eqb, ne-eqb}
 use Rattle.rules.specs.declared.Venue.{Venue}
 use Rattle.rules.specs.Base.{all}
-use Rattle.rules.specs.Sound.{sound}
-use Rattle.rules.specs.Bytes.{u8At}
+use Rattle.rules.specs.Bytes.{u8At, u32At}
 use Rattle.rules.proofs.Arranging.{all-at}
 use Rattle.rules.proofs.Tests.{and-l, and-r, and-false}
 use Rattle.wire.proofs.Numbers.{u8-drop}
@@ -22,8 +21,9 @@ use Rattle.places.specs.Layout.{upto}
 use Rattle.places.proofs.Tables.{upto-length, upto-at, upto-more}
 use Rattle.layer.specs.Layer.{Lane, freshLane, laneAt, waitSound, waiting, firstWaiting, next}
 use Rattle.state.specs.Held.{venueSize, venueFrom}
+use Rattle.layer.proofs.Ways.{ready}
 use Rattle.layer.proofs.Keeping.{gets-none}
-use Rattle.dispatch.specs.Memory.{countAt, placesAt, placeSize, laneSize, lastAt, messageFrom, placeFrom, laneFrom, lanePart, laneOf, layerFrom}
+use Rattle.dispatch.specs.Memory.{doneAt, countAt, placesAt, placeSize, laneSize, lastAt, messageFrom, placeFrom, laneFrom, lanePart, laneOf, layerFrom}
 use Rattle.dispatch.specs.Checks.{laneSoundBut, ofFour, layerSoundBut}
 
 -- Four of them --------------------------------------------------------------------------------
@@ -153,9 +153,9 @@ module _ (bs : List ℕ) (but v : ℕ) (w : Bool) (e : w ≡ waitSound (laneFrom
   unfolding laneSoundBut
   lane-passed f g = rw (← e, f, eq-eqb v but g)
 
-  pub lane-checked : (x : Venue) (r : Bool) → w ≡ true → v ≢ but → x ≡ venueFrom (take venueSize bs) → r ≡ sound x → r ≡ laneSoundBut but v (laneFrom bs)
+  pub lane-checked : (x : Venue) (d : ℕ) (r : Bool) → w ≡ true → v ≢ but → x ≡ venueFrom (take venueSize bs) → d ≡ u32At bs doneAt → r ≡ ready x d → r ≡ laneSoundBut but v (laneFrom bs)
   unfolding laneSoundBut
-  lane-checked x r f n g q = q ∙ ap sound g ∙ sym (rw (← e, f, ne-eqb v but n) (gets-none (laneFrom bs) ∙ unfold laneFrom in (refl)))
+  lane-checked x d r f n g h q = q ∙ ap₂ ready g h ∙ sym (rw (← e, f, ne-eqb v but n) (gets-none (laneFrom bs) ∙ unfold laneFrom in (refl)))
 
 module _ (m : List ℕ) (but : ℕ) where
   -- lane v of the layer

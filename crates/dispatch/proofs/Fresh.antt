@@ -14,7 +14,7 @@ use Rattle.wire.proofs.Numbers.{u8-drop, u32-here}
 use Rattle.places.specs.Layout.{upto}
 use Rattle.places.proofs.Tables.{upto-length, upto-at}
 use Rattle.state.specs.Held.{venueSize, venueBytes, venueFrom, rows, Sized}
-use Rattle.state.proofs.Sizes.{venue-length}
+use Rattle.state.proofs.Whole.{venue-length}
 use Rattle.engine.specs.Hosts.{freshHosted}
 use Rattle.engine.proofs.Hosting.{held-first}
 use Rattle.layer.specs.Layer.{Lane, Layer, freshLane, freshLayer, laneAt}
@@ -67,7 +67,7 @@ module _ (l : Layer) (four : length (l .lanes) ≡ 4) (whole : Whole (l .lanes))
 -- The fresh layer -----------------------------------------------------------------------------
 
 fresh-sized : Sized freshVenue
-fresh-sized = let s = fresh-sound .shaped in record { regular = s .regular; complex = s .complex; legging = s .legging; series = s .series }
+fresh-sized = let s = fresh-sound .venue .shaped in record { regular = s .regular; complex = s .complex; legging = s .legging; series = s .series; editions = s .editions }
 
 pub fresh-bytes : laneBytes freshLane ≡ venueBytes freshVenue ++ replicate (laneSize - venueSize) 0
 unfolding laneBytes freshLane rows bytes

@@ -16,9 +16,9 @@ ghost use Rattle.dispatch.specs.Checks.{laneSoundBut, layerSoundBut};
 ghost use Rattle.dispatch.specs.Hosts.{replyOf, freshHeld, arriveHeld, idleReturned, turnReplyOf, turnHeld, toldOf, hostTurn};
 
 // A venue's bytes, as crate state has them, and the numbers that it is laid out in to be checked, as crate places has them.
-const VENUE: usize = 2604;
+const VENUE: usize = state::VENUE_SIZE;
 
-const NUMBERS: usize = 830;
+const NUMBERS: usize = 975;
 
 // What follows from them: where the parts of a lane begin (specs/Memory.antt), and the last byte.
 const DONE: usize = VENUE;
@@ -75,8 +75,9 @@ fn lane_sound(lane: &[u8], v: usize, but: usize) -> bool
     }
     let end = VENUE;
     let venue = state::venue_from(&lane[..end]);
+    let before = wire::u32_at(lane, DONE);
     let mut b = [0u32; NUMBERS];
-    soundness::load_sound(&mut b, venue)
+    engine::load_ready(&mut b, venue, before)
 }
 
 // No figure of the layer is out of range, and no venue but one gets 9; with 4, none.

@@ -183,7 +183,7 @@ room-enough l s few room h =
     c = laneAt l (next l)
 
     goes : one (c .venue) (c .done) room (head c) .returned .done ≡ 1
-    goes = most.room-enough (c .venue) (venue-sound l s (next l)) (c .done) room (head c) (few (next l)) h
+    goes = most.room-enough (c .venue) (c .done) (venue-sound l s (next l)) room (head c) (few (next l)) h
 
 -- The answers of an arrival ---------------------------------------------------------------------
 

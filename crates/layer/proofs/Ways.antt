@@ -1,6 +1,6 @@
 -- A one-message call, an arrival and a turn, by the ways in which each ends.
 use mathlib.Core.Path.{_≡_, refl, sym, ap, subst, _∙_}
-use mathlib.Core.Bool.{Bool, true, false, not, _||_, true≢false}
+use mathlib.Core.Bool.{Bool, true, false, not, _&&_, _||_, true≢false}
 use mathlib.Core.Logic.{_≢_, _⊎_, inl, inr}
 use mathlib.Core.List.{List}
 use Prim.Native.Nat.{ℕ, suc, _≤_, _<_}
@@ -12,13 +12,13 @@ use Rattle.rules.specs.declared.Venue.{Venue}
 use Rattle.rules.specs.Base.{if_then_else_}
 use Rattle.rules.specs.Words.{freshVenue}
 use Rattle.rules.specs.Step.{step, answered}
-use Rattle.rules.specs.Sound.{sound}
+use Rattle.rules.specs.Sound.{sound, follows}
 use Rattle.rules.specs.Calls as calls
 use Rattle.rules.specs.Calls.{Call, called, ends, one}
 use Rattle.rules.proofs.Calling.{oneFrom-by}
-use Rattle.rules.proofs.Refusing.{refusal-small}
-use Rattle.rules.proofs.Tests.{or-false-l, or-false-r}
-use Rattle.demands.specs.Kept.{Shaped, SoundVenue}
+use Rattle.rules.proofs.Refusing.{refusal-own}
+use Rattle.rules.proofs.Tests.{and-in, and-l, and-r, or-false-l, or-false-r}
+use Rattle.demands.specs.Kept.{Shaped, SoundAt}
 use Rattle.demands.proofs.Calls.{kept, fresh-sound}
 use Rattle.layer.specs.Layer.{Layer, Turned, Arrived, laneAt, withLane, layerSound, refusalOf, joins, arrive, next, head, headCall, ended, idle, serve, turn}
 
@@ -26,17 +26,17 @@ use Rattle.layer.specs.Layer.{Layer, Turned, Arrived, laneAt, withLane, 
 
 -- a call upon the venue, so many messages having gone before, gets no 9
 abbrev pub ready : Venue → (done : ℕ) → Bool
-ready v n = sound v
+ready v n = sound v && follows (suc n) v
 
 -- the same of a venue of the declared type
 abbrev pub SoundFor : Venue → (done : ℕ) → Type 0
-SoundFor v n = SoundVenue v
+SoundFor v n = SoundAt (suc n) v
 
 pub sound-for-in : (v : Venue) (n : ℕ) → Shaped v → ready v n ≡ true → SoundFor v n
-sound-for-in v n s e = record { shaped = s; is = e }
+sound-for-in v n s e = record { venue = record { shaped = s; is = and-l (sound v) (follows (suc n) v) e }; next = and-r (sound v) (follows (suc n) v) e }
 
 pub sound-for-out : (v : Venue) (n : ℕ) → SoundFor v n → Shaped v × (ready v n ≡ true)
-sound-for-out v n f = (f .shaped, f .is)
+sound-for-out v n f = (f .venue .shaped, and-in (sound v) (follows (suc n) v) (f .venue .is) (f .next))
 
 pub fresh-sound-for : SoundFor freshVenue 0
 fresh-sound-for = fresh-sound
@@ -52,7 +52,7 @@ pub ending : (v : Venue) (n room : ℕ) (bs : List ℕ) → Ending v n room (one
 unfolding one called ends calls.after step answered
 ending v n room bs =
     oneFrom-by (λ o. Ending v n room (called room o)) v n room bs (λ u. unsound u refl) (λ s _. full s refl)
-    (λ s d. let z = refusal-small v bs in did s (λ e. omega arith) (λ e. omega arith) refl (d .0) (λ k. kept v k (suc n) bs))
+    (λ s d. did s (refusal-own v bs 9 (omega arith) (omega arith)) (refusal-own v bs 10 (omega arith) (omega arith)) refl (d .0) (λ k. kept v (suc n) (d .0) k bs))
 
 module _ (v : Venue) (n room : ℕ) (c : Call) where
   -- one that is ended by 9 or 10 does nothing, and any other does its message

@@ -5,6 +5,7 @@ use Prim.Native.Nat.{ℕ}
 use lib.ListN.{replicate}
 use Rattle.rules.specs.declared.Message.the-variants.{Status, Sweep}
 use Rattle.rules.specs.Words.{freshVenue, withSeries}
+use Rattle.rules.specs.Settings.{percentage, enterEdition}
 use Rattle.rules.specs.Messages.{encodeMessage}
 use Rattle.rules.specs.Records.{answer}
 use Rattle.layer.specs.Layer.{Lane, Layer, Asked, arrival, turning, freshLane, freshLayer, arrive, turn, after, afterAll, laneAt}
@@ -38,7 +39,7 @@ session =
 unfoldable pub eight : List Asked
 eight = arrival 1 [] ∷ arrival 1 [] ∷ arrival 1 [] ∷ arrival 1 [] ∷ arrival 1 [] ∷ arrival 1 [] ∷ arrival 1 [] ∷ arrival 1 [] ∷ arrival 1 [] ∷ []
 
--- 9: the venue served last is 4; a message of 33 bytes waits, or a ninth message; a venue is unsound
+-- 9: the venue served last is 4; a message of 33 bytes waits, or a ninth message; a venue is unsound, or its next number not above that of an edition it keeps
 unfoldable pub beyond : Layer
 beyond = record { lanes = freshLayer .lanes; last = 4 }
 
@@ -54,6 +55,10 @@ crowded = withThird (record { venue = freshVenue; done = 0; wait = replicate 9 [
 unfoldable pub unsound : Layer
 unsound = withThird (record { venue = withSeries freshVenue (replicate 8 (record { status = 3; bid = 0; offer = 0 })); done = 0; wait = [] })
 
+-- an edition of message 5, so many messages done
+unfoldable pub dated : (done : ℕ) → Layer
+dated n = withThird (record { venue = enterEdition (record { edition = 1; message = 5; figure = percentage; value = 7 }) freshVenue; done = n; wait = [] })
+
 pub record Witness : Type 0 where
   pub numbered : numbers freshLayer session ≡ 0 ∷ 0 ∷ 0 ∷ 0 ∷ 18 ∷ 18 ∷ 17 ∷ 0 ∷ 0 ∷ 1 ∷ 10 ∷ 0 ∷ 1 ∷ 1 ∷ 0 ∷ []
   pub served : servedBy freshLayer session ≡ 0 ∷ 1 ∷ 4 ∷ 2 ∷ 3 ∷ 0 ∷ 4 ∷ []
@@ -62,4 +67,5 @@ pub record Witness : Type 0 where
   pub counts : laneAt (afterAll freshLayer session) 0 .done ≡ 2
   pub full : numbers freshLayer eight ≡ 0 ∷ 0 ∷ 0 ∷ 0 ∷ 0 ∷ 0 ∷ 0 ∷ 0 ∷ 17 ∷ []
   -- 9 before 18, and of a turn with none waiting
-  pub nine : map (λ l. numbers l (arrival 4 [] ∷ turning 100 ∷ [])) (beyond ∷ long ∷ crowded ∷ unsound ∷ []) ≡ replicate 4 (9 ∷ 9 ∷ [])
+  pub nine : map (λ l. numbers l (arrival 4 [] ∷ turning 100 ∷ [])) (beyond ∷ long ∷ crowded ∷ unsound ∷ dated 4 ∷ []) ≡ replicate 5 (9 ∷ 9 ∷ [])
+  pub follows : numbers (dated 5) (arrival 4 [] ∷ turning 100 ∷ []) ≡ 18 ∷ 0 ∷ []

@@ -24,14 +24,17 @@ slice-aggregate-venue-from c = let p = c .before .before .before .before .before
 venue-from-requires : tie.Need-venue-from-requires
 venue-from-requires c κs = let p = c .before .before .before .before .before .pre in length-take-le venueSize (c .before .before .before .before .before .args .lane .now) (omega arith)
 
-slice-aggregate-load-sound : tie.Need-slice-aggregate-load-sound
-slice-aggregate-load-sound c = search needs
+u32-at-requires : tie.Need-u32-at-requires
+u32-at-requires c κs = search needs
 
-load-sound-requires : tie.Need-load-sound-requires
-load-sound-requires c κs = search needs
+slice-aggregate-load-ready : tie.Need-slice-aggregate-load-ready
+slice-aggregate-load-ready c = search needs
+
+load-ready-requires : tie.Need-load-ready-requires
+load-ready-requires c κs = search needs
 
 returns-3 : tie.Need-returns-3
-returns-3 c = lane-checked _ _ _ _ (c .before .before .before .before .before .before .before .wait-sound .ensures) _ _ (not-false _ (c .before .before .before .before .before .before .if1 .left)) (c .before .before .before .before .before .if2 .left) (c .before .before .before .venue-from .ensures) (c .before .load-sound .ensures .answer)
+returns-3 c = lane-checked _ _ _ _ (c .before .before .before .before .before .before .before .before .wait-sound .ensures) _ _ _ (not-false _ (c .before .before .before .before .before .before .before .if1 .left)) (c .before .before .before .before .before .before .if2 .left) (c .before .before .before .before .venue-from .ensures) (c .before .before .before .u32-at .ensures) (c .before .load-ready .ensures .answer)
 
 pub lane-sound-spec : {M : Type 1} → statement M
 lane-sound-spec =
@@ -42,6 +45,7 @@ lane-sound-spec =
     returns-2
     slice-aggregate-venue-from
     venue-from-requires
-    slice-aggregate-load-sound
-    load-sound-requires
+    u32-at-requires
+    slice-aggregate-load-ready
+    load-ready-requires
     returns-3)
