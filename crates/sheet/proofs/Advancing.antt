@@ -17,8 +17,8 @@ use Rattle.rules.specs.Step.{answered, step}
 use Rattle.rules.specs.Calls.{Call, after, called, ends, one}
 use Rattle.rules.proofs.Calling.{not-exceeds, oneFrom-done, torn-not}
 use Rattle.rules.proofs.Reading.{reads-back}
-use Rattle.rules.proofs.Refusing.{refusal-small, whole}
-use Rattle.demands.specs.Kept.{SoundVenue}
+use Rattle.rules.proofs.Refusing.{whole}
+use Rattle.demands.specs.Kept.{SoundAt}
 use Rattle.demands.specs.Most.{most}
 use Rattle.demands.proofs.Calls.{fresh-sound, kept, step-fits}
 use Rattle.demands.proofs.Most.{writes-at-most}
@@ -42,13 +42,13 @@ record Did (v : Venue) (n : ℕ) (bs : List ℕ) (r : Returned) (report : List �
   venue : r .venue ≡ step v (suc n) bs .effect .venue
   reports : records report ≡ step v (suc n) bs .effect .reports
 
-did : (v : Venue) (n room : ℕ) (bs : List ℕ) (r : Returned) (report : List ℕ) → SoundVenue v → n < 4294967295 → most ≤ room →
+did : (v : Venue) (n room : ℕ) (bs : List ℕ) (r : Returned) (report : List ℕ) → SoundAt (suc n) v → n < 4294967295 → most ≤ room →
     callOf r report ≡ one v n room bs → Did v n bs r report
 unfolding one called after ends
 did v n room bs r report s few enough e =
     let a = step v (suc n) bs in
-    let w = writes-at-most v s (suc n) bs in
-    let o = oneFrom-done v n room bs (s .is) (not-exceeds (suc n) room (a .effect .reports) (omega arith) (omega arith)) in
+    let w = writes-at-most v (s .venue) (suc n) bs in
+    let o = oneFrom-done v n room bs (s .venue .is) (s .next) (not-exceeds (suc n) room (a .effect .reports) (omega arith) (omega arith)) in
     let x : callOf r report ≡ called room (after (a .effect) (ends (a .refused) (a .effect .venue))) = e ∙ ap (called room) o in
     record {
       number = ap (λ (c : Call). c .returned .number) x;
@@ -56,7 +56,7 @@ did v n room bs r report s few enough e =
       venue = ap (λ (c : Call). c .returned .venue) x;
       reports =
           ap (λ (c : Call). records (c .report)) x
-          ∙ rw (append-nil (a .effect .reports)) (reads-back room (a .effect .reports) (step-fits v s (suc n) (omega arith) bs) (omega arith));
+          ∙ rw (append-nil (a .effect .reports)) (reads-back room (a .effect .reports) (step-fits v (s .venue) (suc n) (omega arith) bs) (omega arith));
     }
 
 -- The text ------------------------------------------------------------------------------------
@@ -167,18 +167,21 @@ module _ (m : List ℕ) (p : Progress) (stands : Stands m p) (inside : p .at < l
         is = ap (λ (x : List ℕ). x ++ left m (then r next end)) (st .is) ∙ left-is room r report was next end end-is;
         fits = st .fits;
         stands = record {
-          sound = rw (was .venue) (kept (p .venue) (stands .sound) (suc (p .done)) bs);
+          sound =
+              let x = was .done in
+              let n : suc (p .done + r .done) ≡ suc (suc (p .done)) = omega arith in
+              rw (was .venue, n) (kept (p .venue) (suc (p .done)) (let h = stands .counted in omega arith) (stands .sound) bs);
           counted = (let x = was .done in let y = forward .0 in let z = stands .counted in omega arith);
           inside = within;
         };
         further = (let y = forward .0 in omega arith);
-        answered = (let x = was .number in let y = refusal-small (p .venue) bs in omega arith);
+        done = (let x = was .done in omega arith);
       }
         where
           st : Stood (textOf (reports room r report was)) text end
           st =
-              let t = text-at-most (reports room r report was) (step-fits (p .venue) (stands .sound) (suc (p .done)) (let h = stands .counted in omega arith) bs) in
-              let w = writes-at-most (p .venue) (stands .sound) (suc (p .done)) bs in
+              let t = text-at-most (reports room r report was) (step-fits (p .venue) (stands .sound .venue) (suc (p .done)) (let h = stands .counted in omega arith) bs) in
+              let w = writes-at-most (p .venue) (stands .sound .venue) (suc (p .done)) bs in
               stood l text (textOf (reports room r report was)) end (omega arith) (q ∙ ap (λ (rs : List Report). seen l 0 types textOf rs) (was .reports))
 
 -- The whole list ------------------------------------------------------------------------------

@@ -18,7 +18,7 @@ use Rattle.rules.proofs.Calling.{not-exceeds, run-room, runFrom-by, torn-not}
 use Rattle.rules.proofs.Reading.{reads-back}
 use Rattle.rules.proofs.Refusing.{whole}
 use Rattle.rules.proofs.Widths.{each-append}
-use Rattle.demands.specs.Kept.{SoundVenue}
+use Rattle.demands.specs.Kept.{SoundAt}
 use Rattle.demands.specs.Most.{most}
 use Rattle.demands.proofs.Calls.{fresh-sound, kept, step-fits}
 use Rattle.demands.proofs.Most.{writes-at-most}
@@ -38,7 +38,7 @@ unfolding runFrom ends
 none zero v n room bs h = refl
 none (suc fuel) v n room bs h = rw (h, runFrom)
 
-module _ (v : Venue) (n : ℕ) (bs : List ℕ) (s : SoundVenue v) (some : length bs ≢ 0) (few : n + length bs ≤ 4294967295) where
+module _ (v : Venue) (n : ℕ) (bs : List ℕ) (s : SoundAt (suc n) v) (some : length bs ≢ 0) (few : n + length bs ≤ 4294967295) where
   abbrev reports : List Report
   reports = step v (suc n) bs .effect .reports
 
@@ -46,7 +46,7 @@ module _ (v : Venue) (n : ℕ) (bs : List ℕ) (s : SoundVenue v) (some : length
   next = step v (suc n) bs .effect .venue
 
   fits-in : (room : ℕ) → most * length bs ≤ room → length (encodeAll reports) ≤ room
-  fits-in room enough = let w = writes-at-most v s (suc n) bs in omega arith
+  fits-in room enough = let w = writes-at-most v (s .venue) (suc n) bs in omega arith
 
   -- the message is torn, and the run ends
   run-last : (fuel room : ℕ) → most * length bs ≤ room → step v (suc n) bs .refused ≡ 1 → runFrom (suc fuel) v n room bs .reports ≡ reports
@@ -69,19 +69,19 @@ module _ (v : Venue) (n : ℕ) (bs : List ℕ) (s : SoundVenue v) (some : length
   roomy : step v (suc n) bs .refused ≢ 1 → (room : ℕ) → most * length bs ≤ room → most * length (drop (lengthField bs) bs) ≤ room - length (encodeAll reports)
   roomy t room enough =
       let q = shorter t (length bs - 1) (omega arith) in
-      let w = writes-at-most v s (suc n) bs in
+      let w = writes-at-most v (s .venue) (suc n) bs in
       omega arith
 
 -- The room and the fuel make no difference ----------------------------------------------------
 
-same : (f g : ℕ) (v : Venue) (n r s : ℕ) (bs : List ℕ) → SoundVenue v → n + length bs ≤ 4294967295 → length bs ≤ f → length bs ≤ g →
+same : (f g : ℕ) (v : Venue) (n r s : ℕ) (bs : List ℕ) → SoundAt (suc n) v → n + length bs ≤ 4294967295 → length bs ≤ f → length bs ≤ g →
     most * length bs ≤ r → most * length bs ≤ s → runFrom f v n r bs .reports ≡ runFrom g v n s bs .reports
 same zero g v n r s bs is few a b c d = none zero v n r bs (omega arith) ∙ sym (none g v n s bs (omega arith))
 same (suc f) zero v n r s bs is few a b c d = none (suc f) v n r bs (omega arith) ∙ sym (none zero v n s bs (omega arith))
 same (suc f) (suc g) v n r s bs is few a b c d =
     go (eqb (length bs) 0) refl (eqb (step v (suc n) bs .refused) 1) refl
     (λ some t.
-    same f g (step v (suc n) bs .effect .venue) (suc n) _ _ (drop (lengthField bs) bs) (kept v is (suc n) bs) (fewer v n bs is some few t) (shorter v n bs is some few t f a) (shorter v n bs is some few t g b)
+    same f g (step v (suc n) bs .effect .venue) (suc n) _ _ (drop (lengthField bs) bs) (kept v (suc n) (omega arith) is bs) (fewer v n bs is some few t) (shorter v n bs is some few t f a) (shorter v n bs is some few t g b)
     (roomy v n bs is some few t r c) (roomy v n bs is some few t s d))
   where
     rest : (fuel room : ℕ) → List Report
@@ -100,14 +100,14 @@ same (suc f) (suc g) v n r s bs is few a b c d =
         run-on v n bs is some few f r c t ∙ ap (λ (l : List Report). step v (suc n) bs .effect .reports ++ l) (on some t) ∙ sym (run-on v n bs is some few g s d t)
 
 -- a run that was not ended by 10 has the records of one that is lent enough
-filled-not : (fuel : ℕ) (v : Venue) (n r s : ℕ) (bs : List ℕ) → SoundVenue v → n + length bs ≤ 4294967295 → length bs ≤ fuel → most * length bs ≤ s →
+filled-not : (fuel : ℕ) (v : Venue) (n r s : ℕ) (bs : List ℕ) → SoundAt (suc n) v → n + length bs ≤ 4294967295 → length bs ≤ fuel → most * length bs ≤ s →
     runFrom fuel v n r bs .number ≢ 10 → runFrom fuel v n r bs .reports ≡ runFrom fuel v n s bs .reports
 unfolding ends after
 filled-not zero v n r s bs is few le enough = unfold runFrom in (λ _. refl)
 filled-not (suc fuel) v n r s bs is few le enough =
     go (eqb (length bs) 0) refl
     (λ some t h.
-    filled-not fuel (step v (suc n) bs .effect .venue) (suc n) _ _ (drop (lengthField bs) bs) (kept v is (suc n) bs) (fewer v n bs is some few t) (shorter v n bs is some few t fuel le)
+    filled-not fuel (step v (suc n) bs .effect .venue) (suc n) _ _ (drop (lengthField bs) bs) (kept v (suc n) (omega arith) is bs) (fewer v n bs is some few t) (shorter v n bs is some few t fuel le)
     (roomy v n bs is some few t s enough) h)
   where
     rest : (room : ℕ) → Outcome
@@ -127,7 +127,7 @@ filled-not (suc fuel) v n r s bs is few le enough =
 
 -- The text ------------------------------------------------------------------------------------
 
-module _ (v : Venue) (n : ℕ) (bs : List ℕ) (s : SoundVenue v) (some : length bs ≢ 0) (few : n + length bs ≤ 4294967295) where
+module _ (v : Venue) (n : ℕ) (bs : List ℕ) (s : SoundAt (suc n) v) (some : length bs ≢ 0) (few : n + length bs ≤ 4294967295) where
   more-fuel : textFrom v n bs ≡ textOf (runFrom (suc (length bs)) v n (most * length bs) bs .reports)
   unfolding textFrom
   more-fuel = ap textOf (same (length bs) (suc (length bs)) v n _ _ bs s few (omega arith) (omega arith) (omega arith) (omega arith))
@@ -143,7 +143,7 @@ module _ (v : Venue) (n : ℕ) (bs : List ℕ) (s : SoundVenue v) (some : length
       more-fuel ∙ ap textOf (run-on v n bs s some few (length bs) _ (omega arith) t)
       ∙ text-append (step v (suc n) bs .effect .reports) _
       ∙ ap (λ (rs : List Report). textOf (step v (suc n) bs .effect .reports) ++ textOf rs)
-      (same (length bs) (length l) _ (suc n) _ _ l (kept v s (suc n) bs) (fewer v n bs s some few t) (shorter v n bs s some few t (length bs) (omega arith)) (omega arith)
+      (same (length bs) (length l) _ (suc n) _ _ l (kept v (suc n) (omega arith) s bs) (fewer v n bs s some few t) (shorter v n bs s some few t (length bs) (omega arith)) (omega arith)
       (roomy v n bs s some few t _ (omega arith)) (omega arith))
 
 pub text-none : (v : Venue) (n : ℕ) (bs : List ℕ) → length bs ≡ 0 → textFrom v n bs ≡ []
@@ -153,15 +153,15 @@ text-none v n bs h = ap textOf (none (length bs) v n _ bs h)
 -- Before the first message --------------------------------------------------------------------
 
 -- every record of a run upon a sound venue fits its widths
-run-fits : (fuel : ℕ) (v : Venue) (n room : ℕ) (bs : List ℕ) → SoundVenue v → ForAll Fits (runFrom fuel v n room bs .reports)
+run-fits : (fuel : ℕ) (v : Venue) (n room : ℕ) (bs : List ℕ) → SoundAt (suc n) v → ForAll Fits (runFrom fuel v n room bs .reports)
 unfolding ends after
 run-fits zero v n room bs s = unfold runFrom in tt
 run-fits (suc fuel) v n room bs s =
     let rs = step v (suc n) bs .effect .reports in
     let more = runFrom fuel (step v (suc n) bs .effect .venue) (suc n) (room - length (encodeAll rs)) (drop (lengthField bs) bs) .reports in
     runFrom-by (λ (o : Outcome). ForAll Fits (o .reports)) v n room bs fuel (λ _. tt) (λ _ _. tt)
-    (λ d _. each-append Fits rs [] (step-fits v s (suc n) (d .0) bs) tt)
-    (λ d _. each-append Fits rs more (step-fits v s (suc n) (d .0) bs) (run-fits fuel _ (suc n) _ (drop (lengthField bs) bs) (kept v s (suc n) bs)))
+    (λ d _. each-append Fits rs [] (step-fits v (s .venue) (suc n) (d .0) bs) tt)
+    (λ d _. each-append Fits rs more (step-fits v (s .venue) (suc n) (d .0) bs) (run-fits fuel _ (suc n) _ (drop (lengthField bs) bs) (kept v (suc n) (d .0) s bs)))
 
 -- a run's report memory reads back
 read-back : (room : ℕ) (m : List ℕ) → records (run room m .report) ≡ runFrom (length m) freshVenue 0 room m .reports

@@ -3,7 +3,7 @@
 use mathlib.Core.Path.{_≡_}
 use mathlib.Core.Logic.{_≢_}
 use mathlib.Core.List.{List, [], _++_}
-use Prim.Native.Nat.{ℕ, _*_, _≤_, _<_}
+use Prim.Native.Nat.{ℕ, suc, _*_, _≤_, _<_}
 use lib.Dec.{eqb}
 use lib.ListN.{length, take, drop}
 use Rattle.rules.specs.declared.Venue.{Venue}
@@ -12,7 +12,7 @@ use Rattle.rules.specs.Bytes.{lengthField}
 use Rattle.rules.specs.Words.{freshVenue}
 use Rattle.rules.specs.Records.{records}
 use Rattle.rules.specs.Calls.{run, runFrom}
-use Rattle.demands.specs.Kept.{SoundVenue}
+use Rattle.demands.specs.Kept.{SoundAt}
 use Rattle.demands.specs.Most.{most}
 use Rattle.lines.specs.Lines.{textOf}
 use Rattle.sheet.specs.declared.Progress.{Progress}
@@ -52,17 +52,17 @@ started = record { number = 0; done = 0; at = 0; written = 0; venue = freshVenue
 
 -- between two messages
 pub record Stands (m : List ℕ) (p : Progress) : Type 0 where
-  pub sound : SoundVenue (p .venue)
+  pub sound : SoundAt (suc (p .done)) (p .venue)
   pub counted : p .done ≤ p .at
   pub inside : p .at ≤ length m
 
--- One message more: its text is at the start of a memory. It and what is left are what was left before; no call answers 9 or 10.
+-- One message more: its text is at the start of a memory. It and what is left are what was left before. Its call did it, so none answers 9 or 10.
 pub record Prints (m : List ℕ) (p : Progress) (memory : List ℕ) (r : Progress) : Type 0 where
   pub is : take (r .written) memory ++ left m r ≡ left m p
   pub fits : r .written ≤ length memory
   pub stands : Stands m r
   pub further : p .at < r .at
-  pub answered : r .number ≤ 8
+  pub done : r .done ≡ suc (p .done)
 
 -- The whole list ------------------------------------------------------------------------------
 

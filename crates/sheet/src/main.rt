@@ -82,8 +82,9 @@ fn print_list(messages: &[u8]) -> bool
     let mut text = [0u8; 25280];
     let mut p = start();
     while p.at < messages.len() {
+        let done = p.done;
         p = advance(p, messages, &mut report, &mut text);
-        if 8 < p.number {
+        if p.done == done {
             complain(p.done, p.number);
             return false;
         }
