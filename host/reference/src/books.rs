@@ -2,9 +2,9 @@
 
 use crate::book::{Level, RegularBook, Resting};
 use crate::price::{
-    better, bit, facing, in_band, is_open, place, series_of, side_of, signed, Place, BAND_PERCENT,
+    better, bit, displayed, facing, in_band, is_open, place, series_of, side_of, signed, Place,
 };
-use crate::types::{Complex, Legging, Listed, Regular, Venue};
+use crate::types::{Complex, Edition, Legging, Listed, Regular, Settings, Venue};
 use crate::types::{BUY, COMPLEX_PLACES, LEGGING_PLACES, SERIES};
 
 #[derive(Clone, Copy, Debug)]
@@ -72,6 +72,10 @@ pub struct Books {
     pub filled: u16,
     pub series: [Listed; SERIES],
     pub last: u32,
+    /// In rising edition and message number.
+    pub editions: Vec<Edition>,
+    /// In force: of each figure the last of the editions.
+    pub settings: Settings,
 }
 
 impl Books {
@@ -83,6 +87,8 @@ impl Books {
             filled: 0,
             series: [Listed::FRESH; SERIES],
             last: 0,
+            editions: Vec::new(),
+            settings: Settings::FIRST,
         }
     }
 
@@ -144,9 +150,17 @@ impl Books {
 
     pub fn is_in_band(&self, net: i32, legs: [Place; 2]) -> bool {
         match self.market_net(legs) {
-            Some(market) => in_band(net, market, BAND_PERCENT),
+            Some(market) => in_band(net, market, self.settings.percent),
             None => false,
         }
+    }
+
+    pub fn increment(&self, place: Place) -> u8 {
+        self.settings.increments[series_of(place)]
+    }
+
+    pub fn displayed(&self, place: Place, price: i32) -> i32 {
+        displayed(place, price, self.increment(place))
     }
 
     pub fn complex_index(&self, id: u32) -> Option<usize> {
@@ -210,6 +224,7 @@ impl Books {
         }
         venue.series = self.series;
         venue.last = self.last;
+        venue.editions[..self.editions.len()].copy_from_slice(&self.editions);
         venue
     }
 }

@@ -1,8 +1,9 @@
-//! The two calls: a run over a message list, and one message upon a venue.
+//! The calls: a run over a message list, one message upon a venue, and the
+//! settings of a venue.
 
 use crate::books::Books;
 use crate::sound::lay_out;
-use crate::types::{Returned, Venue};
+use crate::types::{Returned, Settings, Venue};
 use crate::wire::{decode, first_message, Message, Refusal, Report, ANSWER_BYTES};
 
 const UNSOUND: u8 = 9;
@@ -58,6 +59,10 @@ pub fn one_message(venue: &Venue, before: u32, message: &[u8], report: &mut [u8]
     let Some(next) = before.checked_add(1) else {
         return ended(ENDED_EARLY, venue, report);
     };
+    let kept = books.editions.last().map_or(0, |last| last.number);
+    if next <= kept {
+        return ended(UNSOUND, venue, report);
+    }
     match take(&mut books, next, first_message(message), &mut report) {
         Outcome::Done(number) => Returned {
             number,
@@ -67,6 +72,12 @@ pub fn one_message(venue: &Venue, before: u32, message: &[u8], report: &mut [u8]
         },
         Outcome::DoesNotFit => ended(ENDED_EARLY, venue, report),
     }
+}
+
+/// The settings in force at a message number; nothing if the venue is unsound.
+pub fn settings(venue: &Venue, number: u32) -> Option<Settings> {
+    let books = lay_out(venue)?;
+    Some(Settings::at(&books.editions, number))
 }
 
 /// A one-message call that ended before its message.
@@ -86,7 +97,9 @@ fn take(
     first: Result<&[u8], Refusal>,
     report: &mut Report,
 ) -> Outcome {
-    let accepted = first.and_then(decode).and_then(|message| {
+    let increments = &books.settings.increments;
+    let decoded = first.and_then(|bytes| decode(bytes, increments));
+    let accepted = decoded.and_then(|message| {
         books.admit(&message)?;
         Ok(message)
     });
@@ -110,7 +123,7 @@ fn refuse(books: &Books, number: u32, refusal: Refusal, report: &mut Report) -> 
 fn accept(books: &mut Books, number: u32, message: Message, report: &mut Report) -> Outcome {
     let kept = (report.left() < most_bytes(books, &message)).then(|| books.clone());
     let start = report.reserve_answer();
-    books.perform(message, report);
+    books.perform(number, message, report);
     if !report.overflowed() {
         report.fill_answer(start, number, 0, books.filled);
         return Outcome::Done(0);
@@ -137,6 +150,7 @@ fn most_bytes(books: &Books, message: &Message) -> usize {
     let quiet = ANSWER_BYTES + 12 + 11 * books.filled.count_ones() as usize;
     let worked = match message {
         Message::Cancel { .. } | Message::Away { .. } | Message::Status { .. } => return quiet,
+        Message::Setting(_) => return quiet,
         Message::Order(_) => return quiet + TRADE * (regular + 3) + 16,
         Message::Complex(_) => 1,
         Message::Sweep => books.complex.len(),

@@ -1,10 +1,7 @@
 //! Legging orders: the standing test, settling, removal and generation.
 
 use crate::books::{Books, ComplexOrder, Standing};
-use crate::price::{
-    better, bit, displayed, facing, increment, places, reaches, series_of, sign, signed, Place,
-    HIGHEST_PRICE,
-};
+use crate::price::{better, bit, facing, places, reaches, sign, signed, Place, HIGHEST_PRICE};
 use crate::types::{CUSTOMER, LEGGING_PLACES, OTHER};
 use crate::wire::Report;
 
@@ -47,7 +44,7 @@ impl Books {
     /// apply, the first of 1, 5, 2, 6.
     pub fn verdict(&self, place: Place) -> Verdict {
         let order = &self.standing[place];
-        if self.is_worse_than_book(place, displayed(place, order.price as i32) as u32) {
+        if self.is_worse_than_book(place, self.displayed(place, order.price as i32) as u32) {
             return Verdict::Fails(Cause::WorseThanBook);
         }
         if !self.is_in_band(order.limit, [place, order.other]) {
@@ -131,7 +128,7 @@ impl Books {
         if self.is_filled(leg) {
             self.remove(leg, Cause::Replaced, report);
         }
-        let shown = displayed(leg, made.price as i32) as u32;
+        let shown = self.displayed(leg, made.price as i32) as u32;
         report.generated(order.id, leg, made.price, shown, made.quantity);
         self.standing[leg] = made;
         self.filled |= bit(leg);
@@ -141,8 +138,8 @@ impl Books {
     fn legging_for(&self, order: &ComplexOrder, leg: Place, other: Place) -> Option<Standing> {
         let clear = self.clear(facing(other))?;
         let price = sign(leg) * (order.limit - signed(other, clear.price));
-        let shown = displayed(leg, price);
-        if shown < increment(series_of(leg)) as i32 || shown > HIGHEST_PRICE as i32 {
+        let shown = self.displayed(leg, price);
+        if shown < i32::from(self.increment(leg)) || shown > HIGHEST_PRICE as i32 {
             return None;
         }
         if self.is_worse_than_book(leg, shown as u32) || self.reaches_opposite(leg, price) {

@@ -5,7 +5,7 @@
 //! a fresh venue; [`one_message`] takes one message upon a venue held by value;
 //! [`feed`] runs the messages that come over two lines; [`arrive`] and [`turn`] are the
 //! calls of four venues behind one line. After each call the report memory is the
-//! records, then zeros to its end.
+//! records, then zeros to its end. [`settings`] tells what held at a message number.
 
 #![forbid(unsafe_code)]
 
@@ -17,11 +17,12 @@ mod layer;
 mod legging;
 mod matching;
 mod price;
+mod settings;
 mod sound;
 mod types;
 mod wire;
 
-pub use calls::{one_message, run};
+pub use calls::{one_message, run, settings};
 pub use feed::feed;
 pub use layer::{arrive, turn, Lane, Layer, Turned};
 pub use layer::{MOST_MESSAGE, MOST_WAITING, NONE_SERVED, VENUES};

@@ -4,10 +4,10 @@ use crate::book::Resting;
 use crate::books::{Books, ComplexOrder};
 use crate::legging::Cause;
 use crate::price::{
-    better, bit, facing, in_band, places, reaches, series_of, signed, Place, BAND_PERCENT,
+    better, bit, facing, in_band, place, places, reaches, series_of, signed, Place,
 };
-use crate::types::{CLOSED, COMPLEX_PLACES};
-use crate::wire::{Message, NewComplex, NewOrder, Refusal, Report};
+use crate::types::{Edition, BUY, CLOSED, COMPLEX_PLACES, EDITION_PLACES, PERCENT};
+use crate::wire::{Message, NewComplex, NewOrder, NewSetting, Refusal, Report};
 
 /// Whom an arriving order meets next.
 enum Met {
@@ -22,7 +22,7 @@ struct Round {
 }
 
 impl Books {
-    /// Refusals that depend on the venue, in number order.
+    /// Refusals that depend on the venue, in their order.
     pub fn admit(&self, message: &Message) -> Result<(), Refusal> {
         match message {
             Message::Order(order) => {
@@ -33,6 +33,7 @@ impl Books {
                 self.admit_new(order.id, &order.legs, full)
             }
             Message::Cancel { id } if !self.rests(*id) => Err(Refusal::NoSuchOrder),
+            Message::Setting(setting) => self.admit_setting(setting),
             _ => Ok(()),
         }
     }
@@ -50,6 +51,29 @@ impl Books {
         Ok(())
     }
 
+    fn admit_setting(&self, setting: &NewSetting) -> Result<(), Refusal> {
+        let last = self.editions.last().map_or(0, |entry| entry.edition);
+        if setting.edition <= last {
+            return Err(Refusal::EditionNotAbove);
+        }
+        if setting.figure != PERCENT && self.is_in_use(place(setting.figure, BUY)) {
+            return Err(Refusal::SeriesInUse);
+        }
+        if self.editions.len() >= EDITION_PLACES {
+            return Err(Refusal::EditionsFull);
+        }
+        Ok(())
+    }
+
+    /// Whether the series of a side is not closed, or has a resting order or leg.
+    fn is_in_use(&self, bids: Place) -> bool {
+        let sides = [bids, facing(bids)];
+        let both = bit(sides[0]) | bit(sides[1]);
+        !self.is_closed(bids)
+            || sides.iter().any(|side| self.regular.best(*side).is_some())
+            || self.complex.iter().any(|order| order.mask & both != 0)
+    }
+
     fn is_closed(&self, place: Place) -> bool {
         self.series[series_of(place)].status == CLOSED
     }
@@ -58,8 +82,8 @@ impl Books {
         self.complex_index(id).is_some() || self.regular.holds(id)
     }
 
-    /// Carries out an accepted message.
-    pub fn perform(&mut self, message: Message, report: &mut Report) {
+    /// Carries out an accepted message, which has this number.
+    pub fn perform(&mut self, number: u32, message: Message, report: &mut Report) {
         match message {
             Message::Order(order) => self.order(order, report),
             Message::Complex(order) => self.complex(order, report),
@@ -74,7 +98,25 @@ impl Books {
                 self.settle(report);
             }
             Message::Sweep => self.sweep(report),
+            Message::Setting(setting) => self.set(number, setting, report),
         }
+    }
+
+    /// A setting holds from its own message on: the settling reads it.
+    fn set(&mut self, number: u32, setting: NewSetting, report: &mut Report) {
+        let NewSetting {
+            figure,
+            value,
+            edition,
+        } = setting;
+        self.editions.push(Edition {
+            edition,
+            number,
+            figure,
+            value,
+        });
+        self.settings.set(figure, value);
+        self.settle(report);
     }
 
     fn order(&mut self, order: NewOrder, report: &mut Report) {
@@ -243,7 +285,8 @@ impl Books {
         else {
             return false;
         };
-        in_band(-maker.limit, taken, BAND_PERCENT) && in_band(maker.limit, made, BAND_PERCENT)
+        let percent = self.settings.percent;
+        in_band(-maker.limit, taken, percent) && in_band(maker.limit, made, percent)
     }
 
     /// Neither net dealt at is above what the best regular prices of both legs

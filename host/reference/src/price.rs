@@ -1,4 +1,4 @@
-//! Numbers: places, increments, displayed prices, nets and the band.
+//! Numbers: places, prices on and off an increment, nets and the band.
 
 use crate::types::{BUY, OPEN};
 
@@ -6,8 +6,7 @@ pub const HIGHEST_PRICE: u32 = 100_000;
 pub const HIGHEST_NET: i32 = 200_000;
 pub const HIGHEST_QUANTITY: u32 = 10_000;
 
-/// Percent of the market net by which a net may exceed it.
-pub const BAND_PERCENT: i32 = 5;
+pub const HIGHEST_PERCENT: u8 = 50;
 
 /// `2 * series + side`: a side of a series, a leg, or a legging place.
 pub type Place = usize;
@@ -27,14 +26,6 @@ pub fn side_of(place: Place) -> u8 {
 /// The side that a leg takes, or the side facing an order.
 pub fn facing(place: Place) -> Place {
     place ^ 1
-}
-
-pub fn increment(series: usize) -> u32 {
-    if series < 6 {
-        5
-    } else {
-        10
-    }
 }
 
 /// Whether price `a` is strictly better than `b` for an order on this side.
@@ -69,20 +60,29 @@ pub fn signed(leg: Place, price: u32) -> i32 {
     sign(leg) * price as i32
 }
 
+/// How far a price is above the increment's multiple below it. A divisor that is
+/// known takes less time than one that is not.
+fn above_increment(price: i32, increment: u8) -> i32 {
+    match increment {
+        1 => 0,
+        5 => price.rem_euclid(5),
+        _ => price.rem_euclid(10),
+    }
+}
+
 /// The price rounded away from the market to the increment.
-pub fn displayed(place: Place, price: i32) -> i32 {
-    let step = increment(series_of(place)) as i32;
-    let down = price.div_euclid(step) * step;
-    if side_of(place) == BUY || down == price {
-        down
+pub fn displayed(place: Place, price: i32, increment: u8) -> i32 {
+    let above = above_increment(price, increment);
+    if side_of(place) == BUY || above == 0 {
+        price - above
     } else {
-        down + step
+        price - above + i32::from(increment)
     }
 }
 
 /// Whether `net` is at most the market net and a part of its size above it.
-pub fn in_band(net: i32, market: i32, percent: i32) -> bool {
-    100 * net <= 100 * market + percent * market.abs()
+pub fn in_band(net: i32, market: i32, percent: u8) -> bool {
+    100 * net <= 100 * market + i32::from(percent) * market.abs()
 }
 
 pub fn is_open(status: u8) -> bool {
@@ -98,8 +98,16 @@ pub fn valid_price(price: u32) -> bool {
 }
 
 /// A regular price is in range and on its series' increment.
-pub fn valid_regular_price(series: u8, price: u32) -> bool {
-    valid_price(price) && price.is_multiple_of(increment(usize::from(series)))
+pub fn valid_regular_price(price: u32, increment: u8) -> bool {
+    valid_price(price) && above_increment(price as i32, increment) == 0
+}
+
+pub fn valid_increment(increment: u8) -> bool {
+    matches!(increment, 1 | 5 | 10)
+}
+
+pub fn valid_percent(percent: u8) -> bool {
+    percent <= HIGHEST_PERCENT
 }
 
 pub fn valid_limit(limit: i32) -> bool {
@@ -128,23 +136,45 @@ mod tests {
 
     #[test]
     fn displayed_price_goes_down_to_buy_and_up_to_sell() {
-        assert_eq!(displayed(place(0, 0), 113), 110);
-        assert_eq!(displayed(place(0, 1), 113), 115);
-        assert_eq!(displayed(place(6, 0), 119), 110);
-        assert_eq!(displayed(place(7, 1), 111), 120);
-        assert_eq!(displayed(place(7, 1), 110), 110);
-        assert_eq!(displayed(place(0, 0), -1), -5);
-        assert_eq!(displayed(place(0, 1), -1), 0);
+        let (buy, sell) = (place(3, 0), place(3, 1));
+        assert_eq!(displayed(buy, 113, 5), 110);
+        assert_eq!(displayed(sell, 113, 5), 115);
+        assert_eq!(displayed(buy, 119, 10), 110);
+        assert_eq!(displayed(sell, 111, 10), 120);
+        assert_eq!(displayed(sell, 110, 10), 110);
+        assert_eq!(displayed(buy, -1, 5), -5);
+        assert_eq!(displayed(sell, -1, 5), 0);
+        assert_eq!(
+            (displayed(buy, 113, 1), displayed(sell, 113, 1)),
+            (113, 113)
+        );
+    }
+
+    #[test]
+    fn regular_prices_are_multiples_of_the_increment() {
+        let valid = |increment| (1..40).filter(move |price| valid_regular_price(*price, increment));
+        assert_eq!(valid(1).count(), 39);
+        assert_eq!(valid(5).collect::<Vec<_>>(), [5, 10, 15, 20, 25, 30, 35]);
+        assert_eq!(valid(10).collect::<Vec<_>>(), [10, 20, 30]);
+        assert!(valid_regular_price(100_000, 1) && !valid_regular_price(100_001, 1));
     }
 
     #[test]
     fn band_is_wider_towards_zero_for_a_credit() {
-        assert!(in_band(-190, -200, BAND_PERCENT));
-        assert!(!in_band(-189, -200, BAND_PERCENT));
-        assert!(in_band(0, 0, BAND_PERCENT));
-        assert!(!in_band(1, 0, BAND_PERCENT));
-        assert!(in_band(105, 100, BAND_PERCENT));
-        assert!(!in_band(106, 100, BAND_PERCENT));
+        assert!(in_band(-190, -200, 5));
+        assert!(!in_band(-189, -200, 5));
+        assert!(in_band(0, 0, 5));
+        assert!(!in_band(1, 0, 5));
+        assert!(in_band(105, 100, 5));
+        assert!(!in_band(106, 100, 5));
+    }
+
+    #[test]
+    fn band_is_as_wide_as_its_percentage() {
+        assert!(in_band(100, 100, 0) && !in_band(101, 100, 0));
+        assert!(in_band(150, 100, 50) && !in_band(151, 100, 50));
+        assert!(in_band(-100, -200, 50) && !in_band(-99, -200, 50));
+        assert!(in_band(200_000, 200_000, 50));
     }
 
     #[test]

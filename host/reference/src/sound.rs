@@ -6,7 +6,8 @@ use crate::price::{
     better, facing, place, places, valid_limit, valid_price, valid_quantity, valid_regular_price,
     Place,
 };
-use crate::types::{Complex, Legging, Listed, Regular, Venue};
+use crate::settings::held_editions;
+use crate::types::{Complex, Legging, Listed, Regular, Settings, Venue};
 use crate::types::{BUY, LEGGING_PLACES, OTHER, SERIES};
 use crate::wire::{valid_away, valid_leg, valid_status};
 
@@ -19,8 +20,12 @@ pub fn is_sound(venue: &Venue) -> bool {
 pub fn lay_out(venue: &Venue) -> Option<Books> {
     let mut books = Books::fresh();
     books.last = venue.last;
-    books.add_regular(held(&venue.regular, venue.last)?);
-    let complex = held(&venue.complex, venue.last)?;
+    books.editions = held_editions(&venue.editions)?.to_vec();
+    books.settings = Settings::at(&books.editions, u32::MAX);
+    let settings = &books.settings;
+    let regular = held(&venue.regular, venue.last, settings)?;
+    let complex = held(&venue.complex, venue.last, settings)?;
+    books.add_regular(regular);
     complex.iter().for_each(|order| books.add_complex(order));
     lay_out_series(&mut books, &venue.series)?;
     lay_out_legging(&mut books, &venue.legging)?;
@@ -34,8 +39,8 @@ pub fn lay_out(venue: &Venue) -> Option<Books> {
 trait Rests: Copy + Default + PartialEq {
     fn id(&self) -> u32;
     fn quantity(&self) -> u32;
-    /// Whether its fields are in range.
-    fn is_valid(&self) -> bool;
+    /// Whether its fields are in range, by the settings in force.
+    fn is_valid(&self, settings: &Settings) -> bool;
 }
 
 impl Rests for Regular {
@@ -47,9 +52,9 @@ impl Rests for Regular {
         self.quantity
     }
 
-    fn is_valid(&self) -> bool {
+    fn is_valid(&self, settings: &Settings) -> bool {
         valid_leg(self.series, self.side)
-            && valid_regular_price(self.series, self.price)
+            && valid_regular_price(self.price, settings.increments[usize::from(self.series)])
             && valid_quantity(self.quantity)
     }
 }
@@ -63,7 +68,7 @@ impl Rests for Complex {
         self.quantity
     }
 
-    fn is_valid(&self) -> bool {
+    fn is_valid(&self, _: &Settings) -> bool {
         valid_leg(self.series1, self.side1)
             && valid_leg(self.series2, self.side2)
             && self.series1 != self.series2
@@ -75,14 +80,18 @@ impl Rests for Complex {
 
 /// The orders held in a book: first, valid, in rising id up to the last; the
 /// free places after them all zero.
-fn held<Order: Rests>(orders: &[Order], last: u32) -> Option<&[Order]> {
+fn held<'a, Order: Rests>(
+    orders: &'a [Order],
+    last: u32,
+    settings: &Settings,
+) -> Option<&'a [Order]> {
     let count = orders.iter().position(|order| order.quantity() == 0);
     let (held, free) = orders.split_at(count.unwrap_or(orders.len()));
     let mut before = 0;
     let valid = held.iter().all(|order| {
         let rises = order.id() > before;
         before = order.id();
-        rises && order.is_valid()
+        rises && order.is_valid(settings)
     });
     let sound = valid && before <= last && free.iter().all(|order| *order == Order::default());
     sound.then_some(held)

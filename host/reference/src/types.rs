@@ -1,12 +1,13 @@
 //! The venue as callers hold it: one value for one state.
 //!
 //! Held places come first, in rising id; a free place is all zero. A legging
-//! place is `2 * series + side`.
+//! place is `2 * series + side`. Editions too are held first, and rise.
 
 pub const SERIES: usize = 8;
 pub const REGULAR_PLACES: usize = 128;
 pub const COMPLEX_PLACES: usize = 32;
 pub const LEGGING_PLACES: usize = 2 * SERIES;
+pub const EDITION_PLACES: usize = 32;
 
 pub const BUY: u8 = 0;
 pub const SELL: u8 = 1;
@@ -17,6 +18,10 @@ pub const AUCTION: u8 = 2;
 
 pub const CUSTOMER: u8 = 0;
 pub const OTHER: u8 = 1;
+
+/// The figure of an edition that sets the percentage of the band; a lower one
+/// sets the increment of that series.
+pub const PERCENT: u8 = SERIES as u8;
 
 /// A regular order at rest.
 #[derive(Clone, Copy, Debug, Default, PartialEq, Eq)]
@@ -57,6 +62,23 @@ pub struct Listed {
     pub offer: u32,
 }
 
+/// A setting, with the number of the message that entered it.
+#[derive(Clone, Copy, Debug, Default, PartialEq, Eq)]
+pub struct Edition {
+    pub edition: u32,
+    pub number: u32,
+    pub figure: u8,
+    pub value: u8,
+}
+
+/// The figures that the rules read.
+#[derive(Clone, Copy, Debug, PartialEq, Eq)]
+pub struct Settings {
+    pub increments: [u8; SERIES],
+    /// Percent of the market net by which a net may exceed it.
+    pub percent: u8,
+}
+
 #[derive(Clone, Debug, PartialEq, Eq)]
 pub struct Venue {
     pub regular: [Regular; REGULAR_PLACES],
@@ -64,6 +86,7 @@ pub struct Venue {
     pub legging: [Legging; LEGGING_PLACES],
     pub series: [Listed; SERIES],
     pub last: u32,
+    pub editions: [Edition; EDITION_PLACES],
 }
 
 impl Listed {
@@ -75,8 +98,16 @@ impl Listed {
     };
 }
 
+impl Settings {
+    /// Edition 0: the figures of document 01.
+    pub const FIRST: Settings = Settings {
+        increments: [5, 5, 5, 5, 5, 5, 10, 10],
+        percent: 5,
+    };
+}
+
 impl Venue {
-    /// No orders, all series open, no away prices, last id 0.
+    /// No orders, all series open, no away prices, last id 0, no edition.
     pub fn fresh() -> Self {
         Venue {
             regular: [Regular::default(); REGULAR_PLACES],
@@ -84,6 +115,7 @@ impl Venue {
             legging: [Legging::default(); LEGGING_PLACES],
             series: [Listed::FRESH; SERIES],
             last: 0,
+            editions: [Edition::default(); EDITION_PLACES],
         }
     }
 }

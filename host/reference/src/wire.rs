@@ -1,9 +1,10 @@
 //! Message bytes read, record bytes written. All numbers are little-endian.
 
 use crate::price::{
-    place, series_of, side_of, valid_limit, valid_price, valid_quantity, valid_regular_price, Place,
+    place, series_of, side_of, valid_increment, valid_limit, valid_percent, valid_price,
+    valid_quantity, valid_regular_price, Place,
 };
-use crate::types::{AUCTION, OTHER, SELL, SERIES};
+use crate::types::{AUCTION, OTHER, PERCENT, SELL, SERIES};
 
 /// Why a message was refused, by the numbers of the document.
 #[derive(Clone, Copy, Debug, PartialEq, Eq)]
@@ -16,6 +17,9 @@ pub enum Refusal {
     SeriesClosed,
     BookFull,
     NoSuchOrder,
+    EditionNotAbove,
+    SeriesInUse,
+    EditionsFull,
 }
 
 impl Refusal {
@@ -29,6 +33,9 @@ impl Refusal {
             Refusal::SeriesClosed => 6,
             Refusal::BookFull => 7,
             Refusal::NoSuchOrder => 8,
+            Refusal::EditionNotAbove => 11,
+            Refusal::SeriesInUse => 12,
+            Refusal::EditionsFull => 13,
         }
     }
 }
@@ -50,6 +57,14 @@ pub struct NewComplex {
     pub quantity: u32,
 }
 
+/// A setting as it is entered: an increment of a series, or the percentage.
+#[derive(Clone, Copy, Debug)]
+pub struct NewSetting {
+    pub figure: u8,
+    pub value: u8,
+    pub edition: u32,
+}
+
 /// A message whose fields are all in range.
 #[derive(Clone, Copy, Debug)]
 pub enum Message {
@@ -59,6 +74,7 @@ pub enum Message {
     Away { series: usize, bid: u32, offer: u32 },
     Status { series: usize, status: u8 },
     Sweep,
+    Setting(NewSetting),
 }
 
 /// The bytes of the first message, by its length field.
@@ -73,20 +89,23 @@ pub fn first_message(bytes: &[u8]) -> Result<&[u8], Refusal> {
     Ok(&bytes[..length])
 }
 
-/// Reads one whole message: its kind, its length, then its fields.
-pub fn decode(bytes: &[u8]) -> Result<Message, Refusal> {
+/// Reads one whole message: its kind, its length, then its fields, prices by the
+/// increments in force.
+pub fn decode(bytes: &[u8], increments: &[u8; SERIES]) -> Result<Message, Refusal> {
     let kind = u16_at(bytes, 2);
     let length = length_of(kind).ok_or(Refusal::UnknownKind)?;
     if bytes.len() != length {
         return Err(Refusal::WrongLength);
     }
     let message = match kind {
-        1 => decode_order(bytes),
+        1 => decode_order(bytes, increments),
         2 => decode_complex(bytes),
         3 => decode_cancel(bytes),
         4 => decode_away(bytes),
         5 => decode_status(bytes),
-        _ => Some(Message::Sweep),
+        6 => Some(Message::Sweep),
+        7 => decode_increment(bytes),
+        _ => decode_percent(bytes),
     };
     message.ok_or(Refusal::OutOfRange)
 }
@@ -99,16 +118,18 @@ fn length_of(kind: u16) -> Option<usize> {
         4 => Some(13),
         5 => Some(6),
         6 => Some(4),
+        7 => Some(10),
+        8 => Some(9),
         _ => None,
     }
 }
 
-fn decode_order(bytes: &[u8]) -> Option<Message> {
+fn decode_order(bytes: &[u8], increments: &[u8; SERIES]) -> Option<Message> {
     let (id, series, side) = (u32_at(bytes, 4), bytes[8], bytes[9]);
     let (price, quantity) = (u32_at(bytes, 10), u32_at(bytes, 14));
     let valid = id > 0
         && valid_leg(series, side)
-        && valid_regular_price(series, price)
+        && valid_regular_price(price, increments[usize::from(series)])
         && valid_quantity(quantity);
     valid.then(|| {
         Message::Order(NewOrder {
@@ -166,6 +187,33 @@ fn decode_status(bytes: &[u8]) -> Option<Message> {
     })
 }
 
+fn decode_increment(bytes: &[u8]) -> Option<Message> {
+    let (series, increment) = (bytes[4], bytes[5]);
+    let valid = valid_series(series) && valid_increment(increment);
+    valid.then(|| setting(series, increment, u32_at(bytes, 6)))
+}
+
+fn decode_percent(bytes: &[u8]) -> Option<Message> {
+    let percent = bytes[4];
+    valid_percent(percent).then(|| setting(PERCENT, percent, u32_at(bytes, 5)))
+}
+
+fn setting(figure: u8, value: u8, edition: u32) -> Message {
+    Message::Setting(NewSetting {
+        figure,
+        value,
+        edition,
+    })
+}
+
+/// Whether a figure is one, and its value in range.
+pub fn valid_setting(figure: u8, value: u8) -> bool {
+    match figure {
+        PERCENT => valid_percent(value),
+        series => valid_series(series) && valid_increment(value),
+    }
+}
+
 pub fn valid_series(series: u8) -> bool {
     usize::from(series) < SERIES
 }
@@ -220,12 +268,14 @@ impl<'a> Report<'a> {
     }
 
     /// Leaves room for an answer, to be filled in once its mask is known.
+    #[inline]
     pub fn reserve_answer(&mut self) -> usize {
         let start = self.at;
         self.put(&[0; ANSWER_BYTES]);
         start
     }
 
+    #[inline]
     pub fn fill_answer(&mut self, start: usize, number: u32, refusal: u8, mask: u16) {
         let record = Record::<ANSWER_BYTES>::new(64)
             .u32(number)
@@ -246,6 +296,7 @@ impl<'a> Report<'a> {
         self.at
     }
 
+    #[inline]
     pub fn trade(&mut self, leg: Place, price: u32, quantity: u32, taker: u32, maker: u32) {
         let record = Record::<22>::new(65)
             .place(leg)
@@ -256,11 +307,13 @@ impl<'a> Report<'a> {
         self.put(&record.bytes);
     }
 
+    #[inline]
     pub fn pair(&mut self, id: u32, net: i32, quantity: u32) {
         let record = Record::<16>::new(66).u32(id).u32(net as u32).u32(quantity);
         self.put(&record.bytes);
     }
 
+    #[inline]
     pub fn generated(&mut self, id: u32, leg: Place, price: u32, displayed: u32, quantity: u32) {
         let record = Record::<22>::new(67)
             .u32(id)
@@ -276,6 +329,7 @@ impl<'a> Report<'a> {
         self.put(&record.bytes);
     }
 
+    #[inline]
     pub fn cross(&mut self, taker: u32, maker: u32, net: i32, quantity: u32) {
         let record = Record::<20>::new(70)
             .u32(taker)
@@ -285,6 +339,7 @@ impl<'a> Report<'a> {
         self.put(&record.bytes);
     }
 
+    #[inline]
     pub fn cancelled(&mut self, id: u32, quantity: u32) {
         let record = Record::<12>::new(71).u32(id).u32(quantity);
         self.put(&record.bytes);
