@@ -109,7 +109,7 @@ mod tests {
             ("arrive x sweep", "line 1: expected a venue, a number from 0 to 4294967295, found \"x\""),
             ("arrive 1 nothing more", "line 1: expected the end of the line, found \"more\""),
             ("arrive 1 sweep now", "line 1: expected the end of the line, found \"now\""),
-            ("arrive 1", "line 1: expected a message (order, complex, cancel, away, status, open, close, auction, sweep or raw), found the end of the line"),
+            ("arrive 1", "line 1: expected a message (order, complex, cancel, away, status, open, close, auction, sweep, increment, percent or raw), found the end of the line"),
             ("turn x", "line 1: expected a length of report memory, a number from 0 to 4294967295, found \"x\""),
             ("turn 1 2", "line 1: expected the end of the line, found \"2\""),
             ("turns", "line 1: expected a count of turns, a number from 0 to 255, found the end of the line"),

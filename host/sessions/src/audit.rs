@@ -5,9 +5,10 @@
 use crate::ledger::{Account, Ledger};
 use crate::message::{split, Message};
 use crate::record::{read_report, Record};
+use crate::settings::{figure_name, held_editions};
 use crate::sheet::run_whole;
 use crate::view::{held_complex, held_regular};
-use reference::Venue;
+use reference::{Edition, Venue};
 use std::fmt::{self, Display};
 
 pub struct Row {
@@ -19,6 +20,8 @@ pub struct Row {
 pub struct Audit {
     pub messages: usize,
     pub complex: Vec<Row>,
+    /// The settings entered by the messages that the sheet answers.
+    pub editions: Vec<Edition>,
     /// What does not agree: order by order, then the first line.
     pub faults: Vec<String>,
 }
@@ -47,6 +50,7 @@ pub fn audit(list: &[u8], records: &[Record]) -> Result<Audit, String> {
     Ok(Audit {
         messages: answered,
         complex,
+        editions: held_editions(&returned.venue).copied().collect(),
         faults,
     })
 }
@@ -151,6 +155,14 @@ impl Display for Audit {
         }
         let orders = self.complex.len();
         writeln!(f, "{} messages, {orders} complex orders", self.messages)?;
+        for entry in &self.editions {
+            let (name, value) = (figure_name(entry.figure), entry.value);
+            let (edition, number) = (entry.edition, entry.number);
+            writeln!(
+                f,
+                "from message {number}: {name} is {value} (edition {edition})"
+            )?;
+        }
         for fault in &self.faults {
             writeln!(f, "disagreement: {fault}")?;
         }

@@ -4,14 +4,13 @@
 use crate::ledger::Ledger;
 use crate::message::Leg;
 use crate::message::Message;
-use crate::model::{refusal, work, AboveLegs};
+use crate::model::{refusal, work, AboveLegs, OutOfBand, Work};
 use crate::phases::{expected_generation, expected_settling, phases, Attempt, Phases};
 use crate::record::Record;
+use crate::settings::{InForce, PERCENT};
 use crate::sound::fault;
-use crate::view::{
-    beats, displayed, find_complex, held_regular, leg_at, legs_of, opposite, sign, View,
-};
-use reference::{Complex, Legging, Returned, Venue};
+use crate::view::{beats, find_complex, held_regular, leg_at, legs_of, opposite, sign, View};
+use reference::{settings, Complex, Edition, Legging, Returned, Venue};
 
 /// One message as a caller saw it.
 pub struct Step<'a> {
@@ -29,6 +28,8 @@ pub struct Seen<'a> {
     pub attempts: Vec<Attempt>,
     /// Who was passed over in crossing for the prices of a party's legs alone.
     pub above: Vec<AboveLegs>,
+    /// What else was not made for the band, no market best missing.
+    pub out_of_band: Vec<OutOfBand>,
 }
 
 /// Follows one list of messages from a fresh venue.
@@ -36,9 +37,61 @@ pub struct Seen<'a> {
 pub struct Checker {
     pub ledger: Ledger,
     pub done: u32,
+    /// The settings accepted, from their messages.
+    entered: Vec<Edition>,
 }
 
 impl Checker {
+    /// What held at a message number, by the messages alone.
+    pub fn in_force(&self, number: u32) -> InForce {
+        let mut in_force = InForce::first();
+        let earlier = self.entered.iter().filter(|entry| entry.number <= number);
+        earlier.for_each(|entry| in_force.enter(entry));
+        in_force
+    }
+
+    /// The settings that a venue tells are those that the messages have entered:
+    /// at its ends and its own number, and after a setting about each one kept.
+    pub fn check_settings(&self, step: &Step) -> Result<(), String> {
+        let mut numbers = vec![0, self.done, u32::MAX];
+        if let Message::Increment { .. } | Message::Percent { .. } = step.message {
+            let about = |entry: &Edition| [entry.number - 1, entry.number];
+            numbers.extend(self.entered.iter().flat_map(about));
+        }
+        for number in numbers {
+            let told = settings(&step.returned.venue, number).map(|told| {
+                let [a, b, c, d, e, f, g, h] = told.increments;
+                [a, b, c, d, e, f, g, h, told.percent]
+            });
+            let expected = self.in_force(number).values();
+            if told != Some(expected) {
+                return Err(format!(
+                    "settings at message {number} told as {told:?}, expected {expected:?}"
+                ));
+            }
+        }
+        Ok(())
+    }
+
+    /// Takes note of an accepted setting.
+    fn enter(&mut self, message: &Message) {
+        let (edition, figure, value) = match *message {
+            Message::Increment {
+                series,
+                increment,
+                edition,
+            } => (edition, series, increment),
+            Message::Percent { percent, edition } => (edition, PERCENT, percent),
+            _ => return,
+        };
+        self.entered.push(Edition {
+            edition,
+            number: self.done,
+            figure,
+            value,
+        });
+    }
+
     /// Checks one message done; tells what an accepted one did.
     pub fn check<'a>(&mut self, step: &Step<'a>) -> Result<Option<Seen<'a>>, String> {
         self.done += 1;
@@ -71,12 +124,13 @@ impl Checker {
         effects: &'a [Record],
     ) -> Result<Seen<'a>, String> {
         self.ledger.enter(step.message)?;
+        self.enter(step.message);
         for record in effects {
             self.ledger.add(record)?;
         }
         let after = &step.returned.venue;
         let phases = phases(step.before, after, effects)?;
-        let above = check_work(step, &phases)?;
+        let work = check_work(step, self.done, &phases)?;
         let expected = expected_settling(&phases.at_settling, after);
         if expected != phases.settled {
             return Err(format!(
@@ -98,15 +152,16 @@ impl Checker {
         Ok(Seen {
             phases,
             attempts,
-            above,
+            above: work.above,
+            out_of_band: work.out_of_band,
         })
     }
 }
 
 /// The work's records and the books left are those of the plain model.
-fn check_work(step: &Step, phases: &Phases) -> Result<Vec<AboveLegs>, String> {
+fn check_work(step: &Step, number: u32, phases: &Phases) -> Result<Work, String> {
     let after = &step.returned.venue;
-    let expected = work(step.before, step.message);
+    let expected = work(step.before, step.message, number);
     if expected.records != phases.work {
         return Err(format!(
             "the work wrote {:?}, expected {:?}",
@@ -117,11 +172,12 @@ fn check_work(step: &Step, phases: &Phases) -> Result<Vec<AboveLegs>, String> {
         && expected.venue.complex == after.complex
         && expected.venue.series == after.series
         && expected.venue.last == after.last
+        && expected.venue.editions == after.editions
         && expected.venue.legging == phases.at_settling.legging;
     if !same {
         return Err("the work left other books".to_string());
     }
-    Ok(expected.above)
+    Ok(expected)
 }
 
 /// The first record is the message's 64, and there is no other.
@@ -169,7 +225,7 @@ fn check_standing(venue: &Venue) -> Result<(), String> {
         let Some(parent) = find_complex(venue, order.parent) else {
             return Err(format!("the legging order at place {place} has no parent"));
         };
-        check_best_displayed(venue, leg, order)?;
+        check_best_displayed(&view, venue, leg, order)?;
         if !view.in_band(i64::from(parent.limit), legs_of(parent)) {
             return Err(format!("order {} is not in band", parent.id));
         }
@@ -178,8 +234,13 @@ fn check_standing(venue: &Venue) -> Result<(), String> {
     Ok(())
 }
 
-fn check_best_displayed(venue: &Venue, leg: Leg, order: Legging) -> Result<(), String> {
-    let shown = displayed(leg, i64::from(order.price));
+fn check_best_displayed(
+    view: &View,
+    venue: &Venue,
+    leg: Leg,
+    order: Legging,
+) -> Result<(), String> {
+    let shown = view.displayed(leg, i64::from(order.price));
     let mut same_side = held_regular(venue)
         .filter(|regular| regular.series == leg.series && regular.side == leg.side);
     match same_side.find(|regular| beats(leg, i64::from(regular.price), shown)) {
@@ -355,13 +416,21 @@ mod tests {
 
     #[test]
     fn every_changed_part_of_the_venue_left_is_found() {
-        let changes: [fn(&mut Venue); 7] = [
+        let changes: [fn(&mut Venue); 8] = [
             |venue| venue.regular[0].quantity = 14,
             |venue| venue.regular[1].quantity = 8,
             |venue| venue.complex[0].quantity = 4,
             |venue| venue.complex[0].limit = 204,
             |venue| venue.series[5].status = 0,
             |venue| venue.last = 5,
+            |venue| {
+                venue.editions[0] = Edition {
+                    edition: 1,
+                    number: 6,
+                    figure: PERCENT,
+                    value: 5,
+                }
+            },
             |venue| {
                 venue.legging[0] = Legging {
                     parent: 3,

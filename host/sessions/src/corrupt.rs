@@ -1,16 +1,18 @@
 //! Changes to a sound venue, most of which make it unsound.
 
 use crate::random::Random;
+use crate::settings::held_editions;
 use reference::{Complex, Legging, Regular, Venue};
 
 /// A copy of a venue with one thing changed at random.
 pub fn corrupt(venue: &Venue, random: &mut Random) -> Venue {
     let mut changed = venue.clone();
-    match random.below(5) {
+    match random.below(6) {
         0 => corrupt_regular(&mut changed, random),
         1 => corrupt_complex(&mut changed, random),
         2 => corrupt_legging(&mut changed, random),
         3 => corrupt_series(&mut changed, random),
+        4 => corrupt_editions(&mut changed, random),
         _ => corrupt_order(&mut changed, random),
     }
     changed
@@ -90,6 +92,22 @@ fn corrupt_series(venue: &mut Venue, random: &mut Random) {
         0 => series.status = random.below(5) as u8,
         1 => series.bid = odd_number(random),
         _ => series.offer = odd_number(random),
+    }
+}
+
+/// Another field in a held edition or the first free place: the row may be broken,
+/// or sound with other settings in force.
+fn corrupt_editions(venue: &mut Venue, random: &mut Random) {
+    let held = held_editions(venue).count();
+    let at = random.below(held as u64 + 1).min(31) as usize;
+    let entry = &mut venue.editions[at];
+    match random.below(6) {
+        0 => entry.edition = odd_number(random),
+        1 => entry.number = odd_number(random),
+        2 => entry.figure = random.below(11) as u8,
+        3 => entry.value = random.pick(&[0, 1, 2, 5, 10, 11, 50, 51, 255]),
+        4 => entry.edition = entry.edition.wrapping_add(random.between(-1, 2) as u32),
+        _ => entry.number = entry.number.wrapping_add(random.between(-1, 2) as u32),
     }
 }
 

@@ -4,11 +4,12 @@ use crate::check::{Seen, Step};
 use crate::feed_check::FeedCoverage;
 use crate::layer_check::LayerCoverage;
 use crate::message::{Leg, Message};
-use crate::model::AboveLegs;
+use crate::model::{in_use, AboveLegs};
 use crate::phases::Phases;
 use crate::record::Record;
+use crate::settings::{held_editions, InForce};
 use crate::view::{beats, find_complex, held_complex, held_regular, leg_at, legs_of};
-use crate::view::{increment, opposite, place_of, Declined};
+use crate::view::{opposite, place_of, rounded, within, Declined, View};
 use reference::{Legging, Venue};
 use std::fmt::{self, Display};
 
@@ -37,10 +38,21 @@ pub enum Rare {
     ShownAtIncrement,
     ShownAtHighest,
     LimitAtBandEdge,
+    PercentRemoves,
+    InByEdition,
+    OutByEdition,
+    OnByEdition,
+    OffByEdition,
+    ShownByEdition,
+    ChangesNothing,
+    StaleInUse,
+    InUseFull,
+    EditionsFull,
+    NumberNotAbove,
 }
 
 impl Rare {
-    pub const ALL: [(Rare, &'static str); 22] = [
+    pub const ALL: [(Rare, &'static str); RARE] = [
         (
             Rare::FailingHides,
             "settling: a failing order hides another's clear price",
@@ -93,8 +105,45 @@ impl Rare {
             Rare::LimitAtBandEdge,
             "generation with the limit at the edge of the band",
         ),
+        (
+            Rare::PercentRemoves,
+            "percentage that removes a legging order",
+        ),
+        (
+            Rare::InByEdition,
+            "limit in band by an edition, not by edition 0",
+        ),
+        (
+            Rare::OutByEdition,
+            "limit in band by edition 0, not by the one in force",
+        ),
+        (
+            Rare::OnByEdition,
+            "order taken at a price off the increment of edition 0",
+        ),
+        (
+            Rare::OffByEdition,
+            "order refused at a price on the increment of edition 0",
+        ),
+        (
+            Rare::ShownByEdition,
+            "legging order shown otherwise than by edition 0",
+        ),
+        (Rare::ChangesNothing, "setting that changes nothing"),
+        (Rare::StaleInUse, "refusal 11 where 12 applies too"),
+        (Rare::InUseFull, "refusal 12 where 13 applies too"),
+        (Rare::EditionsFull, "32 editions held"),
+        (
+            Rare::NumberNotAbove,
+            "refusal 9 for a number not above an edition's",
+        ),
     ];
 }
+
+const RARE: usize = 33;
+
+/// Numbers of a run or a one-message call: 0 to 13.
+const NUMBERS: usize = 14;
 
 const DECLINED: [&str; 9] = [
     "a series not open",
@@ -124,21 +173,37 @@ fn declined_index(declined: &Declined) -> usize {
 
 const RECORD_KINDS: [u16; 7] = [64, 65, 66, 67, 68, 70, 71];
 
-#[derive(Clone, Debug, Default)]
+#[derive(Clone, Debug)]
 pub struct Coverage {
     pub sessions: u64,
     pub messages: u64,
     records: [u64; 7],
     causes: [u64; 9],
-    answers: [u64; 11],
+    answers: [u64; NUMBERS],
     declined: [u64; 9],
-    rare: [u64; 22],
+    rare: [u64; RARE],
     pub feeds: FeedCoverage,
     pub layers: LayerCoverage,
 }
 
+impl Default for Coverage {
+    fn default() -> Self {
+        Coverage {
+            sessions: 0,
+            messages: 0,
+            records: [0; 7],
+            causes: [0; 9],
+            answers: [0; NUMBERS],
+            declined: [0; 9],
+            rare: [0; RARE],
+            feeds: FeedCoverage::default(),
+            layers: LayerCoverage::default(),
+        }
+    }
+}
+
 impl Coverage {
-    /// Counts a call's number, 0 to 10.
+    /// Counts a call's number.
     pub fn answer(&mut self, number: u8) {
         self.answers[usize::from(number)] += 1;
     }
@@ -147,7 +212,7 @@ impl Coverage {
         self.rare[rare as usize]
     }
 
-    fn add(&mut self, rare: Rare, holds: bool) {
+    pub(crate) fn add(&mut self, rare: Rare, holds: bool) {
         self.rare[rare as usize] += u64::from(holds);
     }
 
@@ -162,6 +227,7 @@ impl Coverage {
                 self.causes[usize::from(*cause).min(8)] += 1;
             }
         }
+        self.observe_settings(step);
         let Some(seen) = seen else {
             return;
         };
@@ -173,11 +239,65 @@ impl Coverage {
         self.observe_books(&step.returned.venue);
         self.observe_settling(&seen.phases, &step.returned.venue);
         self.observe_generation(step, &seen.phases);
+        self.observe_bands(step, seen);
         self.observe_work(step);
         self.observe_above(step, &seen.above);
     }
 
+    /// Settings entered or refused, and orders taken or refused by an increment.
+    fn observe_settings(&mut self, step: &Step) {
+        match *step.message {
+            Message::Increment { series, .. } => self.observe_setting(step, Some(series)),
+            Message::Percent { .. } => self.observe_setting(step, None),
+            Message::Order { leg, price, .. } if leg.series <= 7 && price > 0 => {
+                let on = |in_force: InForce| {
+                    price % u32::from(in_force.increment(leg.series).value) == 0
+                };
+                let (number, first) = (step.returned.number, on(InForce::first()));
+                self.add(Rare::OnByEdition, number == 0 && !first);
+                let off = first && !on(InForce::of(step.before));
+                self.add(Rare::OffByEdition, number == 4 && off);
+            }
+            _ => {}
+        }
+    }
+
+    /// A setting; `series` is that of an increment.
+    fn observe_setting(&mut self, step: &Step, series: Option<u8>) {
+        let number = step.returned.number;
+        let used = series.is_some_and(|series| series <= 7 && in_use(step.before, series));
+        let full = held_editions(step.before).count() == 32;
+        self.add(Rare::StaleInUse, number == 11 && used);
+        self.add(Rare::InUseFull, number == 12 && full);
+        let values = |venue| InForce::of(venue).values();
+        let same = values(step.before) == values(&step.returned.venue);
+        self.add(Rare::ChangesNothing, number == 0 && same);
+        let removes = step.records.iter().any(|record| record.kind() == 68);
+        self.add(Rare::PercentRemoves, removes);
+    }
+
+    /// Limits that another percentage than that of edition 0 has in band or out of it.
+    fn observe_bands(&mut self, step: &Step, seen: &Seen) {
+        let view = &seen.phases.settled_view;
+        for attempt in &seen.attempts {
+            let Some(order) = find_complex(&step.returned.venue, attempt.id) else {
+                continue;
+            };
+            let legs = legs_of(order);
+            let Some(market) = view.market_net(legs) else {
+                continue;
+            };
+            let limit = i64::from(order.limit);
+            let first = InForce::first().percent().value;
+            let by_first = within(limit, market, i64::from(first));
+            let by_edition = view.in_band(limit, legs);
+            self.add(Rare::InByEdition, by_edition && !by_first);
+            self.add(Rare::OutByEdition, by_first && !by_edition);
+        }
+    }
+
     fn observe_books(&mut self, venue: &Venue) {
+        self.add(Rare::EditionsFull, held_editions(venue).count() == 32);
         let regular = held_regular(venue).count() == 128;
         let complex = held_complex(venue).count() == 32;
         self.add(Rare::RegularBookFull, regular);
@@ -237,7 +357,7 @@ impl Coverage {
                     if let Some(holder) = holder.take() {
                         self.observe_replacement(step, leg, holder, made);
                     }
-                    self.observe_price(leg, price, displayed);
+                    self.observe_price(&phases.settled_view, leg, price, displayed);
                     self.observe_limit(phases, &step.returned.venue, id);
                     standing[place_of(leg)] = made;
                 }
@@ -255,11 +375,14 @@ impl Coverage {
         self.add(Rare::OwnReplacedInSweep, swept && own);
     }
 
-    fn observe_price(&mut self, leg: Leg, price: u32, displayed: u32) {
-        let lowest = increment(leg.series) == i64::from(displayed);
+    fn observe_price(&mut self, view: &View, leg: Leg, price: u32, displayed: u32) {
+        let lowest = view.increment(leg.series) == i64::from(displayed);
         self.add(Rare::BelowIncrement, lowest && price < displayed);
         self.add(Rare::ShownAtIncrement, lowest);
         self.add(Rare::ShownAtHighest, displayed == 100_000);
+        let first = InForce::first().increment(leg.series).value;
+        let by_first = rounded(leg, i64::from(price), i64::from(first));
+        self.add(Rare::ShownByEdition, by_first != i64::from(displayed));
     }
 
     fn observe_limit(&mut self, phases: &Phases, after: &Venue, id: u32) {

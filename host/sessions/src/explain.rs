@@ -1,10 +1,12 @@
 //! What happened, message by message, and why a legging order or a cross was not
-//! made.
+//! made; with the edition that held where a band or an increment decided.
 
 use crate::check::{Checker, Seen, Step};
 use crate::message::{split, Leg, Message};
-use crate::model::AboveLegs;
+use crate::model::{fields_in_range, off_increment, AboveLegs, OutOfBand};
 use crate::record::{read_report, Record};
+use crate::settings::{figure_name, InForce, PERCENT};
+use crate::view::{find_complex, legs_of};
 use reference::{one_message, Venue};
 
 /// Explains a whole session. An error is a violation of the checks.
@@ -33,13 +35,24 @@ pub fn explain(list: &[u8]) -> Result<String, String> {
 }
 
 fn explain_message(number: usize, step: &Step, seen: Option<&Seen>) -> String {
+    let told = Told {
+        step,
+        seen,
+        in_force: InForce::of(&step.returned.venue),
+    };
     let mut text = format!("{number}: {}\n", step.message);
     for record in step.records {
-        text.push_str(&format!("    {}\n", in_words(record)));
+        text.push_str(&format!("    {}\n", told.in_words(record)));
     }
     let Some(seen) = seen else {
         return text;
     };
+    if let Some(words) = told.setting_in_words() {
+        text.push_str(&format!("    {words}\n"));
+    }
+    for out in &seen.out_of_band {
+        text.push_str(&format!("    {}\n", told.out_of_band_in_words(out)));
+    }
     for passed in &seen.above {
         text.push_str(&format!("    {}\n", passed_in_words(passed)));
     }
@@ -80,67 +93,184 @@ fn leg_name(leg: Leg) -> String {
     format!("{} series {}", side_name(leg.side), leg.series)
 }
 
-fn in_words(record: &Record) -> String {
-    match *record {
-        Record::Answer {
-            refusal: 0,
-            mask,
-            count,
-            ..
-        } => format!(
-            "accepted; legging orders standing after it: {count}{}",
-            places(mask)
-        ),
-        Record::Answer { refusal, .. } => {
-            format!("refused with {refusal}: {}", refusal_name(refusal))
-        }
-        Record::Trade {
-            series,
-            side,
-            price,
-            quantity,
-            taker,
-            maker,
-        } => {
-            let leg = leg_name(Leg { series, side });
-            format!("trade: {taker} {leg}, {quantity} at {price}, maker {maker}")
-        }
-        Record::Pair { id, net, quantity } => format!("pair: {id}, {quantity} at net {net}"),
-        Record::Generated { .. } | Record::Removed { .. } => legging_in_words(record),
-        Record::Cross {
-            taker,
-            maker,
-            net,
-            quantity,
-        } => format!("cross: {taker} with {maker}, {quantity} at the taker's net {net}"),
-        Record::Cancelled { id, quantity } => format!("cancelled: {id}, {quantity} were open"),
-    }
+/// A message, with the settings that hold at its number.
+struct Told<'a> {
+    step: &'a Step<'a>,
+    seen: Option<&'a Seen<'a>>,
+    in_force: InForce,
 }
 
-fn legging_in_words(record: &Record) -> String {
-    match *record {
-        Record::Generated {
-            id,
-            series,
-            side,
-            price,
-            displayed,
-            quantity,
-        } => {
-            let leg = leg_name(Leg { series, side });
-            format!("legging order of {id}, {leg}: {quantity} at {price}, shown at {displayed}")
+impl Told<'_> {
+    fn in_words(&self, record: &Record) -> String {
+        match *record {
+            Record::Answer {
+                refusal: 0,
+                mask,
+                count,
+                ..
+            } => format!(
+                "accepted{}; legging orders standing after it: {count}{}",
+                self.on_increment(),
+                places(mask)
+            ),
+            Record::Answer { refusal, .. } => {
+                let name = refusal_name(refusal);
+                format!(
+                    "refused with {refusal}: {name}{}",
+                    self.off_increment(refusal)
+                )
+            }
+            Record::Trade {
+                series,
+                side,
+                price,
+                quantity,
+                taker,
+                maker,
+            } => {
+                let leg = leg_name(Leg { series, side });
+                format!("trade: {taker} {leg}, {quantity} at {price}, maker {maker}")
+            }
+            Record::Pair { id, net, quantity } => {
+                format!(
+                    "pair: {id}, {quantity} at net {net}{}",
+                    self.paired_in_band()
+                )
+            }
+            Record::Generated { .. } | Record::Removed { .. } => self.legging_in_words(record),
+            Record::Cross {
+                taker,
+                maker,
+                net,
+                quantity,
+            } => format!(
+                "cross: {taker} with {maker}, {quantity} at the taker's net {net}{}",
+                self.in_band()
+            ),
+            Record::Cancelled { id, quantity } => format!("cancelled: {id}, {quantity} were open"),
         }
-        Record::Removed {
-            id,
-            series,
-            side,
-            cause,
-        } => {
-            let leg = leg_name(Leg { series, side });
-            let why = cause_name(cause);
-            format!("removed the legging order of {id}, {leg}: cause {cause}, {why}")
+    }
+
+    fn legging_in_words(&self, record: &Record) -> String {
+        match *record {
+            Record::Generated {
+                id,
+                series,
+                side,
+                price,
+                displayed,
+                quantity,
+            } => {
+                let leg = leg_name(Leg { series, side });
+                let increment = self.in_force.increment(series);
+                format!(
+                    "legging order of {id}, {leg}: {quantity} at {price}, shown at {displayed} by increment {increment}{}",
+                    self.in_band()
+                )
+            }
+            Record::Removed {
+                id,
+                series,
+                side,
+                cause,
+            } => {
+                let leg = leg_name(Leg { series, side });
+                let why = cause_name(cause);
+                let by = self.by_setting(id, series, cause);
+                format!("removed the legging order of {id}, {leg}: cause {cause}, {why}{by}")
+            }
+            _ => String::new(),
         }
-        _ => String::new(),
+    }
+
+    /// The setting by which a settling removes: the increment for 1, the percentage
+    /// for 5 where no market best is missing.
+    fn by_setting(&self, id: u32, series: u8, cause: u8) -> String {
+        match cause {
+            1 => format!(" by increment {}", self.in_force.increment(series)),
+            5 if self.has_market(id) => format!(" by percent {}", self.in_force.percent()),
+            5 => ": a market best is missing".to_string(),
+            _ => String::new(),
+        }
+    }
+
+    fn has_market(&self, id: u32) -> bool {
+        let parent = find_complex(&self.step.returned.venue, id);
+        let view = self.seen.map(|seen| &seen.phases.at_settling);
+        let net = view
+            .zip(parent)
+            .and_then(|(view, parent)| view.market_net(legs_of(parent)));
+        net.is_some()
+    }
+
+    fn out_of_band_in_words(&self, out: &OutOfBand) -> String {
+        let OutOfBand {
+            id,
+            maker,
+            party,
+            net,
+            market,
+        } = out;
+        let not_made = match maker {
+            Some(maker) => format!("no cross of {id} with {maker}"),
+            None => format!("no pair of {id}"),
+        };
+        let percent = self.in_force.percent();
+        format!(
+            "{not_made}: net {net} of order {party} is not in band of market net {market} by percent {percent}"
+        )
+    }
+
+    fn in_band(&self) -> String {
+        format!(", in band by percent {}", self.in_force.percent())
+    }
+
+    /// The band is asked of a pair that legs in, not of one that a hit makes.
+    fn paired_in_band(&self) -> String {
+        match self.step.message {
+            Message::Order { .. } => String::new(),
+            _ => self.in_band(),
+        }
+    }
+
+    fn on_increment(&self) -> String {
+        match self.step.message {
+            Message::Order { leg, .. } => {
+                format!(" on increment {}", self.in_force.increment(leg.series))
+            }
+            _ => String::new(),
+        }
+    }
+
+    /// The increment that a price is off, where nothing else is out of range.
+    fn off_increment(&self, refusal: u8) -> String {
+        let message = self.step.message;
+        if refusal != 4 || !fields_in_range(message) {
+            return String::new();
+        }
+        let off = off_increment(message, &self.in_force);
+        off.map_or(String::new(), |increment| {
+            format!(", the price is off increment {increment}")
+        })
+    }
+
+    /// What an accepted setting sets, and what held before it.
+    fn setting_in_words(&self) -> Option<String> {
+        let before = InForce::of(self.step.before);
+        let (name, set, held) = match self.step.message {
+            Message::Increment { series, .. } => (
+                figure_name(*series),
+                self.in_force.increment(*series),
+                before.increment(*series),
+            ),
+            Message::Percent { .. } => (
+                figure_name(PERCENT),
+                self.in_force.percent(),
+                before.percent(),
+            ),
+            _ => return None,
+        };
+        Some(format!("{name}: {set}, before it {held}"))
     }
 }
 
@@ -156,7 +286,7 @@ fn places(mask: u16) -> String {
 pub fn refusal_name(refusal: u8) -> &'static str {
     match refusal {
         1 => "the message is torn",
-        2 => "the kind is not 1 to 6",
+        2 => "the kind is not 1 to 8",
         3 => "the length is not its kind's",
         4 => "a field is outside its range",
         5 => "the id is not above the last accepted",
@@ -165,7 +295,10 @@ pub fn refusal_name(refusal: u8) -> &'static str {
         8 => "no resting order has the id",
         9 => "the venue is unsound",
         10 => "the report memory or the message numbers are used up",
-        _ => "not a number of document 01",
+        11 => "the edition is not above the last",
+        12 => "the series is not closed, or has a resting order or leg",
+        13 => "32 editions are held already",
+        _ => "not a number of documents 01 and 02",
     }
 }
 

@@ -1,12 +1,12 @@
 //! Random sessions that follow the state of the venue, from a profile and a seed.
 
+mod settings;
+
 use crate::message::{Leg, Message};
 use crate::profile::{Profile, Shape};
 use crate::random::Random;
 use crate::scripts;
-use crate::view::{
-    beats, displayed, held_complex, held_regular, increment, leg_at, legs_of, opposite, sign, View,
-};
+use crate::view::{beats, held_complex, held_regular, leg_at, legs_of, opposite, sign, View};
 use reference::{Complex, Venue};
 use std::collections::VecDeque;
 
@@ -16,6 +16,8 @@ pub struct Generator {
     shape: Shape,
     queue: VecDeque<Message>,
     since_script: usize,
+    /// Draws the settings, apart from all else.
+    apart: Random,
 }
 
 impl Generator {
@@ -27,6 +29,7 @@ impl Generator {
             shape: profile.shape(),
             queue: VecDeque::new(),
             since_script: usize::MAX - 1,
+            apart: Random::new(!mixed),
         };
         if generator.shape.script_every == 0 {
             generator.plan_opening();
@@ -64,6 +67,9 @@ impl Generator {
         if due && self.queue.is_empty() {
             self.plan_script(venue);
         }
+        if self.queue.is_empty() && self.apart.chance(self.shape.settings) {
+            self.plan_settings(venue);
+        }
         let message = match self.queue.pop_front() {
             Some(message) => self.numbered(message, venue),
             None => self.random_message(venue),
@@ -89,7 +95,7 @@ impl Generator {
         if bytes.len() >= 4 && self.random.chance(80) {
             bytes[0] = self.random.below(24) as u8;
             bytes[1] = 0;
-            bytes[2] = self.random.below(8) as u8;
+            bytes[2] = self.random.below(10) as u8;
             bytes[3] = 0;
         }
         bytes
@@ -110,10 +116,14 @@ impl Generator {
         self.queue.extend(script);
     }
 
-    /// Gives an order of a script the next id.
+    /// Gives an order that was planned the next id, and a setting the next edition.
     fn numbered(&mut self, mut message: Message, venue: &Venue) -> Message {
-        if let Message::Order { id, .. } | Message::Complex { id, .. } = &mut message {
-            *id = self.next_id(venue);
+        match &mut message {
+            Message::Order { id, .. } | Message::Complex { id, .. } => *id = self.next_id(venue),
+            Message::Increment { edition, .. } | Message::Percent { edition, .. } => {
+                *edition = self.next_edition(venue);
+            }
+            _ => {}
         }
         message
     }
@@ -170,8 +180,8 @@ impl Generator {
     }
 
     /// A price on the increment, between the ends of the range.
-    fn on_increment(&self, series: u8, price: i64) -> u32 {
-        let step = increment(series);
+    fn on_increment(view: &View, series: u8, price: i64) -> u32 {
+        let step = view.increment(series);
         let rounded = price.div_euclid(step) * step;
         rounded.clamp(step, 100_000) as u32
     }
@@ -197,14 +207,18 @@ impl Generator {
             }
         }
         let leg = self.side_of_series();
-        let step = increment(leg.series);
+        let step = view.increment(leg.series);
         let taking = view
             .best_own(opposite(leg))
             .filter(|_| self.random.chance(25));
         let joining = view.best_own(leg).filter(|_| self.random.chance(25));
         let price = match (taking, joining) {
-            (Some(best), _) => displayed(leg, best) + sign(leg) * step * self.random.between(0, 1),
-            (_, Some(best)) => displayed(leg, best) + sign(leg) * step * self.random.between(-1, 1),
+            (Some(best), _) => {
+                view.displayed(leg, best) + sign(leg) * step * self.random.between(0, 1)
+            }
+            (_, Some(best)) => {
+                view.displayed(leg, best) + sign(leg) * step * self.random.between(-1, 1)
+            }
             _ => {
                 let apart = self.random.between(-1, self.shape.steps);
                 self.centre(leg.series) - sign(leg) * step * apart
@@ -213,7 +227,7 @@ impl Generator {
         Message::Order {
             id: self.next_id(venue),
             leg,
-            price: self.on_increment(leg.series, price),
+            price: Self::on_increment(view, leg.series, price),
             quantity: self.quantity(),
         }
     }
@@ -238,11 +252,11 @@ impl Generator {
             1 | 2 => ahead + order.quantity,
             _ => ahead + order.quantity + self.quantity(),
         };
-        let reached = displayed(made, i64::from(order.price));
+        let reached = view.displayed(made, i64::from(order.price));
         Some(Message::Order {
             id: self.next_id(venue),
             leg: opposite(made),
-            price: self.on_increment(made.series, reached),
+            price: Self::on_increment(view, made.series, reached),
             quantity: quantity.clamp(1, 10_000),
         })
     }
@@ -322,7 +336,8 @@ impl Generator {
             20
         };
         if self.random.chance(at_edge) {
-            let edge = (100 * market + 5 * market.abs()).div_euclid(100);
+            let percent = i64::from(view.in_force.percent().value);
+            let edge = (100 * market + percent * market.abs()).div_euclid(100);
             return edge + self.random.between(-1, 1);
         }
         match self.random.below(4) {
@@ -448,7 +463,7 @@ impl Generator {
         let length = 4 + self.random.below(30);
         let kind = self
             .random
-            .pick(&[0, 7, 8, 9, 11, 63, 64, 65, 80, 99, 255, 256, 65_535]);
+            .pick(&[0, 9, 10, 11, 12, 63, 64, 65, 80, 99, 255, 256, 65_535]);
         let mut bytes = vec![length as u8, 0];
         bytes.extend_from_slice(&u16::to_le_bytes(kind));
         bytes.extend((4..length).map(|_| self.random.below(256) as u8));

@@ -1,9 +1,9 @@
-//! A venue as hosts hold it: 2,604 bytes, without padding, in the order of the
-//! venue's fields. Any value goes to bytes and back, sound or not.
+//! A venue as hosts hold it, without padding, in the order of the venue's fields.
+//! Any value goes to bytes and back, sound or not.
 
-use reference::{Complex, Legging, Listed, Regular, Venue};
+use reference::{Complex, Edition, Legging, Listed, Regular, Venue};
 
-pub const VENUE_BYTES: usize = 2_604;
+pub const VENUE_BYTES: usize = 2_924;
 
 /// The bytes of a venue.
 pub fn to_bytes(venue: &Venue) -> [u8; VENUE_BYTES] {
@@ -35,6 +35,11 @@ pub fn to_bytes(venue: &Venue) -> [u8; VENUE_BYTES] {
         writer.u32(listed.offer);
     }
     writer.u32(venue.last);
+    for entry in &venue.editions {
+        writer.u32(entry.edition);
+        writer.u32(entry.number);
+        writer.all(&[entry.figure, entry.value]);
+    }
     writer.bytes
 }
 
@@ -55,6 +60,12 @@ pub fn from_bytes(bytes: &[u8; VENUE_BYTES]) -> Venue {
             offer: reader.u32(),
         }),
         last: reader.u32(),
+        editions: std::array::from_fn(|_| Edition {
+            edition: reader.u32(),
+            number: reader.u32(),
+            figure: reader.u8(),
+            value: reader.u8(),
+        }),
     }
 }
 
@@ -142,11 +153,14 @@ mod tests {
         venue.legging[15].quantity = 7;
         venue.series[7].offer = 9;
         venue.last = 1;
+        venue.editions[31].number = 0x0403_0201;
+        venue.editions[31].value = 5;
         let bytes = to_bytes(&venue);
         assert_eq!(bytes[14 + 6..14 + 10], [1, 2, 3, 4]);
         assert_eq!(bytes[1_792 + 31 * 17 + 9..][..4], [0xFE, 0xFF, 0xFF, 0xFF]);
         assert_eq!(bytes[2_336 + 15 * 12 + 8], 7);
         assert_eq!(bytes[2_528 + 7 * 9 + 5], 9);
-        assert_eq!(bytes[2_600..], [1, 0, 0, 0]);
+        assert_eq!(bytes[2_600..2_604], [1, 0, 0, 0]);
+        assert_eq!(bytes[2_604 + 31 * 10 + 4..], [1, 2, 3, 4, 0, 5]);
     }
 }

@@ -6,7 +6,7 @@ use crate::held_layer::{from_bytes, to_bytes, write_arrival, write_turn, LAYER_B
 use crate::layer_generator::{corrupt_layer, LayerGenerator};
 use crate::lent::Lent;
 use crate::profile::Profile;
-use crate::sound::fault;
+use crate::sound::{fault, number_fault};
 use reference::{arrive, one_message, turn, Layer, Turned, Venue, VENUES};
 use std::collections::{BTreeMap, VecDeque};
 
@@ -14,7 +14,7 @@ use std::collections::{BTreeMap, VecDeque};
 const CALLS: usize = 120;
 
 /// The ways that random calls must show.
-const WAYS: [&str; 34] = [
+const WAYS: [&str; 37] = [
     "arrival 0: the first of a wait",
     "arrival 0: the eighth of a wait",
     "arrival 0: a message of 32 bytes",
@@ -41,6 +41,8 @@ const WAYS: [&str; 34] = [
     "turn 10: the report memory is short",
     "turn 10: the count is at its end",
     "turn 10: tried again and done",
+    "turn 11",
+    "turn 12",
     "turn: the same venue again, none else waiting",
     "turn: the fourth since a message came to the head",
     "turn: past venues with nothing waiting",
@@ -48,6 +50,7 @@ const WAYS: [&str; 34] = [
     "9: a count above 8",
     "9: a length above 32",
     "9: a venue",
+    "9: a number not above an edition's",
     "no 9: a free place is changed",
 ];
 
@@ -300,7 +303,10 @@ impl Session<'_> {
             5 => "turn 5",
             6 => "turn 6",
             7 => "turn 7",
-            _ => "turn 8",
+            8 => "turn 8",
+            11 => "turn 11",
+            12 => "turn 12",
+            _ => "turn 13",
         });
         if self.ended {
             self.coverage.add("turn 10: tried again and done");
@@ -391,6 +397,8 @@ fn faults_of(layer: &Layer) -> Vec<&'static str> {
         }
         if fault(&lane.venue).is_some() {
             faults.push("9: a venue");
+        } else if number_fault(&lane.venue, lane.done).is_some() {
+            faults.push("9: a number not above an edition's");
         }
     }
     faults

@@ -5,6 +5,7 @@
 
 pub mod asked;
 pub mod audit;
+pub mod broken;
 pub mod check;
 pub mod corrupt;
 pub mod coverage;
@@ -28,6 +29,7 @@ pub mod profile;
 pub mod random;
 pub mod record;
 pub mod scripts;
+pub mod settings;
 pub mod sheet;
 pub mod soak;
 pub mod sound;

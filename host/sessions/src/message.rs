@@ -35,7 +35,16 @@ pub enum Message {
         status: u8,
     },
     Sweep,
-    /// Bytes that are no message of kinds 1 to 6 at its length.
+    Increment {
+        series: u8,
+        increment: u8,
+        edition: u32,
+    },
+    Percent {
+        percent: u8,
+        edition: u32,
+    },
+    /// Bytes that are no message of kinds 1 to 8 at its length.
     Raw(Vec<u8>),
 }
 
@@ -73,11 +82,19 @@ impl Message {
             }
             Message::Status { series, status } => framed(5, &[&[*series, *status]]),
             Message::Sweep => framed(6, &[]),
+            Message::Increment {
+                series,
+                increment,
+                edition,
+            } => framed(7, &[&[*series, *increment], &edition.to_le_bytes()]),
+            Message::Percent { percent, edition } => {
+                framed(8, &[&[*percent], &edition.to_le_bytes()])
+            }
             Message::Raw(bytes) => bytes.clone(),
         }
     }
 
-    /// Reads one message cut from a list; what is none of kinds 1 to 6 at its
+    /// Reads one message cut from a list; what is none of kinds 1 to 8 at its
     /// length stays raw.
     pub fn decode(bytes: &[u8]) -> Message {
         let mut fields = Fields { bytes, at: 4 };
@@ -108,6 +125,15 @@ impl Message {
                 status: fields.u8(),
             },
             (6, 4) => Message::Sweep,
+            (7, 10) => Message::Increment {
+                series: fields.u8(),
+                increment: fields.u8(),
+                edition: fields.u32(),
+            },
+            (8, 9) => Message::Percent {
+                percent: fields.u8(),
+                edition: fields.u32(),
+            },
             _ => Message::Raw(bytes.to_vec()),
         }
     }

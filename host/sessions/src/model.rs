@@ -1,11 +1,12 @@
 //! What a message is answered and what its work does, by the plainest reading
-//! of document 01: every choice looks at all orders, every price is worked out
-//! anew. It is slow, and shares nothing with the reference but its types.
+//! of documents 01 and 02: every choice looks at all orders, every price is worked
+//! out anew. It is slow, and shares nothing with the reference but its types.
 
 use crate::message::{split, Leg, Message};
 use crate::record::Record;
-use crate::view::{held_complex, held_regular, increment, legs_of, opposite, place_of, sign, View};
-use reference::{Complex, Legging, Regular, Venue};
+use crate::settings::{held_editions, last_edition, Figure, InForce, PERCENT};
+use crate::view::{held_complex, held_regular, legs_of, opposite, place_of, sign, View};
+use reference::{Complex, Edition, Legging, Regular, Venue};
 
 /// The refusal that a message meets, or 0. `left` is all that is left to read.
 pub fn refusal(venue: &Venue, left: &[u8]) -> u8 {
@@ -15,17 +16,31 @@ pub fn refusal(venue: &Venue, left: &[u8]) -> u8 {
     }
     let message = split(left)[0];
     let kind = u16::from_le_bytes([message[2], message[3]]);
-    if !(1..=6).contains(&kind) {
+    if !(1..=8).contains(&kind) {
         return 2;
     }
     match Message::decode(message) {
         Message::Raw(_) => 3,
-        decoded if !in_range(&decoded) => 4,
+        decoded if !in_range(&decoded, &InForce::of(venue)) => 4,
         decoded => venue_refusal(venue, &decoded),
     }
 }
 
-fn in_range(message: &Message) -> bool {
+fn in_range(message: &Message, in_force: &InForce) -> bool {
+    fields_in_range(message) && off_increment(message, in_force).is_none()
+}
+
+/// The increment that the price of an order is off, if it is; its fields are in range.
+pub fn off_increment(message: &Message, in_force: &InForce) -> Option<Figure> {
+    let Message::Order { leg, price, .. } = message else {
+        return None;
+    };
+    let increment = in_force.increment(leg.series);
+    (*price % u32::from(increment.value) != 0).then_some(increment)
+}
+
+/// Whether every field is in a range that no setting moves.
+pub fn fields_in_range(message: &Message) -> bool {
     let leg_in_range = |leg: &Leg| leg.series <= 7 && leg.side <= 1;
     match message {
         Message::Order {
@@ -37,7 +52,6 @@ fn in_range(message: &Message) -> bool {
             *id >= 1
                 && leg_in_range(leg)
                 && (1..=100_000).contains(price)
-                && i64::from(*price) % increment(leg.series) == 0
                 && (1..=10_000).contains(quantity)
         }
         Message::Complex {
@@ -60,6 +74,10 @@ fn in_range(message: &Message) -> bool {
         }
         Message::Status { series, status } => *series <= 7 && *status <= 2,
         Message::Sweep => true,
+        Message::Increment {
+            series, increment, ..
+        } => *series <= 7 && [1, 5, 10].contains(increment),
+        Message::Percent { percent, .. } => *percent <= 50,
         Message::Raw(_) => false,
     }
 }
@@ -69,6 +87,10 @@ fn venue_refusal(venue: &Venue, message: &Message) -> u8 {
         Message::Order { id, leg, .. } => (*id, vec![*leg], venue.regular[127].quantity > 0),
         Message::Complex { id, legs, .. } => (*id, legs.to_vec(), venue.complex[31].quantity > 0),
         Message::Cancel { id } => return if rests(venue, *id) { 0 } else { 8 },
+        Message::Increment {
+            series, edition, ..
+        } => return setting_refusal(venue, *edition, Some(*series)),
+        Message::Percent { edition, .. } => return setting_refusal(venue, *edition, None),
         _ => return 0,
     };
     if id <= venue.last {
@@ -82,6 +104,30 @@ fn venue_refusal(venue: &Venue, message: &Message) -> u8 {
     } else {
         0
     }
+}
+
+/// The first of 11, 12 and 13 that a setting meets; `series` is that of an increment.
+fn setting_refusal(venue: &Venue, edition: u32, series: Option<u8>) -> u8 {
+    let (last, _) = last_edition(venue);
+    if edition <= last {
+        return 11;
+    }
+    if series.is_some_and(|series| in_use(venue, series)) {
+        return 12;
+    }
+    if held_editions(venue).count() == 32 {
+        13
+    } else {
+        0
+    }
+}
+
+/// Whether a series is not closed, or has a resting order or a leg of one.
+pub fn in_use(venue: &Venue, series: u8) -> bool {
+    let leg_of = |order: &Complex| legs_of(order).iter().any(|leg| leg.series == series);
+    venue.series[usize::from(series)].status != 0
+        || held_regular(venue).any(|order| order.series == series)
+        || held_complex(venue).any(leg_of)
 }
 
 fn rests(venue: &Venue, id: u32) -> bool {
@@ -105,19 +151,35 @@ pub struct AboveLegs {
     pub legs: i64,
 }
 
+/// A net that the percentage of the band kept from a cross or from legging in.
+#[derive(Clone, Copy, Debug, PartialEq, Eq)]
+pub struct OutOfBand {
+    /// The order that was worked, and the other of a cross.
+    pub id: u32,
+    pub maker: Option<u32>,
+    /// Whose net it is, and the market net that it is out of band of.
+    pub party: u32,
+    pub net: i64,
+    pub market: i64,
+}
+
 /// An accepted message's work: the venue at its settling, and the records.
 pub struct Work {
     pub venue: Venue,
     pub records: Vec<Record>,
     /// Who was passed over in crossing for the prices of a party's legs alone.
     pub above: Vec<AboveLegs>,
+    /// What else was not made for the band, no market best missing.
+    pub out_of_band: Vec<OutOfBand>,
 }
 
-pub fn work(before: &Venue, message: &Message) -> Work {
+/// The work of the message with this number.
+pub fn work(before: &Venue, message: &Message, number: u32) -> Work {
     let mut work = Work {
         venue: before.clone(),
         records: Vec::new(),
         above: Vec::new(),
+        out_of_band: Vec::new(),
     };
     match *message {
         Message::Order {
@@ -142,12 +204,29 @@ pub fn work(before: &Venue, message: &Message) -> Work {
             let ids: Vec<u32> = held_complex(before).map(|order| order.id).collect();
             ids.into_iter().for_each(|id| work.complex(id));
         }
+        Message::Increment {
+            series,
+            increment,
+            edition,
+        } => work.set(edition, number, series, increment),
+        Message::Percent { percent, edition } => work.set(edition, number, PERCENT, percent),
         Message::Raw(_) => {}
     }
     work
 }
 
 impl Work {
+    /// Puts a setting in the first free place of the row.
+    fn set(&mut self, edition: u32, number: u32, figure: u8, value: u8) {
+        let place = held_editions(&self.venue).count();
+        self.venue.editions[place] = Edition {
+            edition,
+            number,
+            figure,
+            value,
+        };
+    }
+
     /// Puts an arriving complex order in the first free place.
     fn rest(&mut self, message: &Message) {
         let Message::Complex {
@@ -344,10 +423,28 @@ impl Work {
         while self.leg_in(id) {}
     }
 
-    /// The resting orders reversed to this one whose limits meet its own, with
-    /// both nets in band.
-    fn reversed_in_band(&self, taker: &Complex) -> Vec<Complex> {
+    /// Whether a net of a party is in band; tells where the percentage forbids it.
+    fn in_band(&mut self, id: u32, maker: Option<u32>, party: &Complex, net: i64) -> bool {
         let view = View::of(&self.venue);
+        let legs = legs_of(party);
+        if view.in_band(net, legs) {
+            return true;
+        }
+        let out = view.market_net(legs).map(|market| OutOfBand {
+            id,
+            maker,
+            party: party.id,
+            net,
+            market,
+        });
+        if let Some(out) = out.filter(|out| !self.out_of_band.contains(out)) {
+            self.out_of_band.push(out);
+        }
+        false
+    }
+
+    /// The resting orders reversed to this one whose limits meet its own.
+    fn reversed(&self, taker: &Complex) -> Vec<Complex> {
         let wanted = legs_of(taker).map(opposite);
         held_complex(&self.venue)
             .filter(|maker| {
@@ -355,8 +452,6 @@ impl Work {
                 legs == wanted || legs == [wanted[1], wanted[0]]
             })
             .filter(|maker| taker.limit + maker.limit >= 0)
-            .filter(|maker| view.in_band(-i64::from(maker.limit), legs_of(taker)))
-            .filter(|maker| view.in_band(i64::from(maker.limit), legs_of(maker)))
             .copied()
             .collect()
     }
@@ -379,10 +474,15 @@ impl Work {
         })
     }
 
-    /// The orders that this one may cross with; tells who else would be one but
-    /// for the prices of a party's legs.
+    /// The orders that this one may cross with, both nets in band; tells who else
+    /// would be one but for the prices of a party's legs.
     fn candidates(&mut self, taker: &Complex) -> Vec<Complex> {
-        let mut candidates = self.reversed_in_band(taker);
+        let mut candidates = self.reversed(taker);
+        candidates.retain(|maker| {
+            let limit = i64::from(maker.limit);
+            self.in_band(taker.id, Some(maker.id), taker, -limit)
+                && self.in_band(taker.id, Some(maker.id), maker, limit)
+        });
         candidates.retain(|maker| {
             let above = self.above_legs(taker, maker);
             if let Some(passed) = above.filter(|passed| !self.above.contains(passed)) {
@@ -443,7 +543,7 @@ impl Work {
             return false;
         };
         let net = sign(legs[0]) * first.price + sign(legs[1]) * second.price;
-        if net > i64::from(order.limit) || !view.in_band(net, legs) {
+        if net > i64::from(order.limit) || !self.in_band(id, None, &order, net) {
             return false;
         }
         let sizes = first.size.min(second.size);

@@ -3,9 +3,7 @@
 use crate::message::Leg;
 use crate::message::Message;
 use crate::record::Record;
-use crate::view::{
-    displayed, find_complex, held_complex, leg_at, legs_of, place_of, Declined, View,
-};
+use crate::view::{find_complex, held_complex, leg_at, legs_of, place_of, Declined, View};
 use reference::{Complex, Legging, Venue};
 
 /// What the records of an accepted message tell of its legging orders.
@@ -170,7 +168,7 @@ impl View {
             series,
             side,
             price: made.price,
-            displayed: displayed(leg, i64::from(made.price)) as u32,
+            displayed: self.displayed(leg, i64::from(made.price)) as u32,
             quantity: made.quantity,
         };
         replaced.into_iter().chain([generated])

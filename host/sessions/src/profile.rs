@@ -15,10 +15,11 @@ pub enum Profile {
     CrossParties,
     PriceEdges,
     OddBytes,
+    Settings,
 }
 
 impl Profile {
-    pub const ALL: [Profile; 13] = [
+    pub const ALL: [Profile; 14] = [
         Profile::Mixed,
         Profile::FewSeries,
         Profile::Credit,
@@ -32,6 +33,7 @@ impl Profile {
         Profile::CrossParties,
         Profile::PriceEdges,
         Profile::OddBytes,
+        Profile::Settings,
     ];
 
     pub fn name(self) -> &'static str {
@@ -49,6 +51,7 @@ impl Profile {
             Profile::CrossParties => "cross-parties",
             Profile::PriceEdges => "price-edges",
             Profile::OddBytes => "odd-bytes",
+            Profile::Settings => "settings",
         }
     }
 
@@ -69,8 +72,12 @@ impl Profile {
             Profile::BandEdges => base
                 .over(THREE)
                 .weighted([35, 32, 6, 17, 1, 8, 1])
-                .at(1000, 6),
-            Profile::Refusals => base.weighted([25, 12, 5, 5, 8, 3, 42]).closing(75),
+                .at(1000, 6)
+                .setting(2),
+            Profile::Refusals => {
+                let shape = base.weighted([25, 12, 5, 5, 8, 3, 42]);
+                shape.closing(75).setting(8)
+            }
             Profile::FullBooks => base
                 .weighted([62, 24, 2, 2, 1, 4, 5])
                 .at(100, 30)
@@ -78,7 +85,7 @@ impl Profile {
             Profile::Sweeps => base.over(THREE).weighted([33, 22, 5, 7, 1, 31, 1]),
             Profile::StatusFlips => {
                 let shape = base.over(THREE).weighted([36, 24, 5, 4, 20, 10, 1]);
-                shape.closing(75)
+                shape.closing(75).setting(2)
             }
             Profile::Classes => base
                 .over(THREE)
@@ -92,8 +99,15 @@ impl Profile {
                 let shape = base.over(THREE).weighted([32, 35, 4, 8, 1, 19, 1]);
                 shape.crossing(45).scripted(40)
             }
-            Profile::PriceEdges => base.over(&[0, 1, 6, 7]).at(0, 4),
-            Profile::OddBytes => base.weighted([30, 15, 5, 5, 4, 6, 35]).closing(50),
+            Profile::PriceEdges => base.over(&[0, 1, 6, 7]).at(0, 4).setting(2),
+            Profile::OddBytes => {
+                let shape = base.weighted([30, 15, 5, 5, 4, 6, 35]);
+                shape.closing(50).setting(2)
+            }
+            Profile::Settings => base
+                .over(&[0, 1, 2, 3, 6, 7])
+                .weighted([42, 24, 14, 8, 2, 8, 2])
+                .setting(8),
         }
     }
 }
@@ -114,6 +128,8 @@ pub(crate) struct Shape {
     pub closed_first: u64,
     /// Messages between scripts; 0 for none.
     pub script_every: usize,
+    /// Percent of messages before which something is set.
+    pub settings: u64,
 }
 
 impl Shape {
@@ -128,6 +144,7 @@ impl Shape {
             crossing_limits: 20,
             closed_first: 10,
             script_every: 0,
+            settings: 0,
         }
     }
 
@@ -174,5 +191,9 @@ impl Shape {
             script_every,
             ..self
         }
+    }
+
+    fn setting(self, settings: u64) -> Self {
+        Shape { settings, ..self }
     }
 }

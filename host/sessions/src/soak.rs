@@ -1,8 +1,9 @@
 //! Random sessions with every check after every message.
 
+use crate::broken::{broken_rows, with_editions};
 use crate::check::{Checker, Step};
 use crate::corrupt::corrupt;
-use crate::coverage::Coverage;
+use crate::coverage::{Coverage, Rare};
 use crate::feed_check::check_feeds;
 use crate::generator::Generator;
 use crate::layer_check::check_layer;
@@ -10,8 +11,9 @@ use crate::lent::Lent;
 use crate::message::{split, Message};
 use crate::profile::Profile;
 use crate::record::{read_report_into, Record};
-use crate::sound::fault;
-use reference::{is_sound, one_message, run, Returned, Venue};
+use crate::settings::last_edition;
+use crate::sound::{call_fault, fault, number_fault};
+use reference::{is_sound, one_message, run, settings, Returned, Venue};
 use std::fmt::{self, Display};
 
 /// More than the records of any one message take.
@@ -150,6 +152,7 @@ impl<'a> Session<'a> {
         if returned.done != 1 || !is_sound(&returned.venue) {
             return Err("done is not 1, or the venue is unsound to the reference".to_string());
         }
+        self.checker.check_settings(&step)?;
         self.coverage.observe(&step, seen.as_ref());
         self.report.extend_from_slice(written);
         self.ends.push(self.report.len());
@@ -161,10 +164,11 @@ impl<'a> Session<'a> {
 
     /// Calls beside the list, which leave it as it is.
     fn probe(&mut self, probes: &mut Generator) -> Result<(), String> {
-        match probes.random().below(4) {
+        match probes.random().below(5) {
             0 => self.probe_memory(probes),
             1 => self.probe_number(probes),
             2 => self.probe_unsound(probes),
+            3 => self.probe_editions(probes),
             _ => self.probe_noise(probes),
         }
     }
@@ -172,26 +176,33 @@ impl<'a> Session<'a> {
     /// A message with every record fitting exactly, and with one byte less.
     fn probe_memory(&mut self, probes: &mut Generator) -> Result<(), String> {
         let message = probes.next(&self.venue);
-        let whole = one_message(&self.venue, 7, &message, self.lent.lend(ROOM));
+        let before = self.pieces.len() as u32;
+        let whole = one_message(&self.venue, before, &message, self.lent.lend(ROOM));
         let records = self.lent.written(whole.written)?.to_vec();
-        let exact = one_message(&self.venue, 7, &message, self.lent.lend(records.len()));
+        let exact = one_message(&self.venue, before, &message, self.lent.lend(records.len()));
         if exact != whole || self.lent.written(exact.written)? != records {
             return Err("exact report memory changed the outcome".to_string());
         }
         let short = probes.random().below(records.len() as u64) as usize;
         for length in [records.len() - 1, short] {
-            let ended = one_message(&self.venue, 7, &message, self.lent.lend(length));
-            self.expect_ended(&ended, 10)?;
+            let ended = one_message(&self.venue, before, &message, self.lent.lend(length));
+            self.expect_ended(&ended, &self.venue.clone(), 10)?;
         }
         Ok(())
     }
 
-    fn expect_ended(&mut self, returned: &Returned, number: u8) -> Result<(), String> {
+    /// A call that ended before its message left the venue given and no record.
+    fn expect_ended(
+        &mut self,
+        returned: &Returned,
+        given: &Venue,
+        number: u8,
+    ) -> Result<(), String> {
         let expected = Returned {
             number,
             done: 0,
             written: 0,
-            venue: self.venue.clone(),
+            venue: given.clone(),
         };
         self.lent.written(0)?;
         self.coverage.answer(returned.number);
@@ -204,7 +215,7 @@ impl<'a> Session<'a> {
     fn probe_number(&mut self, probes: &mut Generator) -> Result<(), String> {
         let message = probes.next(&self.venue);
         let ended = one_message(&self.venue, u32::MAX, &message, self.lent.lend(ROOM));
-        self.expect_ended(&ended, 10)?;
+        self.expect_ended(&ended, &self.venue.clone(), 10)?;
         let before = u32::MAX - 1;
         let last = one_message(&self.venue, before, &message, self.lent.lend(ROOM));
         read_report_into(self.lent.written(last.written)?, &mut self.records)?;
@@ -216,19 +227,48 @@ impl<'a> Session<'a> {
 
     /// Both tests of soundness agree on a changed venue, and so does the call.
     fn probe_unsound(&mut self, probes: &mut Generator) -> Result<(), String> {
+        let before = self.pieces.len() as u32;
         for _ in 0..4 {
             let changed = corrupt(&self.venue, probes.random());
-            let unsound = fault(&changed);
-            let returned = one_message(&changed, 0, &Message::Sweep.encode(), self.lent.lend(ROOM));
-            if unsound.is_some() != (returned.number == 9) {
-                return Err(format!("soundness differs: {unsound:?} for {changed:?}"));
+            self.expect_taken(&changed, before)?;
+        }
+        Ok(())
+    }
+
+    /// Every kind of broken row, and numbers about that of the last edition.
+    fn probe_editions(&mut self, probes: &mut Generator) -> Result<(), String> {
+        let at = probes.random().below(32) as usize;
+        for (name, broken) in broken_rows(&self.venue, at) {
+            if fault(&broken).is_none() {
+                return Err(format!("{name} is not found in {broken:?}"));
             }
-            if unsound.is_some() {
-                let kept = std::mem::replace(&mut self.venue, changed);
-                let checked = self.expect_ended(&returned, 9);
-                self.venue = kept;
-                checked?;
-            }
+            self.expect_taken(&broken, u32::MAX - 1)?;
+        }
+        let longer = with_editions(&self.venue, at);
+        let (_, last) = last_edition(&longer);
+        for number in last.saturating_sub(2)..=last.saturating_add(2) {
+            self.expect_taken(&longer, number.saturating_sub(1))?;
+        }
+        self.expect_taken(&longer, u32::MAX)
+    }
+
+    /// A call upon a venue gets 9 just where both tests of it say so, and its
+    /// settings are told just where it is sound.
+    fn expect_taken(&mut self, venue: &Venue, before: u32) -> Result<(), String> {
+        let sweep = Message::Sweep.encode();
+        let returned = one_message(venue, before, &sweep, self.lent.lend(ROOM));
+        let unsound = fault(venue);
+        let refused = call_fault(venue, before);
+        if unsound.is_none() != is_sound(venue) || refused.is_some() != (returned.number == 9) {
+            return Err(format!("soundness differs: {refused:?} for {venue:?}"));
+        }
+        if unsound.is_some() != settings(venue, before).is_none() {
+            return Err(format!("settings told differ: {unsound:?} for {venue:?}"));
+        }
+        if refused.is_some() {
+            let by_number = unsound.is_none() && number_fault(venue, before).is_some();
+            self.coverage.add(Rare::NumberNotAbove, by_number);
+            self.expect_ended(&returned, venue, 9)?;
         }
         Ok(())
     }

@@ -1,11 +1,29 @@
 //! Soundness from the document's sentence, apart from the reference's test.
 
 use crate::message::Leg;
-use crate::view::{displayed, find_complex, increment, leg_at, legs_of, View};
-use reference::{Complex, Legging, Listed, Regular, Venue};
+use crate::settings::{last_edition, InForce, PERCENT};
+use crate::view::{find_complex, leg_at, legs_of, View};
+use reference::{Complex, Edition, Legging, Listed, Regular, Venue};
+
+/// Why a one-message call gets 9, if it does: `before` messages went before its own.
+pub fn call_fault(venue: &Venue, before: u32) -> Option<String> {
+    fault(venue).or_else(|| number_fault(venue, before))
+}
+
+/// The message's number is above that of every edition kept.
+pub fn number_fault(venue: &Venue, before: u32) -> Option<String> {
+    let (edition, kept) = last_edition(venue);
+    let number = u64::from(before) + 1;
+    (number <= u64::from(kept))
+        .then(|| format!("message {number} is not above message {kept} of edition {edition}"))
+}
 
 /// What is unsound about a venue, if anything.
 pub fn fault(venue: &Venue) -> Option<String> {
+    // The other tests read the settings in force.
+    if let Some(fault) = edition_fault(venue) {
+        return Some(fault);
+    }
     let faults = [
         arrangement_fault(venue),
         regular_fault(venue),
@@ -17,6 +35,28 @@ pub fn fault(venue: &Venue) -> Option<String> {
         return Some(fault);
     }
     legging_fault(venue).or_else(|| crossed_fault(venue))
+}
+
+/// Editions come first and rise from 0 in both numbers; free places are zero.
+fn edition_fault(venue: &Venue) -> Option<String> {
+    let editions: Vec<u32> = venue.editions.iter().map(|entry| entry.edition).collect();
+    let numbers: Vec<u32> = venue.editions.iter().map(|entry| entry.number).collect();
+    if !rises_then_zero(&editions) || !rises_then_zero(&numbers) {
+        return Some("editions do not rise in both numbers".to_string());
+    }
+    let mut free = venue.editions.iter().filter(|entry| entry.edition == 0);
+    if free.any(|entry| *entry != Edition::default()) {
+        return Some("a free place of the editions is not zero".to_string());
+    }
+    let out = |entry: &&Edition| match entry.figure {
+        _ if entry.number == 0 => true,
+        0..=7 => ![1, 5, 10].contains(&entry.value),
+        PERCENT => entry.value > 50,
+        _ => true,
+    };
+    let mut held = venue.editions.iter().filter(|entry| entry.edition != 0);
+    held.find(out)
+        .map(|entry| format!("a field of edition {} is out of range", entry.edition))
 }
 
 /// Held places come first in rising id; free places are zero.
@@ -47,12 +87,13 @@ fn rises_then_zero(ids: &[u32]) -> bool {
 }
 
 fn regular_fault(venue: &Venue) -> Option<String> {
+    let in_force = InForce::of(venue);
     let held = venue.regular.iter().filter(|order| order.id != 0);
     let mut bad = held.filter(|order| {
         order.series > 7
             || order.side > 1
             || !(1..=100_000).contains(&order.price)
-            || i64::from(order.price) % increment(order.series) != 0
+            || order.price % u32::from(in_force.increment(order.series).value) != 0
             || !(1..=10_000).contains(&order.quantity)
     });
     bad.next()
@@ -117,7 +158,7 @@ fn match_fault(venue: &Venue, leg: Leg, order: Legging) -> Option<String> {
 fn test_fault(view: &View, venue: &Venue, leg: Leg, order: Legging) -> Option<String> {
     let parent = find_complex(venue, order.parent)?;
     let causes = view.failing_causes(leg, parent);
-    let shown = displayed(leg, i64::from(order.price));
+    let shown = view.displayed(leg, i64::from(order.price));
     let cause = causes.first()?;
     Some(format!(
         "shown at {shown} fails its test with cause {cause}"

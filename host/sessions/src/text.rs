@@ -7,6 +7,8 @@
 //! away SERIES bid PRICE offer PRICE
 //! status SERIES STATUS          (also: open SERIES, close SERIES, auction SERIES)
 //! sweep
+//! increment SERIES INCREMENT EDITION
+//! percent PERCENT EDITION
 //! raw HEX HEX ...
 //! ```
 //! SIDE is `buy`, `sell` or `side=NUMBER`; STATUS is `open`, `closed`, `auction`
@@ -105,8 +107,8 @@ pub(crate) fn parse_line(mut words: Words) -> Result<Message, LineError> {
     Ok(message)
 }
 
-const KINDS: &str =
-    "a message (order, complex, cancel, away, status, open, close, auction, sweep or raw)";
+const KINDS: &str = "a message (order, complex, cancel, away, status, open, close, auction, \
+    sweep, increment, percent or raw)";
 
 fn parse_message(words: &mut Words) -> Result<Message, LineError> {
     match words.next() {
@@ -124,6 +126,15 @@ fn parse_message(words: &mut Words) -> Result<Message, LineError> {
         Some("close") => words.status_of_series(0),
         Some("auction") => words.status_of_series(2),
         Some("sweep") => Ok(Message::Sweep),
+        Some("increment") => Ok(Message::Increment {
+            series: words.number("a series")?,
+            increment: words.number("an increment")?,
+            edition: words.number("an edition")?,
+        }),
+        Some("percent") => Ok(Message::Percent {
+            percent: words.number("a percentage")?,
+            edition: words.number("an edition")?,
+        }),
         Some("raw") => words.bytes().map(Message::Raw),
         found => Err(words.error(KINDS, found)),
     }
@@ -350,6 +361,12 @@ impl Display for Message {
                 write!(f, "status {series} {}", Status(*status))
             }
             Message::Sweep => write!(f, "sweep"),
+            Message::Increment {
+                series,
+                increment,
+                edition,
+            } => write!(f, "increment {series} {increment} {edition}"),
+            Message::Percent { percent, edition } => write!(f, "percent {percent} {edition}"),
             Message::Raw(bytes) => {
                 write!(f, "raw")?;
                 bytes.iter().try_for_each(|byte| write!(f, " {byte:02x}"))
@@ -369,7 +386,8 @@ mod tests {
             complex 3 buy 0 sell 1 class 1 net -205 quantity 8\n\
             complex 3 side=2 9 buy 1 class 255 net -2147483648 quantity 0\n\
             cancel 3\naway 0 bid 0 offer 60\nstatus 0 open\nstatus 1 closed\n\
-            status 2 auction\nstatus 9 status=3\nsweep\nraw 09 00 06\n";
+            status 2 auction\nstatus 9 status=3\nsweep\nincrement 7 10 4294967295\n\
+            increment 255 0 0\npercent 50 2\npercent 255 0\nraw 09 00 06\n";
         let bytes = encode_session(text).unwrap();
         assert_eq!(decode_session(&bytes), text);
     }
@@ -405,7 +423,7 @@ mod tests {
     fn errors_of_a_feeds_line_name_what_was_expected() {
         let cases = [
             ("sweep", "line 1: expected the message's number, a number from 0 to 4294967295, found \"sweep\""),
-            ("1 sweep\n2", "line 2: expected a message (order, complex, cancel, away, status, open, close, auction, sweep or raw), found the end of the line"),
+            ("1 sweep\n2", "line 2: expected a message (order, complex, cancel, away, status, open, close, auction, sweep, increment, percent or raw), found the end of the line"),
             ("1 sweep now", "line 1: expected the end of the line, found \"now\""),
         ];
         for (text, expected) in cases {
@@ -417,13 +435,16 @@ mod tests {
     #[test]
     fn errors_name_the_line_and_what_was_expected() {
         let cases = [
-            ("sweep\nordr 1", "line 2: expected a message (order, complex, cancel, away, status, open, close, auction, sweep or raw), found \"ordr\""),
+            ("sweep\nordr 1", "line 2: expected a message (order, complex, cancel, away, status, open, close, auction, sweep, increment, percent or raw), found \"ordr\""),
             ("order 4 bye 5 series 0 at 115", "line 1: expected a side (buy, sell or side=0 to side=255), found \"bye\""),
             ("order 4 buy 5 series 0 at", "line 1: expected a price, a number from 0 to 4294967295, found the end of the line"),
             ("order 4 buy 5 serie 0 at 5", "line 1: expected \"series\", found \"serie\""),
             ("cancel 4294967296", "line 1: expected an id, a number from 0 to 4294967295, found \"4294967296\""),
             ("\n\ncancel +4", "line 3: expected an id, a number from 0 to 4294967295, found \"+4\""),
             ("open 256", "line 1: expected a series, a number from 0 to 255, found \"256\""),
+            ("increment 0 5", "line 1: expected an edition, a number from 0 to 4294967295, found the end of the line"),
+            ("increment 0 256 1", "line 1: expected an increment, a number from 0 to 255, found \"256\""),
+            ("percent half 1", "line 1: expected a percentage, a number from 0 to 255, found \"half\""),
             ("sweep now", "line 1: expected the end of the line, found \"now\""),
             ("raw", "line 1: expected bytes of two hexadecimal digits, found the end of the line"),
             ("raw 9", "line 1: expected bytes of two hexadecimal digits, found \"9\""),

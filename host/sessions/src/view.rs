@@ -2,6 +2,7 @@
 //! caller sees it. Nothing here is shared with the reference but its types.
 
 use crate::message::Leg;
+use crate::settings::{Figure, InForce};
 use reference::{Complex, Legging, Listed, Regular, Venue};
 use std::fmt::{self, Display};
 
@@ -17,6 +18,7 @@ pub struct View {
     best: [[Option<Level>; 2]; 8],
     pub legging: [Legging; 16],
     series: [Listed; 8],
+    pub in_force: InForce,
 }
 
 pub fn place_of(leg: Leg) -> usize {
@@ -54,23 +56,20 @@ pub fn sign(leg: Leg) -> i64 {
     1 - 2 * i64::from(leg.side)
 }
 
-pub fn increment(series: u8) -> i64 {
-    match series {
-        0..=5 => 5,
-        _ => 10,
-    }
-}
-
 /// Strictly better to rest at on this side.
 pub fn beats(leg: Leg, a: i64, b: i64) -> bool {
     sign(leg) * a > sign(leg) * b
 }
 
 /// Down to the increment for a buy, up to it for a sell.
-pub fn displayed(leg: Leg, price: i64) -> i64 {
-    let step = increment(leg.series);
-    let up = if leg.side == 1 { step - 1 } else { 0 };
-    (price + up).div_euclid(step) * step
+pub fn rounded(leg: Leg, price: i64, increment: i64) -> i64 {
+    let up = if leg.side == 1 { increment - 1 } else { 0 };
+    (price + up).div_euclid(increment) * increment
+}
+
+/// Whether a net is in the band of a market net.
+pub fn within(net: i64, market: i64, percent: i64) -> bool {
+    100 * net <= 100 * market + percent * market.abs()
 }
 
 pub fn held_regular(venue: &Venue) -> impl Iterator<Item = &Regular> {
@@ -91,6 +90,7 @@ impl View {
             best: [[None; 2]; 8],
             legging: venue.legging,
             series: venue.series,
+            in_force: InForce::of(venue),
         };
         for order in held_regular(venue) {
             view.count(order);
@@ -153,8 +153,17 @@ impl View {
     }
 
     pub fn in_band(&self, net: i64, legs: [Leg; 2]) -> bool {
+        let percent = i64::from(self.in_force.percent().value);
         self.market_net(legs)
-            .is_some_and(|market| 100 * net <= 100 * market + 5 * market.abs())
+            .is_some_and(|market| within(net, market, percent))
+    }
+
+    pub fn increment(&self, series: u8) -> i64 {
+        i64::from(self.in_force.increment(series).value)
+    }
+
+    pub fn displayed(&self, leg: Leg, price: i64) -> i64 {
+        rounded(leg, price, self.increment(leg.series))
     }
 
     /// The net of the best regular prices that the legs would take.
@@ -186,7 +195,7 @@ impl View {
             net <= i64::from(parent.limit) && clear.size >= i64::from(order.quantity)
         });
         let conditions = [
-            (1, !self.worse_than_book(leg, displayed(leg, price))),
+            (1, !self.worse_than_book(leg, self.displayed(leg, price))),
             (5, self.in_band(i64::from(parent.limit), legs)),
             (2, other_leg_holds),
             (6, self.is_open(leg) && self.is_open(other)),
@@ -206,15 +215,44 @@ fn better_of(leg: Leg, a: Option<i64>, b: Option<i64>) -> Option<i64> {
 /// The condition of generation that failed first.
 #[derive(Clone, Debug, PartialEq, Eq)]
 pub enum Declined {
-    NotOpen { series: u8 },
-    OutOfBand { limit: i64, market: Option<i64> },
-    NoClearPrice { series: u8, side: u8 },
-    DisplayedOutOfRange { displayed: i64 },
-    WorseThanBook { displayed: i64, best: i64 },
-    ReachesOwn { price: i64, own: i64 },
-    ReachesAway { price: i64, away: i64 },
-    PlaceHeld { price: i64, holder: u32, held: i64 },
-    OtherWouldFail { price: i64, parent: u32 },
+    NotOpen {
+        series: u8,
+    },
+    OutOfBand {
+        limit: i64,
+        market: Option<i64>,
+        percent: Figure,
+    },
+    NoClearPrice {
+        series: u8,
+        side: u8,
+    },
+    DisplayedOutOfRange {
+        displayed: i64,
+        increment: Figure,
+    },
+    WorseThanBook {
+        displayed: i64,
+        best: i64,
+        increment: Figure,
+    },
+    ReachesOwn {
+        price: i64,
+        own: i64,
+    },
+    ReachesAway {
+        price: i64,
+        away: i64,
+    },
+    PlaceHeld {
+        price: i64,
+        holder: u32,
+        held: i64,
+    },
+    OtherWouldFail {
+        price: i64,
+        parent: u32,
+    },
 }
 
 impl Display for Declined {
@@ -224,7 +262,8 @@ impl Display for Declined {
             Declined::OutOfBand {
                 limit,
                 market: Some(market),
-            } => write!(f, "limit {limit} is not in band of market net {market}"),
+                percent,
+            } => write!(f, "limit {limit} is not in band of market net {market} by percent {percent}"),
             Declined::OutOfBand { market: None, .. } => {
                 write!(f, "a market best that the legs would take is missing")
             }
@@ -232,13 +271,13 @@ impl Display for Declined {
                 let side = ["buy", "sell"][usize::from(*side)];
                 write!(f, "the {side} side of series {series} has no clear price")
             }
-            Declined::DisplayedOutOfRange { displayed } => write!(
+            Declined::DisplayedOutOfRange { displayed, increment } => write!(
                 f,
-                "displayed price {displayed} is not from the increment to 100000"
+                "displayed price {displayed} is not from increment {increment} to 100000"
             ),
-            Declined::WorseThanBook { displayed, best } => write!(
+            Declined::WorseThanBook { displayed, best, increment } => write!(
                 f,
-                "displayed price {displayed} is worse than the best regular price {best} of its side"
+                "displayed price {displayed} by increment {increment} is worse than the best regular price {best} of its side"
             ),
             Declined::ReachesOwn { price, own } => {
                 write!(f, "price {price} reaches the own price {own} opposite")
@@ -276,7 +315,11 @@ impl View {
         }
         if !self.in_band(limit, legs) {
             let market = self.market_net(legs);
-            return Err(Declined::OutOfBand { limit, market });
+            return Err(Declined::OutOfBand {
+                limit,
+                market,
+                percent: self.in_force.percent(),
+            });
         }
         let taken = opposite(other);
         let Some(clear) = self.clear(taken) else {
@@ -297,13 +340,21 @@ impl View {
     }
 
     fn price_allowed(&self, leg: Leg, price: i64) -> Result<(), Declined> {
-        let displayed = displayed(leg, price);
-        if displayed < increment(leg.series) || displayed > 100_000 {
-            return Err(Declined::DisplayedOutOfRange { displayed });
+        let displayed = self.displayed(leg, price);
+        let increment = self.in_force.increment(leg.series);
+        if displayed < i64::from(increment.value) || displayed > 100_000 {
+            return Err(Declined::DisplayedOutOfRange {
+                displayed,
+                increment,
+            });
         }
         if let Some(best) = self.best(leg).map(|level| level.price) {
             if beats(leg, best, displayed) {
-                return Err(Declined::WorseThanBook { displayed, best });
+                return Err(Declined::WorseThanBook {
+                    displayed,
+                    best,
+                    increment,
+                });
             }
         }
         let reached = |opposite: &i64| sign(leg) * price >= sign(leg) * opposite;

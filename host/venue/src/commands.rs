@@ -12,6 +12,7 @@ use sessions::message::Message;
 use sessions::play::play;
 use sessions::profile::Profile;
 use sessions::record::{parse_sheet, print_sheet, read_report};
+use sessions::settings::InForce;
 use sessions::sheet::{feed_whole, run_whole, sheet_of, MOST_INPUT};
 use sessions::soak::{check_session, generate};
 use sessions::text::{decode_line, decode_session, encode_line, encode_session, LineError};
@@ -34,6 +35,7 @@ pub fn perform(arguments: Vec<String>) -> Output {
         "four" => four(rest),
         "audit" => audit_sheet(rest),
         "explain" => explain_session(rest),
+        "settings" => settings(rest),
         "generate" => generate_session(rest),
         "check" => check(rest),
         other => Err(Failure::Usage(format!("command {other:?} is not known"))),
@@ -221,6 +223,26 @@ fn explain_session(rest: &[String]) -> Output {
     let list = session_bytes(read(arguments.word(0))?, arguments.has("--text"))?;
     let text = explain(&list).map_err(Failure::Input)?;
     Ok(text.into_bytes())
+}
+
+fn settings(rest: &[String]) -> Output {
+    let arguments = Arguments::parse(rest, &["--text"], &[], 2)?;
+    let (Some(session), Some(number)) = (arguments.word(0), arguments.word(1)) else {
+        let what = "expected a session and a message number";
+        return Err(Failure::Usage(what.to_string()));
+    };
+    let asked: u32 = number.parse().map_err(|_| {
+        let what = "expected a message number from 0 to 4294967295";
+        Failure::Usage(format!("{what}, found {number:?}"))
+    })?;
+    let list = session_bytes(read(Some(session))?, arguments.has("--text"))?;
+    let (returned, _) = run_whole(&list);
+    if asked > returned.done {
+        let done = returned.done;
+        eprintln!("venue settings: the session has {done} messages; told is what it leaves");
+    }
+    let in_force = InForce::at(&returned.venue, asked);
+    Ok(format!("message {asked}\n{in_force}").into_bytes())
 }
 
 fn profile(name: &str) -> Result<Profile, Failure> {

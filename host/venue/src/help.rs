@@ -11,6 +11,8 @@ venue: session tools for the legging order engine
   venue four [SCRIPT]                   print the sheets of four venues behind one line
   venue audit [--text] SESSION [SHEET]  sums of every complex order
   venue explain [--text] [FILE]         what happened, message by message
+  venue settings [--text] SESSION NUMBER
+                                        increments and percent at a message number
   venue generate --profile P --seed N --messages M [--text]
                                         a random session
   venue check [--seed N] [--messages M] [--profile P] [--sessions K] [--complete]
@@ -32,6 +34,8 @@ The text form, one message a line:
   away SERIES bid PRICE offer PRICE
   status SERIES STATUS      also: open SERIES, close SERIES, auction SERIES
   sweep
+  increment SERIES INCREMENT EDITION
+  percent PERCENT EDITION
   raw HEX HEX ...           any bytes, two hexadecimal digits each
 
 SIDE is buy, sell or side=NUMBER. STATUS is open, closed, auction or
@@ -100,15 +104,26 @@ it; left out, the reference's own sheet is taken. Prints every complex order:
 entered (from its message), paired, crossed, cancelled and contracts in each
 series (from the sheet), open (from the venue that the reference leaves after the
 messages that the sheet answers). Names each order whose sums do not agree, and
-the first line that is not the reference's; then the exit status is 1.
+the first line that is not the reference's; then the exit status is 1. Each line is
+read by the settings of its message; those that the session entered are listed.
 ";
 
 const EXPLAIN: &str = "\
 venue explain [--text] [FILE]
 
 Tells for each message what happened and, for each leg for which no legging order
-was made, the first condition of generation that failed. Every check is made
-meanwhile; a violation ends it with an error.
+was made, the first condition of generation that failed. Where a band, an increment
+or refusal 4 depends on a setting, its edition is told with the message that entered
+it; edition 0 are the figures of document 01. Every check is made meanwhile; a
+violation ends it with an error.
+";
+
+const SETTINGS: &str = "\
+venue settings [--text] SESSION NUMBER
+
+Tells what held at message NUMBER of the session: the increment of each series and
+the percentage of the band, each with its edition and the message that entered it.
+A setting holds from its own message on; before the first, edition 0 holds.
 ";
 
 const GENERATE: &str = "\
@@ -118,7 +133,7 @@ Writes a random session: bytes, or text with --text. Equal arguments give equal
 sessions. The profiles:
 
   mixed few-series credit band-edges refusals full-books sweeps status-flips
-  classes hits cross-parties price-edges odd-bytes
+  classes hits cross-parties price-edges odd-bytes settings
 ";
 
 const CHECK: &str = "\
@@ -145,7 +160,7 @@ pub fn of(command: &str) -> Option<String> {
         ),
         "decode" => format!(
             "venue decode [--line] [FILE]\n\nWrites one message a line; bytes that are no \
-             message of kinds 1 to 6\nat its length become raw. With --line the bytes are a \
+             message of kinds 1 to 8\nat its length become raw. With --line the bytes are a \
              line of a feed.\n\n{TEXT_FORM}"
         ),
         "print" => PRINT.to_string(),
@@ -153,6 +168,7 @@ pub fn of(command: &str) -> Option<String> {
         "four" => FOUR.to_string(),
         "audit" => AUDIT.to_string(),
         "explain" => EXPLAIN.to_string(),
+        "settings" => SETTINGS.to_string(),
         "generate" => GENERATE.to_string(),
         "check" => CHECK.to_string(),
         _ => return None,

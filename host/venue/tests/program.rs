@@ -86,6 +86,7 @@ fn bad_text_is_told_with_its_line_and_nothing_is_written() {
         &["sheet", "--text"],
         &["explain", "--text"],
         &["audit", "--text", "-"],
+        &["settings", "--text", "-", "1"],
     ] {
         let errors = bad(command, b"open 0\norder 1 sell x series 0 at 130\n", 1);
         let expected = "line 2: expected a quantity, a number from 0 to 4294967295, found \"x\"";
@@ -104,11 +105,19 @@ fn bytes_that_are_no_text_are_told_with_their_line() {
 
 #[test]
 fn wrong_command_lines_are_told_with_status_2() {
-    let cases: [(&[&str], &str); 12] = [
+    let cases: [(&[&str], &str); 14] = [
         (&["feed"], "expected MAIN and SPARE"),
         (&["feed", "-"], "expected MAIN and SPARE"),
         (&["feed", "-", "-"], "only one of both can be -"),
         (&[], "expected a command"),
+        (
+            &["settings", "-"],
+            "expected a session and a message number",
+        ),
+        (
+            &["settings", "-", "4294967296"],
+            "expected a message number from 0 to 4294967295, found \"4294967296\"",
+        ),
         (&["shet"], "command \"shet\" is not known"),
         (&["sheet", "--txt"], "option --txt is not known here"),
         (
@@ -157,8 +166,8 @@ fn missing_file_is_told_by_name() {
 fn help_names_every_command() {
     let text = String::from_utf8(good(&["help"], b"")).unwrap();
     for command in [
-        "sheet", "encode", "decode", "print", "feed", "four", "audit", "explain", "generate",
-        "check",
+        "sheet", "encode", "decode", "print", "feed", "four", "audit", "explain", "settings",
+        "generate", "check",
     ] {
         assert!(text.contains(&format!("venue {command}")), "{command}");
         let more = String::from_utf8(good(&["help", command], b"")).unwrap();
@@ -468,10 +477,10 @@ fn explain_tells_why_a_legging_order_was_not_made() {
     let base = "open 0\nopen 1\norder 1 sell 15 series 0 at 130\norder 2 sell 12 series 1 at 90\n";
     let cases = [
         ("complex 3 buy 0 buy 1 class 1 net 205 quantity 8\nclose 0\nsweep\n", "no legging order of 3, buy series 0: series 0 is not open"),
-        ("away 0 bid 0 offer 60\ncomplex 3 buy 0 buy 1 class 1 net 205 quantity 8\n", "no legging order of 3, buy series 0: limit 205 is not in band of market net 150"),
+        ("away 0 bid 0 offer 60\ncomplex 3 buy 0 buy 1 class 1 net 205 quantity 8\n", "no legging order of 3, buy series 0: limit 205 is not in band of market net 150 by percent 5 (edition 0)"),
         ("cancel 2\naway 1 bid 0 offer 90\ncomplex 3 buy 0 buy 1 class 1 net 205 quantity 8\n", "no legging order of 3, buy series 0: the sell side of series 1 has no clear price"),
-        ("complex 3 buy 0 buy 1 class 1 net 94 quantity 8\n", "no legging order of 3, buy series 0: displayed price 0 is not from the increment to 100000"),
-        ("order 3 buy 1 series 0 at 120\ncomplex 4 buy 0 buy 1 class 1 net 205 quantity 8\n", "no legging order of 4, buy series 0: displayed price 115 is worse than the best regular price 120 of its side"),
+        ("complex 3 buy 0 buy 1 class 1 net 94 quantity 8\n", "no legging order of 3, buy series 0: displayed price 0 is not from increment 5 (edition 0) to 100000"),
+        ("order 3 buy 1 series 0 at 120\ncomplex 4 buy 0 buy 1 class 1 net 205 quantity 8\n", "no legging order of 4, buy series 0: displayed price 115 by increment 5 (edition 0) is worse than the best regular price 120 of its side"),
         ("away 0 bid 0 offer 110\ncomplex 3 buy 0 buy 1 class 1 net 205 quantity 8\n", "no legging order of 3, buy series 0: price 115 reaches the away price 110 opposite"),
         ("complex 3 buy 0 buy 1 class 1 net 205 quantity 8\ncomplex 4 buy 0 buy 1 class 1 net 204 quantity 8\n", "no legging order of 4, buy series 1: the place is held by order 3 at 75, not to be replaced at 74"),
     ];
@@ -500,6 +509,118 @@ fn explain_tells_whose_legs_forbid_a_cross() {
         let told = String::from_utf8(told).unwrap();
         assert!(told.contains(expected), "{told}");
     }
+}
+
+/// A session with settings, as the desk reads it.
+const DATED: &str = include_str!("sessions/editions.txt");
+
+#[test]
+fn explain_tells_the_edition_that_held() {
+    let told = String::from_utf8(good(&["explain", "--text"], DATED.as_bytes())).unwrap();
+    for expected in [
+        "1: increment 0 1 1\n    refused with 12: the series is not closed, or has a resting order or leg\n",
+        "    increment of series 0: 1 (edition 1, message 3), before it 5 (edition 0)\n",
+        "    refused with 11: the edition is not above the last\n",
+        "    accepted on increment 1 (edition 1, message 3); legging orders",
+        "8: order 3 sell 5 series 1 at 91\n    refused with 4: a field is outside its range, the price is off increment 5 (edition 0)\n",
+        "legging order of 4, buy series 0: 8 at 113, shown at 113 by increment 1 (edition 1, message 3), in band by percent 5 (edition 0)\n",
+        "legging order of 6, buy series 1: 8 at 64, shown at 60 by increment 5 (edition 0), in band by percent 5 (edition 0)\n",
+        "cause 5, its parent's limit is out of band by percent 2 (edition 2, message 13)\n",
+        "    percent: 2 (edition 2, message 13), before it 5 (edition 0)\n",
+        "14: percent 51 3\n    refused with 4: a field is outside its range\n",
+        "the price is off increment 5 (edition 3, message 19)\n",
+    ] {
+        assert!(told.contains(expected), "{expected}: {told}");
+    }
+}
+
+#[test]
+fn explain_tells_the_edition_of_crosses_and_pairs() {
+    let offers = "away 0 bid 0 offer 100\norder 1 sell 15 series 0 at 130\n\
+        order 2 sell 12 series 1 at 90\n";
+    let quotes = "away 0 bid 100 offer 100\naway 1 bid 100 offer 100\n\
+        complex 1 buy 0 buy 1 class 0 net 150 quantity 5\n";
+    let pair = "complex 3 buy 0 buy 1 class 1 net 220 quantity 8\n";
+    let cross = "complex 2 sell 0 sell 1 class 0 net -150 quantity 5\n";
+    let cases = [
+        (15, offers, pair, "no pair of 3: net 220 of order 3 is not in band of market net 190 by percent 15 (edition 7, message 1)\n"),
+        (16, offers, pair, "pair: 3, 8 at net 220, in band by percent 16 (edition 7, message 1)\n"),
+        (24, quotes, cross, "no cross of 2 with 1: net -150 of order 2 is not in band of market net -200 by percent 24 (edition 7, message 1)\n"),
+        (25, quotes, cross, "cross: 2 with 1, 5 at the taker's net -150, in band by percent 25 (edition 7, message 1)\n"),
+    ];
+    for (percent, first, last, expected) in cases {
+        let text = format!("percent {percent} 7\n{first}{last}");
+        let told = String::from_utf8(good(&["explain", "--text"], text.as_bytes())).unwrap();
+        assert!(told.contains(expected), "{told}");
+    }
+    // A hit's pair asks no band, and a missing market best no percentage.
+    let told = good(&["explain", "--text"], PRINTED_TEXT.as_bytes());
+    let told = String::from_utf8(told).unwrap();
+    assert!(told.contains("    pair: 3, 5 at net 205\n"), "{told}");
+    let gone = "order 1 sell 15 series 0 at 130\norder 2 sell 12 series 1 at 90\n\
+        complex 3 buy 0 buy 1 class 1 net 205 quantity 8\ncancel 2\n";
+    let told = String::from_utf8(good(&["explain", "--text"], gone.as_bytes())).unwrap();
+    assert!(
+        told.contains("limit is out of band: a market best is missing\n"),
+        "{told}"
+    );
+}
+
+#[test]
+fn settings_tells_what_held_at_a_message() {
+    let told = |number: &str| {
+        let told = good(&["settings", "--text", "-", number], DATED.as_bytes());
+        let told = String::from_utf8(told).unwrap();
+        let lines: Vec<String> = told.lines().map(str::to_string).collect();
+        assert_eq!((lines.len(), &lines[0]), (10, &format!("message {number}")));
+        assert_eq!(lines[8], "increment of series 7: 10 (edition 0)");
+        (lines[1].clone(), lines[9].clone())
+    };
+    let first = "increment of series 0: 5 (edition 0)";
+    let one = "increment of series 0: 1 (edition 1, message 3)";
+    let five = "increment of series 0: 5 (edition 3, message 19)";
+    let (wide, narrow) = (
+        "percent: 5 (edition 0)",
+        "percent: 2 (edition 2, message 13)",
+    );
+    for (number, increment, percent) in [
+        ("0", first, wide),
+        ("2", first, wide),
+        ("3", one, wide),
+        ("12", one, wide),
+        ("13", one, narrow),
+        ("18", one, narrow),
+        ("19", five, narrow),
+        ("22", five, narrow),
+        ("4294967295", five, narrow),
+    ] {
+        assert_eq!(told(number), (increment.to_string(), percent.to_string()));
+    }
+    let beyond = venue(&["settings", "--text", "-", "4711"], DATED.as_bytes());
+    let note = "venue settings: the session has 22 messages; told is what it leaves\n";
+    assert_eq!(String::from_utf8(beyond.stderr).unwrap(), note);
+}
+
+#[test]
+fn audit_reads_a_sheet_by_the_settings_of_its_day() {
+    let session = Kept::new("dated.txt", DATED.as_bytes());
+    let sheet = String::from_utf8(good(&["sheet", "--text", session.path()], b"")).unwrap();
+    let kept = Kept::new("dated.sheet", sheet.as_bytes());
+    let table = good(&["audit", "--text", session.path(), kept.path()], b"");
+    let table = String::from_utf8(table).unwrap();
+    let editions = "22 messages, 2 complex orders\n\
+        from message 3: increment of series 0 is 1 (edition 1)\n\
+        from message 13: percent is 2 (edition 2)\n\
+        from message 19: increment of series 0 is 5 (edition 3)\n";
+    assert!(table.ends_with(editions), "{table}");
+    // Shown by the increment of edition 0 it would be another sheet.
+    let other = sheet.replace("67 4 0 0 113 113 8", "67 4 0 0 113 110 8");
+    let kept = Kept::new("other-day.sheet", other.as_bytes());
+    let output = venue(&["audit", "--text", session.path(), kept.path()], b"");
+    assert_eq!(output.status.code(), Some(1));
+    let table = String::from_utf8(output.stdout).unwrap();
+    let expected = "expected \"67 4 0 0 113 113 8\", found \"67 4 0 0 113 110 8\"\n";
+    assert!(table.ends_with(expected), "{table}");
 }
 
 #[test]

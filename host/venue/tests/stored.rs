@@ -45,6 +45,15 @@ fn full() -> Session {
     from_text("full", &text)
 }
 
+/// Settings, and then percentages up to the 32nd edition and one that finds no place.
+fn editions() -> Session {
+    let mut text = String::from(include_str!("sessions/editions.txt"));
+    for edition in 4..=33 {
+        text += &format!("percent {} {edition}\n", edition + 17);
+    }
+    from_text("editions", &text)
+}
+
 /// A message up to the last byte but one of those that are read, and a sweep: its first byte is
 /// read, and its other three are not.
 fn beyond() -> Session {
@@ -68,6 +77,7 @@ fn all() -> Vec<Session> {
         from_text("together", include_str!("sessions/together.txt")),
         from_text("credit-band", include_str!("sessions/credit-band.txt")),
         from_text("refused", include_str!("sessions/refused.txt")),
+        editions(),
         from_text("empty", ""),
         full(),
         beyond(),

@@ -1,6 +1,6 @@
 //! Request (j): four venues behind one line.
 
-use reference::{arrive, one_message, turn, Layer, Turned, Venue};
+use reference::{arrive, one_message, settings, turn, Layer, Turned, Venue};
 use sessions::asked::{parse_script, Asked};
 use sessions::held::VENUE_BYTES;
 use sessions::held_layer::{from_bytes, to_bytes, LANE_BYTES, LAYER_BYTES};
@@ -106,6 +106,17 @@ fn each_venue_has_orders_numbers_and_records_of_its_own() {
     assert_eq!((&layer.lanes[0].venue, layer.lanes[0].done), (&alone, 2));
     assert_eq!((&layer.lanes[2].venue, layer.lanes[2].done), (&alone, 1));
     assert_eq!(layer.lanes[1], Layer::fresh().lanes[1]);
+}
+
+#[test]
+fn each_venue_has_editions_of_its_own() {
+    let mut layer = Layer::fresh();
+    let text = "arrive 1 percent 9 1\narrive 1 percent 9 1\narrive 2 increment 0 1 1\nturns 3\n";
+    let turns = [(0, 1), (12, 2), (11, 1)];
+    assert_eq!(played(&mut layer, text), (vec![0; 3], turns.to_vec()));
+    let percent = |venue: &Venue| settings(venue, 1).map(|told| told.percent);
+    let told = layer.lanes.map(|lane| percent(&lane.venue));
+    assert_eq!(told, [Some(5), Some(9), Some(5), Some(5)]);
 }
 
 #[test]
@@ -219,6 +230,11 @@ fn unsound() -> Vec<Layer> {
         }
         let mut layer = Layer::fresh();
         layer.lanes[venue].venue.series[7].status = 3;
+        layers.push(layer);
+        // An edition of message 1, and no message done.
+        let mut layer = Layer::fresh();
+        played(&mut layer, &format!("arrive {venue} percent 9 1\nturn\n"));
+        layer.lanes[venue].done = 0;
         layers.push(layer);
     }
     layers

@@ -7,6 +7,7 @@ mod random_sessions;
 mod refusals;
 mod report_memory;
 mod rules;
+mod settings;
 mod short_sessions;
 mod soundness;
 mod trials;

@@ -130,3 +130,17 @@ fn every_session_of_up_to_5_messages_from_12_upon_quoted_series() {
         away 0 bid 100 offer 110\n";
     assert_eq!(search(first, choices, 5), sessions_of(12, 5));
 }
+
+#[test]
+fn every_session_of_up_to_5_messages_from_10_with_settings() {
+    let first = "away 0 bid 0 offer 100
+order 1 sell 15 series 0 at 130
+\
+        order 2 sell 12 series 1 at 90
+close 7
+";
+    let choices = "complex 3 buy 0 buy 1 class 1 net 197 quantity 8\n\
+        complex 4 sell 7 buy 1 class 0 net -25 quantity 5\norder 5 buy 2 series 7 at 114\n\
+        percent 3 1\npercent 16 2\nincrement 7 1 3\nincrement 7 5 4\nopen 7\ncancel 5\nsweep\n";
+    assert_eq!(search(first, choices, 5), sessions_of(10, 5));
+}

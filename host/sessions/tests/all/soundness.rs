@@ -2,7 +2,7 @@
 //! written apart from it; and what is sound stays sound.
 
 use crate::common::{one, venue_after, with_legging};
-use reference::{is_sound, Venue};
+use reference::{is_sound, Edition, Venue};
 use sessions::sound::fault;
 
 /// Regular orders in series 0 to 2, a complex order with two legging orders,
@@ -104,9 +104,57 @@ const LEGGING: &[Change] = &[
     ("locked with a regular order", |v| v.regular[0].price = 115),
 ];
 
+/// An increment of series 6 by message 6, and the percentages of messages 7 and 9.
+fn dated() -> Venue {
+    venue_after(&with_legging(
+        "percent 9 2\npercent 5 4\nsweep\npercent 50 8\nclose 6\nincrement 6 1 9\n",
+    ))
+}
+
+const EDITIONS: &[Change] = &[
+    ("edition 0", |v| v.editions[0].edition = 0),
+    ("edition 0 in the middle", |v| v.editions[1].edition = 0),
+    ("number 0", |v| v.editions[0].number = 0),
+    ("the last number 0", |v| v.editions[3].number = 0),
+    ("an edition twice", |v| v.editions[1].edition = 2),
+    ("an edition that falls", |v| v.editions[3].edition = 7),
+    ("a number twice", |v| v.editions[1].number = 6),
+    ("a number that falls", |v| v.editions[3].number = 8),
+    ("two exchanged", |v| v.editions.swap(1, 2)),
+    ("a gap", |v| v.editions.swap(3, 4)),
+    ("figure 9", |v| v.editions[0].figure = 9),
+    ("percentage 51", |v| v.editions[1].value = 51),
+    ("increment 0", |v| v.editions[3].value = 0),
+    ("increment 2", |v| v.editions[3].value = 2),
+    ("increment 50", |v| v.editions[2].figure = 6),
+    ("percentage in place of an increment", |v| {
+        v.editions[0].figure = 0
+    }),
+    ("a free place with an edition", |v| {
+        v.editions[4].edition = 10
+    }),
+    ("a free place with a number", |v| v.editions[31].number = 99),
+    ("a free place with a figure", |v| v.editions[31].figure = 1),
+    ("a free place with a value", |v| v.editions[4].value = 5),
+    ("a resting price off the increment in force", |v| {
+        v.editions[3].figure = 0;
+        v.editions[3].value = 10;
+        v.regular[0].price = 135;
+    }),
+    ("a legging order out of the band in force", |v| {
+        v.editions[2].value = 0;
+        v.complex[0].limit = 221;
+    }),
+];
+
 fn expect_unsound(changes: &[Change]) {
+    expect_unsound_upon(opened(), changes);
+}
+
+fn expect_unsound_upon(sound: Venue, changes: &[Change]) {
+    assert!(is_sound(&sound));
     for (name, change) in changes {
-        let mut venue = opened();
+        let mut venue = sound.clone();
         change(&mut venue);
         assert!(!is_sound(&venue), "the reference takes {name}");
         assert!(fault(&venue).is_some(), "the check takes {name}");
@@ -134,6 +182,28 @@ fn each_fault_of_a_series_or_of_the_last_id_is_unsound() {
 #[test]
 fn each_fault_of_a_legging_order_is_unsound() {
     expect_unsound(LEGGING);
+}
+
+#[test]
+fn each_fault_of_the_row_of_editions_is_unsound() {
+    expect_unsound_upon(dated(), EDITIONS);
+}
+
+#[test]
+fn row_of_32_editions_is_sound_and_so_is_any_distance_between_them() {
+    let mut venue = dated();
+    for (at, entry) in venue.editions.iter_mut().enumerate().skip(4) {
+        *entry = Edition {
+            edition: 100_000_000 * at as u32,
+            number: 130_000_000 * at as u32,
+            figure: (at % 9) as u8,
+            value: 5,
+        };
+    }
+    venue.editions[31].number = u32::MAX;
+    venue.editions[31].edition = u32::MAX;
+    assert!(is_sound(&venue));
+    assert_eq!(fault(&venue), None);
 }
 
 #[test]
