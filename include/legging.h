@@ -15,11 +15,13 @@
  *   nothing, reads and writes no file, and needs less than 32 KiB of stack.
  *   - `messages` (or `message`) and the lines `main` and `spare` are only read. Bytes
  *     past their lengths are not.
- *   - `venue` is read and written; legging_fresh only writes it. Unless the message
- *     was accepted, it holds after the call what it held before.
+ *   - `venue` is read and written; legging_fresh only writes it, legging_settings only
+ *     reads it. Unless the message was accepted, it holds after the call what it held
+ *     before.
  *   - `layer` is read and written; legging_layer_fresh only writes it.
  *   - `report` is written from its first byte to its last, whatever the call
  *     ends with: the records done, then zeros. What it held before is not read.
+ *   - `settings` is written so too: what is told, then zeros.
  *   - A pointer with the length 0 may be NULL; otherwise it points to as many
  *     bytes as its length says, no more than PTRDIFF_MAX of them, at any alignment.
  *   - Memory that a call writes overlaps no other memory of the same call, and
@@ -43,6 +45,8 @@
  *                4 away       series u8, bid u32, offer u32                                 13
  *                5 status     series u8, status u8                                           6
  *                6 sweep                                                                     4
+ *                7 increment  series u8, increment u8 (1, 5 or 10), edition u32             10
+ *                8 percent    percent u8 (0 to 50), edition u32                              9
  *     records   64 answer     message number u32, refusal u8, place mask u16, count u8      12
  *               65 trade      series u8, taker's side u8, price u32, quantity u32,
  *                             taker id u32, maker id u32                                    22
@@ -61,6 +65,13 @@
  *   A line of a feed is messages, each after its number (u32, not counted in the
  *   message's length). Numbers count from 1 and rise; a line may lack some.
  *
+ * SETTINGS
+ *   The increment of each series and the percentage of the band are edition 0 at
+ *   first: 5 in series 0 to 5, 10 in 6 and 7, and 5 percent. Kinds 7 and 8 set them
+ *   from their own message on; an increment only while its series is closed and has
+ *   no resting order or leg. Editions rise over both kinds. The venue keeps up to 32,
+ *   each with the number of its message, so it tells what held at any message.
+ *
  * NUMBERS
  *   Each call returns one of these, and fails in no other way.
  */
@@ -72,23 +83,27 @@
 
 #define LEGGING_DONE          0u /* accepted; of a run: the whole list was done */
 #define LEGGING_TORN          1u /* 1 to 3 bytes left (of one message: 0 to 3), or a length below 4 or above what is left */
-#define LEGGING_UNKNOWN_KIND  2u /* kind not 1 to 6 */
+#define LEGGING_UNKNOWN_KIND  2u /* kind not 1 to 8 */
 #define LEGGING_WRONG_LENGTH  3u /* length not its kind's */
-#define LEGGING_OUT_OF_RANGE  4u /* a field outside its range */
+#define LEGGING_OUT_OF_RANGE  4u /* a field outside its range, both legs in one series, or a price off the increment in force */
 #define LEGGING_ID_NOT_ABOVE  5u /* id not above the last accepted */
 #define LEGGING_CLOSED        6u /* a series of the order is closed */
 #define LEGGING_BOOK_FULL     7u /* 128 regular or 32 complex orders rest already */
 #define LEGGING_NO_SUCH_ORDER 8u /* no resting order has the id */
-#define LEGGING_UNSOUND       9u /* the venue or the layer given is not sound */
+#define LEGGING_UNSOUND       9u /* the venue or the layer given is not sound, or the message's number is not above that of every edition kept */
 #define LEGGING_NO_ROOM      10u /* the next message's records do not fit, or its number would pass 4,294,967,295 */
+#define LEGGING_EDITION_NOT_ABOVE 11u /* the edition is not above the last, of either kind */
+#define LEGGING_SERIES_IN_USE     12u /* an increment of a series that is not closed, or has a resting order or leg */
+#define LEGGING_EDITIONS_FULL     13u /* 32 editions are held already */
 #define LEGGING_NO_PLACE     17u /* the venue's wait holds 8 messages, or the message is over 32 bytes */
 #define LEGGING_NO_VENUE     18u /* venue number above 3 */
 #define LEGGING_DIFFERS      19u /* both lines have the next number, but their bytes differ */
 #define LEGGING_LOST         20u /* neither line has the next number, though a later one stands on either */
 #define LEGGING_BAD_LINE     21u /* a line is torn, does not rise, or has a length below 4 or number 0 */
 
-#define LEGGING_VENUE_BYTES 2604u /* a venue held by a host */
+#define LEGGING_VENUE_BYTES 2924u /* a venue held by a host */
 #define LEGGING_MOST_BYTES 10112u /* no message upon a sound venue writes more */
+#define LEGGING_SETTINGS_BYTES 9u /* eight increments and the percentage */
 
 #define LEGGING_VENUES       4u /* behind one line */
 #define LEGGING_MOST_WAITING 8u /* messages that wait for a venue */
@@ -104,8 +119,8 @@ extern "C" {
  * Runs a message list from a fresh venue: no orders, all series open, no away
  * prices.
  *
- * Messages are taken one by one. One that is refused with 2 to 8 is answered and
- * passed over. Returns
+ * Messages are taken one by one. One that is refused with 2 to 8 or 11 to 13 is
+ * answered and passed over. Returns
  *   LEGGING_DONE     all messages were done, the refused ones included;
  *   LEGGING_TORN     1 to 3 bytes were left, or a length below 4 or above what was
  *                    left: all messages before were done, this one was answered,
@@ -168,23 +183,40 @@ uint8_t legging_fresh(uint8_t *venue, size_t venue_len);
  *      16 legging orders   parent's id u32, price u32, quantity u32; at 2 * series + side
  *       8 series           status u8, away bid u32, away offer u32
  *         last id u32
+ *      32 editions         edition u32, message number u32, figure u8, value u8; figure 0 to 7
+ *                          is the increment of that series, 8 the percentage
  *
- * Held places come first, in rising id; free places are zero. Equal states are
- * equal bytes, so a venue may be copied, kept and compared as bytes.
+ * Held places come first, in rising id or edition; free places are zero. Equal states
+ * are equal bytes, so a venue may be copied, kept and compared as bytes.
  *
  * Only the first message of `message` is read. Returns
  *   LEGGING_DONE     accepted: `venue` is the venue that follows, `report` the
  *                    message's answer and records;
- *   1 to 8           refused: `venue` as it was, `report` the answer;
- *   LEGGING_UNSOUND  `venue_len` is not LEGGING_VENUE_BYTES, or the bytes are no sound
- *                    venue: `venue` as it was, `report` all zeros. A venue that
- *                    a call left is always sound;
+ *   1 to 8, 11 to 13 refused: `venue` as it was, `report` the answer;
+ *   LEGGING_UNSOUND  `venue_len` is not LEGGING_VENUE_BYTES, the bytes are no sound
+ *                    venue, or the message's number is not above that of every
+ *                    edition kept: `venue` as it was, `report` all zeros. A venue
+ *                    that a call left is always sound;
  *   LEGGING_NO_ROOM  the records do not fit, or `before` is 4,294,967,295: `venue` as
  *                    it was, `report` all zeros. LEGGING_MOST_BYTES are always enough.
  */
 uint8_t legging_message(uint8_t *venue, size_t venue_len, uint32_t before,
                         const uint8_t *message, size_t message_len,
                         uint8_t *report, size_t report_len);
+
+/*
+ * Tells the settings of a venue that held at message `number`, any number, 0 too: of
+ * each the last that a message numbered no higher has entered.
+ *
+ * Returns
+ *   LEGGING_DONE     `settings` is the increments of series 0 to 7, the percentage,
+ *                    and zeros after these LEGGING_SETTINGS_BYTES bytes;
+ *   LEGGING_UNSOUND  `venue_len` is not LEGGING_VENUE_BYTES, the bytes are no sound
+ *                    venue, or `settings_len` is below LEGGING_SETTINGS_BYTES:
+ *                    `settings` all zeros.
+ */
+uint8_t legging_settings(const uint8_t *venue, size_t venue_len, uint32_t number,
+                         uint8_t *settings, size_t settings_len);
 
 /*
  * FOUR VENUES BEHIND ONE LINE
@@ -223,8 +255,9 @@ uint8_t legging_layer_fresh(uint8_t *layer, size_t layer_len);
  * are is told at their turn. Returns
  *   LEGGING_DONE      the message waits;
  *   LEGGING_UNSOUND   `layer_len` is not LEGGING_LAYER_BYTES, or the layer is not sound: a
- *                     venue is not, more than 8 messages wait, one that waits is over 32
- *                     bytes, or the venue served last is above 3;
+ *                     venue is not, the number of its next message is not above that of
+ *                     every edition it keeps, more than 8 messages wait, one that waits is
+ *                     over 32 bytes, or the venue served last is above 3;
  *   LEGGING_NO_VENUE  `venue` is above 3;
  *   LEGGING_NO_PLACE  8 messages wait for it already, or `message_len` is above 32.
  * Unless LEGGING_DONE is returned, `layer` is as it was.
@@ -236,8 +269,8 @@ uint8_t legging_arrive(uint8_t *layer, size_t layer_len, uint32_t venue,
  * Does the message at the head of the next venue's wait, as legging_message would with
  * the venue's own messages gone before. Returns the number, and 256 times the venue
  * served: LEGGING_TURN_NUMBER and LEGGING_TURN_VENUE take them apart.
- *   LEGGING_DONE, 1 to 8  with a venue: its message was accepted, or refused as the number
- *                         says. It waits no more, and `report` is its answer and records;
+ *   LEGGING_DONE,         with a venue: its message was accepted, or refused as the number
+ *   1 to 8, 11 to 13      says. It waits no more, and `report` is its answer and records;
  *   LEGGING_DONE          with LEGGING_NONE: nothing waits;
  *   LEGGING_UNSOUND       with LEGGING_NONE: as of legging_arrive;
  *   LEGGING_NO_ROOM       with LEGGING_NONE: the records do not fit, or the venue's message

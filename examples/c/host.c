@@ -3,7 +3,7 @@
  * by message or over two lines, and prints a line for each record and the number at
  * the end.
  *
- *     host [--each | --spare FILE] [--hex] [--room BYTES] [FILE]
+ *     host [--each | --settings NUMBER | --spare FILE] [--hex] [--room BYTES] [FILE]
  */
 #include "legging.h"
 
@@ -13,13 +13,16 @@
 enum { ENDED_EARLY = 3 }; /* exit status: the list's end was not reached */
 
 static const char USAGE[] =
-    "usage: host [--each | --spare FILE] [--hex] [--room BYTES] [FILE]\n"
+    "usage: host [--each | --settings NUMBER | --spare FILE] [--hex] [--room BYTES] [FILE]\n"
     "\n"
     "Does the message list in FILE, or on standard input where FILE is left out or -,\n"
     "from a fresh venue. Prints a line for each record, its kind and its fields in\n"
     "table order, and last the number that ended it.\n"
     "\n"
     "  --each        message by message, upon a venue held here; otherwise by one run\n"
+    "  --settings NUMBER\n"
+    "                message by message, and then the increments of the eight series and\n"
+    "                the percentage that held at this message\n"
     "  --spare FILE  the list comes over two lines, each message after its number: this\n"
     "                is the spare one, and the FILE at the end the main one\n"
     "  --hex         print each record's bytes in hexadecimal\n"
@@ -37,23 +40,36 @@ struct options {
     bool hex;
     bool has_room;
     size_t room;
+    bool tells;
+    uint32_t told_at;
 };
 
 /* Command line ----------------------------------------------------------------- */
 
-static size_t room_of(const char *word)
+static unsigned long long number_of(const char *word, unsigned long long most, const char *what)
 {
     char *end = NULL;
     errno = 0;
     unsigned long long value = strtoull(word, &end, 10);
-    if (word[0] < '0' || word[0] > '9' || *end != '\0' || errno != 0 || value > PTRDIFF_MAX)
-        wrong_usage("expected a number of bytes after --room, found", word);
-    return (size_t)value;
+    if (word[0] < '0' || word[0] > '9' || *end != '\0' || errno != 0 || value > most)
+        wrong_usage(what, word);
+    return value;
+}
+
+static size_t room_of(const char *word)
+{
+    return (size_t)number_of(word, PTRDIFF_MAX, "expected a number of bytes after --room, found");
+}
+
+static uint32_t message_number_of(const char *word)
+{
+    return (uint32_t)number_of(word, UINT32_MAX, "expected a message number after --settings, found");
 }
 
 static struct options options_of(int count, char **words)
 {
-    struct options options = {.file = NULL, .spare = NULL, .each = false, .hex = false, .has_room = false, .room = 0};
+    struct options options = {.file = NULL, .spare = NULL, .each = false, .hex = false,
+                              .has_room = false, .room = 0, .tells = false, .told_at = 0};
     for (int i = 1; i < count; i++) {
         const char *word = words[i];
         if (strcmp(word, "--help") == 0) {
@@ -72,6 +88,12 @@ static struct options options_of(int count, char **words)
                 wrong_usage("expected a number of bytes after", word);
             options.has_room = true;
             options.room = room_of(words[i]);
+        } else if (strcmp(word, "--settings") == 0) {
+            if (++i == count)
+                wrong_usage("expected a message number after", word);
+            options.each = true;
+            options.tells = true;
+            options.told_at = message_number_of(words[i]);
         } else if (strncmp(word, "--", 2) == 0) {
             wrong_usage("option not known", word);
         } else if (options.file != NULL) {
@@ -81,7 +103,7 @@ static struct options options_of(int count, char **words)
         }
     }
     if (options.spare != NULL && options.each)
-        wrong_usage("not with --each", "--spare");
+        wrong_usage("not with --each or --settings", "--spare");
     if (options.spare != NULL && is_input(options.spare) && is_input(options.file))
         wrong_usage("standard input cannot be both lines", "--spare -");
     return options;
@@ -113,6 +135,20 @@ static uint8_t run(struct options options, struct bytes messages, struct bytes s
     return number;
 }
 
+/* What held at a message: the increments of the eight series, then the percentage. */
+static void print_settings(const uint8_t *venue, uint32_t number)
+{
+    uint8_t settings[LEGGING_SETTINGS_BYTES];
+    if (legging_settings(venue, LEGGING_VENUE_BYTES, number, settings, sizeof settings) != LEGGING_DONE) {
+        puts("the settings of an unsound venue are not told");
+        return;
+    }
+    printf("settings at message %" PRIu32 ": increments", number);
+    for (size_t series = 0; series < 8; series++)
+        printf(" %u", (unsigned)settings[series]);
+    printf(", percent %u\n", (unsigned)settings[8]);
+}
+
 /* The same list by one-message calls: the venue is held here, and each message is
  * told how many went before it. */
 static uint8_t run_each(struct options options, struct bytes messages)
@@ -128,12 +164,14 @@ static uint8_t run_each(struct options options, struct bytes messages)
         number = legging_message(venue, sizeof venue, before, message, messages.length - at,
                                  report.at, report.length);
         print_records(report, "", options.hex);
-        if (number == LEGGING_TORN || number >= LEGGING_UNSOUND)
+        if (number == LEGGING_TORN || number == LEGGING_UNSOUND || number == LEGGING_NO_ROOM)
             break;
-        number = LEGGING_DONE; /* a message refused with 2 to 8 is passed over */
+        number = LEGGING_DONE; /* a message refused with 2 to 8 or 11 to 13 is passed over */
         before += 1;
         at += number_at(message, 2);
     }
+    if (options.tells)
+        print_settings(venue, options.told_at);
     free(report.at);
     return number;
 }

@@ -4,7 +4,7 @@
 //!
 //!     cargo run --release --offline -p legging --example session
 
-use legging::{one_message, run, Number, VenueBytes, MOST_BYTES};
+use legging::{one_message, run, settings, Number, VenueBytes, MOST_BYTES};
 
 /// A message: its length, its kind, its fields.
 fn message(kind: u16, fields: &[&[u8]]) -> Vec<u8> {
@@ -81,4 +81,8 @@ fn main() {
         "the same message by message; the last id is {}",
         venue.last_id()
     );
+    match settings(&venue, 6) {
+        Some(told) => println!("at message 6 held {told:?}"),
+        None => println!("{}", Number::UNSOUND),
+    }
 }

@@ -33,6 +33,14 @@ extern "C" {
         report_len: usize,
     ) -> u8;
 
+    fn legging_settings(
+        venue: *const u8,
+        venue_len: usize,
+        number: u32,
+        settings: *mut u8,
+        settings_len: usize,
+    ) -> u8;
+
     fn legging_layer_fresh(layer: *mut u8, layer_len: usize) -> u8;
 
     fn legging_arrive(
@@ -48,8 +56,8 @@ extern "C" {
 
 /// Runs a message list from a fresh venue.
 ///
-/// Messages are taken one by one; one that is refused with 2 to 8 is answered and
-/// passed over. The number is [`Number::DONE`] when all were done,
+/// Messages are taken one by one; one that is refused with 2 to 8 or 11 to 13 is
+/// answered and passed over. The number is [`Number::DONE`] when all were done,
 /// [`Number::TORN`] when a torn message ended the run, which is answered while
 /// nothing after it is read, and [`Number::NO_ROOM`] when the run ended before the
 /// first message whose records do not fit into the rest of `report`.
@@ -104,10 +112,11 @@ pub fn fresh_in(venue: &mut [u8]) -> Number {
 /// Takes the first message of `message` upon a venue; `before` messages went
 /// before it, and its own number is one more.
 ///
-/// An accepted message leaves the venue that follows from it. A refused one (1 to
-/// 8) leaves the venue as it was. Both are answered in `report`. With
-/// [`Number::UNSOUND`] and [`Number::NO_ROOM`] nothing was done: the venue is as
-/// given and `report` all zeros.
+/// An accepted message leaves the venue that follows from it. A refused one (1 to 8,
+/// 11 to 13) leaves the venue as it was. Both are answered in `report`. With
+/// [`Number::UNSOUND`], also where its number is not above that of every edition kept,
+/// and with [`Number::NO_ROOM`] nothing was done: the venue is as given and `report`
+/// all zeros.
 pub fn one_message(
     venue: &mut VenueBytes,
     before: u32,
@@ -131,6 +140,26 @@ pub fn one_message_in(venue: &mut [u8], before: u32, message: &[u8], report: &mu
             message.len(),
             report.as_mut_ptr(),
             report.len(),
+        )
+    };
+    Number::new(number)
+}
+
+/// Writes the settings of a venue at a message number: eight increments, the
+/// percentage, then zeros to the end of the memory: [`Number::DONE`]. With a venue that
+/// is unsound or of another length than [`VENUE_BYTES`](crate::VENUE_BYTES), or less
+/// memory than [`SETTINGS_BYTES`](crate::SETTINGS_BYTES), the number is
+/// [`Number::UNSOUND`] and the memory all zeros.
+pub fn settings_in(venue: &[u8], number: u32, settings: &mut [u8]) -> Number {
+    // SAFETY: both slices are whole for their lengths and cannot overlap; the call
+    // reads the one, writes the other, and keeps neither.
+    let number = unsafe {
+        legging_settings(
+            venue.as_ptr(),
+            venue.len(),
+            number,
+            settings.as_mut_ptr(),
+            settings.len(),
         )
     };
     Number::new(number)

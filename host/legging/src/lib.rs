@@ -4,10 +4,11 @@
 //!
 //! [`run`] takes a whole message list from a fresh venue, and [`feed`] one that comes
 //! over two lines. [`one_message`] takes one message upon a venue that the host holds
-//! as [`VenueBytes`]. [`arrive`] and [`turn`] are the calls of four venues behind one
-//! line, held as [`LayerBytes`]. After a call the report memory is the records done, then
-//! zeros to its end; what it held before is not read. A call keeps nothing, allocates nothing
-//! and shares no state with another, so calls may run on any number of threads at once.
+//! as [`VenueBytes`], and [`settings`] tells what held there at a message number.
+//! [`arrive`] and [`turn`] are the calls of four venues behind one line, held as
+//! [`LayerBytes`]. After a call the report memory is the records done, then zeros to its
+//! end; what it held before is not read. A call keeps nothing, allocates nothing and
+//! shares no state with another, so calls may run on any number of threads at once.
 //!
 //! The bytes of messages and records are told in `include/legging.h`.
 //!
@@ -61,12 +62,14 @@
 mod archive;
 mod layer;
 mod number;
+mod settings;
 mod venue;
 
 pub use archive::{arrive, arrive_in, layer_fresh_in, turn, turn_in};
-pub use archive::{feed, fresh_in, one_message, one_message_in, run};
+pub use archive::{feed, fresh_in, one_message, one_message_in, run, settings_in};
 pub use layer::{LayerBytes, Turned, LAYER_BYTES, MOST_MESSAGE, MOST_WAITING, VENUES};
 pub use number::Number;
+pub use settings::{settings, Settings, SETTINGS_BYTES};
 pub use venue::{VenueBytes, VENUE_BYTES};
 
 /// No message upon a sound venue writes more bytes.

@@ -2,7 +2,7 @@
 
 use std::fmt::{self, Display};
 
-/// What a call returned: 0 to 10, 17 and 18 of an arrival, 19 to 21 of a feed.
+/// What a call returned: 0 to 13, 17 and 18 of an arrival, 19 to 21 of a feed.
 #[derive(Clone, Copy, Debug, PartialEq, Eq, PartialOrd, Ord, Hash)]
 pub struct Number(u8);
 
@@ -12,7 +12,7 @@ impl Number {
     /// 1 to 3 bytes left (of one message: 0 to 3), or a length below 4 or above
     /// what is left.
     pub const TORN: Number = Number(1);
-    /// The kind is not 1 to 6.
+    /// The kind is not 1 to 8.
     pub const UNKNOWN_KIND: Number = Number(2);
     /// The length is not its kind's.
     pub const WRONG_LENGTH: Number = Number(3);
@@ -26,11 +26,18 @@ impl Number {
     pub const BOOK_FULL: Number = Number(7);
     /// No resting order has the id.
     pub const NO_SUCH_ORDER: Number = Number(8);
-    /// The venue or the layer given is not sound.
+    /// The venue or the layer given is not sound, or the message's number is not above
+    /// that of every edition kept.
     pub const UNSOUND: Number = Number(9);
     /// The next message's records do not fit, or its number would pass
     /// 4,294,967,295.
     pub const NO_ROOM: Number = Number(10);
+    /// The edition is not above the last, of either kind.
+    pub const EDITION_NOT_ABOVE: Number = Number(11);
+    /// An increment of a series that is not closed, or has a resting order or leg.
+    pub const SERIES_IN_USE: Number = Number(12);
+    /// 32 editions are held already.
+    pub const EDITIONS_FULL: Number = Number(13);
     /// The venue's wait holds 8 messages, or the message is over 32 bytes.
     pub const NO_PLACE: Number = Number(17);
     /// The venue's number is above 3.
@@ -55,7 +62,8 @@ impl Number {
     /// Whether a message was done, refused or not: of a one-message call the
     /// messages done are then 1, else 0.
     pub fn is_done(self) -> bool {
-        self < Number::UNSOUND
+        let of_settings = Number::EDITION_NOT_ABOVE..=Number::EDITIONS_FULL;
+        self <= Number::NO_SUCH_ORDER || of_settings.contains(&self)
     }
 
     /// The number in words.
@@ -72,6 +80,9 @@ impl Number {
             8 => "no resting order has the id",
             9 => "the venue or the layer is unsound",
             10 => "the report memory is full, or the message numbers are used up",
+            11 => "edition not above the last",
+            12 => "the series is not closed, or is in use",
+            13 => "32 editions are held",
             17 => "the wait is full, or the message is too long to wait",
             18 => "there is no such venue",
             19 => "the lines differ in a message",

@@ -5,7 +5,10 @@ use crate::number::Number;
 use std::fmt;
 
 /// The length of a venue.
-pub const VENUE_BYTES: usize = 2_604;
+pub const VENUE_BYTES: usize = 2_924;
+
+/// Where the last id stands: after the orders and the series.
+const LAST_ID_AT: usize = 2_600;
 
 /// A venue held as bytes: one value for one state.
 ///
@@ -13,13 +16,15 @@ pub const VENUE_BYTES: usize = 2_604;
 /// side u8, price u32, quantity u32), 32 complex orders (id u32, series u8, side
 /// u8, series u8, side u8, class u8, limit i32, quantity u32), 16 legging orders at
 /// place 2 × series + side (parent u32, price u32, quantity u32), 8 series (status
-/// u8, bid u32, offer u32), the last id u32. Held places come first, in rising id;
+/// u8, bid u32, offer u32), the last id u32, 32 editions (edition u32, message
+/// number u32, figure u8, value u8; figure 0 to 7 is the increment of that series, 8
+/// the percentage of the band). Held places come first, in rising id or edition;
 /// free places are zero.
 #[derive(Clone, PartialEq, Eq)]
 pub struct VenueBytes([u8; VENUE_BYTES]);
 
 impl VenueBytes {
-    /// No orders, all series open, no away prices, last id 0.
+    /// No orders, all series open, no away prices, last id 0, no edition.
     ///
     /// Bytes that are all zero are a sound venue too, with all series closed.
     pub fn fresh() -> Self {
@@ -45,8 +50,8 @@ impl VenueBytes {
 
     /// The id of the last order accepted; the next must be above it.
     pub fn last_id(&self) -> u32 {
-        let [.., a, b, c, d] = self.0;
-        u32::from_le_bytes([a, b, c, d])
+        let byte = |at| self.0[LAST_ID_AT + at];
+        u32::from_le_bytes([byte(0), byte(1), byte(2), byte(3)])
     }
 }
 

@@ -1,8 +1,9 @@
 //! The wrapper over the archive: what its callers are promised.
 
 use legging::{arrive, arrive_in, layer_fresh_in, turn, turn_in};
-use legging::{feed, fresh_in, one_message, one_message_in, run};
-use legging::{LayerBytes, Number, VenueBytes, LAYER_BYTES, MOST_BYTES, VENUE_BYTES};
+use legging::{feed, fresh_in, one_message, one_message_in, run, settings, settings_in};
+use legging::{LayerBytes, Number, Settings, VenueBytes};
+use legging::{LAYER_BYTES, MOST_BYTES, SETTINGS_BYTES, VENUE_BYTES};
 use reference::{Layer, Venue};
 use sessions::held::to_bytes;
 use sessions::held_layer;
@@ -257,6 +258,106 @@ fn venue_memory_of_another_length_is_unsound() {
     }
 }
 
+/// Series 6 by 1 from message 3, the percentage 50 from 5 and 0 from 6.
+fn dated() -> VenueBytes {
+    let text = "sweep\nclose 6\nincrement 6 1 3\nopen 6\npercent 50 4\npercent 0 9\n";
+    let messages = encode_session(text).expect("a good session");
+    let mut venue = VenueBytes::fresh();
+    for (message, before) in split(&messages).into_iter().zip(0..) {
+        let number = one_message(&mut venue, before, message, &mut [0; 64]);
+        assert_eq!(number, Number::DONE);
+    }
+    venue
+}
+
+#[test]
+fn settings_are_told_at_any_message() {
+    let venue = dated();
+    for (number, increment, percent) in [
+        (0, 10, 5),
+        (2, 10, 5),
+        (3, 1, 5),
+        (5, 1, 50),
+        (6, 1, 0),
+        (u32::MAX, 1, 0),
+    ] {
+        let told = Settings {
+            increments: [5, 5, 5, 5, 5, 5, increment, 10],
+            percent,
+        };
+        assert_eq!(settings(&venue, number), Some(told), "message {number}");
+    }
+    assert_eq!(venue.last_id(), 0);
+}
+
+#[test]
+fn settings_memory_of_every_length_is_written_whole() {
+    let venue = dated();
+    for length in 0..SETTINGS_BYTES + 4 {
+        let mut told = vec![0xC3; length];
+        let number = settings_in(venue.as_bytes(), 6, &mut told);
+        let mut expected = vec![0; length];
+        if length < SETTINGS_BYTES {
+            assert_eq!(number, Number::UNSOUND, "{length}");
+        } else {
+            assert_eq!(number, Number::DONE, "{length}");
+            expected[..9].copy_from_slice(&[5, 5, 5, 5, 5, 5, 1, 10, 0]);
+        }
+        assert_eq!(told, expected);
+    }
+}
+
+#[test]
+fn settings_of_what_is_no_sound_venue_are_zeros() {
+    let mut bytes = *dated().as_bytes();
+    bytes[VENUE_BYTES - 1] = 1; // a value in the last edition's free place
+    assert_eq!(settings(&VenueBytes::from_bytes(bytes), 6), None);
+    for length in [0, 1, VENUE_BYTES - 1, VENUE_BYTES + 1] {
+        let mut told = [0xC3; 12];
+        let number = settings_in(&vec![0; length], 6, &mut told);
+        assert_eq!((number, told), (Number::UNSOUND, [0; 12]), "{length}");
+    }
+}
+
+#[test]
+fn number_of_a_message_is_above_every_editions() {
+    let kept = dated();
+    for (before, number) in [(0, 9), (5, 9), (6, 0), (u32::MAX - 1, 0), (u32::MAX, 10)] {
+        let mut venue = kept.clone();
+        let mut report = [0xC3; 20];
+        let told = one_message(&mut venue, before, &[4, 0, 6, 0], &mut report);
+        assert_eq!(told.get(), number, "{before} messages before");
+        assert_eq!(venue, kept);
+        assert_eq!(report == [0; 20], number != 0);
+    }
+}
+
+#[test]
+fn settings_are_refused_with_11_12_and_13() {
+    let mut text = String::from("percent 5 0\nincrement 0 1 1\n");
+    for edition in 1..=33 {
+        text += &format!("percent 5 {edition}\n");
+    }
+    let messages = encode_session(&text).expect("a good session");
+    let mut venue = VenueBytes::fresh();
+    let mut numbers = Vec::new();
+    for (message, before) in split(&messages).into_iter().zip(0..) {
+        numbers.push(one_message(&mut venue, before, message, &mut [0; 64]));
+    }
+    let [first, second, taken @ .., last] = &numbers[..] else {
+        panic!("{numbers:?}");
+    };
+    let refused = [*first, *second, *last];
+    let expected = [
+        Number::EDITION_NOT_ABOVE,
+        Number::SERIES_IN_USE,
+        Number::EDITIONS_FULL,
+    ];
+    assert_eq!(refused, expected);
+    assert!(refused.iter().all(|number| number.is_done()));
+    assert_eq!(taken, [Number::DONE; 32]);
+}
+
 #[test]
 fn the_fresh_layer_is_written_whole() {
     let mut layer = vec![0x77; LAYER_BYTES];
@@ -339,6 +440,24 @@ fn a_turn_that_is_ended_leaves_the_layer() {
 }
 
 #[test]
+fn a_layer_with_a_next_number_not_above_an_editions_is_unsound() {
+    let mut layer = LayerBytes::fresh();
+    arrive(&mut layer, 2, &[9, 0, 8, 0, 50, 1, 0, 0, 0]);
+    let entered = (Number::DONE, Some(2), "64 1 0 0 0\n".to_string());
+    assert_eq!(turned(&mut layer, 12), entered);
+    let told = settings(&layer.venues()[2], 1).map(|told| told.percent);
+    assert_eq!((told, layer.done()), (Some(50), [0, 0, 1, 0]));
+    assert_eq!(arrive(&mut layer, 3, &[]), Number::DONE);
+    let mut bytes = *layer.as_bytes();
+    bytes[2 * (LAYER_BYTES / 4) + VENUE_BYTES] = 0; // messages of venue 2 done
+    let mut layer = LayerBytes::from_bytes(bytes);
+    assert_eq!(arrive(&mut layer, 4, &[0; 33]), Number::UNSOUND);
+    let ended = (Number::UNSOUND, None, String::new());
+    assert_eq!(turned(&mut layer, 20), ended);
+    assert_eq!(layer.as_bytes(), &bytes);
+}
+
+#[test]
 fn layer_memory_of_another_length_is_unsound() {
     for length in [0, 1, LAYER_BYTES - 1, LAYER_BYTES + 1] {
         let mut layer = vec![0x77; length];
@@ -375,6 +494,14 @@ extern "C" {
         m: usize,
     ) -> u8;
 
+    fn legging_settings(
+        venue: *const u8,
+        venue_len: usize,
+        number: u32,
+        settings: *mut u8,
+        m: usize,
+    ) -> u8;
+
     fn legging_layer_fresh(layer: *mut u8, layer_len: usize) -> u8;
 
     fn legging_arrive(
@@ -404,6 +531,9 @@ fn null_with_length_0() {
         assert_eq!(legging_feed(nothing, 0, nothing, 0, nowhere, 0), 0);
         assert_eq!(legging_feed(sweep.as_ptr(), 4, nothing, 0, nowhere, 0), 21);
         assert_eq!(legging_fresh(nowhere, 0), 9);
+        assert_eq!(legging_settings(nothing, 0, 0, nowhere, 0), 9);
+        assert_eq!(legging_settings(at, VENUE_BYTES, 0, nowhere, 0), 9);
+        assert_eq!(legging_settings(nothing, 0, 0, report.as_mut_ptr(), 3), 9);
         assert_eq!(legging_message(nowhere, 0, 0, nothing, 0, nowhere, 0), 9);
         let torn = legging_message(at, VENUE_BYTES, 0, nothing, 0, nowhere, 0);
         assert_eq!(torn, 10);
@@ -470,6 +600,7 @@ fn a_stack_of_32_kibibytes_is_enough() {
         }
         assert_eq!(run(&list.concat(), &mut report), Number::DONE);
         assert_eq!(feed(&line, &line, &mut report), Number::DONE);
+        assert!(settings(&venue, 300).is_some());
     });
 }
 
@@ -478,8 +609,8 @@ fn a_turn_takes_less_than_32_kibibytes_of_stack() {
     let list = generate(Profile::Sweeps, 3, 300);
     let mut report = vec![0xC3; MOST_BYTES];
     let mut layer = Box::new(LayerBytes::fresh());
-    // The thread takes some for itself.
-    upon_stack(36 << 10, move || serve_all(&mut layer, &list, &mut report));
+    // The thread and the test take 6 KiB for themselves.
+    upon_stack(38 << 10, move || serve_all(&mut layer, &list, &mut report));
 }
 
 #[test]
@@ -490,6 +621,11 @@ fn numbers_have_words() {
         "9: the venue or the layer is unsound"
     );
     assert!(Number::NO_SUCH_ORDER.is_done() && !Number::UNSOUND.is_done());
+    assert!(Number::EDITIONS_FULL.is_done() && !Number::NO_ROOM.is_done());
+    assert_eq!(
+        Number::EDITIONS_FULL.to_string(),
+        "13: 32 editions are held"
+    );
     assert_eq!(Number::NO_ROOM.get(), 10);
     assert_eq!(
         Number::LOST.to_string(),

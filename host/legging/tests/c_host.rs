@@ -207,6 +207,25 @@ fn series_are_open_at_the_start_until_they_are_closed() {
 }
 
 #[test]
+fn settings_are_passed_over_where_refused_and_told_at_a_message() {
+    let text = "percent 9 0\nincrement 0 1 1\nclose 0\nincrement 0 1 1\npercent 0 2\nsweep\n";
+    let messages = encode_session(text).expect("a good session");
+    let (status, told) = both_ways(&[], &messages);
+    assert_eq!(status, 0);
+    let first = "64 1 11 0 0\n64 2 12 0 0\n64 3 0 0 0\n64 4 0 0 0\n";
+    assert!(told.starts_with(first), "{told}");
+    for (number, line) in [
+        ("3", "increments 5 5 5 5 5 5 10 10, percent 5\n"),
+        ("4", "increments 1 5 5 5 5 5 10 10, percent 5\n"),
+        ("4294967295", "increments 1 5 5 5 5 5 10 10, percent 0\n"),
+    ] {
+        let (status, more, _) = host(&["--settings", number], &messages);
+        let line = format!("settings at message {number}: {line}number 0: ");
+        assert!(status == 0 && more.contains(&line), "{more}");
+    }
+}
+
+#[test]
 fn short_memory_and_hexadecimal() {
     let messages = encode_session(SESSION).expect("the stored session is good");
     let (status, told, _) = host(&["--room", "30", "--hex", "-"], &messages);
@@ -250,11 +269,14 @@ fn errors_name_what_was_wrong() {
     for (arguments, status, word) in [
         (&["--room", "x"][..], 2, "found: x"),
         (&["--room"], 2, "after: --room"),
+        (&["--settings", "4294967296"], 2, "found: 4294967296"),
+        (&["--settings"], 2, "after: --settings"),
         (&["--what"], 2, "--what"),
         (&["a", "b"], 2, "too many: b"),
         (&["--spare"], 2, "after: --spare"),
         (&["--spare", "-"], 2, "both lines: --spare -"),
-        (&["--each", "--spare", "a"], 2, "not with --each: --spare"),
+        (&["--each", "--spare", "a"], 2, "--settings: --spare"),
+        (&["--settings", "1", "--spare", "a"], 2, "not with --each"),
         (&["--spare", "no-such-file"], 1, "no-such-file"),
         (&["no-such-file"], 1, "no-such-file"),
     ] {
