@@ -19,15 +19,15 @@ fn bench(arguments: &[&str]) -> (bool, String, String) {
 fn every_table_has_its_rows() {
     let sizes = ["--rounds", "1", "--seeds", "1", "--sessions", "2"];
     for (table, rows) in [
-        ("profiles", 13),
-        ("blocks", 13),
+        ("profiles", 14),
+        ("blocks", 14),
         ("growing", 4),
         ("books", 8),
         ("layers", 27),
-        ("feeds", 13),
-        ("calls", 13),
+        ("feeds", 14),
+        ("calls", 14),
         ("call-layers", 27),
-        ("turns", 13),
+        ("turns", 14),
     ] {
         let (succeeded, told, error) = bench(&[&[table], &sizes[..]].concat());
         assert!(succeeded, "{error}");

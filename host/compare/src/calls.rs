@@ -2,7 +2,7 @@
 
 use crate::check::{Check, Fault, Part};
 use crate::engine::Engine;
-use reference::Venue;
+use reference::{Settings, Venue};
 use sessions::held::{from_bytes, to_bytes, VENUE_BYTES};
 use sessions::lent::Lent;
 use sessions::record::{read_report_into, Record};
@@ -16,6 +16,7 @@ pub struct Counts {
     pub runs: u64,
     pub feeds: u64,
     pub calls: u64,
+    pub settings: u64,
     pub arrivals: u64,
     pub turns: u64,
     pub bytes: u64,
@@ -40,6 +41,24 @@ pub fn expected_fresh(venue: &[u8]) -> (u8, Vec<u8>) {
         return (9, venue.to_vec());
     }
     (0, to_bytes(&Venue::fresh()).to_vec())
+}
+
+/// The reference's settings of venue bytes, in memory of a length: the number, and what
+/// is left. Nothing is half told.
+pub fn expected_settings(venue: &[u8], number: u32, length: usize) -> (u8, Vec<u8>) {
+    let mut memory = vec![0; length];
+    let held = <&[u8; VENUE_BYTES]>::try_from(venue).ok().map(from_bytes);
+    let told = held.and_then(|held| reference::settings(&held, number));
+    let (Some(settings), Some(room)) = (told, memory.get_mut(..9)) else {
+        return (9, memory);
+    };
+    let Settings {
+        increments,
+        percent,
+    } = settings;
+    room[..8].copy_from_slice(&increments);
+    room[8] = percent;
+    (0, memory)
 }
 
 /// The reference's one-message call upon venue bytes; the report is written. Unless
@@ -187,6 +206,29 @@ impl<'a> Comparer<'a> {
         }
     }
 
+    /// The settings of both at a message number, in memory of this length.
+    pub fn settings(
+        &mut self,
+        check: Check,
+        venue: &[u8],
+        number: u32,
+        length: usize,
+    ) -> Result<(), String> {
+        let (wanted, settings) = expected_settings(venue, number, length);
+        let held = self.venue.lend(venue.len());
+        held.copy_from_slice(venue);
+        let answer = self.engine.settings(held, number, self.report.lend(length));
+        let answer = self.spoiled(check, answer);
+        self.counts.settings += 1;
+        let same = self
+            .same_number(answer, wanted)
+            .and_then(|()| self.same_settings(&settings))
+            .and_then(|()| self.same_venue(venue));
+        same.map_err(|what| {
+            format!("settings at message {number}, memory of {length} bytes: {what}")
+        })
+    }
+
     /// The number, with a part of the answer spoiled if that was asked for.
     pub(crate) fn spoiled(&mut self, check: Check, number: u8) -> u8 {
         self.spoiled_turn(check, number.into()) as u8
@@ -257,6 +299,14 @@ impl<'a> Comparer<'a> {
             }
         }
         Ok(())
+    }
+
+    fn same_settings(&mut self, wanted: &[u8]) -> Result<(), String> {
+        if !self.report.is_guarded() {
+            return Err("bytes outside the settings memory were written".to_string());
+        }
+        self.counts.bytes += wanted.len() as u64;
+        same_bytes("settings", self.report.memory(), wanted)
     }
 
     fn same_venue(&mut self, wanted: &[u8]) -> Result<(), String> {

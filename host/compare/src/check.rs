@@ -19,6 +19,8 @@ pub enum Check {
     CallBytes,
     CallVenue,
     CallVenueLength,
+    CallEditions,
+    Settings,
     LayerFresh,
     Arrive,
     ArriveChanged,
@@ -30,7 +32,7 @@ pub enum Check {
 }
 
 impl Check {
-    pub const ALL: [Check; 24] = [
+    pub const ALL: [Check; 26] = [
         Check::RunWhole,
         Check::RunShort,
         Check::RunEveryLength,
@@ -47,6 +49,8 @@ impl Check {
         Check::CallBytes,
         Check::CallVenue,
         Check::CallVenueLength,
+        Check::CallEditions,
+        Check::Settings,
         Check::LayerFresh,
         Check::Arrive,
         Check::ArriveChanged,
@@ -75,6 +79,8 @@ impl Check {
             Check::CallBytes => "call-bytes",
             Check::CallVenue => "call-venue",
             Check::CallVenueLength => "call-venue-length",
+            Check::CallEditions => "call-editions",
+            Check::Settings => "settings",
             Check::LayerFresh => "layer-fresh",
             Check::Arrive => "arrive",
             Check::ArriveChanged => "arrive-changed",
@@ -105,6 +111,10 @@ impl Check {
             Check::CallBytes => "a one-message call with torn, random or further bytes",
             Check::CallVenue => "a one-message call upon a changed venue",
             Check::CallVenueLength => "a one-message call upon venue memory of another length",
+            Check::CallEditions => {
+                "a one-message call upon a broken row of editions, or with a number about the last"
+            }
+            Check::Settings => "the settings of a venue at a message number",
             Check::LayerFresh => "a fresh layer, in layer memory of any length",
             Check::Arrive => "an arrival",
             Check::ArriveChanged => "an arrival at a changed layer",
@@ -123,12 +133,12 @@ impl Check {
     /// Whether its answer has this part.
     pub fn has(self, part: Part) -> bool {
         let is = |kind: &str| self.name().starts_with(kind);
-        let venue = is("call") || self == Check::Fresh;
+        let venue = is("call") || is("settings") || self == Check::Fresh;
         let layer = is("arrive") || is("turn") || self == Check::LayerFresh;
         match part {
             Part::Number => true,
             Part::Report | Part::BeforeReport | Part::AfterReport => {
-                is("run") || is("feed") || is("call") || is("turn")
+                is("run") || is("feed") || is("call") || is("settings") || is("turn")
             }
             Part::Venue | Part::BeforeVenue | Part::AfterVenue => venue,
             Part::Main | Part::Spare => is("feed"),
@@ -138,7 +148,7 @@ impl Check {
     }
 }
 
-/// A part of an answer.
+/// A part of an answer; settings memory goes by the name of report memory.
 #[derive(Clone, Copy, Debug, PartialEq, Eq)]
 pub enum Part {
     Number,

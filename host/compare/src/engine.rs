@@ -13,6 +13,10 @@ pub trait Engine {
     /// One message upon venue memory of any length.
     fn message(&self, venue: &mut [u8], before: u32, message: &[u8], report: &mut [u8]) -> u8;
 
+    /// The settings at a message number, of venue memory of any length and into memory
+    /// of any length.
+    fn settings(&self, venue: &[u8], number: u32, settings: &mut [u8]) -> u8;
+
     /// A fresh layer, in layer memory of any length.
     fn layer_fresh(&self, layer: &mut [u8]) -> u8;
 
@@ -41,6 +45,10 @@ impl Engine for Archive {
 
     fn message(&self, venue: &mut [u8], before: u32, message: &[u8], report: &mut [u8]) -> u8 {
         legging::one_message_in(venue, before, message, report).get()
+    }
+
+    fn settings(&self, venue: &[u8], number: u32, settings: &mut [u8]) -> u8 {
+        legging::settings_in(venue, number, settings).get()
     }
 
     fn layer_fresh(&self, layer: &mut [u8]) -> u8 {
@@ -78,6 +86,12 @@ impl Engine for Reference {
         let expected = crate::calls::expected(venue, before, message, report);
         venue.copy_from_slice(&expected.venue);
         expected.number
+    }
+
+    fn settings(&self, venue: &[u8], number: u32, settings: &mut [u8]) -> u8 {
+        let (answer, told) = crate::calls::expected_settings(venue, number, settings.len());
+        settings.copy_from_slice(&told);
+        answer
     }
 
     fn layer_fresh(&self, layer: &mut [u8]) -> u8 {

@@ -23,13 +23,15 @@ message's records and of every short length, cut off, with changed and with rand
 bytes; over two lines, with messages lost, cut, doubled, swapped and spoiled; and
 message by message, the first upon a fresh venue and each other upon the venue that
 the last one left, with calls beside them upon short memory, the last message numbers,
-torn bytes, changed venues and venue memory of other lengths. Four sessions arrive at
-four venues behind one line and are done by turns, with calls beside them upon short
-memory, changed layers and layer memory of other lengths. Compared are the number,
-every byte of the report memory (lent full of junk), of the venue, the layer and the
-lines, and the bytes around them. The first difference ends it with exit status 1, and
-names what repeats it. A soak tries report memory that ends near one in ten messages'
-records; the others try all of them.
+torn bytes, changed venues and venue memory of other lengths, upon rows of editions
+broken in every way, with numbers about the last edition's; and the settings about
+each edition. Four sessions arrive at four venues behind one line and are done by
+turns, with calls beside them upon short memory, changed layers and layer memory of
+other lengths. Compared are the number, every byte of the report or settings memory
+(lent full of junk), of the venue, the layer and the lines, and the bytes around them.
+The first difference ends it with exit status 1, and names what repeats it. A soak
+tries report memory that ends near one in ten messages' records; the others try all of
+them.
 ";
 
 /// When to stop.
@@ -200,6 +202,7 @@ fn told(counts: &Counts) -> String {
         (counts.runs, "runs"),
         (counts.feeds, "feeds of two lines"),
         (counts.calls, "one-message calls"),
+        (counts.settings, "settings told"),
         (counts.arrivals, "arrivals"),
         (counts.turns, "turns"),
         (counts.bytes, "bytes of reports, venues and layers"),
@@ -207,7 +210,7 @@ fn told(counts: &Counts) -> String {
     for (count, name) in lines {
         text += &format!("{count:>14}  {name}\n");
     }
-    for number in (0..=10).chain(17..=21) {
+    for number in (0..=13).chain(17..=21) {
         let count = counts.numbers[number];
         text += &format!("{count:>14}  number {number}\n");
     }

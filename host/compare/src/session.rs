@@ -3,17 +3,22 @@
 use crate::calls::{Comparer, Expected};
 use crate::check::Check;
 use crate::layers::compare_layer;
+use sessions::broken::{broken_rows, with_editions};
 use sessions::corrupt::corrupt;
 use sessions::feed_generator::draw_feed;
 use sessions::generator::Generator;
 use sessions::held::{from_bytes, to_bytes, VENUE_BYTES};
 use sessions::profile::Profile;
 use sessions::random::Random;
+use sessions::settings::{held_editions, last_edition};
 use sessions::soak::{generate, session_length};
 use std::fmt::{self, Display};
 
 /// More than the records of any one message take.
 const ROOM: usize = 16_384;
+
+/// Eight increments and the percentage.
+const SETTINGS_BYTES: usize = 9;
 
 /// A difference, with what repeats it.
 #[derive(Clone, Debug)]
@@ -277,6 +282,9 @@ impl Session<'_, '_> {
             end += left.written;
             self.ends.push(end);
             venue = left.venue;
+            if matches!(message.get(2), Some(7 | 8)) {
+                self.settings_about(&venue, before)?;
+            }
         }
         self.pieces = pieces;
         Ok(())
@@ -284,12 +292,14 @@ impl Session<'_, '_> {
 
     /// Calls that leave the session as it is.
     fn beside(&mut self, venue: &[u8], before: u32, message: &[u8]) -> Checked {
-        match self.random().below(5) {
+        match self.random().below(7) {
             0 => self.short_calls(venue, before, message),
             1 => self.last_numbers(venue, message),
             2 => self.odd_bytes(venue, before, message),
             3 => self.venue_lengths(venue, before, message),
-            _ => self.changed_venues(venue, message),
+            4 => self.editions(venue, message),
+            5 => self.settings_about(venue, before),
+            _ => self.changed_venues(venue, before, message),
         }
     }
 
@@ -337,21 +347,82 @@ impl Session<'_, '_> {
         Ok(())
     }
 
+    /// Every kind of broken row of editions, and numbers about that of the last one.
+    fn editions(&mut self, venue: &[u8], message: &[u8]) -> Checked {
+        const LATE: u32 = u32::MAX - 1;
+        let Ok(held) = <&[u8; VENUE_BYTES]>::try_from(venue) else {
+            return Ok(());
+        };
+        let held = from_bytes(held);
+        let at = self.random().below(33) as usize;
+        for (name, broken) in broken_rows(&held, at) {
+            let broken = to_bytes(&broken);
+            let named = |(check, what)| (check, format!("{name}: {what}"));
+            self.call(Check::CallEditions, &broken, LATE, message, ROOM)
+                .map_err(named)?;
+            self.settings(&broken, LATE, SETTINGS_BYTES)
+                .map_err(named)?;
+        }
+        let longer = with_editions(&held, at);
+        let (_, last) = last_edition(&longer);
+        let longer = to_bytes(&longer);
+        let numbers = last.saturating_sub(2)..=last.saturating_add(2);
+        for before in numbers
+            .map(|number| number.saturating_sub(1))
+            .chain([u32::MAX])
+        {
+            self.call(Check::CallEditions, &longer, before, message, ROOM)?;
+        }
+        Ok(())
+    }
+
+    fn settings(&mut self, venue: &[u8], number: u32, length: usize) -> Checked {
+        let same = self
+            .comparer
+            .settings(Check::Settings, venue, number, length);
+        same.map_err(|what| (Check::Settings, what))
+    }
+
+    /// The settings about the number of each edition and of the messages done, in memory
+    /// of several lengths, and of venue memory of other lengths.
+    fn settings_about(&mut self, venue: &[u8], before: u32) -> Checked {
+        let mut numbers = vec![0, before, before.saturating_add(1), u32::MAX];
+        if let Ok(held) = <&[u8; VENUE_BYTES]>::try_from(venue) {
+            let held = from_bytes(held);
+            let about = held_editions(&held).flat_map(|entry| {
+                let next = entry.number.saturating_add(1);
+                [entry.number.saturating_sub(1), entry.number, next]
+            });
+            numbers.extend(about);
+        }
+        for number in numbers {
+            self.settings(venue, number, SETTINGS_BYTES)?;
+        }
+        for length in [0, 1, SETTINGS_BYTES - 1, SETTINGS_BYTES + 1, 64] {
+            self.settings(venue, before, length)?;
+        }
+        let longer = [venue, &[0]].concat();
+        for venue in [&[], &venue[..venue.len().saturating_sub(1)], &longer] {
+            self.settings(venue, before, SETTINGS_BYTES)?;
+        }
+        Ok(())
+    }
+
     /// Venues with a field changed, and with any byte changed; many are unsound.
-    fn changed_venues(&mut self, venue: &[u8], message: &[u8]) -> Checked {
+    fn changed_venues(&mut self, venue: &[u8], before: u32, message: &[u8]) -> Checked {
         let Ok(held) = <&[u8; VENUE_BYTES]>::try_from(venue) else {
             return Ok(());
         };
         let held = from_bytes(held);
         for _ in 0..8 {
             let unsound = to_bytes(&corrupt(&held, self.random()));
-            self.call(Check::CallVenue, &unsound, 0, message, ROOM)?;
+            self.call(Check::CallVenue, &unsound, before, message, ROOM)?;
         }
         for _ in 0..8 {
             let mut bytes = venue.to_vec();
             let at = self.random().below(bytes.len() as u64) as usize;
             bytes[at] = changed(bytes[at], self.random());
-            self.call(Check::CallVenue, &bytes, 0, message, ROOM)?;
+            self.call(Check::CallVenue, &bytes, before, message, ROOM)?;
         }
         Ok(())
     }

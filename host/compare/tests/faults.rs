@@ -60,7 +60,11 @@ fn each_spoiled_part_is_found_where_it_was_spoiled() {
         assert!(told.contains("session --profile mixed --seed "), "{told}");
         let word = match fault.part {
             Part::Number => "number",
+            Part::Report if fault.check == Check::Settings => "settings byte",
             Part::Report => "report",
+            Part::BeforeReport | Part::AfterReport if fault.check == Check::Settings => {
+                "settings memory"
+            }
             Part::BeforeReport | Part::AfterReport => "report memory",
             Part::Venue => "venue",
             Part::BeforeVenue | Part::AfterVenue => "venue memory",
