@@ -102,6 +102,14 @@ module _ {A : Type 0} (none : A) (id quantity : A → ℕ) (y : ℕ) where
   open-put (o ∷ l) zero x f z = rw (z, if-same) (omega arith)
   open-put (o ∷ l) (suc i) x f z = let ih = open-put l i x (omega arith) z in omega arith
 
+  -- one place written: an order that adds no more
+  pub open-set : (l : List A) (i : ℕ) (x : A) → (if eqb (id x) y then quantity x else 0) ≤ (if eqb (id (getD l i none)) y then quantity (getD l i none) else 0) →
+      openIn id quantity y (set l i x) ≤ openIn id quantity y l
+  unfolding openIn
+  open-set [] i x h = omega arith
+  open-set (o ∷ l) zero x h = omega arith
+  open-set (o ∷ l) (suc i) x h = let z = open-set l i x h in omega arith
+
   -- an id that no order has: nothing is open under it
   pub open-none : (l : List A) → ((i : ℕ) → held (quantity (getD l i none)) ≡ true → id (getD l i none) ≡ y → ⊥) → openIn id quantity y l ≡ 0
   unfolding openIn
@@ -112,6 +120,24 @@ module _ {A : Type 0} (none : A) (id quantity : A → ℕ) (y : ℕ) where
       go true e true q ih = absurd (n 0 q (eqb-true (id o) y e))
       go true e false q ih = let z = free-none (quantity o) q in omega arith
       go false e h q ih = omega arith
+
+  -- an id that one order alone has: no more is open under it than that order's
+  pub open-alone : (l : List A) (i : ℕ) → ((j : ℕ) → j ≢ i → held (quantity (getD l j none)) ≡ true → id (getD l j none) ≡ y → ⊥) →
+      openIn id quantity y l ≤ quantity (getD l i none)
+  unfolding openIn
+  open-alone [] i h = omega arith
+  open-alone (o ∷ l) zero h = go (eqb (id o) y) (open-none l (λ j. h (suc j) (λ e. omega arith)))
+    where
+      go : (b : Bool) → openIn id quantity y l ≡ 0 → (if b then quantity o else 0) + openIn id quantity y l ≤ quantity o
+      go true z = omega arith
+      go false z = omega arith
+  open-alone (o ∷ l) (suc i) h = go (eqb (id o) y) refl (held (quantity o)) refl (open-alone l i (λ j ne. h (suc j) (λ e. ne (omega arith))))
+    where
+      go : (b : Bool) → eqb (id o) y ≡ b → (t : Bool) → held (quantity o) ≡ t → openIn id quantity y l ≤ quantity (getD l i none) →
+          (if b then quantity o else 0) + openIn id quantity y l ≤ quantity (getD l i none)
+      go true e true q z = absurd (h 0 (λ n. omega arith) q (eqb-true (id o) y e))
+      go true e false q z = let n = free-none (quantity o) q in omega arith
+      go false e t q z = omega arith
 
   -- gaps closed
   pub open-packed : quantity none ≡ 0 → (l : List A) → openIn id quantity y (packed (λ o. held (quantity o)) none l) ≡ openIn id quantity y l

@@ -128,23 +128,25 @@ module _ {A : Type 0} (none : A) (holds asked blank : A → Bool) (id : A → �
 
 -- Sound venues --------------------------------------------------------------------------------
 
-blank-none : (o : Regular) → blankRegular o ≡ true → o ≡ noRegular
+pub blank-is : (o : Regular) → blankRegular o ≡ true → o ≡ noRegular
 unfolding blankRegular
-blank-none o z =
+blank-is o z =
     let a = eqb-true (o .id) 0 (search (and-l, and-r, z) depth 8) in
     let b = eqb-true (o .series) 0 (search (and-l, and-r, z) depth 8) in
     let c = eqb-true (o .side) 0 (search (and-l, and-r, z) depth 8) in
     let d = eqb-true (o .price) 0 (search (and-l, and-r, z) depth 8) in
     let e = eqb-true (o .quantity) 0 (search (and-l, and-r, z) depth 8) in
-    rw (a, b, c, d, e)
+    let f = eqb-true (o .display) 0 (search (and-l, and-r, z) depth 8) in
+    let g = eqb-true (o .reserve) 0 (search (and-l, and-r, z) depth 8) in
+    rw (a, b, c, d, e, f, g)
 
 zero-abs : (z : ℤ) → natAbs z ≡ 0 → z ≡ pos 0
 zero-abs (pos n) h = ap pos h
 zero-abs (negsuc n) h = absurd (omega arith)
 
-blank-noneC : (c : Complex) → blankComplex c ≡ true → c ≡ noComplex
+blank-isC : (c : Complex) → blankComplex c ≡ true → c ≡ noComplex
 unfolding blankComplex
-blank-noneC x z =
+blank-isC x z =
     let a = eqb-true (x .id) 0 (search (and-l, and-r, z) depth 12) in
     let b = eqb-true (x .series1) 0 (search (and-l, and-r, z) depth 12) in
     let c = eqb-true (x .side1) 0 (search (and-l, and-r, z) depth 12) in
@@ -156,10 +158,10 @@ blank-noneC x z =
     rw (a, b, c, d, e, f, g, h)
 
 pub blank-free : (o : Regular) → blankRegular o ≡ true → held (o .quantity) ≡ false
-blank-free o z = rw (blank-none o z)
+blank-free o z = rw (blank-is o z)
 
 pub blank-freeC : (c : Complex) → blankComplex c ≡ true → held (c .quantity) ≡ false
-blank-freeC c z = rw (blank-noneC c z)
+blank-freeC c z = rw (blank-isC c z)
 
 -- closing the gaps of a venue whose books are sound changes nothing
 pub closed-same : (v : Venue) → regularsSound v ≡ true → complexesSound v ≡ true → closeGaps v ≡ v
@@ -168,6 +170,6 @@ closed-same v r c =
     let a = arranged-out noRegular holdsRegular _ blankRegular (λ o. o .id) blank-free (unfold blankRegular in refl) 0 (v .regular) r in
     let b = arranged-out noComplex holdsComplex _ blankComplex (λ c. c .id) blank-freeC (unfold blankComplex in refl) 0 (v .complex) c in
     rw (
-      packed-id holdsRegular noRegular refl (v .regular) (a .dense) (λ i h. blank-none _ (a .blanks i h)),
-      packed-id holdsComplex noComplex refl (v .complex) (b .dense) (λ i h. blank-noneC _ (b .blanks i h)),
+      packed-id holdsRegular noRegular refl (v .regular) (a .dense) (λ i h. blank-is _ (a .blanks i h)),
+      packed-id holdsComplex noComplex refl (v .complex) (b .dense) (λ i h. blank-isC _ (b .blanks i h)),
     )

@@ -80,6 +80,25 @@ better-past d a b c h n = better-in d b c (go (eqb d buy) (better-out d a c h) (
           ]
         ]
 
+-- of two prices one is better, or they are equal
+pub better-total : (d a b : ℕ) → better d a b ≡ false → better d b a ≡ false → a ≡ b
+unfolding Better
+better-total d a b h k = go (eqb d buy) (λ x. true≢false (sym (better-in d a b x) ∙ h)) (λ x. true≢false (sym (better-in d b a x) ∙ k))
+  where
+    go : (t : Bool) → (Better t a b → ⊥) → (Better t b a → ⊥) → a ≡ b
+    go true h k = elim (decLt b a) [ yes q ↦ absurd (h q) | no q ↦ elim (decLt a b) [ yes r ↦ absurd (k r) | no r ↦ omega arith ] ]
+    go false h k =
+        elim (decLt 0 a) [
+          | yes p ↦ elim (decLt a b) [
+            | yes q ↦ absurd (h (p, λ _. q))
+            | no q ↦ elim (decLt b a) [
+              | yes r ↦ elim (decLt 0 b) [ yes t ↦ absurd (k (t, λ _. r)) | no t ↦ absurd (h (p, λ z. absurd (z (omega arith)))) ]
+              | no r ↦ omega arith
+            ]
+          ]
+          | no p ↦ elim (decLt 0 b) [ yes q ↦ absurd (k (q, λ z. absurd (z (omega arith)))) | no q ↦ omega arith ]
+        ]
+
 pub is-false : (b : Bool) → (b ≡ true → ⊥) → b ≡ false
 is-false true h = absurd (h refl)
 is-false false h = refl

@@ -1,19 +1,28 @@
--- A message's kind: the length of its bytes, and what a match leaves.
+-- A message's kind and form: the length of its bytes, and what a match leaves.
 use mathlib.Core.Path.{_≡_, refl}
-use mathlib.Core.List.{[], _∷_}
+use mathlib.Core.Bool.{Bool, true, false}
+use mathlib.Core.List.{[], _∷_, _++_}
 use Prim.Native.Nat.{_<_}
+use lib.Dec.{eqb}
+use lib.ListN.{length}
 use native.Mathlib.Omega.{arith}
 use types.Run.{OneOf, miss}
 use denote.Enum.Declared.{tagOf}
 use Rattle.rules.proofs.Message.{the-type}
 use Rattle.rules.specs.declared.Message.{Message}
 use Rattle.rules.specs.declared.Message.the-variants.{Order, TwoLeg, Cancel, Away, Status, Sweep, Increment, Percent}
-use Rattle.rules.specs.Bytes.{bytes, framed}
-use Rattle.rules.specs.Messages.{lengthOf, messageKind, encodeMessage, KindLengths}
+use Rattle.rules.specs.Base.{if_then_else_}
+use Rattle.rules.specs.Bytes.{bytes, framed, kindField, u16At, u32, u8At}
+use Rattle.rules.specs.Messages.{lengthOf, messageForm, orderFields, encodeMessage, KindLengths}
 
 pub kind-lengths : KindLengths
-unfolding lengthOf encodeMessage framed bytes
-kind-lengths (Order o) = refl
+unfolding lengthOf encodeMessage orderFields framed bytes kindField u16At u8At
+kind-lengths (Order o) = go (eqb (o .display) (o .quantity))
+  where
+    -- either kind
+    go : (b : Bool) → let bs = if b then framed 1 (orderFields o) else framed 9 (orderFields o ++ u32 (o .display)) in length bs ≡ lengthOf (kindField bs)
+    go true = refl
+    go false = refl
 kind-lengths (TwoLeg c) = refl
 kind-lengths (Cancel id) = refl
 kind-lengths (Away s bid offer) = refl
@@ -22,9 +31,9 @@ kind-lengths Sweep = refl
 kind-lengths (Increment s i e) = refl
 kind-lengths (Percent x e) = refl
 
--- Matches in three parts: what a match of kinds 1 to 3 leaves is of a higher kind, what one of 7 and 8 leaves of a lower, and of those between one of 4 and 5
--- leaves the sweep. A case's place among those declared is one less than its kind.
-pub kinds-left : (m : Message) → OneOf (3 ∷ 4 ∷ 5 ∷ 6 ∷ 7 ∷ []) (tagOf the-type m) → 3 < messageKind m
+-- Matches in three parts: what a match of forms 1 to 3 leaves is of a higher form, what one of 7 and 8 leaves of a lower, and of those between one of 4 and 5
+-- leaves the sweep. A case's place among those declared is one less than its form.
+pub kinds-left : (m : Message) → OneOf (3 ∷ 4 ∷ 5 ∷ 6 ∷ 7 ∷ []) (tagOf the-type m) → 3 < messageForm m
 kinds-left (Order o) h = absurd (miss (3 ∷ 4 ∷ 5 ∷ 6 ∷ 7 ∷ []) 0 tt h)
 kinds-left (TwoLeg c) h = absurd (miss (3 ∷ 4 ∷ 5 ∷ 6 ∷ 7 ∷ []) 1 tt h)
 kinds-left (Cancel id) h = absurd (miss (3 ∷ 4 ∷ 5 ∷ 6 ∷ 7 ∷ []) 2 tt h)
@@ -34,7 +43,7 @@ kinds-left Sweep h = omega arith
 kinds-left (Increment s i e) h = omega arith
 kinds-left (Percent x e) h = omega arith
 
-pub sweep-left : (m : Message) → OneOf (0 ∷ 1 ∷ 2 ∷ 5 ∷ 6 ∷ 7 ∷ []) (tagOf the-type m) → 3 < messageKind m → messageKind m < 7 → m ≡ Sweep
+pub sweep-left : (m : Message) → OneOf (0 ∷ 1 ∷ 2 ∷ 5 ∷ 6 ∷ 7 ∷ []) (tagOf the-type m) → 3 < messageForm m → messageForm m < 7 → m ≡ Sweep
 sweep-left (Order o) h k l = absurd (omega arith)
 sweep-left (TwoLeg c) h k l = absurd (omega arith)
 sweep-left (Cancel id) h k l = absurd (omega arith)
@@ -44,7 +53,7 @@ sweep-left Sweep h k l = refl
 sweep-left (Increment s i e) h k l = absurd (omega arith)
 sweep-left (Percent x e) h k l = absurd (omega arith)
 
-pub lower-left : (m : Message) → OneOf (0 ∷ 1 ∷ 2 ∷ 3 ∷ 4 ∷ 5 ∷ []) (tagOf the-type m) → messageKind m < 7
+pub lower-left : (m : Message) → OneOf (0 ∷ 1 ∷ 2 ∷ 3 ∷ 4 ∷ 5 ∷ []) (tagOf the-type m) → messageForm m < 7
 lower-left (Order o) h = omega arith
 lower-left (TwoLeg c) h = omega arith
 lower-left (Cancel id) h = omega arith

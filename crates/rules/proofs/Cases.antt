@@ -12,7 +12,7 @@ use Rattle.rules.specs.Words.{opposite, noRegular, noComplex, regularAt,
 use Rattle.rules.specs.Effects.{Effect, nothing, _⟫_, Turn, ended, turned, repeat}
 use Rattle.rules.specs.Prices.{shown, showsFor}
 use Rattle.rules.specs.Trading.{tradeWith, take}
-use Rattle.rules.specs.Order.{isMet, priceThenId, firstMet, leggingFirst, meet, hit, meetTurn}
+use Rattle.rules.specs.Order.{isMet, priceThenId, atOnce, firstMet, leggingFirst, meet, hit, meetTurn}
 use Rattle.rules.specs.Complex.{crosses, limitThenId, cross, crossTurn, nextAbove, each}
 use Rattle.rules.proofs.Picking.{At, Chosen, first-chosen}
 
@@ -73,7 +73,7 @@ module _ {ℓ} (Q : Turn → Type ℓ) (i : ℕ) (v : Venue) where
   hitting = turned (hit i l (min (o .quantity) (l .quantity)) v)
 
   abbrev meeting : (j : ℕ) → Regular → Turn
-  meeting j m = turned (meet i j (min (o .quantity) (m .quantity)) v)
+  meeting j m = turned (meet i j (min (o .quantity) (atOnce m)) v)
 
   pub meetTurn-by : (held (o .quantity) ≡ false → Q ended) →
       (held (o .quantity) ≡ true → Chosen noRegular met (v .regular) nobody → leggingFirst o l 0 ≡ false → Q ended) →

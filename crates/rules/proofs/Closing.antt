@@ -18,6 +18,7 @@ use Rattle.rules.specs.Settings.{figureNow, increment, percent}
 use Rattle.rules.specs.Prices.{betterOf, shown, showsAt, bestIn, sizeIn, bestRegular, bestSize, clearPrice, away, marketBest, taken1, taken2, inBand, showsFor}
 use Rattle.rules.specs.Standing.{findComplex, parentOf, bothOpen, shownWell, pairs, verdictOf, verdict, otherClear, otherSize}
 use Rattle.rules.specs.Places.{holdsRegular, holdsComplex, packed, closeGaps}
+use Rattle.rules.proofs.Tests.{free-none}
 
 -- Places --------------------------------------------------------------------------------------
 
@@ -202,7 +203,7 @@ module _ {A : Type 0} (holds : A → Bool) (none : A) where
 
 not-shown : (s d : ℕ) (o : Regular) → held (o .quantity) ≡ false → showsAt s d o ≡ false
 unfolding showsAt shown
-not-shown s d o e = rw e
+not-shown s d o e = let z : o .quantity - o .reserve ≡ 0 = (let q = free-none (o .quantity) e in omega arith) in rw z
 
 best-packed : (s d : ℕ) (os : List Regular) → bestIn s d (packed holdsRegular noRegular os) ≡ bestIn s d os
 unfolding bestIn

@@ -21,7 +21,7 @@ use Rattle.rules.specs.Settings.{baseFigure, enterEdition, figureNow, fr
 use Rattle.rules.specs.Messages.{messageOf}
 use Rattle.rules.specs.Effects.{Effect, _⟫_, nothing, report}
 use Rattle.rules.specs.Removal.{remove}
-use Rattle.rules.specs.Standing.{settle}
+use Rattle.rules.specs.Standing.{settle, showAgain}
 use Rattle.rules.specs.Trading.{fillComplex, fillRegular, putComplex, putRegular}
 use Rattle.rules.specs.Order.{enterRegular, order}
 use Rattle.rules.specs.Generation.{generate, generateLeg, make, makes, placed}
@@ -30,11 +30,12 @@ use Rattle.rules.specs.Places.{arranged, blankEdition, closeGaps, holdsE
 use Rattle.rules.specs.Refusals.{editionTooLow, idle, inRange, inUse, noEditionLeft, offIncrement, onIncrement}
 use Rattle.rules.specs.Step.{accept, answered, perform, setAway, setFigure, setStatus, step}
 use Rattle.rules.specs.Sound.{editionInRange, editionsSound, figureInRange, follows}
+use Rattle.rules.proofs.Again.{again-fewer}
 use Rattle.rules.proofs.Arranging.{all-at, all-in}
 use Rattle.rules.proofs.Calling.{step-by}
 use Rattle.rules.proofs.Cases.{if-by}
 use Rattle.rules.proofs.Editions.{Stepped, ed, figure-other, past-set, steps-same}
-use Rattle.rules.proofs.Filling.{fill-fewer, reg, still-held}
+use Rattle.rules.proofs.Filling.{Fewer, fill-fewer, reg, still-held}
 use Rattle.rules.proofs.Finding.{where-passes}
 use Rattle.rules.proofs.Gaps.{fr, was}
 use Rattle.rules.proofs.Keeping.{Lasts, keeps-cancel, keeps-each, keeps-matching, keeps-settle, keeps-work}
@@ -91,8 +92,8 @@ module _ (es : List Edition) where
   Has v = v .editions ≡ es
 
   has-lasts : Lasts Has
-  unfolding fillRegular fillComplex remove withRegular withComplex withLegging
-  has-lasts = record { fillR = λ i k v h. h; fillC = λ i k v h. h; gone = λ f v h. h }
+  unfolding fillRegular fillComplex remove showAgain withRegular withComplex withLegging
+  has-lasts = record { fillR = λ i k v h. h; fillC = λ i k v h. h; gone = λ f v h. h; again = λ v h. h }
 
   has-leg : (x : Complex) (t d : ℕ) (v : Venue) → Has v → Has (generateLeg x t d v .venue)
   unfolding generateLeg make report nothing _⟫_ remove placed withLegging
@@ -254,6 +255,10 @@ fill-editions : (i k : ℕ) (v : Venue) → fillRegular i k v .editions ≡ v .e
 unfolding fillRegular withRegular
 fill-editions i k v = refl
 
+again-editions : (v : Venue) → showAgain v .editions ≡ v .editions
+unfolding showAgain withRegular
+again-editions v = refl
+
 closed-editions : (v : Venue) → closeGaps v .editions ≡ v .editions
 unfolding closeGaps withRegular withComplex
 closed-editions v = refl
@@ -267,13 +272,10 @@ increment-same : (v w : Venue) → w .editions ≡ v .editions → (s : ℕ) →
 unfolding increment figureNow
 increment-same v w e s = rw e
 
-priced-fill : (i k : ℕ) (v : Venue) → Priced v → Priced (fillRegular i k v)
-priced-fill i k v h j t =
-    let l = fill-fewer i k v .lesser j in
-    on-same v (fillRegular i k v) (reg (fillRegular i k v) j) (reg v j) (l .series) (l .price) (same (reg v j .series)) (h j (still-held l t))
-  where
-    same : (s : ℕ) → increment (fillRegular i k v) s ≡ increment v s
-    same = increment-same v (fillRegular i k v) (fill-editions i k v)
+priced-fewer : (v w : Venue) → Fewer (w .regular) (v .regular) → w .editions ≡ v .editions → Priced v → Priced w
+priced-fewer v w f e h j t =
+    let l = f .lesser j in
+    on-same v w (reg w j) (reg v j) (l .series) (l .price) (increment-same v w e (reg v j .series)) (h j (still-held l t))
 
 -- what leaves both the regular orders and the editions
 priced-same : (v w : Venue) → w .regular ≡ v .regular → w .editions ≡ v .editions → Priced v → Priced w
@@ -284,7 +286,12 @@ priced-same v w r e h j t =
 
 priced-lasts : Lasts Priced
 unfolding fillComplex remove withComplex withLegging
-priced-lasts = record { fillR = priced-fill; fillC = λ i k v. priced-same v _ refl refl; gone = λ f v. priced-same v _ refl refl }
+priced-lasts = record {
+  fillR = λ i k v. priced-fewer v _ (fill-fewer i k v) (fill-editions i k v);
+  fillC = λ i k v. priced-same v _ refl refl;
+  gone = λ f v. priced-same v _ refl refl;
+  again = λ v. priced-fewer v _ (again-fewer v) (again-editions v);
+}
 
 priced-leg : (x : Complex) (t d : ℕ) (v : Venue) → Priced v → Priced (generateLeg x t d v .venue)
 unfolding generateLeg make report nothing _⟫_ remove placed withLegging
@@ -355,8 +362,8 @@ step-priced v number bs len r h =
 
 -- what leaves the editions leaves the increments
 steps-lasts : Lasts Stepped
-unfolding fillRegular fillComplex remove withRegular withComplex withLegging
-steps-lasts = record { fillR = λ i k v. steps-same v _ refl; fillC = λ i k v. steps-same v _ refl; gone = λ f v. steps-same v _ refl }
+unfolding fillRegular fillComplex remove showAgain withRegular withComplex withLegging
+steps-lasts = record { fillR = λ i k v. steps-same v _ refl; fillC = λ i k v. steps-same v _ refl; gone = λ f v. steps-same v _ refl; again = λ v. steps-same v _ refl }
 
 pub steps-work : (i : ℕ) (v : Venue) → Stepped v → Stepped (work i v .venue)
 steps-work i v h = keeps-work steps-lasts i v h

@@ -20,9 +20,11 @@ use Rattle.rules.specs.Words.{buy, complexAt, leggingAt, noComplex, noRe
 use Rattle.rules.specs.Effects.{Effect, Turn, _⟫_, ended, nothing, repeat, turned}
 use Rattle.rules.specs.Prices.{bestRegular, better, ownPrice, reaches, restsAt}
 use Rattle.rules.specs.Removal.{remove}
+use Rattle.rules.specs.Standing.{showAgain}
 use Rattle.rules.specs.Trading.{fillComplex, fillRegular, freeRegular, lessComplex, lessRegular, putRegular}
-use Rattle.rules.specs.Order.{enterRegular, hit, isMet, leggingFirst, meet, meetTurn}
+use Rattle.rules.specs.Order.{atOnce, enterRegular, hit, isMet, leggingFirst, meet, meetTurn}
 use Rattle.rules.specs.Complex.{anyClosed, cross, crossTurn, crosses, legIn, legInTurn, legsIn, touch, work}
+use Rattle.rules.proofs.Again.{again-fewer}
 use Rattle.rules.proofs.Better.{is-false}
 use Rattle.rules.proofs.Cases.{crossTurn-by, if-by, meetTurn-by, repeat-by}
 use Rattle.rules.proofs.Filling.{cx, fill-fewer, fill-fewerC, held-fits, held-fitsC, reg}
@@ -30,7 +32,7 @@ use Rattle.rules.proofs.Keeping.{Lasts, cross-from, hit-from, keeps-cro
 use Rattle.rules.proofs.Owning.{Own, byLegging, byRegular, first-held, own-is}
 use Rattle.rules.proofs.Pairing.{legIn-filled}
 use Rattle.rules.proofs.Picking.{At, Chosen}
-use Rattle.rules.proofs.Sizes.{best-some}
+use Rattle.rules.proofs.Sizes.{best-some, once-some}
 use Rattle.rules.proofs.Tests.{and-l, and-r, held-pos, pos-held}
 
 -- Loops ---------------------------------------------------------------------------------------
@@ -54,11 +56,12 @@ repeat-ends size turn ok (suc fuel) v le =
 turned-not : {e : Effect} {A : Type 0} → turned e ≡ ended → A
 turned-not h = let z : _≡_ {A = ℕ} 0 1 = cc in absurd (omega arith)
 
--- a size that no fill and no removal makes greater
+-- a size that no fill, no removal and no showing again makes greater
 record Shrinks (size : Venue → ℕ) : Type 0 where
   fillR : (j k : ℕ) (v : Venue) → size (fillRegular j k v) ≤ size v
   fillC : (j k : ℕ) (v : Venue) → size (fillComplex j k v) ≤ size v
   gone : (f : ℕ → Legging → Verdict) (v : Venue) → size (remove f v .venue) ≤ size v
+  again : (v : Venue) → size (showAgain v) ≤ size v
 
 -- stays at most n
 few : {size : Venue → ℕ} → Shrinks size → (n : ℕ) → Lasts (λ v. size v ≤ n)
@@ -66,6 +69,7 @@ few s n = record {
   fillR = λ j k v h. (let z = s .fillR j k v in omega arith);
   fillC = λ j k v h. (let z = s .fillC j k v in omega arith);
   gone = λ f v h. (let z = s .gone f v in omega arith);
+  again = λ v h. (let z = s .again v in omega arith);
 }
 
 -- what the order at place i has open
@@ -74,6 +78,7 @@ shrinks-regular i = record {
   fillR = λ j k v. fill-fewer j k v .lesser i .quantity;
   fillC = λ j k v. unfold fillComplex withComplex in (omega arith);
   gone = λ f v. unfold remove withLegging in (omega arith);
+  again = λ v. again-fewer v .lesser i .quantity;
 }
 
 shrinks-complex : (i : ℕ) → Shrinks (λ v. cx v i .quantity)
@@ -81,6 +86,7 @@ shrinks-complex i = record {
   fillR = λ j k v. unfold fillRegular withRegular in (omega arith);
   fillC = λ j k v. fill-fewerC j k v .lesser i .quantity;
   gone = λ f v. unfold remove withLegging in (omega arith);
+  again = λ v. unfold showAgain withRegular in (omega arith);
 }
 
 -- Matching ------------------------------------------------------------------------------------
@@ -110,13 +116,13 @@ meetTurn-less i v = meetTurn-by (Smaller (λ w. reg w i .quantity) v) i v (λ _.
         omega arith
 
     meets : held q ≡ true → (j : ℕ) (m : Regular) → At noRegular (isMet (reg v i .series) (reg v i .side) (reg v i .price)) (v .regular) j m →
-        leggingFirst (reg v i) l (m .price) ≡ false → reg (meet i j (min q (m .quantity)) v .venue) i .quantity < q
+        leggingFirst (reg v i) l (m .price) ≡ false → reg (meet i j (min q (atOnce m)) v .venue) i .quantity < q
     meets h j m a _ =
         let z = a .is in
-        let p = held-pos (m .quantity) (unfold isMet restsAt in (search (and-l, and-r, z) depth 8)) in
-        let k = min q (m .quantity) in
+        let p = once-some m (held-pos (m .quantity) (unfold isMet restsAt in (search (and-l, and-r, z) depth 8))) in
+        let k = min q (atOnce m) in
         let x = meet-from (few (shrinks-regular i) (q - k)) i j k v (rw (filled i k v h) (omega arith)) in
-        let y = less (m .quantity) h p in
+        let y = less (atOnce m) h p in
         omega arith
 
 -- where the turn has nothing to do, nothing on the other side reaches the order

@@ -1,10 +1,12 @@
 -- Orders with less open than they had: each place of a book has what it had, or less of it.
 use mathlib.Core.Path.{_∙_, _≡_, ap, refl, sym}
 use mathlib.Core.Bool.{false, true, true≢false}
+use mathlib.Core.Logic.{_≢_}
 use mathlib.Core.List.{List, [], _∷_}
 use Prim.Native.Nat.{_<_, _≤_, suc, zero, ℕ}
 use native.Mathlib.Omega.{arith}
 use lib.ListN.{getD, length, length-set, set}
+use lib.Seq.{getD-set-other, getD-set-same}
 use Rattle.rules.specs.declared.Complex.{Complex}
 use Rattle.rules.specs.declared.Legging.{Legging}
 use Rattle.rules.specs.declared.Regular.{Regular}
@@ -30,7 +32,7 @@ module _ {A : Type 0} (none : A) (R : A → A → Type 0) where
   placewise-trans t h k = record { same = h .same ∙ k .same; lesser = λ i. t _ _ _ (h .lesser i) (k .lesser i) }
 
   -- one place written
-  placewise-set : ((x : A) → R x x) → (l : List A) (i : ℕ) (x : A) → R x (getD l i none) → Placewise none R (set l i x) l
+  pub placewise-set : ((x : A) → R x x) → (l : List A) (i : ℕ) (x : A) → R x (getD l i none) → Placewise none R (set l i x) l
   placewise-set r l i x h = record { same = length-set l i x; lesser = at l i x h }
     where
       at : (l : List A) (i : ℕ) (x : A) → R x (getD l i none) → (j : ℕ) → R (getD (set l i x) j none) (getD l j none)
@@ -173,6 +175,15 @@ lg v n = getD (v .legging) n noLegging
 -- What filling leaves as it was ---------------------------------------------------------------
 
 module _ (i q : ℕ) (v : Venue) where
+  -- every other place; and what is filled has less
+  pub filled-other : (n : ℕ) → n ≢ i → reg (fillRegular i q v) n ≡ reg v n
+  unfolding fillRegular withRegular
+  filled-other n ne = getD-set-other (v .regular) i n _ noRegular ne
+
+  pub filled-same : i < length (v .regular) → reg (fillRegular i q v) i ≡ lessRegular q (reg v i)
+  unfolding fillRegular withRegular regularAt
+  filled-same f = getD-set-same (v .regular) i _ noRegular f
+
   pub fill-complex : fillRegular i q v .complex ≡ v .complex
   unfolding fillRegular withRegular
   fill-complex = refl

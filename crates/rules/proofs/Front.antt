@@ -40,9 +40,9 @@ module _ (m rest : List ℕ) where
   unfolding u32At
   u32-same i h = rw (u16-same i (omega arith), u16-same (i + 2) (omega arith))
 
-  order-same : 18 ≤ length m → orderAt (m ++ rest) ≡ orderAt m
+  order-same : (x : ℕ) → 18 ≤ length m → orderAt x (m ++ rest) ≡ orderAt x m
   unfolding orderAt
-  order-same h = rw (u32-same 4 (omega arith), u8-same 8 (omega arith), u8-same 9 (omega arith), u32-same 10 (omega arith), u32-same 14 (omega arith))
+  order-same x h = rw (u32-same 4 (omega arith), u8-same 8 (omega arith), u8-same 9 (omega arith), u32-same 10 (omega arith), u32-same 14 (omega arith))
 
   complex-same : 21 ≤ length m → twoLegAt (m ++ rest) ≡ twoLegAt m
   unfolding twoLegAt
@@ -68,33 +68,37 @@ module _ (m rest : List ℕ) where
 
   message-same : 4 ≤ length m → (4 ≤ lengthOf (kindField m)) × (lengthOf (kindField m) ≤ length m) → messageOf (m ++ rest) ≡ messageOf m
   unfolding messageOf lengthOf
-  message-same h le = rw (kind-same h) (go (eqb k 1) (eqb k 2) (eqb k 3) (eqb k 4) (eqb k 5) (eqb k 6) (eqb k 7) (eqb k 8) le)
+  message-same h le = rw (kind-same h) (go (eqb k 1) (eqb k 2) (eqb k 3) (eqb k 4) (eqb k 5) (eqb k 6) (eqb k 7) (eqb k 8) (eqb k 9) le)
     where
       k : ℕ
       k = kindField m
 
-      go : (a b c d e f g h : Bool) →
-          (let n : ℕ = if a then 18 else if b then 21 else if c then 8 else if d then 13 else if e then 6 else if f then 4 else if g then 10 else if h then 9 else 0 in
+      go : (a b c d e f g h i : Bool) →
+          (let n : ℕ = if a then 18 else if b then 21 else if c then 8 else if d then 13 else if e then 6 else if f then 4 else if g then 10 else if h then 9
+          else if i then 22 else 0 in
           (4 ≤ n) × (n ≤ length m)) →
           _≡_ {A = Message}
-          (if a then Order (orderAt (m ++ rest)) else if b then TwoLeg (twoLegAt (m ++ rest)) else if c then Cancel (u32At (m ++ rest) 4)
+          (if a then Order (orderAt (u32At (m ++ rest) 14) (m ++ rest)) else if b then TwoLeg (twoLegAt (m ++ rest)) else if c then Cancel (u32At (m ++ rest) 4)
           else if d then Away (u8At (m ++ rest) 4) (u32At (m ++ rest) 5) (u32At (m ++ rest) 9)
           else if e then Status (u8At (m ++ rest) 4) (u8At (m ++ rest) 5) else if f then Sweep
           else if g then Increment (u8At (m ++ rest) 4) (u8At (m ++ rest) 5) (u32At (m ++ rest) 6)
-          else Percent (u8At (m ++ rest) 4) (u32At (m ++ rest) 5))
-          (if a then Order (orderAt m) else if b then TwoLeg (twoLegAt m) else if c then Cancel (u32At m 4)
+          else if h then Percent (u8At (m ++ rest) 4) (u32At (m ++ rest) 5)
+          else Order (orderAt (u32At (m ++ rest) 18) (m ++ rest)))
+          (if a then Order (orderAt (u32At m 14) m) else if b then TwoLeg (twoLegAt m) else if c then Cancel (u32At m 4)
           else if d then Away (u8At m 4) (u32At m 5) (u32At m 9)
           else if e then Status (u8At m 4) (u8At m 5) else if f then Sweep
-          else if g then Increment (u8At m 4) (u8At m 5) (u32At m 6) else Percent (u8At m 4) (u32At m 5))
-      go true b c d e f g h le = rw (order-same (le .1))
-      go false true c d e f g h le = rw (complex-same (le .1))
-      go false false true d e f g h le = let q = le .1 in rw (u32-same 4 (omega arith))
-      go false false false true e f g h le = let q = le .1 in rw (u8-same 4 (omega arith), u32-same 5 (omega arith), u32-same 9 (omega arith))
-      go false false false false true f g h le = let q = le .1 in rw (u8-same 4 (omega arith), u8-same 5 (omega arith))
-      go false false false false false true g h le = refl
-      go false false false false false false true h le = let q = le .1 in rw (u8-same 4 (omega arith), u8-same 5 (omega arith), u32-same 6 (omega arith))
-      go false false false false false false false true le = let q = le .1 in rw (u8-same 4 (omega arith), u32-same 5 (omega arith))
-      go false false false false false false false false le = let q = le .0 in absurd (omega arith)
+          else if g then Increment (u8At m 4) (u8At m 5) (u32At m 6) else if h then Percent (u8At m 4) (u32At m 5)
+          else Order (orderAt (u32At m 18) m))
+      go true b c d e f g h i le = let q = le .1 in rw (u32-same 14 (omega arith), order-same (u32At m 14) q)
+      go false true c d e f g h i le = rw (complex-same (le .1))
+      go false false true d e f g h i le = let q = le .1 in rw (u32-same 4 (omega arith))
+      go false false false true e f g h i le = let q = le .1 in rw (u8-same 4 (omega arith), u32-same 5 (omega arith), u32-same 9 (omega arith))
+      go false false false false true f g h i le = let q = le .1 in rw (u8-same 4 (omega arith), u8-same 5 (omega arith))
+      go false false false false false true g h i le = refl
+      go false false false false false false true h i le = let q = le .1 in rw (u8-same 4 (omega arith), u8-same 5 (omega arith), u32-same 6 (omega arith))
+      go false false false false false false false true i le = let q = le .1 in rw (u8-same 4 (omega arith), u32-same 5 (omega arith))
+      go false false false false false false false false true le = let q = le .1 in rw (u32-same 18 (omega arith), order-same (u32At m 18) (omega arith))
+      go false false false false false false false false false le = let q = le .0 in absurd (omega arith)
 
   module _ (w : Whole m) where
     four : 4 ≤ length m

@@ -1,4 +1,4 @@
--- Whatever fills and removals keep, every effect keeps but admission and generation.
+-- Whatever fills, removals and showing again keep, every effect keeps but admission and generation.
 use mathlib.Core.Path.{subst}
 use Prim.Native.Nat.{suc, zero, ℕ}
 use lib.IntN.{ℤ}
@@ -9,7 +9,7 @@ use Rattle.rules.specs.declared.Verdict.{Verdict}
 use Rattle.rules.specs.Words.{complexAt}
 use Rattle.rules.specs.Effects.{Effect, Turn, _⟫_, ended, nothing, repeat, report, turned}
 use Rattle.rules.specs.Removal.{remove, removeOf}
-use Rattle.rules.specs.Standing.{settle, verdict}
+use Rattle.rules.specs.Standing.{settle, showAgain, verdict}
 use Rattle.rules.specs.Trading.{fillComplex, fillRegular, pairOff, take, tradeWith}
 use Rattle.rules.specs.Order.{hit, meet, meetTurn}
 use Rattle.rules.specs.Complex.{anyClosed, cancel, cancelComplex, cancelRegular, cross, crossTurn, each, legIn, legInTurn, legsIn, restsRegular, touch, touches, work}
@@ -22,11 +22,12 @@ keeps-each P f ok zero id v h = unfold each in h
 keeps-each P f ok (suc fuel) id v h =
     each-by (λ e. P (e .venue)) fuel f id v (λ _. h) (λ i c _ _. keeps-each P f ok fuel (c .id) _ (ok i v h))
 
--- fills and removals keep P
+-- fills, removals and showing again keep P
 pub record Lasts (P : Venue → Type 0) : Type 0 where
   pub fillR : (i k : ℕ) (v : Venue) → P v → P (fillRegular i k v)
   pub fillC : (i k : ℕ) (v : Venue) → P v → P (fillComplex i k v)
   pub gone : (f : ℕ → Legging → Verdict) (v : Venue) → P v → P (remove f v .venue)
+  pub again : (v : Venue) → P v → P (showAgain v)
 
 module _ {P : Venue → Type 0} (lasts : Lasts P) where
   pub keeps-removeOf : (id : ℕ) (c : Cause) (v : Venue) → P v → P (removeOf id c v .venue)
@@ -35,7 +36,7 @@ module _ {P : Venue → Type 0} (lasts : Lasts P) where
 
   pub keeps-settle : (v : Venue) → P v → P (settle v .venue)
   unfolding settle
-  keeps-settle v h = lasts .gone (verdict v) v h
+  keeps-settle v h = lasts .gone (verdict (showAgain v)) (showAgain v) (lasts .again v h)
 
   pub keeps-take : (x s d p fuel k : ℕ) (v : Venue) → P v → P (take fuel x s d p k v .venue)
   unfolding nothing _⟫_ tradeWith report

@@ -11,14 +11,16 @@ use Rattle.rules.specs.declared.Legging.{Legging}
 use Rattle.rules.specs.declared.Venue.{Venue}
 use Rattle.rules.specs.declared.Verdict.{Verdict}
 use Rattle.rules.specs.Base.{held}
-use Rattle.rules.specs.Words.{withLegging}
+use Rattle.rules.specs.Words.{withLegging, withRegular}
 use Rattle.rules.specs.Records.{Report, generated}
 use Rattle.rules.specs.Effects.{Effect, _⟫_, nothing, report}
 use Rattle.rules.specs.Prices.{ratio1, ratio2}
 use Rattle.rules.specs.Removal.{remove, removeOf}
+use Rattle.rules.specs.Standing.{settle, showAgain, verdict}
 use Rattle.rules.specs.Generation.{placed}
 use Rattle.rules.specs.Sums.{cancelledOf, contracts, crossedFor, openComplex, openRegular, paired, total}
 use Rattle.rules.proofs.Adding.{leavers-silent, total-append}
+use Rattle.rules.proofs.Again.{again-fewer, again-open}
 use Rattle.rules.proofs.Filling.{Fewer, FewerC, SameLegs, cx, fewer-refl, fewer-trans, fewerC-refl, fewerC-trans, legs-trans, reg, still-held, still-heldC}
 
 -- Whose id it is ------------------------------------------------------------------------------
@@ -142,6 +144,20 @@ moves-remove f v = moved-silent refl refl refl (record {
   crossed0 = λ y. leavers-silent (crossedFor y) (λ _ _ _ _. refl) f 0 (v .legging);
   cancelled0 = λ y. leavers-silent (cancelledOf y) (λ _ _ _ _. refl) f 0 (v .legging);
 })
+
+pub moves-again : (v : Venue) → Moved v [] (showAgain v)
+unfolding showAgain withRegular total
+moves-again v = record {
+  regular = again-fewer v;
+  complex = fewerC-refl _;
+  last = refl;
+  orders = λ y s r. rw (again-open v y) (omega arith);
+  complexes = λ m r. record { first = sym (mul-zero (ratio1 m)); second = sym (mul-zero (ratio2 m)); falls = omega arith };
+}
+
+pub moves-settle : (v : Venue) → Moves v (settle v)
+unfolding settle
+moves-settle v = moved-trans (moves-again v) (moves-remove (verdict (showAgain v)) (showAgain v))
 
 pub moves-removeOf : (id : ℕ) (c : Cause) (v : Venue) → Moves v (removeOf id c v)
 unfolding removeOf

@@ -1,4 +1,4 @@
--- What generation costs: a leg its 67 and the new legging order's worth; in a sweep each order's two legs, once.
+-- What generation costs, regular orders paying for nothing any more: a leg its 67 and the new legging order's worth; in a sweep each order's two legs, once.
 use mathlib.Core.Path.{_≡_, refl, ap, _∙_}
 use mathlib.Core.Bool.{Bool, true, false, _&&_}
 use Prim.Native.Nat.{ℕ, zero, suc, _+_, _*_, _≤_, _<_}
@@ -27,26 +27,26 @@ use Rattle.rules.proofs.Costs.{Costs, costs-then, costs-more, costs-not
 -- A leg -----------------------------------------------------------------------------------------
 
 -- the record, and what the new legging order is worth
-costs-placed : (r : Report) (n : ℕ) (l : Legging) (v : Venue) → Costs (recordLength r + perLegging) v (report r (placed n l v))
+costs-placed : (r : Report) (n : ℕ) (l : Legging) (v : Venue) → Costs 0 0 (recordLength r + perLegging) v (report r (placed n l v))
 unfolding Costs
-costs-placed r n l v = let z = spent-report r (placed n l v) in let p = placed-worth n l v in omega arith
+costs-placed r n l v = let z = spent-report 0 0 r (placed n l v) in let p = placed-worth 0 0 n l v in omega arith
 
-costs-make : (c : Complex) (s d : ℕ) (v : Venue) → Costs perLeg v (make c s d v)
+costs-make : (c : Complex) (s d : ℕ) (v : Venue) → Costs 0 0 perLeg v (make c s d v)
 unfolding make recordLength
-costs-make c s d v = costs-then 0 perLeg v _ _ (costs-remove _ v) (costs-placed (generated _ _ _ _ _ _) (placeOf s d) _ _)
+costs-make c s d v = costs-then _ _ 0 perLeg v _ _ (costs-remove _ _ _ v) (costs-placed (generated _ _ _ _ _ _) (placeOf s d) _ _)
 
-costs-leg : (c : Complex) (s d : ℕ) (v : Venue) → Costs perLeg v (generateLeg c s d v)
+costs-leg : (c : Complex) (s d : ℕ) (v : Venue) → Costs 0 0 perLeg v (generateLeg c s d v)
 unfolding generateLeg
 costs-leg c s d v =
-    if-by (Costs perLeg v) (held (c .quantity) && makes v c s d) (λ _. costs-make c s d v) (λ _. costs-more 0 perLeg v _ (omega arith) (costs-nothing v))
+    if-by (Costs 0 0 perLeg v) (held (c .quantity) && makes v c s d) (λ _. costs-make c s d v) (λ _. costs-more _ _ 0 perLeg v _ (omega arith) (costs-nothing _ _ v))
 
 leg-complex : (c : Complex) (s d : ℕ) (v : Venue) → generateLeg c s d v .venue .complex ≡ v .complex
 unfolding generateLeg make nothing _⟫_ report remove placed withLegging
 leg-complex c s d v = if-by (λ (e : Effect). e .venue .complex ≡ v .complex) (held (c .quantity) && makes v c s d) (λ _. refl) (λ _. refl)
 
-pub costs-generate : (i : ℕ) (v : Venue) → Costs (2 * perLeg) v (generate i v)
+pub costs-generate : (i : ℕ) (v : Venue) → Costs 0 0 (2 * perLeg) v (generate i v)
 unfolding generate
-costs-generate i v = costs-then perLeg perLeg v _ _ (costs-leg _ _ _ v) (costs-leg _ _ _ _)
+costs-generate i v = costs-then _ _ perLeg perLeg v _ _ (costs-leg _ _ _ v) (costs-leg _ _ _ _)
 
 generate-complex : (i : ℕ) (v : Venue) → generate i v .venue .complex ≡ v .complex
 unfolding generate _⟫_
@@ -94,12 +94,12 @@ next-above id v i c a =
 
 -- generation costs no more than that, and leaves the complex orders as they were
 record Generated (id : ℕ) (v : Venue) (e : Effect) : Type 0 where
-  costs : spent e ≤ worth v + sum (above id) (v .complex)
+  costs : spent 0 0 e ≤ worth 0 0 v + sum (above id) (v .complex)
   same : e .venue .complex ≡ v .complex
 
 none-generated : (id : ℕ) (v : Venue) → Generated id v (nothing v)
 unfolding nothing
-none-generated id v = record { costs = let z = spent-nothing v in omega arith; same = refl }
+none-generated id v = record { costs = let z = spent-nothing 0 0 v in omega arith; same = refl }
 
 next-generated : (id : ℕ) (v : Venue) (i : ℕ) (c : Complex) → At noComplex (isAbove id) (v .complex) i c → (f : Venue → Effect) →
     Generated (c .id) (generate i v .venue) (f (generate i v .venue)) → Generated id v (generate i v ⟫ f)
@@ -107,7 +107,7 @@ unfolding Costs _⟫_
 next-generated id v i c a f g =
     let s : sum (above (c .id)) (generate i v .venue .complex) ≡ sum (above (c .id)) (v .complex) = ap (sum (above (c .id))) (generate-complex i v) in
     let n = next-above id v i c a in
-    let z = spent-then (generate i v) f in
+    let z = spent-then 0 0 (generate i v) f in
     let k = g .costs in
     record { costs = omega (arith, costs-generate i v); same = g .same ∙ generate-complex i v }
 
@@ -118,7 +118,7 @@ all-generated (suc fuel) id v =
     (λ i c _ a. next-generated id v i c a (each fuel generate (c .id)) (all-generated fuel (c .id) _))
 
 -- so it writes no more than the venue is worth
-pub generation-writes : (fuel id : ℕ) (v : Venue) → total recordLength (each fuel generate id v .reports) ≤ worth v
+pub generation-writes : (fuel id : ℕ) (v : Venue) → total recordLength (each fuel generate id v .reports) ≤ worth 0 0 v
 unfolding spent worth
 generation-writes fuel id v =
     let g = all-generated fuel id v in

@@ -14,7 +14,7 @@ use borrow.Author.Tests.{eqb-false, eqb-true, ne-eqb}
 use Rattle.rules.specs.declared.Complex.{Complex}
 use Rattle.rules.specs.declared.Venue.{Venue}
 use Rattle.rules.specs.Base.{held, if_then_else_}
-use Rattle.rules.specs.Words.{complexAt, noComplex, noRegular, opposite, regularAt, withComplex, withRegular}
+use Rattle.rules.specs.Words.{complexAt, noComplex, opposite, regularAt, withComplex, withRegular}
 use Rattle.rules.specs.Records.{Report, cancelled, crossed, trade}
 use Rattle.rules.specs.Effects.{report}
 use Rattle.rules.specs.Prices.{ratio1, ratio2}
@@ -23,9 +23,9 @@ use Rattle.rules.specs.Order.{meet}
 use Rattle.rules.specs.Complex.{cancelComplex, cancelRegular, cross}
 use Rattle.rules.specs.Sums.{cancelledOf, contracts, crossedFor, openComplex, openRegular, paired, total}
 use Rattle.rules.proofs.Adding.{count-maker, count-neither, count-taker, open-fill, open-fillC}
-use Rattle.rules.proofs.Filling.{cx, fewer-refl, fewer-trans, fewerC-refl, fewerC-trans, fill-complex, fill-fewer, fill-fewerC, fill-last, fillC-last, fillC-regular, reg, still-held}
+use Rattle.rules.proofs.Filling.{cx, fewer-refl, fewer-trans, fewerC-refl, fewerC-trans, fill-complex, fill-fewer, fill-fewerC, fill-last, fillC-last, fillC-regular, filled-other, reg, still-held}
 use Rattle.rules.proofs.Ledger.{ComplexId, Moves, RegularId, cx-kept, moves-removeOf, moves-then, reg-kept}
-use Rattle.rules.proofs.Sizes.{shows-held}
+use Rattle.rules.proofs.Sizes.{shown-most, shows-held}
 use Rattle.rules.proofs.Taking.{Chain, no-more, traded}
 
 -- Chains of trades ----------------------------------------------------------------------------
@@ -45,7 +45,7 @@ module _ {x t d p : ℕ} where
   chain-reg y s ne r no-more = omega arith
   chain-reg y s ne r (traded {v = v} i q f z e le c) =
       let ih = chain-reg y s ne (reg-fill i q v r) c in
-      let a = open-fill i q v y f le in
+      let a = open-fill i q v y f (let m = shown-most (reg v i) in omega arith) in
       let b = count-maker y s (reg v i .series) d (reg v i .price) q x (reg v i .id) ne (λ g. r .home i (shows-held t (opposite d) (reg v i) z) g) in
       rw b (omega arith)
 
@@ -75,8 +75,7 @@ pub record Meets (v : Venue) (i j k : ℕ) : Type 0 where
 module _ (i j k : ℕ) (v : Venue) (m : Meets v i j k) where
   -- the other order is as it was when the first is filled
   pub other-same : reg (fillRegular i k v) j ≡ reg v j
-  unfolding fillRegular withRegular
-  other-same = getD-set-other (v .regular) i j _ noRegular (λ e. m .apart (sym e))
+  other-same = filled-other i k v j (λ e. m .apart (sym e))
 
   fits2′ : j < length (fillRegular i k v .regular)
   unfolding fillRegular withRegular

@@ -1,5 +1,5 @@
--- Own prices: of the regular orders of a side and of its legging order. Fills, removals and closed gaps make none; the best own price is one
--- of them, and none is better.
+-- Own prices: of the regular orders of a side and of its legging order. Fills, removals, showing again and closed gaps make none; the best own price is
+-- one of them, and none is better where each order shows some size.
 use mathlib.Core.Path.{_∙_, _≡_, ap, refl, subst, sym}
 use mathlib.Core.Bool.{Bool, false, false≢true, true}
 use mathlib.Core.Logic.{_⊎_, inl, inr}
@@ -15,10 +15,12 @@ use Rattle.rules.specs.Base.{held, if_then_else_}
 use Rattle.rules.specs.Words.{isPrice, leggingAt, noLegging, placeOf, regularAt, withComplex, withLegging, withRegular, within}
 use Rattle.rules.specs.Prices.{bestIn, bestOwn, bestRegular, better, betterOf, ownPrice, restsAt}
 use Rattle.rules.specs.Removal.{remove}
+use Rattle.rules.specs.Standing.{showAgain}
 use Rattle.rules.specs.Trading.{fillComplex, fillRegular}
 use Rattle.rules.specs.Order.{leggingFirst}
 use Rattle.rules.specs.Places.{closeGaps}
 use Rattle.rules.specs.Refusals.{regularInRange}
+use Rattle.rules.proofs.Again.{Shown, again-fewer}
 use Rattle.rules.proofs.Better.{best-best, is-false, of-other, own-of}
 use Rattle.rules.proofs.Filling.{Lesser, fill-fewer, lesser-refl, lesser-trans, lg, reg, still-held}
 use Rattle.rules.proofs.Gaps.{fr, was}
@@ -77,6 +79,7 @@ below-lasts v = record {
   fillR = λ i k w b. record { regulars = λ n. lesser-trans (fill-fewer i k w .lesser n) (b .regulars n); leggings = unfold fillRegular withRegular in (b .leggings) };
   fillC = λ i k w b. unfold fillComplex withComplex in (record { regulars = b .regulars; leggings = b .leggings });
   gone = below-gone v;
+  again = λ w b. record { regulars = λ n. lesser-trans (again-fewer w .lesser n) (b .regulars n); leggings = unfold showAgain withRegular in (b .leggings) };
 }
 
 pub rests-lesser : {a b : Regular} (s d : ℕ) → Lesser a b → restsAt s d a ≡ true → restsAt s d b ≡ true
@@ -135,19 +138,19 @@ own-pos v r {s} {d} (byRegular i t e) = let z = regular-pos (reg v i) (r .regula
 own-pos v r {s} {d} (byLegging h e) = let z = legging-pos (lg v (placeOf s d)) (r .legging (placeOf s d)) h in omega arith
 
 -- no own price is better than the best
-own-best : (v : Venue) {s d p : ℕ} → Own v s d p → better d p (bestOwn v s d) ≡ true → ⊥
+own-best : (v : Venue) → Shown v → {s d p : ℕ} → Own v s d p → better d p (bestOwn v s d) ≡ true → ⊥
 unfolding bestOwn bestRegular regularAt
-own-best v {s} {d} {p} (byRegular i r e) h =
-    best-best s d (v .regular) i (rests-shows s d _ r) (rw e (of-other d p (ownPrice (leggingAt v s d)) (bestIn s d (v .regular)) h))
-own-best v {s} {d} {p} (byLegging t e) h = own-of d p (bestIn s d (v .regular)) (rw (own-is (leggingAt v s d) p t e) at h)
+own-best v z {s} {d} {p} (byRegular i r e) h =
+    best-best s d (v .regular) i (rests-shows s d _ (z i (rests-held s d _ r)) r) (rw e (of-other d p (ownPrice (leggingAt v s d)) (bestIn s d (v .regular)) h))
+own-best v z {s} {d} {p} (byLegging t e) h = own-of d p (bestIn s d (v .regular)) (rw (own-is (leggingAt v s d) p t e) at h)
 
 -- so a bid is at most the best bid, and an offer at least the best offer
-pub bid-best : (v : Venue) {s p : ℕ} → Own v s 0 p → p ≤ bestOwn v s 0
+pub bid-best : (v : Venue) → Shown v → {s p : ℕ} → Own v s 0 p → p ≤ bestOwn v s 0
 unfolding better
-bid-best v {s} {p} o = ltb-false (bestOwn v s 0) p (is-false (ltb (bestOwn v s 0) p) (λ h. own-best v o h))
+bid-best v z {s} {p} o = ltb-false (bestOwn v s 0) p (is-false (ltb (bestOwn v s 0) p) (λ h. own-best v z o h))
 
-pub offer-best : (v : Venue) {s p : ℕ} → 0 < p → Own v s 1 p → (0 < bestOwn v s 1) × (bestOwn v s 1 ≤ p)
-offer-best v {s} {p} some o = go (held q) refl (ltb p q) refl (λ h. own-best v o h)
+pub offer-best : (v : Venue) → Shown v → {s p : ℕ} → 0 < p → Own v s 1 p → (0 < bestOwn v s 1) × (bestOwn v s 1 ≤ p)
+offer-best v z {s} {p} some o = go (held q) refl (ltb p q) refl (λ h. own-best v z o h)
   where
     q : ℕ
     q = bestOwn v s 1

@@ -18,7 +18,7 @@ use Rattle.rules.specs.Words.{complexAt}
 use Rattle.rules.specs.Records.{ForAll, Report, answer, trade, pair, generated, removed, crossed, cancelled}
 use Rattle.rules.specs.Effects.{Effect, nothing, report, _⟫_, Turn, ended, turned, repeat}
 use Rattle.rules.specs.Removal.{remove, removeOf}
-use Rattle.rules.specs.Standing.{verdict, settle}
+use Rattle.rules.specs.Standing.{verdict, settle, showAgain}
 use Rattle.rules.specs.Trading.{fillRegular, tradeWith, take, pairOff}
 use Rattle.rules.specs.Order.{meet, hit, meetTurn, enterRegular, order}
 use Rattle.rules.specs.Generation.{makes, make, generateLeg, generate}
@@ -85,7 +85,7 @@ module _ (P : Report → Type 0) (others : Others P) where
 
   pub all-settle : (v : Venue) → All P (settle v)
   unfolding settle
-  all-settle v = all-remove (verdict v) v
+  all-settle v = all-remove (verdict (showAgain v)) (showAgain v)
 
   all-trade : (x d i k : ℕ) (v : Venue) → All P (tradeWith x d i k v)
   unfolding tradeWith

@@ -20,7 +20,7 @@ use Rattle.rules.specs.Words.{opposite, noLegging, placeOf, leggingAt, s
 use Rattle.rules.specs.Settings.{figureNow, increment, percent}
 use Rattle.rules.specs.Prices.{better, bestRegular, bestSize, ownPrice, clearPrice, marketBest, away, taken1, taken2, inBand}
 use Rattle.rules.specs.Removal.{remove, stay, stayers}
-use Rattle.rules.specs.Standing.{parentOf, bothOpen, shownWell, pairs, verdictOf, verdict, settle, otherClear, otherSize, otherLeg}
+use Rattle.rules.specs.Standing.{parentOf, bothOpen, shownWell, pairs, verdictOf, verdict, showAgain, settle, otherClear, otherSize, otherLeg}
 
 -- what stands at a place is what stood there, or nothing
 unfoldable pub Kept : Legging → Legging → Type 0
@@ -129,9 +129,9 @@ module _ {v w : Venue} (t : Thinned v w) where
       go false h = refl
 
 -- settling: what passes its test before the failing ones go passes it after
-pub settle-keeps : (v : Venue) (n : ℕ) (l : Legging) → verdict v n l ≡ Stands → verdict (settle v .venue) n l ≡ Stands
+pub settle-keeps : (v : Venue) (n : ℕ) (l : Legging) → verdict (showAgain v) n l ≡ Stands → verdict (settle v .venue) n l ≡ Stands
 unfolding settle
-settle-keeps v = verdict-kept (remove-thins (verdict v) v)
+settle-keeps v = verdict-kept (remove-thins (verdict (showAgain v)) (showAgain v))
 
 -- a free place has nothing to fail
 pub free-stands : (w : Venue) (n : ℕ) (l : Legging) → held (l .quantity) ≡ false → verdict w n l ≡ Stands
@@ -157,4 +157,4 @@ module _ (v w : Venue) (kept : (n : ℕ) (l : Legging) → verdict v n l ≡ Sta
 
 pub settle-stands : (v : Venue) (i : ℕ) → verdict (settle v .venue) i (getD (settle v .venue .legging) i noLegging) ≡ Stands
 unfolding settle remove withLegging
-settle-stands v i = rw zero-add at (stayers-stand v (settle v .venue) (settle-keeps v) 0 (v .legging) i)
+settle-stands v i = rw zero-add at (stayers-stand (showAgain v) (settle v .venue) (settle-keeps v) 0 (showAgain v .legging) i)

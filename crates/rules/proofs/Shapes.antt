@@ -16,6 +16,7 @@ use Rattle.rules.specs.Settings.{enterEdition}
 use Rattle.rules.specs.Messages.{messageOf}
 use Rattle.rules.specs.Effects.{Effect, nothing, report, _⟫_}
 use Rattle.rules.specs.Removal.{remove}
+use Rattle.rules.specs.Standing.{showAgain}
 use Rattle.rules.specs.Trading.{fillRegular, fillComplex, putRegular, putComplex}
 use Rattle.rules.specs.Order.{order, enterRegular}
 use Rattle.rules.specs.Generation.{placed, makes, make, generateLeg, generate}
@@ -23,6 +24,7 @@ use Rattle.rules.specs.Complex.{work, complex, sweep}
 use Rattle.rules.specs.Places.{holdsRegular, holdsComplex, closeGaps}
 use Rattle.rules.specs.Refusals.{refusal}
 use Rattle.rules.specs.Step.{setAway, setStatus, setFigure, perform, accept, answered, step}
+use Rattle.rules.proofs.Again.{again-fewer}
 use Rattle.rules.proofs.Cases.{if-by}
 use Rattle.rules.proofs.Closing.{length-packed}
 use Rattle.rules.proofs.Keeping.{Lasts, keeps-each, keeps-settle, keeps-matching, keeps-work, keeps-cancel}
@@ -37,11 +39,12 @@ pub record Sized (r c l s e : ℕ) (v : Venue) : Type 0 where
 
 module _ {r c l s e : ℕ} where
   lasts : Lasts (Sized r c l s e)
-  unfolding fillRegular fillComplex remove withRegular withComplex withLegging
+  unfolding fillRegular fillComplex remove showAgain withRegular withComplex withLegging
   lasts = record {
     fillR = λ i k v z. record { regular = length-set (v .regular) i _ ∙ z .regular; complex = z .complex; legging = z .legging; series = z .series; editions = z .editions };
     fillC = λ i k v z. record { regular = z .regular; complex = length-set (v .complex) i _ ∙ z .complex; legging = z .legging; series = z .series; editions = z .editions };
     gone = λ f v z. record { regular = z .regular; complex = z .complex; legging = length-stayers f 0 (v .legging) ∙ z .legging; series = z .series; editions = z .editions };
+    again = λ v z. record { regular = again-fewer v .same ∙ z .regular; complex = z .complex; legging = z .legging; series = z .series; editions = z .editions };
   }
 
   placed-sized : (n : ℕ) (x : Legging) (v : Venue) → Sized r c l s e v → Sized r c l s e (placed n x v)

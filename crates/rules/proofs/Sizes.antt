@@ -3,7 +3,7 @@ use mathlib.Core.Path.{_∙_, _≡_, refl, sym}
 use mathlib.Core.Bool.{Bool, false, false≢true, true, true≢false}
 use mathlib.Core.Logic.{_≢_}
 use mathlib.Core.List.{List, [], _∷_}
-use Prim.Native.Nat.{_+_, _<_, _≤_, suc, zero, ℕ}
+use Prim.Native.Nat.{_+_, _-_, _<_, _≤_, min, suc, zero, ℕ}
 use native.Mathlib.Nat.{add-assoc, zero-add}
 use native.Mathlib.Omega.{arith}
 use lib.Dec.{eqb}
@@ -17,33 +17,70 @@ use Rattle.rules.specs.Words.{noRegular, opposite, regularAt, withRegula
 use Rattle.rules.specs.Prices.{bestIn, bestRegular, bestSize, better, betterOf, restsAt, shown, showsAt, showsFor, sizeIn}
 use Rattle.rules.specs.Standing.{otherClear, otherLeg, otherSize}
 use Rattle.rules.specs.Trading.{fillRegular, lessRegular}
+use Rattle.rules.specs.Order.{atOnce}
 use Rattle.rules.proofs.Better.{is-false}
-use Rattle.rules.proofs.Filling.{reg}
+use Rattle.rules.proofs.Filling.{placewise-set, reg}
 use Rattle.rules.proofs.Settling.{clear-best}
-use Rattle.rules.proofs.Tests.{and-false, and-l, and-r, and-true, held-pos, if-held, pos-held}
+use Rattle.rules.proofs.Tests.{and-false, and-l, and-r, and-true, free-none, held-pos, if-held, pos-held}
 
 -- What an order shows -------------------------------------------------------------------------
 
--- All that is asked of the shown size: none above does more than cite these laws. That it is the whole quantity is asked for the bytes of a message alone.
-pub shown-whole : (o : Regular) → shown o ≡ o .quantity
-unfolding shown
-shown-whole o = refl
-
+-- All that is asked of the shown size: none above does more than cite these laws.
 pub shown-most : (o : Regular) → shown o ≤ o .quantity
 unfolding shown
 shown-most o = omega arith
+
+-- what is not shown is reserve
+pub shown-rest : (o : Regular) → o .quantity - shown o ≤ o .reserve
+unfolding shown
+shown-rest o = omega arith
 
 pub shown-less : (k : ℕ) (o : Regular) → k ≤ shown o → shown (lessRegular k o) + k ≡ shown o
 unfolding shown lessRegular
 shown-less k o le = omega arith
 
-pub shown-some : (o : Regular) → held (o .quantity) ≡ true → held (shown o) ≡ true
+pub shown-lessens : (k : ℕ) (o : Regular) → shown (lessRegular k o) ≡ shown o - k
+unfolding shown lessRegular
+shown-lessens k o = omega arith
+
+-- no fill makes an order show more
+pub fill-shown : (j q : ℕ) (v : Venue) (i : ℕ) → shown (reg (fillRegular j q v) i) ≤ shown (reg v i)
+unfolding fillRegular withRegular regularAt
+fill-shown j q v i =
+    let less : shown (lessRegular q (reg v j)) ≤ shown (reg v j) = (let e = shown-lessens q (reg v j) in omega arith) in
+    placewise-set noRegular (λ (a b : Regular). shown a ≤ shown b) (λ _. omega arith) (v .regular) j (lessRegular q (reg v j)) less .lesser i
+
+-- an order without reserve shows all that is left of it
+pub shown-whole : (o : Regular) → o .reserve ≡ 0 → shown o ≡ o .quantity
 unfolding shown
-shown-some o h = h
+shown-whole o r = omega arith
 
 pub shown-none : (o : Regular) → held (o .quantity) ≡ false → held (shown o) ≡ false
 unfolding shown
-shown-none o h = h
+shown-none o h = let z : o .quantity - o .reserve ≡ 0 = (let q = free-none (o .quantity) h in omega arith) in rw z
+
+-- what can be traded at once: what it shows where it shows some, else all that is left of it
+pub once-shown : (o : Regular) → held (shown o) ≡ true → atOnce o ≡ shown o
+unfolding atOnce
+once-shown o h = rw h
+
+pub once-left : (o : Regular) → held (shown o) ≡ false → atOnce o ≡ o .quantity
+unfolding atOnce
+once-left o h = rw h
+
+pub once-most : (o : Regular) → atOnce o ≤ o .quantity
+once-most o = go (held (shown o)) refl
+  where
+    go : (b : Bool) → held (shown o) ≡ b → atOnce o ≤ o .quantity
+    go true h = let z = shown-most o in rw (once-shown o h) z
+    go false h = rw (once-left o h) (omega arith)
+
+pub once-some : (o : Regular) → 0 < o .quantity → 0 < atOnce o
+once-some o p = go (held (shown o)) refl
+  where
+    go : (b : Bool) → held (shown o) ≡ b → 0 < atOnce o
+    go true h = rw (once-shown o h) (held-pos (shown o) h)
+    go false h = rw (once-left o h) p
 
 pub shows-held : (s d : ℕ) (o : Regular) → showsAt s d o ≡ true → held (o .quantity) ≡ true
 unfolding showsAt
@@ -52,11 +89,10 @@ shows-held s d o z =
     let b = shown-most o in
     pos-held (o .quantity) (omega arith)
 
--- what rests shows, and what shows rests
-pub rests-shows : (s d : ℕ) (o : Regular) → restsAt s d o ≡ true → showsAt s d o ≡ true
+-- what rests and has some shown size shows, and what shows rests
+pub rests-shows : (s d : ℕ) (o : Regular) → held (shown o) ≡ true → restsAt s d o ≡ true → showsAt s d o ≡ true
 unfolding restsAt showsAt
-rests-shows s d o z =
-    let a = shown-some o (search (and-l, and-r, z)) in
+rests-shows s d o a z =
     let b : eqb (o .series) s ≡ true = search (and-l, and-r, z) in
     let c : eqb (o .side) d ≡ true = search (and-l, and-r, z) in
     rw (a, b, c)
@@ -137,6 +173,32 @@ size-less s d p q [] i f h le = absurd (omega arith)
 size-less s d p q (o ∷ os) zero f h le = rw (size-cons s d p o os, size-cons, part-less s d p q o h le) (add-assoc _ _ _)
 size-less s d p q (o ∷ os) (suc i) f h le =
     rw (size-cons s d p o os, size-cons, size-less s d p q os i (omega arith) h le) (omega arith)
+
+-- one place written, at a price and side: an order there adds what it shows
+size-put : (s d p : ℕ) (os : List Regular) (i : ℕ) (x : Regular) → i < length os →
+    sizeIn s d p os + part s d p x ≡ sizeIn s d p (set os i x) + part s d p (getD os i noRegular)
+size-put s d p [] i x f = absurd (omega arith)
+size-put s d p (o ∷ os) zero x f = rw (size-cons s d p o os, size-cons) (omega arith)
+size-put s d p (o ∷ os) (suc i) x f = let z = size-put s d p os i x (omega arith) in rw (size-cons s d p o os, size-cons) (omega arith)
+
+part-there : (s d p : ℕ) (o : Regular) → o .series ≡ s → o .side ≡ d → o .price ≡ p → part s d p o ≡ shown o
+unfolding part showsFor showsAt
+part-there s d p o a b c = simp (eq-eqb (o .series) s a, eq-eqb (o .side) d b, eq-eqb (o .price) p c, and-true, if-held)
+
+-- filling the order at place i for k takes what of k it shows from the size
+pub size-filled : (s d p k : ℕ) (os : List Regular) (i : ℕ) → i < length os →
+    getD os i noRegular .series ≡ s → getD os i noRegular .side ≡ d → getD os i noRegular .price ≡ p →
+    sizeIn s d p os ≡ min k (shown (getD os i noRegular)) + sizeIn s d p (set os i (lessRegular k (getD os i noRegular)))
+size-filled s d p k os i f a b c =
+    let o = getD os i noRegular in
+    let z = less-shape k o in
+    omega (
+      arith,
+      size-put s d p os i (lessRegular k o) f,
+      part-there s d p o a b c,
+      part-there s d p (lessRegular k o) (z .0 ∙ a) (z .1 ∙ b) (z .2 ∙ c),
+      shown-lessens k o,
+    )
 
 -- where no order is at the price, there is no size
 pub size-none : (s d p : ℕ) (os : List Regular) →

@@ -1,4 +1,5 @@
--- What taking costs: at most the trade with one maker that is left partly filled; and where it takes all of a level it pays.
+-- What taking costs: at most the trade with one maker that still shows some; and where it takes all of a level it pays. A maker whose shown size is gone pays
+-- for its trade; that it may have a reserve left is no matter, as no more is taken from it.
 use mathlib.Core.Path.{_≡_, ap, refl}
 use Prim.Native.Nat.{ℕ, zero, suc, _+_, _-_, _≤_, _<_, min}
 use native.Mathlib.Omega.{arith}
@@ -13,56 +14,55 @@ use Rattle.rules.specs.Trading.{fillRegular, tradeWith, take}
 use Rattle.rules.specs.Lengths.{recordLength, perRegular}
 use Rattle.rules.proofs.Cases.{take-by}
 use Rattle.rules.proofs.Picking.{At}
-use Rattle.rules.proofs.Sizes.{shown-whole, size-none}
+use Rattle.rules.proofs.Sizes.{size-none}
 use Rattle.rules.proofs.Taking.{left, some-shown}
 use Rattle.rules.proofs.Tests.{free-none, held-pos}
 use Rattle.rules.proofs.Summing.{due, due-none, due-most}
-use Rattle.rules.proofs.Worth.{worth, fill-le, fill-frees, spent, spent-nothing, spent-report, spent-then}
+use Rattle.rules.proofs.Worth.{worth, fill-le, fill-shows, spent, spent-nothing, spent-report, spent-then}
 
--- what a maker that is freed pays for beside its own trade: a trade and a pair
+-- what a maker whose shown size is gone pays for beside its own trade when legging in: a trade and a pair
 abbrev pub spare : ℕ
 spare = 38
 
 -- a trade with the order at place i
-pub trade-spent : (x d i k : ℕ) (v : Venue) → spent (tradeWith x d i k v) ≡ 22 + worth (fillRegular i k v)
+pub trade-spent : (a b x d i k : ℕ) (v : Venue) → spent a b (tradeWith x d i k v) ≡ 22 + worth a b (fillRegular i k v)
 unfolding tradeWith recordLength
-trade-spent x d i k v = spent-report (trade (regularAt v i .series) d (regularAt v i .price) k x (regularAt v i .id)) (fillRegular i k v)
+trade-spent a b x d i k v = spent-report a b (trade (regularAt v i .series) d (regularAt v i .price) k x (regularAt v i .id)) (fillRegular i k v)
 
-module _ (x s d p : ℕ) where
+module _ (a b : ℕ) (pays : 22 ≤ a) (x s d p : ℕ) where
   -- one trade and then the rest
-  then-spent : (i q : ℕ) (v : Venue) (f : Venue → Effect) → spent (tradeWith x d i q v ⟫ f) ≡ 22 + spent (f (fillRegular i q v))
+  then-spent : (i q : ℕ) (v : Venue) (f : Venue → Effect) → spent a b (tradeWith x d i q v ⟫ f) ≡ 22 + spent a b (f (fillRegular i q v))
   unfolding tradeWith report
   then-spent i q v f =
-      let a = spent-then (tradeWith x d i q v) f in
-      let b = trade-spent x d i q v in
+      let y = spent-then a b (tradeWith x d i q v) f in
+      let z = trade-spent a b x d i q v in
       omega arith
 
   -- the order o at place i is met first
   abbrev Met : Venue → (i : ℕ) → Regular → Type 0
   Met v i o = At noRegular (showsFor s (opposite d) p) (v .regular) i o
 
-  frees : (v : Venue) (i : ℕ) (o : Regular) → Met v i o → (q : ℕ) → shown o ≤ q → worth (fillRegular i q v) + perRegular ≤ worth v
+  frees : (v : Venue) (i : ℕ) (o : Regular) → Met v i o → (q : ℕ) → shown o ≤ q → worth a b (fillRegular i q v) + a ≤ worth a b v
   unfolding regularAt
   frees v i o m q le =
-      let e : regularAt v i .quantity ≡ o .quantity = ap (λ (y : Regular). y .quantity) (m .at) in
-      let w = shown-whole o in
+      let e : shown (regularAt v i) ≡ shown o = ap shown (m .at) in
       let z = some-shown x s d p i o v m in
-      fill-frees i q v (omega arith) (omega arith)
+      fill-shows a b i q v (omega arith) (omega arith)
 
   -- taking costs at most one trade
   abbrev Cheap : (k : ℕ) → Venue → Effect → Type 0
-  Cheap k v e = (spent e ≤ worth v + 22) × (k ≡ 0 → spent e ≤ worth v)
+  Cheap k v e = (spent a b e ≤ worth a b v + 22) × (k ≡ 0 → spent a b e ≤ worth a b v)
 
   cheap-none : (k : ℕ) (v : Venue) → Cheap k v (nothing v)
-  cheap-none k v = let z = spent-nothing v in (omega arith, λ _. omega arith)
+  cheap-none k v = let z = spent-nothing a b v in (omega arith, λ _. omega arith)
 
   cheap-trade : (k : ℕ) (v : Venue) (i : ℕ) (o : Regular) (q : ℕ) → q ≡ min k (shown o) → 0 < k → Met v i o → (f : Venue → Effect) →
       Cheap (k - q) (fillRegular i q v) (f (fillRegular i q v)) → Cheap k v (tradeWith x d i q v ⟫ f)
   cheap-trade k v i o q is h m f ih = (go (decLe (shown o) k), λ e. absurd (omega arith))
     where
-      go : Dec (shown o ≤ k) → spent (tradeWith x d i q v ⟫ f) ≤ worth v + 22
+      go : Dec (shown o ≤ k) → spent a b (tradeWith x d i q v ⟫ f) ≤ worth a b v + 22
       go (yes le) = let w = frees v i o m q (omega arith) in omega (arith, ih .0, then-spent i q v f)
-      go (no gt) = let w = fill-le i q v in omega (arith, ih .1 (omega arith), then-spent i q v f)
+      go (no gt) = let w = fill-le a b i q v in omega (arith, ih .1 (omega arith), then-spent i q v f)
 
   takes-cheaply : (fuel k : ℕ) (v : Venue) → Cheap k v (take fuel x s d p k v)
   takes-cheaply zero k v = unfold take in (cheap-none k v)
@@ -70,29 +70,30 @@ module _ (x s d p : ℕ) where
       take-by (Cheap k v) fuel x s d p k v (λ _. cheap-none k v) (λ _ _. cheap-none k v)
       (λ h i o m. cheap-trade k v i o _ refl (held-pos k h) m _ (takes-cheaply fuel _ _))
 
-  pub take-cheap : (fuel k : ℕ) (v : Venue) → spent (take fuel x s d p k v) ≤ worth v + 22
+  pub take-cheap : (fuel k : ℕ) (v : Venue) → spent a b (take fuel x s d p k v) ≤ worth a b v + 22
   take-cheap fuel k v = takes-cheaply fuel k v .0
 
-  -- where it takes all that there is at the price, it frees every maker: with some there it pays for a trade and a pair besides
+-- where it takes all that there is at the price, no maker shows any more: with some there it pays for a trade and a pair besides
+module _ (a b : ℕ) (pays : perRegular ≤ a) (x s d p : ℕ) where
   abbrev size : Venue → ℕ
   size v = sizeIn s (opposite d) p (v .regular)
 
   abbrev Clears : Venue → Effect → Type 0
-  Clears v e = spent e + due spare (size v) ≤ worth v
+  Clears v e = spent a b e + due spare (size v) ≤ worth a b v
 
   clears-none : (v : Venue) → size v ≡ 0 → Clears v (nothing v)
-  clears-none v e = rw (e, due-none spare, spent-nothing v) (omega arith)
+  clears-none v e = rw (e, due-none spare, spent-nothing a b v) (omega arith)
 
-  clears-trade : (k : ℕ) (v : Venue) (i : ℕ) (o : Regular) (q : ℕ) → q ≡ min k (shown o) → size v ≤ k → Met v i o → (f : Venue → Effect) →
+  clears-trade : (k : ℕ) (v : Venue) (i : ℕ) (o : Regular) (q : ℕ) → q ≡ min k (shown o) → size v ≤ k → Met a b (omega arith) x s d p v i o → (f : Venue → Effect) →
       (size (fillRegular i q v) ≤ k - q → Clears (fillRegular i q v) (f (fillRegular i q v))) → Clears v (tradeWith x d i q v ⟫ f)
   clears-trade k v i o q is le m f ih =
       let all = left x s d p i o v m (shown o) (omega arith) in
       let some = left x s d p i o v m q (omega arith) in
-      let w = frees v i o m q (omega arith) in
+      let w = frees a b (omega arith) x s d p v i o m q (omega arith) in
       let y = due-most spare (size v) in
-      omega (arith, ih (omega arith), then-spent i q v f)
+      omega (arith, ih (omega arith), then-spent a b (omega arith) x s d p i q v f)
 
-  pub take-clears : (fuel k : ℕ) (v : Venue) → size v ≤ k → k ≤ fuel → spent (take fuel x s d p k v) + due spare (size v) ≤ worth v
+  pub take-clears : (fuel k : ℕ) (v : Venue) → size v ≤ k → k ≤ fuel → spent a b (take fuel x s d p k v) + due spare (size v) ≤ worth a b v
   take-clears zero k v le enough = unfold take in (clears-none v (omega arith))
   take-clears (suc fuel) k v le enough =
       take-by (Clears v) fuel x s d p k v (λ h. clears-none v (let z = free-none k h in omega arith)) (λ _ a. clears-none v (size-none s (opposite d) p (v .regular) a))

@@ -14,6 +14,7 @@ use Rattle.rules.specs.Base.{Choice, held, if_then_else_, nobody, picked
 use Rattle.rules.specs.Words.{complexAt, earlierComplex, noComplex, withLegging, withRegular}
 use Rattle.rules.specs.Effects.{Effect, _⟫_, nothing, report}
 use Rattle.rules.specs.Removal.{remove}
+use Rattle.rules.specs.Standing.{showAgain}
 use Rattle.rules.specs.Trading.{fillRegular}
 use Rattle.rules.specs.Generation.{generate, generateLeg, make, makes, placed}
 use Rattle.rules.specs.Complex.{each, nextAbove, work}
@@ -121,6 +122,7 @@ work-fewer i v =
       fillR = λ i k w h. unfold fillRegular withRegular in h;
       fillC = λ i k w h. fewerC-trans (fill-fewerC i k w) h;
       gone = λ f w h. unfold remove withLegging in h;
+      again = λ w h. unfold showAgain withRegular in h;
     }) i v (fewerC-refl _)
 
 pub leg-same : (v : Venue) (c : Complex) (s d : ℕ) → generateLeg c s d v .venue .complex ≡ v .complex

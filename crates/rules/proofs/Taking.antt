@@ -19,9 +19,9 @@ use Rattle.rules.specs.Trading.{fillRegular, lessRegular, putRegular, ta
 use Rattle.rules.specs.Sums.{contracts, contractsAt, total}
 use Rattle.rules.proofs.Adding.{count-elsewhere, count-taker}
 use Rattle.rules.proofs.Cases.{take-by}
-use Rattle.rules.proofs.Filling.{Fewer, fewer-refl, fewer-trans, fill-fewer, fill-last, reg}
+use Rattle.rules.proofs.Filling.{Fewer, fewer-refl, fewer-trans, fill-fewer, fill-last, filled-other, reg}
 use Rattle.rules.proofs.Picking.{At, Chosen, first-chosen, first-set}
-use Rattle.rules.proofs.Sizes.{Elsewhere, elsewhere-refl, elsewhere-trans, fill-apart, fill-elsewhere, no-price, not-there, rests-series, rests-side, shown-most, shows-rests, size-less, size-none}
+use Rattle.rules.proofs.Sizes.{Elsewhere, elsewhere-refl, elsewhere-trans, fill-apart, fill-elsewhere, no-price, not-there, rests-series, rests-side, shows-rests, size-less, size-none}
 use Rattle.rules.proofs.Tests.{and-l, and-r, free-none, held-pos}
 
 -- How many are had ----------------------------------------------------------------------------
@@ -68,11 +68,11 @@ module _ (x s d p : ℕ) where
 
 -- The chain of trades -------------------------------------------------------------------------
 
--- trades of side-d taker x in series s at price p, from v to w
+-- trades of side-d taker x in series s at price p, from v to w, each for no more than the maker shows
 pub data Chain (x s d p : ℕ) : Venue → List Report → Venue → Type 0 where
   no-more : {v : Venue} → Chain x s d p v [] v
   traded : {v : Venue} (i q : ℕ) {rs : List Report} {w : Venue} →
-      i < length (v .regular) → showsAt s (opposite d) (regularAt v i) ≡ true → regularAt v i .price ≡ p → q ≤ regularAt v i .quantity →
+      i < length (v .regular) → showsAt s (opposite d) (regularAt v i) ≡ true → regularAt v i .price ≡ p → q ≤ shown (regularAt v i) →
       Chain x s d p (fillRegular i q v) rs w →
       Chain x s d p v (trade (regularAt v i .series) d (regularAt v i .price) q x (regularAt v i .id) ∷ rs) w
 
@@ -93,7 +93,7 @@ module _ (x s d p k i : ℕ) (o : Regular) (v : Venue) (h : At noRegular (showsF
   step-chain : (f : Venue → Effect) → ((w : Venue) → Chain x s d p w (f w .reports) (f w .venue)) →
       Chain x s d p v ((tradeWith x d i (min k (shown o)) v ⟫ f) .reports) ((tradeWith x d i (min k (shown o)) v ⟫ f) .venue)
   unfolding _⟫_ tradeWith report
-  step-chain f ih = traded i (min k (shown o)) (h .fits) shows at-price (rw is-there (let z = shown-most o in omega arith)) (ih _)
+  step-chain f ih = traded i (min k (shown o)) (h .fits) shows at-price (rw is-there (omega arith)) (ih _)
 
 pub take-chain : (x s d p fuel k : ℕ) (v : Venue) → Chain x s d p v (take fuel x s d p k v .reports) (take fuel x s d p k v .venue)
 unfolding nothing
@@ -126,6 +126,14 @@ module _ {x s d p : ℕ} where
       let h = shows-rests s (opposite d) (regularAt v i) z in
       chain-apart t e r ne c
       ∙ fill-apart t e r i q v (unfold regularAt in (λ a b k. ne (sym (rests-series s (opposite d) _ h) ∙ a) (sym (rests-side s (opposite d) _ h) ∙ b) (sym g ∙ k)))
+
+  -- and every order of another series
+  pub chain-place : {v w : Venue} {rs : List Report} → Chain x s d p v rs w → (n : ℕ) → reg v n .series ≢ s → reg w n ≡ reg v n
+  unfolding regularAt
+  chain-place no-more n ne = refl
+  chain-place (traded {v = v} i q f z e le c) n ne =
+      let same = filled-other i q v n (λ g. ne (ap (λ (a : ℕ). reg v a .series) g ∙ shows-series s (opposite d) (reg v i) z)) in
+      chain-place c n (λ g. ne (sym (ap (λ (o : Regular). o .series) same) ∙ g)) ∙ same
 
   pub chain-last : {v w : Venue} {rs : List Report} → Chain x s d p v rs w → w .last ≡ v .last
   chain-last no-more = refl

@@ -3,7 +3,7 @@
 use mathlib.Core.Path.{_∙_, _≡_, refl, subst, sym}
 use mathlib.Core.Bool.{Bool, _&&_, false, false≢true, not, true}
 use mathlib.Core.List.{List, [], _++_, _∷_}
-use Prim.Native.Nat.{_+_, _-_, _<_, _≤_, suc, zero, ℕ}
+use Prim.Native.Nat.{_+_, _-_, _<_, _≤_, min, suc, zero, ℕ}
 use native.Mathlib.Omega.{arith}
 use lib.Dec.{eqb, leb}
 use lib.IntN.{negsuc, pos, ℤ}
@@ -20,12 +20,14 @@ use Rattle.rules.specs.Base.{held}
 use Rattle.rules.specs.Words.{complexAt, isAway, isClass, isId, isLimit, isPrice, isQuantity, isSeries, isSide, isStatus, noComplex, noEdition, noLegging, noRegular, notListed, regularAt, statusOf, withComplex, withEditions, withLast, withLegging, withRegular, withSeries, within}
 use Rattle.rules.specs.Settings.{enterEdition, freeEdition, isIncrement, percentage}
 use Rattle.rules.specs.Records.{ForAll, Report, FourBytes}
+use Rattle.rules.specs.Standing.{showAgain, showsAgain}
 use Rattle.rules.specs.Trading.{fillComplex, fillRegular, lessComplex, lessRegular}
 use Rattle.rules.specs.Generation.{placed}
 use Rattle.rules.specs.Places.{blankLegging, closeGaps}
 use Rattle.rules.specs.Refusals.{complexInRange, inRange, regularInRange}
 use Rattle.rules.specs.Step.{setAway, setFigure, setStatus}
 use Rattle.rules.specs.Sound.{figureInRange, listedInRange}
+use Rattle.rules.proofs.Again.{again-at}
 use Rattle.rules.proofs.Editions.{Dated}
 use Rattle.rules.proofs.Filling.{cx, lg, reg}
 use Rattle.rules.proofs.Gaps.{was, wasC}
@@ -100,6 +102,13 @@ quantity-less q k h t =
     let b = leb-true q 10000 (and-r (leb 1 q) _ h) in
     and-in _ _ (le-leb 1 (q - k) (omega arith)) (le-leb (q - k) 10000 (omega arith))
 
+display-less : (q k x : ℕ) → within 1 q x ≡ true → held (q - k) ≡ true → within 1 (q - k) (min x (q - k)) ≡ true
+unfolding within
+display-less q k x h t =
+    let a = held-pos (q - k) t in
+    let b = leb-true 1 x (and-l _ (leb x q) h) in
+    and-in _ _ (le-leb 1 (min x (q - k)) (omega arith)) (le-leb (min x (q - k)) (q - k) (omega arith))
+
 still : (q k : ℕ) → held (q - k) ≡ true → held q ≡ true
 still q k t = let a = held-pos (q - k) t in pos-held q (omega arith)
 
@@ -118,8 +127,13 @@ less-fits k o f = record {
       let c : isSide (o .side) ≡ true = search (and-l, and-r, z) depth 8 in
       let d : isPrice (o .price) ≡ true = search (and-l, and-r, z) depth 8 in
       let e : isQuantity (o .quantity) ≡ true = search (and-l, and-r, z) depth 8 in
-      rw (a, b, c, d, quantity-less (o .quantity) k e t));
+      let x : within 1 (o .quantity) (o .display) ≡ true = search (and-l, and-r, z) depth 8 in
+      rw (a, b, c, d, quantity-less (o .quantity) k e t, display-less (o .quantity) k (o .display) x t));
 }
+
+again-fits : (o : Regular) → RegFits o → RegFits (showsAgain o)
+unfolding showsAgain regularInRange
+again-fits o f = record { id = f .id; series = f .series; side = f .side; price = f .price; quantity = f .quantity; ok = f .ok }
 
 lessC-fits : (k : ℕ) (c : Complex) → CxFits c → CxFits (lessComplex k c)
 unfolding lessComplex complexInRange
@@ -175,6 +189,10 @@ putC-ranged i c v f r = with-complex r _ (set-each CxFits noComplex (v .complex)
 pub fill-ranged : (i k : ℕ) (v : Venue) → Ranged v → Ranged (fillRegular i k v)
 unfolding fillRegular regularAt
 fill-ranged i k v r = put-ranged i _ v (less-fits k (reg v i) (r .regular i)) r
+
+pub again-ranged : (v : Venue) → Ranged v → Ranged (showAgain v)
+unfolding showAgain
+again-ranged v r = with-regular r _ (λ i. unfold withRegular in (subst RegFits (sym (again-at v i)) (again-fits (reg v i) (r .regular i))))
 
 pub fillC-ranged : (i k : ℕ) (v : Venue) → Ranged v → Ranged (fillComplex i k v)
 unfolding fillComplex complexAt

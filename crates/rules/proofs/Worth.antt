@@ -1,10 +1,12 @@
--- What a venue is worth: the bytes that the going of its orders still pays for. An effect costs c where what it writes and what the venue left is
--- worth come to at most what the venue was worth and c more.
-use mathlib.Core.Path.{_≡_, refl}
+-- What a venue is worth: the bytes that the going of its orders still pays for. A regular order pays a when what it shows is gone, and b when all of it is:
+-- the rates differ by what is done. An effect costs c where what it writes and what the venue left is worth come to at most what the venue was worth and c more.
+use mathlib.Core.Path.{_∙_, _≡_, refl, sym}
 use mathlib.Core.Bool.{Bool, true, false}
-use mathlib.Core.List.{List, [], _∷_}
+use mathlib.Core.List.{List, [], _∷_, map}
+use mathlib.Core.Logic.{_≢_}
 use Prim.Native.Nat.{ℕ, suc, _+_, _*_, _/_, _%_, _≤_, _<_, min}
 use native.Mathlib.Omega.{arith}
+use native.Mathlib.Decide.{decLe}
 use lib.ListN.{length, length-append}
 use Rattle.rules.specs.declared.Regular.{Regular}
 use Rattle.rules.specs.declared.Complex.{Complex}
@@ -17,13 +19,19 @@ use Rattle.rules.specs.Words.{noRegular, noComplex, noLegging, regularAt
 use Rattle.rules.specs.Bytes.{bytes, framed}
 use Rattle.rules.specs.Records.{Report, answer, trade, pair, generated, removed, crossed, cancelled, encode, encodeAll}
 use Rattle.rules.specs.Effects.{Effect, nothing, report, _⟫_}
+use Rattle.rules.specs.Prices.{shown}
 use Rattle.rules.specs.Removal.{stay, goes, stayers, leavers, remove}
+use Rattle.rules.specs.Standing.{settle, showAgain, showsAgain, verdict}
 use Rattle.rules.specs.Trading.{lessRegular, lessComplex, fillRegular, fillComplex, putRegular, putComplex}
+use Rattle.rules.specs.Order.{atOnce}
 use Rattle.rules.specs.Generation.{placed}
 use Rattle.rules.specs.Sums.{total}
-use Rattle.rules.specs.Lengths.{recordLength, perRegular, perComplex, perLegging}
+use Rattle.rules.specs.Lengths.{recordLength, perComplex, perLegging}
+use Rattle.rules.proofs.Filling.{filled-other}
 use Rattle.rules.proofs.Adding.{total-append, total-then}
-use Rattle.rules.proofs.Summing.{sum, due, worths-most, put-more, fill-less, fill-gone, fill-both}
+use Rattle.rules.proofs.Sizes.{once-left, once-shown, shown-lessens}
+use Rattle.rules.proofs.Summing.{sum, due, due-most, worths-most, put-more, fill-less, fill-gone, fill-both}
+use Rattle.rules.proofs.Tests.{held-pos}
 
 -- Bytes ---------------------------------------------------------------------------------------
 
@@ -44,8 +52,11 @@ written (r ∷ rs) = rw (length-append (encode r) (encodeAll rs), lengths r, wri
 
 -- Worth ---------------------------------------------------------------------------------------
 
-unfoldable pub ofRegular : Regular → ℕ
-ofRegular o = due perRegular (o .quantity)
+unfoldable pub ofShown : (a : ℕ) → Regular → ℕ
+ofShown a o = due a (shown o)
+
+unfoldable pub ofLeft : (b : ℕ) → Regular → ℕ
+ofLeft b o = due b (o .quantity)
 
 unfoldable pub ofComplex : Complex → ℕ
 ofComplex c = due perComplex (c .quantity)
@@ -53,75 +64,120 @@ ofComplex c = due perComplex (c .quantity)
 unfoldable pub ofLegging : Legging → ℕ
 ofLegging l = due perLegging (l .quantity)
 
-unfoldable pub worth : Venue → ℕ
-worth v = sum ofRegular (v .regular) + sum ofComplex (v .complex) + sum ofLegging (v .legging)
+unfoldable pub worth : (a b : ℕ) → Venue → ℕ
+worth a b v = sum (ofShown a) (v .regular) + sum (ofLeft b) (v .regular) + sum ofComplex (v .complex) + sum ofLegging (v .legging)
 
-pub worth-most : (v : Venue) → worth v ≤ perRegular * length (v .regular) + perComplex * length (v .complex) + perLegging * length (v .legging)
-unfolding worth ofRegular ofComplex ofLegging
-worth-most v =
-    let a = worths-most perRegular (λ (o : Regular). o .quantity) noRegular refl (v .regular) in
-    let b = worths-most perComplex (λ (c : Complex). c .quantity) noComplex refl (v .complex) in
-    let c = worths-most perLegging (λ (l : Legging). l .quantity) noLegging refl (v .legging) in
-    omega arith
+no-shown : shown noRegular ≡ 0
+unfolding shown
+no-shown = refl
 
--- an order that is given a place adds at most its own worth
-pub put-worth : (i : ℕ) (o : Regular) (v : Venue) → worth (putRegular i o v) ≤ worth v + perRegular
-unfolding worth putRegular withRegular ofRegular
-put-worth i o v = let z = put-more perRegular (λ (x : Regular). x .quantity) noRegular refl i o (v .regular) in omega arith
+module _ (a b : ℕ) where
+  pub worth-most : (v : Venue) →
+      worth a b v ≤ a * length (v .regular) + b * length (v .regular) + perComplex * length (v .complex) + perLegging * length (v .legging)
+  unfolding worth ofShown ofLeft ofComplex ofLegging
+  worth-most v =
+      let s = worths-most a shown noRegular no-shown (v .regular) in
+      let r = worths-most b (λ (o : Regular). o .quantity) noRegular refl (v .regular) in
+      let c = worths-most perComplex (λ (c : Complex). c .quantity) noComplex refl (v .complex) in
+      let l = worths-most perLegging (λ (l : Legging). l .quantity) noLegging refl (v .legging) in
+      omega arith
 
-pub putC-worth : (i : ℕ) (c : Complex) (v : Venue) → worth (putComplex i c v) ≤ worth v + perComplex
-unfolding worth putComplex withComplex ofComplex
-putC-worth i c v = let z = put-more perComplex (λ (x : Complex). x .quantity) noComplex refl i c (v .complex) in omega arith
+  -- an order that is given a place adds at most its own worth
+  pub put-worth : (i : ℕ) (o : Regular) (v : Venue) → worth a b (putRegular i o v) ≤ worth a b v + (a + b)
+  unfolding worth putRegular withRegular ofShown ofLeft
+  put-worth i o v =
+      let s = put-more a shown noRegular no-shown i o (v .regular) in
+      let z = put-more b (λ (x : Regular). x .quantity) noRegular refl i o (v .regular) in
+      omega arith
 
-pub placed-worth : (n : ℕ) (l : Legging) (v : Venue) → worth (placed n l v) ≤ worth v + perLegging
-unfolding worth placed withLegging ofLegging
-placed-worth n l v = let z = put-more perLegging (λ (x : Legging). x .quantity) noLegging refl n l (v .legging) in omega arith
+  pub putC-worth : (i : ℕ) (c : Complex) (v : Venue) → worth a b (putComplex i c v) ≤ worth a b v + perComplex
+  unfolding worth putComplex withComplex ofComplex
+  putC-worth i c v = let z = put-more perComplex (λ (x : Complex). x .quantity) noComplex refl i c (v .complex) in omega arith
 
--- a fill adds no worth; where it frees a place, the order's worth goes
-module _ (i k : ℕ) (v : Venue) where
-  pub fill-le : worth (fillRegular i k v) ≤ worth v
-  unfolding worth fillRegular withRegular regularAt ofRegular lessRegular
-  fill-le = let z = fill-less perRegular (λ (x : Regular). x .quantity) noRegular refl lessRegular (λ _ _. refl) i k (v .regular) in omega arith
+  pub placed-worth : (n : ℕ) (l : Legging) (v : Venue) → worth a b (placed n l v) ≤ worth a b v + perLegging
+  unfolding worth placed withLegging ofLegging
+  placed-worth n l v = let z = put-more perLegging (λ (x : Legging). x .quantity) noLegging refl n l (v .legging) in omega arith
 
-  pub fill-frees : 0 < regularAt v i .quantity → regularAt v i .quantity ≤ k → worth (fillRegular i k v) + perRegular ≤ worth v
-  unfolding worth fillRegular withRegular regularAt ofRegular lessRegular
-  fill-frees p q = let z = fill-gone perRegular (λ (x : Regular). x .quantity) noRegular refl lessRegular (λ _ _. refl) i k (v .regular) p q in omega arith
+-- a fill adds no worth; where what an order shows is gone, or all of it, its worth goes
+module _ (a b i k : ℕ) (v : Venue) where
+  less-shown : sum (ofShown a) (fillRegular i k v .regular) ≤ sum (ofShown a) (v .regular)
+  unfolding fillRegular withRegular regularAt ofShown
+  less-shown = fill-less a shown noRegular no-shown lessRegular shown-lessens i k (v .regular)
 
-  pub fills-free : (j : ℕ) → 0 < regularAt v i .quantity → 0 < regularAt v j .quantity → k ≡ min (regularAt v i .quantity) (regularAt v j .quantity) →
-      worth (fillRegular j k (fillRegular i k v)) + perRegular ≤ worth v
-  unfolding worth fillRegular withRegular regularAt ofRegular lessRegular
-  fills-free j p q e = let z = fill-both perRegular (λ (x : Regular). x .quantity) noRegular refl lessRegular (λ _ _. refl) i j k (v .regular) p q e in omega arith
+  less-left : sum (ofLeft b) (fillRegular i k v .regular) ≤ sum (ofLeft b) (v .regular)
+  unfolding fillRegular withRegular regularAt ofLeft lessRegular
+  less-left = fill-less b (λ (x : Regular). x .quantity) noRegular refl lessRegular (λ _ _. refl) i k (v .regular)
 
-  pub fillC-le : worth (fillComplex i k v) ≤ worth v
+  pub fill-le : worth a b (fillRegular i k v) ≤ worth a b v
+  unfolding worth
+  fill-le = let x = less-shown in let y = less-left in unfold fillRegular withRegular in (omega arith)
+
+  pub fill-shows : 0 < shown (regularAt v i) → shown (regularAt v i) ≤ k → worth a b (fillRegular i k v) + a ≤ worth a b v
+  unfolding worth fillRegular withRegular regularAt ofShown
+  fill-shows p q = let z = fill-gone a shown noRegular no-shown lessRegular shown-lessens i k (v .regular) p q in let y = less-left in omega arith
+
+  pub fill-frees : 0 < regularAt v i .quantity → regularAt v i .quantity ≤ k → worth a b (fillRegular i k v) + b ≤ worth a b v
+  unfolding worth fillRegular withRegular regularAt ofLeft lessRegular
+  fill-frees p q = let z = fill-gone b (λ (x : Regular). x .quantity) noRegular refl lessRegular (λ _ _. refl) i k (v .regular) p q in let y = less-shown in omega arith
+
+-- two orders filled for the lesser of what the one has left and the other trades at once: the one is gone, or what the other traded
+module _ (a b i k : ℕ) (v : Venue) where
+  pub fills-free : (w : ℕ) → w ≤ a → w ≤ b → (j : ℕ) → i ≢ j → 0 < regularAt v i .quantity → 0 < regularAt v j .quantity →
+      k ≡ min (regularAt v i .quantity) (atOnce (regularAt v j)) → worth a b (fillRegular j k (fillRegular i k v)) + w ≤ worth a b v
+  fills-free w wa wb j ne p q e = go (decLe (regularAt v i .quantity) k) (held (shown (regularAt v j))) refl
+    where
+      x : worth a b (fillRegular i k v) ≤ worth a b v
+      x = fill-le a b i k v
+
+      y : worth a b (fillRegular j k (fillRegular i k v)) ≤ worth a b (fillRegular i k v)
+      y = fill-le a b j k (fillRegular i k v)
+
+      same : regularAt (fillRegular i k v) j ≡ regularAt v j
+      same = unfold regularAt in (filled-other i k v j (λ e. ne (sym e)))
+
+      go : Dec (regularAt v i .quantity ≤ k) → (t : Bool) → held (shown (regularAt v j)) ≡ t → worth a b (fillRegular j k (fillRegular i k v)) + w ≤ worth a b v
+      go (yes le) t h = let z = fill-frees a b i k v p le in omega (arith, y)
+      go (no gt) true h =
+          let s = once-shown (regularAt v j) h in
+          let z = fill-shows a b j k (fillRegular i k v) (rw same (held-pos (shown (regularAt v j)) h)) (rw same (omega arith)) in
+          omega (arith, x)
+      go (no gt) false h =
+          let s = once-left (regularAt v j) h in
+          let z = fill-frees a b j k (fillRegular i k v) (rw same q) (rw same (omega arith)) in
+          omega (arith, x)
+
+module _ (a b i k : ℕ) (v : Venue) where
+  pub fillC-le : worth a b (fillComplex i k v) ≤ worth a b v
   unfolding worth fillComplex withComplex complexAt ofComplex lessComplex
   fillC-le = let z = fill-less perComplex (λ (x : Complex). x .quantity) noComplex refl lessComplex (λ _ _. refl) i k (v .complex) in omega arith
 
-  pub fillC-frees : 0 < complexAt v i .quantity → complexAt v i .quantity ≤ k → worth (fillComplex i k v) + perComplex ≤ worth v
+  pub fillC-frees : 0 < complexAt v i .quantity → complexAt v i .quantity ≤ k → worth a b (fillComplex i k v) + perComplex ≤ worth a b v
   unfolding worth fillComplex withComplex complexAt ofComplex lessComplex
   fillC-frees p q = let z = fill-gone perComplex (λ (x : Complex). x .quantity) noComplex refl lessComplex (λ _ _. refl) i k (v .complex) p q in omega arith
 
   pub fillsC-free : (j : ℕ) → 0 < complexAt v i .quantity → 0 < complexAt v j .quantity → k ≡ min (complexAt v i .quantity) (complexAt v j .quantity) →
-      worth (fillComplex j k (fillComplex i k v)) + perComplex ≤ worth v
+      worth a b (fillComplex j k (fillComplex i k v)) + perComplex ≤ worth a b v
   unfolding worth fillComplex withComplex complexAt ofComplex lessComplex
   fillsC-free j p q e = let z = fill-both perComplex (λ (x : Complex). x .quantity) noComplex refl lessComplex (λ _ _. refl) i j k (v .complex) p q e in omega arith
 
 -- Effects -------------------------------------------------------------------------------------
 
 -- what an effect writes, with what the venue that it leaves is worth
-unfoldable pub spent : Effect → ℕ
-spent e = total recordLength (e .reports) + worth (e .venue)
+unfoldable pub spent : (a b : ℕ) → Effect → ℕ
+spent a b e = total recordLength (e .reports) + worth a b (e .venue)
 
-pub spent-nothing : (v : Venue) → spent (nothing v) ≡ worth v
-unfolding spent nothing total
-spent-nothing v = omega arith
+module _ (a b : ℕ) where
+  pub spent-nothing : (v : Venue) → spent a b (nothing v) ≡ worth a b v
+  unfolding spent nothing total
+  spent-nothing v = omega arith
 
-pub spent-report : (r : Report) (v : Venue) → spent (report r v) ≡ recordLength r + worth v
-unfolding spent report total
-spent-report r v = omega arith
+  pub spent-report : (r : Report) (v : Venue) → spent a b (report r v) ≡ recordLength r + worth a b v
+  unfolding spent report total
+  spent-report r v = omega arith
 
-pub spent-then : (e : Effect) (f : Venue → Effect) → spent (e ⟫ f) + worth (e .venue) ≡ spent e + spent (f (e .venue))
-unfolding spent
-spent-then e f = rw (total-then recordLength e f) (unfold _⟫_ in (omega arith))
+  pub spent-then : (e : Effect) (f : Venue → Effect) → spent a b (e ⟫ f) + worth a b (e .venue) ≡ spent a b e + spent a b (f (e .venue))
+  unfolding spent
+  spent-then e f = rw (total-then recordLength e f) (unfold _⟫_ in (omega arith))
 
 -- a removal pays for itself
 goes-pays : (n : ℕ) (x : Verdict) (l : Legging) → total recordLength (goes n x l) + ofLegging (stay x l) ≡ ofLegging l
@@ -142,6 +198,33 @@ leavers-pay f n (l ∷ ls) =
     let b = leavers-pay f (suc n) ls in
     rw (total-append recordLength (goes n (f n l) l) (leavers f (suc n) ls)) (omega arith)
 
-pub spent-remove : (f : ℕ → Legging → Verdict) (v : Venue) → spent (remove f v) ≡ worth v
+pub spent-remove : (a b : ℕ) (f : ℕ → Legging → Verdict) (v : Venue) → spent a b (remove f v) ≡ worth a b v
 unfolding spent remove worth withLegging
-spent-remove f v = let z = leavers-pay f 0 (v .legging) in omega arith
+spent-remove a b f v = let z = leavers-pay f 0 (v .legging) in omega arith
+
+-- Settling: from then on regular orders pay for nothing -----------------------------------------
+
+none-due : (f : Regular → ℕ) → ((o : Regular) → f o ≡ 0) → (os : List Regular) → sum f os ≡ 0
+unfolding sum
+none-due f z [] = refl
+none-due f z (o ∷ os) = let x = z o in let y = none-due f z os in omega arith
+
+due-nothing : (q : ℕ) → due 0 q ≡ 0
+due-nothing q = let z = due-most 0 q in omega arith
+
+no-regular : (os : List Regular) → (sum (ofShown 0) os ≡ 0) × (sum (ofLeft 0) os ≡ 0)
+unfolding ofShown ofLeft
+no-regular os = (none-due (λ o. due 0 (shown o)) (λ o. due-nothing (shown o)) os, none-due (λ o. due 0 (o .quantity)) (λ o. due-nothing (o .quantity)) os)
+
+pub spent-lower : (a b : ℕ) (e : Effect) → spent 0 0 e ≤ spent a b e
+unfolding spent worth
+spent-lower a b e = let z = no-regular (e .venue .regular) in let x = z .0 in let y = z .1 in omega arith
+
+pub spent-settle : (v : Venue) → spent 0 0 (settle v) ≡ worth 0 0 v
+unfolding settle
+spent-settle v = spent-remove 0 0 (verdict (showAgain v)) (showAgain v) ∙ again
+  where
+    again : worth 0 0 (showAgain v) ≡ worth 0 0 v
+    again = unfold worth showAgain withRegular in (
+        let z = no-regular (v .regular) in let x = z .0 in let y = z .1 in
+        let z′ = no-regular (map showsAgain (v .regular)) in let x′ = z′ .0 in let y′ = z′ .1 in omega arith)

@@ -25,7 +25,7 @@ use Rattle.rules.specs.Records.{ForAll, Fits, FourSigned, Report, FourBy
 use Rattle.rules.specs.Effects.{Effect, Turn, _⟫_, ended, nothing, repeat, report, turned}
 use Rattle.rules.specs.Prices.{clearPrice, inBand, marketBest, net, ratio1, ratio2, shown, weighed}
 use Rattle.rules.specs.Removal.{goes, leavers, remove, removeOf, stayers}
-use Rattle.rules.specs.Standing.{findComplex, otherClear, otherLeg, parentOf, settle, verdict}
+use Rattle.rules.specs.Standing.{findComplex, otherClear, otherLeg, parentOf, settle, verdict, showAgain}
 use Rattle.rules.specs.Trading.{pairOff, putComplex, putRegular, take, tradeWith}
 use Rattle.rules.specs.Order.{enterRegular, hit, meet, meetTurn, order}
 use Rattle.rules.specs.Generation.{generate, generateLeg, legPrice, make, makes, newLegging}
@@ -39,7 +39,7 @@ use Rattle.rules.proofs.Generating.{Makes, made}
 use Rattle.rules.proofs.Removing.{length-stayers}
 use Rattle.rules.proofs.Settling.{Kept, stayers-kept}
 use Rattle.rules.proofs.Tests.{and-l, and-r}
-use Rattle.rules.proofs.Widths.{CxFits, LgFits, Ranged, away-ranged, closed-ranged, complex-fits, each-append, fill-ranged, fillC-ranged, increment-ranged, last-ranged, no-cx, no-lg, order-fits, percent-ranged, placed-ranged, put-ranged, putC-ranged, status-ranged, with-legging}
+use Rattle.rules.proofs.Widths.{again-ranged, CxFits, LgFits, Ranged, away-ranged, closed-ranged, complex-fits, each-append, fill-ranged, fillC-ranged, increment-ranged, last-ranged, no-cx, no-lg, order-fits, percent-ranged, placed-ranged, put-ranged, putC-ranged, status-ranged, with-legging}
 
 -- an effect that writes records that fit and leaves the fields in range
 pub record Writes (e : Effect) : Type 0 where
@@ -259,7 +259,7 @@ writes-generate i v r =
 
 pub writes-settle : (v : Venue) → Ranged v → Writes (settle v)
 unfolding settle
-writes-settle v r = writes-remove (verdict v) v r
+writes-settle v r = writes-remove (verdict (showAgain v)) (showAgain v) (again-ranged v r)
 
 pub writes-each : (f : ℕ → Venue → Effect) → ((i : ℕ) (v : Venue) → Ranged v → Writes (f i v)) → (fuel id : ℕ) (v : Venue) → Ranged v → Writes (each fuel f id v)
 writes-each f ok zero id v r = unfold each in (writes-nothing v r)

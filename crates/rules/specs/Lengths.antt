@@ -12,8 +12,9 @@ recordLength (removed id series side cause) = 11
 recordLength (crossed taker maker n quantity) = 20
 recordLength (cancelled id quantity) = 12
 
--- What each order pays for when it goes, or in a sweep when its turn comes. A round of legging in writes, beside the trades that free their maker,
--- a trade for each leg and the pair, 22 + 22 + 16; it frees all of a level of one leg, or the complex order. A cross writes 20 and frees a party.
+-- What each order pays for when it goes, or in a sweep when its turn comes. A round of legging in writes, beside the trades that use up what their maker
+-- shows, a trade for each leg and the pair, 22 + 22 + 16; it uses up all that a level of one leg shows, or frees the complex order. A cross writes 20 and
+-- frees a party. An order that arrives trades with each resting order twice at most, with what it shows and with its reserve, 22 + 22.
 abbrev pub perRegular : ℕ
 perRegular = 60
 

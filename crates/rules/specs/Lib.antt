@@ -4,8 +4,8 @@
 --   "Message and record bytes"               Bytes, Messages, Records
 --   "Refusals": 1 to 8, 02 (d)'s 11 to 13    Refusals; 9 and 10, and the two calls: Calls
 --   "Prices of a side"                       Prices
---   "Order (kind 1)"                         Order; the trades that it and a complex order have in common: Trading
---   "Standing test and settling"             Standing; legging orders that go, whatever the cause: Removal
+--   "Order (kind 1)", 02 (e)'s kind 9        Order; the trades that it and a complex order have in common: Trading
+--   "Standing test and settling"             Standing, with 02 (e)'s showing again; legging orders that go, whatever the cause: Removal
 --   "Complex (kind 2)", "Sweep", "Cancel"    Complex
 --   "Generation of a leg"                    Generation
 --   each kind's effect, and its 64           Step

@@ -1,7 +1,7 @@
--- Document 01, "Message and record bytes": the messages, kinds 1 to 6, and document 02 (d)'s, kinds 7 and 8.
+-- Document 01, "Message and record bytes": the messages, kinds 1 to 6, and document 02's: (d) kinds 7 and 8, (e) kind 9.
 use mathlib.Core.Path.{_≡_}
 use mathlib.Core.List.{List, [], _++_}
-use Prim.Native.Nat.{ℕ}
+use Prim.Native.Nat.{ℕ, _-_}
 use lib.Dec.{eqb}
 use lib.ListN.{length}
 use Rattle.rules.specs.declared.Regular.{Regular}
@@ -22,11 +22,20 @@ lengthOf k =
     else if eqb k 6 then 4
     else if eqb k 7 then 10
     else if eqb k 8 then 9
+    else if eqb k 9 then 22
     else 0
 
--- 1 order: id u32, series u8, side u8, price u32, quantity u32
-unfoldable pub orderAt : List ℕ → Regular
-orderAt bs = record { id = u32At bs 4; series = u8At bs 8; side = u8At bs 9; price = u32At bs 10; quantity = u32At bs 14 }
+-- 1 order: id u32, series u8, side u8, price u32, quantity u32. It shows so much of it, and the rest is reserve
+unfoldable pub orderAt : (display : ℕ) → List ℕ → Regular
+orderAt x bs = record {
+  id = u32At bs 4;
+  series = u8At bs 8;
+  side = u8At bs 9;
+  price = u32At bs 10;
+  quantity = u32At bs 14;
+  display = x;
+  reserve = u32At bs 14 - x;
+}
 
 -- 2 complex: id u32, series u8, side u8, series u8, side u8, class u8, N i32, quantity u32
 unfoldable pub twoLegAt : List ℕ → Complex
@@ -41,35 +50,41 @@ twoLegAt bs = record {
   quantity = u32At bs 17;
 }
 
--- the message at the front of bs, whose kind is one of 1 to 8:
+-- the message at the front of bs, whose kind is one of 1 to 9; an order of kind 1 shows all of it:
 -- 3 cancel: id u32; 4 away: series u8, bid u32, offer u32; 5 status: series u8, status u8; 6 sweep: none;
--- "Kind 7 carries series u8, increment u8 … and edition u32. Kind 8 carries percent u8 … and edition u32."
+-- (d): "Kind 7 carries series u8, increment u8 … and edition u32. Kind 8 carries percent u8 … and edition u32."
+-- (e): "Kind 9 is kind 1 with a shown quantity u32 after it".
 unfoldable pub messageOf : List ℕ → Message
 messageOf bs =
     let k = kindField bs in
-    if eqb k 1 then Order (orderAt bs)
+    if eqb k 1 then Order (orderAt (u32At bs 14) bs)
     else if eqb k 2 then TwoLeg (twoLegAt bs)
     else if eqb k 3 then Cancel (u32At bs 4)
     else if eqb k 4 then Away (u8At bs 4) (u32At bs 5) (u32At bs 9)
     else if eqb k 5 then Status (u8At bs 4) (u8At bs 5)
     else if eqb k 6 then Sweep
     else if eqb k 7 then Increment (u8At bs 4) (u8At bs 5) (u32At bs 6)
-    else Percent (u8At bs 4) (u32At bs 5)
+    else if eqb k 8 then Percent (u8At bs 4) (u32At bs 5)
+    else Order (orderAt (u32At bs 18) bs)
 
--- the table's column "Kind", of a message
-abbrev pub messageKind : Message → ℕ
-messageKind (Order o) = 1
-messageKind (TwoLeg c) = 2
-messageKind (Cancel id) = 3
-messageKind (Away s bid offer) = 4
-messageKind (Status s x) = 5
-messageKind Sweep = 6
-messageKind (Increment s i e) = 7
-messageKind (Percent x e) = 8
+-- the form of a message, by the first kind that has it: an order of kind 9 is of the form of kind 1
+abbrev pub messageForm : Message → ℕ
+messageForm (Order o) = 1
+messageForm (TwoLeg c) = 2
+messageForm (Cancel id) = 3
+messageForm (Away s bid offer) = 4
+messageForm (Status s x) = 5
+messageForm Sweep = 6
+messageForm (Increment s i e) = 7
+messageForm (Percent x e) = 8
 
--- the bytes of a message
+-- the fields of an order, without its shown quantity
+unfoldable pub orderFields : Regular → List ℕ
+orderFields o = u32 (o .id) ++ u8 (o .series) ++ u8 (o .side) ++ u32 (o .price) ++ u32 (o .quantity)
+
+-- the bytes of a message; of an order that shows all of it, those of kind 1
 unfoldable pub encodeMessage : Message → List ℕ
-encodeMessage (Order o) = framed 1 (u32 (o .id) ++ u8 (o .series) ++ u8 (o .side) ++ u32 (o .price) ++ u32 (o .quantity))
+encodeMessage (Order o) = if eqb (o .display) (o .quantity) then framed 1 (orderFields o) else framed 9 (orderFields o ++ u32 (o .display))
 encodeMessage (TwoLeg c) =
     framed 2 (u32 (c .id) ++ u8 (c .series1) ++ u8 (c .side1) ++ u8 (c .series2) ++ u8 (c .side2)
     ++ u8 (c .class) ++ i32 (c .limit) ++ u32 (c .quantity))
@@ -80,6 +95,6 @@ encodeMessage Sweep = framed 6 []
 encodeMessage (Increment s i e) = framed 7 (u8 s ++ u8 i ++ u32 e)
 encodeMessage (Percent x e) = framed 8 (u8 x ++ u32 e)
 
--- "the lengths by kind … be proved those of document 01 for every kind" (request (c)): each message has as many bytes as its kind's length
+-- "the lengths by kind … be proved those of document 01 for every kind" (request (c)): each message has as many bytes as the length of the kind that they tell
 abbrev pub KindLengths : Type 0
-KindLengths = (m : Message) → length (encodeMessage m) ≡ lengthOf (messageKind m)
+KindLengths = (m : Message) → length (encodeMessage m) ≡ lengthOf (kindField (encodeMessage m))

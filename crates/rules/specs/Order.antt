@@ -1,4 +1,4 @@
--- Document 01, "Order (kind 1)".
+-- Document 01, "Order (kind 1)", and kind 9 of request (e).
 use mathlib.Core.Bool.{Bool, not, _&&_, _||_}
 use Prim.Native.Nat.{ℕ, min}
 use lib.Dec.{eqb}
@@ -7,7 +7,7 @@ use Rattle.rules.specs.declared.Legging.{Legging}
 use Rattle.rules.specs.declared.Venue.{Venue}
 use Rattle.rules.specs.Base.{if_then_else_, held, placeWhere, Choice, nobody, picked, first}
 use Rattle.rules.specs.Words.{opposite, regularAt, leggingAt, isComplexOf, earlier}
-use Rattle.rules.specs.Prices.{better, restsAt, reaches, ownPrice}
+use Rattle.rules.specs.Prices.{better, restsAt, reaches, shown, ownPrice}
 use Rattle.rules.specs.Records.{trade}
 use Rattle.rules.specs.Effects.{Effect, report, _⟫_, Turn, ended, turned, repeat}
 use Rattle.rules.specs.Standing.{otherLeg, otherClear, legNet, parentOf, settle}
@@ -15,13 +15,21 @@ use Rattle.rules.specs.Trading.{fillRegular, freeRegular, putRegular, tr
 
 -- Who is met ----------------------------------------------------------------------------------
 
--- "It meets the other side while prices cross or are equal": an order of side d at price p in series s meets the regular order m
+-- "It meets the other side while prices cross or are equal": an order of side d at price p in series s meets the regular order m, shown size and reserve
 unfoldable pub isMet : (series side price : ℕ) → Regular → Bool
 isMet s d p m = restsAt s (opposite d) m && reaches d p (m .price)
 
--- "best own price first, then regular by id"
+-- (e): "At one price all shown size trades by id, then, in trades of its own, all reserve by id": who shows goes before who does not, and then the earlier
+unfoldable pub shownThenId : Regular → Regular → Bool
+shownThenId a b = if held (shown b) then held (shown a) && earlier a b else (held (shown a) || earlier a b)
+
+-- "best own price first, then regular by id"; at one price as (e) has it
 unfoldable pub priceThenId : Regular → Regular → Bool
-priceThenId a b = better (a .side) (a .price) (b .price) || (eqb (a .price) (b .price) && earlier a b)
+priceThenId a b = better (a .side) (a .price) (b .price) || (eqb (a .price) (b .price) && shownThenId a b)
+
+-- what of m is traded at once: what it shows or, when that is gone, its reserve, "in trades of its own"
+unfoldable pub atOnce : Regular → ℕ
+atOnce m = if held (shown m) then shown m else m .quantity
 
 -- the regular order that the order at place i meets first
 unfoldable pub firstMet : (i : ℕ) → Venue → Choice Regular
@@ -54,7 +62,7 @@ hit i l k v =
     ⟫ take k (c .id) (leg .series) (leg .side) clear k
     ⟫ (λ w. pairOff (placeWhere (isComplexOf (c .id)) (w .complex)) (c .id) n k w)
 
--- "trades at the resting price, each time for the lesser of both quantities"
+-- "trades at the resting price, each time for the lesser of both quantities"; (e): of what the resting order shows, or of its reserve, "then the legging order"
 unfoldable pub meetTurn : (i : ℕ) → Venue → Turn
 meetTurn i v =
     let o = regularAt v i in
@@ -65,7 +73,7 @@ meetTurn i v =
       | nobody ↦ if leggingFirst o l 0 then turned hitting else ended
       | picked j m ↦
           if leggingFirst o l (m .price) then turned hitting
-          else turned (meet i j (min (o .quantity) (m .quantity)) v)
+          else turned (meet i j (min (o .quantity) (atOnce m)) v)
     ]
 
 -- the order is given a place and meets the other side there; "the rest of it rests"

@@ -25,7 +25,9 @@ holdsEdition e = held (e .edition)
 
 -- a place that is all zero
 unfoldable pub blankRegular : Regular → Bool
-blankRegular o = eqb (o .id) 0 && eqb (o .series) 0 && eqb (o .side) 0 && eqb (o .price) 0 && eqb (o .quantity) 0
+blankRegular o =
+    eqb (o .id) 0 && eqb (o .series) 0 && eqb (o .side) 0 && eqb (o .price) 0 && eqb (o .quantity) 0
+    && eqb (o .display) 0 && eqb (o .reserve) 0
 
 unfoldable pub blankComplex : Complex → Bool
 blankComplex c =

@@ -30,13 +30,13 @@ reaches d p q = if eqb d buy then leb q p else leb p q
 
 -- Regular orders ------------------------------------------------------------------------------
 
--- a regular order rests in series s at side d
+-- a regular order rests in series s at side d, whether or not it shows any size
 unfoldable pub restsAt : (series side : ℕ) → Regular → Bool
 restsAt s d o = held (o .quantity) && eqb (o .series) s && eqb (o .side) d
 
--- the size of an order that counts for best price, size and clear price. Always all of it, until the request for reserve size lands.
+-- what an order shows: what is left of it but for its reserve. (e): "Best price, size, clear price and legging quantity count shown size only."
 unfoldable pub shown : Regular → ℕ
-shown o = o .quantity
+shown o = o .quantity - o .reserve
 
 -- it shows some size in series s at side d
 unfoldable pub showsAt : (series side : ℕ) → Regular → Bool

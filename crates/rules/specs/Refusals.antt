@@ -25,17 +25,18 @@ use Rattle.rules.specs.Complex.{anyClosed, restsRegular, restsComplex}
 unfoldable pub torn : List ℕ → Bool
 torn bs = ltb (length bs) 4 || ltb (lengthField bs) 4 || ltb (length bs) (lengthField bs)
 
--- 2: "kind not 1 to 6"; "Refusal 2 no longer meets the message kinds that this and later requests add"
+-- 2: "kind not 1 to 6"; "Refusal 2 no longer meets the message kinds that this and later requests add": (d) 7 and 8, (e) 9
 unfoldable pub isKind : ℕ → Bool
-isKind = within 1 8
+isKind = within 1 9
 
 -- 3: "length not its kind's"
 unfoldable pub isLength : (kind length : ℕ) → Bool
 isLength k n = eqb n (lengthOf k)
 
--- 4: "field outside its range, both legs in one series"; "price off the increment" is asked of the venue, below
+-- 4: "field outside its range, both legs in one series"; "price off the increment" is asked of the venue, below. (e): a shown quantity "from 1 to the quantity"
 unfoldable pub regularInRange : Regular → Bool
-regularInRange o = isId (o .id) && isSeries (o .series) && isSide (o .side) && isPrice (o .price) && isQuantity (o .quantity)
+regularInRange o =
+    isId (o .id) && isSeries (o .series) && isSide (o .side) && isPrice (o .price) && isQuantity (o .quantity) && within 1 (o .quantity) (o .display)
 
 unfoldable pub complexInRange : Complex → Bool
 complexInRange c =

@@ -1,10 +1,11 @@
 -- Document 01: "A venue is sound when fields are in range, resting ids distinct and at most the last id, no series is locked or crossed
 -- counting own prices, and each legging order matches an open parent leg, is no larger than what its parent has open, and passes its test."
--- Document 02 (d): "Editions that don't rise from 0 in both numbers are unsound".
+-- Document 02 (d): "Editions that don't rise from 0 in both numbers are unsound". (e): "a given venue where one shows otherwise is unsound".
 use mathlib.Core.Bool.{Bool, true, not, _&&_, _||_}
 use mathlib.Core.List.{List, [], _∷_}
-use Prim.Native.Nat.{ℕ, suc, _/_, _%_}
+use Prim.Native.Nat.{ℕ, suc, _-_, _/_, _%_}
 use lib.Dec.{leb, ltb, eqb}
+use Rattle.rules.specs.declared.Regular.{Regular}
 use Rattle.rules.specs.declared.Legging.{Legging}
 use Rattle.rules.specs.declared.Listed.{Listed}
 use Rattle.rules.specs.declared.Edition.{Edition}
@@ -46,9 +47,14 @@ unfoldable pub leggingsSound : Venue → (n : ℕ) → List Legging → Bool
 leggingsSound v n [] = true
 leggingsSound v n (l ∷ ls) = leggingSound v n l && leggingsSound v (suc n) ls
 
--- the resting orders: in range, prices on the increments in force, with ids "at most the last id", and arranged, so that ids of one book are distinct
+-- (e): it shows "the lesser of its shown quantity and what is left of it; a given venue where one shows otherwise is unsound"
+unfoldable pub showsFully : Regular → Bool
+showsFully o = eqb (o .reserve) (o .quantity - o .display)
+
+-- the resting orders: in range, prices on the increments in force, showing what they should, with ids "at most the last id", and arranged, so that ids of
+-- one book are distinct
 unfoldable pub regularsSound : Venue → Bool
-regularsSound v = arranged holdsRegular (λ o. regularInRange o && onIncrement v o && leb (o .id) (v .last)) blankRegular (λ o. o .id) 0 (v .regular)
+regularsSound v = arranged holdsRegular (λ o. regularInRange o && onIncrement v o && showsFully o && leb (o .id) (v .last)) blankRegular (λ o. o .id) 0 (v .regular)
 
 unfoldable pub complexesSound : Venue → Bool
 complexesSound v = arranged holdsComplex (λ c. complexInRange c && leb (c .id) (v .last)) blankComplex (λ c. c .id) 0 (v .complex)

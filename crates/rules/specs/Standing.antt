@@ -1,10 +1,11 @@
 -- Document 01, "Standing test and settling".
 use mathlib.Core.Bool.{Bool, true, false, not, _&&_, _||_}
-use mathlib.Core.List.{List, [], _∷_}
-use Prim.Native.Nat.{ℕ, _/_, _%_}
+use mathlib.Core.List.{List, [], _∷_, map}
+use Prim.Native.Nat.{ℕ, _-_, _/_, _%_}
 use lib.Dec.{leb, eqb}
 use lib.IntN.{ℤ, pos, _+ℤ_}
 use lib.Signed.{leZ}
+use Rattle.rules.specs.declared.Regular.{Regular}
 use Rattle.rules.specs.declared.Complex.{Complex}
 use Rattle.rules.specs.declared.Legging.{Legging}
 use Rattle.rules.specs.declared.Leg.{Leg}
@@ -13,7 +14,7 @@ use Rattle.rules.specs.declared.Cause.the-variants.{Worse, Unpaired, Out
 use Rattle.rules.specs.declared.Verdict.{Verdict}
 use Rattle.rules.specs.declared.Verdict.the-variants.{Stands, Fails}
 use Rattle.rules.specs.Base.{if_then_else_, held}
-use Rattle.rules.specs.Words.{opposite, signed, opened, statusOf, noComplex, isComplexOf}
+use Rattle.rules.specs.Words.{opposite, signed, opened, statusOf, noComplex, isComplexOf, withRegular}
 use Rattle.rules.specs.Settings.{increment}
 use Rattle.rules.specs.Prices.{better, bestRegular, bestSize, clearPrice, displayed, inBand}
 use Rattle.rules.specs.Records.{causeNumber}
@@ -93,6 +94,25 @@ unfoldable pub stands : Verdict → Bool
 stands Stands = true
 stands (Fails c) = false
 
--- "After every accepted message all are tested against the same state, failures go together"
+-- Settling ------------------------------------------------------------------------------------
+
+-- (e): "each order shows again the lesser of its shown quantity and what is left of it": all but its shown quantity is reserve
+unfoldable pub showsAgain : Regular → Regular
+showsAgain o = record {
+  id = o .id;
+  series = o .series;
+  side = o .side;
+  price = o .price;
+  quantity = o .quantity;
+  display = o .display;
+  reserve = o .quantity - o .display;
+}
+
+unfoldable pub showAgain : Venue → Venue
+showAgain v = withRegular v (map showsAgain (v .regular))
+
+-- "After every accepted message all are tested against the same state, failures go together". (e): "Before settling, each order shows again"
 unfoldable pub settle : Venue → Effect
-settle v = remove (verdict v) v
+settle v =
+    let w = showAgain v in
+    remove (verdict w) w

@@ -16,9 +16,17 @@ use Rattle.rules.specs.Removal.{removeOf}
 
 -- Filling and resting -------------------------------------------------------------------------
 
--- k contracts less; "leaving frees the place": its quantity is then 0
+-- k contracts less, shown size first: neither its reserve nor its shown quantity is more than what is left. "leaving frees the place": its quantity is then 0
 unfoldable pub lessRegular : (k : ℕ) → Regular → Regular
-lessRegular k o = record { id = o .id; series = o .series; side = o .side; price = o .price; quantity = o .quantity - k }
+lessRegular k o = record {
+  id = o .id;
+  series = o .series;
+  side = o .side;
+  price = o .price;
+  quantity = o .quantity - k;
+  display = min (o .display) (o .quantity - k);
+  reserve = min (o .reserve) (o .quantity - k);
+}
 
 unfoldable pub lessComplex : (k : ℕ) → Complex → Complex
 lessComplex k c = record {
@@ -61,7 +69,8 @@ tradeWith taker d i k v =
     let o = regularAt v i in
     report (trade (o .series) d (o .price) k taker (o .id)) (fillRegular i k v)
 
--- "k contracts … (trades by id, taker the complex order)": a taker of side d takes k contracts at price p in series s; the fuel is k
+-- "k contracts … (trades by id, taker the complex order)": a taker of side d takes k contracts at price p in series s; the fuel is k.
+-- (e): "A complex order takes shown size only."
 unfoldable pub take : (fuel taker s d p k : ℕ) → Venue → Effect
 take zero taker s d p k v = nothing v
 take (suc fuel) taker s d p k v =

@@ -5,7 +5,7 @@
 use mathlib.Core.Bool.{Bool, true, false, not, _&&_}
 use mathlib.Core.Path.{_≡_, refl}
 use mathlib.Core.List.{List, [], _∷_, _++_, map}
-use Prim.Native.Nat.{ℕ, zero, suc}
+use Prim.Native.Nat.{ℕ, zero, suc, _-_}
 use lib.IntN.{ℤ, pos, negℤ}
 use lib.ListN.{set, drop, length, replicate}
 use Rattle.rules.specs.declared.Regular.{Regular}
@@ -83,8 +83,12 @@ legsUp b os i c n l = record {
   editions = freshVenue .editions;
 }
 
+-- a regular order of a shown quantity, and one that shows all of it
+single : (id series side price quantity display : ℕ) → Regular
+single i s d p q x = record { id = i; series = s; side = d; price = p; quantity = q; display = x; reserve = q - x }
+
 rest : (id series side price quantity : ℕ) → Regular
-rest i s d p q = record { id = i; series = s; side = d; price = p; quantity = q }
+rest i s d p q = single i s d p q q
 
 both : (id quantity : ℕ) → Complex
 both i q = record { id = i; series1 = 0; side1 = buy; series2 = 1; side2 = buy; class = 1; limit = pos 205; quantity = q }
@@ -144,8 +148,12 @@ opens s = encodeMessage (Status s opened)
 closes : (series : ℕ) → List ℕ
 closes s = encodeMessage (Status s closed)
 
+-- kind 1, and kind 9
 enters : (id series side price quantity : ℕ) → List ℕ
-enters id s d p q = encodeMessage (Order (record { id = id; series = s; side = d; price = p; quantity = q }))
+enters id s d p q = encodeMessage (Order (rest id s d p q))
+
+reserves : (id series side price quantity display : ℕ) → List ℕ
+reserves id s d p q x = encodeMessage (Order (single id s d p q x))
 
 -- both legs of side d, in series a and b, class 1
 pairUp : (id a b d : ℕ) (n : ℤ) (quantity : ℕ) → List ℕ
@@ -402,6 +410,101 @@ respecting =
     (accepted 1 9 ++ (answer 10 0 2 1 ∷ generated 5 0 1 105 105 5 ∷ answer 11 0 2 1 ∷ crossed 6 1 (minus 208) 3 ∷ []))
     ∷ []
 
+-- Request (e) -----------------------------------------------------------------------------------
+
+-- a venue with one order to sell in series 0 at 100, with so much left, shown quantity and reserve
+withOne : (quantity display reserve : ℕ) → Venue
+withOne q x r =
+    let o : Regular = record { id = 1; series = 0; side = sell; price = 100; quantity = q; display = x; reserve = r } in
+    withLast (withRegular freshVenue (set (freshVenue .regular) 0 o)) 1
+
+-- as `legged`, but the offer of 12 in series 1 shows 8
+half : List ℕ
+half = opens 0 ++ opens 1 ++ enters 1 0 sell 130 15 ++ reserves 2 1 sell 90 12 8 ++ buysBoth 3 (pos 205) 8
+
+-- kind 9 showing 5 of 5, which is kind 1; and kind 9 with the length of kind 1
+allShown : List ℕ
+allShown = 22 ∷ 0 ∷ 9 ∷ 0 ∷ 11 ∷ 0 ∷ 0 ∷ 0 ∷ 0 ∷ 1 ∷ 100 ∷ 0 ∷ 0 ∷ 0 ∷ 5 ∷ 0 ∷ 0 ∷ 0 ∷ 5 ∷ 0 ∷ 0 ∷ 0 ∷ []
+
+tooShort : List ℕ
+tooShort = 18 ∷ 0 ∷ 9 ∷ 0 ∷ 0 ∷ 0 ∷ 0 ∷ 0 ∷ 0 ∷ 1 ∷ 100 ∷ 0 ∷ 0 ∷ 0 ∷ 5 ∷ 0 ∷ 0 ∷ 0 ∷ []
+
+pub reserved : List Trial
+reserved =
+    -- "At one price all shown size trades by id, then, in trades of its own, all reserve by id": 5 showing 2, 4 showing 3, and 2
+    session 300 (reserves 1 0 sell 100 5 2 ++ reserves 2 0 sell 100 4 3 ++ enters 3 0 sell 100 2 ++ enters 4 0 buy 100 13) 0 4
+    (accepted 1 4 ++ (trade 0 0 100 2 4 1 ∷ trade 0 0 100 3 4 2 ∷ trade 0 0 100 2 4 3 ∷ trade 0 0 100 3 4 1 ∷ trade 0 0 100 1 4 2 ∷ []))
+    -- what a later order shows before the reserve of an earlier one
+    ∷ session 200 (reserves 1 0 buy 115 5 2 ++ enters 2 0 buy 115 3 ++ enters 3 0 sell 115 4) 0 3 (accepted 1 3 ++ (trade 0 1 115 2 3 1 ∷ trade 0 1 115 2 3 2 ∷ []))
+    -- "in trades of its own": 2 and 2, of one order
+    ∷ session 200 (reserves 1 0 buy 115 5 2 ++ enters 2 0 sell 115 4) 0 2 (accepted 1 2 ++ (trade 0 1 115 2 2 1 ∷ trade 0 1 115 2 2 1 ∷ []))
+    -- "best own price first": reserve before what shows at a worse price
+    ∷ session 200 (reserves 1 0 buy 120 6 1 ++ enters 2 0 buy 115 4 ++ enters 3 0 sell 115 4) 0 3 (accepted 1 3 ++ (trade 0 1 120 1 3 1 ∷ trade 0 1 120 3 3 1 ∷ []))
+    ∷ session 300 (reserves 1 0 sell 100 3 1 ++ enters 2 0 sell 105 5 ++ enters 3 0 buy 105 5) 0 3
+    (accepted 1 3 ++ (trade 0 0 100 1 3 1 ∷ trade 0 0 100 2 3 1 ∷ trade 0 0 105 2 3 2 ∷ []))
+    -- "then the legging order": it is at 115 too
+    ∷ session 500 (legged ++ reserves 4 0 buy 115 5 2 ++ enters 5 0 sell 115 9) 0 7
+    (leggedSheet ++ (answer 6 0 5 2 ∷ answer 7 0 0 0 ∷ trade 0 1 115 2 5 4 ∷ trade 0 1 115 3 5 4 ∷ trade 0 1 115 4 5 3 ∷ trade 1 0 90 4 3 2
+    ∷ pair 3 (pos 205) 4 ∷ removed 3 0 0 Executed ∷ removed 3 1 0 Executed ∷ []))
+    -- and before a reserve at a worse price
+    ∷ session 500 (legged ++ reserves 4 0 buy 110 5 2 ++ enters 5 0 sell 110 9) 0 7
+    (leggedSheet ++ (answer 6 0 5 2 ∷ answer 7 0 0 0 ∷ trade 0 1 115 8 5 3 ∷ trade 1 0 90 8 3 2 ∷ pair 3 (pos 205) 8
+    ∷ removed 3 0 0 Executed ∷ removed 3 1 0 Executed ∷ trade 0 1 110 1 5 4 ∷ []))
+    -- "each order shows again" once a message, after all its trades: not 2 of its 3 between them
+    ∷ session 200 (reserves 1 0 buy 115 5 2 ++ enters 2 0 buy 115 3 ++ enters 3 0 sell 115 7) 0 3
+    (accepted 1 3 ++ (trade 0 1 115 2 3 1 ∷ trade 0 1 115 3 3 2 ∷ trade 0 1 115 2 3 1 ∷ []))
+    -- and for the next one: order 1 is earlier than order 3, and shows 2 of its 3
+    ∷ session 300 (reserves 1 0 sell 100 5 2 ++ enters 2 0 buy 100 2 ++ enters 3 0 sell 100 2 ++ enters 4 0 buy 100 5) 0 4
+    (accepted 1 2 ++ (trade 0 0 100 2 2 1 ∷ answer 3 0 0 0 ∷ answer 4 0 0 0 ∷ trade 0 0 100 2 4 1 ∷ trade 0 0 100 2 4 3 ∷ trade 0 0 100 1 4 1 ∷ []))
+    -- a sweep's orders together find the shown size once: 3 of 15, for two orders that want 2 each
+    ∷ session 300 (buysBoth 1 (pos 220) 2 ++ buysBoth 2 (pos 220) 2 ++ reserves 3 0 sell 130 15 3 ++ enters 4 1 sell 90 12 ++ sweeps) 0 5
+    (accepted 1 5 ++ (trade 0 0 130 2 1 3 ∷ trade 1 0 90 2 1 4 ∷ pair 1 (pos 220) 2 ∷ trade 0 0 130 1 2 3 ∷ trade 1 0 90 1 2 4 ∷ pair 2 (pos 220) 1 ∷ []))
+    -- "the lesser of its shown quantity and what is left of it": 3 as it asked, not the 2 that were left of them; 2 of 2
+    ∷ session 200 (reserves 1 0 buy 120 6 3 ++ enters 2 0 sell 120 1 ++ enters 3 0 sell 120 3) 0 3
+    (accepted 1 2 ++ (trade 0 1 120 1 2 1 ∷ answer 3 0 0 0 ∷ trade 0 1 120 3 3 1 ∷ []))
+    ∷ session 300 (reserves 1 0 sell 100 5 4 ++ enters 2 0 buy 100 3 ++ enters 3 0 sell 100 1 ++ enters 4 0 buy 100 3) 0 4
+    (accepted 1 2 ++ (trade 0 0 100 3 2 1 ∷ answer 3 0 0 0 ∷ answer 4 0 0 0 ∷ trade 0 0 100 2 4 1 ∷ trade 0 0 100 1 4 3 ∷ []))
+    -- the venue left: 2 of 4; and 1 of 1
+    ∷ upon (withOne 5 2 3) 0 100 (enters 2 0 buy 100 1) 0 1 (answer 1 0 0 0 ∷ trade 0 0 100 1 2 1 ∷ []) (withLast (withOne 4 2 2) 2)
+    ∷ upon (withOne 5 2 3) 0 100 (enters 2 0 buy 100 4) 0 1 (answer 1 0 0 0 ∷ trade 0 0 100 2 2 1 ∷ trade 0 0 100 2 2 1 ∷ []) (withLast (withOne 1 1 0) 2)
+    -- an order that arrives takes with all of it; of the 6 left 3 show. "cancelled" tells all that is left
+    ∷ session 300 (enters 1 0 sell 100 4 ++ reserves 2 0 buy 100 10 3 ++ enters 3 0 sell 100 5 ++ cancels 2) 0 4
+    (accepted 1 2 ++ (trade 0 0 100 4 2 1 ∷ answer 3 0 0 0 ∷ trade 0 1 100 3 3 2 ∷ trade 0 1 100 2 3 2 ∷ answer 4 0 0 0 ∷ cancelled 2 1 ∷ []))
+    ∷ session 100 (reserves 1 0 buy 100 10 3 ++ cancels 1) 0 2 (accepted 1 2 ++ (cancelled 1 10 ∷ []))
+    -- "legging quantity count shown size only": 4 and 5 of 8
+    ∷ session 200 (reserves 1 0 sell 130 15 5 ++ reserves 2 1 sell 90 12 4 ++ buysBoth 3 (pos 205) 8) 0 3
+    (accepted 1 2 ++ (answer 3 0 5 2 ∷ generated 3 0 0 115 115 4 ∷ generated 3 1 0 75 75 5 ∷ []))
+    -- "A complex order takes shown size only"; it shows again before the next message, a sweep
+    ∷ session 400 (reserves 1 0 sell 130 15 3 ++ enters 2 1 sell 90 12 ++ buysBoth 3 (pos 220) 8 ++ sweeps) 0 4
+    (accepted 1 3 ++ (trade 0 0 130 3 3 1 ∷ trade 1 0 90 3 3 2 ∷ pair 3 (pos 220) 3
+    ∷ answer 4 0 0 0 ∷ trade 0 0 130 3 3 1 ∷ trade 1 0 90 3 3 2 ∷ pair 3 (pos 220) 3 ∷ []))
+    -- "Best price … count shown size only": 135 is the best when what shows at 130 is gone
+    ∷ session 300 (reserves 1 0 sell 130 15 4 ++ enters 2 1 sell 90 12 ++ enters 3 0 sell 135 9 ++ buysBoth 4 (pos 225) 20) 0 4
+    (accepted 1 4 ++ (trade 0 0 130 4 4 1 ∷ trade 1 0 90 4 4 2 ∷ pair 4 (pos 220) 4 ∷ trade 0 0 135 8 4 3 ∷ trade 1 0 90 8 4 2 ∷ pair 4 (pos 225) 8 ∷ []))
+    -- "Before settling": 8 of 8 left show again, and order 3's legging orders stand; of 7 left 7 show, and the one for 8 fails
+    ∷ session 400 (half ++ enters 4 1 buy 90 4 ++ enters 5 1 buy 90 1) 0 7
+    (leggedSheet ++ (answer 6 0 5 2 ∷ trade 1 0 90 4 4 2 ∷ answer 7 0 4 1 ∷ trade 1 0 90 1 5 2 ∷ removed 3 0 0 Unpaired ∷ []))
+    -- a hit's other leg takes shown size only, by id: 6 of order 2, though it has 12, and 4 of order 3
+    ∷ session 400 (enters 1 0 sell 130 15 ++ reserves 2 1 sell 90 12 6 ++ enters 3 1 sell 90 5 ++ buysBoth 4 (pos 205) 10 ++ enters 5 0 sell 115 10) 0 5
+    (accepted 1 3 ++ (answer 4 0 5 2 ∷ generated 4 0 0 115 115 10 ∷ generated 4 1 0 75 75 10
+    ∷ answer 5 0 0 0 ∷ trade 0 1 115 10 5 4 ∷ trade 1 0 90 6 4 2 ∷ trade 1 0 90 4 4 3 ∷ pair 4 (pos 205) 10 ∷ removed 4 0 0 Executed ∷ removed 4 1 0 Executed ∷ []))
+    -- "a given venue where one shows otherwise is unsound": less or more than 2 of 5; a shown quantity above what is left, or none
+    ∷ upon (withOne 5 2 3) 0 100 sweeps 0 1 (accepted 1 1) (withOne 5 2 3)
+    ∷ upon (withOne 5 2 4) 0 100 sweeps 9 0 [] (withOne 5 2 4)
+    ∷ upon (withOne 5 2 0) 0 100 sweeps 9 0 [] (withOne 5 2 0)
+    ∷ upon (withOne 2 3 0) 0 100 sweeps 9 0 [] (withOne 2 3 0)
+    ∷ upon (withOne 5 0 5) 0 100 sweeps 9 0 [] (withOne 5 0 5)
+    -- "Refusals that name kind 1 cover kind 9, and a shown quantity out of its range is a 4": 3 before 4, 4 before 5, 5 before 6; a shown quantity of 65,537,
+    -- whose low half is 1
+    ∷ session 300 (tooShort ++ reserves 9 0 sell 100 5 0 ++ reserves 9 0 sell 100 5 6 ++ reserves 9 0 sell 100 5 65537 ++ reserves 9 0 sell 113 5 2 ++ reserves 9 0 sell 100 5 2
+    ++ reserves 9 0 sell 100 5 6 ++ reserves 9 0 sell 100 5 2 ++ closes 0 ++ reserves 9 0 sell 100 5 2 ++ reserves 10 0 sell 100 5 2) 0 11
+    (answer 1 3 0 0 ∷ answer 2 4 0 0 ∷ answer 3 4 0 0 ∷ answer 4 4 0 0 ∷ answer 5 4 0 0 ∷ answer 6 0 0 0 ∷ answer 7 4 0 0 ∷ answer 8 5 0 0 ∷ answer 9 0 0 0
+    ∷ answer 10 5 0 0 ∷ answer 11 6 0 0 ∷ [])
+    -- showing all of it is kind 1: all of its 5 before the reserve of order 9
+    ∷ session 200 (reserves 9 0 sell 100 5 1 ++ allShown ++ enters 12 0 buy 100 7) 0 3
+    (accepted 1 3 ++ (trade 0 0 100 1 12 9 ∷ trade 0 0 100 5 12 11 ∷ trade 0 0 100 1 12 9 ∷ []))
+    ∷ []
+
 -- Bytes ---------------------------------------------------------------------------------------
 
 -- a legging order of complex order 67,305,985 gone from side 1 of series 6, by the cause's number
@@ -412,7 +515,9 @@ gone c n = told (removed 67305985 6 1 c) (11 ∷ 0 ∷ 68 ∷ 0 ∷ 1 ∷ 2 ∷ 
 pub layouts : List Trial
 layouts =
     taken (18 ∷ 0 ∷ 1 ∷ 0 ∷ 1 ∷ 2 ∷ 3 ∷ 4 ∷ 5 ∷ 1 ∷ 160 ∷ 134 ∷ 1 ∷ 0 ∷ 16 ∷ 39 ∷ 0 ∷ 0 ∷ [])
-    (Order (record { id = 67305985; series = 5; side = 1; price = 100000; quantity = 10000 }))
+    (Order (rest 67305985 5 1 100000 10000))
+    ∷ taken (22 ∷ 0 ∷ 9 ∷ 0 ∷ 1 ∷ 2 ∷ 3 ∷ 4 ∷ 5 ∷ 1 ∷ 160 ∷ 134 ∷ 1 ∷ 0 ∷ 16 ∷ 39 ∷ 0 ∷ 0 ∷ 44 ∷ 1 ∷ 0 ∷ 0 ∷ [])
+    (Order (single 67305985 5 1 100000 10000 300))
     ∷ taken (21 ∷ 0 ∷ 2 ∷ 0 ∷ 1 ∷ 2 ∷ 3 ∷ 4 ∷ 7 ∷ 1 ∷ 6 ∷ 0 ∷ 1 ∷ 254 ∷ 255 ∷ 255 ∷ 255 ∷ 16 ∷ 39 ∷ 0 ∷ 0 ∷ [])
     (TwoLeg (record { id = 67305985; series1 = 7; side1 = 1; series2 = 6; side2 = 0; class = 1; limit = minus 2; quantity = 10000 }))
     ∷ taken (8 ∷ 0 ∷ 3 ∷ 0 ∷ 1 ∷ 2 ∷ 3 ∷ 4 ∷ []) (Cancel 67305985)
@@ -444,8 +549,8 @@ layouts =
 
 -- Ranges --------------------------------------------------------------------------------------
 
-single : (id series side price quantity : ℕ) → Message
-single i s d p q = Order (record { id = i; series = s; side = d; price = p; quantity = q })
+whole : (id series side price quantity : ℕ) → Message
+whole i s d p q = Order (rest i s d p q)
 
 double : (s d t e class : ℕ) (n : ℤ) (quantity : ℕ) → Message
 double s d t e k n q = TwoLeg (record { id = 1; series1 = s; side1 = d; series2 = t; side2 = e; class = k; limit = n; quantity = q })
@@ -453,16 +558,17 @@ double s d t e k n q = TwoLeg (record { id = 1; series1 = s; side1 = d; series2 
 -- each range at its ends and one beyond
 pub edges : List Trial
 edges =
-    ranged (single 1 0 0 5 1) true ∷ ranged (single 4294967295 7 1 100000 10000) true
-    ∷ ranged (single 0 0 0 5 1) false ∷ ranged (single 1 8 0 10 1) false ∷ ranged (single 1 0 2 5 1) false ∷ ranged (single 1 0 0 0 1) false
-    ∷ ranged (single 1 0 0 100005 1) false ∷ ranged (single 1 0 0 5 0) false ∷ ranged (single 1 0 0 5 10001) false
-    ∷ ranged (single 1 5 0 15 1) true ∷ ranged (single 1 6 0 15 1) false ∷ ranged (single 1 0 0 6 1) false
+    ranged (whole 1 0 0 5 1) true ∷ ranged (whole 4294967295 7 1 100000 10000) true
+    ∷ ranged (whole 0 0 0 5 1) false ∷ ranged (whole 1 8 0 10 1) false ∷ ranged (whole 1 0 2 5 1) false ∷ ranged (whole 1 0 0 0 1) false
+    ∷ ranged (whole 1 0 0 100005 1) false ∷ ranged (whole 1 0 0 5 0) false ∷ ranged (whole 1 0 0 5 10001) false
+    ∷ ranged (whole 1 5 0 15 1) true ∷ ranged (whole 1 6 0 15 1) false ∷ ranged (whole 1 0 0 6 1) false
+    ∷ ranged (Order (single 1 0 0 5 10000 1)) true ∷ ranged (Order (single 1 0 0 5 10000 9999)) true ∷ ranged (Order (single 1 0 0 5 10 0)) false ∷ ranged (Order (single 1 0 0 5 10 11)) false
     ∷ ranged (double 0 0 7 1 1 (pos 200000) 10000) true ∷ ranged (double 7 1 0 0 0 (minus 200000) 1) true
     ∷ ranged (double 0 0 1 0 0 (pos 200001) 1) false ∷ ranged (double 0 0 1 0 0 (minus 200001) 1) false ∷ ranged (double 0 0 1 0 2 (pos 0) 1) false
     ∷ ranged (double 8 0 1 0 0 (pos 0) 1) false ∷ ranged (double 0 0 8 0 0 (pos 0) 1) false ∷ ranged (double 0 2 1 0 0 (pos 0) 1) false ∷ ranged (double 0 0 1 2 0 (pos 0) 1) false
     ∷ ranged (double 3 0 3 1 0 (pos 0) 1) false ∷ ranged (double 0 0 1 0 0 (pos 0) 0) false ∷ ranged (double 0 0 1 0 0 (pos 0) 10001) false
     ∷ ranged (TwoLeg (record { id = 0; series1 = 0; side1 = 0; series2 = 1; side2 = 0; class = 0; limit = pos 0; quantity = 1 })) false
-    ∷ ranged (single 4294967296 0 0 5 1) false
+    ∷ ranged (whole 4294967296 0 0 5 1) false
     ∷ ranged (Cancel 0) false ∷ ranged (Cancel 1) true
     ∷ ranged (Away 7 100000 0) true ∷ ranged (Away 8 0 0) false ∷ ranged (Away 0 100001 0) false ∷ ranged (Away 0 0 100001) false
     ∷ ranged (Status 7 2) true ∷ ranged (Status 8 0) false ∷ ranged (Status 0 3) false
@@ -486,7 +592,7 @@ pairs (suc count) n = buysBoth n (pos 100) 1 ++ pairs count (suc n)
 -- a venue with "two orders with id 1"
 twice : Venue
 twice =
-    let o : Regular = record { id = 1; series = 0; side = 0; price = 100; quantity = 1 } in
+    let o = rest 1 0 0 100 1 in
     withLast (withRegular freshVenue (set (set (freshVenue .regular) 0 o) 1 o)) 1
 
 pub refused : List Trial
@@ -502,7 +608,7 @@ refused =
     ∷ session 100 ((4 ∷ 0 ∷ 6 ∷ 1 ∷ []) ++ (4 ∷ 1 ∷ 6 ∷ 0 ∷ [])) 1 2 (answer 1 2 0 0 ∷ answer 2 1 0 0 ∷ [])
     -- 2: "04 00 63 00"
     ∷ session 100 (4 ∷ 0 ∷ 99 ∷ 0 ∷ []) 0 1 (answer 1 2 0 0 ∷ [])
-    ∷ session 100 ((5 ∷ 0 ∷ 0 ∷ 0 ∷ 7 ∷ []) ++ (4 ∷ 0 ∷ 12 ∷ 0 ∷ []) ++ (4 ∷ 0 ∷ 64 ∷ 0 ∷ [])) 0 3 (answer 1 2 0 0 ∷ answer 2 2 0 0 ∷ answer 3 2 0 0 ∷ [])
+    ∷ session 100 ((5 ∷ 0 ∷ 0 ∷ 0 ∷ 7 ∷ []) ++ (4 ∷ 0 ∷ 10 ∷ 0 ∷ []) ++ (4 ∷ 0 ∷ 12 ∷ 0 ∷ []) ++ (4 ∷ 0 ∷ 64 ∷ 0 ∷ [])) 0 4 (answer 1 2 0 0 ∷ answer 2 2 0 0 ∷ answer 3 2 0 0 ∷ answer 4 2 0 0 ∷ [])
     -- 3: "05 00 06 00 00"
     ∷ session 100 (5 ∷ 0 ∷ 6 ∷ 0 ∷ 0 ∷ []) 0 1 (answer 1 3 0 0 ∷ [])
     -- too short; 3 before 4, which a cancel of id 0 is
@@ -524,9 +630,9 @@ refused =
     -- either series of a complex order
     ∷ session 100 (closes 1 ++ pairs 1 1 ++ closes 0 ++ opens 1 ++ pairs 1 1) 0 5
     (answer 1 0 0 0 ∷ answer 2 6 0 0 ∷ answer 3 0 0 0 ∷ answer 4 0 0 0 ∷ answer 5 6 0 0 ∷ [])
-    -- 7: "the 129th resting", after 6 and "even if the order would trade"; the 33rd complex order, after 5
-    ∷ session 1600 (closes 1 ++ offers 129 1 ++ enters 130 1 buy 100 1 ++ enters 131 0 buy 100 1) 0 132
-    (accepted 1 129 ++ (answer 130 7 0 0 ∷ answer 131 6 0 0 ∷ answer 132 7 0 0 ∷ []))
+    -- 7: "the 129th resting", after 6 and "even if the order would trade", of kind 9 too; the 33rd complex order, after 5
+    ∷ session 1650 (closes 1 ++ offers 129 1 ++ enters 130 1 buy 100 1 ++ enters 131 0 buy 100 1 ++ reserves 132 1 buy 100 2 1 ++ reserves 132 0 buy 100 2 1) 0 134
+    (accepted 1 129 ++ (answer 130 7 0 0 ∷ answer 131 6 0 0 ∷ answer 132 7 0 0 ∷ answer 133 6 0 0 ∷ answer 134 7 0 0 ∷ []))
     ∷ session 500 (opens 0 ++ opens 1 ++ pairs 33 1 ++ pairs 1 1) 0 36 (accepted 1 34 ++ (answer 35 7 0 0 ∷ answer 36 5 0 0 ∷ []))
     -- 8: "cancel 9, fresh"
     ∷ session 100 (cancels 9) 0 1 (answer 1 8 0 0 ∷ [])
@@ -793,7 +899,8 @@ faults =
     ∷ unsound (legsUp 0 (rest 2 0 sell 130 15 ∷ rest 1 1 sell 90 12 ∷ []) 0 (both 3 8) 0 (leg 3 115 8))
     ∷ unsound (legsUp 0 (rest 1 0 sell 130 15 ∷ noRegular ∷ rest 2 1 sell 90 12 ∷ []) 0 (both 3 8) 0 (leg 3 115 8))
     ∷ unsound (legsUp 0 resting 1 (both 3 8) 0 (leg 3 115 8))
-    ∷ stale (rest 1 0 0 0 0) ∷ stale (rest 0 1 0 0 0) ∷ stale (rest 0 0 1 0 0) ∷ stale (rest 0 0 0 5 0)
+    ∷ stale (rest 1 0 0 0 0) ∷ stale (rest 0 1 0 0 0) ∷ stale (rest 0 0 1 0 0) ∷ stale (rest 0 0 0 5 0) ∷ stale (single 0 0 0 0 0 1)
+    ∷ stale (record { id = 0; series = 0; side = 0; price = 0; quantity = 0; display = 0; reserve = 1 })
     ∷ staleComplex (record { id = 1; series1 = 0; side1 = 0; series2 = 0; side2 = 0; class = 0; limit = pos 0; quantity = 0 })
     ∷ staleComplex (record { id = 0; series1 = 1; side1 = 0; series2 = 0; side2 = 0; class = 0; limit = pos 0; quantity = 0 })
     ∷ staleComplex (record { id = 0; series1 = 0; side1 = 1; series2 = 0; side2 = 0; class = 0; limit = pos 0; quantity = 0 })
@@ -879,7 +986,7 @@ numbers =
     counted (length (freshVenue .regular)) 128 ∷ counted (length (freshVenue .complex)) 32
     ∷ counted (length (freshVenue .legging)) 16 ∷ counted (length (freshVenue .series)) 8
     -- no length where there is no such kind
-    ∷ counted (lengthOf 0) 0 ∷ counted (lengthOf 9) 0
+    ∷ counted (lengthOf 0) 0 ∷ counted (lengthOf 10) 0
     -- the numbers of answers that are enums
     ∷ counted (verdictNumber Stands) 0 ∷ counted (verdictNumber (Fails NotOpen)) 6 ∷ counted (decodedNumber (Taken Sweep)) 0 ∷ counted (decodedNumber (Refused 3)) 3
     -- "contracts in a series from that series' 65, as taker or maker; pairs, or paired, from 66; crossed from 70, as taker or maker; cancelled from 71"
@@ -963,12 +1070,12 @@ seasons =
     ∷ []
 
 pub trials : List Trial
-trials = starred ++ wrongs ++ choices ++ respecting ++ layouts ++ edges ++ refused ++ met ++ settled ++ worked ++ made ++ faults ++ lefts ++ numbers
+trials = starred ++ wrongs ++ choices ++ respecting ++ reserved ++ layouts ++ edges ++ refused ++ met ++ settled ++ worked ++ made ++ faults ++ lefts ++ numbers
 
 pub trials-hold : map outcome trials ≡ map expected trials
-unfolding opened-rules outcome expected spread open1 legsUp rest both leg resting leggedVenue minus opens closes enters pairUp buysBoth cancels sweeps opening accepted awayAdded starred together wrongs twoLeg legged leggedSheet quoted relying inAuction restingBefore keptApart choices quotes bidding asked dearer respecting gone layouts single double edges offers pairs twice refused met settled threeOpen farApart worked awayAlone nearTop made standing base atTop isSound unsound locked stale staleComplex staleLegging listing market spreading faults lone quoting idle allHeld lefts named numbers trials
+unfolding opened-rules outcome expected spread open1 legsUp single rest both leg resting leggedVenue minus opens closes enters reserves pairUp buysBoth cancels sweeps opening accepted awayAdded starred together wrongs twoLeg legged leggedSheet quoted relying inAuction restingBefore keptApart choices quotes bidding asked dearer respecting withOne half allShown tooShort reserved gone layouts whole double edges offers pairs twice refused met settled threeOpen farApart worked awayAlone nearTop made standing base atTop isSound unsound locked stale staleComplex staleLegging listing market spreading faults lone quoting idle allHeld lefts named numbers trials
 trials-hold = refl
 
 pub seasons-hold : map outcome seasons ≡ map expected seasons
-unfolding opened-rules outcome expected opens closes enters pairUp buysBoth cancels sweeps opening accepted awayAdded twice increments bands dating dated many full inAll seasons
+unfolding opened-rules outcome expected single rest opens closes enters pairUp buysBoth cancels sweeps opening accepted awayAdded twice increments bands dating dated many full inAll seasons
 seasons-hold = refl

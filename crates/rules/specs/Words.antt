@@ -91,7 +91,7 @@ placeOf s d = 2 * s + d
 
 -- free places: all zero
 abbrev pub noRegular : Regular
-noRegular = record { id = 0; series = 0; side = 0; price = 0; quantity = 0 }
+noRegular = record { id = 0; series = 0; side = 0; price = 0; quantity = 0; display = 0; reserve = 0 }
 
 abbrev pub noComplex : Complex
 noComplex = record { id = 0; series1 = 0; side1 = 0; series2 = 0; side2 = 0; class = 0; limit = pos 0; quantity = 0 }

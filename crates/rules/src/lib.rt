@@ -5,19 +5,22 @@ ghost use Prim.Native.Nat.{ℕ, min, _+_, _≤_};
 ghost use lib.IntN.{ℤ, pos, natAbs, _+ℤ_};
 ghost use Rattle.rules.specs.Words.{opposite, signed, placeOf, freshVenue};
 ghost use Rattle.rules.specs.Settings.{baseFigure};
-ghost use Rattle.rules.specs.Messages.{lengthOf, messageKind};
+ghost use Rattle.rules.specs.Messages.{lengthOf, messageForm};
 ghost use Rattle.rules.specs.Records.{causeNumber};
-ghost use Rattle.rules.specs.Prices.{displayed, weighed, nearNet};
+ghost use Rattle.rules.specs.Prices.{shown, displayed, weighed, nearNet};
 ghost use Rattle.rules.specs.Standing.{verdictNumber};
 ghost use Rattle.rules.specs.Refusals.{decodedNumber};
 
-// A regular order. Its place is free when its quantity is 0.
+// A regular order: quantity is what is left of it, reserve what of that it does not show, display the shown quantity that it shows again before settling (or
+// what is left of it, where that is less). Its place is free when its quantity is 0.
 pub struct Regular {
     pub id: u32,
     pub series: u8,
     pub side: u8,
     pub price: u32,
     pub quantity: u32,
+    pub display: u32,
+    pub reserve: u32,
 }
 
 // A two-leg complex order; limit is N. Its place is free when its quantity is 0.
@@ -85,7 +88,7 @@ pub struct Settings {
     pub percent: u8,
 }
 
-// A message, kinds 1 to 8.
+// A message, kinds 1 to 9; an order of kind 1 is one of kind 9 that shows all of it.
 pub enum Message {
     Order(Regular),
     TwoLeg(Complex),
@@ -131,6 +134,8 @@ pub fn fresh() -> Venue
         side: 0,
         price: 0,
         quantity: 0,
+        display: 0,
+        reserve: 0,
     };
     let complex = Complex {
         id: 0,
@@ -223,6 +228,16 @@ pub fn lesser(a: u32, b: u32) -> u32
     b
 }
 
+// What an order shows: what is left of it but for its reserve.
+pub fn shown_of(o: Regular) -> u32
+    ensures { λ r. ⌜ r ≡ shown o ⌝ }
+{
+    if o.quantity < o.reserve {
+        return 0;
+    }
+    o.quantity - o.reserve
+}
+
 // A complex order's limit, in 64 bits.
 pub fn limit_of(c: Complex) -> i64
     ensures { λ r. ⌜ (r ≡ c .limit) × (natAbs r ≤ 2147483648) ⌝ }
@@ -262,9 +277,9 @@ pub fn near_net(percent: u8, o: i64, t: i64) -> bool
     100 * t <= 100 * o + x * o
 }
 
-// A message's kind.
-pub fn message_kind(m: Message) -> u16
-    ensures { λ r. ⌜ r ≡ messageKind m ⌝ }
+// A message's form, by the first kind that has it: an order of kind 9 is of the form of kind 1.
+pub fn message_form(m: Message) -> u16
+    ensures { λ r. ⌜ r ≡ messageForm m ⌝ }
 {
     match m {
         Message::Order(_) => 1,
@@ -308,6 +323,9 @@ pub fn length_of(kind: u16) -> u16
     }
     if kind <= 8 {
         return 9;
+    }
+    if kind <= 9 {
+        return 22;
     }
     0
 }
