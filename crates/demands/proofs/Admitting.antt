@@ -173,7 +173,7 @@ module _ (v : Venue) (o : Regular) (i : ℕ) where
     unfolding opposite
     opposite-small d = omega arith
 
-    at-i : reg withOrder i ≡ o
+    pub at-i : reg withOrder i ≡ o
     unfolding withRegular withLast
     at-i = getD-set-same (v .regular) i o noRegular fits
 

@@ -21,6 +21,7 @@ use Rattle.rules.proofs.Dating.{some-number, step-follows}
 use Rattle.rules.proofs.Editions.{dated-steps}
 use Rattle.rules.proofs.Reading.{reads-back}
 use Rattle.rules.proofs.Refusing.{refusal-own}
+use Rattle.rules.proofs.Showing.{showing-shown}
 use Rattle.rules.proofs.Tests.{and-in}
 use Rattle.demands.proofs.Account.{Account, ComplexAccount, advance, onto}
 use Rattle.demands.proofs.Fresh.{fresh-follows, fresh-invariant, start-account}
@@ -70,7 +71,8 @@ pub demand3 : Demand3
 demand3 o gs =
     let a = all-account o gs in
     record {
-      standing = standing (calls (opening o) gs .venue) (a .invariant .fine) (a .invariant .stand);
+      standing = standing (calls (opening o) gs .venue) (a .invariant .fine) (a .invariant .stand)
+          (showing-shown (calls (opening o) gs .venue) (a .invariant .ranged) (a .invariant .showing));
       complexes = λ c m. adds _ c (a .complexes c m);
       orders = λ o m. record { adds = a .orders o m .adds };
     }

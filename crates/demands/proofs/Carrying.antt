@@ -14,18 +14,18 @@ use Rattle.rules.specs.declared.Legging.{Legging}
 use Rattle.rules.specs.declared.Venue.{Venue}
 use Rattle.rules.specs.declared.Verdict.{Verdict}
 use Rattle.rules.specs.Base.{held}
-use Rattle.rules.specs.Words.{complexAt, noComplex, opposite, withComplex, withLegging}
+use Rattle.rules.specs.Words.{complexAt, noComplex, opposite, withComplex, withLegging, withRegular}
 use Rattle.rules.specs.Bytes.{i32}
 use Rattle.rules.specs.Effects.{Effect, Turn, _⟫_, ended, nothing, repeat, report, turned}
 use Rattle.rules.specs.Prices.{bestRegular, bestSize}
 use Rattle.rules.specs.Removal.{remove, removeOf}
-use Rattle.rules.specs.Standing.{settle, verdict}
+use Rattle.rules.specs.Standing.{settle, showAgain, verdict}
 use Rattle.rules.specs.Trading.{fillComplex}
 use Rattle.rules.specs.Complex.{anyClosed, cross, crossTurn, crosses, legIn, legInTurn, legsIn, reversed, touch, touches, work}
 use Rattle.rules.proofs.Cases.{crossTurn-by, if-by, repeat-by}
 use Rattle.rules.proofs.Ending.{legs-facts}
 use Rattle.rules.proofs.Filling.{cx}
-use Rattle.rules.proofs.Ledger.{Moves, moves-nothing, moves-remove, moves-then}
+use Rattle.rules.proofs.Ledger.{Moves, moves-nothing, moves-remove, moves-settle, moves-then}
 use Rattle.rules.proofs.Moving.{Crosses, moves-cross, other-sameC}
 use Rattle.rules.proofs.Pairing.{LegsIn, legIn-venue, legged, legged-complex, legged-legging, moves-legIn}
 use Rattle.rules.proofs.Picking.{At}
@@ -52,7 +52,9 @@ carries-remove g v f = record { moves = moves-remove g v; homes = homes-remove g
 
 pub settle-carries : (v : Venue) → Fine v → Carries v (settle v)
 unfolding settle
-settle-carries v f = carries-remove (verdict v) v f
+settle-carries v f =
+    let w = showAgain v in
+    record { moves = moves-settle v; homes = homes-remove (verdict w) w (unfold showAgain withRegular in (homes-same refl refl (f .homes))) }
 
 -- Turns ---------------------------------------------------------------------------------------
 

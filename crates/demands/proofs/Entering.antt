@@ -17,7 +17,7 @@ use Rattle.rules.specs.Effects.{repeat, report, turned}
 use Rattle.rules.specs.Prices.{bestRegular, bestSize, clearPrice, restsAt, sizeIn}
 use Rattle.rules.specs.Standing.{otherClear, otherLeg, otherSize, parentOf}
 use Rattle.rules.specs.Trading.{fillRegular, tradeWith}
-use Rattle.rules.specs.Order.{hit, isMet, meet, meetTurn}
+use Rattle.rules.specs.Order.{atOnce, hit, isMet, meet, meetTurn}
 use Rattle.rules.proofs.Cases.{meetTurn-by}
 use Rattle.rules.proofs.Filling.{cx, lg, reg}
 use Rattle.rules.proofs.Finding.{leg-series}
@@ -27,7 +27,7 @@ use Rattle.rules.proofs.Moving.{Meets, moves-meet, other-same}
 use Rattle.rules.proofs.Owning.{first-held}
 use Rattle.rules.proofs.Picking.{At}
 use Rattle.rules.proofs.Settling.{clear-best}
-use Rattle.rules.proofs.Sizes.{Elsewhere, elsewhere-trans, fill-elsewhere, rests-held, rests-series, rests-side}
+use Rattle.rules.proofs.Sizes.{Elsewhere, elsewhere-trans, fill-elsewhere, once-most, rests-held, rests-series, rests-side}
 use Rattle.rules.proofs.Tests.{and-l}
 use Rattle.demands.proofs.Carrying.{Carries, TurnOk, opposite-not, repeat-carries}
 use Rattle.demands.proofs.Homes.{Fine, Home, Homes, home-held, homes-pairOff, homes-same, parent-found, place-at}
@@ -90,7 +90,7 @@ module _ (i s d : ℕ) (v : Venue) (f : Fine v) (r : Ready i s d v) where
     unfolding isMet
     rests = and-l _ _ (a .is)
 
-    meets : Meets v i j (min (o .quantity) (m .quantity))
+    meets : Meets v i j (min (o .quantity) (atOnce m))
     meets = record {
       apart = λ e. opposite-not (o .side) (ap (λ (x : Regular). x .side) (ap (λ (n : ℕ). reg v n) e ∙ a .at) ∙ rests-side _ _ m rests);
       fits1 = fits;
@@ -99,18 +99,18 @@ module _ (i s d : ℕ) (v : Venue) (f : Fine v) (r : Ready i s d v) where
       held2 = rw (a .at) (rests-held _ _ m rests);
       series = rw (a .at) (rests-series _ _ m rests);
       enough1 = omega arith;
-      enough2 = rw (a .at) (omega arith);
+      enough2 = rw (a .at) (let z = once-most m in omega arith);
     }
 
-    after-meet : Elsewhere s v (meet i j (min (o .quantity) (m .quantity)) v .venue)
+    after-meet : Elsewhere s v (meet i j (min (o .quantity) (atOnce m)) v .venue)
     unfolding meet tradeWith report
     after-meet =
-        let k = min (o .quantity) (m .quantity) in
+        let k = min (o .quantity) (atOnce m) in
         elsewhere-trans (fill-elsewhere i k s v (r .series))
         (fill-elsewhere j k s (fillRegular i k v)
         (ap (λ (x : Regular). x .series) (other-same i j k v meets ∙ a .at) ∙ rests-series _ _ m rests ∙ r .series))
 
-    pub carries-meet : Carries v (meet i j (min (o .quantity) (m .quantity)) v) × Ready i s d (meet i j (min (o .quantity) (m .quantity)) v .venue)
+    pub carries-meet : Carries v (meet i j (min (o .quantity) (atOnce m)) v) × Ready i s d (meet i j (min (o .quantity) (atOnce m)) v .venue)
     carries-meet =
         let mv = moves-meet i j _ v meets in
         let x = after-meet in (
@@ -194,7 +194,7 @@ module _ (i s d : ℕ) (v : Venue) (f : Fine v) (r : Ready i s d v) where
         )
 
   -- a turn
-  legging-is : leggingAt v (o .series) (opposite (o .side)) ≡ l
+  pub legging-is : leggingAt v (o .series) (opposite (o .side)) ≡ l
   unfolding leggingAt
   legging-is = rw (r .series, r .side)
 

@@ -9,7 +9,7 @@ use Rattle.rules.specs.Base.{all, held}
 use Rattle.rules.specs.Words.{freshVenue, isAway, isStatus, leggingAt, noComplex, noEdition, noLegging, noRegular, notListed, placeOf, regularAt, within}
 use Rattle.rules.specs.Prices.{restsAt}
 use Rattle.rules.specs.Places.{arranged, blankComplex, blankEdition, blankRegular}
-use Rattle.rules.specs.Sound.{editionsSound, follows, listedInRange}
+use Rattle.rules.specs.Sound.{editionsSound, follows, listedInRange, showsFully}
 use Rattle.rules.specs.Sums.{total}
 use Rattle.demands.specs.Demand.{start}
 use Rattle.rules.proofs.Arranging.{all-at}
@@ -18,6 +18,7 @@ use Rattle.rules.proofs.Generating.{AllStand}
 use Rattle.rules.proofs.Integers.{minus, plus}
 use Rattle.rules.proofs.Owning.{Own, byLegging, byRegular}
 use Rattle.rules.proofs.Settling.{free-stands}
+use Rattle.rules.proofs.Showing.{Showing}
 use Rattle.rules.proofs.Widths.{Ranged, no-cx, no-lg}
 use Rattle.demands.proofs.Account.{Account}
 use Rattle.demands.proofs.Homes.{Edited, Invariant, Tidy}
@@ -60,6 +61,10 @@ fresh-ranged = record {
   dated = λ i h. absurd (false≢true (rw (getD-rep 32 i noEdition) at h));
 }
 
+fresh-showing : Showing freshVenue
+unfolding Showing freshVenue showsFully
+fresh-showing i = rw (getD-rep 128 i noRegular)
+
 fresh-tidy : Tidy freshVenue
 unfolding freshVenue blankRegular blankComplex
 fresh-tidy = record {
@@ -100,6 +105,7 @@ fresh-invariant = record {
   stand = fresh-stand;
   tidy = fresh-tidy;
   ranged = fresh-ranged;
+  showing = fresh-showing;
   uncrossed = λ s a b s8 p q. absurd (fresh-own p);
   edited = fresh-edited;
   priced = λ i h. absurd (fresh-reg i h);

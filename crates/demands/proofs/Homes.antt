@@ -1,7 +1,7 @@
 -- The invariant of a venue, place by place: what soundness asks (`Soundness` has the test), in the form that every effect keeps.
 -- `Good`: shapes, ranges and ids. `Homes`: each legging order has a resting parent whose leg it is and which has as much open.
--- `Tidy`: no gap, and free places are all zero; this holds between messages. `Uncrossed`: no series is locked or crossed.
--- `Edited`: editions rise in both numbers. `Priced`: resting prices are on the increments in force.
+-- `Tidy`: no gap, and free places are all zero; `Showing`: each order shows what it should; these hold between messages.
+-- `Uncrossed`: no series is locked or crossed. `Edited`: editions rise in both numbers. `Priced`: resting prices are on the increments in force.
 use mathlib.Core.Path.{_∙_, _≡_, ap, refl, sym}
 use mathlib.Core.Bool.{Bool, false, false≢true, true, true≢false}
 use mathlib.Core.Logic.{_≢_, _⊎_, inl, inr}
@@ -36,6 +36,7 @@ use Rattle.rules.proofs.Ledger.{Moved}
 use Rattle.rules.proofs.Owning.{Own}
 use Rattle.rules.proofs.Removing.{length-stayers, stay-of}
 use Rattle.rules.proofs.Settling.{Kept, stayers-kept}
+use Rattle.rules.proofs.Showing.{Showing}
 use Rattle.rules.proofs.Tests.{held-pos, pos-held}
 use Rattle.rules.proofs.Widths.{Ranged}
 
@@ -248,6 +249,7 @@ pub record Invariant (v : Venue) : Type 0 where
   pub stand : AllStand v
   pub tidy : Tidy v
   pub ranged : Ranged v
+  pub showing : Showing v
   pub uncrossed : Uncrossed v
   pub edited : Edited v
   pub priced : Priced v

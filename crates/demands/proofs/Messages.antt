@@ -39,6 +39,7 @@ use Rattle.rules.proofs.Generating.{AllStand, new}
 use Rattle.rules.proofs.Ledger.{Moved, moved-silent, moved-trans, silent-nil}
 use Rattle.rules.proofs.Moving.{moves-cancelComplex, moves-cancelRegular}
 use Rattle.rules.proofs.Refusing.{Passed, accepted}
+use Rattle.rules.proofs.Showing.{step-showing}
 use Rattle.rules.proofs.Shapes.{Sized, step-sized}
 use Rattle.rules.proofs.Tests.{and-l, or-r}
 use Rattle.demands.proofs.Account.{Takes}
@@ -152,26 +153,28 @@ free-isC : (v : Venue) → freeComplex v < 32 → Fine v → held (cx v (freeCom
 unfolding freeComplex
 free-isC v i f = not-true _ (where-passes noComplex (λ o. not (held (o .quantity))) (v .complex) (rw (f .good .len2) i))
 
+-- an accepted order has a place, the first that is free
+pub order-joins : (v : Venue) → Fine v → Tidy v → (o : Regular) → Passed v (Order o) → Joins v o (freeRegular v)
+order-joins v f td o p =
+    let i = freeRegular v in
+    let there : i < 128 = unfold full in (leb-false 128 (freeRegular v) (p .room)) in
+    let free = free-is v there f in
+    record { fine = f; new = unfold idTooLow in (leb-false (o .id) (v .last) (p .fresh-id)); there = there; free = free; behind = after-regular td i free }
+
 module _ (number : ℕ) (v : Venue) (f : Fine v) (z : Stepped v) (st : AllStand v) (td : Tidy v) where
   module _ (o : Regular) (p : Passed v (Order o)) where
     abbrev i : ℕ
     i = freeRegular v
 
-    joins : Joins v o i
-    joins =
-        let there : i < 128 = unfold full in (leb-false 128 (freeRegular v) (p .room)) in
-        let free = free-is v there f in
-        record { fine = f; new = unfold idTooLow in (leb-false (o .id) (v .last) (p .fresh-id)); there = there; free = free; behind = after-regular td i free }
-
     abbrev w : Venue
     w = withOrder v o i
 
     admitted : Admitted v w
-    admitted = order-admitted v o i joins
+    admitted = order-admitted v o i (order-joins v f td o p)
 
     order-stood : Stood w (perform number (Order o) v)
     unfolding perform order enterRegular putRegular freeRegular withLast
-    order-stood = end-settled _ (admitted .fine) (enter-carries i (o .series) (o .side) (o .quantity) w (admitted .fine) (order-ready v o i joins st))
+    order-stood = end-settled _ (admitted .fine) (enter-carries i (o .series) (o .side) (o .quantity) w (admitted .fine) (order-ready v o i (order-joins v f td o p) st))
 
     order-takes : Takes v (perform number (Order o) v .reports) (perform number (Order o) v .venue) (Order o ∷ [])
     order-takes = record {
@@ -180,7 +183,7 @@ module _ (number : ℕ) (v : Venue) (f : Fine v) (z : Stepped v) (st : AllStand 
       moved = order-stood .carries .moves;
       fine = fine-after (admitted .fine) (order-stood .carries);
       stand = order-stood .stand;
-      orders = λ o′ m. subst (λ (x : Regular). NewOrder v w x) (sym (order-injective (List·Memᴰ·eq-of-singleton m))) (order-new v o i joins);
+      orders = λ o′ m. subst (λ (x : Regular). NewOrder v w x) (sym (order-injective (List·Memᴰ·eq-of-singleton m))) (order-new v o i (order-joins v f td o p));
       complexes = λ c m. absurd (kinds-apart o c (sym (List·Memᴰ·eq-of-singleton m)));
     }
 
@@ -311,6 +314,7 @@ step-invariant v k n few next bs =
       stand = t .stand;
       tidy = t .tidy;
       ranged = told v (k .ranged) n bs .ranged;
+      showing = step-showing v n bs (k .showing);
       uncrossed = step-uncrossed v k n bs;
       edited = step-edited v (k .edited) n few next bs;
       priced = step-priced v n bs (k .edited .len) (k .ranged) (k .priced);

@@ -10,8 +10,8 @@ use Rattle.demands.specs.Kept.{SoundVenue}
 use Rattle.demands.specs.Most.{Lengths, Parts, RoomEnough, WritesAtMost}
 use Rattle.rules.proofs.Calling.{not-exceeds, oneFrom-done}
 use Rattle.rules.proofs.Matching.{Housed}
-use Rattle.rules.proofs.Worth.{lengths, worth-most, written}
-use Rattle.rules.proofs.Written.{step-writes}
+use Rattle.rules.proofs.Worth.{lengths, written}
+use Rattle.rules.proofs.Written.{places, step-writes}
 use Rattle.demands.proofs.Homes.{parent-found}
 use Rattle.demands.proofs.Soundness.{sound-out}
 
@@ -31,11 +31,10 @@ sound-housed v s n h =
 pub writes-at-most : WritesAtMost
 writes-at-most v s number bs =
     let a = step-writes v (sound-housed v s) number bs in
-    let b = worth-most v in
     let x = s .shaped .regular in
     let y = s .shaped .complex in
     let z = s .shaped .legging in
-    rw (written (step v number bs .effect .reports)) (omega arith)
+    rw (written (step v number bs .effect .reports)) (unfold places in (omega arith))
 
 pub room-enough : RoomEnough
 unfolding one called after ends

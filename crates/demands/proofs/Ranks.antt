@@ -14,7 +14,7 @@ use Rattle.rules.specs.Words.{withLegging}
 use Rattle.rules.specs.Records.{Report, removed}
 use Rattle.rules.specs.Prices.{inBand}
 use Rattle.rules.specs.Removal.{goes, leavers, remove, stay, stayers}
-use Rattle.rules.specs.Standing.{bothOpen, pairs, parentOf, settle, shownWell, stands, verdict, verdictOf}
+use Rattle.rules.specs.Standing.{bothOpen, pairs, parentOf, settle, showAgain, shownWell, stands, verdict, verdictOf}
 use Rattle.rules.proofs.Verdicts.{ladder}
 use Rattle.demands.specs.Ranks.{Unaffected, formerSettle, formerVerdict, formerVerdictOf, leftBand, recaused, retold}
 
@@ -86,13 +86,13 @@ module _ (v : Venue) where
   same-leavers n [] = refl
   same-leavers n (l ∷ ls) = rw (verdict-revised n l, revised-goes, map-append, same-leavers (suc n) ls)
 
-  same-venue : settle v .venue ≡ formerSettle v .venue
-  unfolding settle formerSettle remove
-  same-venue = ap (withLegging v) (same-stayers 0 (v .legging))
+same-venue : (v : Venue) → settle v .venue ≡ formerSettle v .venue
+unfolding settle formerSettle remove
+same-venue v = let w = showAgain v in ap (withLegging w) (same-stayers w 0 (w .legging))
 
-  same-reports : settle v .reports ≡ map (retold v) (formerSettle v .reports)
-  unfolding settle formerSettle remove
-  same-reports = same-leavers 0 (v .legging)
+same-reports : (v : Venue) → settle v .reports ≡ map (retold (showAgain v)) (formerSettle v .reports)
+unfolding settle formerSettle remove
+same-reports v = let w = showAgain v in same-leavers w 0 (w .legging)
 
 pub unaffected : Unaffected
 unaffected = record {

@@ -20,9 +20,9 @@ use Rattle.rules.specs.Standing.{findComplex, hasLeg, parentOf, stands, verdict
 use Rattle.rules.specs.Complex.{restsComplex}
 use Rattle.rules.specs.Places.{blankComplex, blankEdition, blankLegging, blankRegular, holdsComplex, holdsEdition, holdsRegular}
 use Rattle.rules.specs.Refusals.{complexInRange, onIncrement, regularInRange}
-use Rattle.rules.specs.Sound.{apart, complexesSound, editionInRange, editionsSound, idsDistinct, leggingSound, leggingsSound, listedInRange, regularsSound, sound}
+use Rattle.rules.specs.Sound.{apart, complexesSound, editionInRange, editionsSound, idsDistinct, leggingSound, leggingsSound, listedInRange, regularsSound, showsFully, sound}
 use Rattle.demands.specs.Kept.{Shaped, SoundVenue}
-use Rattle.rules.proofs.Arranging.{Arranged, all-at, all-in, arranged-in, arranged-out, blank-free, blank-freeC}
+use Rattle.rules.proofs.Arranging.{Arranged, all-at, all-in, arranged-in, arranged-out, blank-free, blank-freeC, blank-is}
 use Rattle.rules.proofs.Dating.{edition-free}
 use Rattle.rules.proofs.Editions.{Dated}
 use Rattle.rules.proofs.Filling.{cx, lg, reg}
@@ -30,6 +30,7 @@ use Rattle.rules.proofs.Finding.{LegOf, find-at, leg-in, leg-out, rests-in, res
 use Rattle.rules.proofs.Generating.{AllStand, is-stands}
 use Rattle.rules.proofs.Integers.{abs-is}
 use Rattle.rules.proofs.Settling.{free-stands}
+use Rattle.rules.proofs.Showing.{Showing, showing-shown}
 use Rattle.rules.proofs.Tests.{and-in, and-l, and-r, held-pos, pos-held}
 use Rattle.rules.proofs.Widths.{CxFits, LgFits, Ranged, RegFits, complex-fits, order-fits}
 use Rattle.demands.proofs.Homes.{Home, InRange, Invariant, parent-found}
@@ -46,6 +47,10 @@ blank-fits o z = record {
   quantity = (let x = eqb-true (o .quantity) 0 (unfold blankRegular in (search (and-l, and-r, z) depth 8)) in omega arith);
   ok = λ h. absurd (true≢false (sym h ∙ blank-free o z));
 }
+
+blank-fully : (o : Regular) → blankRegular o ≡ true → showsFully o ≡ true
+unfolding showsFully
+blank-fully o z = rw (blank-is o z)
 
 blank-fitsC : (c : Complex) → blankComplex c ≡ true → CxFits c
 blank-fitsC c z =
@@ -168,7 +173,7 @@ legging-fits l z h = record {
 
 module _ (v : Venue) (sh : Shaped v) (t : Asked v) where
   abbrev askR : Regular → Bool
-  askR o = regularInRange o && onIncrement v o && leb (o .id) (v .last)
+  askR o = regularInRange o && onIncrement v o && showsFully o && leb (o .id) (v .last)
 
   abbrev askC : Complex → Bool
   askC c = complexInRange c && leb (c .id) (v .last)
@@ -182,7 +187,7 @@ module _ (v : Venue) (sh : Shaped v) (t : Asked v) where
   C = arranged-out noComplex holdsComplex askC blankComplex (λ c. c .id) blank-freeC blank-noneC 0 (v .complex) (t .complexes)
 
   okR : (i : ℕ) → held (reg v i .quantity) ≡ true → regularInRange (reg v i) ≡ true
-  okR i h = and-l _ (onIncrement v (reg v i)) (and-l _ (leb (reg v i .id) (v .last)) (R .asks i h))
+  okR i h = and-l _ (onIncrement v (reg v i)) (and-l _ (showsFully (reg v i)) (and-l _ (leb (reg v i .id) (v .last)) (R .asks i h)))
 
   okC : (j : ℕ) → held (cx v j .quantity) ≡ true → complexInRange (cx v j) ≡ true
   okC j h = and-l _ (leb (cx v j .id) (v .last)) (C .asks j h)
@@ -213,6 +218,14 @@ module _ (v : Venue) (sh : Shaped v) (t : Asked v) where
       lg-fits : (i : ℕ) (b : Bool) → held (lg v i .quantity) ≡ b → LgFits (lg v i)
       lg-fits i true h = legging-fits (lg v i) (legging-out v i (lg v i) (L i) h .ok) h
       lg-fits i false h = blank-fitsL (lg v i) (legging-blank v i (lg v i) (L i) h)
+
+  showing-out : Showing v
+  unfolding Showing
+  showing-out i = go (held (reg v i .quantity)) refl
+    where
+      go : (b : Bool) → held (reg v i .quantity) ≡ b → showsFully (reg v i) ≡ true
+      go true h = and-r (regularInRange (reg v i) && onIncrement v (reg v i)) (showsFully (reg v i)) (and-l _ (leb (reg v i .id) (v .last)) (R .asks i h))
+      go false h = blank-fully (reg v i) (R .blanks i h)
 
   -- no id rests in both books
   apart-ids : (i j : ℕ) → held (reg v i .quantity) ≡ true → held (cx v j .quantity) ≡ true → reg v i .id ≡ cx v j .id → ⊥
@@ -270,7 +283,7 @@ module _ (v : Venue) (sh : Shaped v) (t : Asked v) where
         rise1 = R .rises;
         rise2 = C .rises;
         rx = apart-ids;
-        rlast = λ i h. leb-true (reg v i .id) (v .last) (and-r (regularInRange (reg v i) && onIncrement v (reg v i)) _ (R .asks i h));
+        rlast = λ i h. leb-true (reg v i .id) (v .last) (and-r (regularInRange (reg v i) && onIncrement v (reg v i) && showsFully (reg v i)) _ (R .asks i h));
         xlast = λ j h. leb-true (cx v j .id) (v .last) (and-r (complexInRange (cx v j)) _ (C .asks j h));
       };
       homes = record { len = sh .legging; home = home-out };
@@ -278,9 +291,10 @@ module _ (v : Venue) (sh : Shaped v) (t : Asked v) where
     stand = stand-out;
     tidy = record { dense1 = R .dense; dense2 = C .dense; blank1 = R .blanks; blank2 = C .blanks };
     ranged = ranged-out;
-    uncrossed = apart-out v ranged-out apart-at;
+    showing = showing-out;
+    uncrossed = apart-out v ranged-out (showing-shown v ranged-out showing-out) apart-at;
     edited = record { len = sh .editions; rise = t .editions };
-    priced = λ i h. and-r (regularInRange (reg v i)) _ (and-l _ (leb (reg v i .id) (v .last)) (R .asks i h));
+    priced = λ i h. and-r (regularInRange (reg v i)) _ (and-l _ (showsFully (reg v i)) (and-l _ (leb (reg v i .id) (v .last)) (R .asks i h)));
   }
 
 pub sound-out : (v : Venue) → SoundVenue v → Invariant v
@@ -297,11 +311,15 @@ unfolding complexInRange isId within
 some-idC c z = leb-true 1 (c .id) (search (and-l, and-r, z) depth 14)
 
 module _ (v : Venue) (k : Invariant v) where
+  fully : (i : ℕ) → showsFully (reg v i) ≡ true
+  unfolding Showing
+  fully = k .showing
+
   regulars-in : regularsSound v ≡ true
   unfolding regularsSound
   regulars-in = arranged-in noRegular holdsRegular _ blankRegular (λ o. o .id) blank-free blank-none 0 (v .regular) (record {
     above = λ i h. some-id (reg v i) (k .ranged .regular i .ok h);
-    asks = λ i h. and-in (regularInRange (reg v i) && onIncrement v (reg v i)) _ (and-in _ _ (k .ranged .regular i .ok h) (k .priced i h)) (le-leb (reg v i .id) (v .last) (k .fine .good .rlast i h));
+    asks = λ i h. and-in (regularInRange (reg v i) && onIncrement v (reg v i) && showsFully (reg v i)) _ (and-in (regularInRange (reg v i) && onIncrement v (reg v i)) (showsFully (reg v i)) (and-in _ _ (k .ranged .regular i .ok h) (k .priced i h)) (fully i)) (le-leb (reg v i .id) (v .last) (k .fine .good .rlast i h));
     rises = k .fine .good .rise1;
     dense = k .tidy .dense1;
     blanks = k .tidy .blank1;

@@ -17,14 +17,15 @@ use Rattle.rules.specs.declared.Venue.{Venue}
 use Rattle.rules.specs.Base.{all, held}
 use Rattle.rules.specs.Words.{isComplexOf, leggingAt, noRegular, opposite, placeOf, regularAt, withRegular}
 use Rattle.rules.specs.Settings.{increment}
-use Rattle.rules.specs.Prices.{bestIn, bestRegular, bestSize, better, clearPrice, displayed, restsAt, showsAt, sizeIn}
+use Rattle.rules.specs.Prices.{bestIn, bestRegular, bestSize, better, clearPrice, displayed, restsAt, shown, showsAt, sizeIn}
 use Rattle.rules.specs.Records.{Report, pair, trade}
 use Rattle.rules.specs.Removal.{remove, removeOf}
 use Rattle.rules.specs.Standing.{hasLeg, legNet, otherClear, otherLeg, otherSize, pairs, parentOf, shownWell, verdict}
-use Rattle.rules.specs.Trading.{putRegular, take}
+use Rattle.rules.specs.Trading.{fillRegular, putRegular, take}
 use Rattle.rules.specs.Order.{hit}
 use Rattle.rules.specs.Calls.{one}
 use Rattle.demands.specs.Demand.{FromResting, Hit, Standing, otherTrades}
+use Rattle.rules.proofs.Again.{Shown}
 use Rattle.rules.proofs.Better.{best-best, better-irrefl, better-past, is-false}
 use Rattle.rules.proofs.Filling.{Fewer, Lesser, cx, fewer-refl, fewer-trans, fill-fewer, lg, reg}
 use Rattle.rules.proofs.Finding.{leg-in}
@@ -32,7 +33,7 @@ use Rattle.rules.proofs.Generating.{AllStand, place-series, place-side}
 use Rattle.rules.proofs.Hitting.{hit-is}
 use Rattle.rules.proofs.Owning.{rests-lesser}
 use Rattle.rules.proofs.Settling.{clear-best}
-use Rattle.rules.proofs.Sizes.{best-set, free-shows, no-price, not-there, rests-series, rests-shows, shows-rests}
+use Rattle.rules.proofs.Sizes.{best-set, fill-shown, free-shows, no-price, not-there, rests-held, rests-series, rests-shows, shows-rests}
 use Rattle.rules.proofs.Taking.{Chain, chain-at, no-more, take-chain, take-put, take-total, traded}
 use Rattle.rules.proofs.Tests.{and-in, and-l, and-r}
 use Rattle.rules.proofs.Verdicts.{Passes, passed}
@@ -109,33 +110,41 @@ module _ (c : Complex) (s d : ℕ) (l : Legging) (apart : s ≢ otherLeg c s .se
 
 -- The makers of a chain of trades -----------------------------------------------------------------
 
--- of a chain upon u, where each place has what it has in v, or less of it
+-- each place of u shows no more than in v
+abbrev NoMore : (u v : Venue) → Type 0
+NoMore u v = (i : ℕ) → shown (regularAt u i) ≤ shown (regularAt v i)
+
+filled-no-more : (u v : Venue) (j q : ℕ) → NoMore u v → NoMore (fillRegular j q u) v
+unfolding regularAt
+filled-no-more u v j q n i = let a = fill-shown j q u i in let b = n i in omega arith
+
+-- of a chain upon u, where each place has what it has in v, or less of it, and shows no more
 module _ {x s d p : ℕ} (v : Venue) where
-  maker : (u : Venue) (i q : ℕ) → Lesser (regularAt u i) (regularAt v i) → restsAt s (opposite d) (regularAt u i) ≡ true → regularAt u i .price ≡ p →
-      q ≤ regularAt u i .quantity → FromResting v x s d p (trade (regularAt u i .series) d (regularAt u i .price) q x (regularAt u i .id))
-  maker u i q less there e le = record {
+  maker : (u : Venue) (i q : ℕ) → Lesser (regularAt u i) (regularAt v i) → NoMore u v → restsAt s (opposite d) (regularAt u i) ≡ true → regularAt u i .price ≡ p →
+      q ≤ shown (regularAt u i) → FromResting v x s d p (trade (regularAt u i .series) d (regularAt u i .price) q x (regularAt u i .id))
+  maker u i q less n there e le = record {
     at = i;
     rests = rests-lesser s (opposite d) less there;
     priced = sym (less .price) ∙ e;
     contracts = q;
-    most = (let z = less .quantity in omega arith);
+    most = (let z = n i in omega arith);
     is = rw (rests-series s (opposite d) (regularAt u i) there, e, less .id);
   }
 
-  chain-makers : {u w : Venue} {rs : List Report} → Fewer (u .regular) (v .regular) → Chain x s d p u rs w → (r : Report) → List·Memᴰ r rs → FromResting v x s d p r
-  chain-makers f no-more r m = absurd (List·Memᴰ·not-nil m)
-  chain-makers {u = u} f (traded i q fits z e le c) r m = elim (List·Memᴰ·cases-cons m) [
-    | inl is ↦ subst (FromResting v x s d p) (sym is) (maker u i q (unfold regularAt in (f .lesser i)) (shows-rests s (opposite d) (regularAt u i) z) e le)
-    | inr h ↦ chain-makers (fewer-trans (fill-fewer i q u) f) c r h
+  chain-makers : {u w : Venue} {rs : List Report} → Fewer (u .regular) (v .regular) → NoMore u v → Chain x s d p u rs w → (r : Report) → List·Memᴰ r rs → FromResting v x s d p r
+  chain-makers f n no-more r m = absurd (List·Memᴰ·not-nil m)
+  chain-makers {u = u} f n (traded i q fits z e le c) r m = elim (List·Memᴰ·cases-cons m) [
+    | inl is ↦ subst (FromResting v x s d p) (sym is) (maker u i q (unfold regularAt in (f .lesser i)) n (shows-rests s (opposite d) (regularAt u i) z) e le)
+    | inr h ↦ chain-makers (fewer-trans (fill-fewer i q u) f) (filled-no-more u v i q n) c r h
   ]
 
 module _ (v : Venue) (c : Complex) (s d : ℕ) (l : Legging) (p : Passes v c s d l) where
-  -- no regular order is better than what is displayed
-  shown-best : (i : ℕ) → restsAt s d (regularAt v i) ≡ true → better d (regularAt v i .price) (displayed (increment v s) d (l .price)) ≡ false
+  -- no regular order is better than what is displayed: each shows some size, and so counts for the best price
+  shown-best : Shown v → (i : ℕ) → restsAt s d (regularAt v i) ≡ true → better d (regularAt v i .price) (displayed (increment v s) d (l .price)) ≡ false
   unfolding shownWell bestRegular regularAt
-  shown-best i r =
+  shown-best all i r =
       is-false _ (λ b. true≢false
-      (sym (better-past d (reg v i .price) (bestIn s d (v .regular)) (displayed (increment v s) d (l .price)) b (best-best s d (v .regular) i (rests-shows s d _ r)))
+      (sym (better-past d (reg v i .price) (bestIn s d (v .regular)) (displayed (increment v s) d (l .price)) b (best-best s d (v .regular) i (rests-shows s d _ (all i (rests-held s d _ r)) r)))
       ∙ not-true _ (p .shown)))
 
   -- the size at the clear price is at least its quantity, so k contracts are there
@@ -153,12 +162,12 @@ module _ (v : Venue) (c : Complex) (s d : ℕ) (l : Legging) (p : Passes v c s d
         net = search (and-l, and-r, q);
         found = chain-at (c .id) t (take-chain (c .id) t e (clearPrice v t (opposite e)) k k v)
             ∙ take-total (c .id) t e (clearPrice v t (opposite e)) k k v (omega arith) (rw (clear-best v t (opposite e) a) (omega arith));
-        makers = chain-makers v (fewer-refl _) (take-chain (c .id) t e (clearPrice v t (opposite e)) k k v);
+        makers = chain-makers v (fewer-refl _) (λ _. omega arith) (take-chain (c .id) t e (clearPrice v t (opposite e)) k k v);
         written = writes c s d l apart d2 v is k;
         arrives = λ i o fits free at of. arrives c s d l apart d2 v i o fits free at is k of;
       }
 
-module _ (v : Venue) (f : Fine v) (all : AllStand v) (s d : ℕ) (d2 : d < 2) where
+module _ (v : Venue) (f : Fine v) (all : AllStand v) (show : Shown v) (s d : ℕ) (d2 : d < 2) where
   abbrev n : ℕ
   n = placeOf s d
 
@@ -195,12 +204,12 @@ module _ (v : Venue) (f : Fine v) (all : AllStand v) (s d : ℕ) (d2 : d < 2) wh
     stands = record {
       rests = rests;
       leg = leg;
-      best = shown-best v c s d l passes;
+      best = shown-best v c s d l passes show;
       bestLegging = λ m p q _. is-false _ (λ b. better-irrefl _ _ (rw (only m p q) at b));
       band = passes .band;
       hit = λ k one le. hits v c s d l passes refl apart d2 k le;
     }
 
-pub standing : (v : Venue) → Fine v → AllStand v → (s d : ℕ) → d < 2 → held (leggingAt v s d .quantity) ≡ true → Standing v s d (leggingAt v s d)
+pub standing : (v : Venue) → Fine v → AllStand v → Shown v → (s d : ℕ) → d < 2 → held (leggingAt v s d .quantity) ≡ true → Standing v s d (leggingAt v s d)
 unfolding leggingAt
-standing v f all s d d2 h = stands v f all s d d2 h
+standing v f all show s d d2 h = stands v f all show s d d2 h

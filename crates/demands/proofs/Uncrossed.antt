@@ -30,6 +30,7 @@ use Rattle.rules.specs.Places.{closeGaps}
 use Rattle.rules.specs.Refusals.{inRange}
 use Rattle.rules.specs.Step.{perform, setAway, setFigure, setStatus}
 use Rattle.rules.specs.Sound.{apart}
+use Rattle.rules.proofs.Again.{Shown}
 use Rattle.rules.proofs.Bounds.{band-first, band-second}
 use Rattle.rules.proofs.Cases.{if-by}
 use Rattle.rules.proofs.Ending.{matching-ends, none-reaches}
@@ -38,6 +39,7 @@ use Rattle.rules.proofs.Generating.{Makes, after, made, make-venue}
 use Rattle.rules.proofs.Keeping.{keeps-cancel, keeps-each, keeps-matching, keeps-settle, keeps-work}
 use Rattle.rules.proofs.Owning.{Below, Own, below-lasts, below-refl, best-own, bid-best, byLegging, byRegular, offer-best, own-below, own-closed, own-pos, rests-lesser, still-there}
 use Rattle.rules.proofs.Settling.{Kept}
+use Rattle.rules.proofs.Showing.{Showing, leg-showing, settle-showing, showing-shown}
 use Rattle.rules.proofs.Tests.{and-r, pos-held}
 use Rattle.rules.proofs.Widths.{Ranged, RegFits, complex-fits, last-ranged, order-fits, put-ranged, putC-ranged}
 use Rattle.rules.proofs.Writing.{writes-leg, writes-meetTurn, writes-repeat, writes-settle, writes-work}
@@ -80,11 +82,11 @@ apart-in v u s s8 = go (held (bestOwn v s 0)) refl (held (bestOwn v s 1)) refl
     go true e false f = refl
     go false e b f = refl
 
-pub apart-out : (v : Venue) → Ranged v → ((s : ℕ) → s < 8 → apart v s ≡ true) → Uncrossed v
+pub apart-out : (v : Venue) → Ranged v → Shown v → ((s : ℕ) → s < 8 → apart v s ≡ true) → Uncrossed v
 unfolding apart
-apart-out v r h s a b s8 p q =
-    let x = bid-best v p in
-    let y = offer-best v (own-pos v r q) q in
+apart-out v r show h s a b s8 p q =
+    let x = bid-best v show p in
+    let y = offer-best v show (own-pos v r q) q in
     let i = own-pos v r p in
     let j = y .0 in
     let z = rw (pos-held (bestOwn v s 0) (omega arith), pos-held (bestOwn v s 1) j) at (h s s8) in
@@ -163,7 +165,7 @@ unfolding reachesAny reaches
 inside-sell p q h some = leb-false p q (rw (pos-held q some) at (not-true (held q && leb p q) h))
 
 -- the new legging order's price reaches no own price opposite
-module _ (v : Venue) (c : Complex) (s d : ℕ) (s8 : s < 8) (d2 : d < 2) (u : Uncrossed v) (r : Ranged v) (m : Makes v c s d) where
+module _ (v : Venue) (c : Complex) (s d : ℕ) (s8 : s < 8) (d2 : d < 2) (u : Uncrossed v) (r : Ranged v) (show : Shown v) (m : Makes v c s d) where
   abbrev p : ℕ
   p = legPrice v c s d
 
@@ -195,7 +197,7 @@ module _ (v : Venue) (c : Complex) (s d : ℕ) (s8 : s < 8) (d2 : d < 2) (u : Un
   under : d ≡ 0 → {q : ℕ} → Own v s 1 q → p < q
   unfolding opposite
   under e {q} o =
-      let b = offer-best v (own-pos v r o) o in
+      let b = offer-best v show (own-pos v r o) o in
       let b1 = b .1 in
       let z = inside-buy p (bestOwn v s 1) (subst (λ (x : ℕ). not (reachesAny x p (bestOwn v s (opposite x))) ≡ true) e (m .inside)) (b .0) in
       omega arith
@@ -203,7 +205,7 @@ module _ (v : Venue) (c : Complex) (s d : ℕ) (s8 : s < 8) (d2 : d < 2) (u : Un
   over : d ≡ 1 → {q : ℕ} → Own v s 0 q → q < p
   unfolding opposite
   over e {q} o =
-      let b = bid-best v o in
+      let b = bid-best v show o in
       let b0 = own-pos v r o in
       let z = inside-sell p (bestOwn v s 0) (subst (λ (x : ℕ). not (reachesAny x p (bestOwn v s (opposite x))) ≡ true) e (m .inside)) (omega arith) in
       omega arith
@@ -223,11 +225,11 @@ module _ (v : Venue) (c : Complex) (s d : ℕ) (s8 : s < 8) (d2 : d < 2) (u : Un
           omega arith
       go (inr x) (inr y) = let e = x .1 in let f = y .1 in absurd (omega arith)
 
-uncrossed-leg : (v : Venue) (c : Complex) (s d : ℕ) → s < 8 → d < 2 → Uncrossed v → Ranged v → Uncrossed (generateLeg c s d v .venue)
+uncrossed-leg : (v : Venue) (c : Complex) (s d : ℕ) → s < 8 → d < 2 → Uncrossed v → Ranged v → Shown v → Uncrossed (generateLeg c s d v .venue)
 unfolding generateLeg nothing
-uncrossed-leg v c s d s8 d2 u r =
+uncrossed-leg v c s d s8 d2 u r show =
     if-by (λ (e : Effect). Uncrossed (e .venue)) (held (c .quantity) && makes v c s d)
-    (λ e. subst Uncrossed (sym (make-venue v c s d)) (uncrossed-after v c s d s8 d2 u r (made (and-r (held (c .quantity)) (makes v c s d) e))))
+    (λ e. subst Uncrossed (sym (make-venue v c s d)) (uncrossed-after v c s d s8 d2 u r show (made (and-r (held (c .quantity)) (makes v c s d) e))))
     (λ _. u)
 
 -- fields in range, and no series locked or crossed
@@ -235,16 +237,26 @@ pub record Clean (v : Venue) : Type 0 where
   pub ranged : Ranged v
   pub uncrossed : Uncrossed v
 
-clean-generate : (i : ℕ) (v : Venue) → Clean v → Clean (generate i v .venue)
+-- and each order shows what it should: once it has settled
+record Settled (v : Venue) : Type 0 where
+  clean : Clean v
+  showing : Showing v
+
+generate-settled : (i : ℕ) (v : Venue) → Settled v → Settled (generate i v .venue)
 unfolding generate complexAt _⟫_
-clean-generate i v k =
+generate-settled i v t =
+    let k = t .clean in
     let c = cx v i in
     let f = k .ranged .complex i in
     let a = writes-leg c (c .series1) (c .side1) v f (f .series1) (f .side1) (band-first v c (c .limit)) (k .ranged) .ranged in
-    let x = uncrossed-leg v c (c .series1) (c .side1) (f .series1) (f .side1) (k .uncrossed) (k .ranged) in
+    let x = uncrossed-leg v c (c .series1) (c .side1) (f .series1) (f .side1) (k .uncrossed) (k .ranged) (showing-shown v (k .ranged) (t .showing)) in
+    let z = leg-showing c (c .series1) (c .side1) v (t .showing) in
     record {
-      ranged = writes-leg c (c .series2) (c .side2) _ f (f .series2) (f .side2) (band-second _ c (c .limit)) a .ranged;
-      uncrossed = uncrossed-leg _ c (c .series2) (c .side2) (f .series2) (f .side2) x a;
+      clean = record {
+        ranged = writes-leg c (c .series2) (c .side2) _ f (f .series2) (f .side2) (band-second _ c (c .limit)) a .ranged;
+        uncrossed = uncrossed-leg _ c (c .series2) (c .side2) (f .series2) (f .side2) x a (showing-shown _ a z);
+      };
+      showing = leg-showing c (c .series2) (c .side2) _ z;
     }
 
 -- Messages ------------------------------------------------------------------------------------
@@ -270,8 +282,8 @@ uncrossed-figure : (number f x e : ℕ) (v : Venue) → Uncrossed v → Uncrosse
 unfolding setFigure enterEdition withEditions
 uncrossed-figure number f x e v = uncrossed-same {v = v} refl refl
 
-clean-settle : (v : Venue) → Clean v → Clean (settle v .venue)
-clean-settle v k = record { ranged = writes-settle v (k .ranged) .ranged; uncrossed = uncrossed-settle v (k .uncrossed) }
+clean-settle : (v : Venue) → Clean v → Settled (settle v .venue)
+clean-settle v k = record { clean = record { ranged = writes-settle v (k .ranged) .ranged; uncrossed = uncrossed-settle v (k .uncrossed) }; showing = settle-showing v }
 
 clean-work : (i : ℕ) (v : Venue) → Clean v → Clean (work i v .venue)
 clean-work i v k = record { ranged = writes-work i v (k .ranged) .ranged; uncrossed = uncrossed-work i v (k .uncrossed) }
@@ -287,11 +299,11 @@ uncrossed-perform number (TwoLeg c) v h k =
       ranged = putC-ranged _ c _ f (last-ranged (c .id) v (f .id) (k .ranged));
       uncrossed = uncrossed-putC _ _ (uncrossed-last (c .id) v (k .uncrossed));
     } in
-    clean-generate _ _ (clean-settle _ (clean-work _ _ a)) .uncrossed
+    generate-settled _ _ (clean-settle _ (clean-work _ _ a)) .clean .uncrossed
 uncrossed-perform number (Cancel id) v h k = uncrossed-cancel id v (k .uncrossed)
 uncrossed-perform number (Away s b o) v h k = uncrossed-settle _ (uncrossed-away s b o v (k .uncrossed))
 uncrossed-perform number (Status s x) v h k = uncrossed-settle _ (uncrossed-status s x v (k .uncrossed))
 uncrossed-perform number Sweep v h k =
-    keeps-each Clean generate clean-generate 32 0 _ (clean-settle _ (keeps-each Clean work clean-work 32 0 v k)) .uncrossed
+    keeps-each Settled generate generate-settled 32 0 _ (clean-settle _ (keeps-each Clean work clean-work 32 0 v k)) .clean .uncrossed
 uncrossed-perform number (Increment s i e) v h k = uncrossed-settle _ (uncrossed-figure number s i e v (k .uncrossed))
 uncrossed-perform number (Percent x e) v h k = uncrossed-settle _ (uncrossed-figure number percentage x e v (k .uncrossed))

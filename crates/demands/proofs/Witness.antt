@@ -24,6 +24,10 @@ told-regular : List·Memᴰ (answer 4 0 0 0) (atEnd .reports)
 unfolding opened-rules bytesOf session later atEnd start extend parts opening calls
 told-regular = at-mem (atEnd .reports) 3 (cancelled 0 0) (answer 4 0 0 0) (ltb-true 3 (length (atEnd .reports)) refl) refl
 
+told-reserve : List·Memᴰ (answer 33 0 5 2) (atEnd .reports)
+unfolding opened-rules bytesOf session later atEnd start extend parts opening calls
+told-reserve = at-mem (atEnd .reports) 74 (cancelled 0 0) (answer 33 0 5 2) (ltb-true 74 (length (atEnd .reports)) refl) refl
+
 pub witness : Witness
 unfolding opened-rules bytesOf session later atEnd kindOf ofKind causes sums regularSums arriving start extend parts opening calls
 witness = record {
@@ -40,6 +44,9 @@ witness = record {
   account = refl;
   regularAccepted = record { before = 3; is = refl; mask = 0; count = 0; told = told-regular };
   regularAccount = refl;
+  reserveAccepted = record { before = 32; is = refl; mask = 5; count = 2; told = told-reserve };
+  reserveAccount = refl;
+  shows = refl;
   free = refl;
   hits = refl;
   others = refl;

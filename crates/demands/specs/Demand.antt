@@ -26,7 +26,7 @@ use Rattle.rules.specs.Bytes.{lengthField}
 use Rattle.rules.specs.Messages.{messageOf}
 use Rattle.rules.specs.Records.{Report, answer, pair, records, trade}
 use Rattle.rules.specs.Removal.{removeOf}
-use Rattle.rules.specs.Prices.{better, displayed, inBand, restsAt}
+use Rattle.rules.specs.Prices.{better, displayed, inBand, restsAt, shown}
 use Rattle.rules.specs.Standing.{hasLeg, legNet, otherClear, otherLeg, parentOf}
 use Rattle.rules.specs.Trading.{putRegular, take}
 use Rattle.rules.specs.Order.{hit}
@@ -89,14 +89,15 @@ calls s (g ∷ gs) = calls (extend s (g .bytes) (one (s .venue) (s .done) (g .ro
 abbrev pub otherTrades : Venue → Complex → (s k : ℕ) → List Report
 otherTrades v c s k = take k (c .id) (otherLeg c s .series) (otherLeg c s .side) (otherClear v c s) k v .reports
 
--- r is a trade by this taker, of this side, with a regular order that rests in the series, on the side that the taker takes, at the price
+-- r is a trade by this taker, of this side, with a regular order that rests in the series, on the side that the taker takes, at the price, for no more than
+-- it shows (request (e): "A complex order takes shown size only")
 pub record FromResting (v : Venue) (taker series side price : ℕ) (r : Report) : Type 0 where
   -- the maker's place
   pub at : ℕ
   pub rests : restsAt series (opposite side) (regularAt v at) ≡ true
   pub priced : regularAt v at .price ≡ price
   pub contracts : ℕ
-  pub most : contracts ≤ regularAt v at .quantity
+  pub most : contracts ≤ shown (regularAt v at)
   pub is : r ≡ trade series side price contracts taker (regularAt v at .id)
 
 -- "The hit for k … is the one written under Order: it finds k regular contracts at the other leg's clear price, its own price and that one

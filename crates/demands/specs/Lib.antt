@@ -1,6 +1,7 @@
 -- The statements: Demand 3 (Demand), soundness is kept (Kept), the sheet reads back (ReadsBack), the most that one message writes (Most), a run and
 -- one-message calls agree (Agree), the sheet tells the truth about itself (Truth), which orders go by the rank of causes (Ranks), every cross respects
--- the legs (Crosses), the settings tell what held when (Dates), and that these are not empty (Witness).
+-- the legs (Crosses), the settings tell what held when (Dates), what trades take of shown size and of reserve (Reserve), and that these are not empty
+-- (Witness).
 pub mod Demand
 pub mod Kept
 pub mod ReadsBack
@@ -10,4 +11,5 @@ pub mod Truth
 pub mod Ranks
 pub mod Crosses
 pub mod Dates
+pub mod Reserve
 pub mod Witness

@@ -16,7 +16,7 @@ use Rattle.rules.specs.Records.{Report, causeNumber, answer, cancelled, crossed
 use Rattle.rules.specs.Effects.{Effect}
 use Rattle.rules.specs.Prices.{inBand}
 use Rattle.rules.specs.Removal.{remove}
-use Rattle.rules.specs.Standing.{bothOpen, findComplex, pairs, parentOf, settle, shownWell, stands, verdict}
+use Rattle.rules.specs.Standing.{bothOpen, findComplex, pairs, parentOf, settle, showAgain, shownWell, stands, verdict}
 
 -- The former rank -----------------------------------------------------------------------------
 
@@ -33,9 +33,11 @@ formerVerdictOf v c s d l =
 unfoldable pub formerVerdict : Venue → (place : ℕ) → Legging → Verdict
 formerVerdict v n l = if held (l .quantity) then formerVerdictOf v (parentOf v l) (n / 2) (n % 2) l else Stands
 
--- settling by it
+-- settling by it, each order having shown again (request (e))
 unfoldable pub formerSettle : Venue → Effect
-formerSettle v = remove (formerVerdict v) v
+formerSettle v =
+    let w = showAgain v in
+    remove (formerVerdict w) w
 
 -- What changes --------------------------------------------------------------------------------
 
@@ -66,4 +68,4 @@ pub record Unaffected : Type 0 where
   -- "Which orders go is unaffected": the same legging orders stay, and the venue left is the same
   pub venue : (v : Venue) → settle v .venue ≡ formerSettle v .venue
   -- "Old answers that change": the same records in the same order, each 68 that said 2 where 5 held too now with 5
-  pub reports : (v : Venue) → settle v .reports ≡ map (retold v) (formerSettle v .reports)
+  pub reports : (v : Venue) → settle v .reports ≡ map (retold (showAgain v)) (formerSettle v .reports)

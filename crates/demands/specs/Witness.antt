@@ -1,8 +1,9 @@
 -- The claims are not empty: a list of calls in which legging orders are made, hit in part, paired, crossed, withdrawn, removed for each of the
--- causes 1 to 8, and stand at the end; with calls that end early. Given by computation.
+-- causes 1 to 8, and stand at the end; in which an order trades what it shows and then of its reserve, and shows again; with calls that end early.
+-- Given by computation.
 use mathlib.Core.Path.{_≡_}
 use mathlib.Core.List.{List, [], _++_, _∷_}
-use Prim.Native.Nat.{ℕ}
+use Prim.Native.Nat.{ℕ, _-_}
 use lib.Dec.{eqb}
 use lib.IntN.{negsuc, pos, ℤ}
 use lib.ListN.{getD}
@@ -22,8 +23,12 @@ use Rattle.demands.specs.Demand.{Accepted, Given, Seen, byRun, calls, op
 
 -- The calls -----------------------------------------------------------------------------------
 
+-- an order of kind 9, and one of kind 1
+abbrev pub reserved : (id series side price quantity display : ℕ) → Message
+reserved i s d p q x = Order (record { id = i; series = s; side = d; price = p; quantity = q; display = x; reserve = q - x })
+
 abbrev pub order : (id series side price quantity : ℕ) → Message
-order i s d p q = Order (record { id = i; series = s; side = d; price = p; quantity = q })
+order i s d p q = reserved i s d p q q
 
 -- a complex order of one side in series 0 and 1
 abbrev pub both : (id side class : ℕ) (limit : ℤ) (quantity : ℕ) → Message
@@ -70,6 +75,10 @@ later =
     ∷ record { room = 100; bytes = encodeMessage (order 8 1 1 90 12) }
     ∷ record { room = 100; bytes = encodeMessage (order 9 1 1 90 12) }
     ∷ record { room = 100; bytes = encodeMessage Sweep }
+    -- 10 showing 3: an order for 5 takes 3 and then 2, and of the 5 left 3 show again
+    ∷ record { room = 100; bytes = encodeMessage (Status 7 1) }
+    ∷ record { room = 100; bytes = encodeMessage (reserved 10 7 1 100 10 3) }
+    ∷ record { room = 100; bytes = encodeMessage (order 11 7 0 100 5) }
     ∷ []
 
 unfoldable pub atEnd : Seen
@@ -108,23 +117,23 @@ sums s =
     total (contracts 3 0) (s .reports) ∷ total (contracts 3 1) (s .reports) ∷ total (paired 3) (s .reports)
     ∷ total (crossedFor 3) (s .reports) ∷ total (cancelledOf 3) (s .reports) ∷ openComplex 3 (s .venue .complex) ∷ []
 
--- of regular order 2: contracts in its series, cancelled, still open
-unfoldable pub regularSums : Seen → List ℕ
-regularSums s = total (contracts 2 1) (s .reports) ∷ total (cancelledOf 2) (s .reports) ∷ openRegular 2 (s .venue .regular) ∷ []
+-- of a regular order: contracts in its series, cancelled, still open
+unfoldable pub regularSums : (id series : ℕ) → Seen → List ℕ
+regularSums i t s = total (contracts i t) (s .reports) ∷ total (cancelledOf i) (s .reports) ∷ openRegular i (s .venue .regular) ∷ []
 
 -- the venue at the end with an order to sell 2 at 115 in series 0 that arrives at a free place
 unfoldable pub arriving : Venue
-arriving = putRegular 2 (record { id = 10; series = 0; side = 1; price = 115; quantity = 2 }) (atEnd .venue)
+arriving = putRegular 3 (record { id = 12; series = 0; side = 1; price = 115; quantity = 2; display = 2; reserve = 0 }) (atEnd .venue)
 
 pub record Witness : Type 0 where
-  -- 22 messages of the run and 9 later ones; the call with 11 bytes did none
-  pub done : atEnd .done ≡ 31
+  -- 22 messages of the run and 12 later ones; the call with 11 bytes did none
+  pub done : atEnd .done ≡ 34
   -- two legging orders stand at the end, for 2 contracts at 115 and 75
   pub standing : leggingAt (atEnd .venue) 0 0 ≡ record { parent = 3; price = 115; quantity = 2 }
   pub standing′ : leggingAt (atEnd .venue) 1 0 ≡ record { parent = 3; price = 75; quantity = 2 }
   -- a hit in part: 5 contracts of a legging order for 8, and 5 of the other leg
   pub made : getD (ofKind 67 (atEnd .reports)) 0 (cancelled 0 0) ≡ generated 3 0 0 115 115 8
-  pub trades : ofKind 65 (atEnd .reports) ≡ trade 0 1 115 5 4 3 ∷ trade 1 0 90 5 3 2 ∷ []
+  pub trades : ofKind 65 (atEnd .reports) ≡ trade 0 1 115 5 4 3 ∷ trade 1 0 90 5 3 2 ∷ trade 7 0 100 3 11 10 ∷ trade 7 0 100 2 11 10 ∷ []
   pub pairs : ofKind 66 (atEnd .reports) ≡ pair 3 (pos 205) 5 ∷ []
   pub crosses : ofKind 70 (atEnd .reports) ≡ crossed 8 3 (negsuc 204) 1 ∷ []
   pub cancels : ofKind 71 (atEnd .reports) ≡ cancelled 5 1 ∷ cancelled 6 1 ∷ cancelled 7 2 ∷ cancelled 2 7 ∷ []
@@ -136,11 +145,15 @@ pub record Witness : Type 0 where
   pub account : sums atEnd ≡ 5 ∷ 5 ∷ 5 ∷ 1 ∷ 0 ∷ 2 ∷ []
   -- regular order 2 was accepted: 12 entered = 5 traded + 7 cancelled + 0 still open
   pub regularAccepted : Accepted atEnd (order 2 1 1 90 12)
-  pub regularAccount : regularSums atEnd ≡ 5 ∷ 7 ∷ 0 ∷ []
+  pub regularAccount : regularSums 2 1 atEnd ≡ 5 ∷ 7 ∷ 0 ∷ []
+  -- so was order 10, of kind 9: 10 entered = 5 traded + 0 cancelled + 5 still open, of which it shows 3
+  pub reserveAccepted : Accepted atEnd (reserved 10 7 1 100 10 3)
+  pub reserveAccount : regularSums 10 7 atEnd ≡ 5 ∷ 0 ∷ 5 ∷ []
+  pub shows : regularAt (atEnd .venue) 2 ≡ record { id = 10; series = 7; side = 1; price = 100; quantity = 5; display = 3; reserve = 2 }
   -- the hit for 2 of what stands in series 0: the place is free, and the records are those that Demand 3 says
-  pub free : regularAt (atEnd .venue) 2 ≡ noRegular
-  pub hits : hit 2 (leggingAt (atEnd .venue) 0 0) 2 arriving .reports ≡
-      trade 0 1 115 2 10 3 ∷ trade 1 0 90 2 3 9 ∷ pair 3 (pos 205) 2 ∷ removed 3 0 0 Executed ∷ removed 3 1 0 Executed ∷ []
+  pub free : regularAt (atEnd .venue) 3 ≡ noRegular
+  pub hits : hit 3 (leggingAt (atEnd .venue) 0 0) 2 arriving .reports ≡
+      trade 0 1 115 2 12 3 ∷ trade 1 0 90 2 3 9 ∷ pair 3 (pos 205) 2 ∷ removed 3 0 0 Executed ∷ removed 3 1 0 Executed ∷ []
   -- the other leg's trade, and its maker, which rests
   pub others : otherTrades (atEnd .venue) (parentOf (atEnd .venue) (leggingAt (atEnd .venue) 0 0)) 0 2 ≡ trade 1 0 90 2 3 9 ∷ []
-  pub maker : regularAt (atEnd .venue) 1 ≡ record { id = 9; series = 1; side = 1; price = 90; quantity = 12 }
+  pub maker : regularAt (atEnd .venue) 1 ≡ record { id = 9; series = 1; side = 1; price = 90; quantity = 12; display = 12; reserve = 0 }

@@ -1,0 +1,76 @@
+-- Request (e), "Reserve size": what the trades of one message take from an order that rests, by what it showed when the message began.
+use mathlib.Core.Path.{_≡_}
+use mathlib.Core.Bool.{not, true, _&&_}
+use mathlib.Core.List.{List, [], _++_, _∷_}
+use Prim.Native.Nat.{_≤_, ℕ}
+use lib.Dec.{eqb}
+use Rattle.rules.specs.declared.Message.{Message}
+use Rattle.rules.specs.declared.Message.the-variants.{Away, Cancel, Increment, Order, Percent, Status, Sweep, TwoLeg}
+use Rattle.rules.specs.declared.Regular.{Regular}
+use Rattle.rules.specs.declared.Venue.{Venue}
+use Rattle.rules.specs.Base.{held, if_then_else_}
+use Rattle.rules.specs.Words.{regularAt}
+use Rattle.rules.specs.Messages.{messageOf}
+use Rattle.rules.specs.Records.{Report, answer, cancelled, crossed, generated, pair, removed, trade}
+use Rattle.rules.specs.Prices.{shown}
+use Rattle.rules.specs.Step.{step}
+use Rattle.rules.specs.Sums.{total}
+use Rattle.demands.specs.Kept.{SoundVenue}
+
+-- An order that arrives -----------------------------------------------------------------------
+
+-- the quantity of a trade between a taker and a maker
+unfoldable pub tradeOf : (taker maker : ℕ) → Report → List ℕ
+tradeOf x y (answer n f m c) = []
+tradeOf x y (trade s d p q taker maker) = if eqb taker x && eqb maker y then q ∷ [] else []
+tradeOf x y (pair i n q) = []
+tradeOf x y (generated i s d p shown q) = []
+tradeOf x y (removed i s d c) = []
+tradeOf x y (crossed taker maker n q) = []
+tradeOf x y (cancelled i q) = []
+
+-- and of all of them, in order
+unfoldable pub tradesOf : (taker maker : ℕ) → List Report → List ℕ
+tradesOf x y [] = []
+tradesOf x y (r ∷ rs) = tradeOf x y r ++ tradesOf x y rs
+
+-- at most two: of what the maker shows, and when all of that is gone of its reserve
+pub data AtMostTwo (shown reserve : ℕ) : List ℕ → Type 0 where
+  untraded : AtMostTwo shown reserve []
+  ofShown : (k : ℕ) → k ≤ shown → AtMostTwo shown reserve (k ∷ [])
+  ofBoth : (k : ℕ) → k ≤ reserve → AtMostTwo shown reserve (shown ∷ k ∷ [])
+
+-- "all shown size trades by id, then, in trades of its own, all reserve by id": of any message that brings an order, upon a sound venue, with the order that
+-- rests at place i
+abbrev pub TwoTrades : Type 0
+TwoTrades = (v : Venue) → SoundVenue v → (number : ℕ) (message : List ℕ) (o : Regular) → messageOf message ≡ Order o →
+    (i : ℕ) → held (regularAt v i .quantity) ≡ true →
+    AtMostTwo (shown (regularAt v i)) (regularAt v i .reserve) (tradesOf (o .id) (regularAt v i .id) (step v number message .effect .reports))
+
+-- Complex orders ------------------------------------------------------------------------------
+
+-- the regular order that a message brings; 0, which is no order's id, where it brings none
+unfoldable pub arriving : Message → ℕ
+arriving (Order o) = o .id
+arriving (TwoLeg c) = 0
+arriving (Cancel id) = 0
+arriving (Away s bid offer) = 0
+arriving (Status s x) = 0
+arriving Sweep = 0
+arriving (Increment s i e) = 0
+arriving (Percent x e) = 0
+
+-- the contracts of a trade with a maker, whose taker is not the order x: only the regular order that arrives takes, and complex orders
+unfoldable pub takenFrom : (x maker : ℕ) → Report → ℕ
+takenFrom x y (answer n f m c) = 0
+takenFrom x y (trade s d p q taker maker) = if eqb maker y && not (eqb taker x) then q else 0
+takenFrom x y (pair i n q) = 0
+takenFrom x y (generated i s d p shown q) = 0
+takenFrom x y (removed i s d c) = 0
+takenFrom x y (crossed taker maker n q) = 0
+takenFrom x y (cancelled i q) = 0
+
+-- "A complex order takes shown size only": of any message, upon a sound venue, all complex orders together from the order that rests at place i
+abbrev pub ShownOnly : Type 0
+ShownOnly = (v : Venue) → SoundVenue v → (number : ℕ) (message : List ℕ) (i : ℕ) → held (regularAt v i .quantity) ≡ true →
+    total (takenFrom (arriving (messageOf message)) (regularAt v i .id)) (step v number message .effect .reports) ≤ shown (regularAt v i)
