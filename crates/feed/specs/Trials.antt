@@ -68,7 +68,7 @@ lossy =
     ∷ ends (at 2 (cancels 9)) (at 1 sweeps ++ at 3 sweeps) 0 3 three
     ∷ ends (at 1 sweeps ++ at 2 (cancels 9)) (at 2 (cancels 9) ++ at 3 sweeps) 0 3 three
     -- a whole message of an unknown kind, and one of another length than its kind's, are refused as in a run
-    ∷ ends (at 1 (framed 9 []) ++ at 2 sweeps) (at 1 (framed 9 [])) 0 2 (answer 1 2 0 0 ∷ accepted 2 ∷ [])
+    ∷ ends (at 1 (framed 99 []) ++ at 2 sweeps) (at 1 (framed 99 [])) 0 2 (answer 1 2 0 0 ∷ accepted 2 ∷ [])
     ∷ ends (at 1 (framed 6 (0 ∷ []))) [] 0 1 (answer 1 3 0 0 ∷ [])
     ∷ []
 

@@ -68,12 +68,13 @@ pub any-edition : (b : Bool) (x : ℕ) → x < 4294967296 → (b && isEdition x)
 unfolding isEdition
 any-edition b x h = rw (inside 0 4294967295 x (omega arith) (omega arith)) (and-true b)
 
--- a regular order whose other fields are in range
-pub regular-quantity : (o : Regular) → 0 < o .id → o .id ≤ 4294967295 → o .series ≤ 7 → o .side ≤ 1 →
-    isPrice (o .price) ≡ true → isQuantity (o .quantity) ≡ regularInRange o
+-- a regular order whose other fields are in range, and which shows some of it
+pub regular-shown : (o : Regular) → 0 < o .id → o .id ≤ 4294967295 → o .series ≤ 7 → o .side ≤ 1 →
+    isPrice (o .price) ≡ true → isQuantity (o .quantity) ≡ true → 0 < o .display → leb (o .display) (o .quantity) ≡ regularInRange o
 unfolding regularInRange isId isSeries isSide
-regular-quantity o a b s d p =
-    rw (inside 1 4294967295 (o .id) a b, inside 0 7 (o .series) (omega arith) s, inside 0 1 (o .side) (omega arith) d, p)
+regular-shown o a b s d p q x =
+    rw (inside 1 4294967295 (o .id) a b, inside 0 7 (o .series) (omega arith) s, inside 0 1 (o .side) (omega arith) d, p, q)
+    (within-top 1 (o .quantity) (o .display) x)
 
 -- a complex order whose other fields are in range
 pub complex-quantity : (c : Complex) → 0 < c .id → c .id ≤ 4294967295 → c .series1 ≤ 7 → c .side1 ≤ 1 → c .series2 ≤ 7 → c .side2 ≤ 1 →
@@ -98,7 +99,7 @@ pub of-length : (s : List ℕ) (k : ℕ) → u16At s 2 ≡ k → lengthOf (u16At
 of-length s k e h = rw (← e) h
 
 module _ (s : List ℕ) where
-  pub message-order : u16At s 2 ≡ 1 → messageOf s ≡ Order (orderAt s)
+  pub message-order : u16At s 2 ≡ 1 → messageOf s ≡ Order (orderAt (u32At s 14) s)
   unfolding messageOf kindField
   message-order e = rw e
 
@@ -129,6 +130,10 @@ module _ (s : List ℕ) where
   pub message-percent : u16At s 2 ≡ 8 → messageOf s ≡ Percent (u8At s 4) (u32At s 5)
   unfolding messageOf kindField
   message-percent e = rw e
+
+  pub message-reserve : u16At s 2 ≡ 9 → messageOf s ≡ Order (orderAt (u32At s 18) s)
+  unfolding messageOf kindField
+  message-reserve e = rw e
 
 -- Refusals ------------------------------------------------------------------------------------
 

@@ -1,25 +1,29 @@
 -- A message is decoded from its bytes.
 use mathlib.Core.Path.{_≡_, refl, sym, ap, _∙_}
 use mathlib.Core.Bool.{Bool, true, false}
-use mathlib.Core.List.{List, [], _++_, append-nil}
-use Prim.Native.Nat.{ℕ, _≤_}
+use mathlib.Core.List.{List, _∷_, _++_}
+use Prim.Native.Nat.{ℕ, _-_, _≤_}
 use native.Mathlib.Omega.{arith}
 use lib.Dec.{leb, eqb}
 use lib.ListN.{length, length-append}
 use lib.IntN.{ℤ, pos, negsuc}
 use lib.Signed.{leZ}
 use borrow.Author.Tests.{leb-true, eqb-true}
+use Rattle.rules.specs.declared.Regular.{Regular}
 use Rattle.rules.specs.declared.Message.{Message}
 use Rattle.rules.specs.declared.Message.the-variants.{Order, TwoLeg, Cancel, Away, Status, Sweep, Increment, Percent}
 use Rattle.rules.specs.declared.Decoded.the-variants.{Taken}
+use Rattle.rules.specs.Base.{if_then_else_}
 use Rattle.rules.specs.Words.{within, isId, isSeries, isSide, isClass, isStatus, isQuantity, isAway, isPrice, isLimit}
 use Rattle.rules.specs.Settings.{isIncrement, isPercent, isEdition}
-use Rattle.rules.specs.Bytes.{u8At, u16At, u32At, asUnsigned, lengthField, kindField, bytes, framed}
-use Rattle.rules.specs.Messages.{lengthOf, orderAt, twoLegAt, messageOf, encodeMessage}
+use Rattle.rules.specs.Bytes.{u8At, u16At, u32At, asUnsigned, lengthField, kindField, bytes, u32, framed}
+use Rattle.rules.specs.Messages.{lengthOf, orderAt, twoLegAt, messageOf, orderFields, encodeMessage}
 use Rattle.rules.specs.Records.{OneByte, FourBytes, FourSigned}
 use Rattle.rules.specs.Refusals.{isKind, regularInRange, complexInRange, inRange, decoded}
+use Rattle.rules.specs.Sound.{showsFully}
 use Rattle.rules.proofs.Tests.{and-l, and-r}
 use Rattle.rules.proofs.Reading.{byte, word, signed-back, signed-small}
+use Rattle.wire.specs.Brought.{Shows}
 use Rattle.wire.proofs.Decoding.{whole, taken}
 
 -- Widths --------------------------------------------------------------------------------------
@@ -66,6 +70,14 @@ price-fits : (x : ℕ) → isPrice x ≡ true → FourBytes x
 unfolding isPrice
 price-fits x h = let k = at-most 1 100000 x h in omega arith
 
+-- a shown quantity is at most the quantity
+display-fits : (o : Regular) → regularInRange o ≡ true → FourBytes (o .display)
+unfolding regularInRange isQuantity
+display-fits o h =
+    let q = at-most 1 10000 (o .quantity) (search (and-l, and-r, h) depth 10) in
+    let x = at-most 1 (o .quantity) (o .display) (search (and-l, and-r, h) depth 10) in
+    omega arith
+
 increment-fits : (x : ℕ) → isIncrement x ≡ true → OneByte x
 unfolding isIncrement
 increment-fits x h = go (eqb x 1) refl (eqb x 5) refl
@@ -83,21 +95,53 @@ edition-fits : (x : ℕ) → isEdition x ≡ true → FourBytes x
 unfolding isEdition
 edition-fits x h = let k = at-most 0 4294967295 x h in omega arith
 
+-- An order's bytes -----------------------------------------------------------------------------
+
+-- an order's fields, after a length and a kind, are read back, with so much shown of it
+fields-back : (o : Regular) → regularInRange o ≡ true → (a b c d : ℕ) (rest : List ℕ) (x : ℕ) →
+    orderAt x (a ∷ b ∷ c ∷ d ∷ (orderFields o ++ rest)) ≡
+    record { id = o .id; series = o .series; side = o .side; price = o .price; quantity = o .quantity; display = x; reserve = o .quantity - x }
+unfolding orderAt orderFields bytes u8At u16At u32At regularInRange
+fields-back o h a b c d rest x =
+    let z = h in
+    rw (
+      word (o .id) (id-fits _ (search (and-l, and-r, z) depth 10)),
+      byte (o .series) (series-fits _ (search (and-l, and-r, z) depth 10)),
+      byte (o .side) (side-fits _ (search (and-l, and-r, z) depth 10)),
+      word (o .price) (price-fits _ (search (and-l, and-r, z) depth 10)),
+      word (o .quantity) (quantity-fits _ (search (and-l, and-r, z) depth 10)),
+    )
+
+-- of one that shows what it should
+order-back : (o : Regular) → regularInRange o ≡ true → showsFully o ≡ true → (a b c d : ℕ) (rest : List ℕ) (x : ℕ) → x ≡ o .display →
+    orderAt x (a ∷ b ∷ c ∷ d ∷ (orderFields o ++ rest)) ≡ o
+unfolding showsFully
+order-back o h f a b c d rest x e =
+    fields-back o h a b c d rest x ∙ (rw (e, ← eqb-true (o .reserve) (o .quantity - o .display) f))
+
 -- A message's bytes ---------------------------------------------------------------------------
 
 -- a message whose fields are in range is the one at the front of its bytes, whatever follows
-pub message-back : (m : Message) → inRange m ≡ true → (rest : List ℕ) → messageOf (encodeMessage m ++ rest) ≡ m
-unfolding messageOf orderAt twoLegAt encodeMessage framed bytes kindField u8At u16At u32At inRange regularInRange complexInRange
-message-back (Order o) h rest =
-    let z = h in
-    rw (
-      word (o .id) (id-fits _ (search (and-l, and-r, z) depth 8)),
-      byte (o .series) (series-fits _ (search (and-l, and-r, z) depth 8)),
-      byte (o .side) (side-fits _ (search (and-l, and-r, z) depth 8)),
-      word (o .price) (price-fits _ (search (and-l, and-r, z) depth 8)),
-      word (o .quantity) (quantity-fits _ (search (and-l, and-r, z) depth 8)),
-    )
-message-back (TwoLeg c) h rest =
+pub message-back : (m : Message) → inRange m ≡ true → Shows m → (rest : List ℕ) → messageOf (encodeMessage m ++ rest) ≡ m
+unfolding messageOf twoLegAt encodeMessage orderFields framed bytes kindField u8At u16At u32At inRange regularInRange complexInRange Shows
+message-back (Order o) h f rest = go (eqb (o .display) (o .quantity)) refl
+  where
+    z : regularInRange o ≡ true
+    z = h
+
+    shows : showsFully o ≡ true
+    shows = f o refl
+
+    -- either kind
+    go : (t : Bool) → eqb (o .display) (o .quantity) ≡ t →
+        messageOf ((if t then framed 1 (orderFields o) else framed 9 (orderFields o ++ u32 (o .display))) ++ rest) ≡ Order o
+    go true e =
+        let q = quantity-fits (o .quantity) (search (and-l, and-r, z) depth 10) in
+        ap Order (order-back o h shows _ _ _ _ rest _ (word (o .quantity) q ∙ sym (eqb-true (o .display) (o .quantity) e)))
+    go false e =
+        let x = display-fits o h in
+        ap Order (order-back o h shows _ _ _ _ (u32 (o .display) ++ rest) _ (word (o .display) x))
+message-back (TwoLeg c) h f rest =
     let z = h in
     let l : isLimit (c .limit) ≡ true = search (and-l, and-r, z) depth 12 in
     rw (
@@ -111,25 +155,25 @@ message-back (TwoLeg c) h rest =
       signed-back (c .limit) (limit-fits (c .limit) l),
       word (c .quantity) (quantity-fits _ (search (and-l, and-r, z) depth 12)),
     )
-message-back (Cancel id) h rest = rw (word id (id-fits id h))
-message-back (Away s bid offer) h rest =
+message-back (Cancel id) h f rest = rw (word id (id-fits id h))
+message-back (Away s bid offer) h f rest =
     let z = h in
     rw (
       byte s (series-fits s (search (and-l, z))),
       word bid (away-fits bid (search (and-l, and-r, z))),
       word offer (away-fits offer (search (and-l, and-r, z))),
     )
-message-back (Status s x) h rest =
+message-back (Status s x) h f rest =
     rw (byte s (series-fits s (and-l (isSeries s) (isStatus x) h)), byte x (status-fits x (and-r (isSeries s) (isStatus x) h)))
-message-back Sweep h rest = refl
-message-back (Increment s i e) h rest =
+message-back Sweep h f rest = refl
+message-back (Increment s i e) h f rest =
     let z = h in
     rw (
       byte s (series-fits s (search (and-l, z))),
       byte i (increment-fits i (search (and-l, and-r, z))),
       word e (edition-fits e (search (and-l, and-r, z))),
     )
-message-back (Percent x e) h rest =
+message-back (Percent x e) h f rest =
     rw (byte x (percent-fits x (and-l (isPercent x) (isEdition e) h)), word e (edition-fits e (and-r (isPercent x) (isEdition e) h)))
 
 -- what stands at the front of a message's bytes: its length, which is its kind's, and its kind
@@ -140,8 +184,13 @@ pub record Front (s : List ℕ) (n : ℕ) : Type 0 where
   pub least : 4 ≤ n
 
 pub front : (m : Message) (rest : List ℕ) → Front (encodeMessage m ++ rest) (length (encodeMessage m))
-unfolding encodeMessage framed bytes lengthField kindField u8At u16At isKind within lengthOf
-front (Order o) rest = record { size = refl; kind = refl; kinds-size = refl; least = omega arith }
+unfolding encodeMessage orderFields framed bytes lengthField kindField u8At u16At isKind within lengthOf
+front (Order o) rest = go (eqb (o .display) (o .quantity))
+  where
+    -- either kind
+    go : (t : Bool) → let bs = if t then framed 1 (orderFields o) else framed 9 (orderFields o ++ u32 (o .display)) in Front (bs ++ rest) (length bs)
+    go true = record { size = refl; kind = refl; kinds-size = refl; least = omega arith }
+    go false = record { size = refl; kind = refl; kinds-size = refl; least = omega arith }
 front (TwoLeg c) rest = record { size = refl; kind = refl; kinds-size = refl; least = omega arith }
 front (Cancel id) rest = record { size = refl; kind = refl; kinds-size = refl; least = omega arith }
 front (Away s bid offer) rest = record { size = refl; kind = refl; kinds-size = refl; least = omega arith }
@@ -150,17 +199,13 @@ front Sweep rest = record { size = refl; kind = refl; kinds-size = refl; least =
 front (Increment s i e) rest = record { size = refl; kind = refl; kinds-size = refl; least = omega arith }
 front (Percent x e) rest = record { size = refl; kind = refl; kinds-size = refl; least = omega arith }
 
--- a message has the length of its kind
-pub message-length : (m : Message) → length (encodeMessage m) ≡ lengthOf (kindField (encodeMessage m))
-message-length m = front m [] .kinds-size ∙ ap (λ (s : List ℕ). lengthOf (kindField s)) (append-nil (encodeMessage m))
-
 -- decoding gives the message back, whatever follows
-pub decodes-back : (m : Message) → inRange m ≡ true → (rest : List ℕ) → decoded (encodeMessage m ++ rest) ≡ Taken m
+pub decodes-back : (m : Message) → inRange m ≡ true → Shows m → (rest : List ℕ) → decoded (encodeMessage m ++ rest) ≡ Taken m
 unfolding lengthField kindField
-decodes-back m h rest =
+decodes-back m h z rest =
     let s : List ℕ = encodeMessage m ++ rest in
     let n = length-append (encodeMessage m) rest in
     let f = front m rest in
     let k : u16At s 0 ≡ length (encodeMessage m) = f .size in
     let l = f .least in
-    sym (taken s m (sym (message-back m h rest)) (whole s (omega arith) (omega arith) (omega arith)) (f .kind) (k ∙ f .kinds-size) h)
+    sym (taken s m (sym (message-back m h z rest)) (whole s (omega arith) (omega arith) (omega arith)) (f .kind) (k ∙ f .kinds-size) h)

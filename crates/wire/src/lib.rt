@@ -13,7 +13,7 @@ ghost use Rattle.rules.specs.declared.Message.the-variants.{Away, Status};
 ghost use Rattle.rules.specs.Words.{isSeries, isPrice, isQuantity, isLimit};
 ghost use Rattle.rules.specs.Settings.{isIncrement};
 ghost use Rattle.rules.specs.Bytes.{u8At, u16At, u32At, asSigned, bytes, i32};
-ghost use Rattle.rules.specs.Messages.{lengthOf, messageKind, orderAt, twoLegAt, messageOf};
+ghost use Rattle.rules.specs.Messages.{lengthOf, messageForm, orderAt, twoLegAt, messageOf};
 ghost use Rattle.rules.specs.Refusals.{regularInRange, complexInRange, inRange, decoded};
 ghost use Rattle.rules.specs.Records.{answer, trade, pair, generated, removed, crossed, cancelled, causeNumber};
 ghost use Rattle.wire.specs.Seen.{seen, pasted, wordBytes, _plus_, _writes_};
@@ -156,7 +156,13 @@ pub fn regular_in_range(o: Regular) -> bool
     if !is_price(o.price) {
         return false;
     }
-    is_quantity(o.quantity)
+    if !is_quantity(o.quantity) {
+        return false;
+    }
+    if o.display == 0 {
+        return false;
+    }
+    o.display <= o.quantity
 }
 
 // A complex order's fields are in their ranges, its legs in two series.
@@ -222,7 +228,7 @@ fn increment_in_range(series: u8, increment: u8) -> bool
 
 // A new setting's fields are in their ranges; any u32 is an edition.
 fn setting_in_range(m: Message) -> bool
-    requires { ⌜ 6 < messageKind m ⌝ }
+    requires { ⌜ 6 < messageForm m ⌝ }
     ensures { λ r. ⌜ r ≡ inRange m ⌝ }
 {
     match m {
@@ -232,15 +238,15 @@ fn setting_in_range(m: Message) -> bool
     }
 }
 
-// Every field of a message is in its range. In three parts, by the kind: of a match of all kinds a compiler makes a table of addresses.
+// Every field of a message is in its range. In three parts, by the form: of a match of all forms a compiler makes a table of addresses.
 fn in_range(m: Message) -> bool
     ensures { λ r. ⌜ r ≡ inRange m ⌝ }
 {
-    let kind = rules::message_kind(m);
-    if 6 < kind {
+    let form = rules::message_form(m);
+    if 6 < form {
         return setting_in_range(m);
     }
-    if kind <= 3 {
+    if form <= 3 {
         return match m {
             Message::Order(o) => regular_in_range(o),
             Message::TwoLeg(c) => complex_in_range(c),
@@ -255,16 +261,30 @@ fn in_range(m: Message) -> bool
     }
 }
 
-fn order_at(s: &[u8]) -> Regular
-    requires { ⌜ 18 ≤ length (now s) ⌝ }
-    ensures { λ r. ⌜ r ≡ orderAt (now (s .entry)) ⌝ }
+// What is left of a quantity beside what is shown of it; 0 where more is shown than there is, which is out of range.
+fn reserve_of(quantity: u32, display: u32) -> u32
+    ensures { λ r. ⌜ r ≡ quantity - display ⌝ }
 {
+    if quantity < display {
+        return 0;
+    }
+    quantity - display
+}
+
+// The order at the front of `s`, which shows `display` of its quantity.
+fn order_at(s: &[u8], display: u32) -> Regular
+    requires { ⌜ 18 ≤ length (now s) ⌝ }
+    ensures { λ r. ⌜ r ≡ orderAt display (now (s .entry)) ⌝ }
+{
+    let quantity = word_at(s, 14);
     Regular {
         id: word_at(s, 4),
         series: byte_at(s, 8),
         side: byte_at(s, 9),
         price: word_at(s, 10),
-        quantity: word_at(s, 14),
+        quantity,
+        display,
+        reserve: reserve_of(quantity, display),
     }
 }
 
@@ -286,12 +306,12 @@ fn two_leg_at(s: &[u8]) -> Complex
 
 // The message at the front of `s`, of its kind's length, compared in order as in `length_of`.
 fn message_of(s: &[u8]) -> Message
-    requires { ⌜ (4 ≤ length (now s)) × (0 < u16At (now s) 2) × (u16At (now s) 2 ≤ 8) × (lengthOf (u16At (now s) 2) ≤ length (now s)) ⌝ }
+    requires { ⌜ (4 ≤ length (now s)) × (0 < u16At (now s) 2) × (u16At (now s) 2 ≤ 9) × (lengthOf (u16At (now s) 2) ≤ length (now s)) ⌝ }
     ensures { λ r. ⌜ r ≡ messageOf (now (s .entry)) ⌝ }
 {
     let kind = half_at(s, 2);
     if kind <= 1 {
-        return Message::Order(order_at(s));
+        return Message::Order(order_at(s, word_at(s, 14)));
     }
     if kind <= 2 {
         return Message::TwoLeg(two_leg_at(s));
@@ -311,7 +331,10 @@ fn message_of(s: &[u8]) -> Message
     if kind <= 7 {
         return Message::Increment(byte_at(s, 4), byte_at(s, 5), word_at(s, 6));
     }
-    Message::Percent(byte_at(s, 4), word_at(s, 5))
+    if kind <= 8 {
+        return Message::Percent(byte_at(s, 4), word_at(s, 5));
+    }
+    Message::Order(order_at(s, word_at(s, 18)))
 }
 
 // The message at the front of `s`, or the first of the refusals 1 to 4 that it meets.
@@ -332,7 +355,7 @@ pub fn decode(s: &[u8]) -> Decoded
     if kind == 0 {
         return Decoded::Refused(2);
     }
-    if 8 < kind {
+    if 9 < kind {
         return Decoded::Refused(2);
     }
     if size != rules::length_of(kind) {

@@ -29,11 +29,11 @@ u16-at-requires-2 c κs = search needs
 
 returns-4 : tie.Need-returns-4
 unfolding isKind
-returns-4 c = let s = c .before .before .before .before .before .before .before .args .s .now in no-kind s (whole s (omega arith) (omega arith) (omega arith)) (below 1 8 (u16At s 2) (omega arith))
+returns-4 c = let s = c .before .before .before .before .before .before .before .args .s .now in no-kind s (whole s (omega arith) (omega arith) (omega arith)) (below 1 9 (u16At s 2) (omega arith))
 
 returns-5 : tie.Need-returns-5
 unfolding isKind
-returns-5 c = let s = c .before .before .before .before .before .before .before .before .args .s .now in no-kind s (whole s (omega arith) (omega arith) (omega arith)) (above 1 8 (u16At s 2) (omega arith))
+returns-5 c = let s = c .before .before .before .before .before .before .before .before .args .s .now in no-kind s (whole s (omega arith) (omega arith) (omega arith)) (above 1 9 (u16At s 2) (omega arith))
 
 length-of-requires : tie.Need-length-of-requires
 length-of-requires c κs = search needs
@@ -43,7 +43,7 @@ unfolding isKind
 returns-6 c =
     let s = c .before .before .before .before .before .before .before .before .before .before .args .s .now in
     let n = c .before .length-of .ensures ∙ ap lengthOf (c .before .before .before .before .u16-at2 .ensures) in
-    no-length s (whole s (omega arith) (omega arith) (omega arith)) (inside 1 8 (u16At s 2) (omega arith) (omega arith)) (λ e. omega arith)
+    no-length s (whole s (omega arith) (omega arith) (omega arith)) (inside 1 9 (u16At s 2) (omega arith) (omega arith)) (λ e. omega arith)
 
 message-of-requires : tie.Need-message-of-requires
 message-of-requires c κs =
@@ -58,7 +58,7 @@ unfolding isKind
 returns-7 c =
     let s = c .before .before .before .before .before .before .before .before .before .before .before .before .before .args .s .now in
     let n = c .before .before .before .before .length-of .ensures ∙ ap lengthOf (c .before .before .before .before .before .before .before .u16-at2 .ensures) in
-    no-range s _ (c .before .before .message-of .ensures) (whole s (omega arith) (omega arith) (omega arith)) (inside 1 8 (u16At s 2) (omega arith) (omega arith)) (omega arith)
+    no-range s _ (c .before .before .message-of .ensures) (whole s (omega arith) (omega arith) (omega arith)) (inside 1 9 (u16At s 2) (omega arith) (omega arith)) (omega arith)
     (sym (c .before .in-range .ensures) ∙ not-true _ (c .if7 .taken))
 
 returns-8 : tie.Need-returns-8
@@ -66,7 +66,7 @@ unfolding isKind
 returns-8 c =
     let s = c .before .before .before .before .before .before .before .before .before .before .before .before .before .args .s .now in
     let n = c .before .before .before .before .length-of .ensures ∙ ap lengthOf (c .before .before .before .before .before .before .before .u16-at2 .ensures) in
-    taken s _ (c .before .before .message-of .ensures) (whole s (omega arith) (omega arith) (omega arith)) (inside 1 8 (u16At s 2) (omega arith) (omega arith)) (omega arith)
+    taken s _ (c .before .before .message-of .ensures) (whole s (omega arith) (omega arith) (omega arith)) (inside 1 9 (u16At s 2) (omega arith) (omega arith)) (omega arith)
     (sym (c .before .in-range .ensures) ∙ not-false _ (c .if7 .left))
 
 pub decode-spec : {M : Type 1} → statement M

@@ -7,8 +7,8 @@ use borrow.Author.Needs.{needs}
 use Rattle.wire.proofs.in_range.Statement.{statement}
 use Rattle.wire.proofs.in_range.Tie as tie
 
-message-kind-requires : tie.Need-message-kind-requires
-message-kind-requires c κs = search needs
+message-form-requires : tie.Need-message-form-requires
+message-form-requires c κs = search needs
 
 setting-in-range-requires : tie.Need-setting-in-range-requires
 setting-in-range-requires c κs = search needs
@@ -44,7 +44,7 @@ unfolding inRange
 returns-4 c = id-is (c .before .m3 .given .0 .0) (omega arith) ∙ sym (ap inRange (c .before .m3 .given .1))
 
 returns-5 : tie.Need-returns-5
-returns-5 c = let k = kinds-left (c .before .before .before .before .args .m) (c .match .keys4) in let e = c .before .before .before .message-kind .ensures in absurd (omega arith)
+returns-5 c = let k = kinds-left (c .before .before .before .before .args .m) (c .match .keys4) in let e = c .before .before .before .message-form .ensures in absurd (omega arith)
 
 enum-known-m-4 : tie.Need-enum-known-m-4
 enum-known-m-4 c = search needs
@@ -67,14 +67,14 @@ returns-7 c = c .status-in-range .ensures ∙ sym (ap inRange (c .before .before
 returns-8 : tie.Need-returns-8
 unfolding inRange
 returns-8 c =
-    let e = c .before .before .before .message-kind .ensures in
+    let e = c .before .before .before .message-form .ensures in
     sym (ap inRange (sweep-left (c .before .before .before .before .args .m) (c .match2 .keys3) (omega arith) (omega arith)))
 
 pub in-range-spec : {M : Type 1} → statement M
 in-range-spec =
     tie.close
     (tie.spec
-    message-kind-requires
+    message-form-requires
     setting-in-range-requires
     returns
     enum-known-m

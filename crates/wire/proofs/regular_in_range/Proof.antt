@@ -4,7 +4,7 @@ use borrow.Author.Tests.{not-true, not-false}
 use Rattle.rules.specs.Words.{isId, isSeries, isSide}
 use Rattle.rules.specs.Refusals.{regularInRange}
 use Rattle.rules.proofs.Tests.{and-false}
-use Rattle.wire.proofs.Decoding.{below, above, regular-quantity}
+use Rattle.wire.proofs.Decoding.{below, above, regular-shown}
 use borrow.Author.Needs.{needs}
 use Rattle.wire.proofs.regular_in_range.Statement.{statement}
 use Rattle.wire.proofs.regular_in_range.Tie as tie
@@ -32,10 +32,19 @@ is-quantity-requires : tie.Need-is-quantity-requires
 is-quantity-requires c κs = search needs
 
 returns-5 : tie.Need-returns-5
-returns-5 c =
-    let o = c .before .before .before .before .before .before .before .before .before .args .o in
-    c .is-quantity .ensures
-    ∙ regular-quantity o (omega arith) (omega arith) (c .before .before .before .before .before .if2 .left) (c .before .before .before .if3 .left) (sym (c .before .before .is-price .ensures) ∙ not-false _ (c .before .if4 .left))
+unfolding regularInRange
+returns-5 c = simp (sym (c .before .is-quantity .ensures) ∙ not-true _ (c .if5 .taken), and-false)
+
+returns-6 : tie.Need-returns-6
+unfolding regularInRange
+returns-6 c = let o = c .before .before .before .before .before .before .before .before .before .before .before .before .args .o in simp (below 1 (o .quantity) (o .display) (omega arith), and-false)
+
+returns-7 : tie.Need-returns-7
+returns-7 c =
+    let o = c .before .before .before .before .before .before .before .before .before .before .before .before .before .args .o in
+    let p = sym (c .before .before .before .before .before .before .is-price .ensures) ∙ not-false _ (c .before .before .before .before .before .if4 .left) in
+    let q = sym (c .before .before .before .before .is-quantity .ensures) ∙ not-false _ (c .before .before .before .if5 .left) in
+    regular-shown o (omega arith) (omega arith) (omega arith) (omega arith) p q (omega arith)
 
 pub regular-in-range-spec : {M : Type 1} → statement M
 regular-in-range-spec =
@@ -47,4 +56,6 @@ regular-in-range-spec =
     is-price-requires
     returns-4
     is-quantity-requires
-    returns-5)
+    returns-5
+    returns-6
+    returns-7)
