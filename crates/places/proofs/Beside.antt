@@ -1,11 +1,12 @@
 -- What is kept beside the venue, levels, marks and mask: what a store leaves as it is, and what keeps it right.
 use mathlib.Core.Path.{_≡_, refl, sym, ap, subst, _∙_}
-use mathlib.Core.Bool.{Bool, true}
+use mathlib.Core.Bool.{Bool, true, true≢false}
 use mathlib.Core.Logic.{_≢_, _⊎_, inl, inr}
 use mathlib.Core.List.{List}
 use Prim.Native.Nat.{ℕ, _+_, _*_, _%_, _≤_, _<_, min}
 use native.Mathlib.Omega.{arith}
 use native.Mathlib.Decide.{decLt, ℕ-discrete}
+use lib.Dec.{eqb}
 use lib.ListN.{getD}
 use Rattle.rules.specs.declared.Regular.{Regular}
 use Rattle.rules.specs.Words.{placeOf}
@@ -13,8 +14,9 @@ use Rattle.rules.specs.Places.{holdsRegular, holdsComplex}
 use Rattle.rules.specs.Step.{mask}
 use Rattle.rules.specs.Settings.{figureNow}
 use Rattle.rules.specs.declared.Venue.{Venue}
-use Rattle.places.specs.Layout.{regularsUsed, complexesUsed, regularIn, complexIn, venueOf, Filled, levelOf, levelIn, Marked, figureIn, Figured, Orderly, Right, SameCounts}
-use Rattle.places.proofs.Parts.{Outside, regulars-few, complexes-few, regular-kept, complex-kept, count-kept, count-kept2, regulars-kept, complexes-kept, leggings-kept, series-kept, editions-kept, last-kept, venue-is}
+use Rattle.rules.proofs.Showing.{Showing}
+use Rattle.places.specs.Layout.{regularsUsed, complexesUsed, regularIn, complexIn, venueOf, Filled, levelOf, levelIn, isUnmarked, Fully, Marked, figureIn, Figured, Orderly, Right, SameCounts}
+use Rattle.places.proofs.Parts.{Outside, regulars-few, complexes-few, regular-kept, complex-kept, holds-kept, count-kept, count-kept2, regulars-kept, complexes-kept, leggings-kept, series-kept, editions-kept, last-kept, venue-is}
 
 -- the places known to be held are
 abbrev pub RegularsMarked : List ℕ → Type 0
@@ -27,15 +29,37 @@ ComplexesMarked b = Filled holdsComplex (complexIn b) (min (getD b 828 0) (compl
 abbrev pub LeggingMarked : List ℕ → Type 0
 LeggingMarked b = getD b 829 0 ≡ mask (venueOf b .legging)
 
+-- without the mark every order shows what it should
+abbrev pub ShowsMarked : List ℕ → Type 0
+ShowsMarked b = isUnmarked b ≡ true → Fully (venueOf b .regular)
+
+-- a mark that stays
+pub unmarked-as : (a b : List ℕ) → getD b 1231 0 ≡ getD a 1231 0 → isUnmarked b ≡ true → isUnmarked a ≡ true
+unfolding isUnmarked
+unmarked-as a b e z = sym (ap (λ (x : ℕ). eqb x 0) e) ∙ z
+
+pub shows-as : (a b : List ℕ) → getD b 1231 0 ≡ getD a 1231 0 → venueOf b .regular ≡ venueOf a .regular → ShowsMarked a → ShowsMarked b
+shows-as a b e r h z = subst Fully (sym r) (h (unmarked-as a b e z))
+
+-- a fill of an order with reserve sets the mark
+pub shows-not : (b : List ℕ) → getD b 1231 0 ≡ 1 → ShowsMarked b
+unfolding isUnmarked
+shows-not b e z = absurd (true≢false (sym z ∙ ap (λ (x : ℕ). eqb x 0) e))
+
+-- as those above have it
+pub all-showing : (b : List ℕ) → Marked b → isUnmarked b ≡ true → Showing (venueOf b)
+unfolding Showing
+all-showing b m z = m .shows z
+
 -- held places that stay
-filled-as : {A : Type 0} (holds : A → Bool) (f g : ℕ → A) (m n : ℕ) → n ≤ m → ((k : ℕ) → k < n → f k ≡ g k) → Filled holds f m → Filled holds g n
-filled-as holds f g m n h same full = λ k w. ap holds (sym (same k w)) ∙ full k (omega arith)
+filled-as : {A : Type 0} (holds : A → Bool) (f g : ℕ → A) (m n : ℕ) → n ≤ m → ((k : ℕ) → k < n → holds (f k) ≡ holds (g k)) → Filled holds f m → Filled holds g n
+filled-as holds f g m n h same full = λ k w. sym (same k w) ∙ full k (omega arith)
 
 -- held places stay so where one is written anew, and holds
-filled-at : {A : Type 0} (holds : A → Bool) (f g : ℕ → A) (i n : ℕ) → ((k : ℕ) → k ≢ i → f k ≡ g k) → holds (g i) ≡ true → Filled holds f n → Filled holds g n
+filled-at : {A : Type 0} (holds : A → Bool) (f g : ℕ → A) (i n : ℕ) → ((k : ℕ) → k ≢ i → holds (f k) ≡ holds (g k)) → holds (g i) ≡ true → Filled holds f n → Filled holds g n
 filled-at holds f g i n same h full = λ k w. elim (ℕ-discrete k i) [
   | yes e ↦ ap (λ (x : ℕ). holds (g x)) e ∙ h
-  | no q ↦ ap holds (sym (same k q)) ∙ full k w
+  | no q ↦ sym (same k q) ∙ full k w
 ]
 
 level-fields : (a b : List ℕ) (n : ℕ) → getD b (3 * n + 779) 0 ≡ getD a (3 * n + 779) 0 → getD b (3 * n + 780) 0 ≡ getD a (3 * n + 780) 0 →
@@ -64,7 +88,7 @@ module _ {low high : ℕ} {a b : List ℕ} (o : Outside low high a b) where
       let f = o .same 827 q in
       let z = regulars-few a in
       filled-as holdsRegular (regularIn a) (regularIn b) (min (getD a 827 0) (regularsUsed a)) (min (getD b 827 0) (regularsUsed b)) (omega arith)
-      (λ k w. regular-kept o k (inl (omega arith)))
+      (λ k w. holds-kept o k (inl (omega arith)))
 
   pub complexes-marked : (high ≤ 512) ⊎ (704 ≤ low) → (777 < low) ⊎ (high ≤ 777) → (828 < low) ⊎ (high ≤ 828) → ComplexesMarked a → ComplexesMarked b
   complexes-marked h p q =
@@ -72,7 +96,7 @@ module _ {low high : ℕ} {a b : List ℕ} (o : Outside low high a b) where
       let f = o .same 828 q in
       let z = complexes-few a in
       filled-as holdsComplex (complexIn a) (complexIn b) (min (getD a 828 0) (complexesUsed a)) (min (getD b 828 0) (complexesUsed b)) (omega arith)
-      (λ k w. complex-kept o k (go k (omega arith) h))
+      (λ k w. ap holdsComplex (complex-kept o k (go k (omega arith) h)))
     where
       go : (k : ℕ) → k < 32 → (high ≤ 512) ⊎ (704 ≤ low) → (6 * k + 518 ≤ low) ⊎ (high ≤ 6 * k + 512)
       go k w (inl x) = inr (omega arith)
@@ -97,11 +121,14 @@ module _ {low high : ℕ} {a b : List ℕ} (o : Outside low high a b) where
       near (inl x) = inl x
       near (inr x) = inr (omega arith)
 
+  pub shows-marked : 512 ≤ low → high ≤ 975 → (776 < low) ⊎ (high ≤ 776) → ShowsMarked a → ShowsMarked b
+  shows-marked h r p = shows-as a b (o .same 1231 (inr (omega arith))) (regulars-kept o h (inr r) p)
+
   -- what is kept beside the venue is no part of it
-  pub beside-venue : 779 ≤ low → (high ≤ 830) ⊎ (958 ≤ low) → venueOf b ≡ venueOf a
-  beside-venue h k =
+  pub beside-venue : 779 ≤ low → (high ≤ 830) ⊎ (958 ≤ low) → (1231 ≤ low) ⊎ (high ≤ 975) → venueOf b ≡ venueOf a
+  beside-venue h k r =
       venue-is (venueOf b) (venueOf a)
-      (regulars-kept o (omega arith) (inl (omega arith)))
+      (regulars-kept o (omega arith) r (inl (omega arith)))
       (complexes-kept o (inr (omega arith)) (inl (omega arith)))
       (leggings-kept o (inr (omega arith)))
       (series-kept o (inr (omega arith)))
@@ -114,12 +141,12 @@ module _ {low high : ℕ} {a b : List ℕ} (o : Outside low high a b) where
 pub regulars-lowered : (a b : List ℕ) (i : ℕ) → i ≤ regularsUsed a → getD b 827 0 ≡ min (getD a 827 0) i → ((k : ℕ) → k < i → regularIn a k ≡ regularIn b k) →
     RegularsMarked a → RegularsMarked b
 regulars-lowered a b i h e same =
-    filled-as holdsRegular (regularIn a) (regularIn b) (min (getD a 827 0) (regularsUsed a)) (min (getD b 827 0) (regularsUsed b)) (omega arith) (λ k w. same k (omega arith))
+    filled-as holdsRegular (regularIn a) (regularIn b) (min (getD a 827 0) (regularsUsed a)) (min (getD b 827 0) (regularsUsed b)) (omega arith) (λ k w. ap holdsRegular (same k (omega arith)))
 
 pub complexes-lowered : (a b : List ℕ) (i : ℕ) → i ≤ complexesUsed a → getD b 828 0 ≡ min (getD a 828 0) i → ((k : ℕ) → k < i → complexIn a k ≡ complexIn b k) →
     ComplexesMarked a → ComplexesMarked b
 complexes-lowered a b i h e same =
-    filled-as holdsComplex (complexIn a) (complexIn b) (min (getD a 828 0) (complexesUsed a)) (min (getD b 828 0) (complexesUsed b)) (omega arith) (λ k w. same k (omega arith))
+    filled-as holdsComplex (complexIn a) (complexIn b) (min (getD a 828 0) (complexesUsed a)) (min (getD b 828 0) (complexesUsed b)) (omega arith) (λ k w. ap holdsComplex (same k (omega arith)))
 
 -- a place written anew, and held
 pub regular-holds : (a b : List ℕ) (i : ℕ) → i < regularsUsed a → Outside (4 * i) (4 * i + 4) a b → holdsRegular (regularIn b i) ≡ true → RegularsMarked a → RegularsMarked b
@@ -128,7 +155,7 @@ regular-holds a b i h o held full =
     let e = count-kept o (inr (omega arith)) in
     let f = o .same 827 (inr (omega arith)) in
     filled-as holdsRegular (regularIn b) (regularIn b) (min (getD a 827 0) (regularsUsed a)) (min (getD b 827 0) (regularsUsed b)) (omega arith) (λ k w. refl)
-    (filled-at holdsRegular (regularIn a) (regularIn b) i (min (getD a 827 0) (regularsUsed a)) (λ k q. regular-kept o k (near k q)) held full)
+    (filled-at holdsRegular (regularIn a) (regularIn b) i (min (getD a 827 0) (regularsUsed a)) (λ k q. holds-kept o k (near k q)) held full)
   where
     near : (k : ℕ) → k ≢ i → (4 * k + 4 ≤ 4 * i) ⊎ (4 * i + 4 ≤ 4 * k)
     near k q = elim (decLt k i) [ yes p ↦ inl (omega arith) | no p ↦ inr (omega arith) ]
@@ -140,7 +167,7 @@ complex-holds a b i h o held full =
     let e = count-kept2 o (inr (omega arith)) in
     let f = o .same 828 (inr (omega arith)) in
     filled-as holdsComplex (complexIn b) (complexIn b) (min (getD a 828 0) (complexesUsed a)) (min (getD b 828 0) (complexesUsed b)) (omega arith) (λ k w. refl)
-    (filled-at holdsComplex (complexIn a) (complexIn b) i (min (getD a 828 0) (complexesUsed a)) (λ k q. complex-kept o k (near k q)) held full)
+    (filled-at holdsComplex (complexIn a) (complexIn b) i (min (getD a 828 0) (complexesUsed a)) (λ k q. ap holdsComplex (complex-kept o k (near k q))) held full)
   where
     near : (k : ℕ) → k ≢ i → (6 * k + 518 ≤ 6 * i + 512) ⊎ (6 * i + 518 ≤ 6 * k + 512)
     near k q = elim (decLt k i) [ yes p ↦ inl (omega arith) | no p ↦ inr (omega arith) ]
@@ -169,11 +196,12 @@ pub counts-kept : {low high : ℕ} {a b : List ℕ} → Outside low high a b →
 counts-kept {low = low} {high = high} {a = a} {b = b} o l h w = record {
   regulars = count-kept o (one w);
   complexes = count-kept2 o (two w);
-  right = right-kept a b (levels-kept o (inr h)) (regulars-kept o (omega arith) (one w)) (λ m. record {
+  right = right-kept a b (levels-kept o (inr h)) (regulars-kept o (omega arith) (inr (omega arith)) (one w)) (λ m. record {
     regulars = regulars-marked o (omega arith) (one w) (inr (omega arith)) (m .regulars);
     complexes = complexes-marked o (inr (omega arith)) (two w) (inr (omega arith)) (m .complexes);
     legging = legging-marked o (inr l) (inr (omega arith)) (m .legging);
     figures = figures-marked o (inl (omega arith)) (m .figures);
+    shows = shows-marked o (omega arith) (omega arith) (one w) (m .shows);
   });
 }
   where

@@ -17,40 +17,67 @@ use Rattle.rules.specs.Prices.{bestRegular, bestSize}
 use Rattle.rules.specs.Base.{keep}
 use Rattle.rules.specs.Places.{holdsRegular, holdsComplex, closeGaps}
 use Rattle.rules.proofs.Closing.{best-closed, size-closed}
-use Rattle.places.specs.Layout.{size, inUse, regularsUsed, complexesUsed, regularIn, complexIn, venueOf, regularRow, complexRow, limitNumber, Kept, levelOf, levelIn, Figured, Orderly, Right, SameCounts, Filled, Dense, closeRegulars, closeComplexes, regularsHeld, complexesHeld, RegularsClosed, ComplexesClosed, GapsClosed}
-use Rattle.places.proofs.Parts.{Outside, stored, wider, regulars-few, complexes-few, regular-at, complex-at, regular-kept, complex-kept, count-kept, count-kept2, regulars-kept, complexes-kept, leggings-kept, series-kept, editions-kept, last-kept, venue-is, regulars-counted, complexes-counted}
-use Rattle.places.proofs.Beside.{RegularsMarked, ComplexesMarked, LeggingMarked, levels-kept, regulars-marked, complexes-marked, legging-marked, figures-marked, beside-venue, right-on, right-kept}
+use Rattle.places.specs.Layout.{size, inUse, regularsUsed, complexesUsed, regularIn, complexIn, venueOf, regularPut, complexRow, limitNumber, Kept, levelOf, levelIn, Fully, Figured, Orderly, Right, SameCounts, Filled, Dense, closeRegulars, closeComplexes, regularsHeld, complexesHeld, RegularsClosed, ComplexesClosed, GapsClosed}
+use Rattle.places.proofs.Parts.{Outside, OutsideRows, Halves, halves, stored, wider, regulars-few, complexes-few, regular-at, complex-at, rows-agree, holds-kept, complex-kept, count-kept, count-kept2, regulars-kept, complexes-kept, leggings-kept, series-kept, editions-kept, last-kept, venue-is, regulars-counted, complexes-counted}
+use Rattle.places.proofs.Beside.{RegularsMarked, ComplexesMarked, LeggingMarked, ShowsMarked, unmarked-as, levels-kept, regulars-marked, complexes-marked, legging-marked, figures-marked, shows-marked, beside-venue, right-on, right-kept}
 use Rattle.places.proofs.Orderly.{orderly-packed}
-use Rattle.places.proofs.Stores.{regular-back, complex-back, counted, counted2}
-use Rattle.places.proofs.Gaps.{closing-start, closed-count, closed-part, free-place, Moving, moving-start, moving-skip, moving-keep}
+use Rattle.places.proofs.Fully.{fully-packed}
+use Rattle.places.proofs.Stores.{row-outside, reserve-outside, put-length, regular-back, complex-back, counted, counted2}
+use Rattle.places.proofs.Gaps.{closing-start, closed-count, closed-part, free-place, Rows, rows-between, Moving, moving-start, moving-skip, moving-keep}
 
 -- Rows ----------------------------------------------------------------------------------------
 
-abbrev pub lowRegular : ℕ → ℕ
-lowRegular i = 4 * i
-
-abbrev pub lowComplex : ℕ → ℕ
+abbrev lowComplex : ℕ → ℕ
 lowComplex i = 6 * i + 512
 
-pub regular-wide : (i : ℕ) (o : Regular) → 4 * i + length (regularRow o) ≡ 4 * (i + 1)
-unfolding regularRow
-regular-wide i o = omega arith
-
-pub complex-wide : (i : ℕ) (c : Complex) → 6 * i + 512 + length (complexRow c) ≡ 6 * (i + 1) + 512
+complex-wide : (i : ℕ) (c : Complex) → 6 * i + 512 + length (complexRow c) ≡ 6 * (i + 1) + 512
 unfolding complexRow
 complex-wide i c = omega arith
 
-pub regular-agree : (a b : List ℕ) (l h i : ℕ) → Outside l h a b → (4 * (i + 1) ≤ l) ⊎ (h ≤ 4 * i) → regularIn a i ≡ regularIn b i
-regular-agree a b l h i o (inl w) = regular-kept o i (inl (omega arith))
-regular-agree a b l h i o (inr w) = regular-kept o i (inr w)
-
-pub complex-agree : (a b : List ℕ) (l h i : ℕ) → Outside l h a b → (6 * (i + 1) + 512 ≤ l) ⊎ (h ≤ 6 * i + 512) → complexIn a i ≡ complexIn b i
+complex-agree : (a b : List ℕ) (l h i : ℕ) → Outside l h a b → (6 * (i + 1) + 512 ≤ l) ⊎ (h ≤ 6 * i + 512) → complexIn a i ≡ complexIn b i
 complex-agree a b l h i o (inl w) = complex-kept o i (inl (omega arith))
 complex-agree a b l h i o (inr w) = complex-kept o i (inr w)
 
+pub regular-rows : Rows 128 regularIn regularPut OutsideRows
+regular-rows = record {
+  long = put-length;
+  none = λ i j a. record { same = λ k h w. refl };
+  wide = λ i j k l a b p q o. record { same = λ n h w. o .same n (one i j k l n p q h) (two i j k l n p q w) };
+  join = λ i j a b c o p. record { same = λ k h w. p .same k h w ∙ o .same k h w };
+  wrote = λ a i x. record { same = λ k h w. reserve-outside a i x .same k (up-two i k w) ∙ row-outside a i x .same k (up-four i k h) };
+  agree = rows-agree;
+}
+  where
+    one : (i j k l n : ℕ) → k ≤ i → j ≤ l → (n < 4 * k) ⊎ (4 * l ≤ n) → (n < 4 * i) ⊎ (4 * j ≤ n)
+    one i j k l n p q (inl h) = inl (omega arith)
+    one i j k l n p q (inr h) = inr (omega arith)
+
+    two : (i j k l n : ℕ) → k ≤ i → j ≤ l → (n < 2 * k + 975) ⊎ (2 * l + 975 ≤ n) → (n < 2 * i + 975) ⊎ (2 * j + 975 ≤ n)
+    two i j k l n p q (inl h) = inl (omega arith)
+    two i j k l n p q (inr h) = inr (omega arith)
+
+    up-four : (i k : ℕ) → (k < 4 * i) ⊎ (4 * (i + 1) ≤ k) → (k < 4 * i) ⊎ (4 * i + 4 ≤ k)
+    up-four i k (inl h) = inl h
+    up-four i k (inr h) = inr (omega arith)
+
+    up-two : (i k : ℕ) → (k < 2 * i + 975) ⊎ (2 * (i + 1) + 975 ≤ k) → (k < 2 * i + 975) ⊎ (2 * i + 977 ≤ k)
+    up-two i k (inl h) = inl h
+    up-two i k (inr h) = inr (omega arith)
+
+abbrev pub complexPut : List ℕ → ℕ → Complex → List ℕ
+complexPut a i c = sets a (6 * i + 512) (complexRow c)
+
+abbrev pub OutsideComplexes : (i j : ℕ) (a b : List ℕ) → Type 0
+OutsideComplexes i j = Outside (6 * i + 512) (6 * j + 512)
+
+pub complex-rows : Rows 32 complexIn complexPut OutsideComplexes
+complex-rows = rows-between 32 lowComplex complexIn complexRow (λ i j h. omega arith) complex-wide complex-agree
+
 -- what is read may be written
-regular-again : (a c : List ℕ) (i k : ℕ) → length a ≡ size → i < 128 → regularIn (sets a (4 * i) (regularRow (regularIn c k))) i ≡ regularIn c k
-regular-again a c i k e h = regular-back a i (regularIn c k) e h (unfold regularIn in omega arith) (unfold regularIn in omega arith)
+regular-again : (a c : List ℕ) (i k : ℕ) → length a ≡ size → i < 128 → regularIn (regularPut a i (regularIn c k)) i ≡ regularIn c k
+regular-again a c i k e h =
+    regular-back a i (regularIn c k) e h (unfold regularIn in omega arith) (unfold regularIn in omega arith)
+    (record { display = unfold regularIn in omega arith; reserve = unfold regularIn in omega arith })
 
 complex-keeps : (c : List ℕ) (k : ℕ) → Kept (complexIn c k)
 unfolding complexIn limitNumber
@@ -66,43 +93,47 @@ complex-again a c i k e h =
 -- The loops -----------------------------------------------------------------------------------
 
 abbrev pub MovingRegulars : (a b : List ℕ) (n i j : ℕ) → Type 0
-MovingRegulars = Moving holdsRegular lowRegular regularIn
+MovingRegulars = Moving holdsRegular regularIn OutsideRows
 
 abbrev pub MovingComplexes : (a b : List ℕ) (n i j : ℕ) → Type 0
-MovingComplexes = Moving holdsComplex lowComplex complexIn
+MovingComplexes = Moving holdsComplex complexIn OutsideComplexes
 
 pub regulars-start : (a : List ℕ) (n r : ℕ) → length a ≡ size → r ≤ n → Filled holdsRegular (regularIn a) r → MovingRegulars a a n r r
-regulars-start = moving-start holdsRegular 128 lowRegular regularIn regularRow (λ i j h. omega arith) regular-wide regular-agree regular-again
+regulars-start = moving-start holdsRegular 128 regularIn regularPut OutsideRows regular-rows regular-again
 
 pub complexes-start : (a : List ℕ) (n r : ℕ) → length a ≡ size → r ≤ n → Filled holdsComplex (complexIn a) r → MovingComplexes a a n r r
-complexes-start = moving-start holdsComplex 32 lowComplex complexIn complexRow (λ i j h. omega arith) complex-wide complex-agree complex-again
+complexes-start = moving-start holdsComplex 32 complexIn complexPut OutsideComplexes complex-rows complex-again
 
-pub regulars-skip : (a b : List ℕ) (n i j : ℕ) → MovingRegulars a b n i j → i < n → (o : Regular) → o ≡ regularIn b i → holdsRegular o ≡ false → MovingRegulars a b n (i + 1) j
-regulars-skip = moving-skip holdsRegular 128 lowRegular regularIn regularRow (λ i j h. omega arith) regular-wide regular-agree regular-again
+pub regulars-skip : (a b : List ℕ) (n i j : ℕ) → MovingRegulars a b n i j → n ≤ 128 → i < n → (o : Regular) → o ≡ regularIn b i → holdsRegular o ≡ false → MovingRegulars a b n (i + 1) j
+regulars-skip = moving-skip holdsRegular 128 regularIn regularPut OutsideRows regular-rows regular-again
 
-pub complexes-skip : (a b : List ℕ) (n i j : ℕ) → MovingComplexes a b n i j → i < n → (o : Complex) → o ≡ complexIn b i → holdsComplex o ≡ false → MovingComplexes a b n (i + 1) j
-complexes-skip = moving-skip holdsComplex 32 lowComplex complexIn complexRow (λ i j h. omega arith) complex-wide complex-agree complex-again
+pub complexes-skip : (a b : List ℕ) (n i j : ℕ) → MovingComplexes a b n i j → n ≤ 32 → i < n → (o : Complex) → o ≡ complexIn b i → holdsComplex o ≡ false → MovingComplexes a b n (i + 1) j
+complexes-skip = moving-skip holdsComplex 32 complexIn complexPut OutsideComplexes complex-rows complex-again
 
-pub regulars-keep : (a b : List ℕ) (n i j : ℕ) → MovingRegulars a b n i j → i < n → (o : Regular) → o ≡ regularIn b i →
-    (b′ : List ℕ) → n ≤ 128 → holdsRegular o ≡ true → b′ ≡ sets b (4 * j) (regularRow o) → MovingRegulars a b′ n (i + 1) (j + 1)
-regulars-keep = moving-keep holdsRegular 128 lowRegular regularIn regularRow (λ i j h. omega arith) regular-wide regular-agree regular-again
+pub regulars-keep : (a b : List ℕ) (n i j : ℕ) → MovingRegulars a b n i j → n ≤ 128 → i < n → (o : Regular) → o ≡ regularIn b i →
+    (b′ : List ℕ) → holdsRegular o ≡ true → b′ ≡ regularPut b j o → MovingRegulars a b′ n (i + 1) (j + 1)
+regulars-keep = moving-keep holdsRegular 128 regularIn regularPut OutsideRows regular-rows regular-again
 
-pub complexes-keep : (a b : List ℕ) (n i j : ℕ) → MovingComplexes a b n i j → i < n → (o : Complex) → o ≡ complexIn b i →
-    (b′ : List ℕ) → n ≤ 32 → holdsComplex o ≡ true → b′ ≡ sets b (6 * j + 512) (complexRow o) → MovingComplexes a b′ n (i + 1) (j + 1)
-complexes-keep = moving-keep holdsComplex 32 lowComplex complexIn complexRow (λ i j h. omega arith) complex-wide complex-agree complex-again
+pub complexes-keep : (a b : List ℕ) (n i j : ℕ) → MovingComplexes a b n i j → n ≤ 32 → i < n → (o : Complex) → o ≡ complexIn b i →
+    (b′ : List ℕ) → holdsComplex o ≡ true → b′ ≡ complexPut b j o → MovingComplexes a b′ n (i + 1) (j + 1)
+complexes-keep = moving-keep holdsComplex 32 complexIn complexPut OutsideComplexes complex-rows complex-again
 
 -- The venue -----------------------------------------------------------------------------------
 
-others-regular : (a b : List ℕ) (l : List Regular) → Outside 0 512 a b → withRegular (venueOf b) l ≡ withRegular (venueOf a) l
+others-regular : (a b : List ℕ) (l : List Regular) → Halves a b → withRegular (venueOf b) l ≡ withRegular (venueOf a) l
 unfolding withRegular
 others-regular a b l o =
-    venue-is (withRegular (venueOf b) l) (withRegular (venueOf a) l) refl (complexes-kept o (inl (omega arith)) (inr (omega arith)))
-    (leggings-kept o (inl (omega arith))) (series-kept o (inl (omega arith))) (editions-kept o (inl (omega arith))) (last-kept o (inr (omega arith)))
+    venue-is (withRegular (venueOf b) l) (withRegular (venueOf a) l) refl
+    (complexes-kept (o .second) (inr (omega arith)) (inl (omega arith)) ∙ complexes-kept (o .first) (inl (omega arith)) (inr (omega arith)))
+    (leggings-kept (o .second) (inr (omega arith)) ∙ leggings-kept (o .first) (inl (omega arith)))
+    (series-kept (o .second) (inr (omega arith)) ∙ series-kept (o .first) (inl (omega arith)))
+    (editions-kept (o .second) (inr (omega arith)) ∙ editions-kept (o .first) (inl (omega arith)))
+    (last-kept (o .second) (inl (omega arith)) ∙ last-kept (o .first) (inr (omega arith)))
 
 others-complex : (a b : List ℕ) (l : List Complex) → Outside 512 704 a b → withComplex (venueOf b) l ≡ withComplex (venueOf a) l
 unfolding withComplex
 others-complex a b l o =
-    venue-is (withComplex (venueOf b) l) (withComplex (venueOf a) l) (regulars-kept o (omega arith) (inr (omega arith))) refl
+    venue-is (withComplex (venueOf b) l) (withComplex (venueOf a) l) (regulars-kept o (omega arith) (inr (omega arith)) (inr (omega arith))) refl
     (leggings-kept o (inl (omega arith))) (series-kept o (inl (omega arith))) (editions-kept o (inl (omega arith))) (last-kept o (inr (omega arith)))
 
 -- closing gaps leaves the levels of the orders as they are
@@ -120,8 +151,8 @@ level-packed s d v = level-closed s d v
 -- gaps are closed; then all places in use become known to be held
 regulars-known : (a b : List ℕ) (j : ℕ) → venueOf b ≡ closeRegulars (venueOf a) → regularsUsed b ≡ regularsHeld a → complexesUsed b ≡ complexesUsed a →
     Filled holdsRegular (regularIn b) (regularsUsed b) → ((n : ℕ) → n < 16 → levelIn b n ≡ levelIn a n) → (ComplexesMarked a → ComplexesMarked b) →
-    (LeggingMarked a → LeggingMarked b) → (Figured a → Figured b) → RegularsClosed a (set b 827 j)
-regulars-known a b j same used others full levels marks legs figs = record {
+    (LeggingMarked a → LeggingMarked b) → (Figured a → Figured b) → getD b 1231 0 ≡ getD a 1231 0 → RegularsClosed a (set b 827 j)
+regulars-known a b j same used others full levels marks legs figs mark = record {
   venue = venue;
   counts = record {
     regulars = count-kept o (inl (omega arith)) ∙ used;
@@ -134,6 +165,7 @@ regulars-known a b j same used others full levels marks legs figs = record {
           complexes = complexes-marked o (inr (omega arith)) (inl (omega arith)) (inr (omega arith)) (marks (m .complexes));
           legging = legging-marked o (inr (omega arith)) (inr (omega arith)) (legs (m .legging));
           figures = figures-marked o (inl (omega arith)) (figs (m .figures));
+          shows = shows (m .shows);
         });
   };
   filled = filled;
@@ -143,18 +175,22 @@ regulars-known a b j same used others full levels marks legs figs = record {
     o = stored b 827 j
 
     venue : venueOf (set b 827 j) ≡ closeRegulars (venueOf a)
-    venue = beside-venue o (omega arith) (inl (omega arith)) ∙ same
+    venue = beside-venue o (omega arith) (inl (omega arith)) (inr (omega arith)) ∙ same
+
+    shows : ShowsMarked a → ShowsMarked (set b 827 j)
+    shows m z = subst (λ (v : Venue). Fully (v .regular)) (sym venue)
+        (unfold closeRegulars withRegular in fully-packed (venueOf a .regular) (m (unmarked-as a (set b 827 j) (o .same 1231 (inr (omega arith)) ∙ mark) z)))
 
     filled : Filled holdsRegular (regularIn (set b 827 j)) (regularsUsed (set b 827 j))
     filled k w =
         let z = regulars-few b in
         let e = count-kept o (inl (omega arith)) in
-        ap holdsRegular (sym (regular-kept o k (inl (omega arith)))) ∙ full k (omega arith)
+        sym (holds-kept o k (inl (omega arith))) ∙ full k (omega arith)
 
 complexes-known : (a b : List ℕ) (j : ℕ) → venueOf b ≡ closeComplexes (venueOf a) → complexesUsed b ≡ complexesHeld a → regularsUsed b ≡ regularsUsed a →
     Filled holdsComplex (complexIn b) (complexesUsed b) → ((n : ℕ) → n < 16 → levelIn b n ≡ levelIn a n) → (RegularsMarked a → RegularsMarked b) →
-    (LeggingMarked a → LeggingMarked b) → (Figured a → Figured b) → ComplexesClosed a (set b 828 j)
-complexes-known a b j same used others full levels marks legs figs = record {
+    (LeggingMarked a → LeggingMarked b) → (Figured a → Figured b) → (ShowsMarked a → ShowsMarked b) → ComplexesClosed a (set b 828 j)
+complexes-known a b j same used others full levels marks legs figs shows = record {
   venue = venue;
   counts = record {
     complexes = count-kept2 o (inl (omega arith)) ∙ used;
@@ -166,6 +202,7 @@ complexes-known a b j same used others full levels marks legs figs = record {
           complexes = λ k w. filled k (omega arith);
           legging = legging-marked o (inr (omega arith)) (inr (omega arith)) (legs (m .legging));
           figures = figures-marked o (inl (omega arith)) (figs (m .figures));
+          shows = shows-marked o (omega arith) (omega arith) (inl (omega arith)) (shows (m .shows));
         });
   };
   filled = filled;
@@ -175,7 +212,7 @@ complexes-known a b j same used others full levels marks legs figs = record {
     o = stored b 828 j
 
     venue : venueOf (set b 828 j) ≡ closeComplexes (venueOf a)
-    venue = beside-venue o (omega arith) (inl (omega arith)) ∙ same
+    venue = beside-venue o (omega arith) (inl (omega arith)) (inr (omega arith)) ∙ same
 
     filled : Filled holdsComplex (complexIn (set b 828 j)) (complexesUsed (set b 828 j))
     filled k w =
@@ -191,7 +228,7 @@ regulars-same a j full =
     let p = closing-start holdsRegular n (regularIn a) n (omega arith) full in
     regulars-known a a j
     (venue-is (venueOf a) (closeRegulars (venueOf a)) (closed-part holdsRegular noRegular refl n 128 (regularIn a) (regularIn a) n p (regulars-few a)) refl refl refl refl refl)
-    (sym (closed-count holdsRegular noRegular refl n 128 (regularIn a) (regularIn a) n p (regulars-few a))) refl full (λ k w. refl) (λ m. m) (λ m. m) (λ m. m)
+    (sym (closed-count holdsRegular noRegular refl n 128 (regularIn a) (regularIn a) n p (regulars-few a))) refl full (λ k w. refl) (λ m. m) (λ m. m) (λ m. m) refl
 
 complexes-same : (a : List ℕ) (j : ℕ) → Filled holdsComplex (complexIn a) (complexesUsed a) → ComplexesClosed a (set a 828 j)
 unfolding closeComplexes withComplex venueOf
@@ -200,7 +237,7 @@ complexes-same a j full =
     let p = closing-start holdsComplex n (complexIn a) n (omega arith) full in
     complexes-known a a j
     (venue-is (venueOf a) (closeComplexes (venueOf a)) refl (closed-part holdsComplex noComplex refl n 32 (complexIn a) (complexIn a) n p (complexes-few a)) refl refl refl refl)
-    (sym (closed-count holdsComplex noComplex refl n 32 (complexIn a) (complexIn a) n p (complexes-few a))) refl full (λ k w. refl) (λ m. m) (λ m. m) (λ m. m)
+    (sym (closed-count holdsComplex noComplex refl n 32 (complexIn a) (complexIn a) n p (complexes-few a))) refl full (λ k w. refl) (λ m. m) (λ m. m) (λ m. m) (λ m. m)
 
 -- the book becomes l, of which j places are in use
 pub record RegularsSet (a : List ℕ) (l : List Regular) (j : ℕ) (c : List ℕ) : Type 0 where
@@ -209,7 +246,7 @@ pub record RegularsSet (a : List ℕ) (l : List Regular) (j : ℕ) (c : List ℕ
   pub complexes : complexesUsed c ≡ complexesUsed a
   pub filled : Filled holdsRegular (regularIn c) (regularsUsed c)
 
-pub regulars-set : (a b : List ℕ) (l : List Regular) (j : ℕ) → length b ≡ size → j ≤ 128 → Outside 0 512 a b →
+pub regulars-set : (a b : List ℕ) (l : List Regular) (j : ℕ) → length b ≡ size → j ≤ 128 → Halves a b →
     inUse (regularIn b) noRegular j 128 ≡ l → Filled holdsRegular (regularIn b) j → RegularsSet a l j (set b 776 j)
 regulars-set a b l j long few near part full = record {
   venue = regulars-counted (stored b 776 j)
@@ -217,28 +254,32 @@ regulars-set a b l j long few near part full = record {
       ∙ ap (λ (x : List Regular). withRegular (venueOf b) x) part
       ∙ others-regular a b l near;
   regulars = used;
-  complexes = count-kept2 (stored b 776 j) (inr (omega arith)) ∙ count-kept2 near (inr (omega arith));
-  filled = λ k w. ap holdsRegular (sym (regular-kept (stored b 776 j) k (inl (let z = regulars-few (set b 776 j) in omega arith)))) ∙ full k (let e = used in omega arith);
+  complexes = count-kept2 (stored b 776 j) (inr (omega arith)) ∙ count-kept2 (near .second) (inl (omega arith)) ∙ count-kept2 (near .first) (inr (omega arith));
+  filled = λ k w. sym (holds-kept (stored b 776 j) k (inl (let z = regulars-few (set b 776 j) in omega arith))) ∙ full k (let e = used in omega arith);
 }
   where
     used : regularsUsed (set b 776 j) ≡ j
     used = counted (set b 776 j) j (getD-set-same b 776 j 0 (omega arith)) few
 
-regulars-closed : (a b : List ℕ) (j : ℕ) → MovingRegulars a b (regularsUsed a) (regularsUsed a) j → RegularsClosed a (set (set b 776 j) 827 j)
+regulars-closed : (a b : List ℕ) (j : ℕ) → length a ≡ size → MovingRegulars a b (regularsUsed a) (regularsUsed a) j → RegularsClosed a (set (set b 776 j) 827 j)
 unfolding closeRegulars venueOf
-regulars-closed a b j m =
+regulars-closed a b j long m =
     let few = regulars-few a in
     let fewer = m .places .fewer in
-    let near : Outside 0 512 a b = wider (omega arith) (omega arith) (m .outside) in
+    let near = halves a b long (m .long) 0 (regularsUsed a) few (m .outside) in
+    let p = near .first in
+    let q = near .second in
     let o = stored b 776 j in
     let s = regulars-set a b _ j (m .long) (omega arith) near
     (closed-part holdsRegular noRegular refl (regularsUsed a) 128 (regularIn a) (regularIn b) j (m .places) few) (m .places .full) in
     regulars-known a (set b 776 j) j (s .venue)
     (s .regulars ∙ sym (closed-count holdsRegular noRegular refl (regularsUsed a) 128 (regularIn a) (regularIn b) j (m .places) few)) (s .complexes) (s .filled)
-    (λ n w. levels-kept o (inr (omega arith)) n w ∙ levels-kept near (inr (omega arith)) n w)
-    (λ x. complexes-marked o (inr (omega arith)) (inr (omega arith)) (inr (omega arith)) (complexes-marked near (inl (omega arith)) (inr (omega arith)) (inr (omega arith)) x))
-    (λ x. legging-marked o (inr (omega arith)) (inr (omega arith)) (legging-marked near (inl (omega arith)) (inr (omega arith)) x))
-    (λ x. figures-marked o (inl (omega arith)) (figures-marked near (inl (omega arith)) x))
+    (λ n w. levels-kept o (inr (omega arith)) n w ∙ levels-kept q (inl (omega arith)) n w ∙ levels-kept p (inr (omega arith)) n w)
+    (λ x. complexes-marked o (inr (omega arith)) (inr (omega arith)) (inr (omega arith))
+    (complexes-marked q (inr (omega arith)) (inl (omega arith)) (inl (omega arith)) (complexes-marked p (inl (omega arith)) (inr (omega arith)) (inr (omega arith)) x)))
+    (λ x. legging-marked o (inr (omega arith)) (inr (omega arith)) (legging-marked q (inr (omega arith)) (inl (omega arith)) (legging-marked p (inl (omega arith)) (inr (omega arith)) x)))
+    (λ x. figures-marked o (inl (omega arith)) (figures-marked q (inr (omega arith)) (figures-marked p (inl (omega arith)) x)))
+    (o .same 1231 (inr (omega arith)) ∙ q .same 1231 (inr (omega arith)) ∙ p .same 1231 (inr (omega arith)))
 
 -- the book becomes l, of which j places are in use
 pub record ComplexesSet (a : List ℕ) (l : List Complex) (j : ℕ) (c : List ℕ) : Type 0 where
@@ -277,15 +318,16 @@ complexes-closed a b j m =
     (λ x. regulars-marked o (omega arith) (inl (omega arith)) (inr (omega arith)) (regulars-marked near (omega arith) (inr (omega arith)) (inr (omega arith)) x))
     (λ x. legging-marked o (inr (omega arith)) (inr (omega arith)) (legging-marked near (inl (omega arith)) (inr (omega arith)) x))
     (λ x. figures-marked o (inl (omega arith)) (figures-marked near (inl (omega arith)) x))
+    (λ x. shows-marked o (omega arith) (omega arith) (inl (omega arith)) (shows-marked near (omega arith) (omega arith) (inr (omega arith)) x))
 
 pub regulars-whole : (a : List ℕ) (n r : ℕ) → n ≡ regularsUsed a → r ≡ n → Filled holdsRegular (regularIn a) r → RegularsClosed a (set a 827 n)
 regulars-whole a n r e h full = regulars-same a n (λ k w. full k (omega arith))
 
-pub regulars-end : (a b : List ℕ) (n i j : ℕ) → n ≡ regularsUsed a → n ≤ i → MovingRegulars a b n i j → RegularsClosed a (set (set b 776 j) 827 j)
-regulars-end a b n i j e h m =
+pub regulars-end : (a b : List ℕ) (n i j : ℕ) → length a ≡ size → n ≡ regularsUsed a → n ≤ i → MovingRegulars a b n i j → RegularsClosed a (set (set b 776 j) 827 j)
+regulars-end a b n i j long e h m =
     let q = m .places .read in
     let z : i ≡ n = omega arith in
-    regulars-closed a b j (rw (z, e) at m)
+    regulars-closed a b j long (rw (z, e) at m)
 
 pub complexes-whole : (a : List ℕ) (n r : ℕ) → n ≡ complexesUsed a → r ≡ n → Filled holdsComplex (complexIn a) r → ComplexesClosed a (set a 828 n)
 complexes-whole a n r e h full = complexes-same a n (λ k w. full k (omega arith))

@@ -9,7 +9,7 @@ use native.Mathlib.Decide.{decLt, ℕ-discrete}
 use native.Mathlib.Numerals.{add-one}
 use borrow.Author.Tests.{eqb-true, eq-eqb, ne-eqb}
 use lib.Dec.{eqb, ltb}
-use lib.ListN.{length, getD, set, take, length-set, List·getD-eq-default}
+use lib.ListN.{length, getD, set, take, length-set}
 use lib.Seq.{getD-set-same, getD-set-other, take-suc, take-all}
 use lib.Seq.{sets as row}
 use Rattle.rules.specs.declared.Edition.{Edition}
@@ -22,27 +22,28 @@ use Rattle.rules.proofs.Cases.{if-by}
 use Rattle.places.specs.Layout.{size, upto, Filled, regularsUsed, complexesUsed, editionIn, venueOf, editionRow, figureIn, Figured, FiguresBase, FigureSet, FiguresCounted, SameCounts}
 use Rattle.places.proofs.Tables.{upto-length, upto-at}
 use Rattle.places.proofs.Parts.{Outside, wider, count-kept, count-kept2, regulars-kept, edition-kept, edition-set}
-use Rattle.places.proofs.Beside.{levels-kept, regulars-marked, complexes-marked, legging-marked, figure-same, beside-venue, right-kept}
-use Rattle.places.proofs.Stores.{sets-outside, sets-length, edition-back}
+use Rattle.places.proofs.Beside.{levels-kept, regulars-marked, complexes-marked, legging-marked, figure-same, shows-marked, beside-venue, right-kept}
+use Rattle.places.proofs.Stores.{sets-outside, edition-back}
 
 -- What is counted -----------------------------------------------------------------------------
 
 -- a store into the figures alone
 pub record Aside (a b : List ℕ) : Type 0 where
   pub long : length b ≡ size
-  pub others : (k : ℕ) → k < 958 → getD b k 0 ≡ getD a k 0
+  pub others : (k : ℕ) → (k < 958) ⊎ (975 ≤ k) → getD b k 0 ≡ getD a k 0
 
-pub aside-outside : (a b : List ℕ) → length a ≡ size → Aside a b → Outside 958 975 a b
-aside-outside a b n h = record { same = λ k w. go k w }
-  where
-    go : (k : ℕ) → (k < 958) ⊎ (975 ≤ k) → getD b k 0 ≡ getD a k 0
-    go k (inl w) = h .others k w
-    go k (inr w) = List·getD-eq-default b 0 {n = k} (omega (arith, h .long)) ∙ sym (List·getD-eq-default a 0 {n = k} (omega arith))
+pub aside-outside : (a b : List ℕ) → Aside a b → Outside 958 975 a b
+aside-outside a b h = record { same = h .others }
 
-aside-set : (a b : List ℕ) (f x : ℕ) → Aside a b → Aside a (set b (2 * f + 958) x)
-aside-set a b f x h = record {
+-- a figure's number is no other
+apart : (f k : ℕ) → f < 9 → (k < 958) ⊎ (975 ≤ k) → k ≢ 2 * f + 958
+apart f k h (inl w) e = omega arith
+apart f k h (inr w) e = omega arith
+
+aside-set : (a b : List ℕ) (f x : ℕ) → f < 9 → Aside a b → Aside a (set b (2 * f + 958) x)
+aside-set a b f x lt h = record {
   long = length-set b (2 * f + 958) x ∙ h .long;
-  others = λ k w. getD-set-other b (2 * f + 958) k x 0 (λ e. omega arith) ∙ h .others k w;
+  others = λ k w. getD-set-other b (2 * f + 958) k x 0 (apart f k lt w) ∙ h .others k w;
 }
 
 -- a figure anew
@@ -70,7 +71,7 @@ base-small f = if-by (λ x. x < 256) (ltb f 6) (λ _. omega arith) (λ _. if-by 
 
 pub based-next : (a b : List ℕ) (f x : ℕ) → Based a b f → f < 9 → x ≡ baseFigure f → Based a (set b (2 * f + 958) x) (f + 1)
 based-next a b f x m lt e = record {
-  aside = aside-set a b f x (m .aside);
+  aside = aside-set a b f x lt (m .aside);
   base = λ g h. elim (ℕ-discrete g f) [
     | yes q ↦ ap (figureIn (set b (2 * f + 958) x)) q ∙ figure-new b f x (m .aside .long) lt (let z = base-small f in omega arith) ∙ e ∙ sym (ap baseFigure q)
     | no q ↦ figure-old b f g x q ∙ m .base g (omega arith)
@@ -98,7 +99,7 @@ past-set e a h = record { others = λ k w. refl; figures = λ f w. sym (ap (λ (
 pub figure-set : (e : Edition) (a : List ℕ) → length a ≡ size → held (e .edition) ≡ true → e .figure < 9 → e .value < 256 → FigureSet e a (set a (2 * e .figure + 958) (e .value))
 unfolding sets
 figure-set e a n h few w = record {
-  others = λ k l. getD-set-other a (2 * e .figure + 958) k (e .value) 0 (λ q. omega arith);
+  others = λ k l. getD-set-other a (2 * e .figure + 958) k (e .value) 0 (apart (e .figure) k few l);
   figures = λ f l. rw h (go f (eqb (e .figure) f) refl);
 }
   where
@@ -149,20 +150,20 @@ counting-next a b c i e l m h is s = record {
     es = venueOf a .editions
 
     here : e ≡ getD es i noEdition
-    here = is ∙ sym (edition-kept (aside-outside a b (m .long) (m .aside)) i (inl (omega arith))) ∙ sym (edition-at a i h)
+    here = is ∙ sym (edition-kept (aside-outside a b (m .aside)) i (inl (omega arith))) ∙ sym (edition-at a i h)
 
 pub counting-last : (first a b : List ℕ) (i : ℕ) → FiguresBase first a → Counting a b i → 32 ≤ i → FiguresCounted first b
 unfolding figureNow
 counting-last first a b i base m h = record {
   others = λ k w. m .aside .others k w ∙ base .others k w;
   figures = λ f w. m .so f w ∙ ap (lastValue f (baseFigure f)) (take-all i (venueOf a .editions) (omega (arith, editions-many a)))
-      ∙ ap (λ (v : Venue). lastValue f (baseFigure f) (v .editions)) (sym (beside-venue (aside-outside a b (m .long) (m .aside)) (omega arith) (inr (omega arith))));
+      ∙ ap (λ (v : Venue). lastValue f (baseFigure f) (v .editions)) (sym (beside-venue (aside-outside a b (m .aside)) (omega arith) (inr (omega arith)) (inr (omega arith))));
 }
 
 -- An edition at a place -----------------------------------------------------------------------
 
-pub counted-outside : (a b : List ℕ) → length a ≡ size → length b ≡ length a → FiguresCounted a b → Outside 958 975 a b
-counted-outside a b n m h = aside-outside a b n (record { long = m ∙ n; others = h .others })
+pub counted-outside : (a b : List ℕ) → FiguresCounted a b → Outside 958 975 a b
+counted-outside a b h = record { same = h .others }
 
 last-some : (s y x : ℕ) (es : List Edition) → (0 < y) ⊎ (y ≡ x) → 0 < lastValue s x es → 0 < lastValue s y es
 unfolding lastValue
@@ -191,20 +192,21 @@ some-set s x (y ∷ es) zero e h v free k = last-some s _ x es (value v) (rw fre
 some-set s x (y ∷ es) (suc i) e h v free k = some-set s _ es i e h v free k
 
 pub put-edition : (a b c : List ℕ) (i : ℕ) (e : Edition) → length a ≡ size → i < 32 → e .figure < 256 → e .value < 256 → holdsEdition (editionIn a i) ≡ false → (0 < e .value) ⊎ (7 < e .figure) →
-    b ≡ row a (4 * i + 830) (editionRow e) → length c ≡ length b → FiguresCounted b c →
+    b ≡ row a (4 * i + 830) (editionRow e) → FiguresCounted b c →
     (venueOf c ≡ withEditions (venueOf a) (set (venueOf a .editions) i e)) × SameCounts a c
-put-edition a b c i e n h w x free val is l k = (
+put-edition a b c i e n h w x free val is k = (
   venue,
   record {
     regulars = count-kept p (inl (omega arith)) ∙ count-kept o (inl (omega arith));
     complexes = count-kept2 p (inl (omega arith)) ∙ count-kept2 o (inl (omega arith));
     right = right-kept a c (λ m y. levels-kept p (inl (omega arith)) m y ∙ levels-kept o (inl (omega arith)) m y)
-        (regulars-kept p (omega arith) (inl (omega arith)) ∙ regulars-kept o (omega arith) (inl (omega arith)))
+        (regulars-kept p (omega arith) (inr (omega arith)) (inl (omega arith)) ∙ regulars-kept o (omega arith) (inr (omega arith)) (inl (omega arith)))
         (λ m. record {
           regulars = regulars-marked p (omega arith) (inl (omega arith)) (inl (omega arith)) (regulars-marked o (omega arith) (inl (omega arith)) (inl (omega arith)) (m .regulars));
           complexes = complexes-marked p (inr (omega arith)) (inl (omega arith)) (inl (omega arith)) (complexes-marked o (inr (omega arith)) (inl (omega arith)) (inl (omega arith)) (m .complexes));
           legging = legging-marked p (inr (omega arith)) (inl (omega arith)) (legging-marked o (inr (omega arith)) (inl (omega arith)) (m .legging));
           figures = record { so = k .figures; some = λ s y. some s y (m .figures) };
+          shows = shows-marked p (omega arith) (omega arith) (inl (omega arith)) (shows-marked o (omega arith) (omega arith) (inl (omega arith)) (m .shows));
         });
   },
 )
@@ -215,14 +217,11 @@ put-edition a b c i e n h w x free val is l k = (
     o : Outside (4 * i + 830) (4 * i + 834) a b
     o = rw is wide
 
-    long : length b ≡ size
-    long = ap length is ∙ sets-length a (4 * i + 830) (editionRow e) ∙ n
-
     p : Outside 958 975 b c
-    p = counted-outside b c long l k
+    p = counted-outside b c k
 
     venue : venueOf c ≡ withEditions (venueOf a) (set (venueOf a .editions) i e)
-    venue = beside-venue p (omega arith) (inr (omega arith)) ∙ edition-set o h
+    venue = beside-venue p (omega arith) (inr (omega arith)) (inr (omega arith)) ∙ edition-set o h
         ∙ ap (λ (y : Edition). withEditions (venueOf a) (set (venueOf a .editions) i y)) (ap (λ (m : List ℕ). editionIn m i) is ∙ edition-back a i e n h w x)
 
     unset : (s : ℕ) → sets s (getD (venueOf a .editions) i noEdition) ≡ false

@@ -14,7 +14,7 @@ use Rattle.rules.specs.Base.{keep}
 use Rattle.rules.specs.Places.{packed}
 use Rattle.places.specs.Layout.{size, upto, inUse, Filled}
 use Rattle.places.proofs.Tables.{upto-length, upto-same, upto-more, used-length}
-use Rattle.places.proofs.Parts.{Outside, wider, joined}
+use Rattle.places.proofs.Parts.{Outside, wider, joined, unmoved}
 use Rattle.places.proofs.Stores.{sets-outside, sets-length}
 
 module _ {A : Type 0} (holds : A → Bool) where
@@ -121,43 +121,69 @@ module _ {A : Type 0} (holds : A → Bool) where
     unfolding inUse
     free-place f n all full = first-free f 0 n (all - n) (λ x p q. full x (omega arith))
 
--- Rows of numbers: place i has those from `low i` to below `low (i + 1)` -------------------------
+-- Rows of numbers ------------------------------------------------------------------------------
 
-pub record Moving {A : Type 0} (holds : A → Bool) (low : ℕ → ℕ) (rowIn : List ℕ → ℕ → A) (a b : List ℕ) (n i j : ℕ) : Type 0 where
+-- each of `all` places has numbers of its own, which `write` writes; `Same i j` says that only those of the places from i to below j may differ
+pub record Rows {A : Type 0} (all : ℕ) (rowIn : List ℕ → ℕ → A) (write : List ℕ → ℕ → A → List ℕ) (Same : (i j : ℕ) (a b : List ℕ) → Type 0) : Type 0 where
+  pub long : (a : List ℕ) (i : ℕ) (x : A) → length (write a i x) ≡ length a
+  pub none : (i j : ℕ) (a : List ℕ) → Same i j a a
+  pub wide : (i j k l : ℕ) (a b : List ℕ) → k ≤ i → j ≤ l → Same i j a b → Same k l a b
+  pub join : (i j : ℕ) (a b c : List ℕ) → Same i j a b → Same i j b c → Same i j a c
+  pub wrote : (a : List ℕ) (i : ℕ) (x : A) → Same i (i + 1) a (write a i x)
+  pub agree : (a b : List ℕ) (i j k : ℕ) → j ≤ all → k < all → Same i j a b → (k < i) ⊎ (j ≤ k) → rowIn a k ≡ rowIn b k
+
+-- those from `low i` to below `low (i + 1)`
+pub rows-between : {A : Type 0} (all : ℕ) (low : ℕ → ℕ) (rowIn : List ℕ → ℕ → A) (row : A → List ℕ) → ((i j : ℕ) → i ≤ j → low i ≤ low j) →
+    ((i : ℕ) (x : A) → low i + length (row x) ≡ low (i + 1)) →
+    ((a b : List ℕ) (l h i : ℕ) → Outside l h a b → (low (i + 1) ≤ l) ⊎ (h ≤ low i) → rowIn a i ≡ rowIn b i) →
+    Rows all rowIn (λ a i x. sets a (low i) (row x)) (λ i j. Outside (low i) (low j))
+rows-between all low rowIn row rises width agree = record {
+  long = λ a i x. sets-length a (low i) (row x);
+  none = λ i j a. unmoved;
+  wide = λ i j k l a b p q. wider (rises k i p) (rises j l q);
+  join = λ i j a b c. joined;
+  wrote = λ a i x. wider (omega arith) (let z = width i x in omega arith) (sets-outside a (low i) (row x));
+  agree = λ a b i j k most few o h. agree a b (low i) (low j) k o (near i j k h);
+}
+  where
+    near : (i j k : ℕ) → (k < i) ⊎ (j ≤ k) → (low (k + 1) ≤ low i) ⊎ (low j ≤ low k)
+    near i j k (inl h) = inl (rises (k + 1) i (omega arith))
+    near i j k (inr h) = inr (rises j k h)
+
+pub record Moving {A : Type 0} (holds : A → Bool) (rowIn : List ℕ → ℕ → A) (Same : (i j : ℕ) (a b : List ℕ) → Type 0) (a b : List ℕ) (n i j : ℕ) : Type 0 where
   pub long : length b ≡ size
   pub places : Closing holds n (rowIn a) (rowIn b) i j
-  pub outside : Outside (low 0) (low i) a b
+  pub outside : Same 0 i a b
 
-module _ {A : Type 0} (holds : A → Bool) (all : ℕ) (low : ℕ → ℕ) (rowIn : List ℕ → ℕ → A) (row : A → List ℕ)
-    (rises : (i j : ℕ) → i ≤ j → low i ≤ low j) (wide : (i : ℕ) (x : A) → low i + length (row x) ≡ low (i + 1))
-    (agree : (a b : List ℕ) (l h i : ℕ) → Outside l h a b → (low (i + 1) ≤ l) ⊎ (h ≤ low i) → rowIn a i ≡ rowIn b i)
-    (back : (a c : List ℕ) (i k : ℕ) → length a ≡ size → i < all → rowIn (sets a (low i) (row (rowIn c k))) i ≡ rowIn c k) where
-  pub moving-start : (a : List ℕ) (n r : ℕ) → length a ≡ size → r ≤ n → Filled holds (rowIn a) r → Moving holds low rowIn a a n r r
+module _ {A : Type 0} (holds : A → Bool) (all : ℕ) (rowIn : List ℕ → ℕ → A) (write : List ℕ → ℕ → A → List ℕ) (Same : (i j : ℕ) (a b : List ℕ) → Type 0)
+    (rows : Rows all rowIn write Same) (back : (a c : List ℕ) (i k : ℕ) → length a ≡ size → i < all → rowIn (write a i (rowIn c k)) i ≡ rowIn c k) where
+  pub moving-start : (a : List ℕ) (n r : ℕ) → length a ≡ size → r ≤ n → Filled holds (rowIn a) r → Moving holds rowIn Same a a n r r
   moving-start a n r e h full = record {
     long = e;
     places = closing-start holds n (rowIn a) r h full;
-    outside = record { same = λ k w. refl };
+    outside = rows .none 0 r a;
   }
 
-  module _ (a b : List ℕ) (n i j : ℕ) (m : Moving holds low rowIn a b n i j) (lt : i < n) (o : A) (is : o ≡ rowIn b i) where
+  module _ (a b : List ℕ) (n i j : ℕ) (m : Moving holds rowIn Same a b n i j) (few : n ≤ all) (lt : i < n) (o : A) (is : o ≡ rowIn b i) where
     same-row : rowIn a i ≡ rowIn b i
-    same-row = agree a b (low 0) (low i) i (m .outside) (inr (omega arith))
+    same-row = rows .agree a b 0 i i (omega arith) (omega arith) (m .outside) (inr (omega arith))
 
-    pub moving-skip : holds o ≡ false → Moving holds low rowIn a b n (i + 1) j
+    pub moving-skip : holds o ≡ false → Moving holds rowIn Same a b n (i + 1) j
     moving-skip h = record {
       long = m .long;
       places = closing-skip holds n (rowIn a) (rowIn b) i j (m .places) lt (ap holds (same-row ∙ sym is) ∙ h);
-      outside = wider (omega arith) (rises i (i + 1) (omega arith)) (m .outside);
+      outside = rows .wide 0 i 0 (i + 1) a b (omega arith) (omega arith) (m .outside);
     }
 
-    pub moving-keep : (b′ : List ℕ) → n ≤ all → holds o ≡ true → b′ ≡ sets b (low j) (row o) → Moving holds low rowIn a b′ n (i + 1) (j + 1)
-    moving-keep b′ few h e =
+    pub moving-keep : (b′ : List ℕ) → holds o ≡ true → b′ ≡ write b j o → Moving holds rowIn Same a b′ n (i + 1) (j + 1)
+    moving-keep b′ h e =
         let q = m .places .fewer in
+        let w = write b j (rowIn b i) in
         rw (e, is) record {
-          long = sets-length b (low j) (row (rowIn b i)) ∙ m .long;
-          places = closing-keep holds n (rowIn a) (rowIn b) i j (m .places) lt (rowIn (sets b (low j) (row (rowIn b i)))) (ap holds (same-row ∙ sym is) ∙ h)
-              (λ k w. agree b (sets b (low j) (row (rowIn b i))) (low j) (low j + length (row (rowIn b i))) k (sets-outside b (low j) (row (rowIn b i))) (inl (rises (k + 1) j (omega arith))))
+          long = rows .long b j (rowIn b i) ∙ m .long;
+          places = closing-keep holds n (rowIn a) (rowIn b) i j (m .places) lt (rowIn w) (ap holds (same-row ∙ sym is) ∙ h)
+              (λ k f. rows .agree b w j (j + 1) k (omega arith) (omega arith) (rows .wrote b j (rowIn b i)) (inl f))
               (back b b j i (m .long) (omega arith) ∙ sym same-row);
-          outside = joined (wider (omega arith) (rises i (i + 1) (omega arith)) (m .outside))
-              (wider (rises 0 j (omega arith)) (let z = wide j (rowIn b i) in let y = rises (j + 1) (i + 1) (omega arith) in omega arith) (sets-outside b (low j) (row (rowIn b i))));
+          outside = rows .join 0 (i + 1) a b w (rows .wide 0 i 0 (i + 1) a b (omega arith) (omega arith) (m .outside))
+              (rows .wide j (j + 1) 0 (i + 1) b w (omega arith) (omega arith) (rows .wrote b j (rowIn b i)));
         }

@@ -2,6 +2,7 @@ pub mod Tables
 pub mod Parts
 pub mod Masks
 pub mod Orderly
+pub mod Fully
 pub mod Beside
 pub mod Limits
 pub mod Stores
@@ -10,3 +11,4 @@ pub mod Closed
 pub mod Figures
 pub mod Loaded
 pub mod Starting
+pub mod Again

@@ -1,5 +1,5 @@
 -- Loading a venue: its books row by row to the first free place, its other parts place by place.
-use mathlib.Core.Path.{_≡_, refl, sym, ap, _∙_}
+use mathlib.Core.Path.{_≡_, refl, sym, ap, subst, _∙_}
 use mathlib.Core.Bool.{Bool, true, false, _&&_, true≢false}
 use mathlib.Core.Logic.{_⊎_, inl, inr}
 use mathlib.Core.List.{List, [], _∷_, _++_}
@@ -8,6 +8,7 @@ use native.Mathlib.Omega.{arith}
 use native.Mathlib.Decide.{decLt}
 use native.Mathlib.Numerals.{add-one}
 use borrow.Author.Tests.{leb-true}
+use lib.Dec.{leb}
 use lib.ListN.{length, getD, set, take, length-set, List·getD-eq-default}
 use lib.Seq.{sets, getD-set-same, ext-getD, take-suc, take-suc-set, take-all}
 use Rattle.rules.specs.declared.Regular.{Regular}
@@ -20,65 +21,66 @@ use Rattle.rules.specs.Words.{noRegular, noComplex, noLegging, notListed, noEdi
 use Rattle.rules.specs.Places.{holdsRegular, holdsComplex, holdsEdition, blankRegular, blankComplex, blankEdition, packed, closeGaps}
 use Rattle.rules.specs.Step.{mask}
 use Rattle.rules.specs.Settings.{figureNow, increment}
-use Rattle.rules.specs.Refusals.{regularInRange, complexInRange}
-use Rattle.rules.specs.Sound.{regularsSound, complexesSound, editionsSound, editionInRange, figureInRange, sound}
+use Rattle.rules.specs.Refusals.{regularInRange, complexInRange, onIncrement}
+use Rattle.rules.specs.Sound.{showsFully, regularsSound, complexesSound, editionsSound, editionInRange, figureInRange, sound}
 use Rattle.rules.proofs.Tests.{and-l, and-r}
 use Rattle.rules.proofs.Editions.{ed, Dated, Stepped, dated-steps}
 use Rattle.rules.proofs.Dating.{edition-free}
 use Rattle.rules.proofs.Closing.{packed-free}
 use Rattle.rules.proofs.Arranging.{arranged-out, blank-free, blank-freeC, closed-same}
 use Rattle.places.proofs.Orderly.{sound-orderly}
-use Rattle.places.specs.Layout.{size, inUse, regularIn, complexIn, listedIn, editionIn, venueOf, regularRow, complexRow, editionRow, Figured, FiguresCounted, Kept, SameCounts, Filled, Placed, OnSide, RegularsPlaced, ComplexesPlaced, Loadable, RegularsLoaded, ComplexesLoaded, EditionsLoaded, Laid}
+use Rattle.places.proofs.Fully.{range-bounded, sound-fully}
+use Rattle.places.specs.Layout.{size, inUse, regularIn, complexIn, listedIn, editionIn, venueOf, regularPut, Bounded, editionRow, Fully, Figured, FiguresCounted, Kept, SameCounts, Filled, Placed, OnSide, RegularsPlaced, ComplexesPlaced, Loadable, RegularsLoaded, ComplexesLoaded, EditionsLoaded, Laid}
 use Rattle.places.proofs.Tables.{upto-length, used-length, used-at, used-free, whole}
-use Rattle.places.proofs.Parts.{Outside, stored, wider, joined, edition-kept, count-kept, count-kept2, regulars-kept, complexes-kept, leggings-kept, series-kept, last-kept, venue-is}
+use Rattle.places.proofs.Parts.{Outside, OutsideRows, halves, stored, wider, edition-kept, count-kept, count-kept2, regulars-kept, complexes-kept, leggings-kept, series-kept, last-kept, venue-is}
 use Rattle.places.proofs.Masks.{legging-many}
 use Rattle.places.proofs.Beside.{figures-marked, beside-venue}
 use Rattle.places.proofs.Figures.{counted-outside}
-use Rattle.places.proofs.Stores.{sets-outside, sets-length, regular-back, complex-back, edition-back}
-use Rattle.places.proofs.Gaps.{filled-more}
-use Rattle.places.proofs.Closed.{lowRegular, lowComplex, regular-wide, complex-wide, regular-agree, complex-agree, regulars-set, complexes-set, regulars-filled, complexes-filled}
+use Rattle.places.proofs.Stores.{regular-back, complex-back, edition-back}
+use Rattle.places.proofs.Gaps.{filled-more, Rows, rows-between}
+use Rattle.places.proofs.Closed.{regular-rows, complexPut, OutsideComplexes, complex-rows, regulars-set, complexes-set, regulars-filled, complexes-filled}
 
 -- Rows, to the first free place ----------------------------------------------------------------
 
 -- the first i rows are l's
-pub record Laying {A : Type 0} (holds : A → Bool) (none : A) (low : ℕ → ℕ) (rowIn : List ℕ → ℕ → A) (a b : List ℕ) (l : List A) (i : ℕ) : Type 0 where
+pub record Laying {A : Type 0} (holds : A → Bool) (none : A) (rowIn : List ℕ → ℕ → A) (Same : (i j : ℕ) (a b : List ℕ) → Type 0) (a b : List ℕ) (l : List A) (i : ℕ) : Type 0 where
+  pub before : length a ≡ size
   pub long : length b ≡ size
   pub same : (k : ℕ) → k < i → rowIn b k ≡ getD l k none
   pub full : Filled holds (rowIn b) i
-  pub outside : Outside (low 0) (low i) a b
+  pub outside : Same 0 i a b
 
-module _ {A : Type 0} (holds : A → Bool) (none : A) (all : ℕ) (low : ℕ → ℕ) (rowIn : List ℕ → ℕ → A) (row : A → List ℕ)
-    (rises : (i j : ℕ) → i ≤ j → low i ≤ low j) (wide : (i : ℕ) (x : A) → low i + length (row x) ≡ low (i + 1))
-    (agree : (a b : List ℕ) (l h i : ℕ) → Outside l h a b → (low (i + 1) ≤ l) ⊎ (h ≤ low i) → rowIn a i ≡ rowIn b i) where
-  pub laying-first : (a : List ℕ) (l : List A) → length a ≡ size → Laying holds none low rowIn a a l 0
+module _ {A : Type 0} (holds : A → Bool) (none : A) (all : ℕ) (rowIn : List ℕ → ℕ → A) (write : List ℕ → ℕ → A → List ℕ) (Same : (i j : ℕ) (a b : List ℕ) → Type 0)
+    (rows : Rows all rowIn write Same) where
+  pub laying-first : (a : List ℕ) (l : List A) → length a ≡ size → Laying holds none rowIn Same a a l 0
   laying-first a l e = record {
+    before = e;
     long = e;
     same = λ k w. absurd (omega arith);
     full = λ k w. absurd (omega arith);
-    outside = record { same = λ k w. refl };
+    outside = rows .none 0 0 a;
   }
 
-  module _ (a b : List ℕ) (l : List A) (i : ℕ) (m : Laying holds none low rowIn a b l i) where
-    pub laying-next : holds (getD l i none) ≡ true → rowIn (sets b (low i) (row (getD l i none))) i ≡ getD l i none →
-        Laying holds none low rowIn a (sets b (low i) (row (getD l i none))) l (i + 1)
-    laying-next h new = record {
-      long = sets-length b (low i) (row (getD l i none)) ∙ m .long;
+  module _ (a b : List ℕ) (l : List A) (i : ℕ) (m : Laying holds none rowIn Same a b l i) where
+    pub laying-next : i < all → holds (getD l i none) ≡ true → rowIn (write b i (getD l i none)) i ≡ getD l i none → Laying holds none rowIn Same a (write b i (getD l i none)) l (i + 1)
+    laying-next lt h new = record {
+      before = m .before;
+      long = rows .long b i (getD l i none) ∙ m .long;
       same = same;
-      full = filled-more holds (rowIn b′) i (λ k w. ap holds (sym (before k w)) ∙ m .full k w) (ap holds new ∙ h);
-      outside = joined (wider (omega arith) (rises i (i + 1) (omega arith)) (m .outside))
-          (wider (rises 0 i (omega arith)) (let z = wide i (getD l i none) in omega arith) (sets-outside b (low i) (row (getD l i none))));
+      full = filled-more holds (rowIn b′) i (λ k w. ap holds (sym (front k w)) ∙ m .full k w) (ap holds new ∙ h);
+      outside = rows .join 0 (i + 1) a b b′ (rows .wide 0 i 0 (i + 1) a b (omega arith) (omega arith) (m .outside))
+          (rows .wide i (i + 1) 0 (i + 1) b b′ (omega arith) (omega arith) (rows .wrote b i (getD l i none)));
     }
       where
         b′ : List ℕ
-        b′ = sets b (low i) (row (getD l i none))
+        b′ = write b i (getD l i none)
 
-        before : (k : ℕ) → k < i → rowIn b k ≡ rowIn b′ k
-        before k w =
-            agree b b′ (low i) (low i + length (row (getD l i none))) k (sets-outside b (low i) (row (getD l i none))) (inl (rises (k + 1) i (omega arith)))
+        front : (k : ℕ) → k < i → rowIn b k ≡ rowIn b′ k
+        front k w = rows .agree b b′ i (i + 1) k (omega arith) (omega arith) (rows .wrote b i (getD l i none)) (inl w)
 
         same : (k : ℕ) → k < i + 1 → rowIn b′ k ≡ getD l k none
         same k w = elim (decLt k i) [
-          | yes r ↦ sym (before k r) ∙ m .same k r
+          | yes r ↦ sym (front k r) ∙ m .same k r
           | no r ↦ (let e : k ≡ i = omega arith in ap (rowIn b′) e ∙ new ∙ sym (ap (λ (x : ℕ). getD l x none) e))
         ]
 
@@ -109,41 +111,43 @@ pub past-end : {A : Type 0} (none : A) (l : List A) (i : ℕ) → length l ≤ i
 past-end none l i h k le = List·getD-eq-default l none {n = k} (omega arith)
 
 abbrev pub LayingRegulars : (a b : List ℕ) (l : List Regular) (i : ℕ) → Type 0
-LayingRegulars = Laying holdsRegular noRegular lowRegular regularIn
+LayingRegulars = Laying holdsRegular noRegular regularIn OutsideRows
 
 pub regulars-first : (a : List ℕ) (l : List Regular) → length a ≡ size → LayingRegulars a a l 0
-regulars-first = laying-first holdsRegular noRegular 128 lowRegular regularIn regularRow (λ i j h. omega arith) regular-wide regular-agree
+regulars-first = laying-first holdsRegular noRegular 128 regularIn regularPut OutsideRows regular-rows
 
 pub regulars-next : (a b b′ : List ℕ) (l : List Regular) (i : ℕ) → RegularsPlaced l → LayingRegulars a b l i → i < 128 → (o : Regular) → o ≡ getD l i noRegular →
-    holdsRegular o ≡ true → b′ ≡ sets b (4 * i) (regularRow o) → LayingRegulars a b′ l (i + 1)
+    holdsRegular o ≡ true → b′ ≡ regularPut b i o → LayingRegulars a b′ l (i + 1)
 regulars-next a b b′ l i p m lt o is h e =
     let q = p .asked i (ap holdsRegular (sym is) ∙ h) in
-    rw (e, is) (laying-next holdsRegular noRegular 128 lowRegular regularIn regularRow (λ i j h. omega arith) regular-wide regular-agree a b l i m (ap holdsRegular (sym is) ∙ h)
-    (regular-back b i (getD l i noRegular) (m .long) lt (q .series) (q .side)))
+    rw (e, is) (laying-next holdsRegular noRegular 128 regularIn regularPut OutsideRows regular-rows a b l i m lt (ap holdsRegular (sym is) ∙ h)
+    (regular-back b i (getD l i noRegular) (m .long) lt (q .0 .series) (q .0 .side) (q .1)))
 
 pub regulars-last : (a b : List ℕ) (l : List Regular) (i : ℕ) → LayingRegulars a b l i → length l ≡ 128 → i ≤ 128 →
     ((k : ℕ) → i ≤ k → getD l k noRegular ≡ noRegular) → RegularsLoaded a l (set b 776 i)
 regulars-last a b l i m n few rest =
-    let s = regulars-set a b l i (m .long) few (wider (omega arith) (omega arith) (m .outside)) (laid holdsRegular noRegular 128 lowRegular regularIn regularRow (λ i j h. omega arith) regular-wide regular-agree a b l i m n few rest) (m .full) in
+    let s = regulars-set a b l i (m .long) few (halves a b (m .before) (m .long) 0 i few (m .outside))
+    (laid holdsRegular noRegular 128 regularIn regularPut OutsideRows regular-rows a b l i m n few rest) (m .full) in
     record { venue = s .venue; complexes = s .complexes; filled = s .filled }
 
 abbrev pub LayingComplexes : (a b : List ℕ) (l : List Complex) (i : ℕ) → Type 0
-LayingComplexes = Laying holdsComplex noComplex lowComplex complexIn
+LayingComplexes = Laying holdsComplex noComplex complexIn OutsideComplexes
 
 pub complexes-first : (a : List ℕ) (l : List Complex) → length a ≡ size → LayingComplexes a a l 0
-complexes-first = laying-first holdsComplex noComplex 32 lowComplex complexIn complexRow (λ i j h. omega arith) complex-wide complex-agree
+complexes-first = laying-first holdsComplex noComplex 32 complexIn complexPut OutsideComplexes complex-rows
 
 pub complexes-next : (a b b′ : List ℕ) (l : List Complex) (i : ℕ) → ComplexesPlaced l → LayingComplexes a b l i → i < 32 → (o : Complex) → o ≡ getD l i noComplex →
-    holdsComplex o ≡ true → Kept o → b′ ≡ sets b (6 * i + 512) (complexRow o) → LayingComplexes a b′ l (i + 1)
+    holdsComplex o ≡ true → Kept o → b′ ≡ complexPut b i o → LayingComplexes a b′ l (i + 1)
 complexes-next a b b′ l i p m lt o is h kept e =
     let q = p .asked i (ap holdsComplex (sym is) ∙ h) in
-    rw (e, is) (laying-next holdsComplex noComplex 32 lowComplex complexIn complexRow (λ i j h. omega arith) complex-wide complex-agree a b l i m (ap holdsComplex (sym is) ∙ h)
+    rw (e, is) (laying-next holdsComplex noComplex 32 complexIn complexPut OutsideComplexes complex-rows a b l i m lt (ap holdsComplex (sym is) ∙ h)
     (complex-back b i (getD l i noComplex) (m .long) lt (q .0 .series) (q .0 .side) (q .1 .series) (q .1 .side) (rw is at kept)))
 
 pub complexes-last : (a b : List ℕ) (l : List Complex) (i : ℕ) → LayingComplexes a b l i → length l ≡ 32 → i ≤ 32 →
     ((k : ℕ) → i ≤ k → getD l k noComplex ≡ noComplex) → ComplexesLoaded a l (set b 777 i)
 complexes-last a b l i m n few rest =
-    let s = complexes-set a b l i (m .long) few (wider (omega arith) (omega arith) (m .outside)) (laid holdsComplex noComplex 32 lowComplex complexIn complexRow (λ i j h. omega arith) complex-wide complex-agree a b l i m n few rest) (m .full) in
+    let s = complexes-set a b l i (m .long) few (wider (omega arith) (omega arith) (m .outside))
+    (laid holdsComplex noComplex 32 complexIn complexPut OutsideComplexes complex-rows a b l i m n few rest) (m .full) in
     record { venue = s .venue; regulars = s .regulars; filled = s .filled }
 
 -- Whole parts, place by place -----------------------------------------------------------------
@@ -232,16 +236,25 @@ edition-agree : (a b : List ℕ) (l h i : ℕ) → Outside l h a b → (4 * (i +
 edition-agree a b l h i o (inl w) = edition-kept o i (inl (omega arith))
 edition-agree a b l h i o (inr w) = edition-kept o i (inr w)
 
+abbrev editionPut : List ℕ → ℕ → Edition → List ℕ
+editionPut a i e = sets a (4 * i + 830) (editionRow e)
+
+abbrev OutsideEditions : (i j : ℕ) (a b : List ℕ) → Type 0
+OutsideEditions i j = Outside (4 * i + 830) (4 * j + 830)
+
+edition-rows : Rows 32 editionIn editionPut OutsideEditions
+edition-rows = rows-between 32 lowEdition editionIn editionRow (λ i j h. omega arith) edition-wide edition-agree
+
 abbrev pub LayingEditions : (a b : List ℕ) (l : List Edition) (i : ℕ) → Type 0
-LayingEditions = Laying (λ _. true) noEdition lowEdition editionIn
+LayingEditions = Laying (λ _. true) noEdition editionIn OutsideEditions
 
 pub editions-first : (a : List ℕ) (l : List Edition) → length a ≡ size → LayingEditions a a l 0
-editions-first = laying-first (λ _. true) noEdition 32 lowEdition editionIn editionRow (λ i j h. omega arith) edition-wide edition-agree
+editions-first = laying-first (λ _. true) noEdition 32 editionIn editionPut OutsideEditions edition-rows
 
 pub editions-next : (a b b′ : List ℕ) (l : List Edition) (i : ℕ) → LayingEditions a b l i → i < 32 → (e : Edition) → e ≡ getD l i noEdition →
-    e .figure < 256 → e .value < 256 → b′ ≡ sets b (4 * i + 830) (editionRow e) → LayingEditions a b′ l (i + 1)
+    e .figure < 256 → e .value < 256 → b′ ≡ editionPut b i e → LayingEditions a b′ l (i + 1)
 editions-next a b b′ l i m lt e is w x q =
-    rw (q, is) (laying-next (λ _. true) noEdition 32 lowEdition editionIn editionRow (λ i j h. omega arith) edition-wide edition-agree a b l i m refl
+    rw (q, is) (laying-next (λ _. true) noEdition 32 editionIn editionPut OutsideEditions edition-rows a b l i m lt refl
     (edition-back b i (getD l i noEdition) (m .long) lt (rw is at w) (rw is at x)))
 
 editions-part : (b : List ℕ) → venueOf b .editions ≡ inUse (editionIn b) noEdition 32 32
@@ -251,7 +264,7 @@ editions-part b = sym (whole (editionIn b) noEdition 32)
 pub editions-last : (a b : List ℕ) (l : List Edition) (i : ℕ) → LayingEditions a b l i → length l ≡ 32 → i ≡ 32 → EditionsLoaded a l b
 unfolding withEditions
 editions-last a b l i m n e = record {
-  venue = venue-is (venueOf b) (withEditions (venueOf a) l) (regulars-kept o (omega arith) (inl (omega arith))) (complexes-kept o (inr (omega arith)) (inl (omega arith)))
+  venue = venue-is (venueOf b) (withEditions (venueOf a) l) (regulars-kept o (omega arith) (inr (omega arith)) (inl (omega arith))) (complexes-kept o (inr (omega arith)) (inl (omega arith)))
       (leggings-kept o (inr (omega arith))) (series-kept o (inr (omega arith))) part (last-kept o (inl (omega arith)));
   regulars = count-kept o (inl (omega arith));
   complexes = count-kept2 o (inl (omega arith));
@@ -262,7 +275,7 @@ editions-last a b l i m n e = record {
 
     part : venueOf b .editions ≡ l
     part = editions-part b ∙ sym (ap (λ (k : ℕ). inUse (editionIn b) noEdition k 32) e)
-        ∙ laid (λ _. true) noEdition 32 lowEdition editionIn editionRow (λ i j h. omega arith) edition-wide edition-agree a b l i m n (omega arith)
+        ∙ laid (λ _. true) noEdition 32 editionIn editionPut OutsideEditions edition-rows a b l i m n (omega arith)
         (past-end noEdition l i (omega arith))
 
 -- The whole venue -----------------------------------------------------------------------------
@@ -274,50 +287,59 @@ figures-some v s h = h
 pub loaded : (v : Venue) (a b c d e g h f : List ℕ) (x : ℕ) → RegularsLoaded a (v .regular) b → ComplexesLoaded b (v .complex) c →
     venueOf d ≡ withLegging (venueOf c) (v .legging) → SameCounts c d → venueOf e ≡ withSeries (venueOf d) (v .series) → SameCounts d e →
     EditionsLoaded e (v .editions) g → venueOf h ≡ withLast (venueOf g) (v .last) → SameCounts g h → length h ≡ size → x ≡ mask (venueOf h .legging) →
-    length f ≡ length h → FiguresCounted h f → ((s : ℕ) → s < 8 → 0 < increment v s) → Laid v (set (set (set f 827 0) 828 0) 829 x)
+    length f ≡ length h → FiguresCounted h f → ((s : ℕ) → s < 8 → 0 < increment v s) → Fully (v .regular) → Laid v (set (set (set (set f 827 0) 828 0) 829 x) 1231 0)
 unfolding withRegular withComplex withLegging withSeries withEditions withLast
-loaded v a b c d e g h f x rs cs ls n ss o es lt p wide count even figs steps =
-    let aside = counted-outside h f wide even figs in
+loaded v a b c d e g h f x rs cs ls n ss o es lt p wide count even figs steps shown =
+    let aside = counted-outside h f figs in
     let long : length f ≡ size = even ∙ wide in
-    let beside : venueOf f ≡ venueOf h = beside-venue aside (omega arith) (inr (omega arith)) in
+    let beside : venueOf f ≡ venueOf h = beside-venue aside (omega arith) (inr (omega arith)) (inr (omega arith)) in
     let is : venueOf h ≡ v = lt ∙ ap (λ (w : Venue). withLast w (v .last)) (es .venue ∙ ap (λ (w : Venue). withEditions w (v .editions)) (ss ∙ ap (λ (w : Venue). withSeries w (v .series)) (ls ∙ ap (λ (w : Venue). withLegging w (v .legging)) (cs .venue ∙ ap (λ (w : Venue). withComplex w (v .complex)) (rs .venue))))) in
     let figured : Figured f = record { so = figs .figures; some = λ s w. rw (figs .figures s (omega arith), beside, is) (figures-some v s (steps s w)) } in
     let one = stored f 827 0 in
     let two = stored (set f 827 0) 828 0 in
     let three = stored (set (set f 827 0) 828 0) 829 x in
-    let same : venueOf (set (set (set f 827 0) 828 0) 829 x) ≡ venueOf f = beside-venue three (omega arith) (inl (omega arith)) ∙ beside-venue two (omega arith) (inl (omega arith)) ∙ beside-venue one (omega arith) (inl (omega arith)) in
+    let y = set (set (set f 827 0) 828 0) 829 x in
+    let four = stored y 1231 0 in
+    let same : venueOf (set y 1231 0) ≡ venueOf f = beside-venue four (omega arith) (inr (omega arith)) (inl (omega arith)) ∙ beside-venue three (omega arith) (inl (omega arith)) (inr (omega arith)) ∙ beside-venue two (omega arith) (inl (omega arith)) (inr (omega arith)) ∙ beside-venue one (omega arith) (inl (omega arith)) (inr (omega arith)) in
     record {
       venue = same ∙ beside ∙ is;
-      regulars = regulars-filled f (set (set (set f 827 0) 828 0) 829 x) (ap (λ (w : Venue). w .regular) same) (count-kept three (inl (omega arith)) ∙ count-kept two (inl (omega arith)) ∙ count-kept one (inl (omega arith)))
+      regulars = regulars-filled f (set y 1231 0) (ap (λ (w : Venue). w .regular) same) (count-kept four (inl (omega arith)) ∙ count-kept three (inl (omega arith)) ∙ count-kept two (inl (omega arith)) ∙ count-kept one (inl (omega arith)))
           (regulars-filled h f (ap (λ (w : Venue). w .regular) beside) (count-kept aside (inl (omega arith)))
           (regulars-filled g h (ap (λ (w : Venue). w .regular) lt) (p .regulars)
           (regulars-filled e g (ap (λ (w : Venue). w .regular) (es .venue)) (es .regulars)
           (regulars-filled d e (ap (λ (w : Venue). w .regular) ss) (o .regulars)
           (regulars-filled c d (ap (λ (w : Venue). w .regular) ls) (n .regulars)
           (regulars-filled b c (ap (λ (w : Venue). w .regular) (cs .venue)) (cs .regulars) (rs .filled)))))));
-      complexes = complexes-filled f (set (set (set f 827 0) 828 0) 829 x) (ap (λ (w : Venue). w .complex) same) (count-kept2 three (inl (omega arith)) ∙ count-kept2 two (inl (omega arith)) ∙ count-kept2 one (inl (omega arith)))
+      complexes = complexes-filled f (set y 1231 0) (ap (λ (w : Venue). w .complex) same) (count-kept2 four (inl (omega arith)) ∙ count-kept2 three (inl (omega arith)) ∙ count-kept2 two (inl (omega arith)) ∙ count-kept2 one (inl (omega arith)))
           (complexes-filled h f (ap (λ (w : Venue). w .complex) beside) (count-kept2 aside (inl (omega arith)))
           (complexes-filled g h (ap (λ (w : Venue). w .complex) lt) (p .complexes)
           (complexes-filled e g (ap (λ (w : Venue). w .complex) (es .venue)) (es .complexes)
           (complexes-filled d e (ap (λ (w : Venue). w .complex) ss) (o .complexes)
           (complexes-filled c d (ap (λ (w : Venue). w .complex) ls) (n .complexes) (cs .filled))))));
       marked = record {
-        regulars = λ k w. absurd (omega (arith, three .same 827 (inl (omega arith)), two .same 827 (inl (omega arith)), getD-set-same f 827 0 0 (omega arith)));
-        complexes = λ k w. absurd (omega (arith, three .same 828 (inl (omega arith)), getD-set-same (set f 827 0) 828 0 0 (omega (arith, length-set f 827 0))));
-        legging = getD-set-same (set (set f 827 0) 828 0) 829 x 0 (omega (arith, length-set (set f 827 0) 828 0, length-set f 827 0))
+        regulars = λ k w. absurd (omega (arith, four .same 827 (inl (omega arith)), three .same 827 (inl (omega arith)), two .same 827 (inl (omega arith)), getD-set-same f 827 0 0 (omega arith)));
+        complexes = λ k w. absurd (omega (arith, four .same 828 (inl (omega arith)), three .same 828 (inl (omega arith)), getD-set-same (set f 827 0) 828 0 0 (omega (arith, length-set f 827 0))));
+        legging = four .same 829 (inl (omega arith)) ∙ getD-set-same (set (set f 827 0) 828 0) 829 x 0 (omega (arith, length-set (set f 827 0) 828 0, length-set f 827 0))
             ∙ count ∙ ap (λ (w : Venue). mask (w .legging)) (sym (same ∙ beside));
-        figures = figures-marked three (inl (omega arith)) (figures-marked two (inl (omega arith)) (figures-marked one (inl (omega arith)) figured));
+        figures = figures-marked four (inr (omega arith)) (figures-marked three (inl (omega arith)) (figures-marked two (inl (omega arith)) (figures-marked one (inl (omega arith)) figured)));
+        shows = λ _. subst (λ (w : Venue). Fully (w .regular)) (sym (same ∙ beside ∙ is)) shown;
       };
     }
 
 -- A sound venue can be loaded -----------------------------------------------------------------
 
-regular-side : (o : Regular) (t : Bool) → (regularInRange o && t) ≡ true → OnSide (o .series) (o .side)
+pub regular-side : (o : Regular) → regularInRange o ≡ true → OnSide (o .series) (o .side)
 unfolding regularInRange isSeries isSide within
-regular-side o t z =
+regular-side o z =
     let a = leb-true (o .series) 7 (search (and-l, and-r, z) depth 8) in
     let b = leb-true (o .side) 1 (search (and-l, and-r, z) depth 8) in
     record { series = omega arith; side = omega arith }
+
+regular-asked : (v : Venue) (o : Regular) → (regularInRange o && onIncrement v o && showsFully o && leb (o .id) (v .last)) ≡ true → OnSide (o .series) (o .side) × Bounded o
+regular-asked v o h =
+    let r : regularInRange o ≡ true = search (and-l, and-r, h) depth 8 in
+    let f : showsFully o ≡ true = search (and-l, and-r, h) depth 8 in
+    (regular-side o r, range-bounded o r f)
 
 complex-sides : (c : Complex) (t : Bool) → (complexInRange c && t) ≡ true → OnSide (c .series1) (c .side1) × OnSide (c .series2) (c .side2)
 unfolding complexInRange isSeries isSide within
@@ -336,9 +358,10 @@ books-load v r c e steps =
     let p : packed holdsRegular noRegular (v .regular) ≡ v .regular = ap (λ (w : Venue). w .regular) e in
     let q : packed holdsComplex noComplex (v .complex) ≡ v .complex = ap (λ (w : Venue). w .complex) e in
     record {
-      regulars = record { dense = a .dense; blank = rw p at (packed-free holdsRegular noRegular (v .regular)); asked = λ i h. regular-side _ _ (and-l _ _ (a .asks i h)) };
+      regulars = record { dense = a .dense; blank = rw p at (packed-free holdsRegular noRegular (v .regular)); asked = λ i h. regular-asked v (getD (v .regular) i noRegular) (a .asks i h) };
       complexes = record { dense = b .dense; blank = rw q at (packed-free holdsComplex noComplex (v .complex)); asked = λ i h. complex-sides _ _ (b .asks i h) };
       orders = sound-orderly v r;
+      shows = sound-fully v r;
       increments = steps;
     }
 

@@ -1,16 +1,22 @@
 -- What a store into the numbers does to the venue that they stand for: numbers that agree outside of one place make venues that differ there only.
 use mathlib.Core.Path.{_≡_, refl, sym, ap, _∙_}
+use mathlib.Core.Bool.{Bool}
 use mathlib.Core.Logic.{_≢_, _⊎_, inl, inr}
 use mathlib.Core.List.{List}
 use Prim.Native.Nat.{ℕ, _+_, _*_, _≤_, _<_, min}
 use native.Mathlib.Omega.{arith}
 use native.Mathlib.Decide.{decLt}
-use lib.ListN.{getD, set}
+use borrow.Author.Tests.{lt-ltb, le-ltb}
+use lib.Dec.{ltb}
+use lib.ListN.{length, getD, set, List·getD-eq-default}
 use lib.Seq.{getD-set-other}
+use Rattle.rules.specs.Base.{if_then_else_, held}
+use Rattle.rules.specs.declared.Regular.{Regular}
 use Rattle.rules.specs.declared.Venue.{Venue}
 use Rattle.rules.specs.Words.{noRegular, noComplex, noLegging, notListed, noEdition, regularAt, complexAt, withRegular, withComplex, withLegging, withSeries, withEditions, withLast}
-use Rattle.places.specs.Layout.{inUse, regularsUsed, complexesUsed, regularIn, complexIn, leggingIn, listedIn, editionIn, venueOf}
-use Rattle.places.proofs.Tables.{upto-same, upto-set, used-same, used-set, used-at, used-free}
+use Rattle.rules.specs.Places.{holdsRegular}
+use Rattle.places.specs.Layout.{size, upto, inUse, regularsUsed, complexesUsed, regularIn, complexIn, leggingIn, listedIn, editionIn, venueOf}
+use Rattle.places.proofs.Tables.{upto-length, upto-at, upto-same, upto-set, used-same, used-set, used-at, used-free, used-length}
 
 -- a and b have the same numbers but for those from low to below high
 pub record Outside (low high : ℕ) (a b : List ℕ) : Type 0 where
@@ -33,12 +39,23 @@ wider {low = low} {high = high} {l = l} {h = h} p q o = record { same = λ k w. 
 pub joined : {low high : ℕ} {a b c : List ℕ} → Outside low high a b → Outside low high b c → Outside low high a c
 joined o p = record { same = λ k h. p .same k h ∙ o .same k h }
 
+pub unmoved : {low high : ℕ} {a : List ℕ} → Outside low high a a
+unmoved = record { same = λ k h. refl }
+
 -- Each part, by its fields --------------------------------------------------------------------
 
-regular-fields : (a b : List ℕ) (i : ℕ) → getD b (4 * i) 0 ≡ getD a (4 * i) 0 → getD b (4 * i + 1) 0 ≡ getD a (4 * i + 1) 0 →
-    getD b (4 * i + 2) 0 ≡ getD a (4 * i + 2) 0 → getD b (4 * i + 3) 0 ≡ getD a (4 * i + 3) 0 → regularIn a i ≡ regularIn b i
+regular-fields : (a b : List ℕ) (i : ℕ) → ((k : ℕ) → 4 * i ≤ k → k < 4 * i + 4 → getD b k 0 ≡ getD a k 0) →
+    ((k : ℕ) → 2 * i + 975 ≤ k → k < 2 * i + 977 → getD b k 0 ≡ getD a k 0) → regularIn a i ≡ regularIn b i
 unfolding regularIn
-regular-fields a b i p q r s = rw (p, q, r, s)
+regular-fields a b i p q =
+    rw (
+      p (4 * i) (omega arith) (omega arith),
+      p (4 * i + 1) (omega arith) (omega arith),
+      p (4 * i + 2) (omega arith) (omega arith),
+      p (4 * i + 3) (omega arith) (omega arith),
+      q (2 * i + 975) (omega arith) (omega arith),
+      q (2 * i + 976) (omega arith) (omega arith),
+    )
 
 complex-fields : (a b : List ℕ) (i : ℕ) → getD b (6 * i + 512) 0 ≡ getD a (6 * i + 512) 0 → getD b (6 * i + 513) 0 ≡ getD a (6 * i + 513) 0 →
     getD b (6 * i + 515) 0 ≡ getD a (6 * i + 515) 0 → getD b (6 * i + 516) 0 ≡ getD a (6 * i + 516) 0 →
@@ -64,11 +81,18 @@ edition-fields a b i p q r s = rw (p, q, r, s)
 -- Places that the store does not reach --------------------------------------------------------
 
 module _ {low high : ℕ} {a b : List ℕ} (o : Outside low high a b) where
-  pub regular-kept : (i : ℕ) → (4 * i + 4 ≤ low) ⊎ (high ≤ 4 * i) → regularIn a i ≡ regularIn b i
-  regular-kept i (inl h) = regular-fields a b i (o .same (4 * i) (inl (omega arith))) (o .same (4 * i + 1) (inl (omega arith)))
-      (o .same (4 * i + 2) (inl (omega arith))) (o .same (4 * i + 3) (inl (omega arith)))
-  regular-kept i (inr h) = regular-fields a b i (o .same (4 * i) (inr (omega arith))) (o .same (4 * i + 1) (inr (omega arith)))
-      (o .same (4 * i + 2) (inr (omega arith))) (o .same (4 * i + 3) (inr (omega arith)))
+  span-kept : (l h : ℕ) → (h ≤ low) ⊎ (high ≤ l) → (k : ℕ) → l ≤ k → k < h → getD b k 0 ≡ getD a k 0
+  span-kept l h (inl w) k p q = o .same k (inl (omega arith))
+  span-kept l h (inr w) k p q = o .same k (inr (omega arith))
+
+  -- neither its row nor that of what it shows
+  pub regular-kept : (i : ℕ) → (4 * i + 4 ≤ low) ⊎ (high ≤ 4 * i) → (2 * i + 977 ≤ low) ⊎ (high ≤ 2 * i + 975) → regularIn a i ≡ regularIn b i
+  regular-kept i h w = regular-fields a b i (span-kept (4 * i) (4 * i + 4) h) (span-kept (2 * i + 975) (2 * i + 977) w)
+
+  -- a place is held by its quantity alone
+  pub holds-kept : (i : ℕ) → (4 * i + 4 ≤ low) ⊎ (high ≤ 4 * i) → holdsRegular (regularIn a i) ≡ holdsRegular (regularIn b i)
+  unfolding regularIn
+  holds-kept i h = ap held (sym (span-kept (4 * i) (4 * i + 4) h (4 * i + 3) (omega arith) (omega arith)))
 
   pub complex-kept : (i : ℕ) → (6 * i + 518 ≤ low) ⊎ (high ≤ 6 * i + 512) → complexIn a i ≡ complexIn b i
   complex-kept i (inl h) = complex-fields a b i (o .same (6 * i + 512) (inl (omega arith))) (o .same (6 * i + 513) (inl (omega arith)))
@@ -96,6 +120,10 @@ pub regulars-few : (b : List ℕ) → regularsUsed b ≤ 128
 unfolding regularsUsed
 regulars-few b = omega arith
 
+pub regulars-many : (b : List ℕ) → length (venueOf b .regular) ≡ 128
+unfolding venueOf
+regulars-many b = used-length (regularIn b) noRegular (regularsUsed b) 128 (regulars-few b)
+
 pub complexes-few : (b : List ℕ) → complexesUsed b ≤ 32
 unfolding complexesUsed
 complexes-few b = omega arith
@@ -117,6 +145,11 @@ pub complex-past : (b : List ℕ) (i : ℕ) → complexesUsed b ≤ i → comple
 unfolding complexAt venueOf
 complex-past b i h = used-free (complexIn b) noComplex (complexesUsed b) 32 i h
 
+-- a store before the rows of what orders show, or past them
+past-rows : {low high : ℕ} (j : ℕ) → j < 128 → (1231 ≤ low) ⊎ (high ≤ 975) → (2 * j + 977 ≤ low) ⊎ (high ≤ 2 * j + 975)
+past-rows j q (inl h) = inl (omega arith)
+past-rows j q (inr h) = inr (omega arith)
+
 module _ {low high : ℕ} {a b : List ℕ} (o : Outside low high a b) where
   pub count-kept : (776 < low) ⊎ (high ≤ 776) → regularsUsed b ≡ regularsUsed a
   unfolding regularsUsed
@@ -126,10 +159,10 @@ module _ {low high : ℕ} {a b : List ℕ} (o : Outside low high a b) where
   unfolding complexesUsed
   count-kept2 h = ap (λ (x : ℕ). min x 32) (o .same 777 h)
 
-  pub regulars-kept : 512 ≤ low → (776 < low) ⊎ (high ≤ 776) → venueOf b .regular ≡ venueOf a .regular
+  pub regulars-kept : 512 ≤ low → (1231 ≤ low) ⊎ (high ≤ 975) → (776 < low) ⊎ (high ≤ 776) → venueOf b .regular ≡ venueOf a .regular
   unfolding venueOf
-  regulars-kept h k =
-      rw (count-kept k) (used-same (regularIn b) (regularIn a) noRegular (regularsUsed a) 128 (λ j q. let z = regulars-few a in sym (regular-kept o j (inl (omega arith)))))
+  regulars-kept h w k =
+      rw (count-kept k) (used-same (regularIn b) (regularIn a) noRegular (regularsUsed a) 128 (λ j q. let z = regulars-few a in sym (regular-kept o j (inl (omega arith)) (past-rows j (omega arith) w))))
 
   pub complexes-kept : (high ≤ 512) ⊎ (704 ≤ low) → (777 < low) ⊎ (high ≤ 777) → venueOf b .complex ≡ venueOf a .complex
   unfolding venueOf
@@ -174,31 +207,52 @@ module _ {low high : ℕ} {a b : List ℕ} (o : Outside low high a b) where
 pub venue-is : (v w : Venue) → v .regular ≡ w .regular → v .complex ≡ w .complex → v .legging ≡ w .legging → v .series ≡ w .series → v .editions ≡ w .editions → v .last ≡ w .last → v ≡ w
 venue-is v w p q r s e t = rw (p, q, r, s, e, t)
 
-module _ {i : ℕ} {a b : List ℕ} where
-  pub regular-set : Outside (4 * i) (4 * i + 4) a b → i < regularsUsed a → venueOf b ≡ withRegular (venueOf a) (set (venueOf a .regular) i (regularIn b i))
+-- a row of a regular place, and the row of what it shows
+module _ {i : ℕ} {a m b : List ℕ} (o : Outside (4 * i) (4 * i + 4) a m) (p : Outside (2 * i + 975) (2 * i + 977) m b) where
+  near : (j : ℕ) → j ≢ i → (4 * j + 4 ≤ 4 * i) ⊎ (4 * i + 4 ≤ 4 * j)
+  near j n = elim (decLt j i) [ yes q ↦ inl (omega arith) | no q ↦ inr (omega arith) ]
+
+  near-row : (j : ℕ) → j ≢ i → (2 * j + 977 ≤ 2 * i + 975) ⊎ (2 * i + 977 ≤ 2 * j + 975)
+  near-row j n = elim (decLt j i) [ yes q ↦ inl (omega arith) | no q ↦ inr (omega arith) ]
+
+  pub other-kept : i < 128 → (j : ℕ) → j < 128 → j ≢ i → regularIn a j ≡ regularIn b j
+  other-kept h j w n = regular-kept o j (near j n) (inr (omega arith)) ∙ regular-kept p j (inl (omega arith)) (near-row j n)
+
+  rest-kept : i < 128 → (l : List Regular) → venueOf b .regular ≡ l → venueOf b ≡ withRegular (venueOf a) l
   unfolding withRegular
-  regular-set o h =
-      let z = regulars-few a in
-      venue-is (venueOf b) (withRegular (venueOf a) (set (venueOf a .regular) i (regularIn b i)))
-      (part (count-kept o (inr (omega arith))))
-      (complexes-kept o (inl (omega arith)) (inr (omega arith)))
-      (leggings-kept o (inl (omega arith)))
-      (series-kept o (inl (omega arith)))
-      (editions-kept o (inl (omega arith)))
-      (last-kept o (inr (omega arith)))
+  rest-kept h l e =
+      venue-is (venueOf b) (withRegular (venueOf a) l)
+      e
+      (complexes-kept p (inr (omega arith)) (inl (omega arith)) ∙ complexes-kept o (inl (omega arith)) (inr (omega arith)))
+      (leggings-kept p (inr (omega arith)) ∙ leggings-kept o (inl (omega arith)))
+      (series-kept p (inr (omega arith)) ∙ series-kept o (inl (omega arith)))
+      (editions-kept p (inr (omega arith)) ∙ editions-kept o (inl (omega arith)))
+      (last-kept p (inl (omega arith)) ∙ last-kept o (inr (omega arith)))
+
+  as-many : i < 128 → regularsUsed b ≡ regularsUsed a
+  as-many h = count-kept p (inl (omega arith)) ∙ count-kept o (inr (omega arith))
+
+  pub regular-set : i < regularsUsed a → venueOf b ≡ withRegular (venueOf a) (set (venueOf a .regular) i (regularIn b i))
+  regular-set h = let z = regulars-few a in rest-kept (omega arith) (set (venueOf a .regular) i (regularIn b i)) (part (as-many (omega arith)))
     where
-      near : (j : ℕ) → j ≢ i → (4 * j + 4 ≤ 4 * i) ⊎ (4 * i + 4 ≤ 4 * j)
-      near j n = elim (decLt j i) [ yes q ↦ inl (omega arith) | no q ↦ inr (omega arith) ]
-
       part : regularsUsed b ≡ regularsUsed a → venueOf b .regular ≡ set (venueOf a .regular) i (regularIn b i)
-      part e = unfold venueOf in rw e (used-set (regularIn a) (regularIn b) noRegular i (regularsUsed a) 128 h (regulars-few a) (λ j q n. regular-kept o j (near j n)))
+      part e = let z = regulars-few a in unfold venueOf in rw e (used-set (regularIn a) (regularIn b) noRegular i (regularsUsed a) 128 h (regulars-few a) (λ j q n. other-kept (omega arith) j (omega arith) n))
 
+  -- of a place that is not in use it changes nothing
+  pub regular-unused : i < 128 → regularsUsed a ≤ i → venueOf b ≡ venueOf a
+  unfolding withRegular
+  regular-unused h m = rest-kept h (venueOf a .regular) (part (as-many h))
+    where
+      part : regularsUsed b ≡ regularsUsed a → venueOf b .regular ≡ venueOf a .regular
+      part e = unfold venueOf in rw e (used-same (regularIn b) (regularIn a) noRegular (regularsUsed a) 128 (λ j q. sym (other-kept h j (omega arith) (λ x. omega arith))))
+
+module _ {i : ℕ} {a b : List ℕ} where
   pub complex-set : Outside (6 * i + 512) (6 * i + 518) a b → i < complexesUsed a → venueOf b ≡ withComplex (venueOf a) (set (venueOf a .complex) i (complexIn b i))
   unfolding withComplex
   complex-set o h =
       let z = complexes-few a in
       venue-is (venueOf b) (withComplex (venueOf a) (set (venueOf a .complex) i (complexIn b i)))
-      (regulars-kept o (omega arith) (inr (omega arith)))
+      (regulars-kept o (omega arith) (inr (omega arith)) (inr (omega arith)))
       (part (count-kept2 o (inr (omega arith))))
       (leggings-kept o (inl (omega arith)))
       (series-kept o (inl (omega arith)))
@@ -215,7 +269,7 @@ module _ {i : ℕ} {a b : List ℕ} where
   unfolding withLegging
   legging-set o h =
       venue-is (venueOf b) (withLegging (venueOf a) (set (venueOf a .legging) i (leggingIn b i)))
-      (regulars-kept o (omega arith) (inr (omega arith)))
+      (regulars-kept o (omega arith) (inr (omega arith)) (inr (omega arith)))
       (complexes-kept o (inr (omega arith)) (inr (omega arith)))
       part
       (series-kept o (inl (omega arith)))
@@ -232,7 +286,7 @@ module _ {i : ℕ} {a b : List ℕ} where
   unfolding withSeries
   listed-set o h =
       venue-is (venueOf b) (withSeries (venueOf a) (set (venueOf a .series) i (listedIn b i)))
-      (regulars-kept o (omega arith) (inr (omega arith)))
+      (regulars-kept o (omega arith) (inr (omega arith)) (inr (omega arith)))
       (complexes-kept o (inr (omega arith)) (inr (omega arith)))
       (leggings-kept o (inr (omega arith)))
       part
@@ -249,7 +303,7 @@ module _ {i : ℕ} {a b : List ℕ} where
   unfolding withEditions
   edition-set o h =
       venue-is (venueOf b) (withEditions (venueOf a) (set (venueOf a .editions) i (editionIn b i)))
-      (regulars-kept o (omega arith) (inl (omega arith)))
+      (regulars-kept o (omega arith) (inr (omega arith)) (inl (omega arith)))
       (complexes-kept o (inr (omega arith)) (inl (omega arith)))
       (leggings-kept o (inr (omega arith)))
       (series-kept o (inr (omega arith)))
@@ -267,7 +321,7 @@ module _ {a b : List ℕ} where
   unfolding withLast
   last-set o =
       venue-is (venueOf b) (withLast (venueOf a) (getD b 778 0))
-      (regulars-kept o (omega arith) (inl (omega arith)))
+      (regulars-kept o (omega arith) (inr (omega arith)) (inl (omega arith)))
       (complexes-kept o (inr (omega arith)) (inl (omega arith)))
       (leggings-kept o (inr (omega arith)))
       (series-kept o (inr (omega arith)))
@@ -275,23 +329,10 @@ module _ {a b : List ℕ} where
       (unfold venueOf in refl)
 
   -- a store into a place that is not in use changes nothing
-  pub regular-unused : (i : ℕ) → Outside (4 * i) (4 * i + 4) a b → i < 128 → regularsUsed a ≤ i → venueOf b ≡ venueOf a
-  regular-unused i o h m =
-      venue-is (venueOf b) (venueOf a)
-      (part (count-kept o (inr (omega arith))))
-      (complexes-kept o (inl (omega arith)) (inr (omega arith)))
-      (leggings-kept o (inl (omega arith)))
-      (series-kept o (inl (omega arith)))
-      (editions-kept o (inl (omega arith)))
-      (last-kept o (inr (omega arith)))
-    where
-      part : regularsUsed b ≡ regularsUsed a → venueOf b .regular ≡ venueOf a .regular
-      part e = unfold venueOf in rw e (used-same (regularIn b) (regularIn a) noRegular (regularsUsed a) 128 (λ j q. sym (regular-kept o j (inl (omega arith)))))
-
   pub complex-unused : (i : ℕ) → Outside (6 * i + 512) (6 * i + 518) a b → i < 32 → complexesUsed a ≤ i → venueOf b ≡ venueOf a
   complex-unused i o h m =
       venue-is (venueOf b) (venueOf a)
-      (regulars-kept o (omega arith) (inr (omega arith)))
+      (regulars-kept o (omega arith) (inr (omega arith)) (inr (omega arith)))
       (part (count-kept2 o (inr (omega arith))))
       (leggings-kept o (inl (omega arith)))
       (series-kept o (inl (omega arith)))
@@ -314,13 +355,13 @@ module _ {a b : List ℕ} where
       (last-kept o (inr (omega arith)))
     where
       part : venueOf b .regular ≡ inUse (regularIn a) noRegular (regularsUsed b) 128
-      part = unfold venueOf in (used-same (regularIn b) (regularIn a) noRegular (regularsUsed b) 128 (λ j q. let z = regulars-few b in sym (regular-kept o j (inl (omega arith)))))
+      part = unfold venueOf in (used-same (regularIn b) (regularIn a) noRegular (regularsUsed b) 128 (λ j q. let z = regulars-few b in sym (regular-kept o j (inl (omega arith)) (inr (omega arith)))))
 
   pub complexes-counted : Outside 777 778 a b → venueOf b ≡ withComplex (venueOf a) (inUse (complexIn a) noComplex (complexesUsed b) 32)
   unfolding withComplex
   complexes-counted o =
       venue-is (venueOf b) (withComplex (venueOf a) (inUse (complexIn a) noComplex (complexesUsed b) 32))
-      (regulars-kept o (omega arith) (inl (omega arith)))
+      (regulars-kept o (omega arith) (inr (omega arith)) (inl (omega arith)))
       part
       (leggings-kept o (inr (omega arith)))
       (series-kept o (inr (omega arith)))
@@ -329,3 +370,58 @@ module _ {a b : List ℕ} where
     where
       part : venueOf b .complex ≡ inUse (complexIn a) noComplex (complexesUsed b) 32
       part = unfold venueOf in (used-same (complexIn b) (complexIn a) noComplex (complexesUsed b) 32 (λ j q. let z = complexes-few b in sym (complex-kept o j (inl (omega arith)))))
+
+-- Many regular places -------------------------------------------------------------------------
+
+-- a and b have the same numbers but for those of the regular places from i to below j
+pub record OutsideRows (i j : ℕ) (a b : List ℕ) : Type 0 where
+  pub same : (k : ℕ) → (k < 4 * i) ⊎ (4 * j ≤ k) → (k < 2 * i + 975) ⊎ (2 * j + 975 ≤ k) → getD b k 0 ≡ getD a k 0
+
+pub rows-agree : (a b : List ℕ) (i j k : ℕ) → j ≤ 128 → k < 128 → OutsideRows i j a b → (k < i) ⊎ (j ≤ k) → regularIn a k ≡ regularIn b k
+rows-agree a b i j k most few o h = regular-fields a b k (λ n p q. o .same n (one n p q h) (inl (omega arith))) (λ n p q. o .same n (inr (omega arith)) (two n p q h))
+  where
+    one : (n : ℕ) → 4 * k ≤ n → n < 4 * k + 4 → (k < i) ⊎ (j ≤ k) → (n < 4 * i) ⊎ (4 * j ≤ n)
+    one n p q (inl w) = inl (omega arith)
+    one n p q (inr w) = inr (omega arith)
+
+    two : (n : ℕ) → 2 * k + 975 ≤ n → n < 2 * k + 977 → (k < i) ⊎ (j ≤ k) → (n < 2 * i + 975) ⊎ (2 * j + 975 ≤ n)
+    two n p q (inl w) = inl (omega arith)
+    two n p q (inr w) = inr (omega arith)
+
+-- such a change in two steps: the rows, and then those of what orders show
+pub record Halves (a b : List ℕ) : Type 0 where
+  pub mid : List ℕ
+  pub first : Outside 0 512 a mid
+  pub second : Outside 975 1231 mid b
+
+module _ (a b : List ℕ) (n : length a ≡ size) (m : length b ≡ size) where
+  at : ℕ → ℕ
+  at k = if ltb k 512 then getD b k 0 else getD a k 0
+
+  between : List ℕ
+  between = upto at 0 size
+
+  below : (k : ℕ) → k < 512 → getD between k 0 ≡ getD b k 0
+  unfolding between at
+  below k h =
+      let e : 0 + k ≡ k = omega arith in
+      upto-at at 0 0 size k (omega arith) ∙ ap at e ∙ ap (λ (t : Bool). if t then getD b k 0 else getD a k 0) (lt-ltb k 512 h)
+
+  above : (k : ℕ) → 512 ≤ k → getD between k 0 ≡ getD a k 0
+  unfolding between at
+  above k h = elim (decLt k size) [
+    | yes w ↦ (let e : 0 + k ≡ k = omega arith in upto-at at 0 0 size k w ∙ ap at e ∙ ap (λ (t : Bool). if t then getD b k 0 else getD a k 0) (le-ltb k 512 h))
+    | no w ↦ List·getD-eq-default (upto at 0 size) 0 {n = k} (omega (arith, upto-length at 0 size)) ∙ sym (List·getD-eq-default a 0 {n = k} (omega arith))
+  ]
+
+  pub halves : (i j : ℕ) → j ≤ 128 → OutsideRows i j a b → Halves a b
+  halves i j most o = record { mid = between; first = record { same = one }; second = record { same = λ k. two k (decLt k 512) } }
+    where
+      one : (k : ℕ) → (k < 0) ⊎ (512 ≤ k) → getD between k 0 ≡ getD a k 0
+      one k (inl h) = absurd (omega arith)
+      one k (inr h) = above k h
+
+      two : (k : ℕ) → Dec (k < 512) → (k < 975) ⊎ (1231 ≤ k) → getD b k 0 ≡ getD between k 0
+      two k (yes w) h = sym (below k w)
+      two k (no w) (inl h) = o .same k (inr (omega arith)) (inl (omega arith)) ∙ sym (above k (omega arith))
+      two k (no w) (inr h) = o .same k (inr (omega arith)) (inr (omega arith)) ∙ sym (above k (omega arith))

@@ -14,12 +14,12 @@ use Rattle.rules.specs.Base.{held}
 use Rattle.rules.specs.Words.{placeOf, noRegular, freshVenue}
 use Rattle.rules.specs.Prices.{shown, showsAt, showsFor, bestIn, sizeIn}
 use Rattle.rules.specs.Settings.{baseFigure, sets, lastValue, figureNow}
+use Rattle.rules.specs.Sound.{showsFully}
 use Rattle.rules.specs.Step.{mask}
-use Rattle.places.specs.Layout.{size, upto, inUse, regularsUsed, complexesUsed, leggingIn, listedIn, editionIn, venueOf, levelOf, levelIn, Orderly, Right, Loaded, FiguresBase}
+use Rattle.places.specs.Layout.{size, upto, inUse, regularsUsed, complexesUsed, leggingIn, listedIn, editionIn, venueOf, levelOf, levelIn, Fully, Orderly, Right, Loaded, FiguresBase}
 use Rattle.places.proofs.Tables.{free-getD}
 use Rattle.places.proofs.Parts.{Outside, count-kept, count-kept2}
 use Rattle.places.proofs.Beside.{place-few, levels-kept, beside-venue}
-use Rattle.places.proofs.Figures.{aside-outside}
 use Rattle.rules.proofs.Editions.{base-some}
 
 -- zeros, with the first so many series open
@@ -32,7 +32,7 @@ unfolding openTo
 open-length zero = refl
 open-length (suc s) = length-set (openTo s) (3 * s + 752) 1 ∙ open-length s
 
-pub open-first : replicate 975 0 ≡ openTo 0
+pub open-first : replicate 1232 0 ≡ openTo 0
 unfolding openTo
 open-first = refl
 
@@ -67,8 +67,13 @@ fresh-orders : Orderly (freshVenue .regular)
 unfolding freshVenue
 fresh-orders = record {
   priced = λ i h. absurd (true≢false (sym h ∙ ap (λ (o : Regular). held (o .quantity)) (free-getD noRegular 128 i)));
+  displayed = λ i h. absurd (true≢false (sym h ∙ ap (λ (o : Regular). held (o .quantity)) (free-getD noRegular 128 i)));
   rises = λ i j w h k. absurd (true≢false (sym h ∙ ap (λ (o : Regular). held (o .quantity)) (free-getD noRegular 128 i)));
 }
+
+fresh-fully : Fully (freshVenue .regular)
+unfolding freshVenue showsFully
+fresh-fully i = ap showsFully (free-getD noRegular 128 i)
 
 -- no edition is kept
 fresh-figure : (f : ℕ) → figureNow freshVenue f ≡ baseFigure f
@@ -80,12 +85,12 @@ unfolding regularsUsed complexesUsed openTo
 none-used = (refl, refl)
 
 -- with the figures of edition 0
-module _ (b : List ℕ) (long : length b ≡ size) (base : FiguresBase (openTo 8) b) where
+module _ (b : List ℕ) (base : FiguresBase (openTo 8) b) where
   o : Outside 958 975 (openTo 8) b
-  o = aside-outside (openTo 8) b (open-length 8) (record { long = long; others = base .others })
+  o = record { same = base .others }
 
   venue : venueOf b ≡ freshVenue
-  venue = beside-venue o (omega arith) (inr (omega arith)) ∙ fresh-venue
+  venue = beside-venue o (omega arith) (inr (omega arith)) (inr (omega arith)) ∙ fresh-venue
 
   no-regular : regularsUsed b ≡ 0
   no-regular = count-kept o (inl (omega arith)) ∙ none-used .0
@@ -106,6 +111,7 @@ module _ (b : List ℕ) (long : length b ≡ size) (base : FiguresBase (openTo 8
         so = λ f w. base .figures f w ∙ sym (ap (λ (v : Venue). figureNow v f) venue ∙ fresh-figure f);
         some = λ s w. rw (base .figures s (omega arith)) (base-some s);
       };
+      shows = λ _. subst (λ (v : Venue). Fully (v .regular)) (sym venue) fresh-fully;
     };
   }
 
@@ -115,7 +121,7 @@ module _ (b : List ℕ) (long : length b ≡ size) (base : FiguresBase (openTo 8
     dense = record { regulars = λ k h. absurd (omega (arith, no-regular)); complexes = λ k h. absurd (omega (arith, no-complex)); right = fresh-right };
   }
 
-pub fresh-loaded : (a b : List ℕ) (s : ℕ) → a ≡ openTo s → s ≡ 8 → length b ≡ length a → FiguresBase a b → Loaded freshVenue b
-fresh-loaded a b s e h l base =
+pub fresh-loaded : (a b : List ℕ) (s : ℕ) → a ≡ openTo s → s ≡ 8 → FiguresBase a b → Loaded freshVenue b
+fresh-loaded a b s e h base =
     let z : a ≡ openTo 8 = e ∙ ap openTo h in
-    fresh-held b (l ∙ ap length z ∙ open-length 8) (rw z at base)
+    fresh-held b (rw z at base)

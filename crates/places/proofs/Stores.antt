@@ -1,5 +1,5 @@
 -- Each store of the code, as what it does to the venue.
-use mathlib.Core.Path.{_≡_, refl, sym, ap, ap₂, _∙_}
+use mathlib.Core.Path.{_≡_, refl, sym, ap, ap₂, subst, _∙_}
 use mathlib.Core.List.{List, [], _∷_}
 use Prim.Native.Nat.{ℕ, zero, suc, _+_, _-_, _*_, _≤_, _<_, _/_, _%_, _^_, min}
 use native.Mathlib.Omega.{arith}
@@ -17,28 +17,40 @@ use Rattle.rules.specs.declared.Listed.{Listed}
 use Rattle.rules.specs.declared.Edition.{Edition}
 use Rattle.rules.specs.declared.Venue.{Venue}
 use Rattle.rules.specs.Base.{held}
-use Rattle.rules.specs.Words.{placeOf, noRegular, noComplex, withRegular, withComplex, withLegging, withSeries, withLast}
+use Rattle.rules.specs.Words.{placeOf, noRegular, noComplex, regularAt, withRegular, withComplex, withLegging, withSeries, withLast}
 use Rattle.rules.specs.Trading.{lessRegular, lessComplex, fillRegular, fillComplex, putRegular, putComplex}
 use Rattle.rules.specs.Generation.{placed}
 use Rattle.rules.specs.Places.{holdsRegular, holdsComplex}
+use Rattle.rules.specs.Sound.{showsFully}
 use Rattle.rules.specs.Step.{mask}
+use Rattle.rules.proofs.Showing.{less-fully, filled-fully}
 use Rattle.places.specs.declared.Level.{Level}
-use Rattle.places.specs.Layout.{size, inUse, regularsUsed, complexesUsed, regularIn, complexIn, leggingIn, listedIn, editionIn, venueOf, regularRow, editionRow, legsKey, limitNumber, complexRow, Kept, bitOf, levelOf, levelIn, Beside, SameBeside, LevelPut, Counts, SameCounts}
+use Rattle.places.specs.Layout.{size, inUse, regularsUsed, complexesUsed, regularIn, complexIn, leggingIn, listedIn, editionIn, venueOf, regularRow, reserveRow, regularPut, Bounded, editionRow, legsKey, limitNumber, complexRow, Kept, bitOf, levelOf, levelIn, Fully, Marked, Beside, SameBeside, LevelPut, Counts, SameCounts}
 use Rattle.places.proofs.Tables.{used-more}
-use Rattle.places.proofs.Parts.{Outside, stored, wider, joined, regulars-few, complexes-few, regular-kept, complex-kept, regulars-kept, regular-at, complex-at, regular-set, complex-set, legging-set, listed-set, last-set, regular-unused, complex-unused, regulars-counted, complexes-counted, count-kept, count-kept2}
+use Rattle.places.proofs.Parts.{Outside, stored, wider, joined, unmoved, regulars-few, regulars-many, complexes-few, regular-kept, other-kept, complex-kept, regulars-kept, regular-at, complex-at, regular-set, complex-set, legging-set, listed-set, last-set, regular-unused, complex-unused, regulars-counted, complexes-counted, count-kept, count-kept2}
 use Rattle.places.proofs.Masks.{mask-put}
-use Rattle.places.proofs.Beside.{level-kept, levels-kept, regulars-marked, complexes-marked, legging-marked, figures-marked, regulars-lowered, complexes-lowered, regular-holds, complex-holds, beside-venue, right-kept}
+use Rattle.places.proofs.Fully.{fully-set, fully-bounded}
+use Rattle.places.proofs.Beside.{ShowsMarked, unmarked-as, shows-not, level-kept, levels-kept, regulars-marked, complexes-marked, legging-marked, figures-marked, shows-marked, regulars-lowered, complexes-lowered, regular-holds, complex-holds, beside-venue, right-kept}
 
 -- A fill --------------------------------------------------------------------------------------
 
-less-in : (a : List ℕ) (i k : ℕ) → 4 * i + 3 < length a → regularIn (set a (4 * i + 3) (getD a (4 * i + 3) 0 - k)) i ≡ lessRegular k (regularIn a i)
+-- what is left cuts the same
+cut : (x q k : ℕ) → min x (q - k) ≡ min (min x q) (q - k)
+cut x q k = omega arith
+
+less-in : (a : List ℕ) (i k : ℕ) → length a ≡ size → i < 128 → regularIn (set a (4 * i + 3) (getD a (4 * i + 3) 0 - k)) i ≡ lessRegular k (regularIn a i)
 unfolding regularIn lessRegular
-less-in a i k h =
+less-in a i k n h =
+    let q = getD a (4 * i + 3) 0 in
     rw (
-      getD-set-same a (4 * i + 3) (getD a (4 * i + 3) 0 - k) 0 h,
-      getD-set-other a (4 * i + 3) (4 * i) (getD a (4 * i + 3) 0 - k) 0 (λ e. omega arith),
-      getD-set-other a (4 * i + 3) (4 * i + 1) (getD a (4 * i + 3) 0 - k) 0 (λ e. omega arith),
-      getD-set-other a (4 * i + 3) (4 * i + 2) (getD a (4 * i + 3) 0 - k) 0 (λ e. omega arith),
+      getD-set-same a (4 * i + 3) (q - k) 0 (omega arith),
+      getD-set-other a (4 * i + 3) (4 * i) (q - k) 0 (λ e. omega arith),
+      getD-set-other a (4 * i + 3) (4 * i + 1) (q - k) 0 (λ e. omega arith),
+      getD-set-other a (4 * i + 3) (4 * i + 2) (q - k) 0 (λ e. omega arith),
+      getD-set-other a (4 * i + 3) (2 * i + 975) (q - k) 0 (λ e. omega arith),
+      getD-set-other a (4 * i + 3) (2 * i + 976) (q - k) 0 (λ e. omega arith),
+      cut (getD a (2 * i + 975) 0) q k,
+      cut (getD a (2 * i + 976) 0) q k,
     ) refl
 
 filled-venue : (a : List ℕ) (i k : ℕ) → length a ≡ size → i < regularsUsed a →
@@ -46,65 +58,118 @@ filled-venue : (a : List ℕ) (i k : ℕ) → length a ≡ size → i < regulars
 unfolding fillRegular
 filled-venue a i k n h =
     let z = regulars-few a in
-    regular-set (wider (omega arith) (omega arith) (stored a (4 * i + 3) (getD a (4 * i + 3) 0 - k))) h
-    ∙ ap (λ (o : Regular). withRegular (venueOf a) (set (venueOf a .regular) i o)) (less-in a i k (omega arith) ∙ ap (lessRegular k) (sym (regular-at a i h)))
+    regular-set (wider (omega arith) (omega arith) (stored a (4 * i + 3) (getD a (4 * i + 3) 0 - k))) unmoved h
+    ∙ ap (λ (o : Regular). withRegular (venueOf a) (set (venueOf a .regular) i o)) (less-in a i k n (omega arith) ∙ ap (lessRegular k) (sym (regular-at a i h)))
 
 -- an order that is not filled whole stays
 left-holds : (q k : ℕ) → k < q → held (q - k) ≡ true
 left-holds q k h = ap not (ne-eqb (q - k) 0 (λ e. omega arith))
 
-less-holds : (a : List ℕ) (i k : ℕ) → 4 * i + 3 < length a → k < getD a (4 * i + 3) 0 → holdsRegular (regularIn (set a (4 * i + 3) (getD a (4 * i + 3) 0 - k)) i) ≡ true
-less-holds a i k h lt = ap holdsRegular (less-in a i k h) ∙ (unfold regularIn lessRegular in left-holds (getD a (4 * i + 3) 0) k lt)
+less-holds : (a : List ℕ) (i k : ℕ) → length a ≡ size → i < 128 → k < getD a (4 * i + 3) 0 → holdsRegular (regularIn (set a (4 * i + 3) (getD a (4 * i + 3) 0 - k)) i) ≡ true
+less-holds a i k n h lt = ap holdsRegular (less-in a i k n h) ∙ (unfold regularIn lessRegular in left-holds (getD a (4 * i + 3) 0) k lt)
 
 -- a number that is lowered
 abbrev lowered : List ℕ → (at i : ℕ) → List ℕ
 lowered l at i = set l at (min (getD l at 0) i)
 
 module _ (a : List ℕ) (i k r : ℕ) (n : length a ≡ size) (h : i < regularsUsed a) (e : r ≡ getD a (4 * i + 3) 0 - k) where
-  pub regular-stays : k < getD a (4 * i + 3) 0 → (venueOf (set a (4 * i + 3) r) ≡ fillRegular i k (venueOf a)) × SameBeside a (set a (4 * i + 3) r)
-  regular-stays lt =
-      let z = regulars-few a in
-      let q = getD a (4 * i + 3) 0 - k in
-      let o = stored a (4 * i + 3) q in
-      rw e (
-        filled-venue a i k n h,
-        record {
-          regulars = count-kept o (inr (omega arith));
-          complexes = count-kept2 o (inr (omega arith));
-          levels = levels-kept o (inr (omega arith));
-          marked = λ m. record {
-            regulars = regular-holds a (set a (4 * i + 3) q) i h (wider (omega arith) (omega arith) o) (less-holds a i k (omega arith) lt) (m .regulars);
-            complexes = complexes-marked o (inl (omega arith)) (inr (omega arith)) (inr (omega arith)) (m .complexes);
-            legging = legging-marked o (inl (omega arith)) (inr (omega arith)) (m .legging);
-            figures = figures-marked o (inl (omega arith)) (m .figures);
-          };
-        },
-      )
+  few : i < 128
+  few = let z = regulars-few a in omega arith
 
-  pub regular-leaves : (c : List ℕ) → c ≡ lowered (set a (4 * i + 3) r) 827 i → (venueOf c ≡ fillRegular i k (venueOf a)) × SameBeside a c
-  regular-leaves c f =
-      let z = regulars-few a in
-      let b = set a (4 * i + 3) (getD a (4 * i + 3) 0 - k) in
-      let o = stored a (4 * i + 3) (getD a (4 * i + 3) 0 - k) in
-      let p = stored b 827 (min (getD b 827 0) i) in
-      rw (f, e) (
-        beside-venue p (omega arith) (inl (omega arith)) ∙ filled-venue a i k n h,
-        record {
-          regulars = count-kept p (inl (omega arith)) ∙ count-kept o (inr (omega arith));
-          complexes = count-kept2 p (inl (omega arith)) ∙ count-kept2 o (inr (omega arith));
-          levels = λ m w. levels-kept p (inl (omega arith)) m w ∙ levels-kept o (inr (omega arith)) m w;
-          marked = λ m. record {
-            regulars = regulars-lowered a (lowered b 827 i) i (omega arith)
-                (getD-set-same b 827 (min (getD b 827 0) i) 0 (omega (arith, length-set a (4 * i + 3) (getD a (4 * i + 3) 0 - k)))
-                ∙ ap (λ (x : ℕ). min x i) (o .same 827 (inr (omega arith))))
-                (λ j w. regular-kept o j (inl (omega arith)) ∙ regular-kept p j (inl (omega arith))) (m .regulars);
-            complexes = complexes-marked p (inr (omega arith)) (inl (omega arith)) (inr (omega arith))
-                (complexes-marked o (inl (omega arith)) (inr (omega arith)) (inr (omega arith)) (m .complexes));
-            legging = legging-marked p (inr (omega arith)) (inr (omega arith)) (legging-marked o (inl (omega arith)) (inr (omega arith)) (m .legging));
-            figures = figures-marked p (inl (omega arith)) (figures-marked o (inl (omega arith)) (m .figures));
-          };
-        },
-      )
+  abbrev left : List ℕ
+  left = set a (4 * i + 3) (getD a (4 * i + 3) 0 - k)
+
+  o : Outside (4 * i) (4 * i + 4) a left
+  o = wider (omega arith) (omega arith) (stored a (4 * i + 3) (getD a (4 * i + 3) 0 - k))
+
+  left-venue : venueOf left ≡ fillRegular i k (venueOf a)
+  left-venue = filled-venue a i k n h
+
+  left-long : length left ≡ size
+  left-long = length-set a (4 * i + 3) (getD a (4 * i + 3) 0 - k) ∙ n
+
+  -- all show what they should, if this order then does
+  left-fully : showsFully (lessRegular k (regularIn a i)) ≡ true → Fully (venueOf a .regular) → Fully (venueOf left .regular)
+  unfolding fillRegular withRegular
+  left-fully p f = subst (λ (v : Venue). Fully (v .regular)) (sym left-venue)
+      (fully-set (venueOf a .regular) i (lessRegular k (regularAt (venueOf a) i)) (omega (arith, regulars-many a, few)) (ap (λ (x : Regular). showsFully (lessRegular k x)) (regular-at a i h) ∙ p) f)
+
+  was-fully : Fully (venueOf a .regular) → showsFully (regularIn a i) ≡ true
+  unfolding regularAt
+  was-fully f = sym (ap showsFully (regular-at a i h)) ∙ f i
+
+  left-shows : (Fully (venueOf a .regular) → showsFully (lessRegular k (regularIn a i)) ≡ true) → ShowsMarked a → ShowsMarked left
+  left-shows p m z = let f = m (unmarked-as a left (o .same 1231 (inr (omega (arith, few)))) z) in left-fully (p f) f
+
+  left-rest : ShowsMarked left → k < getD a (4 * i + 3) 0 → Marked a → Marked left
+  left-rest s lt m = record {
+    regulars = regular-holds a left i h o (less-holds a i k n few lt) (m .regulars);
+    complexes = complexes-marked o (inl (omega (arith, few))) (inr (omega (arith, few))) (inr (omega (arith, few))) (m .complexes);
+    legging = legging-marked o (inl (omega (arith, few))) (inr (omega (arith, few))) (m .legging);
+    figures = figures-marked o (inl (omega (arith, few))) (m .figures);
+    shows = s;
+  }
+
+  no-reserve : getD (set a (4 * i + 3) r) (2 * i + 975) 0 ≡ 0 → regularIn a i .reserve ≡ 0
+  unfolding regularIn
+  no-reserve none = let z : getD a (2 * i + 975) 0 ≡ 0 = sym (getD-set-other a (4 * i + 3) (2 * i + 975) r 0 (λ x. omega (arith, few))) ∙ none in omega arith
+
+  -- without reserve it shows what it should
+  pub regular-stays : k < getD a (4 * i + 3) 0 → getD (set a (4 * i + 3) r) (2 * i + 975) 0 ≡ 0 → (venueOf (set a (4 * i + 3) r) ≡ fillRegular i k (venueOf a)) × SameBeside a (set a (4 * i + 3) r)
+  regular-stays lt none = rw e (
+    left-venue,
+    record {
+      regulars = count-kept o (inr (omega (arith, few)));
+      complexes = count-kept2 o (inr (omega (arith, few)));
+      levels = levels-kept o (inr (omega (arith, few)));
+      marked = λ m. left-rest (left-shows (λ f. less-fully k (regularIn a i) (no-reserve none) (was-fully f)) (m .shows)) lt m;
+    },
+  )
+
+  -- with reserve it is marked
+  pub regular-hides : k < getD a (4 * i + 3) 0 → (venueOf (set (set a (4 * i + 3) r) 1231 1) ≡ fillRegular i k (venueOf a)) × SameBeside a (set (set a (4 * i + 3) r) 1231 1)
+  regular-hides lt = rw e (
+    beside-venue p (omega arith) (inr (omega arith)) (inl (omega arith)) ∙ left-venue,
+    record {
+      regulars = count-kept p (inl (omega arith)) ∙ count-kept o (inr (omega (arith, few)));
+      complexes = count-kept2 p (inl (omega arith)) ∙ count-kept2 o (inr (omega (arith, few)));
+      levels = λ m w. levels-kept p (inl (omega arith)) m w ∙ levels-kept o (inr (omega (arith, few))) m w;
+      marked = λ m. record {
+        regulars = regulars-marked p (omega arith) (inl (omega arith)) (inl (omega arith)) (regular-holds a left i h o (less-holds a i k n few lt) (m .regulars));
+        complexes = complexes-marked p (inr (omega arith)) (inl (omega arith)) (inl (omega arith))
+            (complexes-marked o (inl (omega (arith, few))) (inr (omega (arith, few))) (inr (omega (arith, few))) (m .complexes));
+        legging = legging-marked p (inr (omega arith)) (inl (omega arith)) (legging-marked o (inl (omega (arith, few))) (inr (omega (arith, few))) (m .legging));
+        figures = figures-marked p (inr (omega arith)) (figures-marked o (inl (omega (arith, few))) (m .figures));
+        shows = shows-not (set left 1231 1) (getD-set-same left 1231 1 0 (omega (arith, left-long)));
+      };
+    },
+  )
+    where
+      p : Outside 1231 1232 left (set left 1231 1)
+      p = stored left 1231 1
+
+  pub regular-leaves : getD a (4 * i + 3) 0 ≤ k → (c : List ℕ) → c ≡ lowered (set a (4 * i + 3) r) 827 i → (venueOf c ≡ fillRegular i k (venueOf a)) × SameBeside a c
+  regular-leaves le c f = rw (f, e) (
+    beside-venue p (omega arith) (inl (omega arith)) (inr (omega arith)) ∙ left-venue,
+    record {
+      regulars = count-kept p (inl (omega arith)) ∙ count-kept o (inr (omega (arith, few)));
+      complexes = count-kept2 p (inl (omega arith)) ∙ count-kept2 o (inr (omega (arith, few)));
+      levels = λ m w. levels-kept p (inl (omega arith)) m w ∙ levels-kept o (inr (omega (arith, few))) m w;
+      marked = λ m. record {
+        regulars = regulars-lowered a (lowered left 827 i) i (omega arith)
+            (getD-set-same left 827 (min (getD left 827 0) i) 0 (omega (arith, left-long)) ∙ ap (λ (x : ℕ). min x i) (o .same 827 (inr (omega (arith, few)))))
+            (λ j w. regular-kept o j (inl (omega arith)) (inr (omega (arith, few))) ∙ regular-kept p j (inl (omega (arith, few))) (inr (omega arith))) (m .regulars);
+        complexes = complexes-marked p (inr (omega arith)) (inl (omega arith)) (inr (omega arith))
+            (complexes-marked o (inl (omega (arith, few))) (inr (omega (arith, few))) (inr (omega (arith, few))) (m .complexes));
+        legging = legging-marked p (inr (omega arith)) (inr (omega arith)) (legging-marked o (inl (omega (arith, few))) (inr (omega (arith, few))) (m .legging));
+        figures = figures-marked p (inl (omega arith)) (figures-marked o (inl (omega (arith, few))) (m .figures));
+        shows = shows-marked p (omega arith) (omega arith) (inl (omega arith)) (left-shows (λ _. filled-fully k (regularIn a i) (unfold regularIn in le)) (m .shows));
+      };
+    },
+  )
+    where
+      p : Outside 827 828 left (lowered left 827 i)
+      p = stored left 827 (min (getD left 827 0) i)
 
 less-inC : (a : List ℕ) (i k : ℕ) → 6 * i + 517 < length a → complexIn (set a (6 * i + 517) (getD a (6 * i + 517) 0 - k)) i ≡ lessComplex k (complexIn a i)
 unfolding complexIn lessComplex
@@ -140,12 +205,13 @@ module _ (a : List ℕ) (i k r : ℕ) (n : length a ≡ size) (h : i < complexes
           regulars = count-kept o (inr (omega arith));
           complexes = count-kept2 o (inr (omega arith));
           right = right-kept a (set a (6 * i + 517) q) (levels-kept o (inr (omega arith)))
-              (regulars-kept o (omega arith) (inr (omega arith)))
+              (regulars-kept o (omega arith) (inr (omega arith)) (inr (omega arith)))
               (λ m. record {
                 regulars = regulars-marked o (omega arith) (inr (omega arith)) (inr (omega arith)) (m .regulars);
                 complexes = complex-holds a (set a (6 * i + 517) q) i h (wider (omega arith) (omega arith) o) (less-holds2 a i k (omega arith) lt) (m .complexes);
                 legging = legging-marked o (inl (omega arith)) (inr (omega arith)) (m .legging);
                 figures = figures-marked o (inl (omega arith)) (m .figures);
+                shows = shows-marked o (omega arith) (omega arith) (inr (omega arith)) (m .shows);
               });
         },
       )
@@ -157,12 +223,12 @@ module _ (a : List ℕ) (i k r : ℕ) (n : length a ≡ size) (h : i < complexes
       let o = stored a (6 * i + 517) (getD a (6 * i + 517) 0 - k) in
       let p = stored b 828 (min (getD b 828 0) i) in
       rw (f, e) (
-        beside-venue p (omega arith) (inl (omega arith)) ∙ filled-venue2 a i k n h,
+        beside-venue p (omega arith) (inl (omega arith)) (inr (omega arith)) ∙ filled-venue2 a i k n h,
         record {
           regulars = count-kept p (inl (omega arith)) ∙ count-kept o (inr (omega arith));
           complexes = count-kept2 p (inl (omega arith)) ∙ count-kept2 o (inr (omega arith));
           right = right-kept a (lowered b 828 i) (λ m w. levels-kept p (inl (omega arith)) m w ∙ levels-kept o (inr (omega arith)) m w)
-              (regulars-kept p (omega arith) (inl (omega arith)) ∙ regulars-kept o (omega arith) (inr (omega arith)))
+              (regulars-kept p (omega arith) (inr (omega arith)) (inl (omega arith)) ∙ regulars-kept o (omega arith) (inr (omega arith)) (inr (omega arith)))
               (λ m. record {
                 regulars = regulars-marked p (omega arith) (inl (omega arith)) (inl (omega arith)) (regulars-marked o (omega arith) (inr (omega arith)) (inr (omega arith)) (m .regulars));
                 complexes = complexes-lowered a (lowered b 828 i) i (omega arith)
@@ -171,6 +237,7 @@ module _ (a : List ℕ) (i k r : ℕ) (n : length a ≡ size) (h : i < complexes
                     (λ j w. complex-kept o j (inl (omega arith)) ∙ complex-kept p j (inl (omega arith))) (m .complexes);
                 legging = legging-marked p (inr (omega arith)) (inr (omega arith)) (legging-marked o (inl (omega arith)) (inr (omega arith)) (m .legging));
                 figures = figures-marked p (inl (omega arith)) (figures-marked o (inl (omega arith)) (m .figures));
+                shows = shows-marked p (omega arith) (omega arith) (inl (omega arith)) (shows-marked o (omega arith) (omega arith) (inr (omega arith)) (m .shows));
               });
         },
       )
@@ -198,18 +265,40 @@ sets-at l i (x ∷ xs) (suc j) h m =
 row-at : (l : List ℕ) (i k : ℕ) (xs : List ℕ) (j : ℕ) → k ≡ i + j → j < length xs → i + length xs ≤ length l → getD (sets l i xs) k 0 ≡ getD xs j 0
 row-at l i k xs j e h m = ap (λ (n : ℕ). getD (sets l i xs) n 0) e ∙ sets-at l i xs j h m
 
--- a row written at a regular place reads back as the order
-pub regular-back : (a : List ℕ) (i : ℕ) (o : Regular) → length a ≡ size → i < 128 → o .series < 8 → o .side < 2 → regularIn (sets a (4 * i) (regularRow o)) i ≡ o
-unfolding regularIn regularRow placeOf
-regular-back a i o n h s d =
-    let xs : List ℕ = o .id ∷ (2 * o .series + o .side) ∷ o .price ∷ o .quantity ∷ [] in
-    let e0 : getD (sets a (4 * i) xs) (4 * i) 0 ≡ o .id = row-at a (4 * i) (4 * i) xs 0 (omega arith) (omega arith) (omega arith) in
-    let e1 : getD (sets a (4 * i) xs) (4 * i + 1) 0 ≡ 2 * o .series + o .side = row-at a (4 * i) (4 * i + 1) xs 1 refl (omega arith) (omega arith) in
-    let e2 : getD (sets a (4 * i) xs) (4 * i + 2) 0 ≡ o .price = row-at a (4 * i) (4 * i + 2) xs 2 refl (omega arith) (omega arith) in
-    let e3 : getD (sets a (4 * i) xs) (4 * i + 3) 0 ≡ o .quantity = row-at a (4 * i) (4 * i + 3) xs 3 refl (omega arith) (omega arith) in
-    let f : (2 * o .series + o .side) % 16 / 2 ≡ o .series = omega arith in
-    let g : (2 * o .series + o .side) % 2 ≡ o .side = omega arith in
-    rw (e0, e1, e2, e3, f, g) refl
+-- what is written at a regular place reads back as the order
+module _ (a : List ℕ) (i : ℕ) (o : Regular) where
+  abbrev wrote : List ℕ
+  wrote = sets a (4 * i) (regularRow o)
+
+  pub row-outside : Outside (4 * i) (4 * i + 4) a wrote
+  unfolding regularRow
+  row-outside = sets-outside a (4 * i) (o .id ∷ placeOf (o .series) (o .side) ∷ o .price ∷ o .quantity ∷ [])
+
+  pub reserve-outside : Outside (2 * i + 975) (2 * i + 977) wrote (regularPut a i o)
+  unfolding reserveRow
+  reserve-outside = wider (omega arith) (omega arith) (sets-outside wrote (2 * i + 975) (o .reserve ∷ o .display ∷ []))
+
+  pub put-length : length (regularPut a i o) ≡ length a
+  put-length = sets-length wrote (2 * i + 975) (reserveRow o) ∙ sets-length a (4 * i) (regularRow o)
+
+  pub regular-back : length a ≡ size → i < 128 → o .series < 8 → o .side < 2 → Bounded o → regularIn (regularPut a i o) i ≡ o
+  unfolding regularIn regularRow reserveRow placeOf
+  regular-back n h s d w =
+      let xs : List ℕ = o .id ∷ (2 * o .series + o .side) ∷ o .price ∷ o .quantity ∷ [] in
+      let ys : List ℕ = o .reserve ∷ o .display ∷ [] in
+      let m : length (sets a (4 * i) xs) ≡ size = sets-length a (4 * i) xs ∙ n in
+      let p = sets-outside (sets a (4 * i) xs) (2 * i + 975) ys in
+      let e0 : getD (sets (sets a (4 * i) xs) (2 * i + 975) ys) (4 * i) 0 ≡ o .id = p .same (4 * i) (inl (omega arith)) ∙ row-at a (4 * i) (4 * i) xs 0 (omega arith) (omega arith) (omega arith) in
+      let e1 : getD (sets (sets a (4 * i) xs) (2 * i + 975) ys) (4 * i + 1) 0 ≡ 2 * o .series + o .side = p .same (4 * i + 1) (inl (omega arith)) ∙ row-at a (4 * i) (4 * i + 1) xs 1 refl (omega arith) (omega arith) in
+      let e2 : getD (sets (sets a (4 * i) xs) (2 * i + 975) ys) (4 * i + 2) 0 ≡ o .price = p .same (4 * i + 2) (inl (omega arith)) ∙ row-at a (4 * i) (4 * i + 2) xs 2 refl (omega arith) (omega arith) in
+      let e3 : getD (sets (sets a (4 * i) xs) (2 * i + 975) ys) (4 * i + 3) 0 ≡ o .quantity = p .same (4 * i + 3) (inl (omega arith)) ∙ row-at a (4 * i) (4 * i + 3) xs 3 refl (omega arith) (omega arith) in
+      let e4 : getD (sets (sets a (4 * i) xs) (2 * i + 975) ys) (2 * i + 975) 0 ≡ o .reserve = row-at (sets a (4 * i) xs) (2 * i + 975) (2 * i + 975) ys 0 (omega arith) (omega arith) (omega arith) in
+      let e5 : getD (sets (sets a (4 * i) xs) (2 * i + 975) ys) (2 * i + 976) 0 ≡ o .display = row-at (sets a (4 * i) xs) (2 * i + 975) (2 * i + 976) ys 1 (omega arith) (omega arith) (omega arith) in
+      let f : (2 * o .series + o .side) % 16 / 2 ≡ o .series = omega arith in
+      let g : (2 * o .series + o .side) % 2 ≡ o .side = omega arith in
+      let x : min (o .reserve) (o .quantity) ≡ o .reserve = omega (arith, w .reserve) in
+      let y : min (o .display) (o .quantity) ≡ o .display = omega (arith, w .display) in
+      rw (e0, e1, e2, e3, e4, e5, f, g, x, y) refl
 
 -- the count, read
 pub counted : (b : List ℕ) (k : ℕ) → getD b 776 0 ≡ k → k ≤ 128 → regularsUsed b ≡ k
@@ -220,13 +309,6 @@ whole-part : (b : List ℕ) → inUse (regularIn b) noRegular (regularsUsed b) 1
 unfolding venueOf
 whole-part b = refl
 
-wide-row : (a : List ℕ) (i : ℕ) (o : Regular) → Outside (4 * i) (4 * i + 4) a (sets a (4 * i) (regularRow o))
-unfolding regularRow
-wide-row a i o = sets-outside a (4 * i) (o .id ∷ placeOf (o .series) (o .side) ∷ o .price ∷ o .quantity ∷ [])
-
-used-kept : (a b : List ℕ) → regularsUsed a < 128 → Outside (4 * regularsUsed a) (4 * regularsUsed a + 4) a b → regularsUsed b ≡ regularsUsed a
-used-kept a b h o = count-kept o (inr (omega arith))
-
 count-is : (a b : List ℕ) → length a ≡ size → length b ≡ size → regularsUsed a < 128 → regularsUsed (set b 776 (regularsUsed a + 1)) ≡ suc (regularsUsed a)
 count-is a b n m h =
     counted (set b 776 (regularsUsed a + 1)) (regularsUsed a + 1) (getD-set-same b 776 (regularsUsed a + 1) 0 (omega arith)) (omega arith) ∙ omega arith
@@ -235,60 +317,74 @@ count-is a b n m h =
 part : (a b : List ℕ) → regularsUsed b ≡ regularsUsed a → venueOf b ≡ venueOf a → inUse (regularIn b) noRegular (regularsUsed a) 128 ≡ venueOf a .regular
 part a b e f = ap (λ (k : ℕ). inUse (regularIn b) noRegular k 128) (sym e) ∙ whole-part b ∙ ap (λ (v : Venue). v .regular) f
 
-added-venue : (a : List ℕ) (o : Regular) → length a ≡ size → regularsUsed a < 128 → o .series < 8 → o .side < 2 →
-    venueOf (set (sets a (4 * regularsUsed a) (regularRow o)) 776 (regularsUsed a + 1)) ≡ putRegular (regularsUsed a) o (venueOf a)
-unfolding putRegular
-added-venue a o n h s d =
-    regulars-counted (stored b 776 (regularsUsed a + 1))
-    ∙ ap (λ (v : Venue). withRegular v (inUse (regularIn b) noRegular (regularsUsed c) 128)) same
-    ∙ ap (λ (l : List Regular). withRegular (venueOf a) l) more
-  where
-    b : List ℕ
-    b = sets a (4 * regularsUsed a) (regularRow o)
+module _ (a : List ℕ) (o : Regular) (n : length a ≡ size) (h : regularsUsed a < 128) where
+  abbrev next : ℕ
+  next = regularsUsed a
 
-    c : List ℕ
-    c = set b 776 (regularsUsed a + 1)
+  abbrev more : List ℕ
+  more = set (regularPut a next o) 776 (next + 1)
 
-    row : Outside (4 * regularsUsed a) (4 * regularsUsed a + 4) a b
-    row = wide-row a (regularsUsed a) o
+  put-long : length (regularPut a next o) ≡ size
+  put-long = put-length a next o ∙ n
 
-    same : venueOf b ≡ venueOf a
-    same = regular-unused (regularsUsed a) row h (omega arith)
+  put-same : venueOf (regularPut a next o) ≡ venueOf a
+  put-same = regular-unused (row-outside a next o) (reserve-outside a next o) h (omega arith)
 
-    more-used : regularsUsed c ≡ suc (regularsUsed a)
-    more-used = count-is a b n (sets-length a (4 * regularsUsed a) (regularRow o) ∙ n) h
+  put-used : regularsUsed (regularPut a next o) ≡ next
+  put-used = count-kept (reserve-outside a next o) (inl (omega arith)) ∙ count-kept (row-outside a next o) (inr (omega arith))
 
-    used-b : regularsUsed b ≡ regularsUsed a
-    used-b = used-kept a b h row
+  more-used : regularsUsed more ≡ suc next
+  more-used = count-is a (regularPut a next o) n put-long h
 
-    more : inUse (regularIn b) noRegular (regularsUsed c) 128 ≡ set (venueOf a .regular) (regularsUsed a) o
-    more =
-        ap (λ (k : ℕ). inUse (regularIn b) noRegular k 128) more-used
-        ∙ used-more (regularIn b) noRegular (regularsUsed a) 128 h
-        ∙ ap₂ (λ (l : List Regular) (x : Regular). set l (regularsUsed a) x) (part a b used-b same) (regular-back a (regularsUsed a) o n h s d)
+  added-venue : o .series < 8 → o .side < 2 → Bounded o → venueOf more ≡ putRegular next o (venueOf a)
+  unfolding putRegular
+  added-venue s d w =
+      regulars-counted (stored b 776 (next + 1))
+      ∙ ap (λ (v : Venue). withRegular v (inUse (regularIn b) noRegular (regularsUsed more) 128)) put-same
+      ∙ ap (λ (l : List Regular). withRegular (venueOf a) l) all
+    where
+      b : List ℕ
+      b = regularPut a next o
+
+      all : inUse (regularIn b) noRegular (regularsUsed more) 128 ≡ set (venueOf a .regular) next o
+      all =
+          ap (λ (k : ℕ). inUse (regularIn b) noRegular k 128) more-used
+          ∙ used-more (regularIn b) noRegular next 128 h
+          ∙ ap₂ (λ (l : List Regular) (x : Regular). set l next x) (part a b put-used put-same) (regular-back a next o n h s d w)
+
+  added-shows : venueOf more ≡ putRegular next o (venueOf a) → showsFully o ≡ true → ShowsMarked a → ShowsMarked more
+  unfolding putRegular withRegular
+  added-shows e z m u = subst (λ (v : Venue). Fully (v .regular)) (sym e)
+      (fully-set (venueOf a .regular) next o (omega (arith, regulars-many a)) z (m (unmarked-as a more same u)))
+    where
+      same : getD more 1231 0 ≡ getD a 1231 0
+      same = stored (regularPut a next o) 776 (next + 1) .same 1231 (inr (omega arith)) ∙ reserve-outside a next o .same 1231 (inr (omega arith)) ∙ row-outside a next o .same 1231 (inr (omega arith))
 
 -- an order written after those in use, and counted
-pub added-regular : (a b c : List ℕ) (n : ℕ) (o : Regular) → length a ≡ size → regularsUsed a < 128 → o .series < 8 → o .side < 2 →
-    n ≡ regularsUsed a → b ≡ sets a (4 * n) (regularRow o) → c ≡ lowered (set b 776 (n + 1)) 827 n →
+pub added-regular : (a b c : List ℕ) (n : ℕ) (o : Regular) → length a ≡ size → regularsUsed a < 128 → o .series < 8 → o .side < 2 → o .display ≤ o .quantity → showsFully o ≡ true →
+    n ≡ regularsUsed a → b ≡ regularPut a n o → c ≡ lowered (set b 776 (n + 1)) 827 n →
     (venueOf c ≡ putRegular (regularsUsed a) o (venueOf a)) × Beside (suc (regularsUsed a)) (complexesUsed a) a c
-added-regular a b c n o m h s d p q r = rw (r, q, p) (
-  beside-venue mark (omega arith) (inl (omega arith)) ∙ added-venue a o m h s d,
+added-regular a b c n o m h s d w z p q r = rw (r, q, p) (
+  beside-venue mark (omega arith) (inl (omega arith)) (inr (omega arith)) ∙ venue,
   record {
-    regulars = count-kept mark (inl (omega arith)) ∙ count-is a wrote m long h;
-    complexes = count-kept2 mark (inl (omega arith)) ∙ count-kept2 count (inr (omega arith)) ∙ count-kept2 row (inr (omega arith));
-    levels = λ x w. levels-kept mark (inl (omega arith)) x w ∙ levels-kept count (inr (omega arith)) x w ∙ levels-kept row (inr (omega arith)) x w;
+    regulars = count-kept mark (inl (omega arith)) ∙ more-used a o m h;
+    complexes = count-kept2 mark (inl (omega arith)) ∙ count-kept2 count (inr (omega arith)) ∙ count-kept2 reserve (inl (omega arith)) ∙ count-kept2 row (inr (omega arith));
+    levels = λ x w. levels-kept mark (inl (omega arith)) x w ∙ levels-kept count (inr (omega arith)) x w ∙ levels-kept reserve (inl (omega arith)) x w ∙ levels-kept row (inr (omega arith)) x w;
     marked = λ x. record {
-      regulars = regulars-lowered a (lowered more 827 i) i (omega arith)
-          (getD-set-same more 827 (min (getD more 827 0) i) 0 (omega (arith, length-set wrote 776 (i + 1), long))
-          ∙ ap (λ (y : ℕ). min y i) (count .same 827 (inr (omega arith)) ∙ row .same 827 (inr (omega arith))))
-          (λ k w. regular-kept row k (inl (omega arith)) ∙ regular-kept count k (inl (omega arith)) ∙ regular-kept mark k (inl (omega arith))) (x .regulars);
+      regulars = regulars-lowered a (lowered (more a o m h) 827 i) i (omega arith)
+          (getD-set-same (more a o m h) 827 (min (getD (more a o m h) 827 0) i) 0 (omega (arith, length-set (regularPut a i o) 776 (i + 1), put-long a o m h))
+          ∙ ap (λ (y : ℕ). min y i) (count .same 827 (inr (omega arith)) ∙ reserve .same 827 (inl (omega arith)) ∙ row .same 827 (inr (omega arith))))
+          (λ k w. other-kept row reserve h k (omega arith) (λ e. omega arith) ∙ regular-kept count k (inl (omega arith)) (inr (omega arith)) ∙ regular-kept mark k (inl (omega arith)) (inr (omega arith))) (x .regulars);
       complexes = complexes-marked mark (inr (omega arith)) (inl (omega arith)) (inr (omega arith))
           (complexes-marked count (inr (omega arith)) (inr (omega arith)) (inr (omega arith))
-          (complexes-marked row (inl (omega arith)) (inr (omega arith)) (inr (omega arith)) (x .complexes)));
+          (complexes-marked reserve (inr (omega arith)) (inl (omega arith)) (inl (omega arith))
+          (complexes-marked row (inl (omega arith)) (inr (omega arith)) (inr (omega arith)) (x .complexes))));
       legging = legging-marked mark (inr (omega arith)) (inr (omega arith))
-          (legging-marked count (inr (omega arith)) (inr (omega arith)) (legging-marked row (inl (omega arith)) (inr (omega arith)) (x .legging)));
+          (legging-marked count (inr (omega arith)) (inr (omega arith))
+          (legging-marked reserve (inr (omega arith)) (inl (omega arith)) (legging-marked row (inl (omega arith)) (inr (omega arith)) (x .legging))));
       figures = figures-marked mark (inl (omega arith))
-          (figures-marked count (inl (omega arith)) (figures-marked row (inl (omega arith)) (x .figures)));
+          (figures-marked count (inl (omega arith)) (figures-marked reserve (inr (omega arith)) (figures-marked row (inl (omega arith)) (x .figures))));
+      shows = shows-marked mark (omega arith) (omega arith) (inl (omega arith)) (added-shows a o m h venue z (x .shows));
     };
   },
 )
@@ -296,23 +392,20 @@ added-regular a b c n o m h s d p q r = rw (r, q, p) (
     i : ℕ
     i = regularsUsed a
 
-    wrote : List ℕ
-    wrote = sets a (4 * i) (regularRow o)
+    venue : venueOf (more a o m h) ≡ putRegular i o (venueOf a)
+    venue = added-venue a o m h s d (fully-bounded o w z)
 
-    more : List ℕ
-    more = set wrote 776 (i + 1)
+    row : Outside (4 * i) (4 * i + 4) a (sets a (4 * i) (regularRow o))
+    row = row-outside a i o
 
-    long : length wrote ≡ size
-    long = sets-length a (4 * i) (regularRow o) ∙ m
+    reserve : Outside (2 * i + 975) (2 * i + 977) (sets a (4 * i) (regularRow o)) (regularPut a i o)
+    reserve = reserve-outside a i o
 
-    row : Outside (4 * i) (4 * i + 4) a wrote
-    row = wide-row a i o
+    count : Outside 776 777 (regularPut a i o) (more a o m h)
+    count = stored (regularPut a i o) 776 (i + 1)
 
-    count : Outside 776 777 wrote more
-    count = stored wrote 776 (i + 1)
-
-    mark : Outside 827 828 more (lowered more 827 i)
-    mark = stored more 827 (min (getD more 827 0) i)
+    mark : Outside 827 828 (more a o m h) (lowered (more a o m h) 827 i)
+    mark = stored (more a o m h) 827 (min (getD (more a o m h) 827 0) i)
 
 -- A complex order -----------------------------------------------------------------------------
 
@@ -393,13 +486,13 @@ pub added-complex : (a b c : List ℕ) (n : ℕ) (o : Complex) → length a ≡ 
     n ≡ complexesUsed a → b ≡ sets a (6 * n + 512) (complexRow o) → c ≡ lowered (set b 777 (n + 1)) 828 n →
     (venueOf c ≡ putComplex (complexesUsed a) o (venueOf a)) × Counts (regularsUsed a) (suc (complexesUsed a)) a c
 added-complex a b c n o m h s1 d1 s2 d2 k p q r = rw (r, q, p) (
-  beside-venue mark (omega arith) (inl (omega arith)) ∙ added-venue2 a o m h s1 d1 s2 d2 k,
+  beside-venue mark (omega arith) (inl (omega arith)) (inr (omega arith)) ∙ added-venue2 a o m h s1 d1 s2 d2 k,
   record {
     regulars = count-kept mark (inl (omega arith)) ∙ count-kept count (inl (omega arith)) ∙ count-kept row (inr (omega arith));
     complexes = count-kept2 mark (inl (omega arith)) ∙ count-is2 a wrote m long h;
     right = right-kept a (lowered more 828 i)
         (λ x w. levels-kept mark (inl (omega arith)) x w ∙ levels-kept count (inr (omega arith)) x w ∙ levels-kept row (inr (omega arith)) x w)
-        (regulars-kept mark (omega arith) (inl (omega arith)) ∙ regulars-kept count (omega arith) (inl (omega arith)) ∙ regulars-kept row (omega arith) (inr (omega arith)))
+        (regulars-kept mark (omega arith) (inr (omega arith)) (inl (omega arith)) ∙ regulars-kept count (omega arith) (inr (omega arith)) (inl (omega arith)) ∙ regulars-kept row (omega arith) (inr (omega arith)) (inr (omega arith)))
         (λ x. record {
           regulars = regulars-marked mark (omega arith) (inl (omega arith)) (inl (omega arith))
               (regulars-marked count (omega arith) (inl (omega arith)) (inr (omega arith))
@@ -412,6 +505,8 @@ added-complex a b c n o m h s1 d1 s2 d2 k p q r = rw (r, q, p) (
               (legging-marked count (inr (omega arith)) (inr (omega arith)) (legging-marked row (inl (omega arith)) (inr (omega arith)) (x .legging)));
           figures = figures-marked mark (inl (omega arith))
               (figures-marked count (inl (omega arith)) (figures-marked row (inl (omega arith)) (x .figures)));
+          shows = shows-marked mark (omega arith) (omega arith) (inl (omega arith))
+              (shows-marked count (omega arith) (omega arith) (inl (omega arith)) (shows-marked row (omega arith) (omega arith) (inr (omega arith)) (x .shows)));
         });
   },
 )
@@ -466,7 +561,7 @@ put-legging a n rest u w old l m h e r p q = (
     regulars = count-kept row (inr (omega arith)) ∙ count-kept one (inl (omega arith));
     complexes = count-kept2 row (inr (omega arith)) ∙ count-kept2 one (inl (omega arith));
     right = right-kept a c (λ k y. levels-kept row (inr (omega arith)) k y ∙ levels-kept one (inl (omega arith)) k y)
-        (regulars-kept row (omega arith) (inr (omega arith)) ∙ regulars-kept one (omega arith) (inl (omega arith)))
+        (regulars-kept row (omega arith) (inr (omega arith)) (inr (omega arith)) ∙ regulars-kept one (omega arith) (inr (omega arith)) (inl (omega arith)))
         (λ x. record {
           regulars = regulars-marked row (omega arith) (inr (omega arith)) (inr (omega arith)) (regulars-marked one (omega arith) (inl (omega arith)) (inl (omega arith)) (x .regulars));
           complexes = complexes-marked row (inr (omega arith)) (inr (omega arith)) (inr (omega arith))
@@ -474,6 +569,7 @@ put-legging a n rest u w old l m h e r p q = (
           legging = row .same 829 (inr (omega arith)) ∙ getD-set-same a 829 (rest + w) 0 (omega arith)
               ∙ mask-put a n rest u w old l h (x .legging) e r p q ∙ sym (ap (λ (v : Venue). mask (v .legging)) venue ∙ (unfold placed withLegging in refl));
           figures = figures-marked row (inl (omega arith)) (figures-marked one (inl (omega arith)) (x .figures));
+          shows = shows-marked row (omega arith) (omega arith) (inr (omega arith)) (shows-marked one (omega arith) (omega arith) (inl (omega arith)) (x .shows));
         });
   },
 )
@@ -491,7 +587,7 @@ put-legging a n rest u w old l m h e r p q = (
     row = wider (omega arith) (omega arith) (sets-outside b (3 * n + 704) (l .parent ∷ l .price ∷ l .quantity ∷ []))
 
     venue : venueOf c ≡ placed n l (venueOf a)
-    venue = legging-put b n l (length-set a 829 (rest + w) ∙ m) h ∙ ap (placed n l) (beside-venue one (omega arith) (inl (omega arith)))
+    venue = legging-put b n l (length-set a 829 (rest + w) ∙ m) h ∙ ap (placed n l) (beside-venue one (omega arith) (inl (omega arith)) (inr (omega arith)))
 
 listed-back : (a : List ℕ) (s : ℕ) (x : Listed) → length a ≡ size → s < 8 → x .status < 256 → listedIn (sets a (3 * s + 752) (x .status ∷ x .bid ∷ x .offer ∷ [])) s ≡ x
 unfolding listedIn
@@ -540,7 +636,7 @@ level-back a n l m h =
 pub put-level : (a : List ℕ) (n : ℕ) (l : Level) → length a ≡ size → n < 16 →
     LevelPut n l a (sets a (3 * n + 779) (l .price ∷ l .size % 4294967296 ∷ l .size / 4294967296 ∷ []))
 put-level a n l m h = record {
-  venue = beside-venue o (omega arith) (inl (omega arith));
+  venue = beside-venue o (omega arith) (inl (omega arith)) (inr (omega arith));
   regulars = count-kept o (inl (omega arith));
   complexes = count-kept2 o (inl (omega arith));
   here = level-back a n l m h;
@@ -550,6 +646,7 @@ put-level a n l m h = record {
     complexes = complexes-marked o (inr (omega arith)) (inl (omega arith)) (inr (omega arith)) (x .complexes);
     legging = legging-marked o (inr (omega arith)) (inr (omega arith)) (x .legging);
     figures = figures-marked o (inl (omega arith)) (x .figures);
+    shows = shows-marked o (omega arith) (omega arith) (inl (omega arith)) (x .shows);
   };
 }
   where

@@ -11,16 +11,22 @@
 --    829   mask of the legging places filled
 --    830   edition, message, figure, value                                     32 editions
 --    958   figures in force: the increments of series 0 to 7, the percentage, in every second number
+--    975   reserve and shown quantity of an order, as last written               128 regular, by their place
+--   1231   the mark: 0 where every order shows what it should
 --
 -- Legs is 16 * the legging place of the first leg + that of the second.
--- What stands in regular and complex places that are not in use means nothing. The numbers from 779 to 829 and from 958 on are kept beside the
--- venue. Figures stand apart, since of those next to each other a compiler keeps the first ones, edition 0's, as a table.
+-- What stands in regular and complex places that are not in use means nothing. The numbers from 779 to 829, from 958 to 974 and the mark are kept
+-- beside the venue. Figures stand apart, since of those next to each other a compiler keeps the first ones, edition 0's, as a table.
+-- A fill writes an order's quantity alone: its reserve and its shown quantity are the numbers written, and no more than what is left.
 use mathlib.Core.Path.{_≡_}
 use mathlib.Core.Bool.{Bool, true, false}
+use mathlib.Core.Logic.{_⊎_}
 use mathlib.Core.List.{List, [], _∷_, _++_}
-use Prim.Native.Nat.{ℕ, zero, suc, _+_, _-_, _*_, _/_, _%_, _<_, min}
+use Prim.Native.Nat.{ℕ, zero, suc, _+_, _-_, _*_, _/_, _%_, _≤_, _<_, min}
 use lib.IntN.{ℤ, pos, natAbs, _+ℤ_, _-ℤ_}
+use lib.Dec.{eqb}
 use lib.ListN.{length, getD, replicate}
+use lib.Seq.{sets as row}
 use Rattle.rules.specs.declared.Regular.{Regular}
 use Rattle.rules.specs.declared.Complex.{Complex}
 use Rattle.rules.specs.declared.Legging.{Legging}
@@ -33,11 +39,12 @@ use Rattle.rules.specs.Base.{if_then_else_, held, keep}
 use Rattle.rules.specs.Settings.{baseFigure, sets, figureNow, increment}
 use Rattle.rules.specs.Prices.{bestIn, sizeIn}
 use Rattle.rules.specs.Places.{holdsRegular, holdsComplex, packed, closeGaps}
+use Rattle.rules.specs.Sound.{showsFully}
 use Rattle.rules.specs.Step.{mask}
 
 -- the slice's length
 abbrev pub size : ℕ
-size = 975
+size = 1232
 
 -- f of each number from i on, k of them
 unfoldable pub upto : {A : Type 0} → (ℕ → A) → (i k : ℕ) → List A
@@ -63,6 +70,8 @@ regularIn b i = record {
   side = getD b (4 * i + 1) 0 % 2;
   price = getD b (4 * i + 2) 0;
   quantity = getD b (4 * i + 3) 0;
+  display = min (getD b (2 * i + 976) 0) (getD b (4 * i + 3) 0);
+  reserve = min (getD b (2 * i + 975) 0) (getD b (4 * i + 3) 0);
 }
 
 unfoldable pub complexIn : List ℕ → ℕ → Complex
@@ -111,9 +120,20 @@ venueOf b = record {
 
 -- The numbers of a place ----------------------------------------------------------------------
 
--- an order's
+-- an order's; those of what it shows stand apart
 unfoldable pub regularRow : Regular → List ℕ
 regularRow o = o .id ∷ placeOf (o .series) (o .side) ∷ o .price ∷ o .quantity ∷ []
+
+unfoldable pub reserveRow : Regular → List ℕ
+reserveRow o = o .reserve ∷ o .display ∷ []
+
+abbrev pub regularPut : List ℕ → (i : ℕ) → Regular → List ℕ
+regularPut b i o = row (row b (4 * i) (regularRow o)) (2 * i + 975) (reserveRow o)
+
+-- a reserve and a shown quantity that are kept whole
+pub record Bounded (o : Regular) : Type 0 where
+  pub display : o .display ≤ o .quantity
+  pub reserve : o .reserve ≤ o .quantity
 
 -- a limit's number: 2^31 above its value
 unfoldable pub limitNumber : ℤ → ℕ
@@ -160,23 +180,32 @@ pub record Figured (b : List ℕ) : Type 0 where
 
 -- from a to b the figures become those of edition 0, an edition's value becomes its figure's, or they become those in force; nothing else changes
 pub record FiguresBase (a b : List ℕ) : Type 0 where
-  pub others : (k : ℕ) → k < 958 → getD b k 0 ≡ getD a k 0
+  pub others : (k : ℕ) → (k < 958) ⊎ (975 ≤ k) → getD b k 0 ≡ getD a k 0
   pub figures : (f : ℕ) → f < 9 → figureIn b f ≡ baseFigure f
 
 pub record FigureSet (e : Edition) (a b : List ℕ) : Type 0 where
-  pub others : (k : ℕ) → k < 958 → getD b k 0 ≡ getD a k 0
+  pub others : (k : ℕ) → (k < 958) ⊎ (975 ≤ k) → getD b k 0 ≡ getD a k 0
   pub figures : (f : ℕ) → f < 9 → figureIn b f ≡ (if sets f e then e .value else figureIn a f)
 
 pub record FiguresCounted (a b : List ℕ) : Type 0 where
-  pub others : (k : ℕ) → k < 958 → getD b k 0 ≡ getD a k 0
+  pub others : (k : ℕ) → (k < 958) ⊎ (975 ≤ k) → getD b k 0 ≡ getD a k 0
   pub figures : (f : ℕ) → f < 9 → figureIn b f ≡ figureNow (venueOf b) f
 
 -- What is kept beside the venue ---------------------------------------------------------------
 
--- every order that rests has a price, and an id above those of the orders at places before it
+-- every order that rests has a price, a shown quantity, and an id above those of the orders at places before it
 pub record Orderly (os : List Regular) : Type 0 where
   pub priced : (i : ℕ) → held (getD os i noRegular .quantity) ≡ true → held (getD os i noRegular .price) ≡ true
+  pub displayed : (i : ℕ) → held (getD os i noRegular .quantity) ≡ true → held (getD os i noRegular .display) ≡ true
   pub rises : (i j : ℕ) → i < j → held (getD os i noRegular .quantity) ≡ true → held (getD os j noRegular .quantity) ≡ true → getD os i noRegular .id < getD os j noRegular .id
+
+-- every order shows what it should
+abbrev pub Fully : List Regular → Type 0
+Fully os = (i : ℕ) → showsFully (getD os i noRegular) ≡ true
+
+-- the mark is 0
+unfoldable pub isUnmarked : List ℕ → Bool
+isUnmarked b = eqb (getD b 1231 0) 0
 
 -- the ids of the orders that rest are below this one
 abbrev pub Below : (id : ℕ) → List Regular → Type 0
@@ -186,12 +215,14 @@ Below id os = (i : ℕ) → held (getD os i noRegular .quantity) ≡ true → ge
 unfoldable pub bitOf : Legging → ℕ
 bitOf l = if held (l .quantity) then 1 else 0
 
--- what is known of the places: those known to be held are, and the mask is that of the legging places; and the figures are those in force
+-- what is known of the places: those known to be held are, and the mask is that of the legging places; the figures are those in force; and without
+-- the mark every order shows what it should
 pub record Marked (b : List ℕ) : Type 0 where
   pub regulars : Filled holdsRegular (regularIn b) (min (getD b 827 0) (regularsUsed b))
   pub complexes : Filled holdsComplex (complexIn b) (min (getD b 828 0) (complexesUsed b))
   pub legging : getD b 829 0 ≡ mask (venueOf b .legging)
   pub figures : Figured b
+  pub shows : isUnmarked b ≡ true → Fully (venueOf b .regular)
 
 -- and the levels are those of the regular orders, which are in order
 pub record Right (b : List ℕ) : Type 0 where
@@ -281,7 +312,7 @@ pub record OnSide (s d : ℕ) : Type 0 where
   pub side : d < 2
 
 abbrev pub RegularsPlaced : List Regular → Type 0
-RegularsPlaced = Placed holdsRegular noRegular (λ o. OnSide (o .series) (o .side))
+RegularsPlaced = Placed holdsRegular noRegular (λ o. OnSide (o .series) (o .side) × Bounded o)
 
 abbrev pub ComplexesPlaced : List Complex → Type 0
 ComplexesPlaced = Placed holdsComplex noComplex (λ c. OnSide (c .series1) (c .side1) × OnSide (c .series2) (c .side2))
@@ -291,6 +322,7 @@ pub record Loadable (v : Venue) : Type 0 where
   pub regulars : RegularsPlaced (v .regular)
   pub complexes : ComplexesPlaced (v .complex)
   pub orders : Orderly (v .regular)
+  pub shows : Fully (v .regular)
   pub increments : (s : ℕ) → s < 8 → 0 < increment v s
 
 -- from a to b one book becomes l, and is dense
@@ -310,7 +342,7 @@ pub record EditionsLoaded (a : List ℕ) (l : List Edition) (b : List ℕ) : Typ
   pub regulars : regularsUsed b ≡ regularsUsed a
   pub complexes : complexesUsed b ≡ complexesUsed a
 
--- b stands for v, all places in use are held, none is known to be, and mask and figures are right
+-- b stands for v, all places in use are held, none is known to be, and mask, figures and mark are right
 pub record Laid (v : Venue) (b : List ℕ) : Type 0 where
   pub venue : venueOf b ≡ v
   pub regulars : Filled holdsRegular (regularIn b) (regularsUsed b)

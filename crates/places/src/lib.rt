@@ -1,7 +1,7 @@
 // The venue inside a call: numbers in one lent slice (specs/Layout.antt). Only this crate knows the layout: the others read and write places, and
 // speak of the venue that the numbers stand for.
 ghost use mathlib.Core.Path.{_≡_};
-ghost use mathlib.Core.Bool.{false};
+ghost use mathlib.Core.Bool.{true, false};
 ghost use mathlib.Core.Logic.{_⊎_};
 ghost use Prim.Native.Nat.{ℕ, suc, min, _+_, _-_, _*_, _^_, _≤_, _<_};
 ghost use lib.IntN.{pos, _-ℤ_};
@@ -12,10 +12,12 @@ ghost use Rattle.rules.specs.Settings.{figureNow, freeEdition};
 ghost use Rattle.rules.specs.Trading.{fillRegular, fillComplex, putRegular, putComplex};
 ghost use Rattle.rules.specs.Generation.{placed};
 ghost use Rattle.rules.specs.Places.{holdsRegular, holdsComplex, holdsEdition};
+ghost use Rattle.rules.specs.Standing.{showAgain};
+ghost use Rattle.rules.specs.Sound.{showsFully};
 ghost use Rattle.rules.specs.Step.{mask};
-ghost use Rattle.places.specs.Layout.{size, regularsUsed, complexesUsed, regularIn, complexIn, leggingIn, listedIn, editionIn, levelIn, regularKey, legsKey, venueOf, regularRow, limitNumber, complexRow, editionRow, Kept, bitOf};
+ghost use Rattle.places.specs.Layout.{size, regularsUsed, complexesUsed, regularIn, complexIn, leggingIn, listedIn, editionIn, levelIn, regularKey, legsKey, venueOf, regularPut, limitNumber, complexRow, editionRow, Kept, bitOf};
 ghost use Rattle.places.specs.Layout.{Figured, FiguresBase, FigureSet, FiguresCounted};
-ghost use Rattle.places.specs.Layout.{Marked, Right, Beside, SameBeside, LevelPut, Counts, SameCounts};
+ghost use Rattle.places.specs.Layout.{isUnmarked, Marked, Right, Beside, SameBeside, LevelPut, Counts, SameCounts};
 ghost use Rattle.places.specs.Layout.{Filled, RegularsClosed, ComplexesClosed, GapsClosed};
 ghost use Rattle.places.specs.Layout.{RegularsPlaced, ComplexesPlaced, Loadable, RegularsLoaded, ComplexesLoaded, EditionsLoaded, Laid, Loaded};
 use rules::Complex;
@@ -24,6 +26,9 @@ use rules::Legging;
 use rules::Listed;
 use rules::Regular;
 use rules::Venue;
+
+// The slice's length.
+pub const SIZE: usize = 1232;
 
 // The best price of a side, and its total size; both 0 where there is none.
 pub struct Level {
@@ -69,12 +74,17 @@ pub fn regular_at(b: &[u32], i: usize) -> Regular
     ensures { λ r. ⌜ r ≡ regularIn (now (b .entry)) i ⌝ }
 {
     let place = b[4 * i + 1];
+    let quantity = b[4 * i + 3];
+    let display = rules::lesser(b[2 * i + 976], quantity);
+    let reserve = rules::lesser(b[2 * i + 975], quantity);
     Regular {
         id: b[4 * i],
         series: (place % 16 / 2) as u8,
         side: (place % 2) as u8,
         price: b[4 * i + 2],
-        quantity: b[4 * i + 3],
+        quantity,
+        display,
+        reserve,
     }
 }
 
@@ -165,6 +175,14 @@ pub fn mask_of(b: &[u32]) -> u16
     (b[829] % 65536) as u16
 }
 
+// Every order shows what it should, as far as is known: the mark is 0.
+pub fn is_unmarked(b: &[u32]) -> bool
+    requires { ⌜ length (now b) ≡ size ⌝ }
+    ensures { λ r. ⌜ r ≡ isUnmarked (now (b .entry)) ⌝ }
+{
+    b[1231] == 0
+}
+
 // A limit, as it is kept: 2^31 above its value.
 fn limit_of(x: u32) -> i32
     ensures { λ r. ⌜ r ≡ pos x -ℤ pos 2147483648 ⌝ }
@@ -253,7 +271,7 @@ fn less(q: u32, k: u32) -> u32
     q - k
 }
 
-// The order at place i is filled for k contracts. The levels stay as they are.
+// The order at place i is filled for k contracts. The levels stay as they are. What is left of an order with reserve has to show again.
 pub fn fill_regular(b: &mut [u32], i: usize, k: u32)
     requires { ⌜ (length (now b) ≡ size) × (i < regularsUsed (now b)) ⌝ }
     ensures { λ _. ⌜ venueOf (now (b .exit)) ≡ fillRegular i k (venueOf (now (b .entry))) ⌝ }
@@ -261,10 +279,14 @@ pub fn fill_regular(b: &mut [u32], i: usize, k: u32)
 {
     let q = b[4 * i + 3];
     b[4 * i + 3] = less(q, k);
-    if k < q {
+    if q <= k {
+        lower(b, 827, i);
         return;
     }
-    lower(b, 827, i);
+    if b[2 * i + 975] == 0 {
+        return;
+    }
+    b[1231] = 1;
 }
 
 pub fn fill_complex(b: &mut [u32], i: usize, k: u32)
@@ -290,18 +312,20 @@ fn place_number(series: u8, side: u8) -> u32
 // An order's numbers at place i.
 fn write_regular(b: &mut [u32], i: usize, o: Regular)
     requires { ⌜ (length (now b) ≡ size) × (i < 128) ⌝ }
-    ensures { λ _. ⌜ now (b .exit) ≡ sets (now (b .entry)) (4 * i) (regularRow o) ⌝ }
+    ensures { λ _. ⌜ now (b .exit) ≡ regularPut (now (b .entry)) i o ⌝ }
 {
     let place = place_number(o.series, o.side);
     b[4 * i] = o.id;
     b[4 * i + 1] = place;
     b[4 * i + 2] = o.price;
     b[4 * i + 3] = o.quantity;
+    b[2 * i + 975] = o.reserve;
+    b[2 * i + 976] = o.display;
 }
 
 // An order is given the place after those in use. The levels stay as they are.
 pub fn add_regular(b: &mut [u32], o: Regular)
-    requires { ⌜ (length (now b) ≡ size) × (regularsUsed (now b) < 128) × (o .series < 8) × (o .side < 2) ⌝ }
+    requires { ⌜ (length (now b) ≡ size) × (regularsUsed (now b) < 128) × (o .series < 8) × (o .side < 2) × (o .display ≤ o .quantity) × (showsFully o ≡ true) ⌝ }
     ensures { λ _. ⌜ venueOf (now (b .exit)) ≡ putRegular (regularsUsed (now (b .entry))) o (venueOf (now (b .entry))) ⌝ }
     ensures beside { λ _. ⌜ Beside (suc (regularsUsed (now (b .entry)))) (complexesUsed (now (b .entry))) (now (b .entry)) (now (b .exit)) ⌝ }
 {
@@ -309,6 +333,22 @@ pub fn add_regular(b: &mut [u32], o: Regular)
     write_regular(b, n, o);
     b[776] = (n + 1) as u32;
     lower(b, 827, n);
+}
+
+// Each order shows again: all but its shown quantity is reserve. The levels stay as they are.
+pub fn show_again(b: &mut [u32])
+    requires { ⌜ length (now b) ≡ size ⌝ }
+    ensures { λ _. ⌜ venueOf (now (b .exit)) ≡ showAgain (venueOf (now (b .entry))) ⌝ }
+    ensures beside { λ _. ⌜ SameBeside (now (b .entry)) (now (b .exit)) ⌝ }
+{
+    let n = regulars_used(b);
+    let mut i: usize = 0;
+    while i < n {
+        let o = regular_at(b, i);
+        b[2 * i + 975] = less(o.quantity, o.display);
+        i += 1;
+    }
+    b[1231] = 0;
 }
 
 // A limit's number, as it is kept.
@@ -546,10 +586,10 @@ pub fn close_gaps(b: &mut [u32])
 // A fresh venue -------------------------------------------------------------------------------
 
 // A fresh venue's numbers: zeros, but that every series is open and the figures are those of edition 0.
-pub fn fresh_numbers() -> [u32; 975]
+pub fn fresh_numbers() -> [u32; SIZE]
     ensures { λ r. ⌜ Loaded freshVenue r ⌝ }
 {
-    let mut b = [0u32; 975];
+    let mut b = [0u32; SIZE];
     let mut s: usize = 0;
     while s < 8 {
         b[3 * s + 752] = 1;
@@ -571,6 +611,8 @@ fn regulars_of(b: &[u32]) -> [Regular; 128]
         side: 0,
         price: 0,
         quantity: 0,
+        display: 0,
+        reserve: 0,
     };
     let mut r = [free; 128];
     let n = regulars_used(b);
@@ -787,7 +829,7 @@ fn count_mask(b: &[u32]) -> u16
     m
 }
 
-// A venue's numbers. No place is known to be held, mask and figures are counted, and the levels stay as they are.
+// A venue's numbers. No place is known to be held, mask and figures are counted, there is no mark, and the levels stay as they are.
 pub fn load(b: &mut [u32], v: Venue)
     requires { ⌜ (length (now b) ≡ size) × Loadable v ⌝ }
     ensures { λ _. ⌜ Laid v (now (b .exit)) ⌝ }
@@ -808,4 +850,5 @@ pub fn load(b: &mut [u32], v: Venue)
     b[827] = 0;
     b[828] = 0;
     b[829] = mask as u32;
+    b[1231] = 0;
 }

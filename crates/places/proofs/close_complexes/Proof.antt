@@ -48,7 +48,7 @@ loop-less c = search needs
 
 loop-again : tie.Need-loop-again Inv-loop μ-loop
 loop-again c = let h = c .before .before .before .before .before in
-    complexes-skip _ _ _ _ _ (h .loop .inv) (c .before .before .before .before .loop-test .taken) _ (c .before .before .complex-at .ensures) (ap not (eq-eqb _ _ (c .if2 .taken)))
+    complexes-skip _ _ _ _ _ (h .loop .inv) (omega arith) (c .before .before .before .before .loop-test .taken) _ (c .before .before .complex-at .ensures) (ap not (eq-eqb _ _ (c .if2 .taken)))
 
 write-complex-requires : tie.Need-write-complex-requires Inv-loop μ-loop
 write-complex-requires c κs = let m = c .before .before .before .before .before .before .loop .inv in
@@ -63,7 +63,7 @@ loop-less-2 c = search needs
 
 loop-again-2 : tie.Need-loop-again-2 Inv-loop μ-loop
 loop-again-2 c = let h = c .before .before .before .before .before .before .before .before .before in
-    complexes-keep _ _ _ _ _ (h .loop .inv) (c .before .before .before .before .before .before .before .before .loop-test .taken) _ (c .before .before .before .before .before .before .complex-at .ensures) _ (omega arith) (ap not (ne-eqb _ _ (c .before .before .before .before .if2 .left))) (c .before .before .write-complex .ensures .0)
+    complexes-keep _ _ _ _ _ (h .loop .inv) (omega arith) (c .before .before .before .before .before .before .before .before .loop-test .taken) _ (c .before .before .before .before .before .before .complex-at .ensures) _ (ap not (ne-eqb _ _ (c .before .before .before .before .if2 .left))) (c .before .before .write-complex .ensures .0)
 
 cast-b-2 : tie.Need-cast-b-2 Inv-loop μ-loop
 cast-b-2 c = let q = c .before .loop .inv .places .fewer in let p = c .before .loop .inv .places .read in record { fits = omega arith }

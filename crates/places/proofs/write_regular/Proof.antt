@@ -1,5 +1,5 @@
 -- `places::write_regular` meets its contract.
-use Rattle.places.specs.Layout.{regularRow}
+use Rattle.places.specs.Layout.{regularRow, reserveRow}
 use lib.ListN.{length-set}
 use native.Mathlib.Omega.{arith}
 use Prim.Native.Nat.{suc, _+_, _*_}
@@ -56,16 +56,41 @@ mul-b-8 c = search needs
 slice-write-b-4 : tie.Need-slice-write-b-4
 slice-write-b-4 c = simp length-set (omega arith)
 
+mul-b-9 : tie.Need-mul-b-9
+mul-b-9 c = search needs
+
+add-b-4 : tie.Need-add-b-4
+add-b-4 c = search needs
+
+mul-b-10 : tie.Need-mul-b-10
+mul-b-10 c = search needs
+
+slice-write-b-5 : tie.Need-slice-write-b-5
+slice-write-b-5 c = simp length-set (omega arith)
+
+mul-b-11 : tie.Need-mul-b-11
+mul-b-11 c = search needs
+
+add-b-5 : tie.Need-add-b-5
+add-b-5 c = search needs
+
+mul-b-12 : tie.Need-mul-b-12
+mul-b-12 c = search needs
+
+slice-write-b-6 : tie.Need-slice-write-b-6
+slice-write-b-6 c = simp length-set (omega arith)
+
 same-length : tie.Need-same-length
-same-length c = search needs
+same-length c = simp length-set
 
 returns : tie.Need-returns
-unfolding regularRow
+unfolding regularRow reserveRow
 returns c = let i = c .before .before .args .i in
     let p1 : 4 * i + 1 ≡ suc (4 * i) = omega arith in
     let p2 : 4 * i + 2 ≡ suc (suc (4 * i)) = omega arith in
     let p3 : 4 * i + 3 ≡ suc (suc (suc (4 * i))) = omega arith in
-    rw (p1, p2, p3, c .place-number .ensures) refl
+    let p4 : 2 * i + 976 ≡ suc (2 * i + 975) = omega arith in
+    rw (p1, p2, p3, p4, c .place-number .ensures) refl
 
 pub write-regular-spec : {M : Type 1} → statement M
 write-regular-spec =
@@ -87,5 +112,13 @@ write-regular-spec =
     add-b-3
     mul-b-8
     slice-write-b-4
+    mul-b-9
+    add-b-4
+    mul-b-10
+    slice-write-b-5
+    mul-b-11
+    add-b-5
+    mul-b-12
+    slice-write-b-6
     same-length
     returns)
