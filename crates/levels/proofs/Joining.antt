@@ -7,9 +7,10 @@ use native.Mathlib.Omega.{arith}
 use borrow.Author.Tests.{eq-eqb, ne-eqb, eqb-true}
 use lib.Dec.{eqb}
 use Rattle.rules.specs.declared.Regular.{Regular}
-use Rattle.rules.specs.Base.{if_then_else_, held}
+use Rattle.rules.specs.Base.{if_then_else_}
 use Rattle.rules.specs.Prices.{better, betterOf, shown, showsAt, showsFor, bestIn, sizeIn}
 use Rattle.rules.proofs.Better.{better-irrefl, own-of, of-other}
+use Rattle.rules.proofs.Sizes.{shown-most}
 use Rattle.places.specs.declared.Level.{Level}
 use Rattle.places.specs.Layout.{upto, regularsUsed, regularIn, venueOf, levelOf}
 use Rattle.levels.specs.Grid.{joinedOf, withOrder}
@@ -31,19 +32,19 @@ module _ (d p k : ℕ) (l : Level) where
     unfolding joinedOf
     joined-not h = simp (ne-eqb _ _ n, h)
 
--- the level of an order's side, with that order
-module _ (o : Regular) (l : Level) where
-  pub with-free : o .quantity ≡ 0 → l ≡ withOrder o l
+-- the level of an order's side, with the k contracts that this order shows
+module _ (o : Regular) (l : Level) (k : ℕ) (e : k ≡ shown o) where
+  pub with-free : k ≡ 0 → l ≡ withOrder o l
   unfolding withOrder
-  with-free h = simp (eq-eqb _ _ h)
+  with-free h = simp (eq-eqb (shown o) 0 (sym e ∙ h))
 
-  pub with-held : (o .quantity ≡ 0 → ⊥) → (r : Level) → r ≡ joinedOf (o .side) (o .price) (o .quantity) l → r ≡ withOrder o l
+  pub with-held : (k ≡ 0 → ⊥) → (r : Level) → r ≡ joinedOf (o .side) (o .price) k l → r ≡ withOrder o l
   unfolding withOrder
-  with-held h r e = simp (ne-eqb _ _ h) e
+  with-held h r q = simp (ne-eqb (shown o) 0 (λ z. h (e ∙ z))) (q ∙ ap (λ (x : ℕ). joinedOf (o .side) (o .price) x l) e)
 
 -- a level of series s and side d with the order o
 unfoldable pub putIn : (series side : ℕ) → Regular → Level → Level
-putIn s d o l = if showsAt s d o then joinedOf d (o .price) (o .quantity) l else l
+putIn s d o l = if showsAt s d o then joinedOf d (o .price) (shown o) l else l
 
 -- nothing stands at a price that is better than the best
 no-better : (s d p : ℕ) (os : List Regular) → better d p (bestIn s d os) ≡ true → sizeIn s d p os ≡ 0
@@ -59,7 +60,7 @@ no-better s d p (o ∷ os) h = go (showsAt s d o) h (no-better s d p os)
         simp (ne-eqb _ _ n) (ih (of-other d p (o .price) (bestIn s d os) h))
 
 pub level-cons : (s d : ℕ) (o : Regular) (os : List Regular) → levelOf s d (o ∷ os) ≡ putIn s d o (levelOf s d os)
-unfolding levelOf bestIn sizeIn showsFor shown putIn joinedOf betterOf
+unfolding levelOf bestIn sizeIn showsFor putIn joinedOf betterOf
 level-cons s d o os = go (showsAt s d o) (better d (o .price) (bestIn s d os)) refl (eqb (o .price) (bestIn s d os)) refl
   where
     at : ℕ → ℕ → Level
@@ -68,15 +69,15 @@ level-cons s d o os = go (showsAt s d o) (better d (o .price) (bestIn s d os)) r
     go : (t b : Bool) → better d (o .price) (bestIn s d os) ≡ b → (c : Bool) → eqb (o .price) (bestIn s d os) ≡ c →
         at (if t then (if b then o .price else bestIn s d os) else bestIn s d os)
         (if t && eqb (o .price) (if t then (if b then o .price else bestIn s d os) else bestIn s d os)
-        then o .quantity + sizeIn s d (if t then (if b then o .price else bestIn s d os) else bestIn s d os) os
+        then shown o + sizeIn s d (if t then (if b then o .price else bestIn s d os) else bestIn s d os) os
         else sizeIn s d (if t then (if b then o .price else bestIn s d os) else bestIn s d os) os)
-        ≡ (if t then (if c then at (o .price) (o .quantity + sizeIn s d (bestIn s d os) os) else if b then at (o .price) (o .quantity) else levelOf s d os) else levelOf s d os)
+        ≡ (if t then (if c then at (o .price) (shown o + sizeIn s d (bestIn s d os) os) else if b then at (o .price) (shown o) else levelOf s d os) else levelOf s d os)
     go false b e c f = refl
     go true true e true f = absurd (better-irrefl d (o .price) (ap (λ (x : ℕ). better d (o .price) x) (eqb-true _ _ f) ∙ e))
     go true true e false f =
         let z : sizeIn s d (o .price) os ≡ 0 = no-better s d (o .price) os e in
         simp (eq-eqb (o .price) (o .price) refl) (ap (λ (y : ℕ). at (o .price) y) (omega arith))
-    go true false e true f = simp f (ap (λ (x : ℕ). at x (o .quantity + sizeIn s d (bestIn s d os) os)) (sym (eqb-true _ _ f)))
+    go true false e true f = simp f (ap (λ (x : ℕ). at x (shown o + sizeIn s d (bestIn s d os) os)) (sym (eqb-true _ _ f)))
     go true false e false f = simp f
 
 -- its size grows by no more than the order's
@@ -85,10 +86,10 @@ unfolding putIn joinedOf
 put-size s d o l = go (showsAt s d o) (eqb (o .price) (l .price)) (better d (o .price) (l .price))
   where
     go : (t x y : Bool) →
-        (if t then (if x then record { price = o .price; size = o .quantity + l .size } else if y then record { price = o .price; size = o .quantity } else l) else l) .size
+        (if t then (if x then record { price = o .price; size = shown o + l .size } else if y then record { price = o .price; size = shown o } else l) else l) .size
         ≤ o .quantity + l .size
-    go true true y = omega arith
-    go true false true = omega arith
+    go true true y = let z = shown-most o in omega arith
+    go true false true = let z = shown-most o in omega arith
     go true false false = omega arith
     go false x y = omega arith
 

@@ -5,8 +5,8 @@ use mathlib.Core.List.{List, [], _∷_}
 use Prim.Native.Nat.{ℕ, zero, suc, _+_, _*_, _-_, _≤_, _<_, min}
 use native.Mathlib.Omega.{arith}
 use native.Mathlib.Nat.{sub-zero}
-use native.Mathlib.Decide.{decLt, ℕ-discrete}
-use borrow.Author.Tests.{eq-eqb, eqb-true, ltb-true, lt-ltb}
+use native.Mathlib.Decide.{ℕ-discrete}
+use borrow.Author.Tests.{eq-eqb, eqb-true, ltb-true}
 use lib.Dec.{eqb, ltb}
 use lib.ListN.{length, getD, set}
 use lib.Seq.{getD-set-same, getD-set-other}
@@ -15,37 +15,16 @@ use Rattle.rules.specs.Base.{if_then_else_, held}
 use Rattle.rules.specs.Words.{buy, noRegular, placeOf}
 use Rattle.rules.specs.Prices.{better, betterOf, shown, showsAt, showsFor, bestIn, sizeIn}
 use Rattle.rules.specs.Trading.{lessRegular}
-use Rattle.rules.proofs.Tests.{and-l, and-r, and-true, held-pos, pos-held, free-none}
-use Rattle.rules.proofs.Better.{better-trans, better-irrefl, is-false, best-best}
-use Rattle.rules.proofs.Sizes.{shows-rests, rests-series, rests-side, free-shows, no-price, elsewhere-shows, size-less, size-set, ShowsAt, best-is}
+use Rattle.rules.proofs.Tests.{and-l, and-r, and-true, held-pos, pos-held}
+use Rattle.rules.proofs.Better.{better-trans, better-irrefl, better-total, is-false, best-best}
+use Rattle.rules.proofs.Sizes.{shown-most, shown-lessens, shows-rests, rests-series, rests-side, free-shows, no-price, elsewhere-shows, size-filled, size-set, ShowsAt, best-is}
 use Rattle.places.specs.declared.Level.{Level}
 use Rattle.places.specs.Layout.{upto, regularsUsed, regularIn, regularKey, venueOf, levelOf}
-use Rattle.levels.specs.Grid.{noLevel, joinedOf, withOrder}
+use Rattle.levels.specs.Grid.{noLevel, withOrder}
 use Rattle.levels.proofs.Scans.{upto-back, upto-end}
 use Rattle.levels.proofs.Joining.{putIn, level-cons, put-size, side-in, level-used}
 
 -- The best price of a side, told by its orders -------------------------------------------------
-
--- of two prices of which none is better, there is one
-pub better-same : (d a b : ℕ) → (better d a b ≡ true → ⊥) → (better d b a ≡ true → ⊥) → a ≡ b
-unfolding better
-better-same d a b = go (eqb d buy) (decLt 0 a) (decLt 0 b) (decLt a b) (decLt b a)
-  where
-    free : (q : ℕ) → (0 < q → ⊥) → held q ≡ false
-    free q n = let z : q ≡ 0 = omega arith in rw z
-
-    go : (t : Bool) → Dec (0 < a) → Dec (0 < b) → Dec (a < b) → Dec (b < a) →
-        ((if t then ltb b a else (held a && (not (held b) || ltb a b))) ≡ true → ⊥) →
-        ((if t then ltb a b else (held b && (not (held a) || ltb b a))) ≡ true → ⊥) → a ≡ b
-    go true x y z (yes w) m n = absurd (m (lt-ltb b a w))
-    go true x y (yes z) (no w) m n = absurd (n (lt-ltb a b z))
-    go true x y (no z) (no w) m n = omega arith
-    go false (yes x) (no y) z w m n = absurd (m (rw (pos-held a x, free b y)))
-    go false (no x) (yes y) z w m n = absurd (n (rw (pos-held b y, free a x)))
-    go false (no x) (no y) z w m n = omega arith
-    go false (yes x) (yes y) (yes z) w m n = absurd (m (rw (pos-held a x, pos-held b y, lt-ltb a b z)))
-    go false (yes x) (yes y) (no z) (yes w) m n = absurd (n (rw (pos-held a x, pos-held b y, lt-ltb b a w)))
-    go false (yes x) (yes y) (no z) (no w) m n = omega arith
 
 -- a better price is there
 better-held : (d a b : ℕ) → better d a b ≡ true → held a ≡ true
@@ -61,9 +40,9 @@ best-only : (s d p : ℕ) (os : List Regular) →
     ((i : ℕ) → showsAt s d (getD os i noRegular) ≡ true → better d (getD os i noRegular .price) p ≡ true → ⊥) →
     (held p ≡ true → ShowsAt s d p os) → bestIn s d os ≡ p
 best-only s d p os none some =
-    better-same d (bestIn s d os) p
-    (λ h. let a = best-is s d os (better-held d (bestIn s d os) p h) in none (a .at) (a .shows) (rw (a .price) h))
-    (λ h. let a = some (better-held d p (bestIn s d os) h) in best-best s d os (a .at) (a .shows) (rw (a .price) h))
+    better-total d (bestIn s d os) p
+    (is-false _ (λ h. let a = best-is s d os (better-held d (bestIn s d os) p h) in none (a .at) (a .shows) (rw (a .price) h)))
+    (is-false _ (λ h. let a = some (better-held d p (bestIn s d os) h) in best-best s d os (a .at) (a .shows) (rw (a .price) h)))
 
 -- where there is size, an order shows it
 size-at : (s d p : ℕ) (os : List Regular) → 0 < sizeIn s d p os → ShowsAt s d p os
@@ -88,19 +67,13 @@ level-same s d a b e f = rw (e, f)
 -- An order filled -----------------------------------------------------------------------------
 
 less-shows : (s d k : ℕ) (o : Regular) → showsAt s d (lessRegular k o) ≡ true → showsAt s d o ≡ true
-unfolding showsAt shown lessRegular
+unfolding showsAt lessRegular
 less-shows s d k o h =
-    let a = held-pos (o .quantity - k) (search (and-l, and-r, h)) in
+    let a = held-pos (shown (lessRegular k o)) (search (and-l, and-r, h)) in
+    let e = shown-lessens k o in
     let b : eqb (o .series) s ≡ true = search (and-l, and-r, h) in
     let c : eqb (o .side) d ≡ true = search (and-l, and-r, h) in
-    rw (pos-held (o .quantity) (omega arith), b, c)
-
--- no more is taken than there is
-less-min : (k : ℕ) (o : Regular) → lessRegular k o ≡ lessRegular (min k (o .quantity)) o
-unfolding lessRegular
-less-min k o =
-    let e : o .quantity - k ≡ o .quantity - min k (o .quantity) = omega arith in
-    ap (λ (q : ℕ). record { id = o .id; series = o .series; side = o .side; price = o .price; quantity = q }) e
+    rw (pos-held (shown o) (omega arith), b, c)
 
 module _ (s d i k : ℕ) (os : List Regular) (fits : i < length os) where
   abbrev was : Regular
@@ -139,30 +112,14 @@ module _ (s d i k : ℕ) (os : List Regular) (fits : i < length os) where
           let e : getD after (a .at) noRegular ≡ getD os (a .at) noRegular = getD-set-other os i (a .at) (lessRegular k was) noRegular q in
           record { at = a .at; shows = rw e (a .shows); price = rw e (a .price) }
 
-  -- an order of this side gives up what is taken of it
-  size-gone : (p : ℕ) → was .series ≡ s → was .side ≡ d → was .price ≡ p → sizeIn s d p os ≡ min k (was .quantity) + sizeIn s d p after
-  unfolding showsFor showsAt shown lessRegular
-  size-gone p es ed ep = go (held (was .quantity)) refl
-    where
-      go : (t : Bool) → held (was .quantity) ≡ t → sizeIn s d p os ≡ min k (was .quantity) + sizeIn s d p after
-      go true h =
-          rw (less-min k was) (size-less s d p (min k (was .quantity)) os i fits
-          (rw (h, eq-eqb (was .series) s es, eq-eqb (was .side) d ed, eq-eqb (was .price) p ep)) (omega arith))
-      go false h =
-          let z = free-none (was .quantity) h in
-          let y : was .quantity - k ≡ 0 = omega arith in
-          let a = no-price s d p was (free-shows s d was h) in
-          let b = no-price s d p (lessRegular k was) (free-shows s d (lessRegular k was) (rw y)) in
-          omega (arith, size-set s d p os i (lessRegular k was) a b)
-
-  -- and if that is not all at the best price, this stays the best
-  pub fill-best : was .series ≡ s → was .side ≡ d → was .price ≡ bestIn s d os → min k (was .quantity) < sizeIn s d (bestIn s d os) os →
-      levelOf s d after ≡ record { price = bestIn s d os; size = sizeIn s d (bestIn s d os) os - min k (was .quantity) }
+  -- where what is taken of what it shows is not all at the best price, this stays the best
+  pub fill-best : was .series ≡ s → was .side ≡ d → was .price ≡ bestIn s d os → min k (shown was) < sizeIn s d (bestIn s d os) os →
+      levelOf s d after ≡ record { price = bestIn s d os; size = sizeIn s d (bestIn s d os) os - min k (shown was) }
   unfolding levelOf
   fill-best es ed ep h =
-      let g = size-gone (bestIn s d os) es ed ep in
+      let g = size-filled s d (bestIn s d os) k os i fits es ed ep in
       let e : bestIn s d after ≡ bestIn s d os = best-stays (λ _. size-at s d (bestIn s d os) after (omega arith)) in
-      let f : sizeIn s d (bestIn s d os) after ≡ sizeIn s d (bestIn s d os) os - min k (was .quantity) = omega arith in
+      let f : sizeIn s d (bestIn s d os) after ≡ sizeIn s d (bestIn s d os) os - min k (shown was) = omega arith in
       rw (e, f)
 
 -- An order put at a free place ----------------------------------------------------------------
@@ -177,7 +134,7 @@ of-swap d a b c = go (better d a c) refl (better d b c) refl (better d a b) refl
     go true ex true ey true ez true ew = absurd (better-irrefl d a (better-trans d a b a ez ew))
     go true ex true ey true ez false ew = rw (ez, ew)
     go true ex true ey false ez true ew = rw (ez, ew)
-    go true ex true ey false ez false ew = rw (ez, ew) (sym (better-same d a b (λ h. true≢false (sym h ∙ ez)) (λ h. true≢false (sym h ∙ ew))))
+    go true ex true ey false ez false ew = rw (ez, ew) (sym (better-total d a b ez ew))
     go true ex false ey z ez true ew = absurd (true≢false (sym (better-trans d b a c ew ex) ∙ ey))
     go true ex false ey z ez false ew = rw (ex, ew)
     go false ex true ey true ez w ew = absurd (true≢false (sym (better-trans d a b c ez ey) ∙ ex))
@@ -222,13 +179,13 @@ module _ (s d : ℕ) (o : Regular) where
 -- How large a level is ------------------------------------------------------------------------
 
 size-bound : (s d p : ℕ) (os : List Regular) → ((i : ℕ) → i < length os → getD os i noRegular .quantity < 4294967296) → sizeIn s d p os ≤ length os * 4294967295
-unfolding sizeIn shown
+unfolding sizeIn
 size-bound s d p [] h = omega arith
 size-bound s d p (o ∷ os) h = go (showsFor s d p o) (h 0 (omega arith)) (size-bound s d p os (λ i f. h (suc i) (omega arith)))
   where
     go : (t : Bool) → o .quantity < 4294967296 → sizeIn s d p os ≤ length os * 4294967295 →
-        (if t then o .quantity + sizeIn s d p os else sizeIn s d p os) ≤ suc (length os) * 4294967295
-    go true q r = omega arith
+        (if t then shown o + sizeIn s d p os else sizeIn s d p os) ≤ suc (length os) * 4294967295
+    go true q r = let z = shown-most o in omega arith
     go false q r = omega arith
 
 pub level-bound : (s d : ℕ) (os : List Regular) → ((i : ℕ) → i < length os → getD os i noRegular .quantity < 4294967296) → levelOf s d os .size ≤ length os * 4294967295
@@ -239,7 +196,7 @@ level-bound s d os h = size-bound s d (bestIn s d os) os h
 
 -- the level of its own series and side
 pub with-own : (o : Regular) (l : Level) → withOrder o l ≡ putIn (o .series) (o .side) o l
-unfolding withOrder putIn showsAt shown
+unfolding withOrder putIn showsAt
 with-own o l = simp (eq-eqb (o .series) (o .series) refl, eq-eqb (o .side) (o .side) refl, and-true)
 
 -- for a scan of one side: its orders are joined, the others passed over

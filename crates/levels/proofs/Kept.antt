@@ -1,7 +1,7 @@
 -- The levels that are kept: made anew, and kept right when an order is added or filled.
 use mathlib.Core.Path.{_≡_, refl, sym, ap, ap₂, subst, _∙_}
-use mathlib.Core.Bool.{Bool, true, false, true≢false}
-use mathlib.Core.List.{List, [], _∷_}
+use mathlib.Core.Bool.{true, false, true≢false}
+use mathlib.Core.List.{List, _∷_}
 use Prim.Native.Nat.{ℕ, suc, min, _+_, _*_, _-_, _/_, _%_, _≤_, _<_}
 use native.Mathlib.Omega.{arith}
 use native.Mathlib.Nat.{sub-zero}
@@ -11,16 +11,20 @@ use Rattle.rules.specs.declared.Regular.{Regular}
 use Rattle.rules.specs.declared.Venue.{Venue}
 use Rattle.rules.specs.Base.{held}
 use Rattle.rules.specs.Words.{placeOf, noRegular, regularAt, withRegular}
-use Rattle.rules.specs.Prices.{bestIn, sizeIn, showsAt}
+use Rattle.rules.specs.Prices.{shown, bestIn, sizeIn, showsAt}
+use Rattle.rules.specs.Standing.{showsAgain, showAgain}
 use Rattle.rules.specs.Trading.{lessRegular, fillRegular, putRegular}
+use Rattle.rules.proofs.Tests.{held-pos, pos-held}
 use Rattle.rules.proofs.Better.{is-false}
 use Rattle.rules.proofs.Sizes.{shows-rests, rests-series, rests-side}
 use Rattle.places.specs.declared.Level.{Level}
-use Rattle.places.specs.Layout.{size, upto, inUse, regularsUsed, complexesUsed, regularIn, regularKey, venueOf, levelOf, levelIn, Marked, Right, Beside, SameBeside, LevelPut, Counts, SameCounts, Orderly, Below, Laid, Loaded, Loadable}
-use Rattle.places.proofs.Tables.{used-length}
-use Rattle.places.proofs.Parts.{regulars-few, regular-at, regular-past}
+use Rattle.places.specs.Layout.{size, upto, regularsUsed, complexesUsed, regularIn, regularKey, venueOf, levelOf, levelIn, isUnmarked, Marked, Right, Beside, SameBeside, LevelPut, Counts, SameCounts, Orderly, Below, Laid, Loaded, Loadable}
+use Rattle.places.proofs.Parts.{regulars-few, regulars-many, regular-at, regular-past}
 use Rattle.places.proofs.Closed.{regulars-filled, complexes-filled}
-use Rattle.rules.proofs.Filling.{fill-fewer}
+use Rattle.rules.proofs.Filling.{reg, fill-fewer, filled-other, filled-same}
+use Rattle.rules.proofs.Again.{again-at, again-fewer}
+use Rattle.rules.proofs.Showing.{again-same}
+use Rattle.places.proofs.Beside.{all-showing}
 use Rattle.places.proofs.Orderly.{orderly-put, orderly-fewer}
 use Rattle.levels.specs.Grid.{noLevel, withOrder, levelBy, LevelsPut}
 use Rattle.levels.proofs.Scans.{upto-back, upto-end}
@@ -186,18 +190,22 @@ making-end a b c n i p x h = record {
     zero-i : i ≡ 0
     zero-i = omega arith
 
+-- they are then those of the orders
+levels-anew : (a b : List ℕ) → LevelsPut (levelBy (venueOf a .regular)) a b → (s d : ℕ) → s < 8 → d < 2 → levelIn b (placeOf s d) ≡ levelOf s d (venueOf b .regular)
+unfolding levelBy
+levels-anew a b p s d hs hd =
+    p .levels (placeOf s d) (place-in s d hs hd) ∙ ap₂ (λ (t e : ℕ). levelOf t e (venueOf a .regular)) (place-series s d hd) (place-side s d hd)
+    ∙ ap (λ (w : Venue). levelOf s d (w .regular)) (sym (p .venue))
+
 -- a venue laid, with its levels
 pub loaded-all : (v : Venue) (a b : List ℕ) → Loadable v → Laid v a → LevelsPut (levelBy (venueOf a .regular)) a b → Loaded v b
-unfolding levelBy
 loaded-all v a b k x p = record {
   venue = p .venue ∙ x .venue;
   dense = record {
     regulars = regulars-filled a b (ap (λ (w : Venue). w .regular) (p .venue)) (p .regulars) (x .regulars);
     complexes = complexes-filled a b (ap (λ (w : Venue). w .complex) (p .venue)) (p .complexes) (x .complexes);
     right = record {
-      levels = λ s d hs hd.
-          p .levels (placeOf s d) (place-in s d hs hd) ∙ ap₂ (λ (t e : ℕ). levelOf t e (venueOf a .regular)) (place-series s d hd) (place-side s d hd)
-          ∙ ap (λ (w : Venue). levelOf s d (w .regular)) (sym (p .venue));
+      levels = levels-anew a b p;
       orders = subst (λ (w : Venue). Orderly (w .regular)) (sym (p .venue ∙ x .venue)) (k .orders);
       marked = p .marked (x .marked);
     };
@@ -222,13 +230,9 @@ module _ (b : List ℕ) (few : (k : ℕ) → getD b k 0 < 4294967296) where
         | no h ↦ omega (arith, ap (λ (o : Regular). o .quantity) (regular-past b i (omega arith)))
       ]
 
-  regulars-long : length (venueOf b .regular) ≡ 128
-  unfolding venueOf
-  regulars-long = used-length (regularIn b) noRegular (regularsUsed b) 128 (regulars-few b)
-
   pub level-small : (s d n : ℕ) (l : Level) → Right b → s < 8 → d < 2 → n ≡ placeOf s d → l ≡ levelIn b n → l .size ≤ 549755813760
   level-small s d n l r hs hd en el =
-      omega (arith, ap (λ (x : Level). x .size) (level-read b s d n l r hs hd en el), level-bound s d (venueOf b .regular) (λ i _. quantities i), ap (λ (k : ℕ). k * 4294967295) regulars-long)
+      omega (arith, ap (λ (x : Level). x .size) (level-read b s d n l r hs hd en el), level-bound s d (venueOf b .regular) (λ i _. quantities i), ap (λ (k : ℕ). k * 4294967295) (regulars-many b))
 
 -- An order added ------------------------------------------------------------------------------
 
@@ -236,7 +240,7 @@ put-other : (s d : ℕ) (o : Regular) (l : Level) → (o .series ≡ s → o .si
 unfolding putIn
 put-other s d o l n = rw (is-false (showsAt s d o) (λ h. n (rests-series s d o (shows-rests s d o h)) (rests-side s d o (shows-rests s d o h))))
 
-module _ (a b c : List ℕ) (n : ℕ) (o : Regular) (l r : Level) (u : regularsUsed a < 128) (hs : o .series < 8) (hd : o .side < 2) (hp : held (o .price) ≡ true) (low : Below (o .id) (venueOf a .regular))
+module _ (a b c : List ℕ) (n : ℕ) (o : Regular) (l r : Level) (u : regularsUsed a < 128) (hs : o .series < 8) (hd : o .side < 2) (hp : held (o .price) ≡ true) (low : Below (o .id) (venueOf a .regular)) (hv : held (o .display) ≡ true)
     (en : n ≡ placeOf (o .series) (o .side)) (el : l ≡ levelIn a n) (er : r ≡ withOrder o l)
     (ev : venueOf b ≡ putRegular (regularsUsed a) o (venueOf a)) (x : Beside (suc (regularsUsed a)) (complexesUsed a) a b) (p : LevelPut n r b c) where
   book : venueOf c .regular ≡ set (venueOf a .regular) (regularsUsed a) o
@@ -244,8 +248,7 @@ module _ (a b c : List ℕ) (n : ℕ) (o : Regular) (l r : Level) (u : regularsU
   book = ap (λ (v : Venue). v .regular) (p .venue ∙ ev)
 
   room : regularsUsed a < length (venueOf a .regular)
-  unfolding venueOf
-  room = let z = used-length (regularIn a) noRegular (regularsUsed a) 128 (regulars-few a) in omega arith
+  room = omega (arith, regulars-many a)
 
   free : held (getD (venueOf a .regular) (regularsUsed a) noRegular .quantity) ≡ false
   unfolding regularAt
@@ -277,13 +280,26 @@ module _ (a b c : List ℕ) (n : ℕ) (o : Regular) (l r : Level) (u : regularsU
       complexes = p .complexes ∙ x .complexes;
       right = λ k. record {
         levels = λ s d f g. level s d f g k (ℕ-discrete (placeOf s d) n) ∙ sym (ap (levelOf s d) book ∙ level-put s d o (venueOf a .regular) (regularsUsed a) room free);
-        orders = subst Orderly (sym book) (orderly-put (venueOf a .regular) (regularsUsed a) o room hp (λ i h. (front i h, low i h)) (k .orders));
+        orders = subst Orderly (sym book) (orderly-put (venueOf a .regular) (regularsUsed a) o room hp hv (λ i h. (front i h, low i h)) (k .orders));
         marked = p .marked (x .marked (k .marked));
       };
     },
   )
 
 -- An order filled -----------------------------------------------------------------------------
+
+-- what is left of it has a shown quantity
+less-displayed : (k : ℕ) (o : Regular) → held (lessRegular k o .quantity) ≡ true → held (o .display) ≡ true → held (lessRegular k o .display) ≡ true
+unfolding lessRegular
+less-displayed k o h z = let a = held-pos (o .quantity - k) h in let b = held-pos (o .display) z in pos-held (min (o .display) (o .quantity - k)) (omega arith)
+
+fill-displayed : (i k : ℕ) (v : Venue) → i < length (v .regular) → (j : ℕ) → Dec (j ≡ i) → held (reg (fillRegular i k v) j .quantity) ≡ true →
+    held (reg v j .display) ≡ true → held (reg (fillRegular i k v) j .display) ≡ true
+fill-displayed i k v f j (yes e) h z =
+    let same : reg (fillRegular i k v) j ≡ lessRegular k (reg v i) = ap (reg (fillRegular i k v)) e ∙ filled-same i k v f in
+    subst (λ (o : Regular). held (o .display) ≡ true) (sym same)
+    (less-displayed k (reg v i) (subst (λ (o : Regular). held (o .quantity) ≡ true) same h) (subst (λ (n : ℕ). held (reg v n .display) ≡ true) e z))
+fill-displayed i k v f j (no e) h z = subst (λ (o : Regular). held (o .display) ≡ true) (sym (filled-other i k v j e)) z
 
 module _ (a b : List ℕ) (i k n : ℕ) (o : Regular) (l : Level) (hi : i < regularsUsed a) (eo : o ≡ regularIn a i) (en : n ≡ regularKey (regularIn a i)) (el : l ≡ levelIn a n)
     (ev : venueOf b ≡ fillRegular i k (venueOf a)) (x : SameBeside a b) where
@@ -292,8 +308,7 @@ module _ (a b : List ℕ) (i k n : ℕ) (o : Regular) (l : Level) (hi : i < regu
   was = regular-at a i hi ∙ sym eo
 
   inside : i < length (venueOf a .regular)
-  unfolding venueOf
-  inside = let z = used-length (regularIn a) noRegular (regularsUsed a) 128 (regulars-few a) in let y = regulars-few a in omega arith
+  inside = let y = regulars-few a in omega (arith, regulars-many a)
 
   filled : venueOf b .regular ≡ set (venueOf a .regular) i (lessRegular k (getD (venueOf a .regular) i noRegular))
   unfolding fillRegular withRegular regularAt
@@ -314,7 +329,8 @@ module _ (a b : List ℕ) (i k n : ℕ) (o : Regular) (l : Level) (hi : i < regu
   others s d h = ap (levelOf s d) filled ∙ fill-other s d i k (venueOf a .regular) inside (rw was h)
 
   in-order : Right a → Orderly (venueOf b .regular)
-  in-order r = subst (λ (v : Venue). Orderly (v .regular)) (sym ev) (orderly-fewer (fillRegular i k (venueOf a) .regular) (venueOf a .regular) (fill-fewer i k (venueOf a)) (r .orders))
+  in-order r = subst (λ (v : Venue). Orderly (v .regular)) (sym ev)
+      (orderly-fewer (fillRegular i k (venueOf a) .regular) (venueOf a .regular) (fill-fewer i k (venueOf a)) (λ j. fill-displayed i k (venueOf a) inside j (ℕ-discrete j i)) (r .orders))
 
   price-is : Right a → l .price ≡ bestIn (o .series) (o .side) (venueOf a .regular)
   unfolding levelOf
@@ -357,7 +373,7 @@ module _ (a b : List ℕ) (i k n : ℕ) (o : Regular) (l : Level) (hi : i < regu
     )
 
   -- what is left at the best price
-  pub filled-rest : (gone : ℕ) → gone ≡ min k (o .quantity) → o .price ≡ l .price → gone < l .size → (y : Level) → y ≡ record { price = l .price; size = l .size - gone } →
+  pub filled-rest : (gone : ℕ) → gone ≡ min k (shown o) → o .price ≡ l .price → gone < l .size → (y : Level) → y ≡ record { price = l .price; size = l .size - gone } →
       Right a → y ≡ levelOf (o .series) (o .side) (venueOf b .regular)
   unfolding levelOf
   filled-rest gone eg ep h y ey r =
@@ -368,5 +384,35 @@ module _ (a b : List ℕ) (i k n : ℕ) (o : Regular) (l : Level) (hi : i < regu
       ey ∙ ap (λ (z : Level). record { price = z .price; size = z .size - gone }) e ∙ ap (λ (g : ℕ). record { price = best; size = all - g }) eg
       ∙ sym (ap (levelOf (o .series) (o .side)) filled
       ∙ fill-best (o .series) (o .side) i k (venueOf a .regular) inside (ap (λ (z : Regular). z .series) was) (ap (λ (z : Regular). z .side) was) (ap (λ (z : Regular). z .price) was ∙ q)
-      (subst (λ (z : Regular). min k (z .quantity) < all) (sym was) (subst (λ (g : ℕ). g < all) eg (subst (λ (z : Level). gone < z .size) e h)))
-      ∙ ap (λ (z : Regular). record { price = best; size = all - min k (z .quantity) }) was)
+      (subst (λ (z : Regular). min k (shown z) < all) (sym was) (subst (λ (g : ℕ). g < all) eg (subst (λ (z : Level). gone < z .size) e h)))
+      ∙ ap (λ (z : Regular). record { price = best; size = all - min k (shown z) }) was)
+
+-- Showing again -------------------------------------------------------------------------------
+
+-- without the mark nothing changes
+pub shown-already : (b : List ℕ) → Right b → isUnmarked b ≡ true → (venueOf b ≡ showAgain (venueOf b)) × SameCounts b b
+shown-already b r z = (sym (again-same (venueOf b) (all-showing b (r .marked) z)), record { regulars = refl; complexes = refl; right = λ x. x })
+
+-- a shown quantity stays
+again-displayed : (v : Venue) (i : ℕ) → held (reg v i .display) ≡ true → held (reg (showAgain v) i .display) ≡ true
+unfolding showsAgain
+again-displayed v i z = subst (λ (o : Regular). held (o .display) ≡ true) (sym (again-at v i)) z
+
+pub shown-again : (a b c : List ℕ) → venueOf b ≡ showAgain (venueOf a) → SameBeside a b → LevelsPut (levelBy (venueOf b .regular)) b c →
+    (venueOf c ≡ showAgain (venueOf a)) × SameCounts a c
+shown-again a b c e x p = (
+  venue,
+  record {
+    regulars = p .regulars ∙ x .regulars;
+    complexes = p .complexes ∙ x .complexes;
+    right = λ r. record {
+      levels = levels-anew b c p;
+      orders = subst (λ (v : Venue). Orderly (v .regular)) (sym venue)
+          (orderly-fewer (showAgain (venueOf a) .regular) (venueOf a .regular) (again-fewer (venueOf a)) (λ i _. again-displayed (venueOf a) i) (r .orders));
+      marked = p .marked (x .marked (r .marked));
+    };
+  },
+)
+  where
+    venue : venueOf c ≡ showAgain (venueOf a)
+    venue = p .venue ∙ e

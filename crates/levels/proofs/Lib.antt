@@ -1,4 +1,5 @@
 pub mod Scans
+pub mod Scanning
 pub mod Joining
 pub mod Keeping
 pub mod Sides

@@ -4,17 +4,14 @@ use mathlib.Core.Bool.{true, false}
 use mathlib.Core.List.{List, [], _∷_, _++_}
 use Prim.Native.Nat.{ℕ, zero, suc, _+_, _-_, _≤_, _<_}
 use native.Mathlib.Omega.{arith}
-use native.Mathlib.Nat.{sub-zero}
-use borrow.Author.Tests.{eq-eqb, ne-eqb}
-use lib.Dec.{eqb}
 use lib.ListN.{replicate}
 use Rattle.rules.specs.declared.Regular.{Regular}
 use Rattle.rules.specs.declared.Complex.{Complex}
 use Rattle.rules.specs.Base.{if_then_else_}
 use Rattle.rules.specs.Words.{noRegular, noComplex, isComplexOf}
-use Rattle.rules.specs.Prices.{betterOf, shown, showsAt, showsFor, bestIn, sizeIn, bestRegular}
+use Rattle.rules.specs.Prices.{betterOf, shown, showsAt, showsFor, bestIn, sizeIn}
 use Rattle.rules.specs.Standing.{findComplex}
-use Rattle.places.specs.Layout.{upto, inUse, regularsUsed, regularIn, venueOf}
+use Rattle.places.specs.Layout.{upto, inUse}
 
 module _ {A : Type 0} (f : ℕ → A) where
   -- one place more in front, for a scan that counts down
@@ -68,37 +65,6 @@ best-used f s d n all = best-free s d (upto f 0 n) (all - n)
 pub size-used : (f : ℕ → Regular) (s d p n all : ℕ) → sizeIn s d p (inUse f noRegular n all) ≡ sizeIn s d p (upto f 0 n)
 unfolding inUse
 size-used f s d p n all = size-free s d p (upto f 0 n) (all - n)
-
--- The best price ------------------------------------------------------------------------------
-
-pub shows-side : (s d : ℕ) (o : Regular) → (o .quantity ≡ 0 → ⊥) → o .series ≡ s → eqb (o .side) d ≡ showsAt s d o
-unfolding showsAt shown
-shows-side s d o h p = rw (ne-eqb (o .quantity) 0 h, eq-eqb (o .series) s p)
-
-pub best-start : (f : ℕ → Regular) (s d i n : ℕ) → n ≤ i → 0 ≡ bestIn s d (upto f i (n - i))
-unfolding bestIn
-best-start f s d i n h = rw (upto-end f i n h)
-
--- one place more in front
-module _ (f : ℕ → Regular) (s d i n x : ℕ) (p : 0 < i) (h : i ≤ n) (e : x ≡ bestIn s d (upto f i (n - i))) (o : Regular) (eo : o ≡ f (i - 1)) where
-  best-back : bestIn s d (upto f (i - 1) (n - (i - 1))) ≡ (if showsAt s d o then betterOf d (o .price) x else x)
-  unfolding bestIn
-  best-back =
-      ap (bestIn s d) (upto-back f i n p h)
-      ∙ ap (λ (y : ℕ). if showsAt s d (f (i - 1)) then betterOf d (f (i - 1) .price) y else y) (sym e)
-      ∙ ap (λ (r : Regular). if showsAt s d r then betterOf d (r .price) x else x) (sym eo)
-
-  pub best-past : showsAt s d o ≡ false → x ≡ bestIn s d (upto f (i - 1) (n - (i - 1)))
-  best-past q = rw (best-back, q)
-
-  pub best-join : showsAt s d o ≡ true → (y : ℕ) → y ≡ betterOf d (o .price) x → y ≡ bestIn s d (upto f (i - 1) (n - (i - 1)))
-  best-join q y w = rw (best-back, q) w
-
-pub best-all : (b : List ℕ) (s d n i x : ℕ) → n ≡ regularsUsed b → i ≡ 0 → x ≡ bestIn s d (upto (regularIn b) i (n - i)) → x ≡ bestRegular (venueOf b) s d
-unfolding bestRegular venueOf
-best-all b s d n i x en ei e =
-    e ∙ ap (λ (k : ℕ). bestIn s d (upto (regularIn b) k (n - k))) ei ∙ ap (λ (k : ℕ). bestIn s d (upto (regularIn b) 0 k)) (sub-zero n ∙ en)
-    ∙ sym (best-used (regularIn b) s d (regularsUsed b) 128)
 
 -- The complex order with an id ----------------------------------------------------------------
 

@@ -16,7 +16,8 @@ ghost use Rattle.rules.specs.Settings.{increment};
 ghost use Rattle.rules.specs.Prices.{better, betterOf, reaches, bestRegular, ownPrice, bestOwn, clearPrice, away, marketBest, inBand};
 ghost use Rattle.rules.specs.Trading.{fillRegular, putRegular};
 ghost use Rattle.rules.specs.Generation.{reachesAny};
-ghost use Rattle.rules.specs.Standing.{otherLeg, parentOf, bothOpen};
+ghost use Rattle.rules.specs.Standing.{otherLeg, parentOf, bothOpen, showAgain};
+ghost use Rattle.rules.specs.Sound.{showsFully};
 ghost use Rattle.rules.specs.Complex.{anyClosed};
 ghost use Rattle.places.specs.Layout.{size, regularsUsed, complexesUsed, venueOf, levelOf, Figured, Right, Below, Counts, SameCounts, Loadable, Loaded};
 ghost use Rattle.levels.specs.Grid.{noLevel, withOrder, levelBy, sidesIn, GridOf, LevelsPut, LegsIn, TakenOf, SidesOf};
@@ -84,15 +85,16 @@ pub fn reaches_any(side: u8, p: u32, q: u32) -> bool
 
 // Levels kept ---------------------------------------------------------------------------------
 
-// A level of its side, with the order o.
+// A level of its side, with what the order o shows.
 fn with_order(l: Level, o: Regular) -> Level
     requires { ⌜ l .size ≤ 549755813760 ⌝ }
     ensures { λ r. ⌜ r ≡ withOrder o l ⌝ }
 {
-    if o.quantity == 0 {
+    let shown = rules::shown_of(o);
+    if shown == 0 {
         return l;
     }
-    let size = o.quantity as u64;
+    let size = shown as u64;
     if o.price == l.price {
         return Level {
             price: l.price,
@@ -167,7 +169,7 @@ pub fn load(b: &mut [u32], v: Venue)
 
 // An order is given the place after those in use.
 pub fn add_order(b: &mut [u32], o: Regular)
-    requires { ⌜ (length (now b) ≡ size) × (Right (now b)) × (regularsUsed (now b) < 128) × (o .series < 8) × (o .side < 2) × (held (o .price) ≡ true) × (Below (o .id) (venueOf (now b) .regular)) ⌝ }
+    requires { ⌜ (length (now b) ≡ size) × (Right (now b)) × (regularsUsed (now b) < 128) × (o .series < 8) × (o .side < 2) × (held (o .price) ≡ true) × (Below (o .id) (venueOf (now b) .regular)) × (held (o .display) ≡ true) × (o .display ≤ o .quantity) × (showsFully o ≡ true) ⌝ }
     ensures { λ _. ⌜ venueOf (now (b .exit)) ≡ putRegular (regularsUsed (now (b .entry))) o (venueOf (now (b .entry))) ⌝ }
     ensures counts { λ _. ⌜ Counts (suc (regularsUsed (now (b .entry)))) (complexesUsed (now (b .entry))) (now (b .entry)) (now (b .exit)) ⌝ }
 {
@@ -177,7 +179,7 @@ pub fn add_order(b: &mut [u32], o: Regular)
     places::put_level(b, n, with_order(l, o));
 }
 
-// The order at place i is filled for k contracts.
+// The order at place i is filled for k contracts, what it shows first.
 pub fn fill_order(b: &mut [u32], i: usize, k: u32)
     requires { ⌜ (length (now b) ≡ size) × (i < regularsUsed (now b)) ⌝ }
     ensures { λ _. ⌜ venueOf (now (b .exit)) ≡ fillRegular i k (venueOf (now (b .entry))) ⌝ }
@@ -190,7 +192,8 @@ pub fn fill_order(b: &mut [u32], i: usize, k: u32)
     if o.price != l.price {
         return;
     }
-    let gone = rules::lesser(k, o.quantity) as u64;
+    let shown = rules::shown_of(o);
+    let gone = rules::lesser(k, shown) as u64;
     if gone < l.size {
         let rest = Level {
             price: l.price,
@@ -201,6 +204,19 @@ pub fn fill_order(b: &mut [u32], i: usize, k: u32)
     }
     let anew = level_of(b, o.series, o.side);
     places::put_level(b, n, anew);
+}
+
+// Each order shows again. Without the mark each already shows what it should.
+pub fn show_again(b: &mut [u32])
+    requires { ⌜ (length (now b) ≡ size) × (Right (now b)) ⌝ }
+    ensures { λ _. ⌜ venueOf (now (b .exit)) ≡ showAgain (venueOf (now (b .entry))) ⌝ }
+    ensures counts { λ _. ⌜ SameCounts (now (b .entry)) (now (b .exit)) ⌝ }
+{
+    if places::is_unmarked(b) {
+        return;
+    }
+    places::show_again(b);
+    make_levels(b);
 }
 
 // Prices of a side ----------------------------------------------------------------------------

@@ -25,7 +25,7 @@ same-length : tie.Need-same-length
 same-length c = search needs
 
 returns : tie.Need-returns
-returns c = let s = c .before .before .before .before .before .before .before .before .before .before .before .before .before in let p = s .pre in added (s .args .b .now) _ _ _ (s .args .o) _ _ (p .2) (p .3) (p .4) (p .5) (p .6) (c .before .before .before .before .before .before .before .before .before .before .before .place-of .ensures) (c .before .before .before .before .before .before .before .before .before .level-at .ensures) (c .before .before .before .with-order .ensures) (c .before .before .before .before .before .before .before .add-regular .ensures .0) (c .before .before .before .before .before .before .before .add-regular .ensures .1) (c .before .before .put-level .ensures)
+returns c = let s = c .before .before .before .before .before .before .before .before .before .before .before .before .before in let p = s .pre in added (s .args .b .now) _ _ _ (s .args .o) _ _ (p .2) (p .3) (p .4) (p .5) (p .6) (p .7) (c .before .before .before .before .before .before .before .before .before .before .before .place-of .ensures) (c .before .before .before .before .before .before .before .before .before .level-at .ensures) (c .before .before .before .with-order .ensures) (c .before .before .before .before .before .before .before .add-regular .ensures .0) (c .before .before .before .before .before .before .before .add-regular .ensures .1) (c .before .before .put-level .ensures)
 
 pub add-order-spec : {M : Type 1} → statement M
 add-order-spec =

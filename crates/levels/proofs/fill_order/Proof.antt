@@ -1,5 +1,6 @@
 -- `levels::fill_order` meets its contract.
-use mathlib.Core.Path.{refl, _∙_}
+use mathlib.Core.Path.{refl, ap, _∙_}
+use Prim.Native.Nat.{min}
 use native.Mathlib.Omega.{arith}
 use Rattle.places.proofs.Parts.{regulars-few}
 use Rattle.levels.proofs.Joining.{series-in, side-in}
@@ -26,35 +27,38 @@ same-length c = search needs
 returns : tie.Need-returns
 returns c = (c .before .before .before .before .before .fill-regular .ensures .0, filled-off (c .before .before .before .before .before .before .before .before .before .before .before .before .before .before .args .b .now) _ (c .before .before .before .before .before .before .before .before .before .before .before .before .before .before .args .i) (c .before .before .before .before .before .before .before .before .before .before .before .before .before .before .args .k) _ (c .before .before .before .before .before .before .before .before .before .before .before .regular-at .result) (c .before .before .before .before .before .before .before .level-at .result) (c .before .before .before .before .before .before .before .before .before .before .before .before .before .before .pre .1) (c .before .before .before .before .before .before .before .before .before .before .before .regular-at .ensures) (c .before .before .before .before .before .before .before .before .before .key-at .ensures) (c .before .before .before .before .before .before .before .level-at .ensures) (c .before .before .before .before .before .fill-regular .ensures .0) (c .before .before .before .before .before .fill-regular .ensures .1) (c .if1 .taken))
 
+shown-of-requires : tie.Need-shown-of-requires
+shown-of-requires c κs = search needs
+
 lesser-requires : tie.Need-lesser-requires
 lesser-requires c κs = search needs
 
 cast-gone : tie.Need-cast-gone
 cast-gone c = search needs
 
-sub-t21 : tie.Need-sub-t21
-sub-t21 c = search needs
+sub-t22 : tie.Need-sub-t22
+sub-t22 c = search needs
 
 put-level-requires : tie.Need-put-level-requires
-put-level-requires c κs = (c .before .before .before .before .before .before .before .before .before .before .fill-regular .kept .0 ∙ c .before .before .before .before .before .before .before .before .before .before .before .before .before .before .before .before .before .before .before .pre .0, key-few _ _ _ (c .before .before .before .before .before .before .before .before .before .before .before .before .before .before .key-at .ensures))
+put-level-requires c κs = (c .before .before .before .before .before .before .before .before .before .before .before .fill-regular .kept .0 ∙ c .before .before .before .before .before .before .before .before .before .before .before .before .before .before .before .before .before .before .before .before .pre .0, key-few _ _ _ (c .before .before .before .before .before .before .before .before .before .before .before .before .before .before .before .key-at .ensures))
 
 same-length-2 : tie.Need-same-length-2
 same-length-2 c = search needs
 
 returns-2 : tie.Need-returns-2
-returns-2 c = filled-on (c .before .before .before .before .before .before .before .before .before .before .before .before .before .before .before .before .before .before .before .before .before .before .args .b .now) _ (c .before .before .before .before .before .before .before .before .before .before .before .before .before .before .before .before .before .before .before .before .before .before .args .i) (c .before .before .before .before .before .before .before .before .before .before .before .before .before .before .before .before .before .before .before .before .before .before .args .k) _ (c .before .before .before .before .before .before .before .before .before .before .before .before .before .before .before .before .before .before .before .regular-at .result) (c .before .before .before .before .before .before .before .before .before .before .before .before .before .before .before .level-at .result) (c .before .before .before .before .before .before .before .before .before .before .before .before .before .before .before .before .before .before .before .before .before .before .pre .1) (c .before .before .before .before .before .before .before .before .before .before .before .before .before .before .before .before .before .before .before .regular-at .ensures) (c .before .before .before .before .before .before .before .before .before .before .before .before .before .before .before .before .before .key-at .ensures) (c .before .before .before .before .before .before .before .before .before .before .before .before .before .before .before .level-at .ensures) (c .before .before .before .before .before .before .before .before .before .before .before .before .before .fill-regular .ensures .0) (c .before .before .before .before .before .before .before .before .before .before .before .before .before .fill-regular .ensures .1) _ _ (c .before .before .put-level .ensures) (filled-rest (c .before .before .before .before .before .before .before .before .before .before .before .before .before .before .before .before .before .before .before .before .before .before .args .b .now) _ (c .before .before .before .before .before .before .before .before .before .before .before .before .before .before .before .before .before .before .before .before .before .before .args .i) (c .before .before .before .before .before .before .before .before .before .before .before .before .before .before .before .before .before .before .before .before .before .before .args .k) _ (c .before .before .before .before .before .before .before .before .before .before .before .before .before .before .before .before .before .before .before .regular-at .result) (c .before .before .before .before .before .before .before .before .before .before .before .before .before .before .before .level-at .result) (c .before .before .before .before .before .before .before .before .before .before .before .before .before .before .before .before .before .before .before .before .before .before .pre .1) (c .before .before .before .before .before .before .before .before .before .before .before .before .before .before .before .before .before .before .before .regular-at .ensures) (c .before .before .before .before .before .before .before .before .before .before .before .before .before .before .before .before .before .key-at .ensures) (c .before .before .before .before .before .before .before .before .before .before .before .before .before .before .before .level-at .ensures) (c .before .before .before .before .before .before .before .before .before .before .before .before .before .fill-regular .ensures .0) (c .before .before .before .before .before .before .before .before .before .before .before .before .before .fill-regular .ensures .1) _ (c .before .before .before .before .before .before .before .lesser .ensures) (c .before .before .before .before .before .before .before .before .if1 .left) (c .before .before .before .before .before .if2 .taken) _ refl)
+returns-2 c = filled-on (c .before .before .before .before .before .before .before .before .before .before .before .before .before .before .before .before .before .before .before .before .before .before .before .args .b .now) _ (c .before .before .before .before .before .before .before .before .before .before .before .before .before .before .before .before .before .before .before .before .before .before .before .args .i) (c .before .before .before .before .before .before .before .before .before .before .before .before .before .before .before .before .before .before .before .before .before .before .before .args .k) _ (c .before .before .before .before .before .before .before .before .before .before .before .before .before .before .before .before .before .before .before .before .regular-at .result) (c .before .before .before .before .before .before .before .before .before .before .before .before .before .before .before .before .level-at .result) (c .before .before .before .before .before .before .before .before .before .before .before .before .before .before .before .before .before .before .before .before .before .before .before .pre .1) (c .before .before .before .before .before .before .before .before .before .before .before .before .before .before .before .before .before .before .before .before .regular-at .ensures) (c .before .before .before .before .before .before .before .before .before .before .before .before .before .before .before .before .before .before .key-at .ensures) (c .before .before .before .before .before .before .before .before .before .before .before .before .before .before .before .before .level-at .ensures) (c .before .before .before .before .before .before .before .before .before .before .before .before .before .before .fill-regular .ensures .0) (c .before .before .before .before .before .before .before .before .before .before .before .before .before .before .fill-regular .ensures .1) _ _ (c .before .before .put-level .ensures) (filled-rest (c .before .before .before .before .before .before .before .before .before .before .before .before .before .before .before .before .before .before .before .before .before .before .before .args .b .now) _ (c .before .before .before .before .before .before .before .before .before .before .before .before .before .before .before .before .before .before .before .before .before .before .before .args .i) (c .before .before .before .before .before .before .before .before .before .before .before .before .before .before .before .before .before .before .before .before .before .before .before .args .k) _ (c .before .before .before .before .before .before .before .before .before .before .before .before .before .before .before .before .before .before .before .before .regular-at .result) (c .before .before .before .before .before .before .before .before .before .before .before .before .before .before .before .before .level-at .result) (c .before .before .before .before .before .before .before .before .before .before .before .before .before .before .before .before .before .before .before .before .before .before .before .pre .1) (c .before .before .before .before .before .before .before .before .before .before .before .before .before .before .before .before .before .before .before .before .regular-at .ensures) (c .before .before .before .before .before .before .before .before .before .before .before .before .before .before .before .before .before .before .key-at .ensures) (c .before .before .before .before .before .before .before .before .before .before .before .before .before .before .before .before .level-at .ensures) (c .before .before .before .before .before .before .before .before .before .before .before .before .before .before .fill-regular .ensures .0) (c .before .before .before .before .before .before .before .before .before .before .before .before .before .before .fill-regular .ensures .1) _ (c .before .before .before .before .before .before .before .lesser .ensures ∙ ap (min (c .before .before .before .before .before .before .before .before .before .before .before .before .before .before .before .before .before .before .before .before .before .before .before .args .k)) (c .before .before .before .before .before .before .before .before .shown-of .ensures)) (c .before .before .before .before .before .before .before .before .before .if1 .left) (c .before .before .before .before .before .if2 .taken) _ refl)
 
 level-of-requires : tie.Need-level-of-requires
-level-of-requires c κs = (c .before .before .before .before .before .before .before .before .before .fill-regular .kept .0 ∙ c .before .before .before .before .before .before .before .before .before .before .before .before .before .before .before .before .before .before .pre .0, series-in (c .before .before .before .before .before .before .before .before .before .before .before .before .before .before .before .before .before .before .args .b .now) (c .before .before .before .before .before .before .before .before .before .before .before .before .before .before .before .before .before .before .args .i) (c .before .before .before .before .before .before .before .before .before .before .before .before .before .before .before .regular-at .result) (c .before .before .before .before .before .before .before .before .before .before .before .before .before .before .before .regular-at .ensures), side-in (c .before .before .before .before .before .before .before .before .before .before .before .before .before .before .before .before .before .before .args .b .now) (c .before .before .before .before .before .before .before .before .before .before .before .before .before .before .before .before .before .before .args .i) (c .before .before .before .before .before .before .before .before .before .before .before .before .before .before .before .regular-at .result) (c .before .before .before .before .before .before .before .before .before .before .before .before .before .before .before .regular-at .ensures))
+level-of-requires c κs = (c .before .before .before .before .before .before .before .before .before .before .fill-regular .kept .0 ∙ c .before .before .before .before .before .before .before .before .before .before .before .before .before .before .before .before .before .before .before .pre .0, series-in (c .before .before .before .before .before .before .before .before .before .before .before .before .before .before .before .before .before .before .before .args .b .now) (c .before .before .before .before .before .before .before .before .before .before .before .before .before .before .before .before .before .before .before .args .i) (c .before .before .before .before .before .before .before .before .before .before .before .before .before .before .before .before .regular-at .result) (c .before .before .before .before .before .before .before .before .before .before .before .before .before .before .before .before .regular-at .ensures), side-in (c .before .before .before .before .before .before .before .before .before .before .before .before .before .before .before .before .before .before .before .args .b .now) (c .before .before .before .before .before .before .before .before .before .before .before .before .before .before .before .before .before .before .before .args .i) (c .before .before .before .before .before .before .before .before .before .before .before .before .before .before .before .before .regular-at .result) (c .before .before .before .before .before .before .before .before .before .before .before .before .before .before .before .before .regular-at .ensures))
 
 put-level-requires-2 : tie.Need-put-level-requires-2
-put-level-requires-2 c κs = (c .before .before .before .before .before .before .before .before .before .before .before .fill-regular .kept .0 ∙ c .before .before .before .before .before .before .before .before .before .before .before .before .before .before .before .before .before .before .before .before .pre .0, key-few _ _ _ (c .before .before .before .before .before .before .before .before .before .before .before .before .before .before .before .key-at .ensures))
+put-level-requires-2 c κs = (c .before .before .before .before .before .before .before .before .before .before .before .before .fill-regular .kept .0 ∙ c .before .before .before .before .before .before .before .before .before .before .before .before .before .before .before .before .before .before .before .before .before .pre .0, key-few _ _ _ (c .before .before .before .before .before .before .before .before .before .before .before .before .before .before .before .before .key-at .ensures))
 
 same-length-3 : tie.Need-same-length-3
 same-length-3 c = search needs
 
 returns-3 : tie.Need-returns-3
-returns-3 c = filled-on (c .before .before .before .before .before .before .before .before .before .before .before .before .before .before .before .before .before .before .before .before .before .before .before .args .b .now) _ (c .before .before .before .before .before .before .before .before .before .before .before .before .before .before .before .before .before .before .before .before .before .before .before .args .i) (c .before .before .before .before .before .before .before .before .before .before .before .before .before .before .before .before .before .before .before .before .before .before .before .args .k) _ (c .before .before .before .before .before .before .before .before .before .before .before .before .before .before .before .before .before .before .before .before .regular-at .result) (c .before .before .before .before .before .before .before .before .before .before .before .before .before .before .before .before .level-at .result) (c .before .before .before .before .before .before .before .before .before .before .before .before .before .before .before .before .before .before .before .before .before .before .before .pre .1) (c .before .before .before .before .before .before .before .before .before .before .before .before .before .before .before .before .before .before .before .before .regular-at .ensures) (c .before .before .before .before .before .before .before .before .before .before .before .before .before .before .before .before .before .before .key-at .ensures) (c .before .before .before .before .before .before .before .before .before .before .before .before .before .before .before .before .level-at .ensures) (c .before .before .before .before .before .before .before .before .before .before .before .before .before .before .fill-regular .ensures .0) (c .before .before .before .before .before .before .before .before .before .before .before .before .before .before .fill-regular .ensures .1) _ _ (c .before .before .put-level2 .ensures) (λ _. c .before .before .before .before .level-of .ensures)
+returns-3 c = filled-on (c .before .before .before .before .before .before .before .before .before .before .before .before .before .before .before .before .before .before .before .before .before .before .before .before .args .b .now) _ (c .before .before .before .before .before .before .before .before .before .before .before .before .before .before .before .before .before .before .before .before .before .before .before .before .args .i) (c .before .before .before .before .before .before .before .before .before .before .before .before .before .before .before .before .before .before .before .before .before .before .before .before .args .k) _ (c .before .before .before .before .before .before .before .before .before .before .before .before .before .before .before .before .before .before .before .before .before .regular-at .result) (c .before .before .before .before .before .before .before .before .before .before .before .before .before .before .before .before .before .level-at .result) (c .before .before .before .before .before .before .before .before .before .before .before .before .before .before .before .before .before .before .before .before .before .before .before .before .pre .1) (c .before .before .before .before .before .before .before .before .before .before .before .before .before .before .before .before .before .before .before .before .before .regular-at .ensures) (c .before .before .before .before .before .before .before .before .before .before .before .before .before .before .before .before .before .before .before .key-at .ensures) (c .before .before .before .before .before .before .before .before .before .before .before .before .before .before .before .before .before .level-at .ensures) (c .before .before .before .before .before .before .before .before .before .before .before .before .before .before .before .fill-regular .ensures .0) (c .before .before .before .before .before .before .before .before .before .before .before .before .before .before .before .fill-regular .ensures .1) _ _ (c .before .before .put-level2 .ensures) (λ _. c .before .before .before .before .level-of .ensures)
 
 pub fill-order-spec : {M : Type 1} → statement M
 fill-order-spec =
@@ -66,9 +70,10 @@ fill-order-spec =
     fill-regular-requires
     same-length
     returns
+    shown-of-requires
     lesser-requires
     cast-gone
-    sub-t21
+    sub-t22
     put-level-requires
     same-length-2
     returns-2
