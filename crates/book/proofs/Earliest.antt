@@ -7,24 +7,24 @@ use native.Mathlib.Nat.{zero-add}
 use native.Mathlib.Omega.{arith}
 use native.Mathlib.Decide.{decLt}
 use borrow.Author.Tests.{eqb-true, eq-eqb, ne-eqb, le-ltb}
-use lib.Dec.{eqb, ltb}
+use lib.Dec.{eqb}
 use lib.ListN.{length, getD}
 use Rattle.rules.specs.declared.Regular.{Regular}
 use Rattle.rules.specs.Base.{if_then_else_, held, Choice, nobody, picked, ranked, firstFrom, first, placeWhere}
 use Rattle.rules.specs.Words.{opposite, noRegular, regularAt, earlier, isRegularOf}
 use Rattle.rules.specs.Complex.{restsRegular, regularPlace}
-use Rattle.rules.specs.Prices.{better, reaches, restsAt, showsAt, showsFor, bestIn}
-use Rattle.rules.specs.Order.{isMet, priceThenId}
+use Rattle.rules.specs.Prices.{better, reaches, restsAt, shown, showsAt, showsFor, bestIn}
+use Rattle.rules.specs.Order.{isMet, shownThenId, priceThenId}
 use Rattle.rules.specs.Generation.{reachesAny}
 use Rattle.rules.proofs.Tests.{and-l, and-r, and-false}
-use Rattle.rules.proofs.Better.{is-false, best-best}
-use Rattle.rules.proofs.Sizes.{shows-held, shows-rests, rests-shows, rests-side, best-is}
+use Rattle.rules.proofs.Better.{is-false, best-best, better-total}
+use Rattle.rules.proofs.Sizes.{shows-held, shows-rests, rests-shows, rests-held, rests-side, best-is}
+use Rattle.rules.proofs.Meeting.{both-show}
 use Rattle.rules.proofs.Filling.{held-fits}
 use Rattle.rules.proofs.Finding.{where-passes, where-fits}
 use Rattle.places.specs.Layout.{regularIn, regularsUsed, venueOf, Orderly, Right, Dense}
 use Rattle.places.proofs.Parts.{regulars-few}
 use Rattle.places.proofs.Tables.{used-at, used-free}
-use Rattle.levels.proofs.Keeping.{better-same}
 use Rattle.book.specs.declared.Pick.the-variants as pick
 use Rattle.book.specs.declared.Found.the-variants as found
 use Rattle.book.specs.Picks.{pickOf, regularFound}
@@ -122,69 +122,81 @@ module _ (s d p : ℕ) (os : List Regular) (orders : Orderly os) (i : ℕ)
 
 -- Orders met ----------------------------------------------------------------------------------
 
--- an order that is met shows at the other side
-met-shows : (s d p : ℕ) (o : Regular) → isMet s d p o ≡ true → showsAt s (opposite d) o ≡ true
-unfolding isMet
-met-shows s d p o h = rests-shows s (opposite d) o (and-l (restsAt s (opposite d) o) _ h)
-
-module _ (s d p : ℕ) (os : List Regular) (orders : Orderly os) (on : reachesAny d p (bestIn s (opposite d) os) ≡ true) where
+-- where every order shows some size
+module _ (s d p : ℕ) (os : List Regular) (orders : Orderly os) (some : (i : ℕ) → held (getD os i noRegular .quantity) ≡ true → held (shown (getD os i noRegular)) ≡ true) where
   abbrev best : ℕ
   best = bestIn s (opposite d) os
 
   abbrev at : ℕ → Regular
   at i = getD os i noRegular
 
-  -- an order at the best price is met
-  best-met : (o : Regular) → showsFor s (opposite d) best o ≡ true → isMet s d p o ≡ true
-  unfolding isMet reachesAny
-  best-met o h =
-      rw (shows-rests s (opposite d) o (for-shows s (opposite d) best o h), for-price s (opposite d) best o h)
-      (and-r (held best) (reaches d p best) on)
+  -- an order that is met shows at the other side
+  met-rests : (j : ℕ) → isMet s d p (at j) ≡ true → restsAt s (opposite d) (at j) ≡ true
+  unfolding isMet
+  met-rests j h = and-l (restsAt s (opposite d) (at j)) _ h
 
-  -- the first of the list at the best price of the other side is met first
-  met-at : (i : ℕ) → showsFor s (opposite d) best (at i) ≡ true → ((j : ℕ) → j < i → showsFor s (opposite d) best (at j) ≡ false) →
-      first (isMet s d p) priceThenId os ≡ picked i (at i)
-  unfolding priceThenId earlier
-  met-at i shows none =
-      foremost noRegular (isMet s d p) priceThenId os i
-      (record { fits = held-fits os i (holds i (best-met (at i) shows)); is = best-met (at i) shows; early = early; late = late })
-    where
-      holds : (j : ℕ) → isMet s d p (at j) ≡ true → held (at j .quantity) ≡ true
-      holds j h = shows-held s (opposite d) (at j) (met-shows s d p (at j) h)
+  met-held : (j : ℕ) → isMet s d p (at j) ≡ true → held (at j .quantity) ≡ true
+  met-held j h = rests-held s (opposite d) (at j) (met-rests j h)
 
-      price : at i .price ≡ best
-      price = for-price s (opposite d) best (at i) shows
+  met-shows : (j : ℕ) → isMet s d p (at j) ≡ true → showsAt s (opposite d) (at j) ≡ true
+  met-shows j h = rests-shows s (opposite d) (at j) (some j (met-held j h)) (met-rests j h)
 
-      not-better : (j : ℕ) → isMet s d p (at j) ≡ true → better (opposite d) (at j .price) best ≡ true → ⊥
-      not-better j h = best-best s (opposite d) os j (met-shows s d p (at j) h)
+  -- no price that is met is better than the best
+  not-better : (j : ℕ) → isMet s d p (at j) ≡ true → better (opposite d) (at j .price) best ≡ false
+  not-better j h = is-false _ (best-best s (opposite d) os j (met-shows j h))
 
-      side : (j : ℕ) → isMet s d p (at j) ≡ true → at j .side ≡ opposite d
-      side j h = rests-side s (opposite d) (at j) (shows-rests s (opposite d) (at j) (met-shows s d p (at j) h))
+  -- where the best price is reached
+  module _ (on : reachesAny d p best ≡ true) where
+    -- an order at the best price is met
+    best-met : (o : Regular) → showsFor s (opposite d) best o ≡ true → isMet s d p o ≡ true
+    unfolding isMet reachesAny
+    best-met o h =
+        rw (shows-rests s (opposite d) o (for-shows s (opposite d) best o h), for-price s (opposite d) best o h)
+        (and-r (held best) (reaches d p best) on)
 
-      worse : (j : ℕ) → j < i → isMet s d p (at j) ≡ true → (t : Bool) → better (opposite d) best (at j .price) ≡ t → better (opposite d) best (at j .price) ≡ true
-      worse j q h true e = e
-      worse j q h false e =
-          let z : at j .price ≡ best = better-same (opposite d) (at j .price) best (not-better j h) (λ w. true≢false (sym w ∙ e)) in
-          absurd (true≢false (sym (for-in s (opposite d) best (at j) (met-shows s d p (at j) h) z) ∙ none j q))
+    -- the first of the list at the best price of the other side is met first
+    met-at : (i : ℕ) → showsFor s (opposite d) best (at i) ≡ true → ((j : ℕ) → j < i → showsFor s (opposite d) best (at j) ≡ false) →
+        first (isMet s d p) priceThenId os ≡ picked i (at i)
+    unfolding priceThenId earlier
+    met-at i shows none =
+        foremost noRegular (isMet s d p) priceThenId os i (record { fits = held-fits os i (met-held i is); is = is; early = early; late = late })
+      where
+        is : isMet s d p (at i) ≡ true
+        is = best-met (at i) shows
 
-      early : (j : ℕ) → j < i → isMet s d p (at j) ≡ true → (better (at i .side) (at i .price) (at j .price) || (eqb (at i .price) (at j .price) && ltb (at i .id) (at j .id))) ≡ true
-      early j q h = rw (side i (best-met (at i) shows), price, worse j q h (better (opposite d) best (at j .price)) refl)
+        price : at i .price ≡ best
+        price = for-price s (opposite d) best (at i) shows
 
-      late : (j : ℕ) → i < j → isMet s d p (at j) ≡ true → (better (at j .side) (at j .price) (at i .price) || (eqb (at j .price) (at i .price) && ltb (at j .id) (at i .id))) ≡ false
-      late j q h =
-          let z = orders .rises i j q (holds i (best-met (at i) shows)) (holds j h) in
-          rw (side j h, price, is-false (better (opposite d) (at j .price) best) (not-better j h), le-ltb (at j .id) (at i .id) (omega arith), and-false)
+        side : (j : ℕ) → isMet s d p (at j) ≡ true → at j .side ≡ opposite d
+        side j h = rests-side s (opposite d) (at j) (met-rests j h)
 
-  -- so who is met first is the earliest at that price
-  pub met-earliest : first (isMet s d p) priceThenId os ≡ first (showsFor s (opposite d) best) earlier os
-  unfolding reachesAny
-  met-earliest =
-      let a = best-is s (opposite d) os (and-l (held best) (reaches d p best) on) in
-      let test = showsFor s (opposite d) best in
-      let f = held-fits os (a .at) (shows-held s (opposite d) (at (a .at)) (a .shows)) in
-      let w = where-passes noRegular test os (where-fits noRegular test os (a .at) f (for-in s (opposite d) best (at (a .at)) (a .shows) (a .price))) in
-      met-at (placeWhere test os) w (where-first test noRegular os)
-      ∙ sym (earliest-at s (opposite d) best os orders (placeWhere test os) w (where-first test noRegular os))
+        worse : (j : ℕ) → j < i → isMet s d p (at j) ≡ true → (t : Bool) → better (opposite d) best (at j .price) ≡ t → better (opposite d) best (at j .price) ≡ true
+        worse j q h true e = e
+        worse j q h false e =
+            let z : at j .price ≡ best = better-total (opposite d) (at j .price) best (not-better j h) e in
+            absurd (true≢false (sym (for-in s (opposite d) best (at j) (met-shows j h) z) ∙ none j q))
+
+        early : (j : ℕ) → j < i → isMet s d p (at j) ≡ true → (better (at i .side) (at i .price) (at j .price) || (eqb (at i .price) (at j .price) && shownThenId (at i) (at j))) ≡ true
+        early j q h = rw (side i is, price, worse j q h (better (opposite d) best (at j .price)) refl)
+
+        later : (j : ℕ) → i < j → isMet s d p (at j) ≡ true → shownThenId (at j) (at i) ≡ false
+        later j q h =
+            let z = orders .rises i j q (met-held i is) (met-held j h) in
+            both-show (at j) (at i) (some j (met-held j h)) (some i (met-held i is)) ∙ le-ltb (at j .id) (at i .id) (omega arith)
+
+        late : (j : ℕ) → i < j → isMet s d p (at j) ≡ true → (better (at j .side) (at j .price) (at i .price) || (eqb (at j .price) (at i .price) && shownThenId (at j) (at i))) ≡ false
+        late j q h = rw (side j h, price, not-better j h, later j q h, and-false)
+
+    -- so who is met first is the earliest at that price
+    pub met-earliest : first (isMet s d p) priceThenId os ≡ first (showsFor s (opposite d) best) earlier os
+    unfolding reachesAny
+    met-earliest =
+        let a = best-is s (opposite d) os (and-l (held best) (reaches d p best) on) in
+        let test = showsFor s (opposite d) best in
+        let f = held-fits os (a .at) (shows-held s (opposite d) (at (a .at)) (a .shows)) in
+        let w = where-passes noRegular test os (where-fits noRegular test os (a .at) f (for-in s (opposite d) best (at (a .at)) (a .shows) (a .price))) in
+        met-at (placeWhere test os) w (where-first test noRegular os)
+        ∙ sym (earliest-at s (opposite d) best os orders (placeWhere test os) w (where-first test noRegular os))
 
 -- In the numbers ------------------------------------------------------------------------------
 

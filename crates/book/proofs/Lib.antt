@@ -2,4 +2,5 @@ pub mod Picking
 pub mod Finding
 pub mod Unmet
 pub mod Earliest
+pub mod Ranking
 pub mod Masks

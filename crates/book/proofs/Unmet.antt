@@ -1,4 +1,4 @@
--- Where the best price of the other side is not reached, nobody is met: every resting order has a price.
+-- Where the best price of the other side is not reached, nobody is met: every resting order has a price and shows some size.
 use mathlib.Core.Path.{_≡_, refl, sym, _∙_}
 use mathlib.Core.Bool.{true, false, not, _&&_, _||_, true≢false}
 use mathlib.Core.List.{List}
@@ -11,7 +11,7 @@ use lib.ListN.{getD}
 use Rattle.rules.specs.declared.Regular.{Regular}
 use Rattle.rules.specs.Base.{if_then_else_, held, Choice, nobody, picked, first}
 use Rattle.rules.specs.Words.{opposite, noRegular}
-use Rattle.rules.specs.Prices.{better, restsAt, reaches, bestIn}
+use Rattle.rules.specs.Prices.{better, restsAt, reaches, shown, bestIn}
 use Rattle.rules.specs.Order.{isMet, priceThenId}
 use Rattle.rules.specs.Generation.{reachesAny}
 use Rattle.rules.proofs.Tests.{and-l, and-r, held-pos, pos-held}
@@ -46,16 +46,18 @@ reaches-past d p q b h = go (ℕ-discrete d 0)
         let f : eqb (1 - d) 0 ≡ true = eq-eqb (1 - d) 0 (omega arith) in
         rw (ne-eqb d 0 e) (bids (rw (ne-eqb d 0 e) at r) (λ z. n (rw f z)) (decLt b q))
 
-module _ (s d p : ℕ) (os : List Regular) (in-order : Orderly os) (off : reachesAny d p (bestIn s (opposite d) os) ≡ false) where
+module _ (s d p : ℕ) (os : List Regular) (in-order : Orderly os) (some : (i : ℕ) → held (getD os i noRegular .quantity) ≡ true → held (shown (getD os i noRegular)) ≡ true)
+    (off : reachesAny d p (bestIn s (opposite d) os) ≡ false) where
   not-met : (i : ℕ) → isMet s d p (getD os i noRegular) ≡ true → ⊥
   unfolding isMet
   not-met i h =
       let m = getD os i noRegular in
       let r : restsAt s (opposite d) m ≡ true = and-l (restsAt s (opposite d) m) (reaches d p (m .price)) h in
       let t : reaches d p (m .price) ≡ true = and-r (restsAt s (opposite d) m) (reaches d p (m .price)) h in
+      let q = rests-held s (opposite d) m r in
       true≢false
-      (sym (reaches-past d p (m .price) (bestIn s (opposite d) os) (in-order .priced i (rests-held s (opposite d) m r)) t
-      (best-best s (opposite d) os i (rests-shows s (opposite d) m r))) ∙ off)
+      (sym (reaches-past d p (m .price) (bestIn s (opposite d) os) (in-order .priced i q) t
+      (best-best s (opposite d) os i (rests-shows s (opposite d) m (some i q) r))) ∙ off)
 
   pub unmet : first (isMet s d p) priceThenId os ≡ nobody
   unmet = go (first (isMet s d p) priceThenId os) (first-chosen noRegular (isMet s d p) priceThenId os)

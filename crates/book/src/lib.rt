@@ -1,14 +1,16 @@
 // Scans of the places in use: who is met or taken first, and where an order rests; and how many legging places are filled.
 // Ids rise with the places, so that the first of the places is the earliest, and an id is found by halves.
 ghost use mathlib.Core.Path.{_≡_};
+ghost use mathlib.Core.Bool.{true};
 ghost use Prim.Native.Nat.{_<_};
 ghost use lib.Count.{ones};
 ghost use lib.ListN.{length};
-ghost use Rattle.rules.specs.Base.{first};
+ghost use Rattle.rules.specs.declared.Regular.{Regular};
+ghost use Rattle.rules.specs.Base.{Choice, ranked, first};
 ghost use Rattle.rules.specs.Words.{earlier};
 ghost use Rattle.rules.specs.Prices.{showsFor};
-ghost use Rattle.rules.specs.Order.{isMet, priceThenId};
-ghost use Rattle.places.specs.Layout.{size, venueOf, Right, Dense};
+ghost use Rattle.rules.specs.Order.{isMet, shownThenId, priceThenId};
+ghost use Rattle.places.specs.Layout.{size, isUnmarked, venueOf, Right, Dense};
 ghost use Rattle.book.specs.Picks.{pickOf, regularFound, complexFound};
 use rules::Regular;
 
@@ -27,7 +29,7 @@ pub enum Found {
 fn shows_for(o: Regular, series: u8, side: u8, price: u32) -> bool
     ensures { λ r. ⌜ r ≡ showsFor series side price o ⌝ }
 {
-    if o.quantity == 0 {
+    if rules::shown_of(o) == 0 {
         return false;
     }
     if o.series != series {
@@ -39,7 +41,7 @@ fn shows_for(o: Regular, series: u8, side: u8, price: u32) -> bool
     o.price == price
 }
 
-// The earliest regular order at a price of a side. Only orders with the key of series and side are read whole.
+// The earliest regular order that shows size at a price of a side. Only orders with the key of series and side are read whole.
 pub fn first_for(b: &[u32], series: u8, side: u8, price: u32) -> Pick
     requires { ⌜ (length (now b) ≡ size) × (Right (now b)) ⌝ }
     ensures { λ r. ⌜ r ≡ pickOf (first (showsFor series side price) earlier (venueOf (now (b .entry)) .regular)) ⌝ }
@@ -61,9 +63,10 @@ pub fn first_for(b: &[u32], series: u8, side: u8, price: u32) -> Pick
     Pick::Nobody
 }
 
-// The regular order that one of this side and price in a series meets first: the earliest at the best price of the other side, where this is reached.
-pub fn first_met(b: &[u32], series: u8, side: u8, price: u32) -> Pick
-    requires { ⌜ (length (now b) ≡ size) × (Right (now b)) × (series < 8) ⌝ }
+// The regular order that one of this side and price in a series meets first, where every order shows some size: the earliest at the best price of the
+// other side, where this is reached.
+fn first_shown(b: &[u32], series: u8, side: u8, price: u32) -> Pick
+    requires { ⌜ (length (now b) ≡ size) × (Right (now b)) × (series < 8) × (isUnmarked (now b) ≡ true) ⌝ }
     ensures { λ r. ⌜ r ≡ pickOf (first (isMet series side price) priceThenId (venueOf (now (b .entry)) .regular)) ⌝ }
 {
     let other = rules::opposite_of(side);
@@ -72,6 +75,99 @@ pub fn first_met(b: &[u32], series: u8, side: u8, price: u32) -> Pick
         return Pick::Nobody;
     }
     first_for(b, series, other, best)
+}
+
+// An order of this side and price in a series meets m, its shown size or its reserve.
+fn is_met(m: Regular, series: u8, side: u8, price: u32) -> bool
+    ensures { λ r. ⌜ r ≡ isMet series side price m ⌝ }
+{
+    if m.quantity == 0 {
+        return false;
+    }
+    if m.series != series {
+        return false;
+    }
+    if m.side != rules::opposite_of(side) {
+        return false;
+    }
+    levels::reaches_price(side, price, m.price)
+}
+
+// At one price a goes before m: who shows before who does not, and then the earlier.
+fn shows_first(a: Regular, m: Regular) -> bool
+    ensures { λ r. ⌜ r ≡ shownThenId a m ⌝ }
+{
+    if rules::shown_of(m) == 0 {
+        if rules::shown_of(a) == 0 {
+            return a.id < m.id;
+        }
+        return true;
+    }
+    if rules::shown_of(a) == 0 {
+        return false;
+    }
+    a.id < m.id
+}
+
+// a goes before m: the better price first.
+fn ranks_before(a: Regular, m: Regular) -> bool
+    ensures { λ r. ⌜ r ≡ priceThenId a m ⌝ }
+{
+    if levels::is_better(a.side, a.price, m.price) {
+        return true;
+    }
+    if a.price != m.price {
+        return false;
+    }
+    shows_first(a, m)
+}
+
+// The order m at place n, beside the first in rank of those after it.
+fn better_pick(best: Pick, n: usize, m: Regular) -> Pick
+    ensures { λ r. ⌜ ((x : Choice Regular) → best ≡ pickOf x → r ≡ pickOf (ranked priceThenId n m x)) ⌝ }
+{
+    match best {
+        Pick::Nobody => Pick::At(n, m),
+        Pick::At(i, a) => {
+            if ranks_before(a, m) {
+                return Pick::At(i, a);
+            }
+            Pick::At(n, m)
+        }
+    }
+}
+
+// The same where some order may show nothing of what is left of it: the first in rank of all that are met.
+fn first_ranked(b: &[u32], series: u8, side: u8, price: u32) -> Pick
+    requires { ⌜ length (now b) ≡ size ⌝ }
+    ensures { λ r. ⌜ r ≡ pickOf (first (isMet series side price) priceThenId (venueOf (now (b .entry)) .regular)) ⌝ }
+{
+    let key = rules::place_of(series, rules::opposite_of(side));
+    let mut best = Pick::Nobody;
+    let mut i = places::regulars_used(b);
+    while 0 < i {
+        i -= 1;
+        if places::key_at(b, i) != key {
+            continue;
+        }
+        let m = places::regular_at(b, i);
+        if !is_met(m, series, side, price) {
+            continue;
+        }
+        best = better_pick(best, i, m);
+    }
+    best
+}
+
+// The regular order that one of this side and price in a series meets first.
+pub fn first_met(b: &[u32], series: u8, side: u8, price: u32) -> Pick
+    requires { ⌜ (length (now b) ≡ size) × (Right (now b)) × (series < 8) ⌝ }
+    ensures { λ r. ⌜ r ≡ pickOf (first (isMet series side price) priceThenId (venueOf (now (b .entry)) .regular)) ⌝ }
+{
+    if places::is_unmarked(b) {
+        return first_shown(b, series, side, price);
+    }
+    first_ranked(b, series, side, price)
 }
 
 // The place of the resting regular order with an id: among the places from `low` to below `high`, where every place is held.

@@ -1,63 +1,25 @@
 -- `book::first_met` meets its contract.
-use mathlib.Core.Path.{_≡_, sym, ap, _∙_}
-use Prim.Native.Nat.{ℕ}
-use borrow.Author.Tests.{not-true, not-false}
-use Rattle.rules.specs.Base.{first}
-use Rattle.rules.specs.Words.{opposite, earlier}
-use Rattle.rules.specs.Prices.{showsFor, bestIn, bestRegular}
-use Rattle.rules.specs.Generation.{reachesAny}
-use Rattle.places.specs.Layout.{venueOf}
-use Rattle.book.specs.Picks.{pickOf}
-use Rattle.book.proofs.Unmet.{unmet}
-use Rattle.book.proofs.Earliest.{met-earliest}
+use mathlib.Core.Path.{sym, _∙_}
 use borrow.Author.Needs.{needs}
 use Rattle.book.proofs.first_met.Statement.{statement}
 use Rattle.book.proofs.first_met.Tie as tie
 
-opposite-of-requires : tie.Need-opposite-of-requires
-opposite-of-requires c κs = search needs
+is-unmarked-requires : tie.Need-is-unmarked-requires
+is-unmarked-requires c κs = search needs
 
-best-regular-requires : tie.Need-best-regular-requires
-unfolding opposite
-best-regular-requires c κs = search needs
-
-reaches-any-requires : tie.Need-reaches-any-requires
-reaches-any-requires c κs = search needs
-
--- the best price of the other side, as it is asked
-best-asked : (c : tie.After-reaches-any) →
-    c .reaches-any .result
-    ≡ reachesAny (c .before .before .before .before .args .side) (c .before .before .before .before .args .price) (bestIn (c .before .before .before .before .args .series) (opposite (c .before .before .before .before .args .side)) (venueOf (c .before .before .before .before .args .b .now) .regular))
-unfolding bestRegular
-best-asked c =
-    let p1 = c .before in
-    let p4 = p1 .before .before .before in
-    c .reaches-any .ensures
-    ∙ ap (reachesAny (p4 .args .side) (p4 .args .price)) (p1 .best-regular .ensures ∙ ap (λ (d : ℕ). bestIn (p4 .args .series) d (venueOf (p4 .args .b .now) .regular)) (p1 .before .opposite-of .ensures))
+first-shown-requires : tie.Need-first-shown-requires
+first-shown-requires c κs = let s = c .before .before .before .pre in (s .0, s .1, s .2, sym (c .before .is-unmarked .ensures) ∙ c .if1 .taken)
 
 returns : tie.Need-returns
-unfolding pickOf
-returns c =
-    let p5 = c .before .before .before .before .before in
-    sym (ap pickOf (unmet (p5 .args .series) (p5 .args .side) (p5 .args .price) (venueOf (p5 .args .b .now) .regular) (p5 .pre .1 .orders) (sym (best-asked (c .before)) ∙ not-true _ (c .if1 .taken))))
+returns c = search needs
 
-first-for-requires : tie.Need-first-for-requires
-first-for-requires c κs = search needs
+first-ranked-requires : tie.Need-first-ranked-requires
+first-ranked-requires c κs = search needs
 
 returns-2 : tie.Need-returns-2
-unfolding bestRegular
-returns-2 c =
-    let p2 = c .before .before in
-    let p3 = p2 .before in
-    let p4 = p3 .before in
-    let p6 = p4 .before .before in
-    let os = venueOf (p6 .args .b .now) .regular in
-    c .first-for .ensures
-    ∙ ap (λ (d : ℕ). pickOf (first (showsFor (p6 .args .series) d (p3 .best-regular .result)) earlier os)) (p4 .opposite-of .ensures)
-    ∙ ap (λ (p : ℕ). pickOf (first (showsFor (p6 .args .series) (opposite (p6 .args .side)) p) earlier os))
-    (p3 .best-regular .ensures ∙ ap (λ (d : ℕ). bestIn (p6 .args .series) d os) (p4 .opposite-of .ensures))
-    ∙ sym (ap pickOf (met-earliest (p6 .args .series) (p6 .args .side) (p6 .args .price) os (p6 .pre .1 .orders) (sym (best-asked p2) ∙ not-false _ (c .before .if1 .left))))
+returns-2 c = search needs
 
 pub first-met-spec : {M : Type 1} → statement M
 first-met-spec =
-    tie.close (tie.spec opposite-of-requires best-regular-requires reaches-any-requires returns first-for-requires returns-2)
+    tie.close
+    (tie.spec is-unmarked-requires first-shown-requires returns first-ranked-requires returns-2)

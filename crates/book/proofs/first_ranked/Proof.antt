@@ -1,0 +1,110 @@
+-- `book::first_ranked` meets its contract.
+use mathlib.Core.Path.{_≡_, sym, ap, _∙_}
+use Prim.Native.Nat.{_≤_}
+use native.Mathlib.Omega.{arith}
+use borrow.Author.Tests.{not-true, not-false}
+use Rattle.rules.specs.Words.{placeOf}
+use Rattle.rules.specs.Order.{isMet}
+use Rattle.places.specs.Layout.{regularsUsed}
+use Rattle.places.proofs.Parts.{regulars-few}
+use Rattle.book.specs.Picks.{pickOf}
+use Rattle.book.proofs.Picking.{met-key}
+use Rattle.book.proofs.Ranking.{metFrom, met-start, met-past, met-join, met-all}
+use borrow.Author.Needs.{needs}
+use Rattle.book.proofs.first_ranked.Statement.{statement}
+use Rattle.book.proofs.first_ranked.Tie as tie
+
+abbrev Inv-loop : tie.InvT-loop
+Inv-loop b series side price key best₀ i₀ best i = (i ≤ regularsUsed b) × (best ≡ pickOf (metFrom b series side price i))
+
+abbrev μ-loop : tie.MeasureT-loop
+μ-loop b series side price key best₀ i₀ best i = i
+
+opposite-of-requires : tie.Need-opposite-of-requires Inv-loop μ-loop
+opposite-of-requires c κs = search needs
+
+place-of-requires : tie.Need-place-of-requires Inv-loop μ-loop
+place-of-requires c κs = search needs
+
+regulars-used-requires : tie.Need-regulars-used-requires Inv-loop μ-loop
+regulars-used-requires c κs = search needs
+
+loop-holds : tie.Need-loop-holds Inv-loop μ-loop
+loop-holds c = let e = c .regulars-used .ensures .0 in (omega (arith, e), met-start _ _ _ _ _ (omega (arith, e)))
+
+sub-i : tie.Need-sub-i Inv-loop μ-loop
+sub-i c = search needs
+
+key-at-requires : tie.Need-key-at-requires Inv-loop μ-loop
+key-at-requires c κs = let w = regulars-few (c .before .before .before .before .before .before .args .b .now) in search needs
+
+loop-less : tie.Need-loop-less Inv-loop μ-loop
+loop-less c = search needs
+
+loop-again : tie.Need-loop-again Inv-loop μ-loop
+loop-again c =
+    let l = c .before .before .before .loop in
+    let a = c .before .before .before .before .before .before .before .before .args in (
+      omega (arith, l .inv .0),
+      met-past (a .b .now) (a .series) (a .side) (a .price) _ _ (c .before .before .loop-test .taken) (l .inv .0) (l .inv .1)
+          (met-key (a .series) (a .side) (a .price) _ (λ e. c .if1 .taken (c .before .key-at .ensures ∙ e ∙ ap (placeOf (a .series)) (sym (c .before .before .before .before .before .before .opposite-of .ensures)) ∙ sym (c .before .before .before .before .before .place-of .ensures)))),
+    )
+
+regular-at-requires : tie.Need-regular-at-requires Inv-loop μ-loop
+regular-at-requires c κs = let w = regulars-few (c .before .before .before .before .before .before .before .before .args .b .now) in search needs
+
+is-met-requires : tie.Need-is-met-requires Inv-loop μ-loop
+is-met-requires c κs = search needs
+
+loop-less-2 : tie.Need-loop-less-2 Inv-loop μ-loop
+loop-less-2 c = search needs
+
+loop-again-2 : tie.Need-loop-again-2 Inv-loop μ-loop
+loop-again-2 c =
+    let l = c .before .before .before .before .before .before .loop in
+    let a = c .before .before .before .before .before .before .before .before .before .before .before .args in (
+      omega (arith, l .inv .0),
+      met-past (a .b .now) (a .series) (a .side) (a .price) _ _ (c .before .before .before .before .before .loop-test .taken) (l .inv .0) (l .inv .1)
+          (ap (isMet (a .series) (a .side) (a .price)) (sym (c .before .before .regular-at .ensures)) ∙ sym (c .before .is-met .ensures) ∙ not-true _ (c .if2 .taken)),
+    )
+
+better-pick-requires : tie.Need-better-pick-requires Inv-loop μ-loop
+better-pick-requires c κs = search needs
+
+loop-less-3 : tie.Need-loop-less-3 Inv-loop μ-loop
+loop-less-3 c = search needs
+
+loop-again-3 : tie.Need-loop-again-3 Inv-loop μ-loop
+loop-again-3 c =
+    let l = c .before .before .before .before .before .before .before .loop in
+    let a = c .before .before .before .before .before .before .before .before .before .before .before .before .args in (
+      omega (arith, l .inv .0),
+      met-join (a .b .now) (a .series) (a .side) (a .price) _ _ (c .before .before .before .before .before .before .loop-test .taken) (l .inv .0) (l .inv .1) _ (c .before .before .before .regular-at .ensures)
+          (sym (c .before .before .is-met .ensures) ∙ not-false _ (c .before .if2 .left)) _ (c .better-pick .ensures),
+    )
+
+returns : tie.Need-returns Inv-loop μ-loop
+returns c = let z : c .before .loop .i ≡ 0 = search needs in met-all (c .before .before .before .before .before .before .args .b .now) _ _ _ _ _ z (c .before .loop .inv .1)
+
+pub first-ranked-spec : {M : Type 1} → statement M
+first-ranked-spec =
+    tie.close
+    (tie.spec
+    Inv-loop
+    μ-loop
+    opposite-of-requires
+    place-of-requires
+    regulars-used-requires
+    loop-holds
+    sub-i
+    key-at-requires
+    loop-less
+    loop-again
+    regular-at-requires
+    is-met-requires
+    loop-less-2
+    loop-again-2
+    better-pick-requires
+    loop-less-3
+    loop-again-3
+    returns)
