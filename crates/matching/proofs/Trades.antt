@@ -6,7 +6,7 @@ use Prim.Native.Nat.{ℕ, zero, suc, _-_, _≤_, _<_, min}
 use native.Mathlib.Omega.{arith}
 use lib.Dec.{eqb}
 use lib.ListN.{length}
-use borrow.Author.Tests.{ne-eqb, eqb-false, not-true}
+use borrow.Author.Tests.{ne-eqb}
 use Rattle.rules.specs.declared.Regular.{Regular}
 use Rattle.rules.specs.declared.Venue.{Venue}
 use Rattle.rules.specs.Base.{held, Choice, nobody, picked, first}
@@ -15,7 +15,7 @@ use Rattle.rules.specs.Prices.{shown, showsAt, showsFor}
 use Rattle.rules.specs.Records.{trade}
 use Rattle.rules.specs.Effects.{Effect, nothing, report, _⟫_}
 use Rattle.rules.specs.Trading.{fillRegular, tradeWith, take}
-use Rattle.rules.proofs.Tests.{and-l}
+use Rattle.rules.proofs.Tests.{and-l, held-pos}
 use Rattle.rules.proofs.Picking.{first-chosen}
 use Rattle.wire.specs.Seen.{seen, _writes_}
 use Rattle.wire.specs.Stage.{stage, _does_}
@@ -23,20 +23,8 @@ use Rattle.wire.proofs.Stages.{onward, does-nothing, does-report, does-room}
 use Rattle.places.specs.Layout.{size, regularsUsed, venueOf, SameCounts}
 use Rattle.book.specs.declared.Pick.the-variants as pick
 use Rattle.book.specs.Picks.{pickOf}
-use Rattle.book.proofs.Picking.{regular-used, for-free}
+use Rattle.book.proofs.Picking.{picked-is, nobody-is, regular-used, for-free}
 use Rattle.removal.proofs.Removing.{counts-on}
-
--- What a pick says ----------------------------------------------------------------------------
-
-pub picked-is : (x : Choice Regular) (i : ℕ) (o : Regular) → pick.At i o ≡ pickOf x → x ≡ picked i o
-unfolding pickOf
-picked-is nobody i o e = let z : _≡_ {A = ℕ} 0 1 = cc in absurd (omega arith)
-picked-is (picked j m) i o e = cc
-
-pub nobody-is : (x : Choice Regular) → pick.Nobody ≡ pickOf x → x ≡ nobody
-unfolding pickOf
-nobody-is nobody e = refl
-nobody-is (picked j m) e = let z : _≡_ {A = ℕ} 0 1 = cc in absurd (omega arith)
 
 -- One trade -----------------------------------------------------------------------------------
 
@@ -56,12 +44,9 @@ unfolding _⟫_
 then-same e f g h = ap (λ (x : Effect). record { venue = x .venue; reports = e .reports ++ x .reports }) h
 
 -- an order that shows for a price shows at least one contract
-shows-some : (s d p : ℕ) (o : Regular) → showsFor s d p o ≡ true → 0 < o .quantity
-unfolding showsFor showsAt shown
-shows-some s d p o h =
-    let a = and-l (held (o .quantity)) (eqb (o .series) s) (and-l _ (eqb (o .side) d) (and-l _ (eqb (o .price) p) h)) in
-    let n = eqb-false (o .quantity) 0 (not-true (eqb (o .quantity) 0) a) in
-    omega arith
+shows-some : (s d p : ℕ) (o : Regular) → showsFor s d p o ≡ true → 0 < shown o
+unfolding showsFor showsAt
+shows-some s d p o h = held-pos (shown o) (and-l (held (shown o)) (eqb (o .series) s) (and-l _ (eqb (o .side) d) (and-l _ (eqb (o .price) p) h)))
 
 module _ (taker s d p : ℕ) where
   abbrev wanted : Venue → Choice Regular
@@ -83,7 +68,7 @@ module _ (taker s d p : ℕ) where
       ap (λ (x : ℕ). take (suc f) taker s d p x v) z ∙ sym (take-done (suc f) v) ∙ ap (λ (x : ℕ). take zero taker s d p x v) (sym z)
   take-fuel (suc f) (suc g) k v a b = go (held k) refl (wanted v) refl (λ x w. take-fuel f g x w)
     where
-      some : (i : ℕ) (o : Regular) → wanted v ≡ picked i o → 0 < o .quantity
+      some : (i : ℕ) (o : Regular) → wanted v ≡ picked i o → 0 < shown o
       some i o h = shows-some s (opposite d) p o ((rw h at (first-chosen noRegular (showsFor s (opposite d) p) earlier (v .regular))) .is)
 
       go : (t : Bool) → held k ≡ t → (x : Choice Regular) → wanted v ≡ x → ((y : ℕ) (w : Venue) → y ≤ f → y ≤ g → take f taker s d p y w ≡ take g taker s d p y w) →
@@ -95,7 +80,7 @@ module _ (taker s d p : ℕ) where
       go true e (picked i o) h r =
           let q = some i o h in
           then-same (tradeWith taker d i (min k (shown o)) v) (take f taker s d p (k - min k (shown o))) (take g taker s d p (k - min k (shown o)))
-          (r (k - min k (shown o)) (tradeWith taker d i (min k (shown o)) v .venue) (unfold shown in omega arith) (unfold shown in omega arith))
+          (r (k - min k (shown o)) (tradeWith taker d i (min k (shown o)) v .venue) (omega arith) (omega arith))
 
   module _ (v : Venue) where
     -- the definition, of what its tests come to
@@ -111,12 +96,11 @@ module _ (taker s d p : ℕ) where
     take-out (suc k) n e = sym (take-by k (suc k) true nobody (ap not (ne-eqb (suc k) 0 (λ z. omega arith))) (nobody-is _ e))
 
     more : (f i : ℕ) (o : Regular) → pick.At i o ≡ pickOf (wanted v) →
-        take (suc f) taker s d p (suc f) v ≡ (tradeWith taker d i (min (suc f) (o .quantity)) v ⟫ take f taker s d p (suc f - min (suc f) (o .quantity)))
-    unfolding shown
+        take (suc f) taker s d p (suc f) v ≡ (tradeWith taker d i (min (suc f) (shown o)) v ⟫ take f taker s d p (suc f - min (suc f) (shown o)))
     more f i o e = take-by f (suc f) true (picked i o) (ap not (ne-eqb (suc f) 0 (λ z. omega arith))) (picked-is _ i o e)
 
     -- a turn of the loop takes q contracts, at least one
-    module _ (k i : ℕ) (o : Regular) (q : ℕ) (n : 0 < k) (e : pick.At i o ≡ pickOf (wanted v)) (r : q ≡ min k (o .quantity)) where
+    module _ (k i : ℕ) (o : Regular) (q : ℕ) (n : 0 < k) (e : pick.At i o ≡ pickOf (wanted v)) (r : q ≡ min k (shown o)) where
       pub take-some : 0 < q
       take-some =
           let x = shows-some s (opposite d) p o ((rw (picked-is _ i o e) at (first-chosen noRegular (showsFor s (opposite d) p) earlier (v .regular))) .is) in
@@ -129,7 +113,7 @@ module _ (taker s d p : ℕ) where
           ap (λ (x : Effect). seen l at does x) (take-fuel (k - q) (k - 1) (k - q) w (omega arith) (let y = take-some in omega arith))
           ∙ sym (onward (seen m j) (tradeWith taker d i q v) (take (k - 1) taker s d p (k - q)) w l at h)
           ∙ ap (λ (x : ℕ). seen m j does (tradeWith taker d i x v ⟫ take (k - 1) taker s d p (k - x))) r
-          ∙ ap (λ (x : ℕ). seen m j does (tradeWith taker d i (min x (o .quantity)) v ⟫ take (k - 1) taker s d p (x - min x (o .quantity)))) (sym z)
+          ∙ ap (λ (x : ℕ). seen m j does (tradeWith taker d i (min x (shown o)) v ⟫ take (k - 1) taker s d p (x - min x (shown o)))) (sym z)
           ∙ ap (λ (x : Effect). seen m j does x) (sym (more (k - 1) i o e))
           ∙ ap (λ (x : ℕ). seen m j does take x taker s d p x v) z
 
@@ -160,7 +144,10 @@ module _ {taker s d p k : ℕ} {b₀ out₀ b out : List ℕ} {at pos left : ℕ
       taken-out (take-out taker s d p (venueOf b) left h (e ∙ ap (λ (x : ℕ). pickOf (first (showsFor s x p) earlier (venueOf b .regular))) eo))
 
   module _ (other j : ℕ) (o : Regular) (q : ℕ) (h : 0 < left) (eo : other ≡ opposite d)
-      (e : pick.At j o ≡ pickOf (first (showsFor s other p) earlier (venueOf b .regular))) (r : q ≡ min left (o .quantity)) where
+      (e : pick.At j o ≡ pickOf (first (showsFor s other p) earlier (venueOf b .regular))) (x : ℕ) (ex : x ≡ shown o) (r : q ≡ min left x) where
+    taken : q ≡ min left (shown o)
+    taken = r ∙ ap (min left) ex
+
     found : pick.At j o ≡ pickOf (first (showsFor s (opposite d) p) earlier (venueOf b .regular))
     found = e ∙ ap (λ (x : ℕ). pickOf (first (showsFor s x p) earlier (venueOf b .regular))) eo
 
@@ -168,7 +155,7 @@ module _ {taker s d p k : ℕ} {b₀ out₀ b out : List ℕ} {at pos left : ℕ
     taking-used = regular-used _ _ (for-free s other p) b j o (picked-is _ j o e) .used
 
     pub taking-less : left - q < left
-    taking-less = let x = take-some taker s d p (venueOf b) left j o q h found r in omega arith
+    taking-less = let x = take-some taker s d p (venueOf b) left j o q h found taken in omega arith
 
     pub taking-turn : (b₁ out₁ : List ℕ) (pos₁ : ℕ) → length b₁ ≡ length b →
         (stage (venueOf b₁) out₁ pos₁ ≡ seen out pos does tradeWith taker d j q (venueOf b)) × SameCounts b b₁ →
@@ -176,7 +163,7 @@ module _ {taker s d p k : ℕ} {b₀ out₀ b out : List ℕ} {at pos left : ℕ
     taking-turn b₁ out₁ pos₁ n w = record {
       whole = n ∙ i .whole;
       counts = counts-on b₀ b b₁ (i .counts) (w .1);
-      rest = take-turn taker s d p (venueOf b) left j o q h found r (venueOf b₁) out₁ out pos₁ pos (w .0) ∙ i .rest;
+      rest = take-turn taker s d p (venueOf b) left j o q h found taken (venueOf b₁) out₁ out pos₁ pos (w .0) ∙ i .rest;
     }
 
   pub taking-room : length out ≡ length out₀

@@ -11,10 +11,10 @@ use Rattle.rules.specs.declared.Legging.{Legging}
 use Rattle.rules.specs.declared.Venue.{Venue}
 use Rattle.rules.specs.Base.{if_then_else_, held, Choice, nobody, picked, first}
 use Rattle.rules.specs.Words.{opposite, regularAt, leggingAt}
-use Rattle.rules.specs.Prices.{ownPrice, better, reaches}
+use Rattle.rules.specs.Prices.{ownPrice, better, reaches, shown}
 use Rattle.rules.specs.Effects.{Effect, nothing, _⟫_, Turn, ended, turned, repeat}
 use Rattle.rules.specs.Trading.{freeRegular, putRegular}
-use Rattle.rules.specs.Order.{isMet, priceThenId, firstMet, leggingFirst, meet, hit, meetTurn, enterRegular}
+use Rattle.rules.specs.Order.{isMet, priceThenId, atOnce, firstMet, leggingFirst, meet, hit, meetTurn, enterRegular}
 use Rattle.wire.specs.Seen.{seen}
 use Rattle.wire.specs.Stage.{stage, _does_}
 use Rattle.wire.proofs.Stages.{onward, does-nothing, does-room}
@@ -22,9 +22,8 @@ use Rattle.places.specs.Layout.{size, regularsUsed, venueOf, SameCounts}
 use Rattle.book.specs.declared.Pick.{Pick}
 use Rattle.book.specs.declared.Pick.the-variants as pick
 use Rattle.book.specs.Picks.{pickOf}
-use Rattle.book.proofs.Picking.{regular-used, met-free}
+use Rattle.book.proofs.Picking.{picked-is, nobody-is, regular-used, met-free}
 use Rattle.removal.proofs.Removing.{counts-on}
-use Rattle.matching.proofs.Trades.{picked-is, nobody-is}
 
 -- Who comes first -----------------------------------------------------------------------------
 
@@ -41,6 +40,17 @@ module _ (o : Regular) (l : Legging) (p own : ℕ) (e : own ≡ ownPrice l) wher
   unfolding leggingFirst
   first-near t facing n h f b = rw (← e) (simp (ne-eqb _ _ n, h) (b ∙ ap (λ (z : ℕ). better z own p) f))
 
+-- What is traded at once ------------------------------------------------------------------------
+
+module _ (m : Regular) (x : ℕ) (e : x ≡ shown m) where
+  pub once-reserve : x ≡ 0 → m .quantity ≡ atOnce m
+  unfolding atOnce
+  once-reserve h = rw (← e, h)
+
+  pub once-size : (x ≡ 0 → ⊥) → x ≡ atOnce m
+  unfolding atOnce
+  once-size n = rw (← e, ne-eqb x 0 n)
+
 -- What comes next -----------------------------------------------------------------------------
 
 -- the turn of the order at place i, by its parts
@@ -50,7 +60,7 @@ module _ (i : ℕ) (v : Venue) where
     | nobody ↦ if leggingFirst o l 0 then turned (hit i l (min (o .quantity) (l .quantity)) v) else ended
     | picked j m ↦
         if leggingFirst o l (m .price) then turned (hit i l (min (o .quantity) (l .quantity)) v)
-        else turned (meet i j (min (o .quantity) (m .quantity)) v)
+        else turned (meet i j (min (o .quantity) (atOnce m)) v)
   ]
 
   abbrev by-test : Bool → Turn → Turn
@@ -87,13 +97,13 @@ module _ (i : ℕ) (v : Venue) (o : Regular) (eo : o ≡ regularAt v i) where
 
     module _ (j : ℕ) (m : Regular) (e : pick.At j m ≡ met) where
       abbrev either : Bool → Turn
-      either t = if t then turned (hit i l (min (o .quantity) (l .quantity)) v) else turned (meet i j (min (o .quantity) (m .quantity)) v)
+      either t = if t then turned (hit i l (min (o .quantity) (l .quantity)) v) else turned (meet i j (min (o .quantity) (atOnce m)) v)
 
       pub some-hit : (k : ℕ) → leggingFirst o l (m .price) ≡ true → k ≡ min (o .quantity) (l .quantity) → turned (hit i l k v) ≡ meetTurn i v
       some-hit k g q = ap (λ (x : ℕ). turned (hit i l x v)) q ∙ sym (ap either g) ∙ turn-is (picked j m) (picked-is _ j m e)
 
-      pub some-meet : (k : ℕ) → leggingFirst o l (m .price) ≡ false → k ≡ min (o .quantity) (m .quantity) → turned (meet i j k v) ≡ meetTurn i v
-      some-meet k g q = ap (λ (x : ℕ). turned (meet i j x v)) q ∙ sym (ap either g) ∙ turn-is (picked j m) (picked-is _ j m e)
+      pub some-meet : (k x : ℕ) → leggingFirst o l (m .price) ≡ false → x ≡ atOnce m → k ≡ min (o .quantity) x → turned (meet i j k v) ≡ meetTurn i v
+      some-meet k x g ex q = ap (λ (x : ℕ). turned (meet i j x v)) (q ∙ ap (min (o .quantity)) ex) ∙ sym (ap either g) ∙ turn-is (picked j m) (picked-is _ j m e)
 
 -- whoever is met stands at a place in use
 pub met-used : (b : List ℕ) (s d p j : ℕ) (m : Regular) → pick.At j m ≡ pickOf (first (isMet s d p) priceThenId (venueOf b .regular)) → j < regularsUsed b

@@ -11,9 +11,10 @@ ghost use Rattle.rules.specs.Effects.{repeat};
 ghost use Rattle.rules.specs.Trading.{fillComplex, tradeWith, pairOff};
 ghost use Rattle.rules.specs.Trading as trading;
 ghost use Rattle.rules.specs.Prices.{ownPrice};
-ghost use Rattle.rules.specs.Order.{leggingFirst, meetTurn, enterRegular};
+ghost use Rattle.rules.specs.Order.{atOnce, leggingFirst, meetTurn, enterRegular};
 ghost use Rattle.rules.specs.Order as order;
 ghost use Rattle.rules.specs.Complex.{complexPlace, cancelRegular, cancelComplex};
+ghost use Rattle.rules.specs.Sound.{showsFully};
 ghost use Rattle.wire.specs.Seen.{seen};
 ghost use Rattle.wire.specs.Stage.{stage, _does_};
 ghost use Rattle.places.specs.Layout.{size, regularsUsed, complexesUsed, venueOf, Right, Below, Counts, SameCounts, Dense};
@@ -44,7 +45,7 @@ fn trade_with(
     wire::emit_trade(out, at, m.series, side, m.price, k, taker, m.id)
 }
 
-// A taker of a side takes contracts at a price in a series, by id, until it has all or none are left there.
+// A taker of a side takes contracts that are shown at a price in a series, by id, until it has all or none are left there.
 pub fn take(
     b: &mut [u32],
     taker: u32,
@@ -67,7 +68,7 @@ pub fn take(
         let Pick::At(j, m) = found else {
             return pos;
         };
-        let k = lesser(left, m.quantity);
+        let k = lesser(left, rules::shown_of(m));
         pos = trade_with(b, taker, side, j, k, out, pos);
         left -= k;
     }
@@ -211,6 +212,17 @@ fn facing(b: &[u32], series: u8, side: u8) -> Legging
     places::legging_at(b, n)
 }
 
+// What of the resting order m is traded at once: what it shows; its reserve when that is gone.
+fn at_once(m: Regular) -> u32
+    ensures { λ r. ⌜ r ≡ atOnce m ⌝ }
+{
+    let size = rules::shown_of(m);
+    if size == 0 {
+        return m.quantity;
+    }
+    size
+}
+
 // What the order at place i does next.
 fn decide(b: &[u32], i: usize) -> Plan
     requires { ⌜ (length (now b) ≡ size) × (i < regularsUsed (now b)) × (Right (now b)) ⌝ }
@@ -233,7 +245,7 @@ fn decide(b: &[u32], i: usize) -> Plan
             if legging_first(o, l, m.price) {
                 return Plan::Hit(l, lesser(o.quantity, l.quantity));
             }
-            Plan::Meet(j, lesser(o.quantity, m.quantity))
+            Plan::Meet(j, lesser(o.quantity, at_once(m)))
         }
     }
 }
@@ -268,7 +280,7 @@ pub fn meet_all(b: &mut [u32], i: usize, quantity: u32, out: &mut [u8], at: usiz
 
 // The order is given a place and meets the other side there. Every place in use is held, so the place after them is the first free one.
 pub fn enter_regular(b: &mut [u32], o: Regular, out: &mut [u8], at: usize) -> usize
-    requires { ⌜ (length (now b) ≡ size) × (Dense (now b)) × (regularsUsed (now b) < 128) × (o .series < 8) × (o .side < 2) × (held (o .price) ≡ true) × (Below (o .id) (venueOf (now b) .regular)) ⌝ }
+    requires { ⌜ (length (now b) ≡ size) × (Dense (now b)) × (regularsUsed (now b) < 128) × (o .series < 8) × (o .side < 2) × (held (o .price) ≡ true) × (Below (o .id) (venueOf (now b) .regular)) × (held (o .display) ≡ true) × (o .display ≤ o .quantity) × (showsFully o ≡ true) ⌝ }
     ensures { λ r. ⌜ stage (venueOf (now (b .exit))) (now (out .exit)) r ≡ seen (now (out .entry)) at does enterRegular o (venueOf (now (b .entry))) ⌝ }
     ensures counts { λ _. ⌜ Counts (suc (regularsUsed (now (b .entry)))) (complexesUsed (now (b .entry))) (now (b .entry)) (now (b .exit)) ⌝ }
 {

@@ -85,6 +85,9 @@ returns-3 c =
       tt,
     )
 
+at-once-requires : tie.Need-at-once-requires
+at-once-requires c κs = search needs
+
 lesser-requires-3 : tie.Need-lesser-requires-3
 lesser-requires-3 c κs = search needs
 
@@ -106,18 +109,19 @@ returns-4 c =
 returns-5 : tie.Need-returns-5
 unfolding turnOf
 returns-5 c =
-    let p2 = c .before .before in
-    let p4 = p2 .before .before in
-    let p6 = p4 .before .before in
-    let p7 = p6 .before in
+    let p1 = c .before in
+    let p3 = p1 .before .before in
+    let p5 = p3 .before .before in
+    let p7 = p5 .before .before in
     let p8 = p7 .before in
-    let p10 = p8 .before .before in
-    let p12 = p10 .before .before in
-    let e = sym (p4 .found .given .1) ∙ p6 .first-met .ensures in (
-      some-meet (p12 .args .i) (venueOf (p12 .args .b .now)) _
-          (p10 .regular-at .ensures ∙ sym (regular-at (p12 .args .b .now) (p12 .args .i) (p12 .pre .1))) _ (p8 .if1 .left) (p7 .facing .ensures) _ _ e _
-          (sym (p2 .legging-first2 .ensures) ∙ c .before .if3 .left) (c .lesser3 .ensures),
-      met-used (p12 .args .b .now) _ _ _ _ _ e,
+    let p9 = p8 .before in
+    let p11 = p9 .before .before in
+    let p13 = p11 .before .before in
+    let e = sym (p5 .found .given .1) ∙ p7 .first-met .ensures in (
+      some-meet (p13 .args .i) (venueOf (p13 .args .b .now)) _
+          (p11 .regular-at .ensures ∙ sym (regular-at (p13 .args .b .now) (p13 .args .i) (p13 .pre .1))) _ (p9 .if1 .left) (p8 .facing .ensures) _ _ e _ _
+          (sym (p3 .legging-first2 .ensures) ∙ p1 .before .if3 .left) (p1 .at-once .ensures) (c .lesser3 .ensures),
+      met-used (p13 .args .b .now) _ _ _ _ _ e,
     )
 
 pub decide-spec : {M : Type 1} → statement M
@@ -136,6 +140,7 @@ decide-spec =
     legging-first-requires-2
     lesser-requires-2
     returns-3
+    at-once-requires
     lesser-requires-3
     returns-4
     returns-5)

@@ -19,7 +19,7 @@ regulars-used-requires c κs = search needs
 add-order-requires : tie.Need-add-order-requires
 add-order-requires c κs =
     let s = c .before .before .before .before .before in
-    (s .pre .0, s .pre .1 .right, s .pre .2, s .pre .3, s .pre .4, s .pre .5, s .pre .6)
+    (s .pre .0, s .pre .1 .right, s .pre .2, s .pre .3, s .pre .4, s .pre .5, s .pre .6, s .pre .7, s .pre .8, s .pre .9)
 
 meet-all-requires : tie.Need-meet-all-requires
 meet-all-requires c κs =

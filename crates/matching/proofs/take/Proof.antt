@@ -47,20 +47,24 @@ returns c =
     let p6 = p5 .before in
     taking-none (p5 .loop .inv) _ (p4 .loop-test .taken) (p6 .opposite-of .ensures) (sym (c .enum-told .given .1) ∙ p2 .first-for .ensures)
 
+shown-of-requires : tie.Need-shown-of-requires Inv-loop μ-loop
+shown-of-requires c κs = search needs
+
 lesser-requires : tie.Need-lesser-requires Inv-loop μ-loop
 lesser-requires c κs = search needs
 
 trade-with-requires : tie.Need-trade-with-requires Inv-loop μ-loop
 trade-with-requires c κs =
     let p2 = c .before .before in
-    let p4 = p2 .before .before in
-    let p6 = p4 .before .before in
-    let p8 = p6 .before .before in
-    let p9 = p8 .before in
-    let p10 = p9 .before in (
-      p9 .loop .inv .whole,
-      taking-used (p9 .loop .inv) _ _ _ _ (p8 .loop-test .taken) (p10 .opposite-of .ensures) (sym (p4 .found .given .1) ∙ p6 .first-for .ensures)
-          (p2 .lesser .ensures),
+    let p3 = p2 .before in
+    let p5 = p3 .before .before in
+    let p7 = p5 .before .before in
+    let p9 = p7 .before .before in
+    let p10 = p9 .before in
+    let p11 = p10 .before in (
+      p10 .loop .inv .whole,
+      taking-used (p10 .loop .inv) _ _ _ _ (p9 .loop-test .taken) (p11 .opposite-of .ensures) (sym (p5 .found .given .1) ∙ p7 .first-for .ensures)
+          _ (p3 .shown-of .ensures) (p2 .lesser .ensures),
     )
 
 sub-left : tie.Need-sub-left Inv-loop μ-loop
@@ -69,25 +73,27 @@ sub-left c = omega (arith, c .before .before .before .before .before .before .be
 loop-less : tie.Need-loop-less Inv-loop μ-loop
 loop-less c =
     let p7 = c .before .before .before .before .before .before .before in
-    let p9 = p7 .before .before in
-    let p11 = p9 .before .before in
-    let p13 = p11 .before .before in
-    let p14 = p13 .before in
+    let p8 = p7 .before in
+    let p10 = p8 .before .before in
+    let p12 = p10 .before .before in
+    let p14 = p12 .before .before in
     let p15 = p14 .before in
-    taking-less (p14 .loop .inv) _ _ _ _ (p13 .loop-test .taken) (p15 .opposite-of .ensures) (sym (p9 .found .given .1) ∙ p11 .first-for .ensures)
-    (p7 .lesser .ensures)
+    let p16 = p15 .before in
+    taking-less (p15 .loop .inv) _ _ _ _ (p14 .loop-test .taken) (p16 .opposite-of .ensures) (sym (p10 .found .given .1) ∙ p12 .first-for .ensures)
+    _ (p8 .shown-of .ensures) (p7 .lesser .ensures)
 
 loop-again : tie.Need-loop-again Inv-loop μ-loop
 loop-again c =
     let p4 = c .before .before .before .before in
     let p7 = p4 .before .before .before in
-    let p9 = p7 .before .before in
-    let p11 = p9 .before .before in
-    let p13 = p11 .before .before in
-    let p14 = p13 .before in
+    let p8 = p7 .before in
+    let p10 = p8 .before .before in
+    let p12 = p10 .before .before in
+    let p14 = p12 .before .before in
     let p15 = p14 .before in
-    taking-turn (p14 .loop .inv) _ _ _ _ (p13 .loop-test .taken) (p15 .opposite-of .ensures) (sym (p9 .found .given .1) ∙ p11 .first-for .ensures)
-    (p7 .lesser .ensures) _ _ _ (p4 .trade-with .kept .0) (p4 .trade-with .ensures)
+    let p16 = p15 .before in
+    taking-turn (p15 .loop .inv) _ _ _ _ (p14 .loop-test .taken) (p16 .opposite-of .ensures) (sym (p10 .found .given .1) ∙ p12 .first-for .ensures)
+    _ (p8 .shown-of .ensures) (p7 .lesser .ensures) _ _ _ (p4 .trade-with .kept .0) (p4 .trade-with .ensures)
 
 same-length-3 : tie.Need-same-length-3 Inv-loop μ-loop
 same-length-3 c = c .before .loop .inv .whole ∙ sym (c .before .before .before .before .before .pre .0)
@@ -112,6 +118,7 @@ take-spec =
     same-length
     same-length-2
     returns
+    shown-of-requires
     lesser-requires
     trade-with-requires
     sub-left
