@@ -12,10 +12,10 @@ use borrow.Author.Tests.{lt-ltb, le-ltb, ne-eqb}
 use Rattle.rules.specs.declared.Complex.{Complex}
 use Rattle.rules.specs.declared.Venue.{Venue}
 use Rattle.rules.specs.Base.{if_then_else_, held, Choice, nobody, picked, ranked, firstFrom}
-use Rattle.rules.specs.Words.{noComplex, complexAt, earlierComplex, withLegging}
+use Rattle.rules.specs.Words.{noComplex, complexAt, earlierComplex, withRegular, withLegging}
 use Rattle.rules.specs.Effects.{Effect, nothing, _⟫_}
 use Rattle.rules.specs.Removal.{remove}
-use Rattle.rules.specs.Standing.{settle}
+use Rattle.rules.specs.Standing.{settle, showAgain}
 use Rattle.rules.specs.Complex.{work, nextAbove, each}
 use Rattle.rules.specs.Places.{holdsComplex, blankComplex}
 use Rattle.rules.specs.Sound.{complexesSound, sound}
@@ -149,7 +149,7 @@ module _ (a b : List Complex) (f : FewerC a b) where
 -- ids still rise after the orders are worked and settling is done
 pub swept-rising : (v v₁ v₂ : Venue) (l₀ l₁ l₂ : List ℕ) (a₀ a₁ a₂ : ℕ) →
     stage v₁ l₁ a₁ ≡ seen l₀ a₀ does each 32 work 0 v → stage v₂ l₂ a₂ ≡ seen l₁ a₁ does settle v₁ → Rising (v .complex) → Rising (v₂ .complex)
-unfolding settle remove withLegging
+unfolding settle showAgain remove withRegular withLegging
 swept-rising v v₁ v₂ l₀ l₁ l₂ a₀ a₁ a₂ p q s =
     rw (stage-venue v₂ l₂ l₁ a₂ a₁ (settle v₁) q, stage-venue v₁ l₁ l₀ a₁ a₀ (each 32 work 0 v) p) (fewer-rising (each 32 work 0 v .venue .complex) (v .complex) worked s)
   where

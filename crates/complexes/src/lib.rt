@@ -14,6 +14,7 @@ ghost use Rattle.rules.specs.Order as order;
 ghost use Rattle.rules.specs.Generation.{generate};
 ghost use Rattle.rules.specs.Complex.{legsIn, legInTurn, each, complexPlace, cancelComplex, restsRegular, restsComplex};
 ghost use Rattle.rules.specs.Complex as complex;
+ghost use Rattle.rules.specs.Sound.{showsFully};
 ghost use Rattle.wire.specs.Seen.{seen};
 ghost use Rattle.wire.specs.Stage.{stage, _does_};
 ghost use Rattle.places.specs.Layout.{size, regularsUsed, complexesUsed, venueOf, Figured, Right, Below, Counts, SameCounts, Dense};
@@ -208,7 +209,7 @@ pub fn cancel(b: &mut [u32], id: u32, out: &mut [u8], at: usize) -> usize
 
 // An order arrives and meets the other side; then settling.
 pub fn order(b: &mut [u32], o: Regular, out: &mut [u8], at: usize) -> usize
-    requires { ⌜ (length (now b) ≡ size) × (Dense (now b)) × (regularsUsed (now b) < 128) × (o .series < 8) × (o .side < 2) × (held (o .price) ≡ true) × (Below (o .id) (venueOf (now b) .regular)) ⌝ }
+    requires { ⌜ (length (now b) ≡ size) × (Dense (now b)) × (regularsUsed (now b) < 128) × (o .series < 8) × (o .side < 2) × (held (o .price) ≡ true) × (Below (o .id) (venueOf (now b) .regular)) × (held (o .display) ≡ true) × (o .display ≤ o .quantity) × (showsFully o ≡ true) ⌝ }
     ensures { λ r. ⌜ stage (venueOf (now (b .exit))) (now (out .exit)) r ≡ seen (now (out .entry)) at does order.order o (venueOf (now (b .entry))) ⌝ }
     ensures counts { λ _. ⌜ Counts (suc (regularsUsed (now (b .entry)))) (complexesUsed (now (b .entry))) (now (b .entry)) (now (b .exit)) ⌝ }
 {

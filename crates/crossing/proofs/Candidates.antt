@@ -19,7 +19,7 @@ use Rattle.places.specs.Layout.{upto, complexesUsed, complexIn, venueOf}
 use Rattle.crossing.specs.declared.Pick.{Pick}
 use Rattle.crossing.specs.declared.Pick.the-variants.{Nobody, At}
 use Rattle.crossing.specs.Picks.{pickedOf}
-use Rattle.crossing.proofs.Scanning.{first-used}
+use Rattle.levels.proofs.Scanning.{first-used}
 
 -- what a negated test says of the definition's
 pub off : (r x : Bool) → r ≡ x → not r ≡ true → x ≡ false

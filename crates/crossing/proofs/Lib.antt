@@ -1,4 +1,3 @@
-pub mod Scanning
 pub mod Limits
 pub mod Candidates
 pub mod Keys

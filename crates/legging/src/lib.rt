@@ -17,6 +17,7 @@ ghost use Rattle.rules.specs.Step.{mask};
 ghost use Rattle.rules.specs.Words.{noLegging, opposite, signed, leggingAt};
 ghost use Rattle.rules.specs.Settings.{increment};
 ghost use Rattle.rules.specs.Prices.{better, bestRegular, displayed};
+ghost use Rattle.rules.specs.Removal.{remove};
 ghost use Rattle.rules.specs.Standing.{otherClear, pairs, verdictOf, verdict, verdictNumber, settle};
 ghost use Rattle.rules.specs.Generation.{asPrice, givesWay, placed, othersStand, generateLeg, generate};
 ghost use Rattle.wire.specs.Seen.{seen};
@@ -146,9 +147,9 @@ pub fn none_stands(b: &[u32]) -> bool
 }
 
 // All legging orders are tested against the same state, and the failures go together. The grid is made only where some legging order stands.
-pub fn settle_all(b: &mut [u32], out: &mut [u8], at: usize) -> usize
+fn remove_failing(b: &mut [u32], out: &mut [u8], at: usize) -> usize
     requires { ⌜ (length (now b) ≡ size) × (Right (now b)) ⌝ }
-    ensures { λ r. ⌜ stage (venueOf (now (b .exit))) (now (out .exit)) r ≡ seen (now (out .entry)) at does settle (venueOf (now (b .entry))) ⌝ }
+    ensures { λ r. ⌜ stage (venueOf (now (b .exit))) (now (out .exit)) r ≡ seen (now (out .entry)) at does remove (verdict (venueOf (now (b .entry)))) (venueOf (now (b .entry))) ⌝ }
     ensures counts { λ r. ⌜ SameCounts (now (b .entry)) (now (b .exit)) ⌝ }
 {
     if none_stands(b) {
@@ -160,6 +161,16 @@ pub fn settle_all(b: &mut [u32], out: &mut [u8], at: usize) -> usize
         return at;
     }
     removal::remove_marked(b, marks, out, at)
+}
+
+// Each order shows again, and then the legging orders are tested.
+pub fn settle_all(b: &mut [u32], out: &mut [u8], at: usize) -> usize
+    requires { ⌜ (length (now b) ≡ size) × (Right (now b)) ⌝ }
+    ensures { λ r. ⌜ stage (venueOf (now (b .exit))) (now (out .exit)) r ≡ seen (now (out .entry)) at does settle (venueOf (now (b .entry))) ⌝ }
+    ensures counts { λ r. ⌜ SameCounts (now (b .entry)) (now (b .exit)) ⌝ }
+{
+    levels::show_again(b);
+    remove_failing(b, out, at)
 }
 
 // Every legging order but the one at place m passes its test.

@@ -11,7 +11,7 @@ use Rattle.places.proofs.Parts.{complexes-few}
 use Rattle.levels.specs.Grid.{LegsIn}
 use Rattle.levels.proofs.Sides.{legs-in}
 use Rattle.crossing.specs.Picks.{pickedOf}
-use Rattle.crossing.proofs.Scanning.{scan-start, scan-past, scan-join}
+use Rattle.levels.proofs.Scanning.{scan-start, scan-past, scan-join}
 use Rattle.crossing.proofs.Candidates.{off, on, first-crossed}
 use Rattle.crossing.proofs.Keys.{cross-key}
 use Rattle.crossing.proofs.first_cross.Statement.{statement}

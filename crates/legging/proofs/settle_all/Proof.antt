@@ -1,86 +1,39 @@
 -- `legging::settle_all` meets its contract.
-use Rattle.removal.proofs.Removing.{remove-none, unmarked, marked-is}
-use Rattle.places.specs.Layout.{venueOf}
-use Rattle.wire.proofs.Stages.{does-nothing}
-use Rattle.wire.specs.Stage.{_does_}
-use Rattle.wire.specs.Seen.{seen}
+use mathlib.Core.Path.{ap, _∙_}
+use Rattle.rules.specs.declared.Venue.{Venue}
+use Rattle.rules.specs.Removal.{remove}
 use Rattle.rules.specs.Standing.{verdict, settle}
-use Rattle.rules.specs.Effects.{Effect}
-use borrow.Author.Tests.{eqb-true}
-use mathlib.Core.Path.{refl, sym, ap, _∙_}
+use Rattle.wire.specs.Seen.{seen}
+use Rattle.wire.specs.Stage.{_does_}
+use Rattle.removal.proofs.Removing.{counts-on}
 use borrow.Author.Needs.{needs}
 use Rattle.legging.proofs.settle_all.Statement.{statement}
 use Rattle.legging.proofs.settle_all.Tie as tie
 
-none-stands-requires : tie.Need-none-stands-requires
-none-stands-requires c κs = search needs
+show-again-requires : tie.Need-show-again-requires
+show-again-requires c κs = search needs
+
+remove-failing-requires : tie.Need-remove-failing-requires
+remove-failing-requires c κs =
+    let p4 = c .before .before .before .before in
+    let s = p4 .before .before .before .before in
+    (p4 .show-again .kept .0 ∙ s .pre .0, p4 .show-again .ensures .1 .right (s .pre .1))
 
 same-length : tie.Need-same-length
 same-length c = search needs
 
-returns : tie.Need-returns
-unfolding settle
-returns c =
-    let p1 = c .before in
-    let a = p1 .before .before .before .before .args in
-    let v = venueOf (a .b .now) in (
-      does-nothing v (a .out .now) (a .at)
-          ∙ ap (λ (e : Effect). seen (a .out .now) (a .at) does e) (sym (remove-none (verdict v) v (eqb-true _ _ (sym (p1 .none-stands .ensures) ∙ c .if1 .taken)))),
-      record { regulars = refl; complexes = refl; right = λ h. h },
-    )
-
-levels-requires : tie.Need-levels-requires
-levels-requires c κs = search needs
-
-verdicts-requires : tie.Need-verdicts-requires
-verdicts-requires c κs = search needs
-
 same-length-2 : tie.Need-same-length-2
 same-length-2 c = search needs
 
-returns-2 : tie.Need-returns-2
+returns : tie.Need-returns
 unfolding settle
-returns-2 c =
-    let p1 = c .before in
-    let a = p1 .before .before .before .before .before .before .before .before .before .args in
-    let v = venueOf (a .b .now) in
-    let m = p1 .verdicts in (
-      does-nothing v (a .out .now) (a .at)
-          ∙ ap (λ (e : Effect). seen (a .out .now) (a .at) does e) (unmarked (m .result) v (c .if2 .taken) ∙ marked-is (verdict v) (m .result) (a .b .now) (m .ensures)),
-      record { regulars = refl; complexes = refl; right = λ h. h },
-    )
-
-remove-marked-requires : tie.Need-remove-marked-requires
-remove-marked-requires c κs = search needs
-
-same-length-3 : tie.Need-same-length-3
-same-length-3 c = search needs
-
-same-length-4 : tie.Need-same-length-4
-same-length-4 c = search needs
-
-returns-3 : tie.Need-returns-3
-unfolding settle
-returns-3 c =
+returns c =
     let p4 = c .before .before .before .before in
-    let p8 = p4 .before .before .before .before in
-    let a = p8 .before .before .before .before .before .before .before .before .before .args in
-    let m = p8 .verdicts in
-    let w = p4 .remove-marked in
-    (w .ensures .0 ∙ ap (λ (e : Effect). seen (a .out .now) (a .at) does e) (marked-is (verdict (venueOf (a .b .now))) (m .result) (a .b .now) (m .ensures)), w .ensures .1)
+    let p9 = p4 .before .before .before .before .before in
+    let s = p9 .before .before .before .before in
+    let w = p4 .remove-failing .ensures in
+    let e = p9 .show-again .ensures in
+    (w .0 ∙ ap (λ (v : Venue). seen (s .args .out .now) (s .args .at) does remove (verdict v) v) (e .0), counts-on _ _ _ (e .1) (w .1))
 
 pub settle-all-spec : {M : Type 1} → statement M
-settle-all-spec =
-    tie.close
-    (tie.spec
-    none-stands-requires
-    same-length
-    returns
-    levels-requires
-    verdicts-requires
-    same-length-2
-    returns-2
-    remove-marked-requires
-    same-length-3
-    same-length-4
-    returns-3)
+settle-all-spec = tie.close (tie.spec show-again-requires remove-failing-requires same-length same-length-2 returns)
