@@ -2,10 +2,10 @@
 use mathlib.Core.Path.{_≡_, refl, sym, ap, ap₂, _∙_}
 use mathlib.Core.Bool.{Bool, true, false, not, _&&_, _||_, true≢false}
 use mathlib.Core.List.{List, [], _∷_}
-use Prim.Native.Nat.{ℕ, suc, _+_, _≤_, _<_}
+use Prim.Native.Nat.{ℕ, suc, _+_, _-_, _≤_, _<_}
 use native.Mathlib.Omega.{arith}
 use native.Mathlib.Numerals.{add-one}
-use borrow.Author.Tests.{eq-eqb, ne-eqb, ltb-true, ltb-false, lt-ltb, le-ltb, lt-leb, le-leb}
+use borrow.Author.Tests.{eq-eqb, ne-eqb, ltb-true, ltb-false, lt-ltb, le-ltb, leb-true, lt-leb, le-leb}
 use lib.Dec.{eqb, leb, ltb}
 use lib.IntN.{ℤ, pos, negsuc, natAbs}
 use lib.Signed.{ltZ}
@@ -15,10 +15,11 @@ use Rattle.rules.specs.Base.{if_then_else_, all}
 use Rattle.rules.specs.declared.Regular.{Regular}
 use Rattle.rules.specs.declared.Complex.{Complex}
 use Rattle.rules.specs.declared.Edition.{Edition}
-use Rattle.rules.specs.Words.{noEdition}
+use Rattle.rules.specs.Words.{noEdition, within}
 use Rattle.rules.specs.Settings.{isIncrement, isPercent, isEdition}
 use Rattle.rules.specs.Places.{holdsEdition, blankRegular, blankComplex, blankEdition, arranged}
-use Rattle.rules.specs.Sound.{figureInRange, editionInRange}
+use Rattle.rules.specs.Refusals.{regularInRange}
+use Rattle.rules.specs.Sound.{showsFully, figureInRange, editionInRange}
 use Rattle.rules.proofs.Tests.{and-l, and-r, and-in, and-true, and-false}
 use Rattle.wire.proofs.Decoding.{inside, within-top}
 use Rattle.soundness.specs.Checked.{editionsFrom}
@@ -132,6 +133,19 @@ above-last a x last h = out-of-last a (leb x last) (lt-leb x last h)
 pub in-range : (a : Bool) (x last : ℕ) → a ≡ true → x ≤ last → (a && leb x last) ≡ true
 in-range a x last h q = rw (h, le-leb x last q)
 
+-- an order in range shows no more than all of it
+pub display-in : (o : Regular) → regularInRange o ≡ true → o .display ≤ o .quantity
+unfolding regularInRange within
+display-in o h = leb-true (o .display) (o .quantity) (search (and-l, and-r, h) depth 12)
+
+pub shows-less : (o : Regular) → (o .reserve ≡ o .quantity - o .display → ⊥) → showsFully o ≡ false
+unfolding showsFully
+shows-less o h = ne-eqb (o .reserve) (o .quantity - o .display) h
+
+pub shows-all : (o : Regular) → o .reserve ≡ o .quantity - o .display → showsFully o ≡ true
+unfolding showsFully
+shows-all o h = eq-eqb (o .reserve) (o .quantity - o .display) h
+
 -- Editions, arranged in both numbers ----------------------------------------------------------
 
 and-same : (a : Bool) → a ≡ (a && a)
@@ -201,9 +215,10 @@ none-beside (negsuc n) g h = absurd (true≢false g)
 
 -- A place whose other numbers are zero --------------------------------------------------------
 
-pub regular-zero : (o : Regular) → o .id ≡ 0 → o .series ≡ 0 → o .side ≡ 0 → o .price ≡ 0 → eqb (o .quantity) 0 ≡ blankRegular o
+pub regular-zero : (o : Regular) → o .id ≡ 0 → o .series ≡ 0 → o .side ≡ 0 → o .price ≡ 0 → o .quantity ≡ 0 → o .display ≡ 0 → eqb (o .reserve) 0 ≡ blankRegular o
 unfolding blankRegular
-regular-zero o a b c d = rw (eq-eqb (o .id) 0 a, eq-eqb (o .series) 0 b, eq-eqb (o .side) 0 c, eq-eqb (o .price) 0 d)
+regular-zero o a b c d e f =
+    rw (eq-eqb (o .id) 0 a, eq-eqb (o .series) 0 b, eq-eqb (o .side) 0 c, eq-eqb (o .price) 0 d, eq-eqb (o .quantity) 0 e, eq-eqb (o .display) 0 f)
 
 pub edition-zero : (e : Edition) → e .edition ≡ 0 → e .message ≡ 0 → e .figure ≡ 0 → eqb (e .value) 0 ≡ blankEdition e
 unfolding blankEdition

@@ -4,32 +4,33 @@ use mathlib.Core.Bool.{Bool, true, false, _&&_, true≢false}
 use mathlib.Core.List.{List, []}
 use Prim.Native.Nat.{ℕ, _<_}
 use native.Mathlib.Omega.{arith}
-use borrow.Author.Tests.{leb-true, le-leb, eqb-true}
+use borrow.Author.Tests.{leb-true, le-leb}
 use lib.Dec.{leb}
 use lib.ListN.{getD}
 use Rattle.rules.specs.declared.Regular.{Regular}
 use Rattle.rules.specs.declared.Complex.{Complex}
 use Rattle.rules.specs.declared.Venue.{Venue}
-use Rattle.rules.specs.Base.{all}
+use Rattle.rules.specs.Base.{held, all}
 use Rattle.rules.specs.Words.{noRegular, noComplex, withRegular, withComplex, isSeries, isSide, within}
 use Rattle.rules.specs.Places.{holdsRegular, holdsComplex, blankRegular, blankComplex, arranged, packed, closeGaps}
 use Rattle.rules.specs.Refusals.{regularInRange, onIncrement, complexInRange}
-use Rattle.rules.specs.Sound.{apart, listedInRange, leggingsSound, regularsSound, complexesSound, idsDistinct, editionsSound, sound}
+use Rattle.rules.specs.Sound.{apart, listedInRange, leggingsSound, showsFully, regularsSound, complexesSound, idsDistinct, editionsSound, sound}
 use Rattle.rules.proofs.Tests.{and-l, and-r}
 use Rattle.rules.proofs.Closing.{packed-free}
-use Rattle.rules.proofs.Arranging.{arranged-out, blank-free, blank-freeC, closed-same}
+use Rattle.rules.proofs.Arranging.{arranged-out, blank-is, blank-free, blank-freeC, closed-same}
 use Rattle.rules.proofs.Editions.{Stepped, dated-steps}
-use Rattle.places.proofs.Orderly.{range-priced}
+use Rattle.places.proofs.Orderly.{range-priced, range-displayed}
+use Rattle.places.proofs.Fully.{range-bounded}
 use Rattle.places.proofs.Loaded.{editions-dated}
-use Rattle.places.specs.Layout.{OnSide, Loadable, Loaded, venueOf}
+use Rattle.places.specs.Layout.{OnSide, Fully, Loadable, Loaded, venueOf}
 use Rattle.soundness.specs.Checked.{askedRegular, regularsFrom, placesSound, pricedOn, onIncrements, eight, ordersSound, Checked}
 use Rattle.soundness.proofs.Passes.{arranged-split}
 
 -- Loading -------------------------------------------------------------------------------------
 
-regular-side : (o : Regular) (t : Bool) → (regularInRange o && t) ≡ true → OnSide (o .series) (o .side)
+regular-side : (o : Regular) → regularInRange o ≡ true → OnSide (o .series) (o .side)
 unfolding regularInRange isSeries isSide within
-regular-side o t z =
+regular-side o z =
     let a = leb-true (o .series) 7 (search (and-l, and-r, z) depth 8) in
     let b = leb-true (o .side) 1 (search (and-l, and-r, z) depth 8) in
     record { series = omega arith; side = omega arith }
@@ -43,15 +44,24 @@ complex-sides c t z =
     let f = leb-true (c .side2) 1 (search (and-l, and-r, z) depth 12) in
     (record { series = omega arith; side = omega arith }, record { series = omega arith; side = omega arith })
 
-regular-none : (o : Regular) → blankRegular o ≡ true → o ≡ noRegular
-unfolding blankRegular
-regular-none o z =
-    let a = eqb-true (o .id) 0 (search (and-l, and-r, z) depth 8) in
-    let b = eqb-true (o .series) 0 (search (and-l, and-r, z) depth 8) in
-    let c = eqb-true (o .side) 0 (search (and-l, and-r, z) depth 8) in
-    let d = eqb-true (o .price) 0 (search (and-l, and-r, z) depth 8) in
-    let e = eqb-true (o .quantity) 0 (search (and-l, and-r, z) depth 8) in
-    rw (a, b, c, d, e)
+-- what is asked of a regular order
+asked-out : (last : ℕ) (o : Regular) → askedRegular last o ≡ true → (regularInRange o ≡ true) × (showsFully o ≡ true)
+asked-out last o z =
+    let y = and-l (regularInRange o && showsFully o) (leb (o .id) last) z in
+    (and-l (regularInRange o) (showsFully o) y, and-r (regularInRange o) (showsFully o) y)
+
+-- of each held regular order
+abbrev EachHeld : Venue → (Regular → Type 0) → Type 0
+EachHeld v P = (i : ℕ) → held (getD (v .regular) i noRegular .quantity) ≡ true → P (getD (v .regular) i noRegular)
+
+-- every order shows what it should, where each held one does
+orders-show : (v : Venue) → EachHeld v (λ o. showsFully o ≡ true) →
+    ((i : ℕ) → held (getD (v .regular) i noRegular .quantity) ≡ false → blankRegular (getD (v .regular) i noRegular) ≡ true) → Fully (v .regular)
+orders-show v asked blank i = go (held (getD (v .regular) i noRegular .quantity)) refl
+  where
+    go : (t : Bool) → held (getD (v .regular) i noRegular .quantity) ≡ t → showsFully (getD (v .regular) i noRegular) ≡ true
+    go true h = asked i h
+    go false h = rw (blank-is _ (blank i h)) (unfold showsFully in refl)
 
 complexes-packed : (v : Venue) → complexesSound v ≡ true → packed holdsComplex noComplex (v .complex) ≡ v .complex
 unfolding complexesSound regularsSound arranged closeGaps withRegular withComplex
@@ -62,10 +72,13 @@ unfolding regularsFrom complexesSound
 books-load v r c steps =
     let a = arranged-out noRegular holdsRegular _ blankRegular (λ o. o .id) blank-free (unfold blankRegular in refl) 0 (v .regular) r in
     let b = arranged-out noComplex holdsComplex _ blankComplex (λ c. c .id) blank-freeC (unfold blankComplex in refl) 0 (v .complex) c in
+    let ranged : EachHeld v (λ o. regularInRange o ≡ true) = λ i h. asked-out (v .last) (getD (v .regular) i noRegular) (a .asks i h) .0 in
+    let shows : EachHeld v (λ o. showsFully o ≡ true) = λ i h. asked-out (v .last) (getD (v .regular) i noRegular) (a .asks i h) .1 in
     record {
-      regulars = record { dense = a .dense; blank = λ i h. regular-none _ (a .blanks i h); asked = λ i h. regular-side _ _ (a .asks i h) };
+      regulars = record { dense = a .dense; blank = λ i h. blank-is _ (a .blanks i h); asked = λ i h. (regular-side _ (ranged i h), range-bounded _ (ranged i h) (shows i h)) };
       complexes = record { dense = b .dense; blank = rw (complexes-packed v c) at (packed-free holdsComplex noComplex (v .complex)); asked = λ i h. complex-sides _ _ (b .asks i h) };
-      orders = record { priced = λ i h. range-priced _ (and-l _ _ (a .asks i h)); rises = a .rises };
+      orders = record { priced = λ i h. range-priced _ (ranged i h); displayed = λ i h. range-displayed _ (ranged i h); rises = a .rises };
+      shows = orders-show v shows (a .blanks);
       increments = steps;
     }
 
@@ -94,18 +107,20 @@ pub orders-are : (b : List ℕ) → getD b 778 0 < 4294967296 →
 orders-are b h = orders-of (venueOf b) (last-in b h)
 
 -- the increments apart from the rest of what is asked of a regular order
-last-two : (a b c : Bool) → (a && b && c) ≡ (a && c && b)
-last-two true true true = refl
-last-two true true false = refl
-last-two true false true = refl
-last-two true false false = refl
-last-two false b c = refl
+second-last : (a b c d : Bool) → (a && b && c && d) ≡ (a && c && d && b)
+second-last true true true true = refl
+second-last true true true false = refl
+second-last true true false d = refl
+second-last true false true true = refl
+second-last true false true false = refl
+second-last true false false d = refl
+second-last false b c d = refl
 
 regulars-are : (v : Venue) → regularsSound v ≡ (regularsFrom (v .last) 0 (v .regular) && onIncrements v)
 unfolding regularsSound regularsFrom onIncrements pricedOn
 regulars-are v =
-    arranged-split holdsRegular (askedRegular (v .last)) (onIncrement v) (λ o. regularInRange o && onIncrement v o && leb (o .id) (v .last)) blankRegular (λ o. o .id) blank-free
-    (λ o. last-two (regularInRange o) (onIncrement v o) (leb (o .id) (v .last))) 0 (v .regular)
+    arranged-split holdsRegular (askedRegular (v .last)) (onIncrement v) (λ o. regularInRange o && onIncrement v o && showsFully o && leb (o .id) (v .last)) blankRegular (λ o. o .id) blank-free
+    (λ o. second-last (regularInRange o) (onIncrement v o) (showsFully o) (leb (o .id) (v .last))) 0 (v .regular)
 
 regroup : (r i c s e l d a g : Bool) → ((r && i) && c && s && e && l && d && a && g) ≡ ((r && c && s && e) && (l && i && d && a && g))
 regroup true true c s e l d a g = with-prices (c && s && e) l

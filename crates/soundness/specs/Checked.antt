@@ -15,13 +15,14 @@ use Rattle.rules.specs.Standing.{hasLeg, parentOf}
 use Rattle.rules.specs.Places.{holdsRegular, holdsComplex, holdsEdition, blankRegular, blankComplex, blankEdition, arranged}
 use Rattle.rules.specs.Refusals.{regularInRange, onIncrement, complexInRange}
 use Rattle.rules.specs.Complex.{restsComplex}
-use Rattle.rules.specs.Sound.{apart, listedInRange, leggingsSound, complexesSound, idsDistinct, editionInRange, editionsSound, sound}
+use Rattle.rules.specs.Sound.{apart, listedInRange, leggingsSound, showsFully, complexesSound, idsDistinct, editionInRange, editionsSound, sound}
 use Rattle.places.specs.Layout.{Loaded}
 
--- in range, with an id of at most `last`
+-- in range, showing what it should, with an id of at most `last`
 abbrev pub askedRegular : (last : ℕ) → Regular → Bool
-askedRegular last o = regularInRange o && leb (o .id) last
+askedRegular last o = regularInRange o && showsFully o && leb (o .id) last
 
+-- in range, with an id of at most `last`
 abbrev pub askedComplex : (last : ℕ) → Complex → Bool
 askedComplex last c = complexInRange c && leb (c .id) last
 

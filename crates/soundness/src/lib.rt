@@ -19,7 +19,7 @@ ghost use Rattle.rules.specs.Standing.{hasLeg};
 ghost use Rattle.rules.specs.Sound.{apart, listedInRange, leggingSound, leggingsSound, idsDistinct, editionInRange, follows};
 ghost use Rattle.places.specs.Layout.{size, leggingIn, venueOf, Figured, Right};
 ghost use Rattle.levels.specs.Grid.{GridOf};
-ghost use Rattle.soundness.specs.Checked.{regularsFrom, complexesFrom, editionsFrom, placesSound, pricedOn, onIncrements, isAlone, eight, leggingInRange, hasHome, ordersSound, Checked};
+ghost use Rattle.soundness.specs.Checked.{askedRegular, regularsFrom, complexesFrom, editionsFrom, placesSound, pricedOn, onIncrements, isAlone, eight, leggingInRange, hasHome, ordersSound, Checked};
 
 // Places by themselves ------------------------------------------------------------------------
 
@@ -39,7 +39,13 @@ fn blank_regular(o: Regular) -> bool
     if o.price != 0 {
         return false;
     }
-    o.quantity == 0
+    if o.quantity != 0 {
+        return false;
+    }
+    if o.display != 0 {
+        return false;
+    }
+    o.reserve == 0
 }
 
 // All places from one on are zero.
@@ -57,7 +63,20 @@ fn regulars_blank(l: [Regular; 128], from: usize) -> bool
     true
 }
 
-// Held places come first, in range and in rising id up to the last; then places that are all zero.
+// A held place is in range, its order shows what it should, and its id is at most the last.
+fn regular_asked(o: Regular, last: u32) -> bool
+    ensures { λ r. ⌜ r ≡ askedRegular last o ⌝ }
+{
+    if !wire::regular_in_range(o) {
+        return false;
+    }
+    if o.reserve != o.quantity - o.display {
+        return false;
+    }
+    o.id <= last
+}
+
+// Held places come first, each as asked and in rising id; then places that are all zero.
 fn regulars_sound(l: [Regular; 128], last: u32) -> bool
     ensures { λ r. ⌜ r ≡ regularsFrom last 0 l ⌝ }
 {
@@ -71,10 +90,7 @@ fn regulars_sound(l: [Regular; 128], last: u32) -> bool
         if o.id <= low {
             return false;
         }
-        if !wire::regular_in_range(o) {
-            return false;
-        }
-        if last < o.id {
+        if !regular_asked(o, last) {
             return false;
         }
         low = o.id;

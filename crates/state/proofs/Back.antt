@@ -19,19 +19,27 @@ use Rattle.wire.proofs.Numbers.{u32-here}
 use Rattle.places.specs.Layout.{upto}
 use Rattle.places.proofs.Tables.{upto-length, upto-at}
 use Rattle.places.proofs.Parts.{venue-is}
-use Rattle.state.specs.Held.{editionsAt, regularBytes, complexBytes, leggingBytes, listedBytes, editionBytes, rows, venueBytes, rowAt, venueFrom}
-use Rattle.state.specs.Held.{regularFrom, complexFrom, leggingFrom, listedFrom, editionFrom}
+use Rattle.state.specs.Held.{editionsAt, reservesAt, regularBytes, complexBytes, leggingBytes, listedBytes, editionBytes, reserveBytes, rows, venueBytes}
+use Rattle.state.specs.Held.{rowAt, regularRowsAt, venueFrom, regularFrom, complexFrom, leggingFrom, listedFrom, editionFrom}
 use Rattle.state.specs.Held.{RegularFits, ComplexFits, LeggingFits, ListedFits, EditionFits, HeldWhole, zerosVenue, ZerosHeld, closings, ClosedFirst}
 use Rattle.state.proofs.Rows.{rows-append, rows-length}
-use Rattle.state.proofs.Widths.{regular-width, complex-width, legging-width, listed-width, edition-width}
-use Rattle.state.proofs.Whole.{regular-part, complex-part, legging-part, series-part, last-part}
+use Rattle.state.proofs.Widths.{regular-width, complex-width, legging-width, listed-width, edition-width, reserve-width}
+use Rattle.state.proofs.Whole.{regular-part, complex-part, legging-part, series-part, last-part, editions-part}
 
 -- A row ---------------------------------------------------------------------------------------
 
-regular-back : (o : Regular) → RegularFits o → (rest : List ℕ) → regularFrom (regularBytes o ++ rest) ≡ o
-unfolding regularFrom regularBytes bytes u8At u16At u32At
-regular-back o f rest =
-    rw (word (o .id) (f .id), byte (o .series) (f .series), byte (o .side) (f .side), word (o .price) (f .price), word (o .quantity) (f .quantity))
+regular-back : (o : Regular) → RegularFits o → (rest more : List ℕ) → regularFrom (regularBytes o ++ rest) (reserveBytes o ++ more) ≡ o
+unfolding regularFrom regularBytes reserveBytes bytes u8At u16At u32At
+regular-back o f rest more =
+    rw (
+      word (o .id) (f .id),
+      byte (o .series) (f .series),
+      byte (o .side) (f .side),
+      word (o .price) (f .price),
+      word (o .quantity) (f .quantity),
+      word (o .display) (f .display),
+      word (o .reserve) (f .reserve),
+    )
 
 complex-back : (c : Complex) → ComplexFits c → (rest : List ℕ) → complexFrom (complexBytes c ++ rest) ≡ c
 unfolding complexFrom complexBytes bytes u8At u16At u32At
@@ -66,6 +74,14 @@ last-back x f rest = word x f
 
 -- A table -------------------------------------------------------------------------------------
 
+-- each row of it is read back
+all-back : {A : Type 0} (f : ℕ → A) (none : A) (l : List A) (n : ℕ) → length l ≡ n → ((i : ℕ) → i < length l → f i ≡ getD l i none) → upto f 0 n ≡ l
+all-back f none l n k back =
+    ext-getD none (upto f 0 n) l (upto-length f 0 n ∙ sym k)
+    (λ i h. let j : i < n = omega (arith, upto-length f 0 n) in
+    let z : 0 + i ≡ i = omega arith in
+    upto-at f none 0 n i j ∙ ap f z ∙ back i (omega arith))
+
 module _ {A : Type 0} (row : A → List ℕ) (width : ℕ) (even : (x : A) → length (row x) ≡ width) (none : A) where
   -- from row i on
   row-here : (front rest : List ℕ) (l : List A) (i : ℕ) → i < length l →
@@ -83,22 +99,22 @@ module _ {A : Type 0} (row : A → List ℕ) (width : ℕ) (even : (x : A) → l
       ∙ ap (drop (width * i + length front)) (simp append-assoc)
       ∙ drop-at (front ++ before) (row x ++ (after ++ rest)) (width * i + length front) m
 
+  -- row i of a table that stands behind `front`
+  row-at : {B : Type 0} (read : List ℕ → B) (from : ℕ) (bs front rest : List ℕ) (l : List A) (i : ℕ) → bs ≡ front ++ rows row l ++ rest → length front ≡ from →
+      i < length l → rowAt read from width bs i ≡ read (row (getD l i none) ++ (rows row (drop (suc i) l) ++ rest))
+  unfolding rowAt
+  row-at read from bs front rest l i e f h =
+      ap read (ap (drop (width * i + from)) e ∙ ap (λ (q : ℕ). drop (width * i + q) (front ++ rows row l ++ rest)) (sym f) ∙ row-here front rest l i h)
+
   table-back : (read : List ℕ → A) (from n : ℕ) (bs front rest : List ℕ) (l : List A) → bs ≡ front ++ rows row l ++ rest → length front ≡ from → length l ≡ n →
       ((i : ℕ) (r : List ℕ) → read (row (getD l i none) ++ r) ≡ getD l i none) → upto (rowAt read from width bs) 0 n ≡ l
-  unfolding rowAt
   table-back read from n bs front rest l e f k back =
-      ext-getD none (upto (rowAt read from width bs) 0 n) l (upto-length (rowAt read from width bs) 0 n ∙ sym k)
-      (λ i h. let j : i < n = omega (arith, upto-length (rowAt read from width bs) 0 n) in
-      let z : 0 + i ≡ i = omega arith in
-      upto-at (rowAt read from width bs) none 0 n i j
-      ∙ ap (rowAt read from width bs) z
-      ∙ ap read (ap (drop (width * i + from)) e ∙ ap (λ (q : ℕ). drop (width * i + q) (front ++ rows row l ++ rest)) (sym f) ∙ row-here front rest l i (omega arith))
-      ∙ back i _)
+      all-back (rowAt read from width bs) none l n k (λ i h. row-at read from bs front rest l i e f h ∙ back i _)
 
 -- The venue -----------------------------------------------------------------------------------
 
 pub held-whole : HeldWhole
-unfolding venueFrom venueBytes
+unfolding venueFrom venueBytes regularRowsAt
 held-whole v d =
     let R : List ℕ = rows regularBytes (v .regular) in
     let C : List ℕ = rows complexBytes (v .complex) in
@@ -106,25 +122,30 @@ held-whole v d =
     let S : List ℕ = rows listedBytes (v .series) in
     let Z : List ℕ = u32 (v .last) in
     let E : List ℕ = rows editionBytes (v .editions) in
+    let H : List ℕ = rows reserveBytes (v .regular) in
     let s = d .sized in
     venue-is _ _
-    (table-back regularBytes 14 regular-width noRegular regularFrom 0 128 (venueBytes v) [] (C ++ L ++ S ++ Z ++ E) (v .regular) (simp append-assoc) refl (s .regular)
-    (λ i r. regular-back _ (d .regular i) r))
-    (table-back complexBytes 17 complex-width noComplex complexFrom 1792 32 (venueBytes v) R (L ++ S ++ Z ++ E) (v .complex) (simp append-assoc) (regular-part v s) (s .complex)
+    (all-back (regularRowsAt (venueBytes v)) noRegular (v .regular) 128 (s .regular)
+    (λ i h. row-at reserveBytes 8 reserve-width noRegular (rowAt regularFrom 0 14 (venueBytes v) i) reservesAt (venueBytes v) (R ++ C ++ L ++ S ++ Z ++ E) [] (v .regular) i
+    (simp append-nil) (editions-part v s) h
+    ∙ ap (λ (f : List ℕ → Regular). f (reserveBytes (getD (v .regular) i noRegular) ++ (rows reserveBytes (drop (suc i) (v .regular)) ++ [])))
+    (row-at regularBytes 14 regular-width noRegular regularFrom 0 (venueBytes v) [] (C ++ L ++ S ++ Z ++ E ++ H) (v .regular) i (simp append-assoc) refl h)
+    ∙ regular-back _ (d .regular i) _ _))
+    (table-back complexBytes 17 complex-width noComplex complexFrom 1792 32 (venueBytes v) R (L ++ S ++ Z ++ E ++ H) (v .complex) (simp append-assoc) (regular-part v s) (s .complex)
     (λ i r. complex-back _ (d .complex i) r))
-    (table-back leggingBytes 12 legging-width noLegging leggingFrom 2336 16 (venueBytes v) (R ++ C) (S ++ Z ++ E) (v .legging) (simp append-assoc) (complex-part v s) (s .legging)
+    (table-back leggingBytes 12 legging-width noLegging leggingFrom 2336 16 (venueBytes v) (R ++ C) (S ++ Z ++ E ++ H) (v .legging) (simp append-assoc) (complex-part v s) (s .legging)
     (λ i r. legging-back _ (d .legging i) r))
-    (table-back listedBytes 9 listed-width notListed listedFrom 2528 8 (venueBytes v) (R ++ C ++ L) (Z ++ E) (v .series) (simp append-assoc) (legging-part v s) (s .series)
+    (table-back listedBytes 9 listed-width notListed listedFrom 2528 8 (venueBytes v) (R ++ C ++ L) (Z ++ E ++ H) (v .series) (simp append-assoc) (legging-part v s) (s .series)
     (λ i r. listed-back _ (d .series i) r))
-    (table-back editionBytes 10 edition-width noEdition editionFrom editionsAt 32 (venueBytes v) (R ++ C ++ L ++ S ++ Z) [] (v .editions) (simp append-nil) (last-part v s) (s .editions)
+    (table-back editionBytes 10 edition-width noEdition editionFrom editionsAt 32 (venueBytes v) (R ++ C ++ L ++ S ++ Z) H (v .editions) refl (last-part v s) (s .editions)
     (λ i r. edition-back _ (d .editions i) r))
     (u32-here 2600 (venueBytes v)
-    ∙ ap (λ (x : List ℕ). u32At (drop 2600 x) 0) (append-assoc (R ++ C ++ L ++ S) Z E)
-    ∙ ap (λ (x : List ℕ). u32At x 0) (drop-at (R ++ C ++ L ++ S) (Z ++ E) 2600 (series-part v s))
-    ∙ last-back (v .last) (d .last) E)
+    ∙ ap (λ (x : List ℕ). u32At (drop 2600 x) 0) (append-assoc (R ++ C ++ L ++ S ++ Z) E H ∙ append-assoc (R ++ C ++ L ++ S) Z (E ++ H))
+    ∙ ap (λ (x : List ℕ). u32At x 0) (drop-at (R ++ C ++ L ++ S) (Z ++ (E ++ H)) 2600 (series-part v s))
+    ∙ last-back (v .last) (d .last) (E ++ H))
 
 pub zeros-held : ZerosHeld
-unfolding opened-rules venueFrom rowAt upto regularFrom complexFrom leggingFrom listedFrom editionFrom zerosVenue
+unfolding opened-rules venueFrom rowAt regularRowsAt upto regularFrom complexFrom leggingFrom listedFrom editionFrom zerosVenue
 zeros-held = (refl, refl)
 
 pub closed-first : ClosedFirst

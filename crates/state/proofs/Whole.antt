@@ -8,9 +8,10 @@ use Rattle.rules.specs.declared.Venue.{Venue}
 use Rattle.rules.specs.Bytes.{u32, bytes}
 use Rattle.wire.specs.Seen.{Seen, seen, pasted, _plus_}
 use Rattle.wire.proofs.Writes.{plus-in, pasted-length, pasted-pasted}
-use Rattle.state.specs.Held.{editionsAt, venueSize, regularBytes, complexBytes, leggingBytes, listedBytes, editionBytes, rows, venueBytes, Sized}
+use Rattle.state.specs.Held.{editionsAt, reservesAt, venueSize, rows, venueBytes, Sized}
+use Rattle.state.specs.Held.{regularBytes, complexBytes, leggingBytes, listedBytes, editionBytes, reserveBytes}
 use Rattle.state.proofs.Rows.{rows-length}
-use Rattle.state.proofs.Widths.{regular-width, complex-width, legging-width, listed-width, edition-width}
+use Rattle.state.proofs.Widths.{regular-width, complex-width, legging-width, listed-width, edition-width, reserve-width}
 
 -- bytes in the place of all
 all : (l x : List ℕ) → length l ≤ length x → pasted l 0 x ≡ x
@@ -39,6 +40,9 @@ module _ (v : Venue) (sized : Sized v) where
   abbrev E : List ℕ
   E = rows editionBytes (v .editions)
 
+  abbrev H : List ℕ
+  H = rows reserveBytes (v .regular)
+
   pub regular-part : length R ≡ 1792
   regular-part = let n = sized .regular in rows-length regularBytes 14 regular-width (v .regular) ∙ omega arith
 
@@ -55,22 +59,29 @@ module _ (v : Venue) (sized : Sized v) where
   unfolding bytes
   last-part = let k = series-part in length-append (R ++ C ++ L ++ S) (u32 (v .last)) ∙ omega arith
 
-  pub venue-length : length (venueBytes v) ≡ venueSize
-  unfolding venueBytes
-  venue-length =
+  pub editions-part : length (R ++ C ++ L ++ S ++ u32 (v .last) ++ E) ≡ reservesAt
+  editions-part =
       let n = sized .editions in
       let k = last-part in
       length-append (R ++ C ++ L ++ S ++ u32 (v .last)) E ∙ omega (arith, rows-length editionBytes 10 edition-width (v .editions))
 
-  pub venue-put : (l a b c d e f : List ℕ) (end : ℕ) → length l ≡ venueSize → a ≡ pasted l 0 R → b ≡ pasted a 1792 C → c ≡ pasted b 2336 L → d ≡ pasted c 2528 S →
-      seen e end ≡ seen d 2600 plus u32 (v .last) → f ≡ pasted e editionsAt E → f ≡ venueBytes v
+  pub venue-length : length (venueBytes v) ≡ venueSize
+  unfolding venueBytes
+  venue-length =
+      let n = sized .regular in
+      let k = editions-part in
+      length-append (R ++ C ++ L ++ S ++ u32 (v .last) ++ E) H ∙ omega (arith, rows-length reserveBytes 8 reserve-width (v .regular))
+
+  pub venue-put : (l a b c d e f g : List ℕ) (end : ℕ) → length l ≡ venueSize → a ≡ pasted l 0 R → b ≡ pasted a 1792 C → c ≡ pasted b 2336 L → d ≡ pasted c 2528 S →
+      seen e end ≡ seen d 2600 plus u32 (v .last) → f ≡ pasted e editionsAt E → g ≡ pasted f reservesAt H → g ≡ venueBytes v
   unfolding venueBytes seen bytes
-  venue-put l a b c d e f end n p q r s t u =
+  venue-put l a b c d e f g end n p q r s t u w =
       let rc = then l a b R C 1792 p q (omega (arith, regular-part)) (omega arith) in
       let rcl = then l b c (R ++ C) L 2336 rc r (omega (arith, complex-part)) (omega arith) in
       let rcls = then l c d (R ++ C ++ L) S 2528 rcl s (omega (arith, legging-part)) (omega arith) in
       let same : length d ≡ length l = ap length rcls ∙ pasted-length l (R ++ C ++ L ++ S) 0 (omega (arith, series-part)) in
       let last : e ≡ pasted d 2600 (u32 (v .last)) = ap (λ (w : Seen). w .memory) (t ∙ plus-in d (u32 (v .last)) 2600 (omega arith)) in
       let rclsl = then l d e (R ++ C ++ L ++ S) (u32 (v .last)) 2600 rcls last (omega (arith, series-part)) (omega arith) in
-      then l e f (R ++ C ++ L ++ S ++ u32 (v .last)) E editionsAt rclsl u (omega (arith, last-part)) (omega arith)
-      ∙ all l (R ++ C ++ L ++ S ++ u32 (v .last) ++ E) (omega (arith, venue-length))
+      let rclsle = then l e f (R ++ C ++ L ++ S ++ u32 (v .last)) E editionsAt rclsl u (omega (arith, last-part)) (omega arith) in
+      then l f g (R ++ C ++ L ++ S ++ u32 (v .last) ++ E) H reservesAt rclsle w (omega (arith, editions-part)) (omega arith)
+      ∙ all l (R ++ C ++ L ++ S ++ u32 (v .last) ++ E ++ H) (omega (arith, venue-length))

@@ -7,11 +7,15 @@ use Rattle.rules.specs.declared.Legging.{Legging}
 use Rattle.rules.specs.declared.Listed.{Listed}
 use Rattle.rules.specs.declared.Edition.{Edition}
 use Rattle.rules.specs.Bytes.{bytes}
-use Rattle.state.specs.Held.{regularBytes, complexBytes, leggingBytes, listedBytes, editionBytes}
+use Rattle.state.specs.Held.{regularBytes, reserveBytes, complexBytes, leggingBytes, listedBytes, editionBytes}
 
 pub regular-width : (o : Regular) → length (regularBytes o) ≡ 14
 unfolding regularBytes bytes
 regular-width o = refl
+
+pub reserve-width : (o : Regular) → length (reserveBytes o) ≡ 8
+unfolding reserveBytes bytes
+reserve-width o = refl
 
 pub complex-width : (c : Complex) → length (complexBytes c) ≡ 17
 unfolding complexBytes bytes

@@ -1,5 +1,5 @@
--- A venue as bytes, which a host holds between calls: 2,924 of them, each number as in a message, little-endian. What a request adds to a venue
--- stands after what there was before.
+-- A venue as bytes, which a host holds between calls: 3,948 of them, each number as in a message, little-endian. What a request adds to a venue
+-- stands after what there was before, so that what (e) adds to a regular order is a row of its own.
 --
 --   from   a row                                                                                      bytes   rows
 --      0   id u32, series u8, side u8, price u32, quantity u32                                           14   128 regular
@@ -8,6 +8,7 @@
 --   2528   status u8, bid u32, offer u32                                                                  9   8 series
 --   2600   last id u32                                                                                    4
 --   2604   edition u32, message number u32, figure u8, value u8                                          10   32 editions
+--   2924   reserve u32, display u32                                                                       8   128 regular
 --
 -- An edition's figure is 0 to 7, the increment of that series, or 8, the percent.
 use mathlib.Core.Path.{_≡_}
@@ -34,14 +35,22 @@ use Rattle.places.specs.Layout.{upto}
 abbrev pub editionsAt : ℕ
 editionsAt = 2604
 
+-- where the regular orders' reserves begin
+abbrev pub reservesAt : ℕ
+reservesAt = 2924
+
 abbrev pub venueSize : ℕ
-venueSize = 2924
+venueSize = 3948
 
 -- Writing -------------------------------------------------------------------------------------
 
 -- a row's bytes
 unfoldable pub regularBytes : Regular → List ℕ
 regularBytes o = u32 (o .id) ++ u8 (o .series) ++ u8 (o .side) ++ u32 (o .price) ++ u32 (o .quantity)
+
+-- what (e) adds to it: what of its quantity it does not show, and what it shows again, "the lesser of its shown quantity and what is left of it"
+unfoldable pub reserveBytes : Regular → List ℕ
+reserveBytes o = u32 (o .reserve) ++ u32 (o .display)
 
 unfoldable pub complexBytes : Complex → List ℕ
 complexBytes c =
@@ -64,13 +73,21 @@ rows row (x ∷ xs) = row x ++ rows row xs
 unfoldable pub venueBytes : Venue → List ℕ
 venueBytes v =
     rows regularBytes (v .regular) ++ rows complexBytes (v .complex) ++ rows leggingBytes (v .legging) ++ rows listedBytes (v .series) ++ u32 (v .last)
-    ++ rows editionBytes (v .editions)
+    ++ rows editionBytes (v .editions) ++ rows reserveBytes (v .regular)
 
 -- Reading -------------------------------------------------------------------------------------
 
--- the row at the front of bs
-unfoldable pub regularFrom : List ℕ → Regular
-regularFrom bs = record { id = u32At bs 0; series = u8At bs 4; side = u8At bs 5; price = u32At bs 6; quantity = u32At bs 10 }
+-- the row at the front of bs; a regular order's two rows, at the front of bs and of rs
+unfoldable pub regularFrom : (bs rs : List ℕ) → Regular
+regularFrom bs rs = record {
+  id = u32At bs 0;
+  series = u8At bs 4;
+  side = u8At bs 5;
+  price = u32At bs 6;
+  quantity = u32At bs 10;
+  display = u32At rs 4;
+  reserve = u32At rs 0;
+}
 
 unfoldable pub complexFrom : List ℕ → Complex
 complexFrom bs = record {
@@ -97,9 +114,13 @@ editionFrom bs = record { edition = u32At bs 0; message = u32At bs 4; figure = u
 unfoldable pub rowAt : {A : Type 0} → (List ℕ → A) → (from width : ℕ) → List ℕ → (i : ℕ) → A
 rowAt row from width bs i = row (drop (width * i + from) bs)
 
+-- regular order i, from its row in either table
+unfoldable pub regularRowsAt : List ℕ → (i : ℕ) → Regular
+regularRowsAt bs i = rowAt (rowAt regularFrom 0 14 bs i) reservesAt 8 bs i
+
 unfoldable pub venueFrom : List ℕ → Venue
 venueFrom bs = record {
-  regular = upto (rowAt regularFrom 0 14 bs) 0 128;
+  regular = upto (regularRowsAt bs) 0 128;
   complex = upto (rowAt complexFrom 1792 17 bs) 0 32;
   legging = upto (rowAt leggingFrom 2336 12 bs) 0 16;
   series = upto (rowAt listedFrom 2528 9 bs) 0 8;
@@ -116,6 +137,8 @@ pub record RegularFits (o : Regular) : Type 0 where
   pub side : OneByte (o .side)
   pub price : FourBytes (o .price)
   pub quantity : FourBytes (o .quantity)
+  pub display : FourBytes (o .display)
+  pub reserve : FourBytes (o .reserve)
 
 pub record ComplexFits (c : Complex) : Type 0 where
   pub id : FourBytes (c .id)

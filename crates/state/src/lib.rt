@@ -9,20 +9,24 @@ ghost use mathlib.Core.Path.{_≡_};
 ghost use Prim.Native.Nat.{_≤_};
 ghost use lib.ListN.{length};
 ghost use Rattle.wire.specs.Seen.{seen, pasted, _plus_};
-ghost use Rattle.state.specs.Held.{editionsAt, venueSize, regularBytes, complexBytes, leggingBytes, listedBytes, editionBytes, rows, venueBytes};
+ghost use Rattle.state.specs.Held.{editionsAt, reservesAt, venueSize};
+ghost use Rattle.state.specs.Held.{regularBytes, complexBytes, leggingBytes, listedBytes, editionBytes, reserveBytes, rows, venueBytes};
 ghost use Rattle.state.specs.Held.{regularFrom, complexFrom, leggingFrom, listedFrom, editionFrom, venueFrom};
 
 // Where the editions begin.
 const EDITIONS_AT: usize = 2604;
 
+// Where the regular orders' reserves begin.
+const RESERVES_AT: usize = EDITIONS_AT + 10 * 32;
+
 // How many bytes a venue has.
-pub const VENUE_SIZE: usize = EDITIONS_AT + 10 * 32;
+pub const VENUE_SIZE: usize = RESERVES_AT + 8 * 128;
 
 // A row read ----------------------------------------------------------------------------------
 
-fn regular_from(row: &[u8]) -> Regular
-    requires { ⌜ 14 ≤ length (now row) ⌝ }
-    ensures { λ r. ⌜ r ≡ regularFrom (now (row .entry)) ⌝ }
+fn regular_from(row: &[u8], reserve: &[u8]) -> Regular
+    requires { ⌜ (14 ≤ length (now row)) × (8 ≤ length (now reserve)) ⌝ }
+    ensures { λ r. ⌜ r ≡ regularFrom (now (row .entry)) (now (reserve .entry)) ⌝ }
 {
     Regular {
         id: wire::word_at(row, 0),
@@ -30,6 +34,8 @@ fn regular_from(row: &[u8]) -> Regular
         side: wire::byte_at(row, 5),
         price: wire::word_at(row, 6),
         quantity: wire::word_at(row, 10),
+        display: wire::word_at(reserve, 4),
+        reserve: wire::word_at(reserve, 0),
     }
 }
 
@@ -95,12 +101,15 @@ fn regulars_from(bytes: &[u8]) -> [Regular; 128]
         side: 0,
         price: 0,
         quantity: 0,
+        display: 0,
+        reserve: 0,
     };
     let mut r = [free; 128];
     let mut i: usize = 0;
     while i < 128 {
         let at = 14 * i;
-        let x = regular_from(&bytes[at..]);
+        let reserve = 8 * i + RESERVES_AT;
+        let x = regular_from(&bytes[at..], &bytes[reserve..]);
         r[i] = x;
         i += 1;
     }
@@ -225,6 +234,14 @@ fn put_regular(out: &mut [u8], at: usize, o: Regular)
     wire::put_words(out, at, &head, &words);
 }
 
+fn put_reserve(out: &mut [u8], at: usize, o: Regular)
+    ensures { λ _. ⌜ now (out .exit) ≡ (seen (now (out .entry)) at plus reserveBytes o) .memory ⌝ }
+{
+    let head = wire::bytes4(o.reserve);
+    let words = [o.display];
+    wire::put_words(out, at, &head, &words);
+}
+
 fn put_complex(out: &mut [u8], at: usize, c: Complex)
     ensures { λ _. ⌜ now (out .exit) ≡ (seen (now (out .entry)) at plus complexBytes c) .memory ⌝ }
 {
@@ -342,6 +359,18 @@ fn put_editions(out: &mut [u8], l: [Edition; 32])
     }
 }
 
+fn put_reserves(out: &mut [u8], l: [Regular; 128])
+    requires { ⌜ length (now out) ≡ venueSize ⌝ }
+    ensures { λ _. ⌜ now (out .exit) ≡ pasted (now (out .entry)) reservesAt (rows reserveBytes l) ⌝ }
+{
+    let mut i: usize = 0;
+    while i < 128 {
+        let o = l[i];
+        put_reserve(out, 8 * i + RESERVES_AT, o);
+        i += 1;
+    }
+}
+
 // The venue's bytes in the place of what stood there.
 pub fn put_venue(out: &mut [u8], v: Venue)
     requires { ⌜ length (now out) ≡ venueSize ⌝ }
@@ -359,4 +388,5 @@ pub fn put_venue(out: &mut [u8], v: Venue)
     wire::put(out, 2600, &last);
     let editions = v.editions;
     put_editions(out, editions);
+    put_reserves(out, regular);
 }

@@ -3,14 +3,13 @@ use mathlib.Core.Path.{_≡_, refl, sym, ap, _∙_}
 use mathlib.Core.Bool.{not}
 use Prim.Native.Nat.{_-_}
 use native.Mathlib.Omega.{arith}
-use lib.ListN.{length, getD, drop}
+use lib.ListN.{length, drop}
 use borrow.Author.Tests.{eq-eqb, ne-eqb, not-true, not-false}
 use borrow.Author.Needs.{needs}
 use Rattle.rules.specs.Words.{noRegular}
 use Rattle.rules.specs.Places.{holdsRegular, blankRegular}
-use Rattle.rules.specs.Refusals.{regularInRange}
 use Rattle.soundness.specs.Checked.{askedRegular, regularsFrom}
-use Rattle.soundness.proofs.Passes.{arranged-none, arranged-free, arranged-low, arranged-out-of, arranged-past, out-of-range, above-last, in-range}
+use Rattle.soundness.proofs.Passes.{arranged-none, arranged-free, arranged-low, arranged-out-of, arranged-past}
 use Rattle.soundness.proofs.regulars_sound.Statement.{statement}
 use Rattle.soundness.proofs.regulars_sound.Tie as tie
 
@@ -45,20 +44,14 @@ returns-2 c = let n : length (c .before .before .before .before .before .before 
     arranged-low holdsRegular (askedRegular (c .before .before .before .before .before .before .before .args .last)) blankRegular (λ x. x .id) noRegular (c .before .before .before .before .before .before .before .args .t1) (c .before .before .before .before .before .before .loop .low) (c .before .before .before .before .before .before .loop .i) (omega arith) (ap not (ne-eqb _ _ (c .before .before .if1 .left))) (omega arith)
     ∙ c .before .before .before .before .before .before .loop .inv
 
-regular-in-range-requires : tie.Need-regular-in-range-requires Inv-loop μ-loop
-regular-in-range-requires c κs = search needs
+regular-asked-requires : tie.Need-regular-asked-requires Inv-loop μ-loop
+regular-asked-requires c κs = search needs
 
 returns-3 : tie.Need-returns-3 Inv-loop μ-loop
 unfolding regularsFrom
 returns-3 c = let n : length (c .before .before .before .before .before .before .before .before .before .args .t1) ≡ 128 = search needs in
-    arranged-out-of holdsRegular (askedRegular (c .before .before .before .before .before .before .before .before .before .args .last)) blankRegular (λ x. x .id) noRegular (c .before .before .before .before .before .before .before .before .before .args .t1) (c .before .before .before .before .before .before .before .before .loop .low) (c .before .before .before .before .before .before .before .before .loop .i) (omega arith) (ap not (ne-eqb _ _ (c .before .before .before .before .if1 .left))) (out-of-range _ _ (sym (c .before .regular-in-range .ensures) ∙ not-true _ (c .if3 .taken)))
+    arranged-out-of holdsRegular (askedRegular (c .before .before .before .before .before .before .before .before .before .args .last)) blankRegular (λ x. x .id) noRegular (c .before .before .before .before .before .before .before .before .before .args .t1) (c .before .before .before .before .before .before .before .before .loop .low) (c .before .before .before .before .before .before .before .before .loop .i) (omega arith) (ap not (ne-eqb _ _ (c .before .before .before .before .if1 .left))) (sym (c .before .regular-asked .ensures) ∙ not-true _ (c .if3 .taken))
     ∙ c .before .before .before .before .before .before .before .before .loop .inv
-
-returns-4 : tie.Need-returns-4 Inv-loop μ-loop
-unfolding regularsFrom
-returns-4 c = let n : length (c .before .before .before .before .before .before .before .before .before .before .before .args .t1) ≡ 128 = search needs in
-    arranged-out-of holdsRegular (askedRegular (c .before .before .before .before .before .before .before .before .before .before .before .args .last)) blankRegular (λ x. x .id) noRegular (c .before .before .before .before .before .before .before .before .before .before .before .args .t1) (c .before .before .before .before .before .before .before .before .before .before .loop .low) (c .before .before .before .before .before .before .before .before .before .before .loop .i) (omega arith) (ap not (ne-eqb _ _ (c .before .before .before .before .before .before .if1 .left))) (above-last (regularInRange (getD (c .before .before .before .before .before .before .before .before .before .before .before .args .t1) (c .before .before .before .before .before .before .before .before .before .before .loop .i) noRegular)) (getD (c .before .before .before .before .before .before .before .before .before .before .before .args .t1) (c .before .before .before .before .before .before .before .before .before .before .loop .i) noRegular .id) (c .before .before .before .before .before .before .before .before .before .before .before .args .last) (c .if4 .taken))
-    ∙ c .before .before .before .before .before .before .before .before .before .before .loop .inv
 
 add-i : tie.Need-add-i Inv-loop μ-loop
 add-i c = search needs
@@ -68,14 +61,13 @@ loop-less c = search needs
 
 loop-again : tie.Need-loop-again Inv-loop μ-loop
 unfolding regularsFrom
-loop-again c = let n : length (c .before .before .before .before .before .before .before .before .before .before .before .args .t1) ≡ 128 = search needs in
-    arranged-past holdsRegular (askedRegular (c .before .before .before .before .before .before .before .before .before .before .before .args .last)) blankRegular (λ x. x .id) noRegular (c .before .before .before .before .before .before .before .before .before .before .before .args .t1) (c .before .before .before .before .before .before .before .before .before .before .loop .low) (c .before .before .before .before .before .before .before .before .before .before .loop .i) (omega arith) (ap not (ne-eqb _ _ (c .before .before .before .before .before .before .if1 .left))) (c .before .before .before .before .if2 .left)
-    (in-range (regularInRange (getD (c .before .before .before .before .before .before .before .before .before .before .before .args .t1) (c .before .before .before .before .before .before .before .before .before .before .loop .i) noRegular)) (getD (c .before .before .before .before .before .before .before .before .before .before .before .args .t1) (c .before .before .before .before .before .before .before .before .before .before .loop .i) noRegular .id) (c .before .before .before .before .before .before .before .before .before .before .before .args .last) (sym (c .before .before .before .regular-in-range .ensures) ∙ not-false _ (c .before .before .if3 .left)) (c .if4 .left))
-    ∙ c .before .before .before .before .before .before .before .before .before .before .loop .inv
+loop-again c = let n : length (c .before .before .before .before .before .before .before .before .before .args .t1) ≡ 128 = search needs in
+    arranged-past holdsRegular (askedRegular (c .before .before .before .before .before .before .before .before .before .args .last)) blankRegular (λ x. x .id) noRegular (c .before .before .before .before .before .before .before .before .before .args .t1) (c .before .before .before .before .before .before .before .before .loop .low) (c .before .before .before .before .before .before .before .before .loop .i) (omega arith) (ap not (ne-eqb _ _ (c .before .before .before .before .if1 .left))) (c .before .before .if2 .left) (sym (c .before .regular-asked .ensures) ∙ not-false _ (c .if3 .left))
+    ∙ c .before .before .before .before .before .before .before .before .loop .inv
 
-returns-5 : tie.Need-returns-5 Inv-loop μ-loop
+returns-4 : tie.Need-returns-4 Inv-loop μ-loop
 unfolding regularsFrom
-returns-5 c = let n : length (c .before .before .args .t1) ≡ 128 = search needs in
+returns-4 c = let n : length (c .before .before .args .t1) ≡ 128 = search needs in
     arranged-none holdsRegular (askedRegular (c .before .before .args .last)) blankRegular (λ x. x .id) noRegular (c .before .before .args .t1) (c .before .loop .low) (c .before .loop .i) (omega arith) ∙ c .before .loop .inv
 
 pub regulars-sound-spec : {M : Type 1} → statement M
@@ -90,10 +82,9 @@ regulars-sound-spec =
     regulars-blank-requires
     returns
     returns-2
-    regular-in-range-requires
+    regular-asked-requires
     returns-3
-    returns-4
     add-i
     loop-less
     loop-again
-    returns-5)
+    returns-4)

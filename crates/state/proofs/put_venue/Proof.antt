@@ -48,20 +48,24 @@ put-requires c κs = search needs
 put-editions-requires : tie.Need-put-editions-requires
 put-editions-requires c κs = search needs
 
+put-reserves-requires : tie.Need-put-reserves-requires
+put-reserves-requires c κs = search needs
+
 same-length : tie.Need-same-length
 same-length c = search needs
 
 returns : tie.Need-returns
 returns c =
-    let e = c .before .before in
+    let h = c .before .before in
+    let e = h .before .before .before .before in
     let l = e .before .before .before .before .before in
     let d = l .before .before .before .before .before .before in
     let g = d .before .before .before .before .before in
     let x = g .before .before .before .before .before in
     let r = x .before .before .before .before .before in
     let s = r .before .before .before .before in
-    venue-put (s .args .v) (sized s) (s .args .out .now) _ _ _ _ _ _ _ (s .pre) (r .put-regulars .ensures) (x .put-complexes .ensures) (g .put-leggings .ensures) (d .put-series .ensures)
-    (l .put .ensures ∙ ap (λ (y : List ℕ). seen (d .put-series .last .0) 2600 plus y) (l .before .before .before .bytes4 .ensures)) (e .put-editions .ensures)
+    venue-put (s .args .v) (sized s) (s .args .out .now) _ _ _ _ _ _ _ _ (s .pre) (r .put-regulars .ensures) (x .put-complexes .ensures) (g .put-leggings .ensures) (d .put-series .ensures)
+    (l .put .ensures ∙ ap (λ (y : List ℕ). seen (d .put-series .last .0) 2600 plus y) (l .before .before .before .bytes4 .ensures)) (e .put-editions .ensures) (h .put-reserves .ensures)
 
 pub put-venue-spec : {M : Type 1} → statement M
 put-venue-spec =
@@ -75,5 +79,6 @@ put-venue-spec =
     slice-aggregate-put
     put-requires
     put-editions-requires
+    put-reserves-requires
     same-length
     returns)

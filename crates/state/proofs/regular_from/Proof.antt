@@ -19,9 +19,24 @@ word-at-requires-2 c κs = search needs
 word-at-requires-3 : tie.Need-word-at-requires-3
 word-at-requires-3 c κs = search needs
 
+word-at-requires-4 : tie.Need-word-at-requires-4
+word-at-requires-4 c κs = search needs
+
+word-at-requires-5 : tie.Need-word-at-requires-5
+word-at-requires-5 c κs = search needs
+
 returns : tie.Need-returns
 unfolding regularFrom
-returns c = rw (c .before .before .before .before .word-at .ensures, c .before .before .before .byte-at .ensures, c .before .before .byte-at2 .ensures, c .before .word-at2 .ensures, c .word-at3 .ensures)
+returns c =
+    rw (
+      c .before .before .before .before .before .before .word-at .ensures,
+      c .before .before .before .before .before .byte-at .ensures,
+      c .before .before .before .before .byte-at2 .ensures,
+      c .before .before .before .word-at2 .ensures,
+      c .before .before .word-at3 .ensures,
+      c .before .word-at4 .ensures,
+      c .word-at5 .ensures,
+    )
 
 pub regular-from-spec : {M : Type 1} → statement M
 regular-from-spec =
@@ -32,4 +47,6 @@ regular-from-spec =
     byte-at-requires-2
     word-at-requires-2
     word-at-requires-3
+    word-at-requires-4
+    word-at-requires-5
     returns)

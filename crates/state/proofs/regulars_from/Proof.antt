@@ -7,13 +7,13 @@ use borrow.Author.Needs.{needs}
 use Rattle.rules.specs.Words.{noRegular}
 use Rattle.places.specs.Layout.{upto, inUse}
 use Rattle.places.proofs.Tables.{used-length, used-next, used-done, whole}
-use Rattle.state.specs.Held.{regularFrom, rowAt, venueFrom}
-use Rattle.state.proofs.Rows.{row-read}
+use Rattle.state.specs.Held.{regularRowsAt, venueFrom}
+use Rattle.state.proofs.Rows.{regular-read}
 use Rattle.state.proofs.regulars_from.Statement.{statement}
 use Rattle.state.proofs.regulars_from.Tie as tie
 
 abbrev Inv-loop : tie.InvT-loop
-Inv-loop bytes r₀ i₀ r i = (i ≤ 128) × (r ≡ inUse (rowAt regularFrom 0 14 bytes) noRegular i 128)
+Inv-loop bytes r₀ i₀ r i = (i ≤ 128) × (r ≡ inUse (regularRowsAt bytes) noRegular i 128)
 
 abbrev μ-loop : tie.MeasureT-loop
 μ-loop bytes r₀ i₀ r i = 128 - i
@@ -25,6 +25,12 @@ loop-holds c = (omega arith, refl)
 mul-at : tie.Need-mul-at Inv-loop μ-loop
 mul-at c = search needs
 
+mul-reserve : tie.Need-mul-reserve Inv-loop μ-loop
+mul-reserve c = search needs
+
+add-reserve : tie.Need-add-reserve Inv-loop μ-loop
+add-reserve c = search needs
+
 sub-regular-from : tie.Need-sub-regular-from Inv-loop μ-loop
 sub-regular-from c = search needs
 
@@ -34,6 +40,15 @@ part-regular-from-start c = search needs
 part-regular-from-end : tie.Need-part-regular-from-end Inv-loop μ-loop
 part-regular-from-end c = search needs
 
+sub-regular-from-2 : tie.Need-sub-regular-from-2 Inv-loop μ-loop
+sub-regular-from-2 c = search needs
+
+part-regular-from-start-2 : tie.Need-part-regular-from-start-2 Inv-loop μ-loop
+part-regular-from-start-2 c = search needs
+
+part-regular-from-end-2 : tie.Need-part-regular-from-end-2 Inv-loop μ-loop
+part-regular-from-end-2 c = search needs
+
 regular-from-requires : tie.Need-regular-from-requires Inv-loop μ-loop
 regular-from-requires c κs = search needs
 
@@ -41,7 +56,7 @@ mul-r : tie.Need-mul-r Inv-loop μ-loop
 mul-r c = search needs
 
 array-set-from-r : tie.Need-array-set-from-r Inv-loop μ-loop
-array-set-from-r c = let h = c .before .before .before in let z = ap length (h .loop .inv .1) in let y = used-length (rowAt regularFrom 0 14 (c .before .before .before .before .before .args .bytes .now)) noRegular (h .loop .i) 128 (omega arith) in omega arith
+array-set-from-r c = let h = c .before .before .before .before in let z = ap length (h .loop .inv .1) in let y = used-length (regularRowsAt (c .before .before .before .before .before .before .args .bytes .now)) noRegular (h .loop .i) 128 (omega arith) in omega arith
 
 add-i : tie.Need-add-i Inv-loop μ-loop
 add-i c = search needs
@@ -50,11 +65,11 @@ loop-less : tie.Need-loop-less Inv-loop μ-loop
 loop-less c = search needs
 
 loop-again : tie.Need-loop-again Inv-loop μ-loop
-loop-again c = let h = c .before .before .before in (omega arith, used-next _ _ _ 128 _ _ (omega arith) (h .loop .inv .1) (row-read regularFrom 0 14 _ (h .loop .i) _ _ (omega arith) (c .regular-from .ensures)))
+loop-again c = let h = c .before .before .before .before in (omega arith, used-next _ _ _ 128 _ _ (omega arith) (h .loop .inv .1) (regular-read _ (h .loop .i) _ _ _ (omega arith) (omega arith) (c .regular-from .ensures)))
 
 returns : tie.Need-returns Inv-loop μ-loop
 unfolding venueFrom
-returns c = used-done _ _ _ _ 128 _ (omega arith) (c .before .loop .inv .1) ∙ whole (rowAt regularFrom 0 14 (c .before .before .before .args .bytes .now)) noRegular 128
+returns c = used-done _ _ _ _ 128 _ (omega arith) (c .before .loop .inv .1) ∙ whole (regularRowsAt (c .before .before .before .args .bytes .now)) noRegular 128
 
 pub regulars-from-spec : {M : Type 1} → statement M
 regulars-from-spec =
@@ -64,9 +79,14 @@ regulars-from-spec =
     μ-loop
     loop-holds
     mul-at
+    mul-reserve
+    add-reserve
     sub-regular-from
     part-regular-from-start
     part-regular-from-end
+    sub-regular-from-2
+    part-regular-from-start-2
+    part-regular-from-end-2
     regular-from-requires
     mul-r
     array-set-from-r
