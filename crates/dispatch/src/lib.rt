@@ -18,7 +18,7 @@ ghost use Rattle.dispatch.specs.Hosts.{replyOf, freshHeld, arriveHeld, i
 // A venue's bytes, as crate state has them, and the numbers that it is laid out in to be checked, as crate places has them.
 const VENUE: usize = state::VENUE_SIZE;
 
-const NUMBERS: usize = 975;
+const NUMBERS: usize = places::SIZE;
 
 // What follows from them: where the parts of a lane begin (specs/Memory.antt), and the last byte.
 const DONE: usize = VENUE;

@@ -8,21 +8,23 @@ use lib.IntN.{ℤ, pos, negsuc}
 use lib.ListN.{length, getD, take, replicate}
 use lib.Dec.{ltb, eqb}
 use borrow.Author.Tests.{leb-true, ltb-false, eqb-true, eqb-false, eq-eqb, ne-eqb}
+use Rattle.rules.specs.declared.Regular.{Regular}
 use Rattle.rules.specs.declared.Complex.{Complex}
 use Rattle.rules.specs.declared.Listed.{Listed}
 use Rattle.rules.specs.declared.Venue.{Venue}
 use Rattle.rules.specs.declared.Returned.{Returned}
 use Rattle.rules.specs.Base.{held}
 use Rattle.rules.specs.Words.{within, isClass, isStatus, isAway, notListed, freshVenue}
-use Rattle.rules.specs.Records.{OneByte, FourSigned, encodeAll, sheet}
+use Rattle.rules.specs.Records.{OneByte, FourBytes, FourSigned, encodeAll, sheet}
 use Rattle.rules.specs.Effects.{Effect}
-use Rattle.rules.specs.Places.{blankComplex}
-use Rattle.rules.specs.Refusals.{complexInRange, refusal}
+use Rattle.rules.specs.Places.{blankRegular, blankComplex}
+use Rattle.rules.specs.Refusals.{regularInRange, complexInRange, refusal}
 use Rattle.rules.specs.Step.{StepOutcome, answered, step}
-use Rattle.rules.specs.Sound.{listedInRange, sound, follows}
+use Rattle.rules.specs.Sound.{showsFully, listedInRange, sound, follows}
 use Rattle.rules.specs.Calls.{Call, called, exceeds, ends, after, one}
-use Rattle.rules.proofs.Filling.{cx}
+use Rattle.rules.proofs.Filling.{reg, cx}
 use Rattle.rules.proofs.Integers.{plus, minus}
+use Rattle.rules.proofs.Showing.{Showing}
 use Rattle.rules.proofs.Tests.{and-l, and-r, or-false-l}
 use Rattle.demands.specs.Kept.{Shaped, SoundVenue}
 use Rattle.demands.specs.Truth.{venueAfter}
@@ -83,6 +85,17 @@ unfolding complexInRange isClass within blankComplex
 class-fits c true h asked blank = let z = asked h in let k = leb-true (c .class) 1 (search (and-l, and-r, z) depth 12) in omega arith
 class-fits c false h asked blank = let z = blank h in let k = eqb-true (c .class) 0 (search (and-l, and-r, z) depth 12) in omega arith
 
+-- a regular order's shown quantity is no more than what is left, nor is its reserve
+display-fits : (o : Regular) (t : Bool) → held (o .quantity) ≡ t → o .quantity ≤ 10000 → (held (o .quantity) ≡ true → regularInRange o ≡ true) →
+    (held (o .quantity) ≡ false → blankRegular o ≡ true) → FourBytes (o .display)
+unfolding regularInRange within blankRegular
+display-fits o true h q asked blank = let z = asked h in let k = leb-true (o .display) (o .quantity) (search (and-l, and-r, z) depth 12) in omega arith
+display-fits o false h q asked blank = let z = blank h in let k = eqb-true (o .display) 0 (search (and-l, and-r, z) depth 12) in omega arith
+
+reserve-fits : (o : Regular) → o .quantity ≤ 10000 → showsFully o ≡ true → FourBytes (o .reserve)
+unfolding showsFully
+reserve-fits o q h = let k = eqb-true (o .reserve) (o .quantity - o .display) h in omega arith
+
 -- the fields of a sound venue have their widths
 declared : (v : Venue) → SoundVenue v → Declared v
 declared v s =
@@ -90,7 +103,15 @@ declared v s =
     let g = k .ranged in
     record {
       sized = record { regular = s .shaped .regular; complex = s .shaped .complex; legging = s .shaped .legging; series = s .shaped .series; editions = s .shaped .editions };
-      regular = λ i. let f = g .regular i in record { id = f .id; series = omega arith; side = omega arith; price = omega arith; quantity = omega arith };
+      regular = λ i. let f = g .regular i in record {
+        id = f .id;
+        series = omega arith;
+        side = omega arith;
+        price = omega arith;
+        quantity = omega arith;
+        display = display-fits (reg v i) (held (reg v i .quantity)) refl (f .quantity) (f .ok) (k .tidy .blank1 i);
+        reserve = reserve-fits (reg v i) (f .quantity) (unfold Showing in (k .showing i));
+      };
       complex = λ i. let f = g .complex i in record {
         id = f .id;
         series1 = omega arith;

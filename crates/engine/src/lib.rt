@@ -131,7 +131,7 @@ fn end_call(number: u8, venue: Venue, report: &mut [u8]) -> Returned
 pub fn one_message(venue: Venue, before: u32, message: &[u8], report: &mut [u8]) -> Returned
     ensures { λ r. ⌜ callOf r (now (report .exit)) ≡ calls.one venue before (length (now (report .entry))) (now (message .entry)) ⌝ }
 {
-    let mut b = [0u32; 975];
+    let mut b = [0u32; places::SIZE];
     if !load_ready(&mut b, venue, before) {
         return end_call(9, venue, report);
     }

@@ -6,7 +6,6 @@ use native.Mathlib.Omega.{arith}
 use lib.Dec.{leb, ltb, eqb}
 use lib.ListN.{set}
 use borrow.Author.Tests.{leb-true, ne-eqb}
-use Rattle.rules.specs.declared.Regular.{Regular}
 use Rattle.rules.specs.declared.Complex.{Complex}
 use Rattle.rules.specs.declared.Listed.{Listed}
 use Rattle.rules.specs.declared.Venue.{Venue}
@@ -14,13 +13,12 @@ use Rattle.rules.specs.declared.Message.{Message}
 use Rattle.rules.specs.declared.Message.the-variants.{Order, TwoLeg, Cancel, Away, Status, Sweep, Increment, Percent}
 use Rattle.rules.specs.Base.{if_then_else_, held, all}
 use Rattle.rules.specs.Words.{closed, within, isSeries, isSide, statusOf, listedAt, withSeries}
-use Rattle.rules.specs.Messages.{messageKind}
+use Rattle.rules.specs.Messages.{messageForm}
 use Rattle.rules.specs.Settings.{isIncrement, freeEdition}
 use Rattle.rules.specs.Complex.{regularPlace, complexPlace, restsRegular, restsComplex}
-use Rattle.rules.specs.Refusals.{regularInRange, complexInRange, inRange, offIncrement, editionTooLow, idle, inUse, noEditionLeft, idTooLow, onClosed, full, unknown, refusalOf}
+use Rattle.rules.specs.Refusals.{complexInRange, inRange, offIncrement, editionTooLow, idle, inUse, noEditionLeft, idTooLow, onClosed, full, unknown, refusalOf}
 use Rattle.rules.specs.Step.{setAway, setStatus}
 use Rattle.rules.proofs.Tests.{and-l, and-r}
-use Rattle.places.specs.Layout.{OnSide}
 use Rattle.levels.specs.Grid.{LegsIn}
 use Rattle.book.specs.declared.Found.{Found}
 use Rattle.book.specs.declared.Found.the-variants.{At, Nothing}
@@ -28,13 +26,6 @@ use Rattle.book.specs.Picks.{regularFound, complexFound}
 use Rattle.messages.specs.Steps.{editionRefusal}
 
 -- Fields in range -----------------------------------------------------------------------------
-
-pub regular-side : (o : Regular) → regularInRange o ≡ true → OnSide (o .series) (o .side)
-unfolding regularInRange isSeries isSide within
-regular-side o z =
-    let a = leb-true (o .series) 7 (search (and-l, and-r, z) depth 8) in
-    let b = leb-true (o .side) 1 (search (and-l, and-r, z) depth 8) in
-    record { series = omega arith; side = omega arith }
 
 pub legs-in : (c : Complex) → complexInRange c ≡ true → LegsIn c
 unfolding complexInRange isSeries isSide within
@@ -66,8 +57,8 @@ increment-set s x e z =
 
 -- Each refusal from its test ------------------------------------------------------------------
 
--- kinds 4 to 6 meet none
-pub never-refused : (v : Venue) (m : Message) → 3 < messageKind m → messageKind m < 7 → 0 ≡ refusalOf v m
+-- forms 4 to 6 meet none
+pub never-refused : (v : Venue) (m : Message) → 3 < messageForm m → messageForm m < 7 → 0 ≡ refusalOf v m
 unfolding refusalOf offIncrement editionTooLow inUse noEditionLeft idTooLow onClosed full unknown
 never-refused v (Order o) h l = absurd (omega arith)
 never-refused v (TwoLeg c) h l = absurd (omega arith)

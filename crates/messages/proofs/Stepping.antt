@@ -25,13 +25,15 @@ use Rattle.rules.specs.Trading.{freeRegular, freeComplex}
 use Rattle.rules.specs.Complex.{restsRegular, restsComplex}
 use Rattle.rules.specs.Places.{closeGaps, holdsRegular, blankRegular}
 use Rattle.rules.specs.Refusals.{regularInRange, inRange, decoded, onIncrement, noEditionLeft, idTooLow, full, unknown, refusalOf, refusal}
-use Rattle.rules.specs.Sound.{regularsSound, sound}
+use Rattle.rules.specs.Sound.{showsFully, regularsSound, sound}
 use Rattle.rules.specs.Step.{perform, accept, mask, StepOutcome, answered, step}
 use Rattle.rules.proofs.Tests.{and-l, and-r}
 use Rattle.rules.proofs.Arranging.{arranged-out, blank-free}
 use Rattle.rules.proofs.Refusing.{decoded-by, refusalOf-by}
+use Rattle.rules.proofs.Showing.{message-fully}
 use Rattle.wire.specs.Seen.{Seen, seen, _writes_}
 use Rattle.wire.specs.Stage.{stage, _does_}
+use Rattle.wire.specs.Brought.{Shows}
 use Rattle.wire.proofs.Writes.{answer-last}
 use Rattle.wire.proofs.Stages.{does-nothing, follow, stage-venue, stage-written}
 use Rattle.places.specs.Layout.{regularsUsed, complexesUsed, venueOf, Below, SameCounts, Dense}
@@ -101,7 +103,7 @@ module _ (v : Venue) (o : Regular) (e : refusalOf v (Order o) ≡ 0) where
   unfolding regularsSound
   regulars-below h =
       let a = arranged-out noRegular holdsRegular _ blankRegular (λ o. o .id) blank-free (unfold blankRegular in refl) 0 (v .regular) h in
-      λ i q. let z = leb-true (getD (v .regular) i noRegular .id) (v .last) (and-r (regularInRange (getD (v .regular) i noRegular) && onIncrement v (getD (v .regular) i noRegular)) _ (a .asks i q)) in let w = order-last in omega arith
+      λ i q. let z = leb-true (getD (v .regular) i noRegular .id) (v .last) (and-r (regularInRange (getD (v .regular) i noRegular) && onIncrement v (getD (v .regular) i noRegular) && showsFully (getD (v .regular) i noRegular)) _ (a .asks i q)) in let w = order-last in omega arith
 
   pub order-below : sound v ≡ true → Below (o .id) (v .regular)
   unfolding sound
@@ -166,6 +168,11 @@ told bs =
 
 pub taken-out : (bs : List ℕ) (m : Message) → Taken m ≡ decoded bs → (messageOf bs ≡ m) × (inRange m ≡ true)
 taken-out bs m e = let t : Told bs (Taken m) = rw (sym e) at (told bs) in t
+
+-- an order that was decoded shows what it should
+pub taken-shows : (bs : List ℕ) (m : Message) → Taken m ≡ decoded bs → Shows m
+unfolding Shows
+taken-shows bs m e o p = message-fully bs o (taken-out bs m e .0 ∙ p)
 
 pub refused-out : (bs : List ℕ) (x : ℕ) → Refused x ≡ decoded bs → x ≡ 0 → ⊥
 refused-out bs x e = let t : Told bs (Refused x) = rw (sym e) at (told bs) in t

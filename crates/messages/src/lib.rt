@@ -15,18 +15,20 @@ ghost use lib.ListN.{length};
 ghost use Rattle.rules.specs.declared.Message.the-variants.{Order, TwoLeg, Cancel};
 ghost use Rattle.rules.specs.Base.{held, all};
 ghost use Rattle.rules.specs.Words.{withLast};
-ghost use Rattle.rules.specs.Messages.{messageKind};
+ghost use Rattle.rules.specs.Messages.{messageForm};
 ghost use Rattle.rules.specs.Settings.{freeEdition};
 ghost use Rattle.rules.specs.Effects.{nothing};
 ghost use Rattle.rules.specs.Order.{order};
 ghost use Rattle.rules.specs.Complex.{complex, restsRegular, restsComplex};
 ghost use Rattle.rules.specs.Refusals.{regularInRange, complexInRange, inRange, offIncrement, idle, refusalOf};
+ghost use Rattle.rules.specs.Sound.{showsFully};
 ghost use Rattle.rules.specs.Step.{setAway, setStatus, setFigure, answered};
 ghost use Rattle.rules.specs.Step as step;
 ghost use Rattle.demands.specs.Kept.{SoundVenue};
 ghost use Rattle.rules.specs.Standing.{settle};
 ghost use Rattle.wire.specs.Seen.{seen};
 ghost use Rattle.wire.specs.Stage.{stage, _does_};
+ghost use Rattle.wire.specs.Brought.{Shows};
 ghost use Rattle.places.specs.Layout.{size, regularsUsed, complexesUsed, venueOf, Figured, Right, Below, SameCounts, Dense};
 ghost use Rattle.levels.specs.Grid.{LegsIn};
 ghost use Rattle.messages.specs.Steps.{editionRefusal, answeredBy, Steps, Tries};
@@ -217,7 +219,7 @@ fn edition_refusal(b: &[u32], edition: u32, used: bool) -> u8
 
 // The first of 11 to 13 that a new setting meets.
 fn setting_refusal(b: &[u32], m: Message) -> u8
-    requires { ⌜ (length (now b) ≡ size) × (6 < messageKind m) × (inRange m ≡ true) ⌝ }
+    requires { ⌜ (length (now b) ≡ size) × (6 < messageForm m) × (inRange m ≡ true) ⌝ }
     ensures { λ r. ⌜ r ≡ refusalOf (venueOf (now (b .entry))) m ⌝ }
 {
     match m {
@@ -235,11 +237,11 @@ fn refusal_of(b: &[u32], m: Message) -> u8
     requires { ⌜ (length (now b) ≡ size) × (Dense (now b)) × (inRange m ≡ true) ⌝ }
     ensures { λ r. ⌜ r ≡ refusalOf (venueOf (now (b .entry))) m ⌝ }
 {
-    let kind = rules::message_kind(m);
-    if 6 < kind {
+    let form = rules::message_form(m);
+    if 6 < form {
         return setting_refusal(b, m);
     }
-    if 3 < kind {
+    if 3 < form {
         return 0;
     }
     match m {
@@ -307,7 +309,7 @@ fn set_figure(
 
 // An order arrives, and its id is the last accepted.
 fn enter_order(b: &mut [u32], o: Regular, out: &mut [u8], at: usize) -> usize
-    requires { ⌜ (length (now b) ≡ size) × (Dense (now b)) × (regularsUsed (now b) < 128) × (o .series < 8) × (o .side < 2) × (held (o .price) ≡ true) × (Below (o .id) (venueOf (now b) .regular)) ⌝ }
+    requires { ⌜ (length (now b) ≡ size) × (Dense (now b)) × (regularsUsed (now b) < 128) × (regularInRange o ≡ true) × (showsFully o ≡ true) × (Below (o .id) (venueOf (now b) .regular)) ⌝ }
     ensures { λ r. ⌜ stage (venueOf (now (b .exit))) (now (out .exit)) r ≡ seen (now (out .entry)) at does order o (withLast (venueOf (now (b .entry))) (o .id)) ⌝ }
     ensures right { λ _. ⌜ Right (now (b .exit)) ⌝ }
 {
@@ -327,7 +329,7 @@ fn enter_complex(b: &mut [u32], c: Complex, out: &mut [u8], at: usize) -> usize
 
 // What a new setting that is not refused does.
 fn perform_setting(b: &mut [u32], number: u32, m: Message, out: &mut [u8], at: usize) -> usize
-    requires { ⌜ (length (now b) ≡ size) × (6 < messageKind m) × (inRange m ≡ true) × (refusalOf (venueOf (now b)) m ≡ 0) × (Right (now b)) ⌝ }
+    requires { ⌜ (length (now b) ≡ size) × (6 < messageForm m) × (inRange m ≡ true) × (refusalOf (venueOf (now b)) m ≡ 0) × (Right (now b)) ⌝ }
     ensures { λ r. ⌜ stage (venueOf (now (b .exit))) (now (out .exit)) r ≡ seen (now (out .entry)) at does step.perform number m (venueOf (now (b .entry))) ⌝ }
     ensures counts { λ _. ⌜ SameCounts (now (b .entry)) (now (b .exit)) ⌝ }
 {
@@ -340,17 +342,17 @@ fn perform_setting(b: &mut [u32], number: u32, m: Message, out: &mut [u8], at: u
     }
 }
 
-// What a message of this number that is not refused does, by its kind, in parts as in `wire::in_range`.
+// What a message of this number that is not refused does, by its form, in parts as in `wire::in_range`.
 fn perform(b: &mut [u32], number: u32, m: Message, out: &mut [u8], at: usize) -> usize
-    requires { ⌜ (length (now b) ≡ size) × (Dense (now b)) × (inRange m ≡ true) × (refusalOf (venueOf (now b)) m ≡ 0) × (SoundVenue (venueOf (now b))) ⌝ }
+    requires { ⌜ (length (now b) ≡ size) × (Dense (now b)) × (inRange m ≡ true) × (refusalOf (venueOf (now b)) m ≡ 0) × (SoundVenue (venueOf (now b))) × (Shows m) ⌝ }
     ensures { λ r. ⌜ stage (venueOf (now (b .exit))) (now (out .exit)) r ≡ seen (now (out .entry)) at does step.perform number m (venueOf (now (b .entry))) ⌝ }
     ensures right { λ _. ⌜ Right (now (b .exit)) ⌝ }
 {
-    let kind = rules::message_kind(m);
-    if 6 < kind {
+    let form = rules::message_form(m);
+    if 6 < form {
         return perform_setting(b, number, m, out, at);
     }
-    if kind <= 3 {
+    if form <= 3 {
         return match m {
             Message::Order(o) => enter_order(b, o, out, at),
             Message::TwoLeg(c) => enter_complex(b, c, out, at),
@@ -367,7 +369,7 @@ fn perform(b: &mut [u32], number: u32, m: Message, out: &mut [u8], at: usize) ->
 
 // The same, and then the gaps that it left are closed.
 fn accept(b: &mut [u32], number: u32, m: Message, out: &mut [u8], at: usize) -> usize
-    requires { ⌜ (length (now b) ≡ size) × (Dense (now b)) × (inRange m ≡ true) × (refusalOf (venueOf (now b)) m ≡ 0) × (SoundVenue (venueOf (now b))) ⌝ }
+    requires { ⌜ (length (now b) ≡ size) × (Dense (now b)) × (inRange m ≡ true) × (refusalOf (venueOf (now b)) m ≡ 0) × (SoundVenue (venueOf (now b))) × (Shows m) ⌝ }
     ensures { λ r. ⌜ stage (venueOf (now (b .exit))) (now (out .exit)) r ≡ seen (now (out .entry)) at does step.accept number m (venueOf (now (b .entry))) ⌝ }
     ensures dense { λ _. ⌜ Dense (now (b .exit)) ⌝ }
 {
@@ -397,7 +399,7 @@ fn refuse(b: &[u32], number: u32, refused: u8, out: &mut [u8]) -> Stepped
 
 // An accepted message: the answer's record first, then its effects; mask and count are set last.
 fn answer_accepted(b: &mut [u32], number: u32, m: Message, out: &mut [u8]) -> Stepped
-    requires { ⌜ (length (now b) ≡ size) × (Dense (now b)) × (inRange m ≡ true) × (refusalOf (venueOf (now b)) m ≡ 0) × (SoundVenue (venueOf (now b))) ⌝ }
+    requires { ⌜ (length (now b) ≡ size) × (Dense (now b)) × (inRange m ≡ true) × (refusalOf (venueOf (now b)) m ≡ 0) × (SoundVenue (venueOf (now b))) × (Shows m) ⌝ }
     ensures { λ r. ⌜ Steps (answered number 0 (step.accept number m (venueOf (now (b .entry))))) (now (out .entry)) r (now (b .exit)) (now (out .exit)) ⌝ }
 {
     let at = wire::emit_answer(out, 0, number, 0, 0, 0);
@@ -413,7 +415,7 @@ fn answer_accepted(b: &mut [u32], number: u32, m: Message, out: &mut [u8]) -> St
 
 // A message whose fields are in range.
 fn answer(b: &mut [u32], number: u32, m: Message, out: &mut [u8]) -> Stepped
-    requires { ⌜ (length (now b) ≡ size) × (Dense (now b)) × (inRange m ≡ true) × (SoundVenue (venueOf (now b))) ⌝ }
+    requires { ⌜ (length (now b) ≡ size) × (Dense (now b)) × (inRange m ≡ true) × (SoundVenue (venueOf (now b))) × (Shows m) ⌝ }
     ensures { λ r. ⌜ Steps (answeredBy (venueOf (now (b .entry))) number m) (now (out .entry)) r (now (b .exit)) (now (out .exit)) ⌝ }
 {
     let refused = refusal_of(b, m);
@@ -454,7 +456,7 @@ fn step_or_leave(b: &mut [u32], number: u32, message: &[u8], out: &mut [u8]) -> 
     requires { ⌜ (length (now b) ≡ size) × (Dense (now b)) × (SoundVenue (venueOf (now b))) ⌝ }
     ensures { λ r. ⌜ Tries (step.step (venueOf (now (b .entry))) number (now (message .entry))) (now (b .entry)) (now (out .entry)) r (now (b .exit)) (now (out .exit)) ⌝ }
 {
-    let mut kept = [0u32; 975];
+    let mut kept = [0u32; places::SIZE];
     copy(b, &mut kept);
     let r = step(b, number, message, out);
     if r.written <= out.len() {

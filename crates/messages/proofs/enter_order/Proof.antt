@@ -6,6 +6,9 @@ use Rattle.rules.specs.Order.{order}
 use Rattle.wire.specs.Seen.{seen}
 use Rattle.wire.specs.Stage.{_does_}
 use Rattle.places.specs.Layout.{venueOf}
+use Rattle.places.proofs.Loaded.{regular-side}
+use Rattle.places.proofs.Orderly.{range-priced, range-displayed}
+use Rattle.places.proofs.Fully.{range-bounded}
 use Rattle.messages.proofs.Stepping.{last-dense, last-below}
 use borrow.Author.Needs.{needs}
 use Rattle.messages.proofs.enter_order.Statement.{statement}
@@ -15,7 +18,25 @@ put-last-requires : tie.Need-put-last-requires
 put-last-requires c κs = search needs
 
 order-requires : tie.Need-order-requires
-order-requires c κs = let s = c .before .before .before .before .before .before .before .before in let p = c .before .before .before .before .put-last .ensures in let k = p .1 .regulars in let h = s .pre .2 in (c .before .before .before .before .put-last .kept .0 ∙ s .pre .0, last-dense _ _ _ (p .0) (p .1) (s .pre .1), omega arith, s .pre .3, s .pre .4, s .pre .5, last-below _ _ _ (p .0) (s .pre .6))
+order-requires c κs =
+    let s = c .before .before .before .before .before .before .before .before in
+    let p = c .before .before .before .before .put-last .ensures in
+    let k = p .1 .regulars in
+    let h = s .pre .2 in
+    let r = s .pre .3 in
+    let f = s .pre .4 in
+    let z = regular-side _ r in (
+      c .before .before .before .before .put-last .kept .0 ∙ s .pre .0,
+      last-dense _ _ _ (p .0) (p .1) (s .pre .1),
+      omega arith,
+      z .series,
+      z .side,
+      range-priced _ r,
+      last-below _ _ _ (p .0) (s .pre .5),
+      range-displayed _ r,
+      range-bounded _ r f .display,
+      f,
+    )
 
 same-length : tie.Need-same-length
 same-length c = search needs

@@ -7,20 +7,20 @@ use Rattle.rules.specs.Step.{perform}
 use Rattle.rules.proofs.ByKind.{kinds-left, sweep-left}
 use Rattle.wire.specs.Seen.{seen}
 use Rattle.wire.specs.Stage.{_does_}
+use Rattle.wire.specs.Brought.{Shows}
 use Rattle.places.specs.Layout.{venueOf}
-use Rattle.places.proofs.Orderly.{range-priced}
 use Rattle.complexes.proofs.Walking.{sound-rising}
-use Rattle.messages.proofs.Refusing.{regular-side, legs-in, away-series, status-series}
+use Rattle.messages.proofs.Refusing.{legs-in, away-series, status-series}
 use Rattle.messages.proofs.Stepping.{order-below, order-room, complex-room, cancel-known}
 use borrow.Author.Needs.{needs}
 use Rattle.messages.proofs.perform.Statement.{statement}
 use Rattle.messages.proofs.perform.Tie as tie
 
-message-kind-requires : tie.Need-message-kind-requires
-message-kind-requires c κs = search needs
+message-form-requires : tie.Need-message-form-requires
+message-form-requires c κs = search needs
 
 perform-setting-requires : tie.Need-perform-setting-requires
-perform-setting-requires c κs = let s = c .before .before .before .before .before .before in let e = c .before .before .before .message-kind .ensures in (s .pre .0, omega arith, s .pre .2, s .pre .3, s .pre .1 .right)
+perform-setting-requires c κs = let s = c .before .before .before .before .before .before in let e = c .before .before .before .message-form .ensures in (s .pre .0, omega arith, s .pre .2, s .pre .3, s .pre .1 .right)
 
 same-length : tie.Need-same-length
 same-length c = search needs
@@ -35,8 +35,12 @@ enum-known-m : tie.Need-enum-known-m
 enum-known-m c = search needs
 
 enter-order-requires : tie.Need-enter-order-requires
-unfolding inRange
-enter-order-requires c κs = let s = c .before .before .before .before .before .before .before .before .before .before in let e = c .before .before .before .m .given .1 in let z = regular-side _ (sym (ap inRange e) ∙ s .pre .2) in (s .pre .0, s .pre .1, order-room _ (s .pre .1) _ (sym (ap (refusalOf (venueOf (s .args .b .now))) e) ∙ s .pre .3), z .series, z .side, range-priced _ (sym (ap inRange e) ∙ s .pre .2), order-below (venueOf (s .args .b .now)) _ (sym (ap (refusalOf (venueOf (s .args .b .now))) e) ∙ s .pre .3) (s .pre .4 .is))
+unfolding inRange Shows
+enter-order-requires c κs =
+    let s = c .before .before .before .before .before .before .before .before .before .before in
+    let e = c .before .before .before .m .given .1 in
+    let r = sym (ap (refusalOf (venueOf (s .args .b .now))) e) ∙ s .pre .3 in
+    (s .pre .0, s .pre .1, order-room _ (s .pre .1) _ r, sym (ap inRange e) ∙ s .pre .2, s .pre .5 _ e, order-below (venueOf (s .args .b .now)) _ r (s .pre .4 .is))
 
 enum-known-m-2 : tie.Need-enum-known-m-2
 enum-known-m-2 c = search needs
@@ -82,7 +86,7 @@ unfolding perform
 returns-4 c = let s = c .before .before .before .before .before .before .before .before .before .before .before .before .before .before .before in let k = c .before .before .before .before .cancel .ensures in (k .0 ∙ ap (λ (x : Message). seen (s .args .out .now) (s .args .at) does perform (s .args .number) x (venueOf (s .args .b .now))) (sym (c .before .before .before .before .before .before .before .before .m3 .given .1)), k .1 .right (s .pre .1 .right))
 
 returns-5 : tie.Need-returns-5
-returns-5 c = let k = kinds-left (c .before .before .before .before .before .before .args .m) (c .match .keys4) in let e = c .before .before .before .message-kind .ensures in absurd (omega arith)
+returns-5 c = let k = kinds-left (c .before .before .before .before .before .before .args .m) (c .match .keys4) in let e = c .before .before .before .message-form .ensures in absurd (omega arith)
 
 enum-known-m-4 : tie.Need-enum-known-m-4
 enum-known-m-4 c = search needs
@@ -127,13 +131,13 @@ same-length-14 c = search needs
 
 returns-8 : tie.Need-returns-8
 unfolding perform
-returns-8 c = let s = c .before .before .before .before .before .before .before .before .before .before .before .before .before in let e = c .before .before .before .before .before .before .before .before .before .before .message-kind .ensures in let sweeps = sweep-left (s .args .m) (c .before .before .before .before .before .before .before .match2 .keys3) (omega arith) (omega arith) in let k = c .before .before .before .before .sweep .ensures in (k .0 ∙ ap (λ (x : Message). seen (s .args .out .now) (s .args .at) does perform (s .args .number) x (venueOf (s .args .b .now))) (sym sweeps), k .1 .right (s .pre .1 .right))
+returns-8 c = let s = c .before .before .before .before .before .before .before .before .before .before .before .before .before in let e = c .before .before .before .before .before .before .before .before .before .before .message-form .ensures in let sweeps = sweep-left (s .args .m) (c .before .before .before .before .before .before .before .match2 .keys3) (omega arith) (omega arith) in let k = c .before .before .before .before .sweep .ensures in (k .0 ∙ ap (λ (x : Message). seen (s .args .out .now) (s .args .at) does perform (s .args .number) x (venueOf (s .args .b .now))) (sym sweeps), k .1 .right (s .pre .1 .right))
 
 pub perform-spec : {M : Type 1} → statement M
 perform-spec =
     tie.close
     (tie.spec
-    message-kind-requires
+    message-form-requires
     perform-setting-requires
     same-length
     same-length-2

@@ -9,17 +9,17 @@ use borrow.Author.Needs.{needs}
 use Rattle.messages.proofs.refusal_of.Statement.{statement}
 use Rattle.messages.proofs.refusal_of.Tie as tie
 
-message-kind-requires : tie.Need-message-kind-requires
-message-kind-requires c κs = search needs
+message-form-requires : tie.Need-message-form-requires
+message-form-requires c κs = search needs
 
 setting-refusal-requires : tie.Need-setting-refusal-requires
-setting-refusal-requires c κs = let s = c .before .before .before in let e = c .before .message-kind .ensures in (s .pre .0, omega arith, s .pre .2)
+setting-refusal-requires c κs = let s = c .before .before .before in let e = c .before .message-form .ensures in (s .pre .0, omega arith, s .pre .2)
 
 returns : tie.Need-returns
 returns c = c .setting-refusal .ensures
 
 returns-2 : tie.Need-returns-2
-returns-2 c = let s = c .before .before .before .before in let e = c .before .before .message-kind .ensures in never-refused (venueOf (s .args .b .now)) (s .args .m) (omega arith) (omega arith)
+returns-2 c = let s = c .before .before .before .before in let e = c .before .before .message-form .ensures in never-refused (venueOf (s .args .b .now)) (s .args .m) (omega arith) (omega arith)
 
 enum-known-m : tie.Need-enum-known-m
 enum-known-m c = search needs
@@ -51,13 +51,13 @@ returns-5 : tie.Need-returns-5
 returns-5 c = let s = c .before .before .before .before .before .before .before .before in c .cancel-refusal .ensures ∙ sym (ap (refusalOf (venueOf (s .args .b .now))) (c .before .before .m3 .given .1))
 
 returns-6 : tie.Need-returns-6
-returns-6 c = let s = c .before .before .before .before .before in let k = kinds-left (s .args .m) (c .match .keys4) in let e = c .before .before .before .message-kind .ensures in absurd (omega arith)
+returns-6 c = let s = c .before .before .before .before .before in let k = kinds-left (s .args .m) (c .match .keys4) in let e = c .before .before .before .message-form .ensures in absurd (omega arith)
 
 pub refusal-of-spec : {M : Type 1} → statement M
 refusal-of-spec =
     tie.close
     (tie.spec
-    message-kind-requires
+    message-form-requires
     setting-refusal-requires
     returns
     returns-2

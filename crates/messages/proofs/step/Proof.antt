@@ -1,7 +1,7 @@
 -- `messages::step` meets its contract.
 use mathlib.Core.Path.{_≡_, refl, sym, ap, _∙_}
 use Rattle.places.specs.Layout.{venueOf}
-use Rattle.messages.proofs.Stepping.{steps-as, taken-out, step-taken, step-refused}
+use Rattle.messages.proofs.Stepping.{steps-as, taken-out, taken-shows, step-taken, step-refused}
 use borrow.Author.Needs.{needs}
 use Rattle.messages.proofs.step.Statement.{statement}
 use Rattle.messages.proofs.step.Tie as tie
@@ -13,7 +13,10 @@ enum-known-decoded : tie.Need-enum-known-decoded
 enum-known-decoded c = search needs
 
 answer-requires : tie.Need-answer-requires
-answer-requires c κs = let s = c .before .before .before .before .before .before .before .before .before in (s .pre .0, s .pre .1, taken-out (s .args .message .now) _ (sym (c .before .before .before .decoded .given .1) ∙ c .before .before .before .before .before .decode .ensures) .1, s .pre .2)
+answer-requires c κs =
+    let s = c .before .before .before .before .before .before .before .before .before in
+    let e = sym (c .before .before .before .decoded .given .1) ∙ c .before .before .before .before .before .decode .ensures in
+    (s .pre .0, s .pre .1, taken-out (s .args .message .now) _ e .1, s .pre .2, taken-shows (s .args .message .now) _ e)
 
 enum-known-decoded-2 : tie.Need-enum-known-decoded-2
 enum-known-decoded-2 c = search needs
