@@ -1,27 +1,57 @@
 //! The regular orders: one sorted list for each side of each series.
 
-use crate::price::{better, Place};
+use crate::price::{better, bit, places, Place};
 use crate::types::{LEGGING_PLACES, REGULAR_PLACES};
 
 #[derive(Clone, Copy, Debug)]
 pub struct Resting {
     pub id: u32,
     pub price: u32,
+    /// What is left of it, shown or not.
+    pub quantity: u32,
+    /// What it shows now; the rest of the quantity is reserve.
+    pub shown: u32,
+    /// The shown quantity asked for at its entry.
+    pub display: u32,
+}
+
+impl Resting {
+    /// An order that shows the lesser of its shown quantity and what is left of it.
+    pub fn showing(id: u32, price: u32, quantity: u32, display: u32) -> Self {
+        let shown = display.min(quantity);
+        Resting {
+            id,
+            price,
+            quantity,
+            shown,
+            display,
+        }
+    }
+}
+
+/// What a trade takes from one order.
+#[derive(Clone, Copy, Debug, PartialEq, Eq)]
+pub struct Fill {
+    pub id: u32,
+    pub price: u32,
     pub quantity: u32,
 }
 
-/// A best price and the total size at it.
+/// A best price and the total size shown at it.
 #[derive(Clone, Copy, Debug, PartialEq, Eq)]
 pub struct Level {
     pub price: u32,
     pub size: u32,
 }
 
-/// Each side is sorted so that the order to trade first stands last.
+/// Each side is sorted so that the order with the best price, and of these the
+/// earliest, stands last.
 #[derive(Clone, Debug, Default)]
 pub struct RegularBook {
     sides: [Vec<Resting>; LEGGING_PLACES],
     count: usize,
+    /// The sides on which orders with reserve have traded since they last showed again.
+    lessened: u16,
 }
 
 impl RegularBook {
@@ -33,23 +63,37 @@ impl RegularBook {
         self.count >= REGULAR_PLACES
     }
 
-    pub fn best(&self, place: Place) -> Option<u32> {
-        self.sides[place].last().map(|order| order.price)
+    pub fn is_empty(&self, place: Place) -> bool {
+        self.sides[place].is_empty()
     }
 
+    /// The best price at which some size is shown.
+    pub fn best(&self, place: Place) -> Option<u32> {
+        let mut best_first = self.sides[place].iter().rev();
+        let first = best_first.find(|order| order.shown > 0)?;
+        Some(first.price)
+    }
+
+    /// The best price shown, with all that is shown at it.
     pub fn level(&self, place: Place) -> Option<Level> {
         let price = self.best(place)?;
         let size = self.sides[place]
             .iter()
             .rev()
+            .skip_while(|order| order.price != price)
             .take_while(|order| order.price == price)
-            .map(|order| order.quantity)
+            .map(|order| order.shown)
             .sum();
         Some(Level { price, size })
     }
 
+    /// The best price at which anything is left, shown or reserve.
+    pub fn first_price(&self, place: Place) -> Option<u32> {
+        self.sides[place].last().map(|order| order.price)
+    }
+
     /// Makes room for as many orders on each side as these are.
-    pub fn reserve(&mut self, places: impl Iterator<Item = Place>) {
+    pub fn make_room(&mut self, places: impl Iterator<Item = Place>) {
         let mut counts = [0; LEGGING_PLACES];
         places.for_each(|place| counts[place] += 1);
         for (side, count) in self.sides.iter_mut().zip(counts) {
@@ -65,20 +109,56 @@ impl RegularBook {
         self.count += 1;
     }
 
-    /// Takes up to `most` contracts from the first order of a side.
-    pub fn take_first(&mut self, place: Place, most: u32) -> Option<Resting> {
-        let side = &mut self.sides[place];
-        let first = side.last_mut()?;
-        let fill = Resting {
-            quantity: first.quantity.min(most),
-            ..*first
-        };
-        first.quantity -= fill.quantity;
-        if first.quantity == 0 {
-            side.pop();
-            self.count -= 1;
+    /// Takes up to `most` contracts of what the first order of a side shows, by price
+    /// and then by id; those that show nothing are passed over.
+    pub fn take_shown(&mut self, place: Place, most: u32) -> Option<Fill> {
+        let at = self.sides[place]
+            .iter()
+            .rposition(|order| order.shown > 0)?;
+        let shown = self.sides[place][at].shown;
+        Some(self.fill(place, at, shown.min(most)))
+    }
+
+    /// Takes up to `most` contracts at the best price of a side: all shown size by id,
+    /// and then, where no size is shown at that price, all reserve by id.
+    pub fn take_met(&mut self, place: Place, most: u32) -> Option<Fill> {
+        let price = self.first_price(place)?;
+        if self.best(place) == Some(price) {
+            return self.take_shown(place, most);
         }
-        Some(fill)
+        let at = self.sides[place].len() - 1;
+        let reserve = self.sides[place][at].quantity;
+        Some(self.fill(place, at, reserve.min(most)))
+    }
+
+    /// Takes contracts from an order, of what it shows while it shows some.
+    fn fill(&mut self, place: Place, at: usize, quantity: u32) -> Fill {
+        let side = &mut self.sides[place];
+        let order = &mut side[at];
+        let fill = Fill {
+            id: order.id,
+            price: order.price,
+            quantity,
+        };
+        order.quantity -= quantity;
+        order.shown = order.shown.saturating_sub(quantity);
+        if order.quantity == 0 {
+            side.remove(at);
+            self.count -= 1;
+        } else if order.quantity > order.shown {
+            self.lessened |= bit(place);
+        }
+        fill
+    }
+
+    /// Each order shows again the lesser of its shown quantity and what is left of it.
+    pub fn show_again(&mut self) {
+        for place in places(self.lessened) {
+            for order in &mut self.sides[place] {
+                order.shown = order.display.min(order.quantity);
+            }
+        }
+        self.lessened = 0;
     }
 
     /// Takes the order with this id out of the book.
@@ -108,11 +188,13 @@ mod tests {
     use super::*;
 
     fn order(id: u32, price: u32, quantity: u32) -> Resting {
-        Resting {
-            id,
-            price,
-            quantity,
-        }
+        Resting::showing(id, price, quantity, quantity)
+    }
+
+    /// Takes `most` at a time until nothing is left: ids and quantities.
+    fn taken(book: &mut RegularBook, place: Place, most: u32) -> Vec<(u32, u32)> {
+        let fills = std::iter::from_fn(|| book.take_met(place, most));
+        fills.map(|fill| (fill.id, fill.quantity)).collect()
     }
 
     #[test]
@@ -124,7 +206,8 @@ mod tests {
             }
         }
         let mut ids = |place| -> Vec<u32> {
-            std::iter::from_fn(|| book.take_first(place, 9).map(|fill| fill.id)).collect()
+            let fills = taken(&mut book, place, 9).into_iter();
+            fills.map(|(id, _)| id).collect()
         };
         assert_eq!(ids(0), [2, 4, 1, 3, 5]);
         assert_eq!(ids(1), [3, 5, 1, 2, 4]);
@@ -142,5 +225,54 @@ mod tests {
         };
         assert_eq!(book.level(1), Some(best));
         assert_eq!(book.level(0), None);
+    }
+
+    /// 2 of 5, all of 3, 1 of 4 at one price; 1 of 6 at a worse one.
+    fn with_reserve() -> RegularBook {
+        let mut book = RegularBook::default();
+        book.insert(0, Resting::showing(1, 115, 5, 2));
+        book.insert(0, order(2, 115, 3));
+        book.insert(0, Resting::showing(3, 115, 4, 1));
+        book.insert(0, Resting::showing(4, 110, 6, 1));
+        book
+    }
+
+    #[test]
+    fn at_each_price_all_shown_size_goes_before_all_reserve() {
+        let mut book = with_reserve();
+        let expected = [(1, 2), (2, 3), (3, 1), (1, 3), (3, 3), (4, 1), (4, 5)];
+        assert_eq!(taken(&mut book, 0, 99), expected);
+        assert_eq!(book.count(), 0);
+    }
+
+    #[test]
+    fn prices_and_sizes_are_of_what_is_shown() {
+        let mut book = with_reserve();
+        let level = |price, size| Some(Level { price, size });
+        assert_eq!(book.level(0), level(115, 6));
+        let fills = [2, 3, 1].map(|most| book.take_shown(0, most).map(|fill| fill.id));
+        assert_eq!(fills, [Some(1), Some(2), Some(3)]);
+        assert_eq!(book.level(0), level(110, 1));
+        assert_eq!((book.best(0), book.first_price(0)), (Some(110), Some(115)));
+        assert_eq!(book.take_shown(0, 9).map(|fill| fill.quantity), Some(1));
+        assert_eq!((book.best(0), book.take_shown(0, 9)), (None, None));
+        book.show_again();
+        assert_eq!(book.level(0), level(115, 3));
+    }
+
+    #[test]
+    fn order_shows_again_its_shown_quantity_or_what_is_left() {
+        let mut book = with_reserve();
+        let shown = |book: &RegularBook| -> Vec<u32> {
+            book.iter().map(|(_, order)| order.shown).collect()
+        };
+        assert_eq!(shown(&book), [1, 1, 3, 2]);
+        assert_eq!(taken(&mut book, 1, 1), []);
+        for _ in 0..10 {
+            book.take_met(0, 1);
+        }
+        assert_eq!(shown(&book), [1, 0]);
+        book.show_again();
+        assert_eq!(shown(&book), [1, 1]);
     }
 }

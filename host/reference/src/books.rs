@@ -182,13 +182,9 @@ impl Books {
     /// Adds orders in rising id.
     pub fn add_regular(&mut self, orders: &[Regular]) {
         let places = orders.iter().map(|order| place(order.series, order.side));
-        self.regular.reserve(places.clone());
+        self.regular.make_room(places.clone());
         for (place, order) in places.zip(orders) {
-            let resting = Resting {
-                id: order.id,
-                price: order.price,
-                quantity: order.quantity,
-            };
+            let resting = Resting::showing(order.id, order.price, order.quantity, order.display);
             self.regular.insert(place, resting);
         }
     }
@@ -236,6 +232,8 @@ fn regular_at(place: Place, order: &Resting) -> Regular {
         side: side_of(place),
         price: order.price,
         quantity: order.quantity,
+        reserve: order.quantity - order.shown,
+        display: order.display.min(order.quantity),
     }
 }
 

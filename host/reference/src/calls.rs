@@ -139,11 +139,12 @@ fn accept(books: &mut Books, number: u32, message: Message, report: &mut Report)
 /// No such message writes more bytes upon these books than this.
 ///
 /// Every message has its answer, at most one 71, and one 68 for each legging
-/// order that stands. A trade fills one of the regular orders, or is the last of
-/// an order, a hit or a leg of a round. A cross fills one of the complex orders.
-/// A round of legging in fills an order worked or ends a price level, of which
-/// there are no more than regular orders. Each leg of an order worked makes one
-/// legging order and removes one.
+/// order that stands. A trade uses up what one of the regular orders shows, or its
+/// reserve, which arriving orders alone take, or is the last of an order, a hit or a
+/// leg of a round. A cross fills one of the complex orders. A round of legging in
+/// fills an order worked or uses up the size shown at a price, of which there are no
+/// more than regular orders. Each leg of an order worked makes one legging order and
+/// removes one.
 fn most_bytes(books: &Books, message: &Message) -> usize {
     const TRADE: usize = 22;
     let regular = books.regular.count();
@@ -151,7 +152,7 @@ fn most_bytes(books: &Books, message: &Message) -> usize {
     let worked = match message {
         Message::Cancel { .. } | Message::Away { .. } | Message::Status { .. } => return quiet,
         Message::Setting(_) => return quiet,
-        Message::Order(_) => return quiet + TRADE * (regular + 3) + 16,
+        Message::Order(_) => return quiet + TRADE * (2 * regular + 3) + 16,
         Message::Complex(_) => 1,
         Message::Sweep => books.complex.len(),
     };

@@ -75,8 +75,10 @@ impl Books {
         }
     }
 
-    /// Tests all legging orders against one state; the failing go together.
+    /// Regular orders show again; then all legging orders are tested against one
+    /// state, and the failing go together.
     pub fn settle(&mut self, report: &mut Report) {
+        self.regular.show_again();
         let mut failing = 0;
         let mut causes = [Cause::WorseThanBook; LEGGING_PLACES];
         for place in places(self.filled) {

@@ -70,7 +70,7 @@ impl Books {
         let sides = [bids, facing(bids)];
         let both = bit(sides[0]) | bit(sides[1]);
         !self.is_closed(bids)
-            || sides.iter().any(|side| self.regular.best(*side).is_some())
+            || sides.iter().any(|side| !self.regular.is_empty(*side))
             || self.complex.iter().any(|order| order.mask & both != 0)
     }
 
@@ -127,26 +127,22 @@ impl Books {
                 break;
             };
             open -= match met {
-                Met::Regular => self.trade_regular(order.place, open, order.id, report),
+                Met::Regular => self.trade_met(order.place, open, order.id, report),
                 Met::Legging => self.hit(order.place, open, order.id, report),
             };
         }
         if open > 0 {
-            let resting = Resting {
-                id: order.id,
-                price: order.price,
-                quantity: open,
-            };
+            let resting = Resting::showing(order.id, order.price, open, order.shown);
             self.regular.insert(order.place, resting);
         }
         self.settle(report);
     }
 
-    /// Who is first opposite an order: best own price, a regular order before
-    /// a legging order at the same price.
+    /// Who is first opposite an order: best own price, regular orders with all that
+    /// is left of them before a legging order at the same price.
     fn met_by(&self, place: Place, price: u32) -> Option<Met> {
         let opposite = facing(place);
-        let regular = self.regular.best(opposite);
+        let regular = self.regular.first_price(opposite);
         let legging = self.legging_price(opposite);
         let (met, best) = match (regular, legging) {
             (Some(best), Some(own)) if better(opposite, own, best) => (Met::Legging, own),
@@ -157,21 +153,24 @@ impl Books {
         reaches(place, price as i32, best).then_some(met)
     }
 
-    /// One trade of a leg or order with the first regular order it takes.
-    fn trade_regular(&mut self, leg: Place, most: u32, taker: u32, report: &mut Report) -> u32 {
-        let Some(fill) = self.regular.take_first(facing(leg), most) else {
+    /// One trade of an arriving order with the first regular order it meets: of its
+    /// shown size, or of its reserve.
+    fn trade_met(&mut self, side: Place, most: u32, taker: u32, report: &mut Report) -> u32 {
+        let Some(fill) = self.regular.take_met(facing(side), most) else {
             return 0;
         };
-        report.trade(leg, fill.price, fill.quantity, taker, fill.id);
+        report.trade(side, fill.price, fill.quantity, taker, fill.id);
         fill.quantity
     }
 
-    /// Trades `quantity` contracts at the best price of the side a leg takes.
+    /// Trades `quantity` contracts shown at the best price of the side a leg takes.
     fn trade_leg(&mut self, leg: Place, mut quantity: u32, taker: u32, report: &mut Report) {
         while quantity > 0 {
-            let traded = self.trade_regular(leg, quantity, taker, report);
-            debug_assert!(traded > 0, "the size at the best price was counted");
-            quantity -= traded;
+            let Some(fill) = self.regular.take_shown(facing(leg), quantity) else {
+                unreachable!("the size at the best price was counted");
+            };
+            report.trade(leg, fill.price, fill.quantity, taker, fill.id);
+            quantity -= fill.quantity;
         }
     }
 

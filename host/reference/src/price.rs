@@ -93,6 +93,11 @@ pub fn valid_quantity(quantity: u32) -> bool {
     (1..=HIGHEST_QUANTITY).contains(&quantity)
 }
 
+/// A shown quantity is part of the quantity, or all of it.
+pub fn valid_shown(shown: u32, quantity: u32) -> bool {
+    (1..=quantity).contains(&shown)
+}
+
 pub fn valid_price(price: u32) -> bool {
     (1..=HIGHEST_PRICE).contains(&price)
 }

@@ -4,7 +4,7 @@ use crate::books::{Books, Standing};
 use crate::legging::Verdict;
 use crate::price::{
     better, facing, place, places, valid_limit, valid_price, valid_quantity, valid_regular_price,
-    Place,
+    valid_shown, Place,
 };
 use crate::settings::held_editions;
 use crate::types::{Complex, Legging, Listed, Regular, Settings, Venue};
@@ -56,6 +56,8 @@ impl Rests for Regular {
         valid_leg(self.series, self.side)
             && valid_regular_price(self.price, settings.increments[usize::from(self.series)])
             && valid_quantity(self.quantity)
+            && valid_shown(self.display, self.quantity)
+            && self.reserve == self.quantity - self.display
     }
 }
 

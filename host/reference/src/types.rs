@@ -31,6 +31,10 @@ pub struct Regular {
     pub side: u8,
     pub price: u32,
     pub quantity: u32,
+    /// The part of the quantity that is not shown.
+    pub reserve: u32,
+    /// The shown quantity, or what is left where that is less.
+    pub display: u32,
 }
 
 /// A two-leg complex order at rest.

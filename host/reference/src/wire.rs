@@ -2,7 +2,7 @@
 
 use crate::price::{
     place, series_of, side_of, valid_increment, valid_limit, valid_percent, valid_price,
-    valid_quantity, valid_regular_price, Place,
+    valid_quantity, valid_regular_price, valid_shown, Place,
 };
 use crate::types::{AUCTION, OTHER, PERCENT, SELL, SERIES};
 
@@ -46,6 +46,8 @@ pub struct NewOrder {
     pub place: Place,
     pub price: u32,
     pub quantity: u32,
+    /// The shown quantity: of kind 1 all of it.
+    pub shown: u32,
 }
 
 #[derive(Clone, Copy, Debug)]
@@ -98,14 +100,15 @@ pub fn decode(bytes: &[u8], increments: &[u8; SERIES]) -> Result<Message, Refusa
         return Err(Refusal::WrongLength);
     }
     let message = match kind {
-        1 => decode_order(bytes, increments),
+        1 => decode_order(bytes, u32_at(bytes, QUANTITY_AT), increments),
         2 => decode_complex(bytes),
         3 => decode_cancel(bytes),
         4 => decode_away(bytes),
         5 => decode_status(bytes),
         6 => Some(Message::Sweep),
         7 => decode_increment(bytes),
-        _ => decode_percent(bytes),
+        8 => decode_percent(bytes),
+        _ => decode_order(bytes, u32_at(bytes, SHOWN_AT), increments),
     };
     message.ok_or(Refusal::OutOfRange)
 }
@@ -120,23 +123,31 @@ fn length_of(kind: u16) -> Option<usize> {
         6 => Some(4),
         7 => Some(10),
         8 => Some(9),
+        9 => Some(22),
         _ => None,
     }
 }
 
-fn decode_order(bytes: &[u8], increments: &[u8; SERIES]) -> Option<Message> {
+/// Where an order's quantity stands, and after it the shown quantity of kind 9.
+const QUANTITY_AT: usize = 14;
+const SHOWN_AT: usize = 18;
+
+/// An order of kind 1 or 9, with its shown quantity.
+fn decode_order(bytes: &[u8], shown: u32, increments: &[u8; SERIES]) -> Option<Message> {
     let (id, series, side) = (u32_at(bytes, 4), bytes[8], bytes[9]);
-    let (price, quantity) = (u32_at(bytes, 10), u32_at(bytes, 14));
+    let (price, quantity) = (u32_at(bytes, 10), u32_at(bytes, QUANTITY_AT));
     let valid = id > 0
         && valid_leg(series, side)
         && valid_regular_price(price, increments[usize::from(series)])
-        && valid_quantity(quantity);
+        && valid_quantity(quantity)
+        && valid_shown(shown, quantity);
     valid.then(|| {
         Message::Order(NewOrder {
             id,
             place: place(series, side),
             price,
             quantity,
+            shown,
         })
     })
 }
