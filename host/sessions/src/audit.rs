@@ -7,7 +7,7 @@ use crate::message::{split, Message};
 use crate::record::{read_report, Record};
 use crate::settings::{figure_name, held_editions};
 use crate::sheet::run_whole;
-use crate::view::{held_complex, held_regular};
+use crate::view::{find_regular, held_complex, held_regular, shown};
 use reference::{Edition, Venue};
 use std::fmt::{self, Display};
 
@@ -17,9 +17,18 @@ pub struct Row {
     pub fault: Option<String>,
 }
 
+/// An order with reserve, what is left of it and what that shows.
+pub struct Reserve {
+    pub account: Account,
+    pub open: u64,
+    pub shown: u64,
+}
+
 pub struct Audit {
     pub messages: usize,
     pub complex: Vec<Row>,
+    /// The orders that were entered to show a part of them.
+    pub reserve: Vec<Reserve>,
     /// The settings entered by the messages that the sheet answers.
     pub editions: Vec<Edition>,
     /// What does not agree: order by order, then the first line.
@@ -33,6 +42,7 @@ pub fn audit(list: &[u8], records: &[Record]) -> Result<Audit, String> {
     let (ledger, answered, mut faults) = sum(&pieces, records)?;
     let (returned, report) = run_whole(&pieces[..answered].concat());
     let mut complex = Vec::new();
+    let mut reserve = Vec::new();
     for account in ledger.accounts {
         let open = open_quantity(&returned.venue, account.id);
         let fault = account.disagreement(open);
@@ -43,6 +53,13 @@ pub fn audit(list: &[u8], records: &[Record]) -> Result<Audit, String> {
                 open,
                 fault,
             });
+        } else if account.shown < account.entered {
+            let rests = find_regular(&returned.venue, account.id);
+            reserve.push(Reserve {
+                account,
+                open,
+                shown: rests.map_or(0, |order| u64::from(shown(order))),
+            });
         }
     }
     faults.extend(unknown_orders(&returned.venue, &complex));
@@ -50,6 +67,7 @@ pub fn audit(list: &[u8], records: &[Record]) -> Result<Audit, String> {
     Ok(Audit {
         messages: answered,
         complex,
+        reserve,
         editions: held_editions(&returned.venue).copied().collect(),
         faults,
     })
@@ -155,18 +173,43 @@ impl Display for Audit {
         }
         let orders = self.complex.len();
         writeln!(f, "{} messages, {orders} complex orders", self.messages)?;
+        for order in &self.reserve {
+            writeln!(f, "{order}")?;
+        }
         for entry in &self.editions {
-            let (name, value) = (figure_name(entry.figure), entry.value);
-            let (edition, number) = (entry.edition, entry.number);
-            writeln!(
-                f,
-                "from message {number}: {name} is {value} (edition {edition})"
-            )?;
+            writeln!(f, "{}", edition_in_words(entry))?;
         }
         for fault in &self.faults {
             writeln!(f, "disagreement: {fault}")?;
         }
         Ok(())
+    }
+}
+
+fn edition_in_words(entry: &Edition) -> String {
+    let (name, value) = (figure_name(entry.figure), entry.value);
+    let (edition, number) = (entry.edition, entry.number);
+    format!("from message {number}: {name} is {value} (edition {edition})")
+}
+
+impl Display for Reserve {
+    fn fmt(&self, f: &mut fmt::Formatter) -> fmt::Result {
+        let Account {
+            id,
+            series: [series, _],
+            entered,
+            shown,
+            cancelled,
+            contracts,
+            ..
+        } = &self.account;
+        let traded = contracts[usize::from(*series)];
+        write!(
+            f,
+            "order {id} was to show {shown} of {entered}: traded {traded}, cancelled {cancelled}, \
+             open {}, of these {} shown",
+            self.open, self.shown
+        )
     }
 }
 

@@ -1,7 +1,9 @@
-//! Rows of editions that are not sound, one of each kind, and rows that are.
+//! Rows of editions and orders that are not sound, one of each kind, and some that are.
 
 use crate::settings::{held_editions, InForce, PERCENT};
-use reference::{Edition, Venue};
+use crate::sound::fault;
+use crate::view::held_regular;
+use reference::{Edition, Regular, Venue};
 
 /// Editions that leave every setting as it is, until a venue holds so many.
 pub fn with_editions(venue: &Venue, least: usize) -> Venue {
@@ -116,10 +118,97 @@ fn off_increment(venue: &Venue) -> Option<(&'static str, Venue)> {
     append(&mut changed, series, increment).then_some(("a price off the increment", changed))
 }
 
+/// The venue with shown quantities drawn by `at`; without its legging orders where they
+/// would not stand upon what is shown then.
+pub fn with_reserve(venue: &Venue, at: usize) -> Venue {
+    let mut changed = venue.clone();
+    for (place, order) in changed.regular.iter_mut().enumerate() {
+        if order.quantity == 0 {
+            break;
+        }
+        let drawn = (at + 1) * (place + 7) % order.quantity as usize;
+        order.display = 1 + drawn as u32;
+        order.reserve = order.quantity - order.display;
+    }
+    if fault(&changed).is_some() {
+        changed.legging = Default::default();
+    }
+    changed
+}
+
+type OrderChange = (&'static str, fn(&mut Regular));
+
+/// Changes to an order that rests, whatever it shows.
+const SHOWN: [OrderChange; 14] = [
+    ("display 0", |order| order.display = 0),
+    ("all in reserve", |order| {
+        (order.reserve, order.display) = (order.quantity, 0)
+    }),
+    ("display above what is left", |order| {
+        order.display = order.quantity + 1
+    }),
+    ("display above what is left, and reserve below 0", |order| {
+        (order.reserve, order.display) = (u32::MAX, order.quantity + 1)
+    }),
+    ("display at the end of its width", |order| {
+        order.display = u32::MAX
+    }),
+    ("display one more", |order| order.display += 1),
+    ("display one less", |order| order.display -= 1),
+    ("reserve one more", |order| order.reserve += 1),
+    ("reserve one less", |order| {
+        order.reserve = order.reserve.wrapping_sub(1)
+    }),
+    ("all that is left in reserve beside a display", |order| {
+        order.reserve = order.quantity
+    }),
+    ("reserve above what is left", |order| {
+        order.reserve = order.quantity + 1
+    }),
+    ("reserve at the end of its width", |order| {
+        order.reserve = u32::MAX
+    }),
+    ("quantity one more", |order| order.quantity += 1),
+    ("quantity one less", |order| order.quantity -= 1),
+];
+
+/// Changes to a free place.
+const FREE_ORDER: [OrderChange; 4] = [
+    ("a free place with reserve", |order| order.reserve = 1),
+    ("a free place with display", |order| order.display = 1),
+    ("a free place with reserve and display", |order| {
+        (order.reserve, order.display) = (u32::MAX, 1)
+    }),
+    ("a free place that shows", |order| {
+        (order.reserve, order.display) = (5, 3)
+    }),
+];
+
+/// The venue with what an order shows broken in every way, each by its name. The place
+/// that is changed, and what the orders show before it, is drawn by `at`.
+pub fn broken_orders(venue: &Venue, at: usize) -> Vec<(&'static str, Venue)> {
+    let venue = with_reserve(venue, at);
+    let held = held_regular(&venue).count();
+    let free = venue.regular.len() - held;
+    let mut broken = Vec::new();
+    let mut add = |place: usize, (name, change): OrderChange| {
+        let mut changed = venue.clone();
+        change(&mut changed.regular[place]);
+        broken.push((name, changed));
+    };
+    if held > 0 {
+        SHOWN.into_iter().for_each(|change| add(at % held, change));
+    }
+    if free > 0 {
+        let place = held + at % free;
+        FREE_ORDER.into_iter().for_each(|change| add(place, change));
+    }
+    broken
+}
+
 #[cfg(test)]
 mod tests {
     use super::*;
-    use crate::sound::fault;
     use crate::text::encode_session;
     use reference::{is_sound, run};
 
@@ -142,6 +231,25 @@ mod tests {
         }
         let names = |text| broken_rows(&venue_after(text), 0).len();
         assert_eq!((names("sweep\n"), names(text)), (22, 23));
+    }
+
+    #[test]
+    fn each_broken_order_is_unsound_by_both_tests() {
+        let text = "order 1 sell 5 series 0 at 115\norder 2 sell 9 series 0 at 115 shows 4\n\
+            order 3 sell 1 series 1 at 100\ncomplex 4 buy 0 buy 1 class 0 net 205 quantity 9\n";
+        for venue in [Venue::fresh(), venue_after(text)] {
+            assert!(is_sound(&venue));
+            for at in 0..140 {
+                let shown = with_reserve(&venue, at);
+                assert!(is_sound(&shown) && fault(&shown).is_none(), "{at}");
+                for (name, broken) in broken_orders(&venue, at) {
+                    assert!(fault(&broken).is_some(), "{name} at {at}");
+                    assert!(!is_sound(&broken), "{name} at {at}");
+                }
+            }
+        }
+        let names = |text| broken_orders(&venue_after(text), 0).len();
+        assert_eq!((names("sweep\n"), names(text)), (4, 18));
     }
 
     #[test]

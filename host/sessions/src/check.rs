@@ -9,7 +9,9 @@ use crate::phases::{expected_generation, expected_settling, phases, Attempt, Pha
 use crate::record::Record;
 use crate::settings::{InForce, PERCENT};
 use crate::sound::fault;
-use crate::view::{beats, find_complex, held_regular, leg_at, legs_of, opposite, sign, View};
+use crate::takings::check_takings;
+use crate::view::{beats, find_complex, held_regular, leg_at, legs_of, opposite, sign};
+use crate::view::{shown, View};
 use reference::{settings, Complex, Edition, Legging, Returned, Venue};
 
 /// One message as a caller saw it.
@@ -112,7 +114,8 @@ impl Checker {
             return Err(format!("unsound: {fault}"));
         }
         check_standing(after)?;
-        match self.ledger.disagreement(after) {
+        let disagreement = self.ledger.disagreement(after);
+        match disagreement.or_else(|| self.ledger.shows_otherwise(after)) {
             Some(fault) => Err(fault),
             None => Ok(seen),
         }
@@ -128,6 +131,7 @@ impl Checker {
         for record in effects {
             self.ledger.add(record)?;
         }
+        check_takings(step.before, step.message, effects)?;
         let after = &step.returned.venue;
         let phases = phases(step.before, after, effects)?;
         let work = check_work(step, self.done, &phases)?;
@@ -270,7 +274,7 @@ fn check_hit(
     let at_hand: i64 = held_regular(venue)
         .filter(|regular| regular.series == taken.series && regular.side == taken.side)
         .filter(|regular| i64::from(regular.price) == clear.price)
-        .map(|regular| i64::from(regular.quantity))
+        .map(|regular| i64::from(shown(regular)))
         .sum();
     let net = sign(leg) * i64::from(order.price) + sign(other) * clear.price;
     if at_hand < i64::from(order.quantity) || net > i64::from(parent.limit) {
@@ -416,8 +420,11 @@ mod tests {
 
     #[test]
     fn every_changed_part_of_the_venue_left_is_found() {
-        let changes: [fn(&mut Venue); 8] = [
+        let changes: [fn(&mut Venue); 11] = [
             |venue| venue.regular[0].quantity = 14,
+            |venue| venue.regular[0].reserve = 1,
+            |venue| venue.regular[0].display = 14,
+            |venue| (venue.regular[0].reserve, venue.regular[0].display) = (5, 10),
             |venue| venue.regular[1].quantity = 8,
             |venue| venue.complex[0].quantity = 4,
             |venue| venue.complex[0].limit = 204,
@@ -443,5 +450,22 @@ mod tests {
             assert!(check_changed(|returned, _| change(&mut returned.venue)).is_err());
         }
         assert!(check_changed(|returned, _| returned.number = 4).is_err());
+    }
+
+    #[test]
+    fn order_that_shows_otherwise_than_it_was_entered_is_found() {
+        let text = "order 1 sell 9 series 0 at 130 shows 4\norder 2 buy 3 series 0 at 130\n";
+        let mut venue = venue_after(text);
+        let mut ledger = Ledger::default();
+        for piece in crate::message::split(&encode_session(text).unwrap()) {
+            ledger.enter(&Message::decode(piece)).unwrap();
+        }
+        assert_eq!(ledger.shows_otherwise(&venue), None);
+        for (display, shows) in [(1, 1), (3, 3), (5, 5), (6, 6)] {
+            venue.regular[0].display = display;
+            venue.regular[0].reserve = 6 - display;
+            let expected = format!("order 1 shows {shows} of 6, expected 4");
+            assert_eq!(ledger.shows_otherwise(&venue), Some(expected));
+        }
     }
 }

@@ -39,12 +39,23 @@ fn corrupt_regular(venue: &mut Venue, random: &mut Random) {
     let held = venue.regular.iter().filter(|order| order.id > 0).count();
     let at = random.below(held as u64 + 1).min(127) as usize;
     let order = &mut venue.regular[at];
-    match random.below(5) {
+    match random.below(10) {
         0 => order.id = odd_number(random),
         1 => order.series = random.below(10) as u8,
         2 => order.side = random.below(4) as u8,
         3 => order.price = odd_number(random),
-        _ => order.quantity = odd_number(random),
+        4 => order.quantity = odd_number(random),
+        5 => order.reserve = odd_number(random),
+        6 => order.display = odd_number(random),
+        7 => order.reserve = order.reserve.wrapping_add(random.between(-1, 1) as u32),
+        8 => {
+            order.quantity = odd_number(random);
+            order.display = order.quantity.wrapping_sub(order.reserve);
+        }
+        _ => {
+            order.display = random.below(u64::from(order.quantity) + 2) as u32;
+            order.reserve = order.quantity.wrapping_sub(order.display);
+        }
     }
 }
 

@@ -1,5 +1,7 @@
 //! What a number of sessions showed: records, causes, refusals, rare cases.
 
+mod reserve;
+
 use crate::check::{Seen, Step};
 use crate::feed_check::FeedCoverage;
 use crate::layer_check::LayerCoverage;
@@ -49,6 +51,20 @@ pub enum Rare {
     InUseFull,
     EditionsFull,
     NumberNotAbove,
+    ShowsAll,
+    ShownRefused,
+    ReserveTaken,
+    ReserveById,
+    ReserveBeforeWorse,
+    ReserveBeforeLegging,
+    RestHasReserve,
+    LastIsShown,
+    ReserveCancelled,
+    UsedUp,
+    BehindReserve,
+    SharedInSweep,
+    GeneratedByShown,
+    RemovedByShown,
 }
 
 impl Rare {
@@ -137,10 +153,54 @@ impl Rare {
             Rare::NumberNotAbove,
             "refusal 9 for a number not above an edition's",
         ),
+        (Rare::ShowsAll, "order of kind 9 that shows all of it"),
+        (Rare::ShownRefused, "refusal 4 for the shown quantity alone"),
+        (Rare::ReserveTaken, "trade of reserve"),
+        (
+            Rare::ReserveById,
+            "reserve of two orders taken at one price",
+        ),
+        (
+            Rare::ReserveBeforeWorse,
+            "reserve taken before size shown at a worse price",
+        ),
+        (
+            Rare::ReserveBeforeLegging,
+            "reserve taken before a legging order at an equal price",
+        ),
+        (
+            Rare::RestHasReserve,
+            "order that trades when it comes and rests with reserve",
+        ),
+        (
+            Rare::LastIsShown,
+            "order whose reserve is used up, and the last of it shown",
+        ),
+        (Rare::ReserveCancelled, "cancel of an order with reserve"),
+        (
+            Rare::UsedUp,
+            "complex order that takes all that an order with reserve shows",
+        ),
+        (
+            Rare::BehindReserve,
+            "trade of a complex order behind reserve at a better price",
+        ),
+        (
+            Rare::SharedInSweep,
+            "two orders of a sweep that share what one order shows",
+        ),
+        (
+            Rare::GeneratedByShown,
+            "legging order no larger than what is shown, with reserve behind it",
+        ),
+        (
+            Rare::RemovedByShown,
+            "settling: cause 2 for the size shown, with reserve enough",
+        ),
     ];
 }
 
-const RARE: usize = 33;
+const RARE: usize = 47;
 
 /// Numbers of a run or a one-message call: 0 to 13.
 const NUMBERS: usize = 14;
@@ -228,9 +288,12 @@ impl Coverage {
             }
         }
         self.observe_settings(step);
+        self.observe_shown(step);
         let Some(seen) = seen else {
             return;
         };
+        self.observe_takings(step);
+        self.observe_sizes(step, &seen.phases);
         for attempt in &seen.attempts {
             if let Err(declined) = &attempt.outcome {
                 self.declined[declined_index(declined)] += 1;

@@ -1,13 +1,16 @@
 //! What happened, message by message, and why a legging order or a cross was not
-//! made; with the edition that held where a band or an increment decided.
+//! made; with the edition that held where a band or an increment decided, and with what
+//! trades took of shown size and of reserve.
 
 use crate::check::{Checker, Seen, Step};
 use crate::message::{split, Leg, Message};
-use crate::model::{fields_in_range, off_increment, AboveLegs, OutOfBand};
+use crate::model::{fields_in_range, off_increment, only_shown_is_out};
+use crate::model::{AboveLegs, OutOfBand, Turn};
 use crate::record::{read_report, Record};
 use crate::settings::{figure_name, InForce, PERCENT};
-use crate::view::{find_complex, legs_of};
-use reference::{one_message, Venue};
+use crate::takings::Takings;
+use crate::view::{find_complex, find_regular, held_regular, legs_of, shown};
+use reference::{one_message, Regular, Venue};
 
 /// Explains a whole session. An error is a violation of the checks.
 pub fn explain(list: &[u8]) -> Result<String, String> {
@@ -41,12 +44,18 @@ fn explain_message(number: usize, step: &Step, seen: Option<&Seen>) -> String {
         in_force: InForce::of(&step.returned.venue),
     };
     let mut text = format!("{number}: {}\n", step.message);
+    let mut takings = Takings::before(step.before);
     for record in step.records {
-        text.push_str(&format!("    {}\n", told.in_words(record)));
+        let turn = takings.take(record).ok().flatten();
+        let (words, of) = (told.in_words(record), told.taken_in_words(record, turn));
+        text.push_str(&format!("    {words}{of}\n"));
     }
     let Some(seen) = seen else {
         return text;
     };
+    for order in told.showing_anew() {
+        text.push_str(&format!("    {}\n", shown_in_words(order)));
+    }
     if let Some(words) = told.setting_in_words() {
         text.push_str(&format!("    {words}\n"));
     }
@@ -66,6 +75,12 @@ fn explain_message(number: usize, step: &Step, seen: Option<&Seen>) -> String {
         }
     }
     text
+}
+
+/// What an order with reserve shows once the message's trades are done.
+fn shown_in_words(order: &Regular) -> String {
+    let Regular { id, quantity, .. } = order;
+    format!("order {id} shows {} of {quantity} left", shown(order))
 }
 
 fn passed_in_words(passed: &AboveLegs) -> String {
@@ -104,22 +119,11 @@ impl Told<'_> {
     fn in_words(&self, record: &Record) -> String {
         match *record {
             Record::Answer {
-                refusal: 0,
+                refusal,
                 mask,
                 count,
                 ..
-            } => format!(
-                "accepted{}; legging orders standing after it: {count}{}",
-                self.on_increment(),
-                places(mask)
-            ),
-            Record::Answer { refusal, .. } => {
-                let name = refusal_name(refusal);
-                format!(
-                    "refused with {refusal}: {name}{}",
-                    self.off_increment(refusal)
-                )
-            }
+            } => self.answer_in_words(refusal, mask, count),
             Record::Trade {
                 series,
                 side,
@@ -132,10 +136,8 @@ impl Told<'_> {
                 format!("trade: {taker} {leg}, {quantity} at {price}, maker {maker}")
             }
             Record::Pair { id, net, quantity } => {
-                format!(
-                    "pair: {id}, {quantity} at net {net}{}",
-                    self.paired_in_band()
-                )
+                let in_band = self.paired_in_band();
+                format!("pair: {id}, {quantity} at net {net}{in_band}")
             }
             Record::Generated { .. } | Record::Removed { .. } => self.legging_in_words(record),
             Record::Cross {
@@ -147,7 +149,81 @@ impl Told<'_> {
                 "cross: {taker} with {maker}, {quantity} at the taker's net {net}{}",
                 self.in_band()
             ),
-            Record::Cancelled { id, quantity } => format!("cancelled: {id}, {quantity} were open"),
+            Record::Cancelled { id, quantity } => {
+                format!(
+                    "cancelled: {id}, {quantity} were open{}",
+                    self.reserve_of(id)
+                )
+            }
+        }
+    }
+
+    fn answer_in_words(&self, refusal: u8, mask: u16, count: u8) -> String {
+        if refusal == 0 {
+            let (increment, places) = (self.on_increment(), places(mask));
+            return format!(
+                "accepted{increment}; legging orders standing after it: {count}{places}"
+            );
+        }
+        let name = refusal_name(refusal);
+        let (price, shown) = (
+            self.off_increment(refusal),
+            self.shown_out_of_range(refusal),
+        );
+        format!("refused with {refusal}: {name}{price}{shown}")
+    }
+
+    /// How much of an order was in reserve before the message.
+    fn reserve_of(&self, id: u32) -> String {
+        match find_regular(self.step.before, id).map_or(0, |order| order.reserve) {
+            0 => String::new(),
+            reserve => format!(", {reserve} of them in reserve"),
+        }
+    }
+
+    /// Of a maker that has reserve: whether a trade took shown size or reserve.
+    fn taken_in_words(&self, record: &Record, turn: Option<Turn>) -> &'static str {
+        let Record::Trade { maker, .. } = *record else {
+            return "";
+        };
+        let maker = find_regular(self.step.before, maker);
+        match turn {
+            Some(Turn::Reserve) => ", of its reserve",
+            Some(Turn::Shown) if maker.is_some_and(|maker| maker.reserve > 0) => {
+                ", of what it shows"
+            }
+            _ => "",
+        }
+    }
+
+    /// The orders that had reserve and traded, and one of kind 9 that came to rest.
+    fn showing_anew(&self) -> impl Iterator<Item = &Regular> {
+        let came = match self.step.message {
+            Message::Order {
+                id, shows: Some(_), ..
+            } => Some(*id),
+            _ => None,
+        };
+        let traded = move |order: &Regular| {
+            let before = find_regular(self.step.before, order.id);
+            before.is_some_and(|before| before.reserve > 0 && before.quantity > order.quantity)
+        };
+        held_regular(&self.step.returned.venue)
+            .filter(move |order| Some(order.id) == came || traded(order))
+    }
+
+    /// The shown quantity, where nothing else is out of range.
+    fn shown_out_of_range(&self, refusal: u8) -> String {
+        let message = self.step.message;
+        match message {
+            Message::Order {
+                quantity,
+                shows: Some(shows),
+                ..
+            } if refusal == 4 && only_shown_is_out(message, &self.in_force) => {
+                format!(", {shows} of {quantity} cannot be shown")
+            }
+            _ => String::new(),
         }
     }
 
@@ -286,7 +362,7 @@ fn places(mask: u16) -> String {
 pub fn refusal_name(refusal: u8) -> &'static str {
     match refusal {
         1 => "the message is torn",
-        2 => "the kind is not 1 to 8",
+        2 => "the kind is not 1 to 9",
         3 => "the length is not its kind's",
         4 => "a field is outside its range",
         5 => "the id is not above the last accepted",

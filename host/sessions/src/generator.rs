@@ -1,12 +1,14 @@
 //! Random sessions that follow the state of the venue, from a profile and a seed.
 
+mod reserve;
 mod settings;
 
 use crate::message::{Leg, Message};
 use crate::profile::{Profile, Shape};
 use crate::random::Random;
 use crate::scripts;
-use crate::view::{beats, held_complex, held_regular, leg_at, legs_of, opposite, sign, View};
+use crate::view::View;
+use crate::view::{beats, held_complex, held_regular, leg_at, legs_of, opposite, side_of, sign};
 use reference::{Complex, Venue};
 use std::collections::VecDeque;
 
@@ -18,6 +20,8 @@ pub struct Generator {
     since_script: usize,
     /// Draws the settings, apart from all else.
     apart: Random,
+    /// Draws what orders show, apart from all else too.
+    shown: Random,
 }
 
 impl Generator {
@@ -30,6 +34,7 @@ impl Generator {
             queue: VecDeque::new(),
             since_script: usize::MAX - 1,
             apart: Random::new(!mixed),
+            shown: Random::new(mixed.rotate_left(32)),
         };
         if generator.shape.script_every == 0 {
             generator.plan_opening();
@@ -196,6 +201,12 @@ impl Generator {
     }
 
     fn order(&mut self, venue: &Venue, view: &View) -> Message {
+        let order = self.whole_order(venue, view);
+        self.showing(order)
+    }
+
+    /// An order that shows all of it.
+    fn whole_order(&mut self, venue: &Venue, view: &View) -> Message {
         let hits = if self.profile == Profile::Hits {
             40
         } else {
@@ -229,6 +240,7 @@ impl Generator {
             leg,
             price: Self::on_increment(view, leg.series, price),
             quantity: self.quantity(),
+            shows: None,
         }
     }
 
@@ -243,10 +255,11 @@ impl Generator {
         }
         let made = leg_at(self.random.pick(&standing));
         let order = view.standing(made)?;
-        let ahead = view
-            .best(made)
-            .filter(|level| !beats(made, i64::from(order.price), level.price))
-            .map_or(0, |level| level.size as u32);
+        let ahead: u32 = held_regular(venue)
+            .filter(|regular| side_of(regular) == made)
+            .filter(|regular| !beats(made, i64::from(order.price), i64::from(regular.price)))
+            .map(|regular| regular.quantity)
+            .sum();
         let quantity = match self.random.below(4) {
             0 => ahead + self.random.between(1, i64::from(order.quantity)) as u32,
             1 | 2 => ahead + order.quantity,
@@ -258,6 +271,7 @@ impl Generator {
             leg: opposite(made),
             price: Self::on_increment(view, made.series, reached),
             quantity: quantity.clamp(1, 10_000),
+            shows: None,
         })
     }
 
@@ -463,7 +477,7 @@ impl Generator {
         let length = 4 + self.random.below(30);
         let kind = self
             .random
-            .pick(&[0, 9, 10, 11, 12, 63, 64, 65, 80, 99, 255, 256, 65_535]);
+            .pick(&[0, 10, 11, 12, 13, 63, 64, 65, 80, 99, 255, 256, 65_535]);
         let mut bytes = vec![length as u8, 0];
         bytes.extend_from_slice(&u16::to_le_bytes(kind));
         bytes.extend((4..length).map(|_| self.random.below(256) as u8));

@@ -1,9 +1,10 @@
-//! A venue as hosts hold it, without padding, in the order of the venue's fields.
-//! Any value goes to bytes and back, sound or not.
+//! A venue as hosts hold it, without padding, in the order of the venue's fields; but
+//! reserve and display of the regular orders come last. Any value goes to bytes and
+//! back, sound or not.
 
 use reference::{Complex, Edition, Legging, Listed, Regular, Venue};
 
-pub const VENUE_BYTES: usize = 2_924;
+pub const VENUE_BYTES: usize = 3_948;
 
 /// The bytes of a venue.
 pub fn to_bytes(venue: &Venue) -> [u8; VENUE_BYTES] {
@@ -40,13 +41,17 @@ pub fn to_bytes(venue: &Venue) -> [u8; VENUE_BYTES] {
         writer.u32(entry.number);
         writer.all(&[entry.figure, entry.value]);
     }
+    for order in &venue.regular {
+        writer.u32(order.reserve);
+        writer.u32(order.display);
+    }
     writer.bytes
 }
 
 /// The venue that bytes stand for.
 pub fn from_bytes(bytes: &[u8; VENUE_BYTES]) -> Venue {
     let mut reader = Reader { bytes, at: 0 };
-    Venue {
+    let mut venue = Venue {
         regular: std::array::from_fn(|_| reader.regular()),
         complex: std::array::from_fn(|_| reader.complex()),
         legging: std::array::from_fn(|_| Legging {
@@ -66,7 +71,12 @@ pub fn from_bytes(bytes: &[u8; VENUE_BYTES]) -> Venue {
             figure: reader.u8(),
             value: reader.u8(),
         }),
+    };
+    for order in &mut venue.regular {
+        order.reserve = reader.u32();
+        order.display = reader.u32();
     }
+    venue
 }
 
 struct Writer {
@@ -100,6 +110,7 @@ impl Reader<'_> {
         u32::from_le_bytes([self.u8(), self.u8(), self.u8(), self.u8()])
     }
 
+    /// The first fields of a regular order; the other two stand in a row of their own.
     fn regular(&mut self) -> Regular {
         Regular {
             id: self.u32(),
@@ -107,6 +118,7 @@ impl Reader<'_> {
             side: self.u8(),
             price: self.u32(),
             quantity: self.u32(),
+            ..Regular::default()
         }
     }
 
@@ -155,12 +167,16 @@ mod tests {
         venue.last = 1;
         venue.editions[31].number = 0x0403_0201;
         venue.editions[31].value = 5;
+        venue.regular[0].reserve = 0x0807_0605;
+        venue.regular[127].display = 0x0403_0201;
         let bytes = to_bytes(&venue);
         assert_eq!(bytes[14 + 6..14 + 10], [1, 2, 3, 4]);
         assert_eq!(bytes[1_792 + 31 * 17 + 9..][..4], [0xFE, 0xFF, 0xFF, 0xFF]);
         assert_eq!(bytes[2_336 + 15 * 12 + 8], 7);
         assert_eq!(bytes[2_528 + 7 * 9 + 5], 9);
         assert_eq!(bytes[2_600..2_604], [1, 0, 0, 0]);
-        assert_eq!(bytes[2_604 + 31 * 10 + 4..], [1, 2, 3, 4, 0, 5]);
+        assert_eq!(bytes[2_604 + 31 * 10 + 4..2_924], [1, 2, 3, 4, 0, 5]);
+        assert_eq!(bytes[2_924..2_932], [5, 6, 7, 8, 0, 0, 0, 0]);
+        assert_eq!(bytes[2_924 + 127 * 8..], [0, 0, 0, 0, 1, 2, 3, 4]);
     }
 }

@@ -3,7 +3,7 @@
 
 use crate::message::Message;
 use crate::record::Record;
-use crate::view::{held_complex, held_regular};
+use crate::view::{held_complex, held_regular, shown};
 use reference::Venue;
 
 #[derive(Clone, Debug, PartialEq, Eq)]
@@ -13,6 +13,8 @@ pub struct Account {
     pub series: [u8; 2],
     pub is_complex: bool,
     pub entered: u64,
+    /// The shown quantity that it was entered with; all of it for kinds 1 and 2.
+    pub shown: u64,
     pub paired: u64,
     pub crossed: u64,
     pub cancelled: u64,
@@ -62,13 +64,17 @@ pub struct Ledger {
 impl Ledger {
     /// Opens the account of an accepted order.
     pub fn enter(&mut self, message: &Message) -> Result<(), String> {
-        let (id, series, is_complex, quantity) = match message {
+        let (id, series, is_complex, quantity, shows) = match message {
             Message::Order {
-                id, leg, quantity, ..
-            } => (*id, [leg.series; 2], false, *quantity),
+                id,
+                leg,
+                quantity,
+                shows,
+                ..
+            } => (*id, [leg.series; 2], false, *quantity, *shows),
             Message::Complex {
                 id, legs, quantity, ..
-            } => (*id, legs.map(|leg| leg.series), true, *quantity),
+            } => (*id, legs.map(|leg| leg.series), true, *quantity, None),
             _ => return Ok(()),
         };
         if series.iter().any(|series| *series > 7) {
@@ -82,6 +88,7 @@ impl Ledger {
             series,
             is_complex,
             entered: u64::from(quantity),
+            shown: u64::from(shows.unwrap_or(quantity)),
             paired: 0,
             crossed: 0,
             cancelled: 0,
@@ -138,6 +145,23 @@ impl Ledger {
             Record::Answer { .. } | Record::Generated { .. } | Record::Removed { .. } => {}
         }
         Ok(())
+    }
+
+    /// The first resting order that shows other than the lesser of the shown quantity
+    /// it was entered with and what is left of it.
+    pub fn shows_otherwise(&self, venue: &Venue) -> Option<String> {
+        let mut accounts = self.accounts.iter();
+        held_regular(venue).find_map(|order| {
+            let entered = accounts.find(|account| account.id == order.id)?.shown;
+            let expected = entered.min(u64::from(order.quantity));
+            let shows = u64::from(shown(order));
+            (shows != expected || u64::from(order.display) != expected).then(|| {
+                format!(
+                    "order {} shows {shows} of {}, expected {expected}",
+                    order.id, order.quantity
+                )
+            })
+        })
     }
 
     /// The first order whose sums do not agree with the venue left.

@@ -33,5 +33,6 @@ pub mod settings;
 pub mod sheet;
 pub mod soak;
 pub mod sound;
+pub mod takings;
 pub mod text;
 pub mod view;

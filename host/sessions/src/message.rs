@@ -14,6 +14,8 @@ pub enum Message {
         leg: Leg,
         price: u32,
         quantity: u32,
+        /// The shown quantity of kind 9; kind 1 has none and shows all of it.
+        shows: Option<u32>,
     },
     Complex {
         id: u32,
@@ -44,7 +46,7 @@ pub enum Message {
         percent: u8,
         edition: u32,
     },
-    /// Bytes that are no message of kinds 1 to 8 at its length.
+    /// Bytes that are no message of kinds 1 to 9 at its length.
     Raw(Vec<u8>),
 }
 
@@ -56,15 +58,15 @@ impl Message {
                 leg,
                 price,
                 quantity,
-            } => framed(
-                1,
-                &[
-                    &id.to_le_bytes(),
-                    &leg.bytes(),
-                    &price.to_le_bytes(),
-                    &quantity.to_le_bytes(),
-                ],
-            ),
+                shows,
+            } => {
+                let (id, leg) = (id.to_le_bytes(), leg.bytes());
+                let (price, quantity) = (price.to_le_bytes(), quantity.to_le_bytes());
+                match shows {
+                    None => framed(1, &[&id, &leg, &price, &quantity]),
+                    Some(shows) => framed(9, &[&id, &leg, &price, &quantity, &shows.to_le_bytes()]),
+                }
+            }
             Message::Complex {
                 id,
                 legs: [first, second],
@@ -94,19 +96,14 @@ impl Message {
         }
     }
 
-    /// Reads one message cut from a list; what is none of kinds 1 to 8 at its
+    /// Reads one message cut from a list; what is none of kinds 1 to 9 at its
     /// length stays raw.
     pub fn decode(bytes: &[u8]) -> Message {
         let mut fields = Fields { bytes, at: 4 };
         let whole = bytes.len() >= 4 && usize::from(word(bytes, 0)) == bytes.len();
         let kind = if whole { word(bytes, 2) } else { 0 };
         match (kind, bytes.len()) {
-            (1, 18) => Message::Order {
-                id: fields.u32(),
-                leg: fields.leg(),
-                price: fields.u32(),
-                quantity: fields.u32(),
-            },
+            (1, 18) => fields.order(false),
             (2, 21) => Message::Complex {
                 id: fields.u32(),
                 legs: [fields.leg(), fields.leg()],
@@ -134,6 +131,7 @@ impl Message {
                 percent: fields.u8(),
                 edition: fields.u32(),
             },
+            (9, 22) => fields.order(true),
             _ => Message::Raw(bytes.to_vec()),
         }
     }
@@ -202,6 +200,17 @@ impl Fields<'_> {
         Leg {
             series: self.u8(),
             side: self.u8(),
+        }
+    }
+
+    /// An order, with a shown quantity or without one.
+    fn order(&mut self, has_shown: bool) -> Message {
+        Message::Order {
+            id: self.u32(),
+            leg: self.leg(),
+            price: self.u32(),
+            quantity: self.u32(),
+            shows: has_shown.then(|| self.u32()),
         }
     }
 }

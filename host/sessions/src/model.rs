@@ -5,7 +5,8 @@
 use crate::message::{split, Leg, Message};
 use crate::record::Record;
 use crate::settings::{held_editions, last_edition, Figure, InForce, PERCENT};
-use crate::view::{held_complex, held_regular, legs_of, opposite, place_of, sign, View};
+use crate::view::{held_complex, held_regular, legs_of, opposite, place_of, side_of, sign};
+use crate::view::{shown, View};
 use reference::{Complex, Edition, Legging, Regular, Venue};
 
 /// The refusal that a message meets, or 0. `left` is all that is left to read.
@@ -16,7 +17,7 @@ pub fn refusal(venue: &Venue, left: &[u8]) -> u8 {
     }
     let message = split(left)[0];
     let kind = u16::from_le_bytes([message[2], message[3]]);
-    if !(1..=8).contains(&kind) {
+    if !(1..=9).contains(&kind) {
         return 2;
     }
     match Message::decode(message) {
@@ -39,20 +40,25 @@ pub fn off_increment(message: &Message, in_force: &InForce) -> Option<Figure> {
     (*price % u32::from(increment.value) != 0).then_some(increment)
 }
 
+fn leg_in_range(leg: &Leg) -> bool {
+    leg.series <= 7 && leg.side <= 1
+}
+
 /// Whether every field is in a range that no setting moves.
 pub fn fields_in_range(message: &Message) -> bool {
-    let leg_in_range = |leg: &Leg| leg.series <= 7 && leg.side <= 1;
     match message {
         Message::Order {
             id,
             leg,
             price,
             quantity,
+            shows,
         } => {
             *id >= 1
                 && leg_in_range(leg)
                 && (1..=100_000).contains(price)
                 && (1..=10_000).contains(quantity)
+                && shows.is_none_or(|shows| (1..=*quantity).contains(&shows))
         }
         Message::Complex {
             id,
@@ -80,6 +86,15 @@ pub fn fields_in_range(message: &Message) -> bool {
         Message::Percent { percent, .. } => *percent <= 50,
         Message::Raw(_) => false,
     }
+}
+
+/// Whether nothing of an order is out of range but its shown quantity.
+pub fn only_shown_is_out(message: &Message, in_force: &InForce) -> bool {
+    let mut whole = message.clone();
+    if let Message::Order { shows, .. } = &mut whole {
+        *shows = None;
+    }
+    in_range(&whole, in_force) && !in_range(message, in_force)
 }
 
 fn venue_refusal(venue: &Venue, message: &Message) -> u8 {
@@ -163,7 +178,8 @@ pub struct OutOfBand {
     pub market: i64,
 }
 
-/// An accepted message's work: the venue at its settling, and the records.
+/// An accepted message's work: the venue at its settling, when its regular orders have
+/// shown again, and the records.
 pub struct Work {
     pub venue: Venue,
     pub records: Vec<Record>,
@@ -182,12 +198,7 @@ pub fn work(before: &Venue, message: &Message, number: u32) -> Work {
         out_of_band: Vec::new(),
     };
     match *message {
-        Message::Order {
-            id,
-            leg,
-            price,
-            quantity,
-        } => work.order(id, leg, price, quantity),
+        Message::Order { .. } => work.order(message),
         Message::Complex { id, .. } => {
             work.rest(message);
             work.complex(id);
@@ -212,7 +223,16 @@ pub fn work(before: &Venue, message: &Message, number: u32) -> Work {
         Message::Percent { percent, edition } => work.set(edition, number, PERCENT, percent),
         Message::Raw(_) => {}
     }
+    work.show_again();
     work
+}
+
+/// What comes first at one price.
+#[derive(Clone, Copy, Debug, PartialEq, Eq, PartialOrd, Ord)]
+pub enum Turn {
+    Shown,
+    Reserve,
+    Legging,
 }
 
 impl Work {
@@ -259,12 +279,23 @@ impl Work {
             .copied()
     }
 
-    /// Takes contracts from the regular order in a place.
+    /// Takes contracts from the regular order in a place: shown ones while it has any.
     fn fill_regular(&mut self, place: usize, quantity: u32) {
-        self.venue.regular[place].quantity -= quantity;
-        if self.venue.regular[place].quantity == 0 {
+        let order = &mut self.venue.regular[place];
+        order.quantity -= quantity;
+        order.reserve = order.reserve.min(order.quantity);
+        if order.quantity == 0 {
             self.venue.regular[place..].rotate_left(1);
             self.venue.regular[127] = Regular::default();
+        }
+    }
+
+    /// Before settling, each order shows again the lesser of its shown quantity and
+    /// what is left of it.
+    fn show_again(&mut self) {
+        for order in &mut self.venue.regular {
+            order.display = order.display.min(order.quantity);
+            order.reserve = order.quantity - order.display;
         }
     }
 
@@ -313,46 +344,71 @@ impl Work {
         });
     }
 
-    fn order(&mut self, id: u32, leg: Leg, price: u32, quantity: u32) {
+    /// An arriving order, which meets with all of its quantity.
+    fn order(&mut self, message: &Message) {
+        let Message::Order {
+            id,
+            leg,
+            price,
+            quantity,
+            shows,
+        } = *message
+        else {
+            return;
+        };
         self.venue.last = id;
-        let mut open = quantity;
-        while open > 0 {
-            let Some(traded) = self.meet(id, leg, price, open) else {
+        let mut order = Regular {
+            id,
+            series: leg.series,
+            side: leg.side,
+            price,
+            quantity,
+            reserve: 0,
+            display: shows.unwrap_or(quantity),
+        };
+        while order.quantity > 0 {
+            let Some(traded) = self.meet(&order) else {
                 break;
             };
-            open -= traded;
+            order.quantity -= traded;
         }
-        if open > 0 {
+        if order.quantity > 0 {
             let place = held_regular(&self.venue).count();
-            self.venue.regular[place] = Regular {
-                id,
-                series: leg.series,
-                side: leg.side,
-                price,
-                quantity: open,
-            };
+            self.venue.regular[place] = order;
         }
     }
 
-    /// One trade of an arriving order with whoever it meets first.
-    fn meet(&mut self, id: u32, leg: Leg, price: u32, open: u32) -> Option<u32> {
+    /// One trade of an arriving order with whoever it meets first: at one price all
+    /// shown size by id, then all reserve by id, then the legging order.
+    fn meet(&mut self, arriving: &Regular) -> Option<u32> {
+        let (id, leg, open) = (arriving.id, side_of(arriving), arriving.quantity);
         let facing = opposite(leg);
         let rank = |price: u32| sign(leg) * i64::from(price);
         let regular = held_regular(&self.venue)
             .enumerate()
-            .filter(|(_, order)| (order.series, order.side) == (facing.series, facing.side))
-            .map(|(place, order)| (rank(order.price), false, order.id, place));
+            .filter(|(_, order)| side_of(order) == facing)
+            .map(|(place, order)| {
+                let turn = if shown(order) > 0 {
+                    Turn::Shown
+                } else {
+                    Turn::Reserve
+                };
+                (rank(order.price), turn, order.id, place)
+            });
         let standing = self.venue.legging[place_of(facing)];
-        let legging = (standing.quantity > 0).then_some((rank(standing.price), true, 0, 0));
-        let (best, is_legging, _, place) = regular.chain(legging).min()?;
-        if best > rank(price) {
+        let legging =
+            (standing.quantity > 0).then_some((rank(standing.price), Turn::Legging, 0, 0));
+        let (best, turn, _, place) = regular.chain(legging).min()?;
+        if best > rank(arriving.price) {
             return None;
         }
-        if is_legging {
-            return Some(self.hit(id, leg, standing, open));
-        }
         let maker = self.venue.regular[place];
-        let traded = maker.quantity.min(open);
+        let at_hand = match turn {
+            Turn::Shown => shown(&maker),
+            Turn::Reserve => maker.reserve,
+            Turn::Legging => return Some(self.hit(id, leg, standing, open)),
+        };
+        let traded = at_hand.min(open);
         self.trade(leg, maker.price, traded, id, maker.id);
         self.fill_regular(place, traded);
         Some(traded)
@@ -385,7 +441,7 @@ impl Work {
         self.fill_complex(id, quantity);
     }
 
-    /// Trades of a leg at the best price opposite, by id.
+    /// Trades of a leg at the best price shown opposite, by id and of shown size only.
     fn take_best(&mut self, leg: Leg, mut quantity: u32, taker: u32) {
         let taken = opposite(leg);
         let Some(best) = View::of(&self.venue).best(taken) else {
@@ -393,14 +449,13 @@ impl Work {
         };
         while quantity > 0 {
             let at_best = held_regular(&self.venue).position(|order| {
-                (order.series, order.side) == (taken.series, taken.side)
-                    && i64::from(order.price) == best.price
+                side_of(order) == taken && i64::from(order.price) == best.price && shown(order) > 0
             });
             let Some(place) = at_best else {
                 return;
             };
             let maker = self.venue.regular[place];
-            let traded = maker.quantity.min(quantity);
+            let traded = shown(&maker).min(quantity);
             self.trade(leg, maker.price, traded, taker, maker.id);
             self.fill_regular(place, traded);
             quantity -= traded;

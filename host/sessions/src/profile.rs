@@ -16,10 +16,11 @@ pub enum Profile {
     PriceEdges,
     OddBytes,
     Settings,
+    Reserve,
 }
 
 impl Profile {
-    pub const ALL: [Profile; 14] = [
+    pub const ALL: [Profile; 15] = [
         Profile::Mixed,
         Profile::FewSeries,
         Profile::Credit,
@@ -34,6 +35,7 @@ impl Profile {
         Profile::PriceEdges,
         Profile::OddBytes,
         Profile::Settings,
+        Profile::Reserve,
     ];
 
     pub fn name(self) -> &'static str {
@@ -52,6 +54,7 @@ impl Profile {
             Profile::PriceEdges => "price-edges",
             Profile::OddBytes => "odd-bytes",
             Profile::Settings => "settings",
+            Profile::Reserve => "reserve",
         }
     }
 
@@ -76,7 +79,7 @@ impl Profile {
                 .setting(2),
             Profile::Refusals => {
                 let shape = base.weighted([25, 12, 5, 5, 8, 3, 42]);
-                shape.closing(75).setting(8)
+                shape.closing(75).setting(8).reserving(25)
             }
             Profile::FullBooks => base
                 .weighted([62, 24, 2, 2, 1, 4, 5])
@@ -102,12 +105,17 @@ impl Profile {
             Profile::PriceEdges => base.over(&[0, 1, 6, 7]).at(0, 4).setting(2),
             Profile::OddBytes => {
                 let shape = base.weighted([30, 15, 5, 5, 4, 6, 35]);
-                shape.closing(50).setting(2)
+                shape.closing(50).setting(2).reserving(25)
             }
             Profile::Settings => base
                 .over(&[0, 1, 2, 3, 6, 7])
                 .weighted([42, 24, 14, 8, 2, 8, 2])
                 .setting(8),
+            Profile::Reserve => base
+                .over(THREE)
+                .weighted([54, 24, 5, 4, 1, 11, 1])
+                .at(100, 3)
+                .reserving(60),
         }
     }
 }
@@ -130,6 +138,8 @@ pub(crate) struct Shape {
     pub script_every: usize,
     /// Percent of messages before which something is set.
     pub settings: u64,
+    /// Percent of orders that have a shown quantity; scripts have none.
+    pub reserve: u64,
 }
 
 impl Shape {
@@ -145,6 +155,7 @@ impl Shape {
             closed_first: 10,
             script_every: 0,
             settings: 0,
+            reserve: 8,
         }
     }
 
@@ -195,5 +206,9 @@ impl Shape {
 
     fn setting(self, settings: u64) -> Self {
         Shape { settings, ..self }
+    }
+
+    fn reserving(self, reserve: u64) -> Self {
+        Shape { reserve, ..self }
     }
 }

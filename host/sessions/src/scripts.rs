@@ -12,6 +12,7 @@ fn order(series: u8, side: u8, price: i64, quantity: i64) -> Message {
         leg: Leg { series, side },
         price: price as u32,
         quantity: quantity as u32,
+        shows: None,
     }
 }
 

@@ -1,6 +1,6 @@
 //! Random sessions with every check after every message.
 
-use crate::broken::{broken_rows, with_editions};
+use crate::broken::{broken_orders, broken_rows, with_editions, with_reserve};
 use crate::check::{Checker, Step};
 use crate::corrupt::corrupt;
 use crate::coverage::{Coverage, Rare};
@@ -164,11 +164,12 @@ impl<'a> Session<'a> {
 
     /// Calls beside the list, which leave it as it is.
     fn probe(&mut self, probes: &mut Generator) -> Result<(), String> {
-        match probes.random().below(5) {
+        match probes.random().below(6) {
             0 => self.probe_memory(probes),
             1 => self.probe_number(probes),
             2 => self.probe_unsound(probes),
             3 => self.probe_editions(probes),
+            4 => self.probe_reserve(probes),
             _ => self.probe_noise(probes),
         }
     }
@@ -250,6 +251,19 @@ impl<'a> Session<'a> {
             self.expect_taken(&longer, number.saturating_sub(1))?;
         }
         self.expect_taken(&longer, u32::MAX)
+    }
+
+    /// Orders that show other than they should, and orders that show another part of them.
+    fn probe_reserve(&mut self, probes: &mut Generator) -> Result<(), String> {
+        let at = probes.random().below(128) as usize;
+        let before = self.pieces.len() as u32;
+        for (name, broken) in broken_orders(&self.venue, at) {
+            if fault(&broken).is_none() {
+                return Err(format!("{name} is not found in {broken:?}"));
+            }
+            self.expect_taken(&broken, before)?;
+        }
+        self.expect_taken(&with_reserve(&self.venue, at), before)
     }
 
     /// A call upon a venue gets 9 just where both tests of it say so, and its

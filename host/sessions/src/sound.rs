@@ -27,6 +27,7 @@ pub fn fault(venue: &Venue) -> Option<String> {
     let faults = [
         arrangement_fault(venue),
         regular_fault(venue),
+        shown_fault(venue),
         complex_fault(venue),
         series_fault(venue),
         id_fault(venue),
@@ -95,9 +96,24 @@ fn regular_fault(venue: &Venue) -> Option<String> {
             || !(1..=100_000).contains(&order.price)
             || order.price % u32::from(in_force.increment(order.series).value) != 0
             || !(1..=10_000).contains(&order.quantity)
+            || !(1..=order.quantity).contains(&order.display)
     });
     bad.next()
         .map(|order| format!("a field of regular order {} is out of range", order.id))
+}
+
+/// Each order shows its display: all else of it is in reserve.
+fn shown_fault(venue: &Venue) -> Option<String> {
+    let mut held = venue.regular.iter().filter(|order| order.id != 0);
+    let otherwise = |order: &&Regular| {
+        u64::from(order.reserve) + u64::from(order.display) != u64::from(order.quantity)
+    };
+    held.find(otherwise).map(|order| {
+        format!(
+            "regular order {} shows otherwise than its display",
+            order.id
+        )
+    })
 }
 
 fn complex_fault(venue: &Venue) -> Option<String> {

@@ -1,7 +1,7 @@
 //! Messages as text, one a line.
 //!
 //! ```text
-//! order ID SIDE QUANTITY series SERIES at PRICE
+//! order ID SIDE QUANTITY series SERIES at PRICE          (also: ... shows SHOWN)
 //! complex ID SIDE SERIES SIDE SERIES class CLASS net LIMIT quantity QUANTITY
 //! cancel ID
 //! away SERIES bid PRICE offer PRICE
@@ -11,6 +11,7 @@
 //! percent PERCENT EDITION
 //! raw HEX HEX ...
 //! ```
+//! An order with `shows` is of kind 9, one without it of kind 1 and shows all.
 //! SIDE is `buy`, `sell` or `side=NUMBER`; STATUS is `open`, `closed`, `auction`
 //! or `status=NUMBER`. Any number that fits its field's width may be written.
 //! `#` begins a comment; blank lines are passed over.
@@ -148,11 +149,19 @@ fn parse_order(words: &mut Words) -> Result<Message, LineError> {
     let series = words.number("a series")?;
     words.literal("at")?;
     let price = words.number("a price")?;
+    let shows = match words.first() {
+        Some("shows") => {
+            words.next();
+            Some(words.number("a shown quantity")?)
+        }
+        _ => None,
+    };
     Ok(Message::Order {
         id,
         leg: Leg { series, side },
         price,
         quantity,
+        shows,
     })
 }
 
@@ -337,9 +346,11 @@ impl Display for Message {
                 leg,
                 price,
                 quantity,
+                shows,
             } => {
                 let (side, series) = (Side(leg.side), leg.series);
-                write!(f, "order {id} {side} {quantity} series {series} at {price}")
+                write!(f, "order {id} {side} {quantity} series {series} at {price}")?;
+                shows.map_or(Ok(()), |shows| write!(f, " shows {shows}"))
             }
             Message::Complex {
                 id,
@@ -383,6 +394,8 @@ mod tests {
     fn every_kind_of_line_reads_back_as_written() {
         let text = "order 4 sell 5 series 0 at 115\n\
             order 0 side=7 4294967295 series 255 at 0\n\
+            order 5 buy 8 series 0 at 115 shows 3\n\
+            order 6 side=9 0 series 9 at 4294967295 shows 4294967295\n\
             complex 3 buy 0 sell 1 class 1 net -205 quantity 8\n\
             complex 3 side=2 9 buy 1 class 255 net -2147483648 quantity 0\n\
             cancel 3\naway 0 bid 0 offer 60\nstatus 0 open\nstatus 1 closed\n\
@@ -439,6 +452,9 @@ mod tests {
             ("order 4 bye 5 series 0 at 115", "line 1: expected a side (buy, sell or side=0 to side=255), found \"bye\""),
             ("order 4 buy 5 series 0 at", "line 1: expected a price, a number from 0 to 4294967295, found the end of the line"),
             ("order 4 buy 5 serie 0 at 5", "line 1: expected \"series\", found \"serie\""),
+            ("order 4 buy 5 series 0 at 5 shows", "line 1: expected a shown quantity, a number from 0 to 4294967295, found the end of the line"),
+            ("order 4 buy 5 series 0 at 5 shows -1", "line 1: expected a shown quantity, a number from 0 to 4294967295, found \"-1\""),
+            ("order 4 buy 5 series 0 at 5 show 1", "line 1: expected the end of the line, found \"show\""),
             ("cancel 4294967296", "line 1: expected an id, a number from 0 to 4294967295, found \"4294967296\""),
             ("\n\ncancel +4", "line 3: expected an id, a number from 0 to 4294967295, found \"+4\""),
             ("open 256", "line 1: expected a series, a number from 0 to 255, found \"256\""),

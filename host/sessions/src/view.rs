@@ -12,7 +12,7 @@ pub struct Level {
     pub size: i64,
 }
 
-/// The best regular prices with what stands in the legging places.
+/// The best regular prices, by what is shown, with what stands in the legging places.
 #[derive(Clone, Debug)]
 pub struct View {
     best: [[Option<Level>; 2]; 8],
@@ -72,12 +72,28 @@ pub fn within(net: i64, market: i64, percent: i64) -> bool {
     100 * net <= 100 * market + percent * market.abs()
 }
 
+/// What an order shows; the rest of its quantity is reserve.
+pub fn shown(order: &Regular) -> u32 {
+    order.quantity.saturating_sub(order.reserve)
+}
+
+pub fn side_of(order: &Regular) -> Leg {
+    Leg {
+        series: order.series,
+        side: order.side,
+    }
+}
+
 pub fn held_regular(venue: &Venue) -> impl Iterator<Item = &Regular> {
     venue.regular.iter().take_while(|order| order.quantity > 0)
 }
 
 pub fn held_complex(venue: &Venue) -> impl Iterator<Item = &Complex> {
     venue.complex.iter().take_while(|order| order.quantity > 0)
+}
+
+pub fn find_regular(venue: &Venue, id: u32) -> Option<&Regular> {
+    held_regular(venue).find(|order| order.id == id)
 }
 
 pub fn find_complex(venue: &Venue, id: u32) -> Option<&Complex> {
@@ -98,12 +114,13 @@ impl View {
         view
     }
 
+    /// Counts what an order shows; one that shows nothing gives no price.
     fn count(&mut self, order: &Regular) {
-        let leg = Leg {
-            series: order.series,
-            side: order.side,
-        };
-        let (price, size) = (i64::from(order.price), i64::from(order.quantity));
+        let leg = side_of(order);
+        let (price, size) = (i64::from(order.price), i64::from(shown(order)));
+        if size == 0 {
+            return;
+        }
         let best = &mut self.best[usize::from(leg.series)][usize::from(leg.side)];
         match best {
             Some(level) if level.price == price => level.size += size,

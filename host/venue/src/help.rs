@@ -29,6 +29,7 @@ pub const TEXT_FORM: &str = "\
 The text form, one message a line:
 
   order ID SIDE QUANTITY series SERIES at PRICE
+                            also: ... at PRICE shows QUANTITY, an order with reserve
   complex ID SIDE SERIES SIDE SERIES class CLASS net LIMIT quantity QUANTITY
   cancel ID
   away SERIES bid PRICE offer PRICE
@@ -105,7 +106,8 @@ entered (from its message), paired, crossed, cancelled and contracts in each
 series (from the sheet), open (from the venue that the reference leaves after the
 messages that the sheet answers). Names each order whose sums do not agree, and
 the first line that is not the reference's; then the exit status is 1. Each line is
-read by the settings of its message; those that the session entered are listed.
+read by the settings of its message; those that the session entered are listed. Orders
+that were to show a part of them are listed with what is left and what that shows.
 ";
 
 const EXPLAIN: &str = "\
@@ -114,8 +116,9 @@ venue explain [--text] [FILE]
 Tells for each message what happened and, for each leg for which no legging order
 was made, the first condition of generation that failed. Where a band, an increment
 or refusal 4 depends on a setting, its edition is told with the message that entered
-it; edition 0 are the figures of document 01. Every check is made meanwhile; a
-violation ends it with an error.
+it; edition 0 are the figures of document 01. Of an order with reserve it is told
+whether a trade took what it shows or its reserve, and what it shows after the trades.
+Every check is made meanwhile; a violation ends it with an error.
 ";
 
 const SETTINGS: &str = "\
@@ -133,7 +136,7 @@ Writes a random session: bytes, or text with --text. Equal arguments give equal
 sessions. The profiles:
 
   mixed few-series credit band-edges refusals full-books sweeps status-flips
-  classes hits cross-parties price-edges odd-bytes settings
+  classes hits cross-parties price-edges odd-bytes settings reserve
 ";
 
 const CHECK: &str = "\
@@ -160,7 +163,7 @@ pub fn of(command: &str) -> Option<String> {
         ),
         "decode" => format!(
             "venue decode [--line] [FILE]\n\nWrites one message a line; bytes that are no \
-             message of kinds 1 to 8\nat its length become raw. With --line the bytes are a \
+             message of kinds 1 to 9\nat its length become raw. With --line the bytes are a \
              line of a feed.\n\n{TEXT_FORM}"
         ),
         "print" => PRINT.to_string(),

@@ -623,6 +623,52 @@ fn audit_reads_a_sheet_by_the_settings_of_its_day() {
     assert!(table.ends_with(expected), "{table}");
 }
 
+const SHOWN_TEXT: &str = include_str!("sessions/shown.txt");
+
+#[test]
+fn explain_tells_shown_size_and_reserve_apart() {
+    let told = good(&["explain", "--text"], SHOWN_TEXT.as_bytes());
+    let told = String::from_utf8(told).unwrap();
+    for expected in [
+        "\n    trade: 3 sell series 0, 2 at 115, maker 1, of what it shows\n\
+         \x20   trade: 3 sell series 0, 3 at 115, maker 2\n\
+         \x20   trade: 3 sell series 0, 2 at 115, maker 1, of its reserve\n\
+         \x20   order 1 shows 1 of 1 left\n",
+        "\n    refused with 4: a field is outside its range, 7 of 6 cannot be shown\n",
+        "\n    order 4 shows 1 of 6 left\n",
+        "\n    trade: 10 sell series 0, 4 at 115, maker 9, of its reserve\n\
+         \x20   trade: 10 sell series 0, 3 at 115, maker 8\n\
+         \x20   trade: 8 buy series 1, 3 at 90, maker 7, of what it shows\n",
+        "\n    cancelled: 6, 7 were open, 3 of them in reserve\n",
+        "\n    cancelled: 5, 1 were open\n",
+    ] {
+        assert!(told.contains(expected), "{expected}\n{told}");
+    }
+}
+
+#[test]
+fn audit_lists_the_orders_with_reserve() {
+    let lines = SHOWN_TEXT.lines().take(14);
+    let text: String = lines.map(|line| format!("{line}\n")).collect();
+    let told = good(&["audit", "--text", "-"], text.as_bytes());
+    let told = String::from_utf8(told).unwrap();
+    let listed: Vec<&str> = told
+        .lines()
+        .filter(|line| line.starts_with("order "))
+        .collect();
+    assert_eq!(
+        listed,
+        [
+            "order 1 was to show 2 of 5: traded 5, cancelled 0, open 0, of these 0 shown",
+            "order 4 was to show 1 of 6: traded 6, cancelled 0, open 0, of these 0 shown",
+            "order 6 was to show 4 of 15: traded 0, cancelled 0, open 15, of these 4 shown",
+            "order 7 was to show 5 of 12: traded 3, cancelled 0, open 9, of these 5 shown",
+            "order 9 was to show 2 of 6: traded 6, cancelled 0, open 0, of these 0 shown",
+            "order 10 was to show 1 of 9: traded 9, cancelled 0, open 0, of these 0 shown",
+        ]
+    );
+}
+
 #[test]
 fn explain_tells_refusals_in_words() {
     let told = good(&["explain", "--text"], b"cancel 9\nraw 09 00 06\n");

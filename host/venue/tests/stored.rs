@@ -78,6 +78,7 @@ fn all() -> Vec<Session> {
         from_text("credit-band", include_str!("sessions/credit-band.txt")),
         from_text("refused", include_str!("sessions/refused.txt")),
         editions(),
+        from_text("shown", include_str!("sessions/shown.txt")),
         from_text("empty", ""),
         full(),
         beyond(),

@@ -142,6 +142,7 @@ impl Generator {
             leg,
             price: price as u32,
             quantity: self.apart.between(1, 9) as u32,
+            shows: None,
         }
     }
 

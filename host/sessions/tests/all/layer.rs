@@ -231,6 +231,12 @@ fn unsound() -> Vec<Layer> {
         let mut layer = Layer::fresh();
         layer.lanes[venue].venue.series[7].status = 3;
         layers.push(layer);
+        // An order that shows 2 of 5, and none in reserve.
+        let mut layer = Layer::fresh();
+        let order = "order 1 buy 5 series 0 at 115 shows 2";
+        played(&mut layer, &format!("arrive {venue} {order}\nturn\n"));
+        layer.lanes[venue].venue.regular[0].reserve = 0;
+        layers.push(layer);
         // An edition of message 1, and no message done.
         let mut layer = Layer::fresh();
         played(&mut layer, &format!("arrive {venue} percent 9 1\nturn\n"));

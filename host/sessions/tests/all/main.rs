@@ -6,6 +6,7 @@ mod layer;
 mod random_sessions;
 mod refusals;
 mod report_memory;
+mod reserve;
 mod rules;
 mod settings;
 mod short_sessions;

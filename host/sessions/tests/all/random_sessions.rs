@@ -31,7 +31,7 @@ fn check_profiles(profiles: &[Profile]) -> Coverage {
 #[test]
 fn all_profiles_hold_every_check_and_show_every_case() {
     let coverage = check_profiles(&Profile::ALL);
-    assert_eq!(coverage.sessions, SESSIONS * 14);
+    assert_eq!(coverage.sessions, SESSIONS * 15);
     assert_eq!(coverage.missing(), Vec::<String>::new());
 }
 

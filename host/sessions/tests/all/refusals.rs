@@ -49,7 +49,7 @@ fn unknown_kinds_of_any_length_are_2() {
         "raw 04 00 63 00",
         "raw 05 00 00 00 01",
         "raw 04 00 40 00",
-        "raw 04 00 09 00",
+        "raw 04 00 0a 00",
         "raw 06 00 05 01 00 01",
     ] {
         assert_eq!(sheet(raw), "64 1 2 0 0\n", "{raw}");

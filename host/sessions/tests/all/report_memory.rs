@@ -113,3 +113,26 @@ fn one_sweep_may_write_thousands_of_bytes() {
     assert_eq!((returned.number, returned.written), (10, before.1));
     assert_eq!(returned.venue, before.0);
 }
+
+#[test]
+fn one_order_may_take_shown_size_and_reserve_of_every_other() {
+    let offers: String = (1..=127)
+        .map(|id| format!("order {id} sell 2 series 0 at 130 shows 1\n"))
+        .collect();
+    let list = bytes(&format!("{offers}order 128 buy 254 series 0 at 130\n"));
+    let stages = stages(&list);
+    let [.., before, after] = &stages[..] else {
+        panic!("a session has messages");
+    };
+    let whole = 12 + 2 * 127 * 22;
+    assert_eq!(after.1 - before.1, whole);
+    let order = split(&list)[127];
+    let mut lent = Lent::new();
+    for length in 0..whole {
+        let returned = one_message(&before.0, 127, order, lent.lend(length));
+        assert_eq!((returned.number, returned.written), (10, 0), "{length}");
+        assert_eq!(returned.venue, before.0);
+    }
+    let returned = one_message(&before.0, 127, order, lent.lend(whole));
+    assert_eq!((returned.number, returned.written), (0, whole));
+}

@@ -132,13 +132,20 @@ fn every_session_of_up_to_5_messages_from_12_upon_quoted_series() {
 }
 
 #[test]
+fn every_session_of_up_to_5_messages_from_10_with_reserve() {
+    let first = "order 1 sell 15 series 0 at 130 shows 4\norder 2 sell 12 series 1 at 90 shows 5\n";
+    let choices = "order 3 sell 6 series 0 at 130\norder 4 sell 9 series 0 at 135 shows 2\n\
+        complex 5 buy 0 buy 1 class 1 net 205 quantity 8\n\
+        complex 6 buy 1 buy 0 class 0 net 225 quantity 7\n\
+        order 7 buy 12 series 0 at 130 shows 3\norder 8 sell 5 series 0 at 115 shows 1\n\
+        order 9 buy 9 series 1 at 90\ncancel 1\ncancel 2\nsweep\n";
+    assert_eq!(search(first, choices, 5), sessions_of(10, 5));
+}
+
+#[test]
 fn every_session_of_up_to_5_messages_from_10_with_settings() {
-    let first = "away 0 bid 0 offer 100
-order 1 sell 15 series 0 at 130
-\
-        order 2 sell 12 series 1 at 90
-close 7
-";
+    let first = "away 0 bid 0 offer 100\norder 1 sell 15 series 0 at 130\n\
+        order 2 sell 12 series 1 at 90\nclose 7\n";
     let choices = "complex 3 buy 0 buy 1 class 1 net 197 quantity 8\n\
         complex 4 sell 7 buy 1 class 0 net -25 quantity 5\norder 5 buy 2 series 7 at 114\n\
         percent 3 1\npercent 16 2\nincrement 7 1 3\nincrement 7 5 4\nopen 7\ncancel 5\nsweep\n";

@@ -147,6 +147,43 @@ const EDITIONS: &[Change] = &[
     }),
 ];
 
+/// An order that shows 3 of 8, one that shows all of 5, and one of which 2 are left.
+fn with_reserve() -> Venue {
+    venue_after(
+        "order 1 sell 8 series 0 at 130 shows 3\norder 2 sell 5 series 1 at 90\n\
+         order 3 buy 6 series 2 at 50 shows 4\norder 4 sell 4 series 2 at 50\n",
+    )
+}
+
+const RESERVE: &[Change] = &[
+    ("display 0", |v| v.regular[0].display = 0),
+    ("display 0, all in reserve", |v| {
+        (v.regular[0].reserve, v.regular[0].display) = (8, 0)
+    }),
+    ("display above what is left", |v| v.regular[0].display = 9),
+    ("display above what is left, reserve below 0", |v| {
+        (v.regular[0].reserve, v.regular[0].display) = (u32::MAX, 9)
+    }),
+    ("display as entered, with less left", |v| {
+        v.regular[2].display = 4
+    }),
+    ("shows less than its display", |v| v.regular[0].reserve = 6),
+    ("shows more than its display", |v| v.regular[0].reserve = 4),
+    ("no reserve", |v| v.regular[0].reserve = 0),
+    ("reserve of an order that shows all", |v| {
+        v.regular[1].reserve = 1
+    }),
+    ("reserve above what is left", |v| v.regular[0].reserve = 9),
+    ("more is left", |v| v.regular[0].quantity = 9),
+    ("less is left", |v| v.regular[0].quantity = 7),
+    ("a free place with reserve", |v| v.regular[3].reserve = 1),
+    ("a free place with display", |v| v.regular[127].display = 1),
+    ("legging order larger than what is shown", |v| {
+        *v = venue_after(&with_legging(""));
+        (v.regular[1].reserve, v.regular[1].display) = (5, 7);
+    }),
+];
+
 fn expect_unsound(changes: &[Change]) {
     expect_unsound_upon(opened(), changes);
 }
@@ -187,6 +224,24 @@ fn each_fault_of_a_legging_order_is_unsound() {
 #[test]
 fn each_fault_of_the_row_of_editions_is_unsound() {
     expect_unsound_upon(dated(), EDITIONS);
+}
+
+#[test]
+fn each_fault_of_what_an_order_shows_is_unsound() {
+    expect_unsound_upon(with_reserve(), RESERVE);
+}
+
+#[test]
+fn any_part_of_an_order_may_be_shown() {
+    for display in 1..=8 {
+        let mut venue = with_reserve();
+        (venue.regular[0].reserve, venue.regular[0].display) = (8 - display, display);
+        assert!(is_sound(&venue));
+        assert_eq!(fault(&venue), None);
+    }
+    let mut venue = venue_after(&with_legging(""));
+    (venue.regular[1].reserve, venue.regular[1].display) = (4, 8);
+    assert!(is_sound(&venue));
 }
 
 #[test]
