@@ -12,7 +12,8 @@
  *
  * MEMORY
  *   All memory is the host's. A call keeps no pointer after it returns, allocates
- *   nothing, reads and writes no file, and needs less than 32 KiB of stack.
+ *   nothing, reads and writes no file, and needs less than 32 KiB of stack, a call
+ *   upon four venues less than 48 KiB.
  *   - `messages` (or `message`) and the lines `main` and `spare` are only read. Bytes
  *     past their lengths are not.
  *   - `venue` is read and written; legging_fresh only writes it, legging_settings only
@@ -47,6 +48,7 @@
  *                6 sweep                                                                     4
  *                7 increment  series u8, increment u8 (1, 5 or 10), edition u32             10
  *                8 percent    percent u8 (0 to 50), edition u32                              9
+ *                9 reserve    as 1, and after it shown quantity u32 (1 to the quantity)     22
  *     records   64 answer     message number u32, refusal u8, place mask u16, count u8      12
  *               65 trade      series u8, taker's side u8, price u32, quantity u32,
  *                             taker id u32, maker id u32                                    22
@@ -72,6 +74,16 @@
  *   no resting order or leg. Editions rise over both kinds. The venue keeps up to 32,
  *   each with the number of its message, so it tells what held at any message.
  *
+ * RESERVE
+ *   An order of kind 9 shows a part of it; one of kind 1 shows all. Best prices, sizes,
+ *   clear prices and the quantities of legging orders count what is shown, and complex
+ *   orders take no other. An order that arrives meets, at each price from the best on,
+ *   first all that is shown, by id, then, in trades of its own, all reserve by id, then
+ *   the legging order; it takes with all of its quantity. Once a message's trades are
+ *   done, before legging orders are tested, each order shows again the lesser of its
+ *   shown quantity and what is left of it, and it keeps its turn. Record 71 tells all
+ *   that is left, shown or not.
+ *
  * NUMBERS
  *   Each call returns one of these, and fails in no other way.
  */
@@ -83,9 +95,9 @@
 
 #define LEGGING_DONE          0u /* accepted; of a run: the whole list was done */
 #define LEGGING_TORN          1u /* 1 to 3 bytes left (of one message: 0 to 3), or a length below 4 or above what is left */
-#define LEGGING_UNKNOWN_KIND  2u /* kind not 1 to 8 */
+#define LEGGING_UNKNOWN_KIND  2u /* kind not 1 to 9 */
 #define LEGGING_WRONG_LENGTH  3u /* length not its kind's */
-#define LEGGING_OUT_OF_RANGE  4u /* a field outside its range, both legs in one series, or a price off the increment in force */
+#define LEGGING_OUT_OF_RANGE  4u /* a field outside its range, a shown quantity above the quantity, both legs in one series, or a price off the increment in force */
 #define LEGGING_ID_NOT_ABOVE  5u /* id not above the last accepted */
 #define LEGGING_CLOSED        6u /* a series of the order is closed */
 #define LEGGING_BOOK_FULL     7u /* 128 regular or 32 complex orders rest already */
@@ -101,7 +113,8 @@
 #define LEGGING_LOST         20u /* neither line has the next number, though a later one stands on either */
 #define LEGGING_BAD_LINE     21u /* a line is torn, does not rise, or has a length below 4 or number 0 */
 
-#define LEGGING_VENUE_BYTES 2924u /* a venue held by a host */
+#define LEGGING_VENUE_BYTES 3948u /* a venue held by a host */
+#define LEGGING_SHOWN_AT    2924u /* where in it the rows of reserve and display begin */
 #define LEGGING_MOST_BYTES 10112u /* no message upon a sound venue writes more */
 #define LEGGING_SETTINGS_BYTES 9u /* eight increments and the percentage */
 
@@ -185,6 +198,11 @@ uint8_t legging_fresh(uint8_t *venue, size_t venue_len);
  *         last id u32
  *      32 editions         edition u32, message number u32, figure u8, value u8; figure 0 to 7
  *                          is the increment of that series, 8 the percentage
+ *     128 regular orders   once more, in the same places: reserve u32, display u32. The
+ *                          quantity is what is left, the reserve the part of it that is not
+ *                          shown, the display the part that is: the shown quantity, or what
+ *                          is left where that is less. Of kind 1 the reserve is 0 and the
+ *                          display the quantity
  *
  * Held places come first, in rising id or edition; free places are zero. Equal states
  * are equal bytes, so a venue may be copied, kept and compared as bytes.

@@ -3,7 +3,8 @@
  * by message or over two lines, and prints a line for each record and the number at
  * the end.
  *
- *     host [--each | --settings NUMBER | --spare FILE] [--hex] [--room BYTES] [FILE]
+ *     host [--each | --resting | --settings NUMBER | --spare FILE] [--hex] [--room BYTES]
+ *          [FILE]
  */
 #include "legging.h"
 
@@ -13,13 +14,16 @@
 enum { ENDED_EARLY = 3 }; /* exit status: the list's end was not reached */
 
 static const char USAGE[] =
-    "usage: host [--each | --settings NUMBER | --spare FILE] [--hex] [--room BYTES] [FILE]\n"
+    "usage: host [--each | --resting | --settings NUMBER | --spare FILE] [--hex]\n"
+    "            [--room BYTES] [FILE]\n"
     "\n"
     "Does the message list in FILE, or on standard input where FILE is left out or -,\n"
     "from a fresh venue. Prints a line for each record, its kind and its fields in\n"
     "table order, and last the number that ended it.\n"
     "\n"
     "  --each        message by message, upon a venue held here; otherwise by one run\n"
+    "  --resting     message by message, and then the regular orders that rest, each with\n"
+    "                what is left of it and what of that is shown\n"
     "  --settings NUMBER\n"
     "                message by message, and then the increments of the eight series and\n"
     "                the percentage that held at this message\n"
@@ -42,6 +46,7 @@ struct options {
     size_t room;
     bool tells;
     uint32_t told_at;
+    bool lists;
 };
 
 /* Command line ----------------------------------------------------------------- */
@@ -69,7 +74,8 @@ static uint32_t message_number_of(const char *word)
 static struct options options_of(int count, char **words)
 {
     struct options options = {.file = NULL, .spare = NULL, .each = false, .hex = false,
-                              .has_room = false, .room = 0, .tells = false, .told_at = 0};
+                              .has_room = false, .room = 0, .tells = false, .told_at = 0,
+                              .lists = false};
     for (int i = 1; i < count; i++) {
         const char *word = words[i];
         if (strcmp(word, "--help") == 0) {
@@ -88,6 +94,9 @@ static struct options options_of(int count, char **words)
                 wrong_usage("expected a number of bytes after", word);
             options.has_room = true;
             options.room = room_of(words[i]);
+        } else if (strcmp(word, "--resting") == 0) {
+            options.each = true;
+            options.lists = true;
         } else if (strcmp(word, "--settings") == 0) {
             if (++i == count)
                 wrong_usage("expected a message number after", word);
@@ -103,7 +112,7 @@ static struct options options_of(int count, char **words)
         }
     }
     if (options.spare != NULL && options.each)
-        wrong_usage("not with --each or --settings", "--spare");
+        wrong_usage("not with --each, --resting or --settings", "--spare");
     if (options.spare != NULL && is_input(options.spare) && is_input(options.file))
         wrong_usage("standard input cannot be both lines", "--spare -");
     return options;
@@ -149,6 +158,22 @@ static void print_settings(const uint8_t *venue, uint32_t number)
     printf(", percent %u\n", (unsigned)settings[8]);
 }
 
+/* The regular orders that rest: what is left of each, and what of that is shown. */
+static void print_resting(const uint8_t *venue)
+{
+    enum { PLACES = 128, ORDER_BYTES = 14, SHOWN_BYTES = 8 };
+    for (size_t place = 0; place < PLACES; place++) {
+        const uint8_t *order = venue + place * ORDER_BYTES;
+        const uint8_t *shown = venue + LEGGING_SHOWN_AT + place * SHOWN_BYTES;
+        uint32_t quantity = number_at(order + 10, 4);
+        if (quantity == 0)
+            return;
+        printf("order %" PRIu32 ": %s %" PRIu32 " series %u at %" PRIu32 ", shows %" PRIu32 "\n",
+               number_at(order, 4), order[5] == 0 ? "buy" : "sell", quantity, (unsigned)order[4],
+               number_at(order + 6, 4), number_at(shown + 4, 4));
+    }
+}
+
 /* The same list by one-message calls: the venue is held here, and each message is
  * told how many went before it. */
 static uint8_t run_each(struct options options, struct bytes messages)
@@ -170,6 +195,8 @@ static uint8_t run_each(struct options options, struct bytes messages)
         before += 1;
         at += number_at(message, 2);
     }
+    if (options.lists)
+        print_resting(venue);
     if (options.tells)
         print_settings(venue, options.told_at);
     free(report.at);

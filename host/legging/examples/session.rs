@@ -1,6 +1,7 @@
 //! The printed session of document 01: opens two series, offers in both, a complex
 //! order that is shown in both books, and an order that hits it. First by one run,
-//! then message by message upon a venue held here: the records are the same.
+//! then message by message upon a venue held here: the records are the same. Then an
+//! order that shows a part of it.
 //!
 //!     cargo run --release --offline -p legging --example session
 
@@ -24,6 +25,12 @@ fn sell(id: u32, series: u8, price: u32, quantity: u32) -> Vec<u8> {
         quantity.to_le_bytes(),
     );
     message(1, &[&id, &[series, 1], &price, &quantity])
+}
+
+/// As [`sell`], but only a part is shown.
+fn sell_showing(id: u32, series: u8, price: u32, quantity: u32, shown: u32) -> Vec<u8> {
+    let numbers = [price, quantity, shown].map(u32::to_le_bytes).concat();
+    message(9, &[&id.to_le_bytes(), &[series, 1], &numbers])
 }
 
 /// Buys the series 0 and 1 together, for at most `limit`.
@@ -81,6 +88,12 @@ fn main() {
         "the same message by message; the last id is {}",
         venue.last_id()
     );
+    let reserve = sell_showing(5, 2, 200, 20, 5);
+    let number = one_message(&mut venue, 6, &reserve, &mut report);
+    assert_eq!(number, Number::DONE);
+    for order in venue.regular_orders() {
+        println!("resting: {order:?}");
+    }
     match settings(&venue, 6) {
         Some(told) => println!("at message 6 held {told:?}"),
         None => println!("{}", Number::UNSOUND),

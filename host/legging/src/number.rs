@@ -12,7 +12,7 @@ impl Number {
     /// 1 to 3 bytes left (of one message: 0 to 3), or a length below 4 or above
     /// what is left.
     pub const TORN: Number = Number(1);
-    /// The kind is not 1 to 8.
+    /// The kind is not 1 to 9.
     pub const UNKNOWN_KIND: Number = Number(2);
     /// The length is not its kind's.
     pub const WRONG_LENGTH: Number = Number(3);

@@ -5,10 +5,31 @@ use crate::number::Number;
 use std::fmt;
 
 /// The length of a venue.
-pub const VENUE_BYTES: usize = 2_924;
+pub const VENUE_BYTES: usize = 3_948;
 
 /// Where the last id stands: after the orders and the series.
 const LAST_ID_AT: usize = 2_600;
+
+/// Where the regular orders' reserve and display begin: after the editions.
+const SHOWN_AT: usize = 2_924;
+
+const REGULAR_PLACES: usize = 128;
+const REGULAR_BYTES: usize = 14;
+const SHOWN_BYTES: usize = 8;
+
+/// A regular order that rests.
+#[derive(Clone, Copy, Debug, PartialEq, Eq)]
+pub struct RegularOrder {
+    pub id: u32,
+    pub series: u8,
+    /// 0 to buy, 1 to sell.
+    pub side: u8,
+    pub price: u32,
+    /// What is left of it.
+    pub quantity: u32,
+    /// The part of that which is shown; the rest is reserve.
+    pub shown: u32,
+}
 
 /// A venue held as bytes: one value for one state.
 ///
@@ -18,8 +39,9 @@ const LAST_ID_AT: usize = 2_600;
 /// place 2 × series + side (parent u32, price u32, quantity u32), 8 series (status
 /// u8, bid u32, offer u32), the last id u32, 32 editions (edition u32, message
 /// number u32, figure u8, value u8; figure 0 to 7 is the increment of that series, 8
-/// the percentage of the band). Held places come first, in rising id or edition;
-/// free places are zero.
+/// the percentage of the band), and of the 128 regular orders once more reserve u32 and
+/// display u32: the part of the quantity that is not shown, and the part that is. Held
+/// places come first, in rising id or edition; free places are zero.
 #[derive(Clone, PartialEq, Eq)]
 pub struct VenueBytes([u8; VENUE_BYTES]);
 
@@ -48,10 +70,30 @@ impl VenueBytes {
         &mut self.0
     }
 
+    fn u32_at(&self, at: usize) -> u32 {
+        let byte = |offset| self.0[at + offset];
+        u32::from_le_bytes([byte(0), byte(1), byte(2), byte(3)])
+    }
+
     /// The id of the last order accepted; the next must be above it.
     pub fn last_id(&self) -> u32 {
-        let byte = |at| self.0[LAST_ID_AT + at];
-        u32::from_le_bytes([byte(0), byte(1), byte(2), byte(3)])
+        self.u32_at(LAST_ID_AT)
+    }
+
+    /// The regular orders that rest, in rising id, with what each shows.
+    pub fn regular_orders(&self) -> impl Iterator<Item = RegularOrder> + '_ {
+        let orders = (0..REGULAR_PLACES).map(|place| {
+            let (at, shown) = (place * REGULAR_BYTES, SHOWN_AT + place * SHOWN_BYTES);
+            RegularOrder {
+                id: self.u32_at(at),
+                series: self.0[at + 4],
+                side: self.0[at + 5],
+                price: self.u32_at(at + 6),
+                quantity: self.u32_at(at + 10),
+                shown: self.u32_at(shown + 4),
+            }
+        });
+        orders.take_while(|order| order.quantity > 0)
     }
 }
 

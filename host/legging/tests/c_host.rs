@@ -226,6 +226,23 @@ fn settings_are_passed_over_where_refused_and_told_at_a_message() {
 }
 
 #[test]
+fn orders_that_rest_are_listed_with_what_they_show() {
+    let text = "order 1 buy 9 series 0 at 115 shows 4\norder 2 buy 3 series 0 at 115\n\
+        order 3 sell 5 series 0 at 115\norder 4 sell 2 series 6 at 200 shows 3\n\
+        order 5 sell 8 series 6 at 200 shows 3\n";
+    let messages = encode_session(text).expect("a good session");
+    let (status, told) = both_ways(&[], &messages);
+    assert_eq!(status, 0);
+    let trades = "64 3 0 0 0\n65 0 1 115 4 3 1\n65 0 1 115 1 3 2\n64 4 4 0 0\n";
+    assert!(told.contains(trades), "{told}");
+    let (status, more, _) = host(&["--resting"], &messages);
+    let lines =
+        "order 1: buy 5 series 0 at 115, shows 4\norder 2: buy 2 series 0 at 115, shows 2\n\
+        order 5: sell 8 series 6 at 200, shows 3\nnumber 0: ";
+    assert!(status == 0 && more.contains(lines), "{more}");
+}
+
+#[test]
 fn short_memory_and_hexadecimal() {
     let messages = encode_session(SESSION).expect("the stored session is good");
     let (status, told, _) = host(&["--room", "30", "--hex", "-"], &messages);
@@ -277,6 +294,7 @@ fn errors_name_what_was_wrong() {
         (&["--spare", "-"], 2, "both lines: --spare -"),
         (&["--each", "--spare", "a"], 2, "--settings: --spare"),
         (&["--settings", "1", "--spare", "a"], 2, "not with --each"),
+        (&["--resting", "--spare", "a"], 2, "not with --each"),
         (&["--spare", "no-such-file"], 1, "no-such-file"),
         (&["no-such-file"], 1, "no-such-file"),
     ] {
