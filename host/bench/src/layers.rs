@@ -8,6 +8,7 @@ use sessions::message::{Leg, Message};
 pub enum Layer {
     Rests,
     TakesTwo,
+    TakesReserve,
     Generates,
     Hit,
     Cross,
@@ -18,9 +19,10 @@ pub enum Layer {
 }
 
 impl Layer {
-    pub const ALL: [Layer; 9] = [
+    pub const ALL: [Layer; 10] = [
         Layer::Rests,
         Layer::TakesTwo,
+        Layer::TakesReserve,
         Layer::Generates,
         Layer::Hit,
         Layer::Cross,
@@ -35,6 +37,7 @@ impl Layer {
         match self {
             Layer::Rests => "rests",
             Layer::TakesTwo => "takes-two",
+            Layer::TakesReserve => "takes-reserve",
             Layer::Generates => "generates",
             Layer::Hit => "hit",
             Layer::Cross => "cross",
@@ -49,11 +52,21 @@ impl Layer {
         Layer::ALL.into_iter().find(|layer| layer.name() == name)
     }
 
+    /// Whether a unit has a regular order that needs a place when it arrives.
+    fn brings_an_order(self) -> bool {
+        match self {
+            Layer::Rests | Layer::TakesTwo | Layer::TakesReserve | Layer::Hit => true,
+            Layer::Generates | Layer::Cross | Layer::CrossWithLegging => false,
+            Layer::SweepIdle | Layer::SweepWorking | Layer::Settles => false,
+        }
+    }
+
     /// The messages of a unit in words.
     pub fn unit(self) -> &'static str {
         match self {
             Layer::Rests => "an order that rests; its cancel",
             Layer::TakesTwo => "an order that takes two; the two again",
+            Layer::TakesReserve => "the same, each with reserve that it takes too",
             Layer::Generates => "a complex order that generates both legs; its cancel",
             Layer::Hit => "a complex order that generates both legs; the order that hits one",
             Layer::Cross => "a complex order that rests; the one that crosses it",
@@ -84,8 +97,7 @@ impl Case {
         let mut script = Script::default();
         script.open(layer);
         script.quote(layer);
-        let arriving = [Layer::Rests, Layer::TakesTwo, Layer::Hit].contains(&layer);
-        script.fill(book.saturating_sub(script.resting + usize::from(arriving)));
+        script.fill(book.saturating_sub(script.resting + usize::from(layer.brings_an_order())));
         script.complex_book(layer);
         let prefix = script.bytes.clone();
         let before = script.messages;
@@ -118,13 +130,30 @@ impl Script {
     }
 
     fn order(&mut self, series: u8, side: u8, price: u32, quantity: u32) {
+        self.order_showing(series, side, price, quantity, None);
+    }
+
+    fn order_showing(
+        &mut self,
+        series: u8,
+        side: u8,
+        price: u32,
+        quantity: u32,
+        shows: Option<u32>,
+    ) {
         self.last += 1;
         self.send(Message::Order {
             id: self.last,
             leg: Leg { series, side },
             price,
             quantity,
+            shows,
         });
+    }
+
+    /// Two offers that show one of two each.
+    fn offers_with_reserve(&mut self) {
+        (0..2).for_each(|_| self.order_showing(0, 1, OFFERS[0], 2, Some(1)));
     }
 
     fn rest(&mut self, series: u8, side: u8, price: u32, quantity: u32) {
@@ -166,6 +195,10 @@ impl Script {
         match layer {
             Layer::Rests => {}
             Layer::TakesTwo => (0..2).for_each(|_| self.rest(0, 1, OFFERS[0], 1)),
+            Layer::TakesReserve => {
+                self.offers_with_reserve();
+                self.resting += 2;
+            }
             Layer::Generates | Layer::Hit => self.offers(),
             Layer::Cross | Layer::CrossWithLegging => {
                 self.offers();
@@ -217,6 +250,10 @@ impl Script {
             Layer::TakesTwo => {
                 self.order(0, 0, OFFERS[0], 2);
                 (0..2).for_each(|_| self.order(0, 1, OFFERS[0], 1));
+            }
+            Layer::TakesReserve => {
+                self.order(0, 0, OFFERS[0], 4);
+                self.offers_with_reserve();
             }
             Layer::Generates => {
                 self.complex([0, 1], 0, 205, 8);
@@ -279,6 +316,8 @@ mod tests {
         for book in [8, 32, 128] {
             assert_eq!(kinds(Layer::Rests, book), [64, 64, 71]);
             assert_eq!(kinds(Layer::TakesTwo, book), [64, 65, 65, 64, 64]);
+            let reserve = [64, 65, 65, 65, 65, 64, 64];
+            assert_eq!(kinds(Layer::TakesReserve, book), reserve);
             assert_eq!(kinds(Layer::Generates, book), [64, 67, 67, 64, 71, 68, 68]);
             let hit = [64, 67, 67, 64, 65, 65, 66, 68, 68];
             assert_eq!(kinds(Layer::Hit, book), hit);

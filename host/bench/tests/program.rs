@@ -19,15 +19,15 @@ fn bench(arguments: &[&str]) -> (bool, String, String) {
 fn every_table_has_its_rows() {
     let sizes = ["--rounds", "1", "--seeds", "1", "--sessions", "2"];
     for (table, rows) in [
-        ("profiles", 14),
-        ("blocks", 14),
+        ("profiles", 15),
+        ("blocks", 15),
         ("growing", 4),
         ("books", 8),
-        ("layers", 27),
-        ("feeds", 14),
-        ("calls", 14),
-        ("call-layers", 27),
-        ("turns", 14),
+        ("layers", 30),
+        ("feeds", 15),
+        ("calls", 15),
+        ("call-layers", 30),
+        ("turns", 15),
     ] {
         let (succeeded, told, error) = bench(&[&[table], &sizes[..]].concat());
         assert!(succeeded, "{error}");

@@ -20,6 +20,7 @@ pub enum Check {
     CallVenue,
     CallVenueLength,
     CallEditions,
+    CallReserve,
     Settings,
     LayerFresh,
     Arrive,
@@ -32,7 +33,7 @@ pub enum Check {
 }
 
 impl Check {
-    pub const ALL: [Check; 26] = [
+    pub const ALL: [Check; 27] = [
         Check::RunWhole,
         Check::RunShort,
         Check::RunEveryLength,
@@ -50,6 +51,7 @@ impl Check {
         Check::CallVenue,
         Check::CallVenueLength,
         Check::CallEditions,
+        Check::CallReserve,
         Check::Settings,
         Check::LayerFresh,
         Check::Arrive,
@@ -80,6 +82,7 @@ impl Check {
             Check::CallVenue => "call-venue",
             Check::CallVenueLength => "call-venue-length",
             Check::CallEditions => "call-editions",
+            Check::CallReserve => "call-reserve",
             Check::Settings => "settings",
             Check::LayerFresh => "layer-fresh",
             Check::Arrive => "arrive",
@@ -113,6 +116,9 @@ impl Check {
             Check::CallVenueLength => "a one-message call upon venue memory of another length",
             Check::CallEditions => {
                 "a one-message call upon a broken row of editions, or with a number about the last"
+            }
+            Check::CallReserve => {
+                "a one-message call upon orders that show otherwise, or another part of them"
             }
             Check::Settings => "the settings of a venue at a message number",
             Check::LayerFresh => "a fresh layer, in layer memory of any length",

@@ -24,14 +24,14 @@ bytes; over two lines, with messages lost, cut, doubled, swapped and spoiled; an
 message by message, the first upon a fresh venue and each other upon the venue that
 the last one left, with calls beside them upon short memory, the last message numbers,
 torn bytes, changed venues and venue memory of other lengths, upon rows of editions
-broken in every way, with numbers about the last edition's; and the settings about
-each edition. Four sessions arrive at four venues behind one line and are done by
-turns, with calls beside them upon short memory, changed layers and layer memory of
-other lengths. Compared are the number, every byte of the report or settings memory
-(lent full of junk), of the venue, the layer and the lines, and the bytes around them.
-The first difference ends it with exit status 1, and names what repeats it. A soak
-tries report memory that ends near one in ten messages' records; the others try all of
-them.
+broken in every way, with numbers about the last edition's, upon orders that show
+otherwise in every way or another part of them; and the settings about each edition.
+Four sessions arrive at four venues behind one line and are done by turns, with calls
+beside them upon short memory, changed layers and layer memory of other lengths.
+Compared are the number, every byte of the report or settings memory (lent full of
+junk), of the venue, the layer and the lines, and the bytes around them. The first
+difference ends it with exit status 1, and names what repeats it. A soak tries report
+memory that ends near one in ten messages' records; the others try all of them.
 ";
 
 /// When to stop.

@@ -3,7 +3,7 @@
 use crate::calls::{Comparer, Expected};
 use crate::check::Check;
 use crate::layers::compare_layer;
-use sessions::broken::{broken_rows, with_editions};
+use sessions::broken::{broken_orders, broken_rows, with_editions, with_reserve};
 use sessions::corrupt::corrupt;
 use sessions::feed_generator::draw_feed;
 use sessions::generator::Generator;
@@ -19,6 +19,8 @@ const ROOM: usize = 16_384;
 
 /// Eight increments and the percentage.
 const SETTINGS_BYTES: usize = 9;
+
+const SWEEP: [u8; 4] = [4, 0, 6, 0];
 
 /// A difference, with what repeats it.
 #[derive(Clone, Debug)]
@@ -292,13 +294,14 @@ impl Session<'_, '_> {
 
     /// Calls that leave the session as it is.
     fn beside(&mut self, venue: &[u8], before: u32, message: &[u8]) -> Checked {
-        match self.random().below(7) {
+        match self.random().below(8) {
             0 => self.short_calls(venue, before, message),
             1 => self.last_numbers(venue, message),
             2 => self.odd_bytes(venue, before, message),
             3 => self.venue_lengths(venue, before, message),
             4 => self.editions(venue, message),
             5 => self.settings_about(venue, before),
+            6 => self.reserve(venue, before, message),
             _ => self.changed_venues(venue, before, message),
         }
     }
@@ -372,6 +375,28 @@ impl Session<'_, '_> {
             .chain([u32::MAX])
         {
             self.call(Check::CallEditions, &longer, before, message, ROOM)?;
+        }
+        Ok(())
+    }
+
+    /// Orders of which every field of what they show is broken; and the same orders
+    /// with other parts of them shown, upon which the message is done, and a sweep.
+    fn reserve(&mut self, venue: &[u8], before: u32, message: &[u8]) -> Checked {
+        let Ok(held) = <&[u8; VENUE_BYTES]>::try_from(venue) else {
+            return Ok(());
+        };
+        let held = from_bytes(held);
+        let at = self.random().below(128) as usize;
+        for (name, broken) in broken_orders(&held, at) {
+            let broken = to_bytes(&broken);
+            self.call(Check::CallReserve, &broken, before, message, ROOM)
+                .map_err(|(check, what)| (check, format!("{name}: {what}")))?;
+        }
+        for at in at..at + 4 {
+            let venue = to_bytes(&with_reserve(&held, at));
+            let done = self.call(Check::CallReserve, &venue, before, message, ROOM)?;
+            let next = before.saturating_add(done.done);
+            self.call(Check::CallReserve, &done.venue, next, &SWEEP, ROOM)?;
         }
         Ok(())
     }
