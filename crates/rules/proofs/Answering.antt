@@ -59,7 +59,7 @@ pub record Told (v : Venue) (n : ℕ) (bs : List ℕ) : Type 0 where
   pub ranged : Ranged (step v n bs .effect .venue)
   pub fits : FourBytes n → ForAll Fits (step v n bs .effect .reports)
 
-told-of : (n x : ℕ) (e : Effect) → x ≤ 13 → Writes e → FourBytes n → ForAll Fits (answered n x e .effect .reports)
+told-of : (n x : ℕ) (e : Effect) → x ≤ 14 → Writes e → FourBytes n → ForAll Fits (answered n x e .effect .reports)
 unfolding answered
 told-of n x e s w h =
     ((h, omega arith, mask-fits (e .venue .legging) (w .ranged .len), count-fits (e .venue .legging) (w .ranged .len)), w .fits)

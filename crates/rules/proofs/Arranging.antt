@@ -155,7 +155,9 @@ blank-isC x z =
     let f = eqb-true (x .class) 0 (search (and-l, and-r, z) depth 12) in
     let g = zero-abs (x .limit) (eqb-true (natAbs (x .limit)) 0 (search (and-l, and-r, z) depth 12)) in
     let h = eqb-true (x .quantity) 0 (search (and-l, and-r, z) depth 12) in
-    rw (a, b, c, d, e, f, g, h)
+    let i = eqb-true (x .ratio1) 0 (search (and-l, and-r, z) depth 12) in
+    let j = eqb-true (x .ratio2) 0 (search (and-l, and-r, z) depth 12) in
+    rw (a, b, c, d, e, f, g, h, i, j)
 
 pub blank-free : (o : Regular) → blankRegular o ≡ true → held (o .quantity) ≡ false
 blank-free o z = rw (blank-is o z)

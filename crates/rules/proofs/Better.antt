@@ -99,6 +99,23 @@ better-total d a b h k = go (eqb d buy) (λ x. true≢false (sym (better-in d a 
           | no p ↦ elim (decLt 0 b) [ yes q ↦ absurd (k (q, λ z. absurd (z (omega arith)))) | no q ↦ omega arith ]
         ]
 
+-- any price is better than none, and of two prices neither of which is better both are the same
+pub better-none : (d p : ℕ) → 0 < p → better d p 0 ≡ true
+unfolding Better
+better-none d p h = better-in d p 0 (go (eqb d buy))
+  where
+    go : (t : Bool) → Better t p 0
+    go true = h
+    go false = (h, λ n. absurd (n refl))
+
+pub better-same : (d p q : ℕ) → 0 < p → 0 < q → (better d p q ≡ true → ⊥) → (better d q p ≡ true → ⊥) → p ≡ q
+unfolding Better
+better-same d p q hp hq a b = go (eqb d buy) (λ x. a (better-in d p q x)) (λ x. b (better-in d q p x))
+  where
+    go : (t : Bool) → (Better t p q → ⊥) → (Better t q p → ⊥) → p ≡ q
+    go true a b = elim (decLt q p) [ yes h ↦ absurd (a h) | no h ↦ elim (decLt p q) [ yes k ↦ absurd (b k) | no k ↦ omega arith ] ]
+    go false a b = elim (decLt p q) [ yes h ↦ absurd (a (hp, λ _. h)) | no h ↦ elim (decLt q p) [ yes k ↦ absurd (b (hq, λ _. k)) | no k ↦ omega arith ] ]
+
 pub is-false : (b : Bool) → (b ≡ true → ⊥) → b ≡ false
 is-false true h = absurd (h refl)
 is-false false h = refl

@@ -20,7 +20,7 @@ use Rattle.rules.specs.Records.{FourSigned}
 use Rattle.rules.specs.Prices.{away, bestIn, bestOwn, bestRegular, better, betterOf, clearPrice, displayed, inBand, marketBest, ownPrice, reaches, showsAt, taken1, taken2}
 use Rattle.rules.specs.Standing.{otherSize}
 use Rattle.rules.specs.Generation.{legPrice, newLegging, reachesAny}
-use Rattle.rules.specs.Refusals.{complexInRange}
+use Rattle.rules.specs.Refusals.{complexInRange, twoLegInRange}
 use Rattle.rules.specs.Sound.{listedInRange}
 use Rattle.rules.proofs.Editions.{dated-steps}
 use Rattle.rules.proofs.Cases.{if-by}
@@ -66,7 +66,7 @@ unfolding plus minus
 one-part (pos n) a b h = (omega arith, omega arith)
 one-part (negsuc n) a b h = (omega arith, omega arith)
 
-pub net-i32 : (d e a b : ℕ) → a ≤ 100000 → b ≤ 100000 → FourSigned (signed d (pos a) +ℤ signed e (pos b))
+pub net-i32 : (d e a b : ℕ) → a ≤ 300000 → b ≤ 300000 → FourSigned (signed d (pos a) +ℤ signed e (pos b))
 net-i32 d e a b p q =
     let x = signed d (pos a) in
     let y = signed e (pos b) in
@@ -75,7 +75,7 @@ net-i32 d e a b p q =
     let u = signed-size e b in
     small-i32 (x +ℤ y) (omega arith) (omega arith)
 
-pub neg-i32 : (z : ℤ) → plus z ≤ 200000 → minus z ≤ 200000 → FourSigned (negℤ z)
+pub neg-i32 : (z : ℤ) → plus z ≤ 600000 → minus z ≤ 600000 → FourSigned (negℤ z)
 neg-i32 z p m = small-i32 (negℤ z) (rw (neg-plus z) (omega arith)) (rw (neg-minus z) (omega arith))
 
 -- A new legging order -------------------------------------------------------------------------
@@ -153,7 +153,7 @@ price-small v c s (suc (suc d)) s8 d2 m t r = absurd (omega arith)
 -- the new order is in range
 pub new-fits : (v : Venue) (c : Complex) (s d : ℕ) → CxFits c → held (c .quantity) ≡ true → s < 8 → d < 2 → Makes v c s d → held (marketBest v s (opposite d)) ≡ true → Ranged v →
     LgFits (newLegging v c s d)
-unfolding newLegging complexInRange isId isPrice isQuantity within
+unfolding newLegging complexInRange twoLegInRange isId isPrice isQuantity within
 new-fits v c s d f h s8 d2 m t r =
     let z = f .ok h in
     let i1 : leb 1 (c .id) ≡ true = search (and-l, and-r, z) depth 14 in

@@ -12,18 +12,23 @@ use Rattle.rules.proofs.Message.{the-type}
 use Rattle.rules.specs.declared.Message.{Message}
 use Rattle.rules.specs.declared.Message.the-variants.{Order, TwoLeg, Cancel, Away, Status, Sweep, Increment, Percent}
 use Rattle.rules.specs.Base.{if_then_else_}
-use Rattle.rules.specs.Bytes.{bytes, framed, kindField, u16At, u32, u8At}
-use Rattle.rules.specs.Messages.{lengthOf, messageForm, orderFields, encodeMessage, KindLengths}
+use Rattle.rules.specs.Words.{oneToOne}
+use Rattle.rules.specs.Bytes.{bytes, framed, kindField, u16At, u32, u8, u8At}
+use Rattle.rules.specs.Messages.{lengthOf, messageForm, orderFields, twoLegFields, encodeMessage, KindLengths}
 
 pub kind-lengths : KindLengths
-unfolding lengthOf encodeMessage orderFields framed bytes kindField u16At u8At
+unfolding lengthOf encodeMessage orderFields twoLegFields framed bytes kindField u16At u8At
 kind-lengths (Order o) = go (eqb (o .display) (o .quantity))
   where
     -- either kind
     go : (b : Bool) → let bs = if b then framed 1 (orderFields o) else framed 9 (orderFields o ++ u32 (o .display)) in length bs ≡ lengthOf (kindField bs)
     go true = refl
     go false = refl
-kind-lengths (TwoLeg c) = refl
+kind-lengths (TwoLeg c) = go (oneToOne c)
+  where
+    go : (b : Bool) → let bs = if b then framed 2 (twoLegFields c) else framed 10 (twoLegFields c ++ u8 (c .ratio1) ++ u8 (c .ratio2)) in length bs ≡ lengthOf (kindField bs)
+    go true = refl
+    go false = refl
 kind-lengths (Cancel id) = refl
 kind-lengths (Away s bid offer) = refl
 kind-lengths (Status s x) = refl

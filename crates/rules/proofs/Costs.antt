@@ -1,18 +1,24 @@
--- What each effect costs, at its rates: nothing, but for the trades and the pair of a hit, a new order's own worth, and what is generated.
-use mathlib.Core.Path.{_∙_, _≡_, ap, refl, subst}
+-- What each effect costs, at its rates: nothing, but for the trades and the pair of a hit or of an order's last round of legging in, a new order's own worth,
+-- and what is generated.
+use mathlib.Core.Path.{_∙_, _≡_, ap, refl, subst, sym}
+use mathlib.Core.Bool.{Bool, true, false, _&&_}
 use mathlib.Core.Logic.{_≢_}
 use mathlib.Core.List.{List}
-use Prim.Native.Nat.{ℕ, zero, suc, _+_, _≤_, _<_, min}
+use Prim.Native.Nat.{ℕ, zero, suc, _+_, _*_, _/_, _≤_, _<_, min}
 use native.Mathlib.Omega.{arith}
 use native.Mathlib.Decide.{decLe}
+use native.Mathlib.Nat.{div-one}
+use lib.Dec.{eqb}
 use lib.IntN.{ℤ}
 use lib.ListN.{getD}
+use borrow.Author.Tests.{eqb-true}
 use Rattle.rules.specs.declared.Complex.{Complex}
 use Rattle.rules.specs.declared.Legging.{Legging}
 use Rattle.rules.specs.declared.Venue.{Venue}
 use Rattle.rules.specs.declared.Cause.{Cause}
 use Rattle.rules.specs.declared.Cause.the-variants.{Executed}
-use Rattle.rules.specs.Words.{opposite, noComplex, regularAt, complexAt}
+use Rattle.rules.specs.Base.{held, if_then_else_}
+use Rattle.rules.specs.Words.{opposite, noComplex, oneToOne, regularAt, complexAt}
 use Rattle.rules.specs.Prices.{bestRegular, bestSize, sizeIn, net}
 use Rattle.rules.specs.Records.{Report, trade, pair, crossed}
 use Rattle.rules.specs.Effects.{Effect, nothing, report, _⟫_, Turn, ended, turned, repeat}
@@ -20,16 +26,22 @@ use Rattle.rules.specs.Removal.{remove, removeOf}
 use Rattle.rules.specs.Standing.{settle}
 use Rattle.rules.specs.Trading.{fillRegular, fillComplex, take, pairOff}
 use Rattle.rules.specs.Order.{atOnce, meet, hit}
-use Rattle.rules.specs.Complex.{crosses, cross, crossTurn, touches, touch, legsIn, legIn, legInTurn, anyClosed, work, each}
+use Rattle.rules.specs.Complex.{crosses, cross, crossTurn, touches, touch, legsIn, legIn, unitsIn, legInTurn, anyClosed, work, each}
 use Rattle.rules.proofs.Tests.{and-l, and-r, held-pos}
 use Rattle.rules.proofs.Picking.{At}
-use Rattle.rules.specs.Lengths.{recordLength, perRegular}
-use Rattle.rules.proofs.Summing.{due-held}
-use Rattle.rules.proofs.Worth.{worth, fill-le, fills-free, fillC-le, fillC-frees, fillsC-free, spent, spent-nothing, spent-report, spent-then, spent-remove, spent-lower, spent-settle}
+use Rattle.rules.specs.Lengths.{recordLength, perRound, perRegular}
+use Rattle.rules.proofs.Summing.{sum, due-held}
+use Rattle.rules.proofs.Above.{above, above-fewer, next-above}
+use Rattle.rules.proofs.Worth.{worth, fill-le, fills-free, fillC-le, even-frees, fillsC-free, spent, spent-nothing, spent-report, spent-then, spent-remove, spent-lower, spent-settle}
 use Rattle.rules.proofs.Sizes.{best-some}
-use Rattle.rules.proofs.Taking.{chain-apart, chain-elsewhere, take-chain}
+use Rattle.rules.proofs.Taking.{chain-elsewhere, take-chain}
 use Rattle.rules.proofs.Cases.{crossTurn-by, each-by, if-by, repeat-by}
-use Rattle.rules.proofs.Ending.{legs-facts}
+use Rattle.rules.proofs.Ending.{legs-facts, units-some}
+use Rattle.rules.proofs.Filling.{FewerC, SameLegs, cx, fewerC-refl, fill-fewerC, still-heldC}
+use Rattle.rules.proofs.Keeping.{keeps-crossing, keeps-touch}
+use Rattle.rules.proofs.Pairing.{legIn-filled}
+use Rattle.rules.proofs.Stopping.{all-in, stops}
+use Rattle.rules.proofs.Sweeping.{fewer-lasts, work-fewer}
 use Rattle.rules.proofs.Spending.{spare, trade-spent, take-cheap, take-clears}
 
 -- c bytes more than the venue was worth
@@ -129,6 +141,42 @@ pub costs-touch : (i : ℕ) (v : Venue) → Works 0 v (touch i v)
 unfolding touch
 costs-touch i v = if-by (Works 0 v) (touches v (complexAt v i)) (λ _. costs-remove _ _ _ v) (λ _. costs-nothing _ _ v)
 
+-- what an order's last round of legging in may cost: of one that is one to one each round pays for itself
+unfoldable pub share : Complex → ℕ
+share c = if oneToOne c then 0 else perRound
+
+pub share-most : (c : Complex) → share c ≤ perRound
+unfolding share
+share-most c = go (oneToOne c)
+  where
+    go : (b : Bool) → (if b then 0 else perRound) ≤ perRound
+    go true = omega arith
+    go false = omega arith
+
+pub share-same : {c e : Complex} → SameLegs c e → share c ≡ share e
+unfolding share oneToOne
+share-same l = rw (l .ratio1, l .ratio2)
+
+-- what the next round may cost yet
+unfoldable ahead : (i : ℕ) → Venue → ℕ
+ahead i v = elim (legInTurn i v) as (λ _. ℕ) [ ended ↦ 0 | turned e ↦ share (complexAt v i) ]
+
+ahead-most : (i : ℕ) (v : Venue) → ahead i v ≤ share (complexAt v i)
+unfolding ahead
+ahead-most i v = go (legInTurn i v)
+  where
+    go : (t : Turn) → (elim t as (λ _. ℕ) [ ended ↦ 0 | turned e ↦ share (complexAt v i) ]) ≤ share (complexAt v i)
+    go ended = omega arith
+    go (turned e) = omega arith
+
+ahead-none : (i : ℕ) (v : Venue) → legInTurn i v ≡ ended → ahead i v ≡ 0
+unfolding ahead
+ahead-none i v e = rw (e, ahead)
+
+ahead-some : (i : ℕ) (v : Venue) (g : Effect) → legInTurn i v ≡ turned g → ahead i v ≡ share (complexAt v i)
+unfolding ahead
+ahead-some i v g e = rw (e, ahead)
+
 -- a round of legging in
 module _ (i : ℕ) (v : Venue) where
   abbrev c : Complex
@@ -146,11 +194,12 @@ module _ (i : ℕ) (v : Venue) where
   abbrev size2 : ℕ
   size2 = bestSize v (c .series2) (opposite (c .side2))
 
+  -- the contracts of each leg for k units
   abbrev first-leg : (k : ℕ) → Effect
-  first-leg k = take k (c .id) (c .series1) (c .side1) a k v
+  first-leg k = take (c .ratio1 * k) (c .id) (c .series1) (c .side1) a (c .ratio1 * k) v
 
   abbrev second-leg : (k : ℕ) → Effect
-  second-leg k = take k (c .id) (c .series2) (c .side2) b k (first-leg k .venue)
+  second-leg k = take (c .ratio2 * k) (c .id) (c .series2) (c .side2) b (c .ratio2 * k) (first-leg k .venue)
 
   abbrev paid : Effect → ℕ
   paid = spent perRegular 0
@@ -163,50 +212,80 @@ module _ (i : ℕ) (v : Venue) where
       paid (first-leg k) + paid (second-leg k) + (16 + worths (fillComplex i k (second-leg k .venue)))
   unfolding legIn _⟫_
   legIn-spent k =
-      let x = spent-then perRegular 0 (first-leg k) (take k (c .id) (c .series2) (c .side2) b k) in
-      let y = spent-then perRegular 0 (first-leg k ⟫ take k (c .id) (c .series2) (c .side2) b k) (pairOff i (c .id) (net c a b) k) in
+      let x = spent-then perRegular 0 (first-leg k) (take (c .ratio2 * k) (c .id) (c .series2) (c .side2) b (c .ratio2 * k)) in
+      let y = spent-then perRegular 0 (first-leg k ⟫ take (c .ratio2 * k) (c .id) (c .series2) (c .side2) b (c .ratio2 * k)) (pairOff i (c .id) (net c a b) k) in
       let z = pair-spent perRegular 0 i (c .id) (net c a b) k (second-leg k .venue) in
       omega arith
 
   -- taking leaves the complex orders as they were
-  same-complex : (k : ℕ) → complexAt (second-leg k .venue) i .quantity ≡ c .quantity
+  same-complex : (k : ℕ) → complexAt (second-leg k .venue) i ≡ c
   unfolding complexAt
   same-complex k =
-      let x = chain-elsewhere (take-chain (c .id) (c .series1) (c .side1) a k k v) .complex in
-      let y = chain-elsewhere (take-chain (c .id) (c .series2) (c .side2) b k k (first-leg k .venue)) .complex in
-      ap (λ (l : List Complex). getD l i noComplex .quantity) (y ∙ x)
+      let x = chain-elsewhere (take-chain (c .id) (c .series1) (c .side1) a (c .ratio1 * k) (c .ratio1 * k) v) .complex in
+      let y = chain-elsewhere (take-chain (c .id) (c .series2) (c .side2) b (c .ratio2 * k) (c .ratio2 * k) (first-leg k .venue)) .complex in
+      ap (λ (l : List Complex). getD l i noComplex) (y ∙ x)
 
-  -- and the second leg's level, unless it is the first leg's too
-  same-size : (k : ℕ) → (size1 ≡ size2 → ⊥) → sizeIn (c .series2) (opposite (c .side2)) b (first-leg k .venue .regular) ≡ size2
+  -- and the second leg's level, in another series
+  same-size : (k : ℕ) → c .series1 ≢ c .series2 → sizeIn (c .series2) (opposite (c .side2)) b (first-leg k .venue .regular) ≡ size2
   unfolding bestSize
-  same-size k n =
-      chain-apart (c .series2) (opposite (c .side2)) b (λ (x : c .series1 ≡ c .series2) (y : opposite (c .side1) ≡ opposite (c .side2)) (z : a ≡ b). n cc) (take-chain (c .id) (c .series1) (c .side1) a k k v)
+  same-size k ne = chain-elsewhere (take-chain (c .id) (c .series1) (c .side1) a (c .ratio1 * k) (c .ratio1 * k) v) .size (c .series2) (opposite (c .side2)) b ne
 
-  costs-legIn : (k : ℕ) → k ≡ min (c .quantity) (min size1 size2) → 0 < c .quantity → 0 < size1 → 0 < size2 → Works 0 v (legIn i a b k v)
-  unfolding Costs bestSize
-  costs-legIn k e p q r = go (decLe (c .quantity) k) (decLe size1 k)
+  -- one to one, a round uses up the order or all of a level
+  even-uses : oneToOne c ≡ true → unitsIn v c < c .quantity → c .ratio1 * unitsIn v c < size1 → c .ratio2 * unitsIn v c < size2 → ⊥
+  unfolding oneToOne unitsIn
+  even-uses e part more1 more2 = go (c .ratio1) (c .ratio2) (eqb-true _ 1 (and-l _ _ e)) (eqb-true _ 1 (and-r (eqb (c .ratio1) 1) _ e)) part more1 more2
     where
+      go : (r s : ℕ) → r ≡ 1 → s ≡ 1 → let k = min (c .quantity) (min (size1 / r) (size2 / s)) in k < c .quantity → r * k < size1 → s * k < size2 → ⊥
+      go r s x y = rw (x, y, div-one size1, div-one size2) (λ p q t. omega arith)
+
+  -- A round for the units that are filled pays for itself where it frees an order that is one to one or empties a level; else it costs its two last trades
+  -- and its pair, and is the last one.
+  legIn-round : c .series1 ≢ c .series2 → held (c .quantity) ≡ true → held a ≡ true → held b ≡ true → 0 < unitsIn v c →
+      paid (legIn i a b (unitsIn v c) v) + ahead i (legIn i a b (unitsIn v c) v .venue) ≤ worths v + share c
+  unfolding bestSize bestRegular complexAt
+  legIn-round ne h ha hb some = go (oneToOne c) refl (decLe (c .quantity) k) (decLe size1 (c .ratio1 * k)) (decLe size2 (c .ratio2 * k))
+    where
+      k : ℕ
+      k = unitsIn v c
+
       x1 : paid (first-leg k) ≤ worths v + 22
-      x1 = take-cheap perRegular 0 (omega arith) (c .id) (c .series1) (c .side1) a k k v
+      x1 = take-cheap perRegular 0 (omega arith) (c .id) (c .series1) (c .side1) a (c .ratio1 * k) (c .ratio1 * k) v
 
       x2 : paid (second-leg k) ≤ worths (first-leg k .venue) + 22
-      x2 = take-cheap perRegular 0 (omega arith) (c .id) (c .series2) (c .side2) b k k (first-leg k .venue)
+      x2 = take-cheap perRegular 0 (omega arith) (c .id) (c .series2) (c .side2) b (c .ratio2 * k) (c .ratio2 * k) (first-leg k .venue)
 
       z : worths (fillComplex i k (second-leg k .venue)) ≤ worths (second-leg k .venue)
       z = fillC-le perRegular 0 i k (second-leg k .venue)
 
-      go : Dec (c .quantity ≤ k) → Dec (size1 ≤ k) → paid (legIn i a b k v) ≤ worths v + 0
-      go (yes whole) y =
+      more : ahead i (legIn i a b k v .venue) ≤ share c
+      more =
+          let x = ahead-most i (legIn i a b k v .venue) in
+          let f : FewerC (legIn i a b k v .venue .complex) (v .complex) = rw (legIn-filled v i a b k) (fill-fewerC i k v) in
+          omega (arith, share-same (f .lesser i .legs))
+
+      last : legInTurn i (legIn i a b k v .venue) ≡ ended → oneToOne c ≡ false → paid (legIn i a b k v) + ahead i (legIn i a b k v .venue) ≤ worths v + share c
+      last e odd =
+          let n = ahead-none i _ e in
+          let s : share c ≡ perRound = unfold share in (rw odd) in
+          omega (arith, legIn-spent k, x1, x2, z)
+
+      go : (t : Bool) → oneToOne c ≡ t → Dec (c .quantity ≤ k) → Dec (size1 ≤ c .ratio1 * k) → Dec (size2 ≤ c .ratio2 * k) →
+          paid (legIn i a b k v) + ahead i (legIn i a b k v .venue) ≤ worths v + share c
+      go true e (yes whole) y1 y2 =
           let s = same-complex k in
-          let f = fillC-frees perRegular 0 i k (second-leg k .venue) (omega arith) (omega arith) in
-          omega (arith, legIn-spent k, x1, x2)
-      go (no part) (yes all) =
-          let f = take-clears perRegular 0 (omega arith) (c .id) (c .series1) (c .side1) a k k v all (omega arith) in
-          omega (arith, legIn-spent k, x2, z, due-held spare size1 q)
-      go (no part) (no more) =
-          let s = same-size k (λ same. omega arith) in
-          let f = take-clears perRegular 0 (omega arith) (c .id) (c .series2) (c .side2) b k k (first-leg k .venue) (omega arith) (omega arith) in
-          omega (arith, legIn-spent k, x1, z, due-held spare (sizeIn (c .series2) (opposite (c .side2)) b (first-leg k .venue .regular)) (omega arith))
+          let q = held-pos (c .quantity) h in
+          let f = even-frees perRegular 0 i k (second-leg k .venue) (rw s e) (rw s q) (rw s whole) in
+          omega (arith, legIn-spent k, x1, x2, more)
+      go false e (yes whole) y1 y2 = last (all-in i v h whole) e
+      go _ _ (no part) (yes all) y2 =
+          let f = take-clears perRegular 0 (omega arith) (c .id) (c .series1) (c .side1) a (c .ratio1 * k) (c .ratio1 * k) v all (omega arith) in
+          omega (arith, legIn-spent k, x2, z, due-held spare size1 (best-some v _ _ ha), more)
+      go _ _ (no part) (no more1) (yes all) =
+          let s = same-size k ne in
+          let f = take-clears perRegular 0 (omega arith) (c .id) (c .series2) (c .side2) b (c .ratio2 * k) (c .ratio2 * k) (first-leg k .venue) (omega arith) (omega arith) in
+          omega (arith, legIn-spent k, x1, z, due-held spare (sizeIn (c .series2) (opposite (c .side2)) b (first-leg k .venue .regular)) (omega (arith, best-some v _ _ hb)), more)
+      go true e (no part) (no more1) (no more2) = absurd (even-uses e (omega arith) (omega arith) (omega arith))
+      go false e (no part) (no more1) (no more2) = last (stops i v h ne ha hb some (omega arith) (omega arith) (omega arith)) e
 
 -- Loops ---------------------------------------------------------------------------------------
 
@@ -250,24 +329,65 @@ crossTurn-free i v =
     crossTurn-by (Free v) i v (λ _. tt) (λ _ _. tt)
     (λ h j m a. let z = crossing-some i v j m a in costs-cross i j _ v (held-pos (complexAt v i .quantity) h) (omega arith) (omega arith))
 
-legInTurn-free : (i : ℕ) (v : Venue) → Free v (legInTurn i v)
+-- a resting order has its legs in two series
+unfoldable pub Apart : (i : ℕ) → Venue → Type 0
+Apart i v = held (cx v i .quantity) ≡ true → cx v i .series1 ≢ cx v i .series2
+
+pub apart-fewer : (i : ℕ) (v w : Venue) → FewerC (w .complex) (v .complex) → Apart i v → Apart i w
+unfolding Apart
+apart-fewer i v w f two h = let l = f .lesser i in λ e. two (still-heldC l h) (sym (l .legs .series1) ∙ e ∙ l .legs .series2)
+
+abbrev Round : (i : ℕ) → Venue → Turn → Type 0
+Round i v ended = Unit {0}
+Round i v (turned e) = Apart i (e .venue) × (spent perRegular 0 e + ahead i (e .venue) ≤ worth perRegular 0 v + share (complexAt v i))
+
+legInTurn-round : (i : ℕ) (v : Venue) → Apart i v → Round i v (legInTurn i v)
 unfolding legInTurn
-legInTurn-free i v =
-    if-by (Free v) (legsIn v (complexAt v i) (a i v) (b i v))
+legInTurn-round i v two =
+    let c = complexAt v i in
+    if-by (Round i v) (legsIn v c (a i v) (b i v) && held (unitsIn v c))
     (λ e.
-    let h = legs-facts v (complexAt v i) (a i v) (b i v) e in
-    costs-legIn i v _ refl (held-pos (complexAt v i .quantity) (h .0)) (best-some v _ _ (h .1)) (best-some v _ _ (h .2)))
+    let h = legs-facts v c (a i v) (b i v) (and-l _ (held (unitsIn v c)) e) in (
+      apart-fewer i v _ (rw (legIn-filled v i (a i v) (b i v) (unitsIn v c)) (fill-fewerC i (unitsIn v c) v)) two,
+      legIn-round i v (unfold Apart complexAt in (two (h .0))) (h .0) (h .1) (h .2) (units-some v c (a i v) (b i v) e),
+    ))
     (λ _. tt)
 
-pub costs-work : (i : ℕ) (v : Venue) → Works 0 v (work i v)
-unfolding work
-costs-work i v =
-    let n = complexAt v i .quantity in
-    if-by (Works 0 v) (anyClosed v (complexAt v i)) (λ _. costs-nothing _ _ v)
-    (λ _. costs-then _ _ 0 0 v _ _ (costs-then _ _ 0 0 v _ _ (repeat-free (crossTurn i) (crossTurn-free i) n v) (costs-touch i _)) (repeat-free (legInTurn i) (legInTurn-free i) n _))
+legging-costs : (i fuel : ℕ) (v : Venue) → Apart i v → Works (share (complexAt v i)) v (repeat fuel (legInTurn i) v)
+unfolding Costs
+legging-costs i fuel v two =
+    let z = ahead-most i v in
+    omega (arith, repeat-costs perRegular 0 (Apart i) (ahead i) (legInTurn i) (λ w x. go w (legInTurn i w) refl (legInTurn-round i w x)) fuel v two)
+  where
+    go : (w : Venue) (t : Turn) → legInTurn i w ≡ t → Round i w t → Turned perRegular 0 (Apart i) (ahead i) w t
+    go w ended e h = tt
+    go w (turned g) e h = (h .0, (let x = h .1 in omega (arith, ahead-some i w g e)))
 
--- f for each resting order of a sweep
-pub costs-each : (f : ℕ → Venue → Effect) → ((i : ℕ) (v : Venue) → Works 0 v (f i v)) → (fuel id : ℕ) (v : Venue) → Works 0 v (each fuel f id v)
-costs-each f ok zero id v = unfold each in (costs-nothing _ _ v)
-costs-each f ok (suc fuel) id v =
-    each-by (Works 0 v) fuel f id v (λ _. costs-nothing _ _ v) (λ i c _ _. costs-then _ _ 0 0 v (f i v) (each fuel f (c .id)) (ok i v) (costs-each f ok fuel (c .id) _))
+-- crossing and touching
+before-legging : (i n : ℕ) (v : Venue) → FewerC ((repeat n (crossTurn i) v ⟫ touch i) .venue .complex) (v .complex)
+unfolding _⟫_
+before-legging i n v = keeps-touch (fewer-lasts v) i _ (keeps-crossing (fewer-lasts v) i n v (fewerC-refl _))
+
+-- the work of an order: its last round of legging in may not be paid for
+pub costs-work : (i : ℕ) (v : Venue) → Apart i v → Works (share (complexAt v i)) v (work i v)
+unfolding work
+costs-work i v two =
+    let n = complexAt v i .quantity in
+    let f = before-legging i n v in
+    let same : share (complexAt ((repeat n (crossTurn i) v ⟫ touch i) .venue) i) ≡ share (complexAt v i) = unfold complexAt in (share-same (f .lesser i .legs)) in
+    if-by (Works (share (complexAt v i)) v) (anyClosed v (complexAt v i)) (λ _. costs-more _ _ 0 _ v _ (omega arith) (costs-nothing _ _ v))
+    (λ _. costs-more _ _ (0 + share (complexAt v i)) _ v _ (omega arith)
+    (costs-then _ _ 0 (share (complexAt v i)) v _ _ (costs-then _ _ 0 0 v _ _ (repeat-free (crossTurn i) (crossTurn-free i) n v) (costs-touch i _))
+    (costs-more _ _ _ _ _ _ (omega (arith, same)) (legging-costs i n _ (apart-fewer i v _ f two)))))
+
+-- the work of a sweep
+pub costs-works : (fuel id : ℕ) (v : Venue) → ((i : ℕ) → Apart i v) → Works (sum (above share id) (v .complex)) v (each fuel work id v)
+costs-works zero id v two = unfold each in (costs-more _ _ 0 _ v _ (omega arith) (costs-nothing _ _ v))
+costs-works (suc fuel) id v two =
+    each-by (Works (sum (above share id) (v .complex)) v) fuel work id v (λ _. costs-more _ _ 0 _ v _ (omega arith) (costs-nothing _ _ v))
+    (λ i c _ a.
+    let own : share (complexAt v i) ≡ share c = unfold complexAt in (ap share (a .at)) in
+    let next = next-above share id v i c a in
+    let less = above-fewer share (λ x y l. let e = share-same (l .legs) in omega arith) (c .id) (work i v .venue .complex) (v .complex) (work-fewer i v) in
+    costs-more _ _ (share (complexAt v i) + sum (above share (c .id)) (work i v .venue .complex)) (sum (above share id) (v .complex)) v _ (omega arith)
+    (costs-then _ _ _ _ v (work i v) (each fuel work (c .id)) (costs-work i v (two i)) (costs-works fuel (c .id) _ (λ j. apart-fewer j v _ (work-fewer i v) (two j)))))

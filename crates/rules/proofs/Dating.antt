@@ -27,7 +27,7 @@ use Rattle.rules.specs.Order.{enterRegular, order}
 use Rattle.rules.specs.Generation.{generate, generateLeg, make, makes, placed}
 use Rattle.rules.specs.Complex.{complex, each, sweep, work}
 use Rattle.rules.specs.Places.{arranged, blankEdition, closeGaps, holdsEdition}
-use Rattle.rules.specs.Refusals.{editionTooLow, idle, inRange, inUse, noEditionLeft, offIncrement, onIncrement}
+use Rattle.rules.specs.Refusals.{editionTooLow, idle, inUse, noEditionLeft, offIncrement, onIncrement}
 use Rattle.rules.specs.Step.{accept, answered, perform, setAway, setFigure, setStatus, step}
 use Rattle.rules.specs.Sound.{editionInRange, editionsSound, figureInRange, follows}
 use Rattle.rules.proofs.Again.{again-fewer}
@@ -39,7 +39,7 @@ use Rattle.rules.proofs.Filling.{Fewer, fill-fewer, reg, still-held}
 use Rattle.rules.proofs.Finding.{where-passes}
 use Rattle.rules.proofs.Gaps.{fr, was}
 use Rattle.rules.proofs.Keeping.{Lasts, keeps-cancel, keeps-each, keeps-matching, keeps-settle, keeps-work}
-use Rattle.rules.proofs.Refusing.{Passed, accepted}
+use Rattle.rules.proofs.Refusing.{Passed, accepted, wellFormed}
 use Rattle.rules.proofs.Tests.{and-in, and-l, and-r, pos-held}
 use Rattle.rules.proofs.Widths.{Ranged, set-each}
 
@@ -163,23 +163,23 @@ module _ (number f x e : ℕ) (v : Venue) (len : length (v .editions) ≡ 32)
       (some-above (λ k. k .message) number (v .editions) next (omega arith)) (pos-held e some-edition) refl)
 
 -- a message in range enters an edition in range
-increment-range : (v : Venue) (number s i e : ℕ) → inRange (Increment s i e) ≡ true → figureInRange (record { edition = e; message = number; figure = s; value = i }) ≡ true
-unfolding inRange isSeries within figureInRange
+increment-range : (v : Venue) (number s i e : ℕ) → wellFormed (Increment s i e) ≡ true → figureInRange (record { edition = e; message = number; figure = s; value = i }) ≡ true
+unfolding wellFormed isSeries within figureInRange
 increment-range v number s i e h =
     let a : leb s 7 ≡ true = search (and-l, and-r, h) depth 6 in
     let b : isIncrement i ≡ true = search (and-l, and-r, h) depth 6 in
     rw a b
 
-increment-edition : (v : Venue) (s i e : ℕ) → inRange (Increment s i e) ≡ true → isEdition e ≡ true
-unfolding inRange
+increment-edition : (v : Venue) (s i e : ℕ) → wellFormed (Increment s i e) ≡ true → isEdition e ≡ true
+unfolding wellFormed
 increment-edition v s i e h = and-r (isSeries s && isIncrement i) _ h
 
-percent-range : (v : Venue) (number x e : ℕ) → inRange (Percent x e) ≡ true → figureInRange (record { edition = e; message = number; figure = percentage; value = x }) ≡ true
-unfolding inRange figureInRange
+percent-range : (v : Venue) (number x e : ℕ) → wellFormed (Percent x e) ≡ true → figureInRange (record { edition = e; message = number; figure = percentage; value = x }) ≡ true
+unfolding wellFormed figureInRange
 percent-range v number x e h = and-l _ _ h
 
-percent-edition : (v : Venue) (x e : ℕ) → inRange (Percent x e) ≡ true → isEdition e ≡ true
-unfolding inRange
+percent-edition : (v : Venue) (x e : ℕ) → wellFormed (Percent x e) ≡ true → isEdition e ≡ true
+unfolding wellFormed
 percent-edition v x e h = and-r (isPercent x) _ h
 
 sound-same : (v w : Venue) → w .editions ≡ v .editions → editionsSound v ≡ true → editionsSound w ≡ true

@@ -23,7 +23,7 @@ use Rattle.rules.specs.Removal.{remove}
 use Rattle.rules.specs.Standing.{showAgain}
 use Rattle.rules.specs.Trading.{fillComplex, fillRegular, freeRegular, lessComplex, lessRegular, putRegular}
 use Rattle.rules.specs.Order.{atOnce, enterRegular, hit, isMet, leggingFirst, meet, meetTurn}
-use Rattle.rules.specs.Complex.{anyClosed, cross, crossTurn, crosses, legIn, legInTurn, legsIn, touch, work}
+use Rattle.rules.specs.Complex.{anyClosed, cross, crossTurn, crosses, legIn, legInTurn, legsIn, touch, unitsIn, work}
 use Rattle.rules.proofs.Again.{again-fewer}
 use Rattle.rules.proofs.Better.{is-false}
 use Rattle.rules.proofs.Cases.{crossTurn-by, if-by, meetTurn-by, repeat-by}
@@ -32,8 +32,9 @@ use Rattle.rules.proofs.Keeping.{Lasts, cross-from, hit-from, keeps-cro
 use Rattle.rules.proofs.Owning.{Own, byLegging, byRegular, first-held, own-is}
 use Rattle.rules.proofs.Pairing.{legIn-filled}
 use Rattle.rules.proofs.Picking.{At, Chosen}
-use Rattle.rules.proofs.Sizes.{best-some, once-some}
+use Rattle.rules.proofs.Sizes.{once-some}
 use Rattle.rules.proofs.Tests.{and-l, and-r, held-pos, pos-held}
+use Rattle.rules.proofs.Units.{units-open}
 
 -- Loops ---------------------------------------------------------------------------------------
 
@@ -251,33 +252,35 @@ pub legs-facts : (v : Venue) (c : Complex) (a b : ℕ) → legsIn v c a b ≡ tr
 unfolding legsIn
 legs-facts v c a b e = (search (and-l, and-r, e) depth 8, search (and-l, and-r, e) depth 8, search (and-l, and-r, e) depth 8)
 
+-- a step trades at least a unit
+pub units-some : (v : Venue) (c : Complex) (a b : ℕ) → (legsIn v c a b && held (unitsIn v c)) ≡ true → 0 < unitsIn v c
+units-some v c a b e = held-pos (unitsIn v c) (and-r (legsIn v c a b) (held (unitsIn v c)) e)
+
 legInTurn-less : (i : ℕ) (v : Venue) → Smaller (λ w. cx w i .quantity) v (legInTurn i v)
 unfolding legInTurn complexAt
 legInTurn-less i v =
     let c = cx v i in
-    if-by (Smaller (λ w. cx w i .quantity) v) (legsIn v c _ _)
+    if-by (Smaller (λ w. cx w i .quantity) v) (legsIn v c _ _ && held (unitsIn v c))
     (λ e.
-    let f = legs-facts v c _ _ e in
-    let x = best-some v (c .series1) (opposite (c .side1)) (f .1) in
-    let y = best-some v (c .series2) (opposite (c .side2)) (f .2) in
-    let z = held-pos (c .quantity) (f .0) in
-    rw (leg-less i _ _ _ v (f .0)) (omega arith))
+    let f = legs-facts v c _ _ (and-l (legsIn v c _ _) (held (unitsIn v c)) e) in
+    rw (leg-less i _ _ _ v (f .0)) (omega (arith, units-some v c _ _ e, units-open v c)))
     (λ _. tt)
 
 none-legs : (i : ℕ) (w : Venue) → legInTurn i w ≡ ended →
-    legsIn w (cx w i) (bestRegular w (cx w i .series1) (opposite (cx w i .side1))) (bestRegular w (cx w i .series2) (opposite (cx w i .side2))) ≡ false
+    (legsIn w (cx w i) (bestRegular w (cx w i .series1) (opposite (cx w i .side1))) (bestRegular w (cx w i .series2) (opposite (cx w i .side2)))
+    && held (unitsIn w (cx w i))) ≡ false
 unfolding legInTurn complexAt
 none-legs i w =
     let c = cx w i in
     let a = bestRegular w (c .series1) (opposite (c .side1)) in
     let b = bestRegular w (c .series2) (opposite (c .side2)) in
-    if-by (λ t. t ≡ ended → legsIn w c a b ≡ false) (legsIn w c a b) (λ _ e. turned-not e) (λ f _. f)
+    if-by (λ t. t ≡ ended → (legsIn w c a b && held (unitsIn w c)) ≡ false) (legsIn w c a b && held (unitsIn w c)) (λ _ e. turned-not e) (λ f _. f)
 
--- "Then leg in: while best regular prices net ≤ N and in band": after that nothing is open, or they no longer do
+-- "Then leg in: while best regular prices net ≤ N and in band": after that nothing is open, or they no longer do, or their sizes fill no unit
 pub after-legging-in : (i : ℕ) (v : Venue) → anyClosed v (complexAt v i) ≡ false →
     let w = work i v .venue in
     let c = complexAt w i in
-    legsIn w c (bestRegular w (c .series1) (opposite (c .side1))) (bestRegular w (c .series2) (opposite (c .side2))) ≡ false
+    (legsIn w c (bestRegular w (c .series1) (opposite (c .side1))) (bestRegular w (c .series2) (opposite (c .side2))) && held (unitsIn w c)) ≡ false
 unfolding work complexAt _⟫_
 after-legging-in i v h = rw h (none-legs i _ (repeat-ends (λ w. cx w i .quantity) (legInTurn i) (legInTurn-less i) n _ small))
   where

@@ -13,7 +13,6 @@ use Rattle.rules.specs.declared.Regular.{Regular}
 use Rattle.rules.specs.declared.Venue.{Venue}
 use Rattle.rules.specs.Base.{held}
 use Rattle.rules.specs.Words.{complexAt, noComplex, noLegging, noRegular, regularAt, withComplex, withRegular}
-use Rattle.rules.specs.Prices.{ratio1, ratio2}
 use Rattle.rules.specs.Trading.{fillComplex, fillRegular, lessComplex, lessRegular}
 use Rattle.rules.proofs.Tests.{held-pos, pos-held}
 
@@ -106,8 +105,8 @@ pub record SameLegs (a b : Complex) : Type 0 where
   pub side1 : a .side1 ≡ b .side1
   pub series2 : a .series2 ≡ b .series2
   pub side2 : a .side2 ≡ b .side2
-  pub ratio1 : ratio1 a ≡ ratio1 b
-  pub ratio2 : ratio2 a ≡ ratio2 b
+  pub ratio1 : a .ratio1 ≡ b .ratio1
+  pub ratio2 : a .ratio2 ≡ b .ratio2
 
 pub same-legs : {a b : Complex} → a ≡ b → SameLegs a b
 same-legs e = record {
@@ -115,8 +114,8 @@ same-legs e = record {
   side1 = ap (λ (c : Complex). c .side1) e;
   series2 = ap (λ (c : Complex). c .series2) e;
   side2 = ap (λ (c : Complex). c .side2) e;
-  ratio1 = ap ratio1 e;
-  ratio2 = ap ratio2 e;
+  ratio1 = ap (λ (c : Complex). c .ratio1) e;
+  ratio2 = ap (λ (c : Complex). c .ratio2) e;
 }
 
 pub legs-trans : {a b c : Complex} → SameLegs a b → SameLegs b c → SameLegs a c
@@ -150,7 +149,7 @@ pub fewerC-trans : {a b c : List Complex} → FewerC a b → FewerC b c → Fewe
 fewerC-trans = placewise-trans noComplex LesserC (λ _ _ _. lesserC-trans)
 
 pub less-lesserC : (k : ℕ) (c : Complex) → LesserC (lessComplex k c) c
-unfolding lessComplex ratio1 ratio2
+unfolding lessComplex
 less-lesserC k c = record {
   id = refl;
   legs = record { series1 = refl; side1 = refl; series2 = refl; side2 = refl; ratio1 = refl; ratio2 = refl };

@@ -1,6 +1,6 @@
 -- The message in front: what comes after a message that is not torn is not read.
 use mathlib.Core.Path.{_≡_, refl, sym, ap, _∙_}
-use mathlib.Core.Bool.{Bool, true, false, not}
+use mathlib.Core.Bool.{Bool, true, false, not, _&&_}
 use mathlib.Core.List.{List, _++_}
 use Prim.Native.Nat.{ℕ, suc, _+_, _≤_, _<_}
 use native.Mathlib.Omega.{arith}
@@ -17,7 +17,7 @@ use Rattle.rules.specs.Base.{if_then_else_}
 use Rattle.rules.specs.Bytes.{u8At, u16At, u32At, lengthField, kindField}
 use Rattle.rules.specs.Messages.{lengthOf, orderAt, twoLegAt, messageOf}
 use Rattle.rules.specs.Effects.{nothing}
-use Rattle.rules.specs.Refusals.{torn, isKind, isLength, inRange, decoded, refusalOf, refusal}
+use Rattle.rules.specs.Refusals.{torn, isKind, isLength, inRange, equalRatios, decoded, refusalOf, refusal}
 use Rattle.rules.specs.Step.{accept, answered, step}
 use Rattle.rules.specs.Calls.{oneFrom, one}
 use Rattle.rules.proofs.Refusing.{accepted-length, whole, whole-in}
@@ -44,9 +44,9 @@ module _ (m rest : List ℕ) where
   unfolding orderAt
   order-same x h = rw (u32-same 4 (omega arith), u8-same 8 (omega arith), u8-same 9 (omega arith), u32-same 10 (omega arith), u32-same 14 (omega arith))
 
-  complex-same : 21 ≤ length m → twoLegAt (m ++ rest) ≡ twoLegAt m
+  complex-same : (r s : ℕ) → 21 ≤ length m → twoLegAt (m ++ rest) r s ≡ twoLegAt m r s
   unfolding twoLegAt
-  complex-same h =
+  complex-same r s h =
       rw (
         u32-same 4 (omega arith),
         u8-same 8 (omega arith),
@@ -68,37 +68,39 @@ module _ (m rest : List ℕ) where
 
   message-same : 4 ≤ length m → (4 ≤ lengthOf (kindField m)) × (lengthOf (kindField m) ≤ length m) → messageOf (m ++ rest) ≡ messageOf m
   unfolding messageOf lengthOf
-  message-same h le = rw (kind-same h) (go (eqb k 1) (eqb k 2) (eqb k 3) (eqb k 4) (eqb k 5) (eqb k 6) (eqb k 7) (eqb k 8) (eqb k 9) le)
+  message-same h le = rw (kind-same h) (go (eqb k 1) (eqb k 2) (eqb k 3) (eqb k 4) (eqb k 5) (eqb k 6) (eqb k 7) (eqb k 8) (eqb k 9) (eqb k 10) le)
     where
       k : ℕ
       k = kindField m
 
-      go : (a b c d e f g h i : Bool) →
+      go : (a b c d e f g h i j : Bool) →
           (let n : ℕ = if a then 18 else if b then 21 else if c then 8 else if d then 13 else if e then 6 else if f then 4 else if g then 10 else if h then 9
-          else if i then 22 else 0 in
+          else if i then 22 else if j then 23 else 0 in
           (4 ≤ n) × (n ≤ length m)) →
           _≡_ {A = Message}
-          (if a then Order (orderAt (u32At (m ++ rest) 14) (m ++ rest)) else if b then TwoLeg (twoLegAt (m ++ rest)) else if c then Cancel (u32At (m ++ rest) 4)
+          (if a then Order (orderAt (u32At (m ++ rest) 14) (m ++ rest)) else if b then TwoLeg (twoLegAt (m ++ rest) 1 1) else if c then Cancel (u32At (m ++ rest) 4)
           else if d then Away (u8At (m ++ rest) 4) (u32At (m ++ rest) 5) (u32At (m ++ rest) 9)
           else if e then Status (u8At (m ++ rest) 4) (u8At (m ++ rest) 5) else if f then Sweep
           else if g then Increment (u8At (m ++ rest) 4) (u8At (m ++ rest) 5) (u32At (m ++ rest) 6)
           else if h then Percent (u8At (m ++ rest) 4) (u32At (m ++ rest) 5)
-          else Order (orderAt (u32At (m ++ rest) 18) (m ++ rest)))
-          (if a then Order (orderAt (u32At m 14) m) else if b then TwoLeg (twoLegAt m) else if c then Cancel (u32At m 4)
+          else if i then Order (orderAt (u32At (m ++ rest) 18) (m ++ rest))
+          else TwoLeg (twoLegAt (m ++ rest) (u8At (m ++ rest) 21) (u8At (m ++ rest) 22)))
+          (if a then Order (orderAt (u32At m 14) m) else if b then TwoLeg (twoLegAt m 1 1) else if c then Cancel (u32At m 4)
           else if d then Away (u8At m 4) (u32At m 5) (u32At m 9)
           else if e then Status (u8At m 4) (u8At m 5) else if f then Sweep
           else if g then Increment (u8At m 4) (u8At m 5) (u32At m 6) else if h then Percent (u8At m 4) (u32At m 5)
-          else Order (orderAt (u32At m 18) m))
-      go true b c d e f g h i le = let q = le .1 in rw (u32-same 14 (omega arith), order-same (u32At m 14) q)
-      go false true c d e f g h i le = rw (complex-same (le .1))
-      go false false true d e f g h i le = let q = le .1 in rw (u32-same 4 (omega arith))
-      go false false false true e f g h i le = let q = le .1 in rw (u8-same 4 (omega arith), u32-same 5 (omega arith), u32-same 9 (omega arith))
-      go false false false false true f g h i le = let q = le .1 in rw (u8-same 4 (omega arith), u8-same 5 (omega arith))
-      go false false false false false true g h i le = refl
-      go false false false false false false true h i le = let q = le .1 in rw (u8-same 4 (omega arith), u8-same 5 (omega arith), u32-same 6 (omega arith))
-      go false false false false false false false true i le = let q = le .1 in rw (u8-same 4 (omega arith), u32-same 5 (omega arith))
-      go false false false false false false false false true le = let q = le .1 in rw (u32-same 18 (omega arith), order-same (u32At m 18) (omega arith))
-      go false false false false false false false false false le = let q = le .0 in absurd (omega arith)
+          else if i then Order (orderAt (u32At m 18) m) else TwoLeg (twoLegAt m (u8At m 21) (u8At m 22)))
+      go true b c d e f g h i j le = let q = le .1 in rw (u32-same 14 (omega arith), order-same (u32At m 14) q)
+      go false true c d e f g h i j le = rw (complex-same 1 1 (le .1))
+      go false false true d e f g h i j le = let q = le .1 in rw (u32-same 4 (omega arith))
+      go false false false true e f g h i j le = let q = le .1 in rw (u8-same 4 (omega arith), u32-same 5 (omega arith), u32-same 9 (omega arith))
+      go false false false false true f g h i j le = let q = le .1 in rw (u8-same 4 (omega arith), u8-same 5 (omega arith))
+      go false false false false false true g h i j le = refl
+      go false false false false false false true h i j le = let q = le .1 in rw (u8-same 4 (omega arith), u8-same 5 (omega arith), u32-same 6 (omega arith))
+      go false false false false false false false true i j le = let q = le .1 in rw (u8-same 4 (omega arith), u32-same 5 (omega arith))
+      go false false false false false false false false true j le = let q = le .1 in rw (u32-same 18 (omega arith), order-same (u32At m 18) (omega arith))
+      go false false false false false false false false false true le = let q = le .1 in rw (complex-same _ _ (omega arith), u8-same 21 (omega arith), u8-same 22 (omega arith))
+      go false false false false false false false false false false le = let q = le .0 in absurd (omega arith)
 
   module _ (w : Whole m) where
     four : 4 ≤ length m
@@ -118,6 +120,18 @@ module _ (m rest : List ℕ) where
         let a = w .0 in
         message-same four (omega arith, omega arith)
 
+    ratios-same : isLength (kindField m) (lengthField m) ≡ true → equalRatios (m ++ rest) ≡ equalRatios m
+    unfolding equalRatios isLength
+    ratios-same e = rw (kind-same four) (go (eqb (kindField m) 10) refl)
+      where
+        go : (b : Bool) → eqb (kindField m) 10 ≡ b → (b && eqb (u8At (m ++ rest) 21) (u8At (m ++ rest) 22)) ≡ (b && eqb (u8At m 21) (u8At m 22))
+        go true x =
+            let l = eqb-true (lengthField m) (lengthOf (kindField m)) e in
+            let y : lengthOf (kindField m) ≡ 23 = rw (eqb-true (kindField m) 10 x) (unfold lengthOf in refl) in
+            let b = w .1 in
+            rw (u8-same 21 (omega arith), u8-same 22 (omega arith))
+        go false x = refl
+
     decoded-same : decoded (m ++ rest) ≡ decoded m
     unfolding decoded
     decoded-same =
@@ -127,10 +141,10 @@ module _ (m rest : List ℕ) where
         go : (b : Bool) → isLength (kindField m) (lengthField m) ≡ b →
             _≡_ {A = Decoded}
             (if not (isKind (kindField m)) then Refused 2 else if not b then Refused 3
-            else if not (inRange (messageOf (m ++ rest))) then Refused 4 else Taken (messageOf (m ++ rest)))
+            else if not (inRange (kindField m) (messageOf (m ++ rest))) then Refused 4 else if equalRatios (m ++ rest) then Refused 14 else Taken (messageOf (m ++ rest)))
             (if not (isKind (kindField m)) then Refused 2 else if not b then Refused 3
-            else if not (inRange (messageOf m)) then Refused 4 else Taken (messageOf m))
-        go true e = rw (fits-kind e)
+            else if not (inRange (kindField m) (messageOf m)) then Refused 4 else if equalRatios m then Refused 14 else Taken (messageOf m))
+        go true e = rw (fits-kind e, ratios-same e)
         go false e = refl
 
     refusal-same : (v : Venue) → refusal v (m ++ rest) ≡ refusal v m

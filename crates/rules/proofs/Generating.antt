@@ -24,7 +24,7 @@ use Rattle.rules.proofs.Cases.{if-by}
 use Rattle.rules.proofs.Settling.{free-stands}
 use Rattle.rules.proofs.Verdicts.{Passes, passing}
 use Rattle.rules.specs.Base.{if_then_else_, held}
-use Rattle.rules.specs.Words.{within, buy, opposite, signed, noLegging, placeOf, leggingAt, statusOf, withLegging}
+use Rattle.rules.specs.Words.{within, buy, opposite, signed, noLegging, oneToOne, placeOf, leggingAt, statusOf, withLegging}
 use Rattle.rules.specs.Settings.{figureNow, increment, percent}
 use Rattle.rules.specs.Effects.{_⟫_, report, nothing}
 use Rattle.rules.specs.Prices.{bestRegular, bestSize, clearPrice, bestOwn, displayed, marketBest, away, taken1, taken2, inBand}
@@ -101,6 +101,7 @@ module _ (n : ℕ) (l : Legging) (v : Venue) where
 -- The conditions of generation, by name -------------------------------------------------------
 
 pub record Makes (v : Venue) (c : Complex) (s d : ℕ) : Type 0 where
+  pub even : oneToOne c ≡ true
   pub opens : bothOpen v c ≡ true
   pub band : inBand v c (c .limit) ≡ true
   pub clear : held (otherClear v c s) ≡ true

@@ -4,6 +4,7 @@ use mathlib.Core.Bool.{Bool, _||_, false, true}
 use mathlib.Core.Logic.{_≢_, _⊎_, inl, inr}
 use mathlib.Core.List.{List, _++_, _∷_}
 use Prim.Native.Nat.{_+_, _<_, _≤_, ℕ}
+use native.Mathlib.Nat.{one-mul}
 use native.Mathlib.Omega.{arith}
 use lib.Dec.{eqb}
 use lib.IntN.{ℤ}
@@ -139,6 +140,9 @@ pub record Hits (v : Venue) (i j k : ℕ) (l : Legging) : Type 0 where
   pub place : placeWhere (isComplexOf (cx v j .id)) (v .complex) ≡ j
   pub leg : (reg v i .series ≡ cx v j .series1) ⊎ (reg v i .series ≡ cx v j .series2)
   pub apart : cx v j .series1 ≢ cx v j .series2
+  -- one to one
+  pub even1 : cx v j .ratio1 ≡ 1
+  pub even2 : cx v j .ratio2 ≡ 1
   pub size : k ≤ sizeIn (otherLeg (parentOf v l) (reg v i .series) .series) (opposite (otherLeg (parentOf v l) (reg v i .series) .side))
       (otherClear v (parentOf v l) (reg v i .series)) (v .regular)
 
@@ -209,8 +213,8 @@ module _ (v : Venue) (i j k : ℕ) (l : Legging) (m : Hits v i j k l) where
   pub hit-pairs : Pairs v j k (hit i l k v .reports) (hit i l k v .venue)
   unfolding contracts paired crossedFor cancelledOf
   hit-pairs = record {
-    first = rw (m .parent) at (both .0);
-    second = rw (m .parent) at (both .1);
+    first = (rw (m .parent) at (both .0)) ∙ rw (m .even1) (sym (one-mul k));
+    second = (rw (m .parent) at (both .1)) ∙ rw (m .even2) (sym (one-mul k));
     others = λ d ne r s.
         omega (
           arith,

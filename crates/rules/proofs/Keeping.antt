@@ -1,18 +1,20 @@
 -- Whatever fills, removals and showing again keep, every effect keeps but admission and generation.
 use mathlib.Core.Path.{subst}
+use mathlib.Core.Bool.{_&&_}
 use Prim.Native.Nat.{suc, zero, ℕ}
 use lib.IntN.{ℤ}
 use Rattle.rules.specs.declared.Cause.{Cause}
 use Rattle.rules.specs.declared.Legging.{Legging}
 use Rattle.rules.specs.declared.Venue.{Venue}
 use Rattle.rules.specs.declared.Verdict.{Verdict}
+use Rattle.rules.specs.Base.{held}
 use Rattle.rules.specs.Words.{complexAt}
 use Rattle.rules.specs.Effects.{Effect, Turn, _⟫_, ended, nothing, repeat, report, turned}
 use Rattle.rules.specs.Removal.{remove, removeOf}
 use Rattle.rules.specs.Standing.{settle, showAgain, verdict}
 use Rattle.rules.specs.Trading.{fillComplex, fillRegular, pairOff, take, tradeWith}
 use Rattle.rules.specs.Order.{hit, meet, meetTurn}
-use Rattle.rules.specs.Complex.{anyClosed, cancel, cancelComplex, cancelRegular, cross, crossTurn, each, legIn, legInTurn, legsIn, restsRegular, touch, touches, work}
+use Rattle.rules.specs.Complex.{anyClosed, cancel, cancelComplex, cancelRegular, cross, crossTurn, each, legIn, legInTurn, legsIn, restsRegular, unitsIn, touch, touches, work}
 use Rattle.rules.proofs.Cases.{crossTurn-by, each-by, if-by, meetTurn-by, repeat-by, take-by}
 
 -- f for each resting order of a sweep
@@ -63,7 +65,7 @@ module _ {P : Venue → Type 0} (lasts : Lasts P) where
 
   keeps-legIn : (i a b k : ℕ) (v : Venue) → P v → P (legIn i a b k v .venue)
   unfolding legIn report _⟫_
-  keeps-legIn i a b k v h = keeps-pairOff i _ _ k _ (keeps-take _ _ _ _ k k _ (keeps-take _ _ _ _ k k v h))
+  keeps-legIn i a b k v h = keeps-pairOff i _ _ k _ (keeps-take _ _ _ _ _ _ _ (keeps-take _ _ _ _ _ _ v h))
 
   pub keeps-touch : (i : ℕ) (v : Venue) → P v → P (touch i v .venue)
   unfolding touch nothing
@@ -95,7 +97,7 @@ module _ {P : Venue → Type 0} (lasts : Lasts P) where
 
   legInTurn-keeps : (i : ℕ) (v : Venue) → P v → Turns (legInTurn i v)
   unfolding legInTurn
-  legInTurn-keeps i v h = if-by Turns (legsIn v (complexAt v i) _ _) (λ _. keeps-legIn i _ _ _ v h) (λ _. tt)
+  legInTurn-keeps i v h = if-by Turns (legsIn v (complexAt v i) _ _ && held (unitsIn v (complexAt v i))) (λ _. keeps-legIn i _ _ _ v h) (λ _. tt)
 
   pub keeps-legging : (i fuel : ℕ) (v : Venue) → P v → P (repeat fuel (legInTurn i) v .venue)
   keeps-legging i = keeps-repeat (legInTurn i) (legInTurn-keeps i)

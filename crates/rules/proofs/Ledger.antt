@@ -14,7 +14,6 @@ use Rattle.rules.specs.Base.{held}
 use Rattle.rules.specs.Words.{withLegging, withRegular}
 use Rattle.rules.specs.Records.{Report, generated}
 use Rattle.rules.specs.Effects.{Effect, _⟫_, nothing, report}
-use Rattle.rules.specs.Prices.{ratio1, ratio2}
 use Rattle.rules.specs.Removal.{remove, removeOf}
 use Rattle.rules.specs.Standing.{settle, showAgain, verdict}
 use Rattle.rules.specs.Generation.{placed}
@@ -57,8 +56,8 @@ cx-kept f g r = record {
 -- what the records say of the complex order m: its contracts in each series are its pairs by the leg's ratio, and what is open falls by what
 -- was paired, crossed and cancelled
 pub record Settles (m : Complex) (v : Venue) (rs : List Report) (w : Venue) : Type 0 where
-  pub first : total (contracts (m .id) (m .series1)) rs ≡ ratio1 m * total (paired (m .id)) rs
-  pub second : total (contracts (m .id) (m .series2)) rs ≡ ratio2 m * total (paired (m .id)) rs
+  pub first : total (contracts (m .id) (m .series1)) rs ≡ m .ratio1 * total (paired (m .id)) rs
+  pub second : total (contracts (m .id) (m .series2)) rs ≡ m .ratio2 * total (paired (m .id)) rs
   pub falls : openComplex (m .id) (v .complex) ≡
       openComplex (m .id) (w .complex) + (total (paired (m .id)) rs + total (crossedFor (m .id)) rs + total (cancelledOf (m .id)) rs)
 
@@ -87,8 +86,8 @@ moved-trans {rs = rs} {qs} a b = record {
       let p = a .complexes m r in
       let q = b .complexes m (cx-kept (a .regular) (a .complex) r) in
       record {
-        first = rw (total-append (contracts (m .id) (m .series1)) rs qs, total-append (paired (m .id)) rs qs) (ratio-then (ratio1 m) _ _ _ _ (p .first) (q .first));
-        second = rw (total-append (contracts (m .id) (m .series2)) rs qs, total-append (paired (m .id)) rs qs) (ratio-then (ratio2 m) _ _ _ _ (p .second) (q .second));
+        first = rw (total-append (contracts (m .id) (m .series1)) rs qs, total-append (paired (m .id)) rs qs) (ratio-then (m .ratio1) _ _ _ _ (p .first) (q .first));
+        second = rw (total-append (contracts (m .id) (m .series2)) rs qs, total-append (paired (m .id)) rs qs) (ratio-then (m .ratio2) _ _ _ _ (p .second) (q .second));
         falls = rw (total-append (paired (m .id)) rs qs, total-append (crossedFor (m .id)) rs qs, total-append (cancelledOf (m .id)) rs qs)
             (let x = p .falls in let y = q .falls in omega arith);
       };
@@ -112,8 +111,8 @@ moved-silent {v} {w} p q e z = record {
   last = e;
   orders = λ y s r. rw (z .contracts0 y s, z .cancelled0 y, ap (openRegular y) p) (omega arith);
   complexes = λ m r. record {
-    first = ratio-none (ratio1 m) _ _ (z .contracts0 (m .id) (m .series1)) (z .paired0 (m .id));
-    second = ratio-none (ratio2 m) _ _ (z .contracts0 (m .id) (m .series2)) (z .paired0 (m .id));
+    first = ratio-none (m .ratio1) _ _ (z .contracts0 (m .id) (m .series1)) (z .paired0 (m .id));
+    second = ratio-none (m .ratio2) _ _ (z .contracts0 (m .id) (m .series2)) (z .paired0 (m .id));
     falls = rw (z .paired0 (m .id), z .crossed0 (m .id), z .cancelled0 (m .id), ap (openComplex (m .id)) q) (omega arith);
   };
 }
@@ -152,7 +151,7 @@ moves-again v = record {
   complex = fewerC-refl _;
   last = refl;
   orders = λ y s r. rw (again-open v y) (omega arith);
-  complexes = λ m r. record { first = sym (mul-zero (ratio1 m)); second = sym (mul-zero (ratio2 m)); falls = omega arith };
+  complexes = λ m r. record { first = sym (mul-zero (m .ratio1)); second = sym (mul-zero (m .ratio2)); falls = omega arith };
 }
 
 pub moves-settle : (v : Venue) → Moves v (settle v)

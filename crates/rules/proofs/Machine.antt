@@ -117,8 +117,8 @@ near-debit x o t h =
     (omega arith) (omega arith)
     ∙ sym (near-is x o t)
 
--- the machine's test, for a percentage of one byte and nets of two prices
-module _ (x : ℕ) (small : x < 256) {o t : ℤ} (fo : SFits w64 o) (ft : SFits w64 t) (os : natAbs o ≤ 8589934590) (ts : natAbs t ≤ 8589934590) where
+-- the machine's test, for a percentage of one byte and nets of two prices by ratios of one byte
+module _ (x : ℕ) (small : x < 256) {o t : ℤ} (fo : SFits w64 o) (ft : SFits w64 t) (os : natAbs o ≤ 2190433320450) (ts : natAbs t ≤ 2190433320450) where
   -- what the machine has of o, of t and of x
   abbrev O : ℤ
   O = toZ w64 (ofZ w64 o)
@@ -147,10 +147,10 @@ module _ (x : ℕ) (small : x < 256) {o t : ℤ} (fo : SFits w64 o) (ft : SFits 
   size : (k : ℕ) (z : ℤ) → natAbs (pos k *ℤ z) ≡ k * natAbs z
   size k z = rw (abs-is (pos k *ℤ z), mul-plus k z, mul-minus k z, ← mul-add k (plus z) (minus z), ← abs-is z) refl
 
-  small-100 : {z : ℤ} → SFits w64 z → natAbs z ≤ 8589934590 → natAbs (pos 100 *ℤ toZ w64 (ofZ w64 z)) ≤ 858993459000
+  small-100 : {z : ℤ} → SFits w64 z → natAbs z ≤ 2190433320450 → natAbs (pos 100 *ℤ toZ w64 (ofZ w64 z)) ≤ 219043332045000
   small-100 {z} f h = rw (back f, size 100 z) (omega arith)
 
-  small-part : natAbs (X *ℤ O) ≤ 2190433320450
+  small-part : natAbs (X *ℤ O) ≤ 558560496714750
   small-part = rw (x-is, back fo, size x o) (let z = below in omega arith)
 
   pub credit-fits : SFits w64 (toZ w64 (ofZ w64 (pos 100 *ℤ T)) +ℤ toZ w64 (ofZ w64 (X *ℤ O)))

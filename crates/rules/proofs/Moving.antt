@@ -17,7 +17,6 @@ use Rattle.rules.specs.Base.{held, if_then_else_}
 use Rattle.rules.specs.Words.{complexAt, noComplex, opposite, regularAt, withComplex, withRegular}
 use Rattle.rules.specs.Records.{Report, cancelled, crossed, trade}
 use Rattle.rules.specs.Effects.{report}
-use Rattle.rules.specs.Prices.{ratio1, ratio2}
 use Rattle.rules.specs.Trading.{fillComplex, fillRegular, tradeWith}
 use Rattle.rules.specs.Order.{meet}
 use Rattle.rules.specs.Complex.{cancelComplex, cancelRegular, cross}
@@ -130,8 +129,8 @@ module _ (i : ℕ) (v : Venue) (f : i < length (v .regular)) (h : held (reg v i 
     last = fill-last i (reg v i .quantity) v;
     orders = λ y s r. omega (arith, open-fill i (reg v i .quantity) v y f (omega arith));
     complexes = λ c r. record {
-      first = sym (mul-zero (ratio1 c));
-      second = sym (mul-zero (ratio2 c));
+      first = sym (mul-zero (c .ratio1));
+      second = sym (mul-zero (c .ratio2));
       falls = rw (fill-complex i (reg v i .quantity) v, ne-eqb (reg v i .id) (c .id) (λ g. r .none i h g)) (omega arith);
     };
   }
@@ -145,8 +144,8 @@ module _ (i : ℕ) (v : Venue) (f : i < length (v .complex)) (h : held (cx v i .
     last = fillC-last i (cx v i .quantity) v;
     orders = λ y s r. rw (fillC-regular i (cx v i .quantity) v, ne-eqb (cx v i .id) y (λ g. r .none i h g)) (omega arith);
     complexes = λ c r. record {
-      first = sym (mul-zero (ratio1 c));
-      second = sym (mul-zero (ratio2 c));
+      first = sym (mul-zero (c .ratio1));
+      second = sym (mul-zero (c .ratio2));
       falls = omega (arith, open-fillC i (cx v i .quantity) v (c .id) f (omega arith));
     };
   }
@@ -200,7 +199,7 @@ module _ (i j k : ℕ) (v : Venue) (m : Crosses v i j k) where
     complex = fewerC-trans (fill-fewerC j k (fillComplex i k v)) (fill-fewerC i k v);
     last = fillC-last j k (fillComplex i k v) ∙ fillC-last i k v;
     orders = λ y s r. rw (fillC-regular j k (fillComplex i k v), fillC-regular i k v) (omega arith);
-    complexes = λ c r. record { first = sym (mul-zero (ratio1 c)); second = sym (mul-zero (ratio2 c)); falls = omega (arith, cross-falls c r) };
+    complexes = λ c r. record { first = sym (mul-zero (c .ratio1)); second = sym (mul-zero (c .ratio2)); falls = omega (arith, cross-falls c r) };
   }
 
   pub moves-cross : Moves v (cross i j k v)

@@ -1,5 +1,5 @@
--- A pair of k: in the records the contracts in each of the two series are those paired, what is open of the complex order falls by as many,
--- and its legging orders go. Here for a leg-in step; `Hitting` has the hit.
+-- A pair of k units: in the records the contracts in each of the two series are those paired by the leg's ratio, what is open of the complex order falls
+-- by as many, and its legging orders go. Here for a leg-in step; `Hitting` has the hit.
 use mathlib.Core.Path.{_∙_, _≡_, ap, refl, sym}
 use mathlib.Core.Bool.{Bool, false, true}
 use mathlib.Core.Logic.{_≢_}
@@ -16,7 +16,7 @@ use Rattle.rules.specs.Base.{first, held, if_then_else_}
 use Rattle.rules.specs.Words.{complexAt, opposite, withComplex, withLegging}
 use Rattle.rules.specs.Records.{Report, trade}
 use Rattle.rules.specs.Effects.{Effect, _⟫_, report}
-use Rattle.rules.specs.Prices.{net, ratio1, ratio2, sizeIn}
+use Rattle.rules.specs.Prices.{net, sizeIn}
 use Rattle.rules.specs.Removal.{remove, removeOf}
 use Rattle.rules.specs.Trading.{fillComplex, pairOff, take}
 use Rattle.rules.specs.Complex.{legIn}
@@ -70,22 +70,13 @@ module _ (i id : ℕ) (n : ℤ) (k : ℕ) (v : Venue) where
 
 -- the records rs from v to w trade and pair k of the order at place j
 pub record Pairs (v : Venue) (j k : ℕ) (rs : List Report) (w : Venue) : Type 0 where
-  pub first : total (contracts (cx v j .id) (cx v j .series1)) rs ≡ k
-  pub second : total (contracts (cx v j .id) (cx v j .series2)) rs ≡ k
+  pub first : total (contracts (cx v j .id) (cx v j .series1)) rs ≡ cx v j .ratio1 * k
+  pub second : total (contracts (cx v j .id) (cx v j .series2)) rs ≡ cx v j .ratio2 * k
   pub others : (m : Complex) → cx v j .id ≢ m .id → ComplexId m v → (s : ℕ) → total (contracts (m .id) s) rs ≡ 0
   pub pairs : (y : ℕ) → total (paired y) rs ≡ (if eqb (cx v j .id) y then k else 0)
   pub crosses : (y : ℕ) → total (crossedFor y) rs ≡ 0
   pub cancels : (y : ℕ) → total (cancelledOf y) rs ≡ 0
   pub filled : w .complex ≡ fillComplex j k v .complex
-
--- at equal ratios a unit is one contract of each leg
-by-ratio1 : (m : Complex) (k a b : ℕ) → a ≡ k → b ≡ k → a ≡ ratio1 m * b
-unfolding ratio1
-by-ratio1 m k a b h p = omega arith
-
-by-ratio2 : (m : Complex) (k a b : ℕ) → a ≡ k → b ≡ k → a ≡ ratio2 m * b
-unfolding ratio2
-by-ratio2 m k a b h p = omega arith
 
 -- so they settle the account of every complex order
 pub pairs-settle : {v : Venue} (j k : ℕ) {rs : List Report} {w : Venue} → j < length (v .complex) → held (cx v j .quantity) ≡ true → k ≤ cx v j .quantity →
@@ -101,16 +92,16 @@ pairs-settle {v} j k {rs} {w} fits h enough p m r = go (eqb (cx v j .id) (m .id)
         let l = r .home j h x=y in
         let pk = rw e at (p .pairs (m .id)) in
         record {
-          first = by-ratio1 m k _ _ (rw (x=y, l .series1) at (p .first)) pk;
-          second = by-ratio2 m k _ _ (rw (x=y, l .series2) at (p .second)) pk;
+          first = rw pk (rw (x=y, l .series1, l .ratio1) at (p .first));
+          second = rw pk (rw (x=y, l .series2, l .ratio2) at (p .second));
           falls = fall;
         }
     go false e =
         let ne = eqb-false (cx v j .id) (m .id) e in
         let pk = rw e at (p .pairs (m .id)) in
         record {
-          first = ratio-none (ratio1 m) _ _ (p .others m ne r (m .series1)) pk;
-          second = ratio-none (ratio2 m) _ _ (p .others m ne r (m .series2)) pk;
+          first = ratio-none (m .ratio1) _ _ (p .others m ne r (m .series1)) pk;
+          second = ratio-none (m .ratio2) _ _ (p .others m ne r (m .series2)) pk;
           falls = fall;
         }
 
@@ -122,28 +113,35 @@ pub record LegsIn (v : Venue) (i a b k : ℕ) : Type 0 where
   pub holds : held (cx v i .quantity) ≡ true
   pub apart : cx v i .series1 ≢ cx v i .series2
   pub enough : k ≤ cx v i .quantity
-  pub size1 : k ≤ sizeIn (cx v i .series1) (opposite (cx v i .side1)) a (v .regular)
-  pub size2 : k ≤ sizeIn (cx v i .series2) (opposite (cx v i .side2)) b (v .regular)
+  pub size1 : cx v i .ratio1 * k ≤ sizeIn (cx v i .series1) (opposite (cx v i .side1)) a (v .regular)
+  pub size2 : cx v i .ratio2 * k ≤ sizeIn (cx v i .series2) (opposite (cx v i .side2)) b (v .regular)
 
 module _ (v : Venue) (i a b k : ℕ) where
   abbrev c : Complex
   c = cx v i
 
+  -- the contracts of each leg
+  abbrev k₁ : ℕ
+  k₁ = c .ratio1 * k
+
+  abbrev k₂ : ℕ
+  k₂ = c .ratio2 * k
+
   abbrev first-trades : Effect
-  first-trades = take k (c .id) (c .series1) (c .side1) a k v
+  first-trades = take k₁ (c .id) (c .series1) (c .side1) a k₁ v
 
   abbrev second-trades : Effect
-  second-trades = take k (c .id) (c .series2) (c .side2) b k (first-trades .venue)
+  second-trades = take k₂ (c .id) (c .series2) (c .side2) b k₂ (first-trades .venue)
 
   -- the venue when both legs have traded
   abbrev pub legged : Venue
   legged = second-trades .venue
 
   ch₁ : Chain (c .id) (c .series1) (c .side1) a v (first-trades .reports) (first-trades .venue)
-  ch₁ = take-chain (c .id) (c .series1) (c .side1) a k k v
+  ch₁ = take-chain (c .id) (c .series1) (c .side1) a k₁ k₁ v
 
   ch₂ : Chain (c .id) (c .series2) (c .side2) b (first-trades .venue) (second-trades .reports) legged
-  ch₂ = take-chain (c .id) (c .series2) (c .side2) b k k (first-trades .venue)
+  ch₂ = take-chain (c .id) (c .series2) (c .side2) b k₂ k₂ (first-trades .venue)
 
   pub legged-complex : legged .complex ≡ v .complex
   legged-complex = chain-elsewhere ch₂ .complex ∙ chain-elsewhere ch₁ .complex
@@ -181,10 +179,10 @@ module _ (v : Venue) (i a b k : ℕ) where
 
   module _ (m : LegsIn v i a b k) where
     -- the first leg's trades leave the second leg's size as it was
-    size2′ : k ≤ sizeIn (c .series2) (opposite (c .side2)) b (first-trades .venue .regular)
+    size2′ : k₂ ≤ sizeIn (c .series2) (opposite (c .side2)) b (first-trades .venue .regular)
     size2′ = rw (chain-elsewhere ch₁ .size (c .series2) (opposite (c .side2)) b (m .apart)) (m .size2)
 
-    -- in a leg-in step's records the contracts in each series are those paired
+    -- in a leg-in step's records the contracts in each series are those paired by the leg's ratio
     pub legIn-pairs : Pairs v i k (legIn i a b k v .reports) (legIn i a b k v .venue)
     unfolding paired crossedFor cancelledOf
     legIn-pairs = record {
@@ -192,7 +190,7 @@ module _ (v : Venue) (i a b k : ℕ) where
           omega (
             arith,
             legIn-total (contracts (c .id) (c .series1)),
-            take-total (c .id) (c .series1) (c .side1) a k k v (omega arith) (m .size1),
+            take-total (c .id) (c .series1) (c .side1) a k₁ k₁ v (omega arith) (m .size1),
             chain-other (c .id) (c .series1) (λ e. m .apart (sym e)) ch₂,
             tells .contracts0 (c .id) (c .series1),
           );
@@ -200,7 +198,7 @@ module _ (v : Venue) (i a b k : ℕ) where
           omega (
             arith,
             legIn-total (contracts (c .id) (c .series2)),
-            take-total (c .id) (c .series2) (c .side2) b k k (first-trades .venue) (omega arith) size2′,
+            take-total (c .id) (c .series2) (c .side2) b k₂ k₂ (first-trades .venue) (omega arith) size2′,
             chain-other (c .id) (c .series2) (m .apart) ch₁,
             tells .contracts0 (c .id) (c .series2),
           );

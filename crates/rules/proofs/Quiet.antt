@@ -22,7 +22,7 @@ use Rattle.rules.specs.Standing.{verdict, settle, showAgain}
 use Rattle.rules.specs.Trading.{fillRegular, tradeWith, take, pairOff}
 use Rattle.rules.specs.Order.{meet, hit, meetTurn, enterRegular, order}
 use Rattle.rules.specs.Generation.{makes, make, generateLeg, generate}
-use Rattle.rules.specs.Complex.{anyClosed, cross, crossTurn, touches, touch, legsIn, legIn, legInTurn, work, complex, each, sweep, cancelRegular, cancelComplex, restsRegular, cancel}
+use Rattle.rules.specs.Complex.{anyClosed, cross, crossTurn, touches, touch, legsIn, legIn, unitsIn, legInTurn, work, complex, each, sweep, cancelRegular, cancelComplex, restsRegular, cancel}
 use Rattle.rules.specs.Places.{closeGaps}
 use Rattle.rules.specs.Step.{perform, accept}
 use Rattle.rules.proofs.Cases.{crossTurn-by, each-by, if-by, meetTurn-by, repeat-by, take-by}
@@ -123,11 +123,11 @@ module _ (P : Report → Type 0) (others : Others P) where
 
   all-legIn : (i a b k : ℕ) (v : Venue) → All P (legIn i a b k v)
   unfolding legIn
-  all-legIn i a b k v = all-then _ _ (all-then _ _ (all-take _ _ _ _ k k v) (all-take _ _ _ _ k k _)) (all-pair i _ _ k _)
+  all-legIn i a b k v = all-then _ _ (all-then _ _ (all-take _ _ _ _ _ _ v) (all-take _ _ _ _ _ _ _)) (all-pair i _ _ k _)
 
   all-legInTurn : (i : ℕ) (v : Venue) → AllTurn (legInTurn i v)
   unfolding legInTurn
-  all-legInTurn i v = if-by AllTurn (legsIn v (complexAt v i) _ _) (λ _. all-legIn i _ _ _ v) (λ _. tt)
+  all-legInTurn i v = if-by AllTurn (legsIn v (complexAt v i) _ _ && held (unitsIn v (complexAt v i))) (λ _. all-legIn i _ _ _ v) (λ _. tt)
 
   pub all-legging : (i fuel : ℕ) (v : Venue) → All P (repeat fuel (legInTurn i) v)
   all-legging i fuel v = all-repeat _ (all-legInTurn i) fuel v

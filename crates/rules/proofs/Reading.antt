@@ -7,7 +7,7 @@ use lib.IntN.{negsuc, pos, ℤ}
 use lib.ListN.{drop, getD, length, length-append, length-replicate, replicate}
 use borrow.Author.Tests.{le-ltb, lt-ltb, ne-eqb}
 use Rattle.rules.specs.declared.Cause.{Cause}
-use Rattle.rules.specs.declared.Cause.the-variants.{Executed, NotOpen, OutOfBand, Replaced, Touched, Unpaired, Withdrawn, Worse}
+use Rattle.rules.specs.declared.Cause.the-variants.{Executed, NoUnit, NotOpen, OutOfBand, Replaced, Touched, Unpaired, Withdrawn, Worse}
 use Rattle.rules.specs.Bytes.{asSigned, asUnsigned, bytes, framed, kindField, lengthField, u16At, u32At, u8At}
 use Rattle.rules.specs.Records.{ForAll, Fits, FourSigned, Report, TwoBytes, FourBytes, OneByte, answer, cancelled, causeNumber, causeOf, crossed, encode, encodeAll, generated, pair, recordOf, records, recordsFrom, removed, sheet, trade}
 
@@ -42,6 +42,7 @@ cause-back OutOfBand = refl
 cause-back NotOpen = refl
 cause-back Replaced = refl
 cause-back Touched = refl
+cause-back NoUnit = refl
 
 pub cause-small : (c : Cause) → OneByte (causeNumber c)
 cause-small Worse = omega arith
@@ -52,6 +53,7 @@ cause-small OutOfBand = omega arith
 cause-small NotOpen = omega arith
 cause-small Replaced = omega arith
 cause-small Touched = omega arith
+cause-small NoUnit = omega arith
 
 -- Records -------------------------------------------------------------------------------------
 

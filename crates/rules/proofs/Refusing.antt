@@ -1,36 +1,96 @@
--- Refusals: what an accepted message has passed, what a message that is not torn has, and that a refusal is at most 13.
+-- Refusals: what an accepted message has passed, what a message that is not torn has, and that a refusal is at most 14 and neither 9 nor 10.
 use mathlib.Core.Path.{_≡_, refl, sym}
-use mathlib.Core.Bool.{Bool, true, false, not, _||_}
+use mathlib.Core.Bool.{Bool, true, false, not, _&&_, _||_}
 use mathlib.Core.Logic.{_≢_}
 use mathlib.Core.List.{List}
 use Prim.Native.Nat.{ℕ, _≤_, _<_}
 use native.Mathlib.Omega.{arith}
-use lib.Dec.{eqb, ltb}
+use lib.Dec.{eqb, leb, ltb}
 use lib.ListN.{length}
-use borrow.Author.Tests.{eqb-false, le-ltb, ltb-false}
+use borrow.Author.Tests.{eq-eqb, eqb-false, eqb-true, le-ltb, leb-true, ltb-false, ne-eqb}
 use Rattle.rules.specs.declared.Venue.{Venue}
 use Rattle.rules.specs.declared.Message.{Message}
+use Rattle.rules.specs.declared.Message.the-variants.{Order, TwoLeg, Cancel, Away, Status, Sweep, Increment, Percent}
 use Rattle.rules.specs.declared.Decoded.{Decoded}
 use Rattle.rules.specs.declared.Decoded.the-variants.{Taken, Refused}
-use Rattle.rules.specs.Bytes.{lengthField, kindField}
-use Rattle.rules.specs.Messages.{messageOf}
-use Rattle.rules.specs.Refusals.{torn, isKind, isLength, inRange, decoded, offIncrement, editionTooLow, inUse, noEditionLeft, idTooLow, onClosed, full, unknown, refusalOf, refusal}
-use Rattle.rules.proofs.Tests.{not-out, or-false-l, or-false-r}
+use Rattle.rules.specs.Words.{within, isId, isSeries, isStatus, isAway, oneToOne}
+use Rattle.rules.specs.Settings.{isIncrement, isPercent, isEdition}
+use Rattle.rules.specs.Bytes.{u8At, lengthField, kindField}
+use Rattle.rules.specs.Messages.{twoLegAt, messageOf}
+use Rattle.rules.specs.Refusals.{torn, isKind, isLength, regularInRange, twoLegInRange, farOf, inRange, equalRatios, decoded, complexInRange, offIncrement, editionTooLow, inUse, noEditionLeft, idTooLow, onClosed, full, unknown, refusalOf, refusal}
+use Rattle.rules.proofs.Tests.{and-in, and-l, and-r, not-out, or-false-l, or-false-r}
 use Rattle.rules.proofs.Cases.{if-by}
 
--- the refusals 1 to 4 by their cases
+-- What a message that is taken brings: its fields in range, and of a complex order that it may rest.
+unfoldable pub wellFormed : Message → Bool
+wellFormed (Order o) = regularInRange o
+wellFormed (TwoLeg c) = complexInRange c
+wellFormed (Cancel id) = isId id
+wellFormed (Away s bid offer) = isSeries s && isAway bid && isAway offer
+wellFormed (Status s x) = isSeries s && isStatus x
+wellFormed Sweep = true
+wellFormed (Increment s i e) = isSeries s && isIncrement i && isEdition e
+wellFormed (Percent x e) = isPercent x && isEdition e
+
+-- ratios that differ are not one to one
+uneven : (r s : ℕ) → eqb r s ≡ false → (eqb r 1 && eqb s 1) ≡ false
+uneven r s e = go (eqb r 1) refl (eqb s 1) refl
+  where
+    go : (a : Bool) → eqb r 1 ≡ a → (b : Bool) → eqb s 1 ≡ b → (a && b) ≡ false
+    go false x b y = refl
+    go true x false y = refl
+    go true x true y = let p = eqb-true r 1 x in let q = eqb-true s 1 y in absurd (eqb-false r s e (omega arith))
+
+-- kind 2 brings an order that is one to one, and kind 10 one whose ratios differ
+well-two : (k : ℕ) (bs : List ℕ) → eqb k 2 ≡ true → twoLegInRange (farOf k) (twoLegAt bs 1 1) ≡ true → complexInRange (twoLegAt bs 1 1) ≡ true
+unfolding complexInRange farOf oneToOne twoLegAt
+well-two k bs e r = let x = eqb-true k 2 e in and-in _ true (rw (ne-eqb k 10 (λ y. omega arith)) at r) refl
+
+well-ten : (k : ℕ) (bs : List ℕ) (r s : ℕ) → k ≡ 10 → (eqb k 10 && eqb r s) ≡ false → twoLegInRange (farOf k) (twoLegAt bs r s) ≡ true → complexInRange (twoLegAt bs r s) ≡ true
+unfolding complexInRange farOf oneToOne twoLegAt
+well-ten k bs r s e n h =
+    let t = eq-eqb k 10 e in
+    let m : eqb r s ≡ false = rw t at n in
+    rw (uneven r s m, m) (and-in _ true (rw t at h) refl)
+
+-- the last of the kinds
+past : (n k : ℕ) → eqb k n ≡ false → n ≤ k → n < k
+past n k e le = let ne = eqb-false k n e in omega arith
+
+tenth : (k : ℕ) → isKind k ≡ true → eqb k 1 ≡ false → eqb k 2 ≡ false → eqb k 3 ≡ false → eqb k 4 ≡ false → eqb k 5 ≡ false → eqb k 6 ≡ false →
+    eqb k 7 ≡ false → eqb k 8 ≡ false → eqb k 9 ≡ false → k ≡ 10
+unfolding isKind within
+tenth k is a b c d e f g h i =
+    let low = past 9 k i (past 8 k h (past 7 k g (past 6 k f (past 5 k e (past 4 k d (past 3 k c (past 2 k b (past 1 k a (leb-true 1 k (and-l _ _ is)))))))))) in
+    let high = leb-true k 10 (and-r (leb 1 k) _ is) in
+    omega arith
+
+taken-well : (bs : List ℕ) → isKind (kindField bs) ≡ true → inRange (kindField bs) (messageOf bs) ≡ true → equalRatios bs ≡ false → wellFormed (messageOf bs) ≡ true
+unfolding messageOf equalRatios wellFormed inRange
+taken-well bs is =
+    let k = kindField bs in
+    if-by Q (eqb k 1) (λ _ r _. r) (λ a. if-by Q (eqb k 2) (λ e r _. well-two k bs e r) (λ b. if-by Q (eqb k 3) (λ _ r _. r) (λ c. if-by Q (eqb k 4) (λ _ r _. r)
+    (λ d. if-by Q (eqb k 5) (λ _ r _. r) (λ e. if-by Q (eqb k 6) (λ _ r _. r) (λ f. if-by Q (eqb k 7) (λ _ r _. r) (λ g. if-by Q (eqb k 8) (λ _ r _. r)
+    (λ h. if-by Q (eqb k 9) (λ _ r _. r) (λ i r n. well-ten k bs (u8At bs 21) (u8At bs 22) (tenth k is a b c d e f g h i) n r)))))))))
+  where
+    Q : Message → Type 0
+    Q m = inRange (kindField bs) m ≡ true → (eqb (kindField bs) 10 && eqb (u8At bs 21) (u8At bs 22)) ≡ false → wellFormed m ≡ true
+
+-- the refusals 1 to 4, and 14, by their cases
 module _ {ℓ} (Q : Decoded → Type ℓ) (bs : List ℕ) where
   pub decoded-by : (torn bs ≡ true → Q (Refused 1)) →
       (torn bs ≡ false → isKind (kindField bs) ≡ false → Q (Refused 2)) →
       (torn bs ≡ false → isLength (kindField bs) (lengthField bs) ≡ false → Q (Refused 3)) →
-      (torn bs ≡ false → inRange (messageOf bs) ≡ false → Q (Refused 4)) →
-      (torn bs ≡ false → isLength (kindField bs) (lengthField bs) ≡ true → inRange (messageOf bs) ≡ true → Q (Taken (messageOf bs))) →
+      (torn bs ≡ false → inRange (kindField bs) (messageOf bs) ≡ false → Q (Refused 4)) →
+      (torn bs ≡ false → equalRatios bs ≡ true → Q (Refused 14)) →
+      (torn bs ≡ false → isLength (kindField bs) (lengthField bs) ≡ true → wellFormed (messageOf bs) ≡ true → Q (Taken (messageOf bs))) →
       Q (decoded bs)
   unfolding decoded
-  decoded-by r1 r2 r3 r4 taken =
+  decoded-by r1 r2 r3 r4 r14 taken =
       if-by Q (torn bs) r1 (λ a. if-by Q (not (isKind (kindField bs))) (λ b. r2 a (not-out _ b))
-      (λ _. if-by Q (not (isLength (kindField bs) (lengthField bs))) (λ c. r3 a (not-out _ c))
-      (λ c. if-by Q (not (inRange (messageOf bs))) (λ d. r4 a (not-out _ d)) (λ d. taken a (was _ c) (was _ d)))))
+      (λ k. if-by Q (not (isLength (kindField bs) (lengthField bs))) (λ c. r3 a (not-out _ c))
+      (λ c. if-by Q (not (inRange (kindField bs) (messageOf bs))) (λ d. r4 a (not-out _ d))
+      (λ d. if-by Q (equalRatios bs) (r14 a) (λ e. taken a (was _ c) (taken-well bs (was _ k) (was _ d) e))))))
     where
       was : (b : Bool) → not b ≡ false → b ≡ true
       was true e = refl
@@ -50,7 +110,7 @@ module _ {ℓ} (Q : ℕ → Type ℓ) (v : Venue) (m : Message) where
 
 -- what an accepted message has passed
 pub record Passed (v : Venue) (m : Message) : Type 0 where
-  pub range : inRange m ≡ true
+  pub range : wellFormed m ≡ true
   pub stepped : offIncrement v m ≡ false
   pub rising : editionTooLow v m ≡ false
   pub unused : inUse v m ≡ false
@@ -68,7 +128,7 @@ pub accepted : (v : Venue) (bs : List ℕ) → refusal v bs ≡ 0 → Passed v (
 unfolding refusal
 accepted v bs =
     decoded-by (λ x. of v x ≡ 0 → Passed v (messageOf bs)) bs
-    (λ _ h. absurd (omega arith)) (λ _ _ h. absurd (omega arith)) (λ _ _ h. absurd (omega arith)) (λ _ _ h. absurd (omega arith))
+    (λ _ h. absurd (omega arith)) (λ _ _ h. absurd (omega arith)) (λ _ _ h. absurd (omega arith)) (λ _ _ h. absurd (omega arith)) (λ _ _ h. absurd (omega arith))
     (λ _ _ r. refusalOf-by (λ x. x ≡ 0 → Passed v (messageOf bs)) v (messageOf bs)
     (λ h. absurd (omega arith)) (λ h. absurd (omega arith)) (λ h. absurd (omega arith)) (λ h. absurd (omega arith))
     (λ h. absurd (omega arith)) (λ h. absurd (omega arith)) (λ h. absurd (omega arith)) (λ h. absurd (omega arith))
@@ -78,20 +138,20 @@ pub accepted-length : (v : Venue) (bs : List ℕ) → refusal v bs ≡ 0 → isL
 unfolding refusal
 accepted-length v bs =
     decoded-by (λ x. of v x ≡ 0 → isLength (kindField bs) (lengthField bs) ≡ true) bs
-    (λ _ h. absurd (omega arith)) (λ _ _ h. absurd (omega arith)) (λ _ _ h. absurd (omega arith)) (λ _ _ h. absurd (omega arith)) (λ _ l _ _. l)
+    (λ _ h. absurd (omega arith)) (λ _ _ h. absurd (omega arith)) (λ _ _ h. absurd (omega arith)) (λ _ _ h. absurd (omega arith)) (λ _ _ h. absurd (omega arith)) (λ _ l _ _. l)
 
-pub refusal-small : (v : Venue) (bs : List ℕ) → refusal v bs ≤ 13
+pub refusal-small : (v : Venue) (bs : List ℕ) → refusal v bs ≤ 14
 unfolding refusal
 refusal-small v bs =
-    decoded-by (λ x. of v x ≤ 13) bs (λ _. omega arith) (λ _ _. omega arith) (λ _ _. omega arith) (λ _ _. omega arith)
-    (λ _ _ _. refusalOf-by (λ x. x ≤ 13) v (messageOf bs) (omega arith) (omega arith) (omega arith) (omega arith) (omega arith) (omega arith) (omega arith) (omega arith)
+    decoded-by (λ x. of v x ≤ 14) bs (λ _. omega arith) (λ _ _. omega arith) (λ _ _. omega arith) (λ _ _. omega arith) (λ _ _. omega arith)
+    (λ _ _ _. refusalOf-by (λ x. x ≤ 14) v (messageOf bs) (omega arith) (omega arith) (omega arith) (omega arith) (omega arith) (omega arith) (omega arith) (omega arith)
     (λ _ _ _ _ _ _ _ _. omega arith))
 
 -- and is none of 9 and 10, which are a call's
 pub refusal-own : (v : Venue) (bs : List ℕ) (k : ℕ) → 8 < k → k < 11 → refusal v bs ≢ k
 unfolding refusal
 refusal-own v bs k low high =
-    decoded-by (λ x. of v x ≢ k) bs (λ _ e. omega arith) (λ _ _ e. omega arith) (λ _ _ e. omega arith) (λ _ _ e. omega arith)
+    decoded-by (λ x. of v x ≢ k) bs (λ _ e. omega arith) (λ _ _ e. omega arith) (λ _ _ e. omega arith) (λ _ _ e. omega arith) (λ _ _ e. omega arith)
     (λ _ _ _. refusalOf-by (λ x. x ≢ k) v (messageOf bs) (λ e. omega arith) (λ e. omega arith) (λ e. omega arith) (λ e. omega arith) (λ e. omega arith) (λ e. omega arith) (λ e. omega arith) (λ e. omega arith)
     (λ _ _ _ _ _ _ _ _ e. omega arith))
 
@@ -100,7 +160,7 @@ pub not-torn : (v : Venue) (bs : List ℕ) → eqb (refusal v bs) 1 ≡ false �
 unfolding refusal
 not-torn v bs =
     decoded-by (λ x. eqb (of v x) 1 ≡ false → torn bs ≡ false) bs
-    (λ _ h. absurd (eqb-false 1 1 h refl)) (λ a _ _. a) (λ a _ _. a) (λ a _ _. a) (λ a _ _ _. a)
+    (λ _ h. absurd (eqb-false 1 1 h refl)) (λ a _ _. a) (λ a _ _. a) (λ a _ _. a) (λ a _ _. a) (λ a _ _ _. a)
 
 pub whole : (bs : List ℕ) → torn bs ≡ false → (4 ≤ lengthField bs) × (lengthField bs ≤ length bs)
 unfolding torn

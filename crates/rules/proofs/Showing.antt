@@ -103,7 +103,8 @@ message-fully bs =
     if-by Brings (eqb k 5) (λ _ o e. cc) (λ _.
     if-by Brings (eqb k 6) (λ _ o e. cc) (λ _.
     if-by Brings (eqb k 7) (λ _ o e. cc) (λ _.
-    if-by Brings (eqb k 8) (λ _ o e. cc) (λ _. is-order _))))))))
+    if-by Brings (eqb k 8) (λ _ o e. cc) (λ _.
+    if-by Brings (eqb k 9) (λ _. is-order _) (λ _ o e. cc)))))))))
   where
     Brings : Message → Type 0
     Brings m = (o : Regular) → m ≡ Order o → showsFully o ≡ true

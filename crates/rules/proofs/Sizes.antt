@@ -279,12 +279,6 @@ fill-elsewhere i k s v h = record {
   legging = refl;
 }
 
--- a fill leaves every other level as it was
-pub fill-apart : (t e p i k : ℕ) (v : Venue) → (reg v i .series ≡ t → reg v i .side ≡ e → reg v i .price ≡ p → ⊥) →
-    sizeIn t e p (fillRegular i k v .regular) ≡ sizeIn t e p (v .regular)
-unfolding fillRegular withRegular regularAt lessRegular
-fill-apart t e p i k v ne = size-set t e p (v .regular) i _ (elsewhere-shows t e p _ ne) (elsewhere-shows t e p _ ne)
-
 pub elsewhere-refl : (s : ℕ) (v : Venue) → Elsewhere s v v
 elsewhere-refl s v = record { best = λ t e ne. refl; size = λ t e p ne. refl; complex = refl; legging = refl }
 

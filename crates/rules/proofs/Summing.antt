@@ -35,6 +35,18 @@ module _ {A : Type 0} (f : A → ℕ) where
   sum-most w h [] = omega arith
   sum-most w h (x ∷ l) = let z = sum-most w h l in let y = h x in rw (mul-suc w (length l)) (omega arith)
 
+-- place by place no more
+pub sum-places : {A : Type 0} (f : A → ℕ) (none : A) (l m : List A) → length l ≡ length m → ((i : ℕ) → f (getD l i none) ≤ f (getD m i none)) → sum f l ≤ sum f m
+unfolding sum
+sum-places f none [] m e h = omega arith
+sum-places f none (x ∷ l) [] e h = absurd (omega arith)
+sum-places f none (x ∷ l) (y ∷ m) e h = let z = sum-places f none l m (omega arith) (λ i. h (suc i)) in let w = h 0 in omega arith
+
+pub sum-plus : {A : Type 0} (f g : A → ℕ) (l : List A) → sum (λ x. f x + g x) l ≡ sum f l + sum g l
+unfolding sum
+sum-plus f g [] = refl
+sum-plus f g (x ∷ l) = let z = sum-plus f g l in omega arith
+
 -- of two measures: the lesser has the lesser sum, and by so much less as at one place
 module _ {A : Type 0} (f g : A → ℕ) (lesser : (x : A) → g x ≤ f x) where
   pub sum-mono : (l : List A) → sum g l ≤ sum f l

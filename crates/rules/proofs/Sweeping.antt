@@ -20,7 +20,7 @@ use Rattle.rules.specs.Generation.{generate, generateLeg, make, makes, p
 use Rattle.rules.specs.Complex.{each, nextAbove, work}
 use Rattle.rules.proofs.Cases.{each-by, each-done, each-on, if-by, isAbove}
 use Rattle.rules.proofs.Filling.{FewerC, LesserC, cx, fewerC-refl, fewerC-trans, fill-fewerC, still-heldC}
-use Rattle.rules.proofs.Keeping.{keeps-work}
+use Rattle.rules.proofs.Keeping.{Lasts, keeps-work}
 use Rattle.rules.proofs.Picking.{Chosen, first-chosen}
 use Rattle.rules.proofs.Tests.{and-r}
 
@@ -116,14 +116,16 @@ each-more f ok (suc fuel) more id v le =
         let w = count-less id (c .id) (v .complex) i (ltb-true id (c .id) (and-r (held (c .quantity)) _ (a .is))) (unfold above in (rw (a .at) (a .is))) (ap (λ (x : Complex). x .id) (a .at)) in
         each-on (fuel + more) f id v i c e ∙ then-same (f i v) (each (fuel + more) f (c .id)) (each fuel f (c .id)) (ih (c .id) (f i v .venue) (omega arith)) ∙ sym (each-on fuel f id v i c e)
 
+pub fewer-lasts : (v : Venue) → Lasts (λ w. FewerC (w .complex) (v .complex))
+fewer-lasts v = record {
+  fillR = λ i k w h. unfold fillRegular withRegular in h;
+  fillC = λ i k w h. fewerC-trans (fill-fewerC i k w) h;
+  gone = λ f w h. unfold remove withLegging in h;
+  again = λ w h. unfold showAgain withRegular in h;
+}
+
 pub work-fewer : (i : ℕ) (v : Venue) → FewerC (work i v .venue .complex) (v .complex)
-work-fewer i v =
-    keeps-work {P = λ w. FewerC (w .complex) (v .complex)} (record {
-      fillR = λ i k w h. unfold fillRegular withRegular in h;
-      fillC = λ i k w h. fewerC-trans (fill-fewerC i k w) h;
-      gone = λ f w h. unfold remove withLegging in h;
-      again = λ w h. unfold showAgain withRegular in h;
-    }) i v (fewerC-refl _)
+work-fewer i v = keeps-work (fewer-lasts v) i v (fewerC-refl _)
 
 pub leg-same : (v : Venue) (c : Complex) (s d : ℕ) → generateLeg c s d v .venue .complex ≡ v .complex
 unfolding generateLeg make report remove withLegging placed nothing _⟫_

@@ -21,7 +21,7 @@ use Rattle.rules.proofs.Adding.{count-elsewhere, count-taker}
 use Rattle.rules.proofs.Cases.{take-by}
 use Rattle.rules.proofs.Filling.{Fewer, fewer-refl, fewer-trans, fill-fewer, fill-last, filled-other, reg}
 use Rattle.rules.proofs.Picking.{At, Chosen, first-chosen, first-set}
-use Rattle.rules.proofs.Sizes.{Elsewhere, elsewhere-refl, elsewhere-trans, fill-apart, fill-elsewhere, no-price, not-there, rests-series, rests-side, shows-rests, size-less, size-none}
+use Rattle.rules.proofs.Sizes.{Elsewhere, elsewhere-refl, elsewhere-trans, fill-elsewhere, no-price, not-there, rests-series, shows-rests, size-less, size-none}
 use Rattle.rules.proofs.Tests.{and-l, and-r, free-none, held-pos}
 
 -- How many are had ----------------------------------------------------------------------------
@@ -65,6 +65,24 @@ module _ (x s d p : ℕ) where
       let z = some-shown i o v h in
       let l = left i o v h q (omega arith) in
       rw (one-more i q v _ (taken-series i o v h), take-total fuel (k - q) (fillRegular i q v) (omega arith) (omega arith)) (omega arith))
+
+module _ (x s d p : ℕ) where
+  -- and as many fewer are left there
+  pub take-left : (fuel k : ℕ) (v : Venue) → k ≤ fuel → k ≤ sizeIn s (opposite d) p (v .regular) →
+      sizeIn s (opposite d) p (take fuel x s d p k v .venue .regular) + k ≡ sizeIn s (opposite d) p (v .regular)
+  unfolding nothing _⟫_ tradeWith report
+  take-left zero k v a b = unfold take in (omega arith)
+  take-left (suc fuel) k v a b =
+      take-by (λ e. sizeIn s (opposite d) p (e .venue .regular) + k ≡ sizeIn s (opposite d) p (v .regular)) fuel x s d p k v
+      (λ n. let z = free-none k n in omega arith)
+      (λ w h. let z = size-none s (opposite d) p (v .regular) h in omega arith)
+      (λ w i o h.
+      let q = min k (shown o) in
+      let y = held-pos k w in
+      let z = some-shown x s d p i o v h in
+      let l = left x s d p i o v h q (omega arith) in
+      let r = take-left fuel (k - q) (fillRegular i q v) (omega arith) (omega arith) in
+      omega arith)
 
 -- The chain of trades -------------------------------------------------------------------------
 
@@ -117,15 +135,6 @@ module _ {x s d p : ℕ} where
   chain-elsewhere no-more = elsewhere-refl s _
   chain-elsewhere (traded {v = v} i q f r e le c) =
       elsewhere-trans (fill-elsewhere i q s v (unfold regularAt in (shows-series s (opposite d) (reg v i) r))) (chain-elsewhere c)
-
-  -- and every other level
-  pub chain-apart : (t e r : ℕ) → (s ≡ t → opposite d ≡ e → p ≡ r → ⊥) → {v w : Venue} {rs : List Report} → Chain x s d p v rs w →
-      sizeIn t e r (w .regular) ≡ sizeIn t e r (v .regular)
-  chain-apart t e r ne no-more = refl
-  chain-apart t e r ne (traded {v = v} i q f z g le c) =
-      let h = shows-rests s (opposite d) (regularAt v i) z in
-      chain-apart t e r ne c
-      ∙ fill-apart t e r i q v (unfold regularAt in (λ a b k. ne (sym (rests-series s (opposite d) _ h) ∙ a) (sym (rests-side s (opposite d) _ h) ∙ b) (sym g ∙ k)))
 
   -- and every order of another series
   pub chain-place : {v w : Venue} {rs : List Report} → Chain x s d p v rs w → (n : ℕ) → reg v n .series ≢ s → reg w n ≡ reg v n

@@ -6,7 +6,7 @@ use mathlib.Core.List.{List, [], _++_, _∷_}
 use Prim.Native.Nat.{_+_, _-_, _<_, _≤_, min, suc, zero, ℕ}
 use native.Mathlib.Omega.{arith}
 use lib.Dec.{eqb, leb}
-use lib.IntN.{negsuc, pos, ℤ}
+use lib.IntN.{negsuc, negℤ, pos, ℤ}
 use lib.ListN.{getD, length, length-set, set}
 use lib.Signed.{leZ}
 use borrow.Author.Tests.{le-leb, leb-true}
@@ -16,22 +16,23 @@ use Rattle.rules.specs.declared.Listed.{Listed}
 use Rattle.rules.specs.declared.Message.the-variants.{Away, Increment, Percent, Status}
 use Rattle.rules.specs.declared.Regular.{Regular}
 use Rattle.rules.specs.declared.Venue.{Venue}
-use Rattle.rules.specs.Base.{held}
-use Rattle.rules.specs.Words.{complexAt, isAway, isClass, isId, isLimit, isPrice, isQuantity, isSeries, isSide, isStatus, noComplex, noEdition, noLegging, noRegular, notListed, regularAt, statusOf, withComplex, withEditions, withLast, withLegging, withRegular, withSeries, within}
+use Rattle.rules.specs.Base.{held, if_then_else_}
+use Rattle.rules.specs.Words.{complexAt, isAway, isClass, isId, isLimit, isPrice, isQuantity, isRatio, isSeries, isSide, isStatus, noComplex, noEdition, noLegging, noRegular, notListed, oneToOne, regularAt, statusOf, withComplex, withEditions, withLast, withLegging, withRegular, withSeries, within}
 use Rattle.rules.specs.Settings.{enterEdition, freeEdition, isIncrement, percentage}
 use Rattle.rules.specs.Records.{ForAll, Report, FourBytes}
 use Rattle.rules.specs.Standing.{showAgain, showsAgain}
 use Rattle.rules.specs.Trading.{fillComplex, fillRegular, lessComplex, lessRegular}
 use Rattle.rules.specs.Generation.{placed}
 use Rattle.rules.specs.Places.{blankLegging, closeGaps}
-use Rattle.rules.specs.Refusals.{complexInRange, inRange, regularInRange}
+use Rattle.rules.specs.Refusals.{complexInRange, regularInRange, twoLegInRange}
 use Rattle.rules.specs.Step.{setAway, setFigure, setStatus}
 use Rattle.rules.specs.Sound.{figureInRange, listedInRange}
 use Rattle.rules.proofs.Again.{again-at}
 use Rattle.rules.proofs.Editions.{Dated}
 use Rattle.rules.proofs.Filling.{cx, lg, reg}
 use Rattle.rules.proofs.Gaps.{was, wasC}
-use Rattle.rules.proofs.Integers.{le-out, minus, plus}
+use Rattle.rules.proofs.Integers.{le-out, minus, neg-minus, neg-plus, plus}
+use Rattle.rules.proofs.Refusing.{wellFormed}
 use Rattle.rules.proofs.Tests.{and-in, and-l, and-r, held-pos, pos-held}
 
 -- Records -------------------------------------------------------------------------------------
@@ -56,9 +57,11 @@ pub record CxFits (c : Complex) : Type 0 where
   pub side1 : c .side1 < 2
   pub series2 : c .series2 < 8
   pub side2 : c .side2 < 2
-  pub high : plus (c .limit) ≤ 200000
-  pub low : minus (c .limit) ≤ 200000
+  pub high : plus (c .limit) ≤ 600000
+  pub low : minus (c .limit) ≤ 600000
   pub quantity : c .quantity ≤ 10000
+  pub ratio1 : c .ratio1 ≤ 3
+  pub ratio2 : c .ratio2 ≤ 3
   pub ok : held (c .quantity) ≡ true → complexInRange c ≡ true
 
 pub record LgFits (l : Legging) : Type 0 where
@@ -80,7 +83,7 @@ pub record Ranged (v : Venue) : Type 0 where
 
 pub no-cx : CxFits noComplex
 unfolding plus minus
-no-cx = record { id = omega arith; series1 = omega arith; side1 = omega arith; series2 = omega arith; side2 = omega arith; high = omega arith; low = omega arith; quantity = omega arith; ok = λ h. absurd (false≢true h) }
+no-cx = record { id = omega arith; series1 = omega arith; side1 = omega arith; series2 = omega arith; side2 = omega arith; high = omega arith; low = omega arith; quantity = omega arith; ratio1 = omega arith; ratio2 = omega arith; ok = λ h. absurd (false≢true h) }
 
 pub no-lg : LgFits noLegging
 no-lg = record { parent = omega arith; price = omega arith; quantity = omega arith; ok = λ h. absurd (false≢true h); zero = λ h. unfold blankLegging in refl }
@@ -136,7 +139,7 @@ unfolding showsAgain regularInRange
 again-fits o f = record { id = f .id; series = f .series; side = f .side; price = f .price; quantity = f .quantity; ok = f .ok }
 
 lessC-fits : (k : ℕ) (c : Complex) → CxFits c → CxFits (lessComplex k c)
-unfolding lessComplex complexInRange
+unfolding lessComplex complexInRange twoLegInRange oneToOne
 lessC-fits k c f = record {
   id = f .id;
   series1 = f .series1;
@@ -146,16 +149,24 @@ lessC-fits k c f = record {
   high = f .high;
   low = f .low;
   quantity = (let z = f .quantity in omega arith);
-  ok = λ t. last-conjunct front _ _ (f .ok (still (c .quantity) k t)) (λ e. quantity-less (c .quantity) k e t);
+  ratio1 = f .ratio1;
+  ratio2 = f .ratio2;
+  ok = λ t. middle front _ _ (isRatio (c .ratio1)) (isRatio (c .ratio2)) _ (f .ok (still (c .quantity) k t)) (λ e. quantity-less (c .quantity) k e t);
 }
   where
     front : Bool
     front =
         isId (c .id) && isSeries (c .series1) && isSide (c .side1) && isSeries (c .series2) && isSide (c .side2)
-        && not (eqb (c .series1) (c .series2)) && isClass (c .class) && isLimit (c .limit)
+        && not (eqb (c .series1) (c .series2)) && isClass (c .class)
+        && isLimit (if eqb (c .ratio1) 1 && eqb (c .ratio2) 1 then 200000 else 600000) (c .limit)
 
-    last-conjunct : (a b b′ : Bool) → (a && b) ≡ true → (b ≡ true → b′ ≡ true) → (a && b′) ≡ true
-    last-conjunct a b b′ h k = and-in a b′ (and-l a b h) (k (and-r a b h))
+    middle : (a b b′ x y z : Bool) → (a && b && x && y && z) ≡ true → (b ≡ true → b′ ≡ true) → (a && b′ && x && y && z) ≡ true
+    middle true true b′ true true true h k = rw (k refl)
+    middle true true b′ true true false h k = absurd (false≢true h)
+    middle true true b′ true false z h k = absurd (false≢true h)
+    middle true true b′ false y z h k = absurd (false≢true h)
+    middle true false b′ x y z h k = absurd (false≢true h)
+    middle false b b′ x y z h k = absurd (false≢true h)
 
 -- one part of the venue anew
 module _ {v : Venue} (r : Ranged v) where
@@ -206,8 +217,8 @@ placed-ranged n l v f r = with-legging r _ (set-each LgFits noLegging (v .leggin
 series-ranged : (s : ℕ) (x : Listed) (v : Venue) → listedInRange x ≡ true → Ranged v → Ranged (withSeries v (set (v .series) s x))
 series-ranged s x v h r = with-series r _ (set-each (λ y. listedInRange y ≡ true) notListed (v .series) s x h (r .listed)) (length-set (v .series) s x)
 
-pub away-ranged : (s b o : ℕ) (v : Venue) → inRange (Away s b o) ≡ true → Ranged v → Ranged (setAway s b o v)
-unfolding setAway inRange statusOf
+pub away-ranged : (s b o : ℕ) (v : Venue) → wellFormed (Away s b o) ≡ true → Ranged v → Ranged (setAway s b o v)
+unfolding setAway wellFormed statusOf
 away-ranged s b o v z r =
     series-ranged s _ v (unfold listedInRange in (let y = r .listed s in
     let a : isStatus (getD (v .series) s notListed .status) ≡ true = search (and-l, and-r, y) depth 6 in
@@ -215,8 +226,8 @@ away-ranged s b o v z r =
     let q : isAway o ≡ true = search (and-l, and-r, z) depth 6 in
     rw (a, p, q))) r
 
-pub status-ranged : (s x : ℕ) (v : Venue) → inRange (Status s x) ≡ true → Ranged v → Ranged (setStatus s x v)
-unfolding setStatus inRange
+pub status-ranged : (s x : ℕ) (v : Venue) → wellFormed (Status s x) ≡ true → Ranged v → Ranged (setStatus s x v)
+unfolding setStatus wellFormed
 status-ranged s x v z r =
     series-ranged s _ v (unfold listedInRange in (let y = r .listed s in
     let a : isStatus x ≡ true = search (and-l, and-r, z) depth 6 in
@@ -242,15 +253,15 @@ series-figure : (number s i e : ℕ) → leb s 7 ≡ true → isIncrement i ≡ 
 unfolding figureInRange
 series-figure number s i e a h = rw a h
 
-pub increment-ranged : (number s i e : ℕ) (v : Venue) → inRange (Increment s i e) ≡ true → Ranged v → Ranged (setFigure number s i e v)
-unfolding inRange isSeries within
+pub increment-ranged : (number s i e : ℕ) (v : Venue) → wellFormed (Increment s i e) ≡ true → Ranged v → Ranged (setFigure number s i e v)
+unfolding wellFormed isSeries within
 increment-ranged number s i e v h r =
     let a : leb s 7 ≡ true = search (and-l, and-r, h) depth 6 in
     let b : isIncrement i ≡ true = search (and-l, and-r, h) depth 6 in
     figure-ranged number s i e v (series-figure number s i e a b) r
 
-pub percent-ranged : (number x e : ℕ) (v : Venue) → inRange (Percent x e) ≡ true → Ranged v → Ranged (setFigure number percentage x e v)
-unfolding inRange
+pub percent-ranged : (number x e : ℕ) (v : Venue) → wellFormed (Percent x e) ≡ true → Ranged v → Ranged (setFigure number percentage x e v)
+unfolding wellFormed
 percent-ranged number x e v h r = figure-ranged number percentage x e v (unfold figureInRange in (and-l _ _ h)) r
 
 pub closed-ranged : (v : Venue) → Ranged v → Ranged (closeGaps v)
@@ -278,35 +289,48 @@ order-fits o z =
       ok = λ _. z;
     }
 
+far-most : (b : Bool) → (if b then 200000 else 600000) ≤ 600000
+far-most true = omega arith
+far-most false = omega arith
+
+limit-small : (far : ℕ) (z : ℤ) → far ≤ 600000 → isLimit far z ≡ true → (plus z ≤ 600000) × (minus z ≤ 600000)
+unfolding isLimit
+limit-small far z le t =
+    let l = rw (neg-plus (pos far), neg-minus (pos far)) at (le-out (negℤ (pos far)) z (and-l _ (leZ z (pos far)) t)) in
+    let h = le-out z (pos far) (and-r (leZ (negℤ (pos far)) z) _ t) in
+    (high z h, low z l)
+  where
+    high : (z : ℤ) → plus z + minus (pos far) ≤ plus (pos far) + minus z → plus z ≤ 600000
+    high (pos n) h = unfold plus minus in (omega arith)
+    high (negsuc n) h = unfold plus minus in (omega arith)
+
+    low : (z : ℤ) → minus (pos far) + minus z ≤ plus z + plus (pos far) → minus z ≤ 600000
+    low (pos n) h = unfold plus minus in (omega arith)
+    low (negsuc n) h = unfold plus minus in (omega arith)
+
 pub complex-fits : (c : Complex) → complexInRange c ≡ true → CxFits c
-unfolding complexInRange isId isSeries isSide isLimit isQuantity within plus minus
+unfolding complexInRange twoLegInRange isId isSeries isSide isQuantity isRatio within
 complex-fits c z =
     let a : leb (c .id) 4294967295 ≡ true = search (and-l, and-r, z) depth 14 in
     let s1 : leb (c .series1) 7 ≡ true = search (and-l, and-r, z) depth 14 in
     let s2 : leb (c .series2) 7 ≡ true = search (and-l, and-r, z) depth 14 in
     let d1 : leb (c .side1) 1 ≡ true = search (and-l, and-r, z) depth 14 in
     let d2 : leb (c .side2) 1 ≡ true = search (and-l, and-r, z) depth 14 in
-    let lo : leZ (negsuc 199999) (c .limit) ≡ true = search (and-l, and-r, z) depth 14 in
-    let hi : leZ (c .limit) (pos 200000) ≡ true = search (and-l, and-r, z) depth 14 in
+    let n : isLimit (if oneToOne c then 200000 else 600000) (c .limit) ≡ true = search (and-l, and-r, z) depth 14 in
     let q : leb (c .quantity) 10000 ≡ true = search (and-l, and-r, z) depth 14 in
-    let l = le-out (negsuc 199999) (c .limit) lo in
-    let h = le-out (c .limit) (pos 200000) hi in
+    let r1 : leb (c .ratio1) 3 ≡ true = search (and-l, and-r, z) depth 14 in
+    let r2 : leb (c .ratio2) 3 ≡ true = search (and-l, and-r, z) depth 14 in
+    let m = limit-small (if oneToOne c then 200000 else 600000) (c .limit) (far-most (oneToOne c)) n in
     record {
       id = (let x = leb-true (c .id) 4294967295 a in omega arith);
       series1 = (let x = leb-true (c .series1) 7 s1 in omega arith);
       side1 = (let x = leb-true (c .side1) 1 d1 in omega arith);
       series2 = (let x = leb-true (c .series2) 7 s2 in omega arith);
       side2 = (let x = leb-true (c .side2) 1 d2 in omega arith);
-      high = high (c .limit) h;
-      low = low (c .limit) l;
+      high = m .0;
+      low = m .1;
       quantity = leb-true (c .quantity) 10000 q;
+      ratio1 = leb-true (c .ratio1) 3 r1;
+      ratio2 = leb-true (c .ratio2) 3 r2;
       ok = λ _. z;
     }
-  where
-    high : (z : ℤ) → plus z + 0 ≤ 200000 + minus z → plus z ≤ 200000
-    high (pos n) h = omega arith
-    high (negsuc n) h = omega arith
-
-    low : (z : ℤ) → 0 + minus z ≤ plus z + 200000 → minus z ≤ 200000
-    low (pos n) h = omega arith
-    low (negsuc n) h = omega arith

@@ -1,12 +1,13 @@
 -- What a venue is worth: the bytes that the going of its orders still pays for. A regular order pays a when what it shows is gone, and b when all of it is:
 -- the rates differ by what is done. An effect costs c where what it writes and what the venue left is worth come to at most what the venue was worth and c more.
 use mathlib.Core.Path.{_∙_, _≡_, refl, sym}
-use mathlib.Core.Bool.{Bool, true, false}
+use mathlib.Core.Bool.{Bool, true, false, _&&_}
 use mathlib.Core.List.{List, [], _∷_, map}
 use mathlib.Core.Logic.{_≢_}
-use Prim.Native.Nat.{ℕ, suc, _+_, _*_, _/_, _%_, _≤_, _<_, min}
+use Prim.Native.Nat.{ℕ, suc, _+_, _-_, _*_, _/_, _%_, _≤_, _<_, min}
 use native.Mathlib.Omega.{arith}
 use native.Mathlib.Decide.{decLe}
+use lib.Dec.{eqb}
 use lib.ListN.{length, length-append}
 use Rattle.rules.specs.declared.Regular.{Regular}
 use Rattle.rules.specs.declared.Complex.{Complex}
@@ -15,7 +16,7 @@ use Rattle.rules.specs.declared.Venue.{Venue}
 use Rattle.rules.specs.declared.Verdict.{Verdict}
 use Rattle.rules.specs.declared.Verdict.the-variants.{Stands, Fails}
 use Rattle.rules.specs.Base.{if_then_else_, held}
-use Rattle.rules.specs.Words.{noRegular, noComplex, noLegging, regularAt, complexAt, withRegular, withComplex, withLegging}
+use Rattle.rules.specs.Words.{noRegular, noComplex, noLegging, regularAt, complexAt, oneToOne, withRegular, withComplex, withLegging}
 use Rattle.rules.specs.Bytes.{bytes, framed}
 use Rattle.rules.specs.Records.{Report, answer, trade, pair, generated, removed, crossed, cancelled, encode, encodeAll}
 use Rattle.rules.specs.Effects.{Effect, nothing, report, _⟫_}
@@ -26,7 +27,7 @@ use Rattle.rules.specs.Trading.{lessRegular, lessComplex, fillRegular, f
 use Rattle.rules.specs.Order.{atOnce}
 use Rattle.rules.specs.Generation.{placed}
 use Rattle.rules.specs.Sums.{total}
-use Rattle.rules.specs.Lengths.{recordLength, perComplex, perLegging}
+use Rattle.rules.specs.Lengths.{recordLength, perComplex, perCross, perLegging}
 use Rattle.rules.proofs.Filling.{filled-other}
 use Rattle.rules.proofs.Adding.{total-append, total-then}
 use Rattle.rules.proofs.Sizes.{once-left, once-shown, shown-lessens}
@@ -58,29 +59,64 @@ ofShown a o = due a (shown o)
 unfoldable pub ofLeft : (b : ℕ) → Regular → ℕ
 ofLeft b o = due b (o .quantity)
 
+-- a complex order pays for a cross, and one that is one to one for more
 unfoldable pub ofComplex : Complex → ℕ
-ofComplex c = due perComplex (c .quantity)
+ofComplex c = due perCross (c .quantity)
+
+-- what is open of an order that is one to one, and of another none
+unfoldable pub evenOpen : Complex → ℕ
+evenOpen c = if oneToOne c then c .quantity else 0
+
+abbrev pub perEven : ℕ
+perEven = 46
+
+unfoldable pub ofEven : Complex → ℕ
+ofEven c = due perEven (evenOpen c)
 
 unfoldable pub ofLegging : Legging → ℕ
 ofLegging l = due perLegging (l .quantity)
 
 unfoldable pub worth : (a b : ℕ) → Venue → ℕ
-worth a b v = sum (ofShown a) (v .regular) + sum (ofLeft b) (v .regular) + sum ofComplex (v .complex) + sum ofLegging (v .legging)
+worth a b v = sum (ofShown a) (v .regular) + sum (ofLeft b) (v .regular) + (sum ofComplex (v .complex) + sum ofEven (v .complex)) + sum ofLegging (v .legging)
 
 no-shown : shown noRegular ≡ 0
 unfolding shown
 no-shown = refl
 
+no-even : evenOpen noComplex ≡ 0
+unfolding evenOpen oneToOne
+no-even = refl
+
+even-lessens : (k : ℕ) (c : Complex) → evenOpen (lessComplex k c) ≡ evenOpen c - k
+unfolding evenOpen oneToOne lessComplex
+even-lessens k c = go (eqb (c .ratio1) 1 && eqb (c .ratio2) 1)
+  where
+    go : (b : Bool) → (if b then c .quantity - k else 0) ≡ (if b then c .quantity else 0) - k
+    go true = refl
+    go false = omega arith
+
+pub ofComplex-most : (c : Complex) → ofComplex c ≤ perCross
+unfolding ofComplex
+ofComplex-most c = due-most perCross (c .quantity)
+
 module _ (a b : ℕ) where
-  pub worth-most : (v : Venue) →
-      worth a b v ≤ a * length (v .regular) + b * length (v .regular) + perComplex * length (v .complex) + perLegging * length (v .legging)
-  unfolding worth ofShown ofLeft ofComplex ofLegging
-  worth-most v =
+  -- regular and legging orders
+  pub regular-most : (v : Venue) →
+      sum (ofShown a) (v .regular) + sum (ofLeft b) (v .regular) + sum ofLegging (v .legging) ≤ a * length (v .regular) + b * length (v .regular) + perLegging * length (v .legging)
+  unfolding ofShown ofLeft ofLegging
+  regular-most v =
       let s = worths-most a shown noRegular no-shown (v .regular) in
       let r = worths-most b (λ (o : Regular). o .quantity) noRegular refl (v .regular) in
-      let c = worths-most perComplex (λ (c : Complex). c .quantity) noComplex refl (v .complex) in
       let l = worths-most perLegging (λ (l : Legging). l .quantity) noLegging refl (v .legging) in
       omega arith
+
+  pub worth-most : (v : Venue) →
+      worth a b v ≤ a * length (v .regular) + b * length (v .regular) + perComplex * length (v .complex) + perLegging * length (v .legging)
+  unfolding worth ofComplex ofEven
+  worth-most v =
+      let c = worths-most perCross (λ (c : Complex). c .quantity) noComplex refl (v .complex) in
+      let e = worths-most perEven evenOpen noComplex no-even (v .complex) in
+      omega (arith, regular-most v)
 
   -- an order that is given a place adds at most its own worth
   pub put-worth : (i : ℕ) (o : Regular) (v : Venue) → worth a b (putRegular i o v) ≤ worth a b v + (a + b)
@@ -91,8 +127,11 @@ module _ (a b : ℕ) where
       omega arith
 
   pub putC-worth : (i : ℕ) (c : Complex) (v : Venue) → worth a b (putComplex i c v) ≤ worth a b v + perComplex
-  unfolding worth putComplex withComplex ofComplex
-  putC-worth i c v = let z = put-more perComplex (λ (x : Complex). x .quantity) noComplex refl i c (v .complex) in omega arith
+  unfolding worth putComplex withComplex ofComplex ofEven
+  putC-worth i c v =
+      let z = put-more perCross (λ (x : Complex). x .quantity) noComplex refl i c (v .complex) in
+      let e = put-more perEven evenOpen noComplex no-even i c (v .complex) in
+      omega arith
 
   pub placed-worth : (n : ℕ) (l : Legging) (v : Venue) → worth a b (placed n l v) ≤ worth a b v + perLegging
   unfolding worth placed withLegging ofLegging
@@ -147,18 +186,36 @@ module _ (a b i k : ℕ) (v : Venue) where
           omega (arith, x)
 
 module _ (a b i k : ℕ) (v : Venue) where
+  less-open : sum ofComplex (fillComplex i k v .complex) ≤ sum ofComplex (v .complex)
+  unfolding fillComplex withComplex complexAt ofComplex lessComplex
+  less-open = fill-less perCross (λ (x : Complex). x .quantity) noComplex refl lessComplex (λ _ _. refl) i k (v .complex)
+
+  less-even : sum ofEven (fillComplex i k v .complex) ≤ sum ofEven (v .complex)
+  unfolding fillComplex withComplex complexAt ofEven
+  less-even = fill-less perEven evenOpen noComplex no-even lessComplex even-lessens i k (v .complex)
+
   pub fillC-le : worth a b (fillComplex i k v) ≤ worth a b v
-  unfolding worth fillComplex withComplex complexAt ofComplex lessComplex
-  fillC-le = let z = fill-less perComplex (λ (x : Complex). x .quantity) noComplex refl lessComplex (λ _ _. refl) i k (v .complex) in omega arith
+  unfolding worth
+  fillC-le = let x = less-open in let y = less-even in unfold fillComplex withComplex in (omega arith)
 
-  pub fillC-frees : 0 < complexAt v i .quantity → complexAt v i .quantity ≤ k → worth a b (fillComplex i k v) + perComplex ≤ worth a b v
-  unfolding worth fillComplex withComplex complexAt ofComplex lessComplex
-  fillC-frees p q = let z = fill-gone perComplex (λ (x : Complex). x .quantity) noComplex refl lessComplex (λ _ _. refl) i k (v .complex) p q in omega arith
+  -- one that is one to one takes all its worth with it
+  pub even-frees : oneToOne (complexAt v i) ≡ true → 0 < complexAt v i .quantity → complexAt v i .quantity ≤ k → worth a b (fillComplex i k v) + perComplex ≤ worth a b v
+  unfolding worth fillComplex withComplex complexAt ofComplex ofEven lessComplex
+  even-frees e p q =
+      let o : evenOpen (complexAt v i) ≡ complexAt v i .quantity = unfold evenOpen complexAt in (rw e) in
+      let z = fill-gone perCross (λ (x : Complex). x .quantity) noComplex refl lessComplex (λ _ _. refl) i k (v .complex) p q in
+      let y = fill-gone perEven evenOpen noComplex no-even lessComplex even-lessens i k (v .complex) (rw o p) (rw o q) in
+      omega arith
 
+module _ (a b i k : ℕ) (v : Venue) where
   pub fillsC-free : (j : ℕ) → 0 < complexAt v i .quantity → 0 < complexAt v j .quantity → k ≡ min (complexAt v i .quantity) (complexAt v j .quantity) →
-      worth a b (fillComplex j k (fillComplex i k v)) + perComplex ≤ worth a b v
-  unfolding worth fillComplex withComplex complexAt ofComplex lessComplex
-  fillsC-free j p q e = let z = fill-both perComplex (λ (x : Complex). x .quantity) noComplex refl lessComplex (λ _ _. refl) i j k (v .complex) p q e in omega arith
+      worth a b (fillComplex j k (fillComplex i k v)) + perCross ≤ worth a b v
+  unfolding worth
+  fillsC-free j p q e =
+      let x = less-even a b i k v in
+      let y = less-even a b j k (fillComplex i k v) in
+      unfold fillComplex withComplex complexAt ofComplex lessComplex in (
+      let z = fill-both perCross (λ (x : Complex). x .quantity) noComplex refl lessComplex (λ _ _. refl) i j k (v .complex) p q e in omega arith)
 
 -- Effects -------------------------------------------------------------------------------------
 

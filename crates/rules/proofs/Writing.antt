@@ -4,6 +4,7 @@ use mathlib.Core.Bool.{Bool, _&&_, false, true}
 use mathlib.Core.Logic.{_⊎_, inl, inr}
 use mathlib.Core.List.{List, [], _∷_}
 use Prim.Native.Nat.{_%_, _*_, _+_, _/_, _<_, _≤_, min, suc, zero, ℕ}
+use native.Mathlib.Nat.{mul-le-mul}
 use native.Mathlib.Omega.{arith}
 use lib.Dec.{eqb}
 use lib.IntN.{ℤ}
@@ -23,14 +24,13 @@ use Rattle.rules.specs.Words.{complexAt, isComplexOf, leggingAt, noCompl
 use Rattle.rules.specs.Settings.{increment}
 use Rattle.rules.specs.Records.{ForAll, Fits, FourSigned, Report, FourBytes, removed}
 use Rattle.rules.specs.Effects.{Effect, Turn, _⟫_, ended, nothing, repeat, report, turned}
-use Rattle.rules.specs.Prices.{clearPrice, inBand, marketBest, net, ratio1, ratio2, shown, weighed}
+use Rattle.rules.specs.Prices.{clearPrice, inBand, marketBest, net, shown, weighed}
 use Rattle.rules.specs.Removal.{goes, leavers, remove, removeOf, stayers}
 use Rattle.rules.specs.Standing.{findComplex, otherClear, otherLeg, parentOf, settle, verdict, showAgain}
 use Rattle.rules.specs.Trading.{pairOff, putComplex, putRegular, take, tradeWith}
 use Rattle.rules.specs.Order.{enterRegular, hit, meet, meetTurn, order}
 use Rattle.rules.specs.Generation.{generate, generateLeg, legPrice, make, makes, newLegging}
-use Rattle.rules.specs.Complex.{anyClosed, cancel, cancelComplex, cancelRegular, complex, complexPlace, cross, crossTurn, each, legIn, legInTurn, legsIn, regularPlace, restsRegular, sweep, touch, touches, work}
-use Rattle.rules.specs.Refusals.{inRange}
+use Rattle.rules.specs.Complex.{anyClosed, cancel, cancelComplex, cancelRegular, complex, complexPlace, cross, crossTurn, each, legIn, legInTurn, legsIn, regularPlace, restsRegular, sweep, touch, touches, unitsIn, work}
 use Rattle.rules.specs.Step.{accept, perform}
 use Rattle.rules.proofs.Bounds.{band-first, band-second, clear-small, neg-i32, net-i32, new-fits, regular-small, shown-small}
 use Rattle.rules.proofs.Cases.{crossTurn-by, each-by, if-by, meetTurn-by, repeat-by, take-by}
@@ -39,6 +39,8 @@ use Rattle.rules.proofs.Generating.{Makes, made}
 use Rattle.rules.proofs.Removing.{length-stayers}
 use Rattle.rules.proofs.Settling.{Kept, stayers-kept}
 use Rattle.rules.proofs.Tests.{and-l, and-r}
+use Rattle.rules.proofs.Refusing.{wellFormed}
+use Rattle.rules.proofs.Units.{units-open}
 use Rattle.rules.proofs.Widths.{again-ranged, CxFits, LgFits, Ranged, away-ranged, closed-ranged, complex-fits, each-append, fill-ranged, fillC-ranged, increment-ranged, last-ranged, no-cx, no-lg, order-fits, percent-ranged, placed-ranged, put-ranged, putC-ranged, status-ranged, with-legging}
 
 -- an effect that writes records that fit and leaves the fields in range
@@ -95,7 +97,7 @@ writes-removeOf id c v r = writes-remove _ v r
 
 -- Trades --------------------------------------------------------------------------------------
 
-writes-trade : (taker d i k : ℕ) (v : Venue) → FourBytes taker → d < 2 → k ≤ 10000 → Ranged v → Writes (tradeWith taker d i k v)
+writes-trade : (taker d i k : ℕ) (v : Venue) → FourBytes taker → d < 2 → k ≤ 30000 → Ranged v → Writes (tradeWith taker d i k v)
 unfolding tradeWith regularAt
 writes-trade taker d i k v t s q r =
     let o = r .regular i in
@@ -103,7 +105,7 @@ writes-trade taker d i k v t s q r =
     let p = o .price in
     writes-report _ _ (omega arith, omega arith, omega arith, omega arith, t, o .id) (fill-ranged i k v r)
 
-pub writes-take : (taker s d p fuel k : ℕ) → FourBytes taker → d < 2 → k ≤ 10000 → (v : Venue) → Ranged v → Writes (take fuel taker s d p k v)
+pub writes-take : (taker s d p fuel k : ℕ) → FourBytes taker → d < 2 → k ≤ 30000 → (v : Venue) → Ranged v → Writes (take fuel taker s d p k v)
 writes-take taker s d p zero k t b q v r = unfold take in (writes-nothing v r)
 writes-take taker s d p (suc fuel) k t b q v r =
     take-by Writes fuel taker s d p k v (λ _. writes-nothing v r) (λ _ _. writes-nothing v r)
@@ -113,7 +115,7 @@ writes-take taker s d p (suc fuel) k t b q v r =
 
 writes-meet : (i j k : ℕ) (v : Venue) → k ≤ 10000 → Ranged v → Writes (meet i j k v)
 unfolding meet regularAt
-writes-meet i j k v q r = writes-trade _ _ j k _ (r .regular i .id) (r .regular i .side) q (fill-ranged i k v r)
+writes-meet i j k v q r = writes-trade _ _ j k _ (r .regular i .id) (r .regular i .side) (omega arith) (fill-ranged i k v r)
 
 find-each : (P : Complex → Type 0) (id : ℕ) (cs : List Complex) → P noComplex → ((i : ℕ) → P (getD cs i noComplex)) → P (findComplex id cs)
 unfolding findComplex
@@ -155,8 +157,8 @@ writes-hit i l k v f q r =
     writes-then _ _
     (writes-then _ _
     (writes-report _ _ (omega arith, omega arith, omega arith, omega arith, rf .id, cf .id) (fill-ranged i k v r))
-    (writes-take (c .id) (other .series) (other .side) clear k k (cf .id) (other-side c cf (o .series)) q))
-    (λ w x. writes-pairOff _ (c .id) _ k (cf .id) (net-i32 (opposite (o .side)) (other .side) (l .price) clear p (clear-small v r (other .series) (opposite (other .side)))) q w x)
+    (writes-take (c .id) (other .series) (other .side) clear k k (cf .id) (other-side c cf (o .series)) (omega arith)))
+    (λ w x. writes-pairOff _ (c .id) _ k (cf .id) (net-i32 (opposite (o .side)) (other .side) (l .price) clear (omega arith) (omega (arith, clear-small v r (other .series) (opposite (other .side))))) q w x)
 
 -- Turns ---------------------------------------------------------------------------------------
 
@@ -199,23 +201,23 @@ unfolding touch
 writes-touch i v r = if-by Writes (touches v (complexAt v i)) (λ _. writes-remove _ v r) (λ _. writes-nothing v r)
 
 writes-legIn : (i a b k : ℕ) (v : Venue) → a ≤ 100000 → b ≤ 100000 → k ≤ 10000 → Ranged v → Writes (legIn i a b k v)
-unfolding legIn complexAt net weighed ratio1 ratio2
+unfolding legIn complexAt net weighed
 writes-legIn i a b k v p q n r =
     let c = cx v i in
     let f = r .complex i in
     writes-then _ _
     (writes-then _ _
-    (writes-take (c .id) (c .series1) (c .side1) a k k (f .id) (f .side1) n v r)
-    (writes-take (c .id) (c .series2) (c .side2) b k k (f .id) (f .side2) n))
-    (writes-pairOff i (c .id) _ k (f .id) (net-i32 (c .side1) (c .side2) (1 * a) (1 * b) (omega arith) (omega arith)) n)
+    (writes-take (c .id) (c .series1) (c .side1) a _ _ (f .id) (f .side1) (mul-le-mul (f .ratio1) n) v r)
+    (writes-take (c .id) (c .series2) (c .side2) b _ _ (f .id) (f .side2) (mul-le-mul (f .ratio2) n)))
+    (writes-pairOff i (c .id) _ k (f .id) (net-i32 (c .side1) (c .side2) (c .ratio1 * a) (c .ratio2 * b) (mul-le-mul (f .ratio1) p) (mul-le-mul (f .ratio2) q)) n)
 
 writes-legInTurn : (i : ℕ) (v : Venue) → Ranged v → TurnWrites (legInTurn i v)
 unfolding legInTurn complexAt
 writes-legInTurn i v r =
     let c = cx v i in
     let q = r .complex i .quantity in
-    if-by TurnWrites (legsIn v c _ _)
-    (λ _. writes-legIn i _ _ _ v (regular-small v r (c .series1) (opposite (c .side1))) (regular-small v r (c .series2) (opposite (c .side2))) (omega arith) r)
+    if-by TurnWrites (legsIn v c _ _ && held (unitsIn v c))
+    (λ _. writes-legIn i _ _ _ v (regular-small v r (c .series1) (opposite (c .side1))) (regular-small v r (c .series2) (opposite (c .side2))) (omega (arith, units-open v c)) r)
     (λ _. tt)
 
 pub writes-work : (i : ℕ) (v : Venue) → Ranged v → Writes (work i v)
@@ -276,12 +278,12 @@ writes-cancel id v r =
     (λ _. writes-then _ _ (writes-report _ _ (r .complex j .id, (let z = r .complex j .quantity in omega arith)) (fillC-ranged j _ v r)) (writes-removeOf _ _)))
     writes-settle
 
-pub writes-perform : (number : ℕ) (m : Message) (v : Venue) → inRange m ≡ true → Ranged v → Writes (perform number m v)
+pub writes-perform : (number : ℕ) (m : Message) (v : Venue) → wellFormed m ≡ true → Ranged v → Writes (perform number m v)
 unfolding perform order enterRegular putRegular complex putComplex sweep
 writes-perform number (Order o) v h r =
-    writes-then _ _ (writes-repeat _ (writes-meetTurn _) (o .quantity) _ (let f = order-fits o (unfold inRange in h) in put-ranged _ o _ f (last-ranged (o .id) v (f .id) r))) writes-settle
+    writes-then _ _ (writes-repeat _ (writes-meetTurn _) (o .quantity) _ (let f = order-fits o (unfold wellFormed in h) in put-ranged _ o _ f (last-ranged (o .id) v (f .id) r))) writes-settle
 writes-perform number (TwoLeg c) v h r =
-    writes-then _ _ (writes-then _ _ (writes-work _ _ (let f = complex-fits c (unfold inRange in h) in putC-ranged _ c _ f (last-ranged (c .id) v (f .id) r))) writes-settle) (writes-generate _)
+    writes-then _ _ (writes-then _ _ (writes-work _ _ (let f = complex-fits c (unfold wellFormed in h) in putC-ranged _ c _ f (last-ranged (c .id) v (f .id) r))) writes-settle) (writes-generate _)
 writes-perform number (Cancel id) v h r = writes-cancel id v r
 writes-perform number (Away s b o) v h r = writes-settle _ (away-ranged s b o v h r)
 writes-perform number (Status s x) v h r = writes-settle _ (status-ranged s x v h r)
@@ -290,6 +292,6 @@ writes-perform number Sweep v h r =
 writes-perform number (Increment s i e) v h r = writes-settle _ (increment-ranged number s i e v h r)
 writes-perform number (Percent x e) v h r = writes-settle _ (percent-ranged number x e v h r)
 
-pub writes-accept : (number : ℕ) (m : Message) (v : Venue) → inRange m ≡ true → Ranged v → Writes (accept number m v)
+pub writes-accept : (number : ℕ) (m : Message) (v : Venue) → wellFormed m ≡ true → Ranged v → Writes (accept number m v)
 unfolding accept
 writes-accept number m v h r = writes-then _ _ (writes-perform number m v h r) (λ w x. writes-nothing _ (closed-ranged w x))

@@ -1,15 +1,22 @@
--- What one message writes: its answer, what the places can pay for, and a complex order's own worth with both its legs at most.
+-- What one message writes: its answer, and what the places can pay for. The dearest is a sweep in which each complex order is of unequal ratios.
+use mathlib.Core.Path.{_≡_}
+use mathlib.Core.Bool.{Bool, false, not, true}
+use mathlib.Core.Logic.{_≢_}
 use mathlib.Core.List.{List, []}
 use Prim.Native.Nat.{ℕ, _+_, _*_, _≤_}
 use native.Mathlib.Omega.{arith}
-use lib.ListN.{length}
+use native.Mathlib.Decide.{decLt}
+use lib.Dec.{eqb}
+use lib.ListN.{length, length-set, set}
+use lib.Seq.{getD-set-same}
+use borrow.Author.Tests.{eqb-false, not-true}
 use Rattle.rules.specs.declared.Cause.the-variants.{Withdrawn}
 use Rattle.rules.specs.declared.Complex.{Complex}
 use Rattle.rules.specs.declared.Message.{Message}
 use Rattle.rules.specs.declared.Message.the-variants.{Away, Cancel, Increment, Order, Percent, Status, Sweep, TwoLeg}
 use Rattle.rules.specs.declared.Venue.{Venue}
 use Rattle.rules.specs.Base.{if_then_else_}
-use Rattle.rules.specs.Words.{withEditions, withLast, withSeries}
+use Rattle.rules.specs.Words.{complexAt, noComplex, oneToOne, withComplex, withEditions, withLast, withSeries}
 use Rattle.rules.specs.Settings.{enterEdition, percentage}
 use Rattle.rules.specs.Messages.{messageOf}
 use Rattle.rules.specs.Records.{cancelled}
@@ -18,37 +25,51 @@ use Rattle.rules.specs.Standing.{parentOf, settle}
 use Rattle.rules.specs.Trading.{fillComplex, fillRegular, freeComplex, putComplex}
 use Rattle.rules.specs.Generation.{generate}
 use Rattle.rules.specs.Complex.{cancel, cancelComplex, cancelRegular, complex, complexPlace, each, regularPlace, restsRegular, sweep, work}
+use Rattle.rules.specs.Refusals.{complexInRange, twoLegInRange}
 use Rattle.rules.specs.Step.{accept, answered, perform, setAway, setFigure, setStatus, step}
 use Rattle.rules.specs.Sums.{total}
-use Rattle.rules.specs.Lengths.{perComplex, perLeg, perLegging, perRegular, recordLength}
+use Rattle.rules.specs.Lengths.{perComplex, perCross, perLeg, perLegging, perRegular, perRound, perUnequal, recordLength}
+use Rattle.rules.proofs.Above.{above, above-most}
 use Rattle.rules.proofs.Adding.{total-append}
 use Rattle.rules.proofs.Calling.{step-by}
 use Rattle.rules.proofs.Cases.{if-by}
-use Rattle.rules.proofs.Costs.{Costs, costs-each, costs-removeOf, costs-report, costs-then, costs-work, perTrade, settled-costs}
-use Rattle.rules.proofs.Legs.{costs-generate, generation-writes}
+use Rattle.rules.proofs.Costs.{Apart, Costs, costs-removeOf, costs-report, costs-then, costs-work, costs-works, perTrade, settled-costs, share, share-most}
+use Rattle.rules.proofs.Filling.{held-fitsC}
+use Rattle.rules.proofs.Legs.{costs-generate, generation-writes, legOf-most}
 use Rattle.rules.proofs.Matching.{Housed, costs-order}
-use Rattle.rules.proofs.Worth.{fill-le, fillC-le, putC-worth, spent, spent-settle, spent-then, worth, worth-most}
+use Rattle.rules.proofs.Refusing.{accepted, wellFormed}
+use Rattle.rules.proofs.Summing.{due, due-most, due-none, sum, sum-most, sum-plus}
+use Rattle.rules.proofs.Tests.{and-l, and-r}
+use Rattle.rules.proofs.Worth.{evenOpen, fill-le, fillC-le, ofComplex, ofComplex-most, ofEven, perEven, putC-worth, regular-most, spent, spent-settle, spent-then, worth, worth-most}
 
 -- Messages ------------------------------------------------------------------------------------
 
-costs-complex : (c : Complex) (v : Venue) → spent 0 0 (complex c v) ≤ worth perRegular 0 v + (perComplex + 2 * perLeg)
+-- an order that is given a place has its legs in two series
+put-apart : (c : Complex) (v : Venue) → c .series1 ≢ c .series2 → Apart (freeComplex v) (putComplex (freeComplex v) c v)
+unfolding Apart putComplex withComplex
+put-apart c v two h = elim (decLt (freeComplex v) (length (v .complex))) [
+  | yes fits ↦ rw (getD-set-same (v .complex) (freeComplex v) c noComplex fits) two
+  | no out ↦ absurd (let z = held-fitsC (set (v .complex) (freeComplex v) c) (freeComplex v) h in omega (arith, length-set (v .complex) (freeComplex v) c))
+]
+
+costs-complex : (c : Complex) (v : Venue) → c .series1 ≢ c .series2 → spent 0 0 (complex c v) ≤ worth perRegular 0 v + (perComplex + perRound + 2 * perLeg)
 unfolding complex Costs
-costs-complex c v =
+costs-complex c v two =
     let i = freeComplex v in
     let w = putComplex i c v in
     let p = putC-worth perRegular 0 i c v in
     let e = work i w ⟫ settle in
-    let x = settled-costs perRegular 0 0 w (work i w) (costs-work i w) in
+    let x = settled-costs perRegular 0 (share (complexAt w i)) w (work i w) (costs-work i w (put-apart c v two)) in
     let y = spent-then 0 0 e (generate i) in
     let z = costs-generate i (e .venue) in
-    omega arith
+    omega (arith, share-most (complexAt w i), legOf-most (complexAt (e .venue) i))
 
 -- what a sweep generates, the orders that it is generated for pay
-sweep-writes : (v : Venue) → total recordLength (sweep v .reports) ≤ worth perRegular 0 v
+sweep-writes : (v : Venue) → ((i : ℕ) → Apart i v) → total recordLength (sweep v .reports) ≤ worth perRegular 0 v + sum (above share 0) (v .complex)
 unfolding sweep _⟫_ spent
-sweep-writes v =
+sweep-writes v two =
     let e = each 32 work 0 v ⟫ settle in
-    let w = settled-costs perRegular 0 0 v (each 32 work 0 v) (costs-each work costs-work 32 0 v) in
+    let w = settled-costs perRegular 0 (sum (above share 0) (v .complex)) v (each 32 work 0 v) (costs-works 32 0 v two) in
     let g = generation-writes 32 0 (e .venue) in
     rw (total-append recordLength (e .reports) (each 32 generate 0 (e .venue) .reports)) (omega arith)
 
@@ -65,32 +86,57 @@ costs-cancel id v = settled-costs 0 0 12 v _ (costs-cancelled id v)
 
 -- The step ------------------------------------------------------------------------------------
 
--- the dearest is a complex order: its own worth, and both legs
-abbrev pub dearest : ℕ
-dearest = perComplex + 2 * perLeg
+well-apart : (c : Complex) → wellFormed (TwoLeg c) ≡ true → c .series1 ≢ c .series2
+unfolding wellFormed complexInRange twoLegInRange
+well-apart c z =
+    let g : not (eqb (c .series1) (c .series2)) ≡ true = search (and-l, and-r, z) depth 14 in
+    eqb-false (c .series1) (c .series2) (not-true _ g)
+
+-- what is asked of a venue: its places, that each legging order has its parent, and each complex order its legs in two series
+pub record Asked (v : Venue) : Type 0 where
+  pub places32 : length (v .complex) ≡ 32
+  pub housed : (n : ℕ) → Housed n v
+  pub apart : (i : ℕ) → Apart i v
 
 -- what the places can pay for at most, at any of the rates
 unfoldable pub places : Venue → ℕ
-places v = perRegular * length (v .regular) + perComplex * length (v .complex) + perLegging * length (v .legging)
+places v = perRegular * length (v .regular) + perUnequal * length (v .complex) + perLegging * length (v .legging)
 
-perform-writes : (number : ℕ) (m : Message) (v : Venue) → ((n : ℕ) → Housed n v) → total recordLength (perform number m v .reports) ≤ places v + dearest
+-- of each complex order its worth and its share together
+even-or-share : (c : Complex) → ofEven c + above share 0 c ≤ perRound
+unfolding ofEven evenOpen share
+even-or-share c = let x = above-most share 0 c in let y = due-most perEven (if oneToOne c then c .quantity else 0) in go (oneToOne c) x y
+  where
+    go : (b : Bool) → above share 0 c ≤ (if b then 0 else perRound) → due perEven (if b then c .quantity else 0) ≤ perEven →
+        due perEven (if b then c .quantity else 0) + above share 0 c ≤ perRound
+    go true x y = omega arith
+    go false x y = omega (arith, due-none perEven)
+
+sweep-places : (v : Venue) → worth perRegular 0 v + sum (above share 0) (v .complex) ≤ places v
+unfolding places worth
+sweep-places v =
+    let x = sum-most (λ c. ofEven c + above share 0 c) perRound even-or-share (v .complex) in
+    let y = sum-most ofComplex perCross ofComplex-most (v .complex) in
+    omega (arith, sum-plus ofEven (above share 0) (v .complex), regular-most perRegular 0 v)
+
+perform-writes : (number : ℕ) (m : Message) (v : Venue) → wellFormed m ≡ true → Asked v → total recordLength (perform number m v .reports) ≤ places v
 unfolding perform withLast withSeries withEditions setAway setStatus setFigure enterEdition spent places Housed parentOf
-perform-writes number (Order o) v h = omega (arith, costs-order o (withLast v (o .id)) h, worth-most perTrade perTrade (withLast v (o .id)))
-perform-writes number (TwoLeg c) v h = omega (arith, costs-complex c (withLast v (c .id)), worth-most perRegular 0 (withLast v (c .id)))
-perform-writes number (Cancel id) v h = omega (arith, costs-cancel id v, worth-most 0 0 v)
-perform-writes number (Away s bid offer) v h = omega (arith, spent-settle (setAway s bid offer v), worth-most 0 0 (setAway s bid offer v))
-perform-writes number (Status s x) v h = omega (arith, spent-settle (setStatus s x v), worth-most 0 0 (setStatus s x v))
-perform-writes number Sweep v h = omega (arith, sweep-writes v, worth-most perRegular 0 v)
-perform-writes number (Increment s i e) v h = omega (arith, spent-settle (setFigure number s i e v), worth-most 0 0 (setFigure number s i e v))
-perform-writes number (Percent x e) v h = omega (arith, spent-settle (setFigure number percentage x e v), worth-most 0 0 (setFigure number percentage x e v))
+perform-writes number (Order o) v r h = omega (arith, costs-order o (withLast v (o .id)) (h .housed), worth-most perTrade perTrade (withLast v (o .id)), h .places32)
+perform-writes number (TwoLeg c) v r h = omega (arith, costs-complex c (withLast v (c .id)) (well-apart c r), worth-most perRegular 0 (withLast v (c .id)), h .places32)
+perform-writes number (Cancel id) v r h = omega (arith, costs-cancel id v, worth-most 0 0 v, h .places32)
+perform-writes number (Away s bid offer) v r h = omega (arith, spent-settle (setAway s bid offer v), worth-most 0 0 (setAway s bid offer v))
+perform-writes number (Status s x) v r h = omega (arith, spent-settle (setStatus s x v), worth-most 0 0 (setStatus s x v))
+perform-writes number Sweep v r h = omega (arith, sweep-writes v (h .apart), sweep-places v)
+perform-writes number (Increment s i e) v r h = omega (arith, spent-settle (setFigure number s i e v), worth-most 0 0 (setFigure number s i e v))
+perform-writes number (Percent x e) v r h = omega (arith, spent-settle (setFigure number percentage x e v), worth-most 0 0 (setFigure number percentage x e v))
 
 -- closing the gaps writes nothing
-accept-writes : (number : ℕ) (m : Message) (v : Venue) → ((n : ℕ) → Housed n v) → total recordLength (accept number m v .reports) ≤ places v + dearest
+accept-writes : (number : ℕ) (m : Message) (v : Venue) → wellFormed m ≡ true → Asked v → total recordLength (accept number m v .reports) ≤ places v
 unfolding accept _⟫_ nothing total
-accept-writes number m v h = rw (total-append recordLength (perform number m v .reports) []) (omega (arith, perform-writes number m v h))
+accept-writes number m v r h = rw (total-append recordLength (perform number m v .reports) []) (omega (arith, perform-writes number m v r h))
 
-pub step-writes : (v : Venue) → ((n : ℕ) → Housed n v) → (number : ℕ) (bs : List ℕ) → total recordLength (step v number bs .effect .reports) ≤ 12 + (places v + dearest)
+pub step-writes : (v : Venue) → Asked v → (number : ℕ) (bs : List ℕ) → total recordLength (step v number bs .effect .reports) ≤ 12 + places v
 unfolding step answered total recordLength nothing
 step-writes v h number bs =
-    step-by (λ e. 12 + total recordLength (e .reports) ≤ 12 + (places v + dearest)) v number bs
-    (λ _. let z = accept-writes number (messageOf bs) v h in omega arith) (λ _. omega arith)
+    step-by (λ e. 12 + total recordLength (e .reports) ≤ 12 + places v) v number bs
+    (λ e. let z = accept-writes number (messageOf bs) v (accepted v bs e .range) h in omega arith) (λ _. omega arith)

@@ -1,15 +1,15 @@
--- Document 01, "Complex (kind 2)", with "Sweep" and "Cancel".
+-- Document 01, "Complex (kind 2)", with "Sweep" and "Cancel"; and kind 10 of request (g), whose quantities "outside 65 are units": of kind 2 a unit is one contract of each leg.
 use mathlib.Core.Bool.{Bool, not, _&&_, _||_}
-use Prim.Native.Nat.{ℕ, zero, suc, min}
-use lib.Dec.{ltb, eqb}
+use Prim.Native.Nat.{ℕ, zero, suc, _*_, _/_, min}
+use lib.Dec.{leb, ltb, eqb}
 use lib.IntN.{ℤ, pos, negℤ, _+ℤ_}
 use lib.Signed.{leZ, ltZ}
 use Rattle.rules.specs.declared.Complex.{Complex}
 use Rattle.rules.specs.declared.Venue.{Venue}
-use Rattle.rules.specs.declared.Cause.the-variants.{Executed, Withdrawn, Touched}
+use Rattle.rules.specs.declared.Cause.the-variants.{Executed, Withdrawn, Touched, NoUnit}
 use Rattle.rules.specs.Base.{if_then_else_, held, placeWhere, Choice, nobody, picked, first}
 use Rattle.rules.specs.Words.{closed, opposite, placeOf, statusOf, regularAt, complexAt, isRegularOf, isComplexOf, earlierComplex}
-use Rattle.rules.specs.Prices.{bestRegular, bestSize, bestOwn, net, inBand}
+use Rattle.rules.specs.Prices.{bestRegular, bestSize, bestOwn, ownSize, net, inBand}
 use Rattle.rules.specs.Records.{crossed, cancelled}
 use Rattle.rules.specs.Effects.{Effect, nothing, report, _⟫_, Turn, ended, turned, repeat}
 use Rattle.rules.specs.Removal.{remove, removeOf, failIf}
@@ -23,13 +23,13 @@ anyClosed v c = eqb (statusOf v (c .series1)) closed || eqb (statusOf v (c .seri
 
 -- Cross ---------------------------------------------------------------------------------------
 
--- "with the same series and in each the reversed side, whichever leg is named first"
+-- "with the same series and in each the reversed side, whichever leg is named first"; request (g): "only with the same series and ratios reversed in side"
 unfoldable pub reversed : Complex → Complex → Bool
 reversed a b =
-    (eqb (a .series1) (b .series1) && eqb (a .side1) (opposite (b .side1))
-    && eqb (a .series2) (b .series2) && eqb (a .side2) (opposite (b .side2)))
-    || (eqb (a .series1) (b .series2) && eqb (a .side1) (opposite (b .side2))
-    && eqb (a .series2) (b .series1) && eqb (a .side2) (opposite (b .side1)))
+    (eqb (a .series1) (b .series1) && eqb (a .side1) (opposite (b .side1)) && eqb (a .ratio1) (b .ratio1)
+    && eqb (a .series2) (b .series2) && eqb (a .side2) (opposite (b .side2)) && eqb (a .ratio2) (b .ratio2))
+    || (eqb (a .series1) (b .series2) && eqb (a .side1) (opposite (b .side2)) && eqb (a .ratio1) (b .ratio2)
+    && eqb (a .series2) (b .series1) && eqb (a .side2) (opposite (b .side1)) && eqb (a .ratio2) (b .ratio1))
 
 -- Request (b): "A cross is made only if neither party's net is above what best regular prices of both legs would give that party, where both legs
 -- have one." For the party c, dealt at net t.
@@ -87,11 +87,20 @@ unfoldable pub takenSide : Complex → (place : ℕ) → Bool
 takenSide c n =
     eqb n (placeOf (c .series1) (opposite (c .side1))) || eqb n (placeOf (c .series2) (opposite (c .side2)))
 
--- "remove legging orders on those two sides (cause 8; this stands for viii and ix)"
+-- request (g): "the sizes, shown and legging, at the prices touched" fill a unit; one contract of each leg always does
+unfoldable pub fillsUnit : Venue → Complex → Bool
+fillsUnit v c =
+    leb (c .ratio1) (ownSize v (c .series1) (opposite (c .side1)))
+    && leb (c .ratio2) (ownSize v (c .series2) (opposite (c .side2)))
+
+-- "remove legging orders on those two sides (cause 8; this stands for viii and ix)"; request (g): where the sizes "can't fill a unit, the legging orders on
+-- the touched sides go with cause 10 instead of 8"
 unfoldable pub touch : (i : ℕ) → Venue → Effect
 touch i v =
     let c = complexAt v i in
-    if touches v c then remove (λ n _. failIf (takenSide c n) Touched) v else nothing v
+    if touches v c
+    then remove (λ n _. failIf (takenSide c n) (if fillsUnit v c then Touched else NoUnit)) v
+    else nothing v
 
 -- Leg in --------------------------------------------------------------------------------------
 
@@ -100,22 +109,31 @@ unfoldable pub legsIn : Venue → Complex → (a b : ℕ) → Bool
 legsIn v c a b =
     held (c .quantity) && held a && held b && leZ (net c a b) (c .limit) && inBand v c (net c a b)
 
--- k contracts of each leg at prices a and b: "first leg's trades, second's, 66", and the removals
+-- k units at prices a and b, each leg's contracts by its ratio: "first leg's trades, second's, 66", and the removals
 unfoldable pub legIn : (i a b k : ℕ) → Venue → Effect
 legIn i a b k v =
     let c = complexAt v i in
-    take k (c .id) (c .series1) (c .side1) a k v
-    ⟫ take k (c .id) (c .series2) (c .side2) b k
+    let m = c .ratio1 * k in
+    let n = c .ratio2 * k in
+    take m (c .id) (c .series1) (c .side1) a m v
+    ⟫ take n (c .id) (c .series2) (c .side2) b n
     ⟫ pairOff i (c .id) (net c a b) k
 
--- "trade the least of open quantity and both sizes"
+-- "trade the least of open quantity and both sizes": as many units as they fill
+unfoldable pub unitsIn : Venue → Complex → ℕ
+unitsIn v c =
+    min (c .quantity) (min
+    (bestSize v (c .series1) (opposite (c .side1)) / c .ratio1)
+    (bestSize v (c .series2) (opposite (c .side2)) / c .ratio2))
+
+-- request (g): "a leg-in step that can't fill a unit trades nothing and ends"
 unfoldable pub legInTurn : (i : ℕ) → Venue → Turn
 legInTurn i v =
     let c = complexAt v i in
     let a = bestRegular v (c .series1) (opposite (c .side1)) in
     let b = bestRegular v (c .series2) (opposite (c .side2)) in
-    let k = min (c .quantity) (min (bestSize v (c .series1) (opposite (c .side1))) (bestSize v (c .series2) (opposite (c .side2)))) in
-    if legsIn v c a b then turned (legIn i a b k v) else ended
+    let k = unitsIn v c in
+    if legsIn v c a b && held k then turned (legIn i a b k v) else ended
 
 -- The messages --------------------------------------------------------------------------------
 

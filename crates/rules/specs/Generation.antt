@@ -10,7 +10,7 @@ use Rattle.rules.specs.declared.Legging.{Legging}
 use Rattle.rules.specs.declared.Venue.{Venue}
 use Rattle.rules.specs.declared.Cause.the-variants.{Replaced}
 use Rattle.rules.specs.Base.{if_then_else_, held}
-use Rattle.rules.specs.Words.{within, opposite, signed, customer, otherClass, withLegging, placeOf, complexAt, leggingAt}
+use Rattle.rules.specs.Words.{within, opposite, signed, customer, otherClass, oneToOne, withLegging, placeOf, complexAt, leggingAt}
 use Rattle.rules.specs.Settings.{increment}
 use Rattle.rules.specs.Prices.{better, reaches, bestOwn, ownPrice, displayed, away, inBand}
 use Rattle.rules.specs.Records.{generated}
@@ -64,8 +64,10 @@ makes v c s d =
     let p = legPrice v c s d in
     let n = placeOf s d in
     let w = placed n (newLegging v c s d) v in
+    -- request (g): orders of unequal ratios "never generate"
+    oneToOne c
     -- "both series open"; (C)(1), (C)(2)(ii)
-    bothOpen v c
+    && bothOpen v c
     -- "N in band"; (C)(2)(iii)
     && inBand v c (c .limit)
     -- "clear price present"; (C)(1)(ii)

@@ -18,9 +18,21 @@ recordLength (cancelled id quantity) = 12
 abbrev pub perRegular : ℕ
 perRegular = 60
 
--- and a complex order that is left may have both legs generated
+-- a complex order that is one to one: it is freed by a round of legging in or by a cross, or it is left and may have both legs generated
 abbrev pub perComplex : ℕ
 perComplex = 66
+
+-- One of unequal ratios (request (g)) is never generated for. By whole units a round may empty neither level and leave some of the order: it frees nothing, and
+-- its two trades and its pair are 22 + 22 + 16; but what is left of one level then fills no unit, so it is the last round of that order's turn.
+abbrev pub perRound : ℕ
+perRound = 60
+
+-- and later it may be freed by a cross
+abbrev pub perCross : ℕ
+perCross = 20
+
+abbrev pub perUnequal : ℕ
+perUnequal = 80
 
 -- a legging order's going writes its 68
 abbrev pub perLegging : ℕ

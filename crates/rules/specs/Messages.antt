@@ -1,4 +1,4 @@
--- Document 01, "Message and record bytes": the messages, kinds 1 to 6, and document 02's: (d) kinds 7 and 8, (e) kind 9.
+-- Document 01, "Message and record bytes": the messages, kinds 1 to 6, and document 02's: (d) kinds 7 and 8, (e) kind 9, (g) kind 10.
 use mathlib.Core.Path.{_≡_}
 use mathlib.Core.List.{List, [], _++_}
 use Prim.Native.Nat.{ℕ, _-_}
@@ -9,6 +9,7 @@ use Rattle.rules.specs.declared.Complex.{Complex}
 use Rattle.rules.specs.declared.Message.{Message}
 use Rattle.rules.specs.declared.Message.the-variants.{Order, TwoLeg, Cancel, Away, Status, Sweep, Increment, Percent}
 use Rattle.rules.specs.Base.{if_then_else_}
+use Rattle.rules.specs.Words.{oneToOne}
 use Rattle.rules.specs.Bytes.{u8At, u32At, asSigned, kindField, u8, u32, i32, framed}
 
 -- The table's column "Length", by kind; 0 for what is no kind of message.
@@ -23,6 +24,7 @@ lengthOf k =
     else if eqb k 7 then 10
     else if eqb k 8 then 9
     else if eqb k 9 then 22
+    else if eqb k 10 then 23
     else 0
 
 -- 1 order: id u32, series u8, side u8, price u32, quantity u32. It shows so much of it, and the rest is reserve
@@ -37,9 +39,9 @@ orderAt x bs = record {
   reserve = u32At bs 14 - x;
 }
 
--- 2 complex: id u32, series u8, side u8, series u8, side u8, class u8, N i32, quantity u32
-unfoldable pub twoLegAt : List ℕ → Complex
-twoLegAt bs = record {
+-- 2 complex: id u32, series u8, side u8, series u8, side u8, class u8, N i32, quantity u32; with its ratios
+unfoldable pub twoLegAt : List ℕ → (ratio1 ratio2 : ℕ) → Complex
+twoLegAt bs r s = record {
   id = u32At bs 4;
   series1 = u8At bs 8;
   side1 = u8At bs 9;
@@ -48,26 +50,29 @@ twoLegAt bs = record {
   class = u8At bs 12;
   limit = asSigned (u32At bs 13);
   quantity = u32At bs 17;
+  ratio1 = r;
+  ratio2 = s;
 }
 
--- the message at the front of bs, whose kind is one of 1 to 9; an order of kind 1 shows all of it:
+-- the message at the front of bs, whose kind is one of 1 to 10; an order of kind 1 shows all of it, and one of kind 2 is one to one:
 -- 3 cancel: id u32; 4 away: series u8, bid u32, offer u32; 5 status: series u8, status u8; 6 sweep: none;
 -- (d): "Kind 7 carries series u8, increment u8 … and edition u32. Kind 8 carries percent u8 … and edition u32."
--- (e): "Kind 9 is kind 1 with a shown quantity u32 after it".
+-- (e): "Kind 9 is kind 1 with a shown quantity u32 after it". (g): "Kind 10 is kind 2 with two ratio bytes after it".
 unfoldable pub messageOf : List ℕ → Message
 messageOf bs =
     let k = kindField bs in
     if eqb k 1 then Order (orderAt (u32At bs 14) bs)
-    else if eqb k 2 then TwoLeg (twoLegAt bs)
+    else if eqb k 2 then TwoLeg (twoLegAt bs 1 1)
     else if eqb k 3 then Cancel (u32At bs 4)
     else if eqb k 4 then Away (u8At bs 4) (u32At bs 5) (u32At bs 9)
     else if eqb k 5 then Status (u8At bs 4) (u8At bs 5)
     else if eqb k 6 then Sweep
     else if eqb k 7 then Increment (u8At bs 4) (u8At bs 5) (u32At bs 6)
     else if eqb k 8 then Percent (u8At bs 4) (u32At bs 5)
-    else Order (orderAt (u32At bs 18) bs)
+    else if eqb k 9 then Order (orderAt (u32At bs 18) bs)
+    else TwoLeg (twoLegAt bs (u8At bs 21) (u8At bs 22))
 
--- the form of a message, by the first kind that has it: an order of kind 9 is of the form of kind 1
+-- the form of a message, by the first kind that has it: an order of kind 9 is of the form of kind 1, one of kind 10 of that of kind 2
 abbrev pub messageForm : Message → ℕ
 messageForm (Order o) = 1
 messageForm (TwoLeg c) = 2
@@ -82,12 +87,18 @@ messageForm (Percent x e) = 8
 unfoldable pub orderFields : Regular → List ℕ
 orderFields o = u32 (o .id) ++ u8 (o .series) ++ u8 (o .side) ++ u32 (o .price) ++ u32 (o .quantity)
 
--- the bytes of a message; of an order that shows all of it, those of kind 1
+-- the fields of kind 2, which kind 10 begins with
+unfoldable pub twoLegFields : Complex → List ℕ
+twoLegFields c =
+    u32 (c .id) ++ u8 (c .series1) ++ u8 (c .side1) ++ u8 (c .series2) ++ u8 (c .side2) ++ u8 (c .class) ++ i32 (c .limit) ++ u32 (c .quantity)
+
+-- the bytes of a message; of an order that shows all of it those of kind 1, of a complex order one to one those of kind 2
 unfoldable pub encodeMessage : Message → List ℕ
 encodeMessage (Order o) = if eqb (o .display) (o .quantity) then framed 1 (orderFields o) else framed 9 (orderFields o ++ u32 (o .display))
 encodeMessage (TwoLeg c) =
-    framed 2 (u32 (c .id) ++ u8 (c .series1) ++ u8 (c .side1) ++ u8 (c .series2) ++ u8 (c .side2)
-    ++ u8 (c .class) ++ i32 (c .limit) ++ u32 (c .quantity))
+    if oneToOne c
+    then framed 2 (twoLegFields c)
+    else framed 10 (twoLegFields c ++ u8 (c .ratio1) ++ u8 (c .ratio2))
 encodeMessage (Cancel id) = framed 3 (u32 id)
 encodeMessage (Away s bid offer) = framed 4 (u8 s ++ u32 bid ++ u32 offer)
 encodeMessage (Status s x) = framed 5 (u8 s ++ u8 x)

@@ -32,7 +32,7 @@ blankRegular o =
 unfoldable pub blankComplex : Complex → Bool
 blankComplex c =
     eqb (c .id) 0 && eqb (c .series1) 0 && eqb (c .side1) 0 && eqb (c .series2) 0 && eqb (c .side2) 0
-    && eqb (c .class) 0 && eqb (natAbs (c .limit)) 0 && eqb (c .quantity) 0
+    && eqb (c .class) 0 && eqb (natAbs (c .limit)) 0 && eqb (c .quantity) 0 && eqb (c .ratio1) 0 && eqb (c .ratio2) 0
 
 unfoldable pub blankEdition : Edition → Bool
 blankEdition e = eqb (e .edition) 0 && eqb (e .message) 0 && eqb (e .figure) 0 && eqb (e .value) 0

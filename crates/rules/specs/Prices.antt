@@ -77,6 +77,13 @@ ownPrice l = if held (l .quantity) then l .price else 0
 unfoldable pub bestOwn : Venue → (series side : ℕ) → ℕ
 bestOwn v s d = betterOf d (ownPrice (leggingAt v s d)) (bestRegular v s d)
 
+-- request (g): the size, "shown and legging", at that price
+unfoldable pub ownSize : Venue → (series side : ℕ) → ℕ
+ownSize v s d =
+    let p = bestOwn v s d in
+    let l = leggingAt v s d in
+    sizeIn s d p (v .regular) + (if eqb (ownPrice l) p then l .quantity else 0)
+
 -- "clear price: the best regular price, absent if there is none or if a legging order of that side has a strictly better own price";
 -- the filing's "best displayed bid or offer (other than Legging Orders)", (C)(1)(ii) and (C)(4)(ii)
 unfoldable pub clearPrice : Venue → (series side : ℕ) → ℕ
@@ -112,20 +119,13 @@ away v s d =
 unfoldable pub marketBest : Venue → (series side : ℕ) → ℕ
 marketBest v s d = betterOf d (away v s d) (bestRegular v s d)
 
--- How many contracts of each leg make one of a complex order: "one-to-one ratio". Always 1, until the request for other ratios lands.
-unfoldable pub ratio1 : Complex → ℕ
-ratio1 c = 1
-
-unfoldable pub ratio2 : Complex → ℕ
-ratio2 c = 1
-
--- what a leg adds to the net: sign × price, by its ratio, which is always 1 until that request lands
+-- what a leg adds to the net: sign × price; request (g): "the net weighs each leg by its ratio"
 unfoldable pub weighed : (ratio side price : ℕ) → ℤ
 weighed r d p = signed d (pos (r * p))
 
 -- "Net = the sum over both legs of sign × price": of prices a and b at the legs of c
 unfoldable pub net : Complex → (a b : ℕ) → ℤ
-net c a b = weighed (ratio1 c) (c .side1) a +ℤ weighed (ratio2 c) (c .side2) b
+net c a b = weighed (c .ratio1) (c .side1) a +ℤ weighed (c .ratio2) (c .side2) b
 
 -- "the market bests that the legs would take"
 unfoldable pub taken1 : Venue → Complex → ℕ

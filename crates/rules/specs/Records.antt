@@ -6,7 +6,7 @@ use lib.Dec.{eqb}
 use lib.ListN.{length, drop, replicate}
 use lib.IntN.{ℤ, pos, negsuc}
 use Rattle.rules.specs.declared.Cause.{Cause}
-use Rattle.rules.specs.declared.Cause.the-variants.{Worse, Unpaired, Executed, Withdrawn, OutOfBand, NotOpen, Replaced, Touched}
+use Rattle.rules.specs.declared.Cause.the-variants.{Worse, Unpaired, Executed, Withdrawn, OutOfBand, NotOpen, Replaced, Touched, NoUnit}
 use Rattle.rules.specs.Base.{if_then_else_}
 use Rattle.rules.specs.Bytes.{u8At, u16At, u32At, asSigned, lengthField, kindField, u8, u16, u32, i32, framed}
 
@@ -38,6 +38,8 @@ causeNumber NotOpen = 6
 causeNumber Replaced = 7
 -- (C)(4)(viii) and (ix)
 causeNumber Touched = 8
+-- (C)(4)(x); request (g): touched by an order of unequal ratios where the sizes can't fill a unit
+causeNumber NoUnit = 10
 
 -- Writing -------------------------------------------------------------------------------------
 
@@ -79,7 +81,8 @@ causeOf n =
     else if eqb n 5 then OutOfBand
     else if eqb n 6 then NotOpen
     else if eqb n 7 then Replaced
-    else Touched
+    else if eqb n 8 then Touched
+    else NoUnit
 
 -- the record at the front of bs
 unfoldable pub recordOf : List ℕ → Report

@@ -1,4 +1,5 @@
--- Document 01, "Refusals", 1 to 8: "Checked in number order"; and document 02 (d), 11 to 13: "checked after 4, in this order".
+-- Document 01, "Refusals", 1 to 8: "Checked in number order"; and document 02's, (d) 11 to 13: "checked after 4, in this order", (g) 14: "checked after 4
+-- and 11 to 13". Where 01 names kind 1, kind 9 is meant too, and where it names kind 2, kind 10.
 use mathlib.Core.Bool.{Bool, true, false, not, _&&_, _||_}
 use mathlib.Core.List.{List}
 use Prim.Native.Nat.{ℕ, _%_}
@@ -12,22 +13,22 @@ use Rattle.rules.specs.declared.Message.the-variants.{Order, TwoLeg, Can
 use Rattle.rules.specs.declared.Decoded.{Decoded}
 use Rattle.rules.specs.declared.Decoded.the-variants.{Taken, Refused}
 use Rattle.rules.specs.Base.{if_then_else_, held, all}
-use Rattle.rules.specs.Words.{closed, statusOf, within, isId, isSeries, isSide, isClass, isStatus, isQuantity, isAway, isPrice, isLimit}
+use Rattle.rules.specs.Words.{closed, statusOf, oneToOne, within, isId, isSeries, isSide, isClass, isStatus, isQuantity, isAway, isPrice, isLimit, isRatio}
 use Rattle.rules.specs.Settings.{isIncrement, isPercent, isEdition, increment, freeEdition}
-use Rattle.rules.specs.Bytes.{lengthField, kindField}
+use Rattle.rules.specs.Bytes.{u8At, lengthField, kindField}
 use Rattle.rules.specs.Messages.{lengthOf, messageOf}
 use Rattle.rules.specs.Trading.{freeRegular, freeComplex}
 use Rattle.rules.specs.Complex.{anyClosed, restsRegular, restsComplex}
 
--- 1 to 4: of the bytes alone ------------------------------------------------------------------
+-- 1 to 4, and 14: of the bytes alone ----------------------------------------------------------
 
 -- 1: "1 to 3 bytes left (in a one-message call also none), or length below 4 or above what is left"
 unfoldable pub torn : List ℕ → Bool
 torn bs = ltb (length bs) 4 || ltb (lengthField bs) 4 || ltb (length bs) (lengthField bs)
 
--- 2: "kind not 1 to 6"; "Refusal 2 no longer meets the message kinds that this and later requests add": (d) 7 and 8, (e) 9
+-- 2: "kind not 1 to 6"; "Refusal 2 no longer meets the message kinds that this and later requests add": (d) 7 and 8, (e) 9, (g) 10
 unfoldable pub isKind : ℕ → Bool
-isKind = within 1 9
+isKind = within 1 10
 
 -- 3: "length not its kind's"
 unfoldable pub isLength : (kind length : ℕ) → Bool
@@ -38,34 +39,51 @@ unfoldable pub regularInRange : Regular → Bool
 regularInRange o =
     isId (o .id) && isSeries (o .series) && isSide (o .side) && isPrice (o .price) && isQuantity (o .quantity) && within 1 (o .quantity) (o .display)
 
-unfoldable pub complexInRange : Complex → Bool
-complexInRange c =
+-- of a complex order whose limit goes as far as `far`
+unfoldable pub twoLegInRange : (far : ℕ) → Complex → Bool
+twoLegInRange far c =
     isId (c .id) && isSeries (c .series1) && isSide (c .side1) && isSeries (c .series2) && isSide (c .side2)
-    && not (eqb (c .series1) (c .series2)) && isClass (c .class) && isLimit (c .limit) && isQuantity (c .quantity)
+    && not (eqb (c .series1) (c .series2)) && isClass (c .class) && isLimit far (c .limit) && isQuantity (c .quantity)
+    && isRatio (c .ratio1) && isRatio (c .ratio2)
 
-unfoldable pub inRange : Message → Bool
-inRange (Order o) = regularInRange o
-inRange (TwoLeg c) = complexInRange c
-inRange (Cancel id) = isId id
-inRange (Away s bid offer) = isSeries s && isAway bid && isAway offer
-inRange (Status s x) = isSeries s && isStatus x
-inRange Sweep = true
-inRange (Increment s i e) = isSeries s && isIncrement i && isEdition e
-inRange (Percent x e) = isPercent x && isEdition e
+-- "N, from -200,000 to 200,000"; of kind 10 "N runs from -600,000 to 600,000"
+unfoldable pub farOf : (kind : ℕ) → ℕ
+farOf k = if eqb k 10 then 600000 else 200000
+
+unfoldable pub inRange : (kind : ℕ) → Message → Bool
+inRange k (Order o) = regularInRange o
+inRange k (TwoLeg c) = twoLegInRange (farOf k) c
+inRange k (Cancel id) = isId id
+inRange k (Away s bid offer) = isSeries s && isAway bid && isAway offer
+inRange k (Status s x) = isSeries s && isStatus x
+inRange k Sweep = true
+inRange k (Increment s i e) = isSeries s && isIncrement i && isEdition e
+inRange k (Percent x e) = isPercent x && isEdition e
+
+-- 14: "equal ratio bytes; checked after 4 and 11 to 13", of kind 10, which meets none of 11 to 13
+unfoldable pub equalRatios : List ℕ → Bool
+equalRatios bs = eqb (kindField bs) 10 && eqb (u8At bs 21) (u8At bs 22)
 
 -- the refusal's number that a decoding tells; 0 for a message
 abbrev pub decodedNumber : Decoded → ℕ
 decodedNumber (Taken m) = 0
 decodedNumber (Refused x) = x
 
--- the message at the front of bs, or the first of 1 to 4 that its bytes meet
+-- the message at the front of bs, or the first of 1 to 4 and 14 that its bytes meet
 unfoldable pub decoded : List ℕ → Decoded
 decoded bs =
     if torn bs then Refused 1
     else if not (isKind (kindField bs)) then Refused 2
     else if not (isLength (kindField bs) (lengthField bs)) then Refused 3
-    else if not (inRange (messageOf bs)) then Refused 4
+    else if not (inRange (kindField bs) (messageOf bs)) then Refused 4
+    else if equalRatios bs then Refused 14
     else Taken (messageOf bs)
+
+-- A complex order that may rest: of kind 2, one to one, or of kind 10, with ratios that differ.
+unfoldable pub complexInRange : Complex → Bool
+complexInRange c =
+    twoLegInRange (if oneToOne c then 200000 else 600000) c
+    && (oneToOne c || not (eqb (c .ratio1) (c .ratio2)))
 
 -- 4, 11 to 13, and 5 to 8: of the venue ---------------------------------------------------------
 

@@ -11,7 +11,7 @@ use Rattle.rules.specs.declared.Listed.{Listed}
 use Rattle.rules.specs.declared.Edition.{Edition}
 use Rattle.rules.specs.declared.Venue.{Venue}
 use Rattle.rules.specs.Base.{if_then_else_, held, all}
-use Rattle.rules.specs.Words.{buy, sell, isPrice, isQuantity, isAway, isStatus, isId}
+use Rattle.rules.specs.Words.{buy, sell, isPrice, isQuantity, isAway, isStatus, isId, oneToOne}
 use Rattle.rules.specs.Settings.{percentage, isIncrement, isPercent, isEdition}
 use Rattle.rules.specs.Prices.{bestOwn}
 use Rattle.rules.specs.Standing.{parentOf, hasLeg, verdict, stands}
@@ -31,13 +31,14 @@ unfoldable pub listedInRange : Listed → Bool
 listedInRange x = isStatus (x .status) && isAway (x .bid) && isAway (x .offer)
 
 -- "each legging order matches an open parent leg, is no larger than what its parent has open, and passes its test";
--- its fields in range; and a free legging place is all zero.
+-- its fields in range; request (g): "a given venue with a legging order of one, or one of equal ratios, is unsound"; and a free legging place is all zero.
 -- Where no parent rests, `parentOf` is the empty order, which has nothing open.
 unfoldable pub leggingSound : Venue → (place : ℕ) → Legging → Bool
 leggingSound v n l =
     if held (l .quantity)
     then isId (l .parent) && isPrice (l .price) && isQuantity (l .quantity)
     && hasLeg (parentOf v l) (n / 2) (n % 2)
+    && oneToOne (parentOf v l)
     && leb (l .quantity) (parentOf v l .quantity)
     && stands (verdict v n l)
     else blankLegging l

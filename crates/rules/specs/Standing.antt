@@ -49,7 +49,7 @@ otherClear v c s = clearPrice v (otherLeg c s .series) (opposite (otherLeg c s .
 unfoldable pub otherSize : Venue → Complex → (series : ℕ) → ℕ
 otherSize v c s = bestSize v (otherLeg c s .series) (opposite (otherLeg c s .side))
 
--- the net of price p at side d of series s, a leg of c, and price q at its other leg
+-- the net of price p at side d of series s, a leg of c, and price q at its other leg; one to one, since no other order has legging orders (request (g))
 abbrev pub legNet : Complex → (series side p q : ℕ) → ℤ
 legNet c s d p q = signed d (pos p) +ℤ signed (otherLeg c s .side) (pos q)
 

@@ -38,6 +38,8 @@ lessComplex k c = record {
   class = c .class;
   limit = c .limit;
   quantity = c .quantity - k;
+  ratio1 = c .ratio1;
+  ratio2 = c .ratio2;
 }
 
 -- the order at place i is filled for k contracts
@@ -82,7 +84,7 @@ take (suc fuel) taker s d p k v =
       ]
     ]
 
--- k contracts of the complex order of this id, at place i, are paired at net n: "66, then removal of all its parent's legging orders (cause 3)";
+-- k of the complex order of this id, at place i, are paired at net n: "66, then removal of all its parent's legging orders (cause 3)";
 -- "Any cross or pair removes the legging orders of each party (3), right after its 70 or 66"; (C)(3) and (C)(4)(iii)
 unfoldable pub pairOff : (i id : ℕ) (n : ℤ) (k : ℕ) → Venue → Effect
 pairOff i id n k v = report (pair id n k) (fillComplex i k v) ⟫ removeOf id Executed

@@ -1,6 +1,7 @@
 -- Document 01, "Trials": the starred ones, the printed session, the wrongs named there, sessions for what these and the theorems leave open, the bytes
 -- of each kind of message and record, the ends of each range, the refusals by the examples of their table, then section by section what a wrong definition
--- would do otherwise (tests/wrong_definitions.py tries such), and soundness clause by clause: all in one statement over a list.
+-- would do otherwise (tests/wrong_definitions.py tries such), and soundness clause by clause: all in one statement over a list. The sessions of requests (d)
+-- and (g) are a statement each, for the checker's limit on steps.
 -- A session's messages go in as bytes and its records are read from the report memory's bytes.
 use mathlib.Core.Bool.{Bool, true, false, not, _&&_}
 use mathlib.Core.Path.{_≡_, refl}
@@ -20,9 +21,10 @@ use Rattle.rules.specs.declared.Decoded.{Decoded}
 use Rattle.rules.specs.declared.Decoded.the-variants.{Taken, Refused}
 use Rattle.rules.specs.declared.Message.{Message}
 use Rattle.rules.specs.declared.Message.the-variants.{Order, TwoLeg, Cancel, Away, Status, Sweep, Increment, Percent}
-use Rattle.rules.specs.declared.Cause.the-variants.{Worse, Unpaired, Executed, Withdrawn, OutOfBand, NotOpen, Replaced, Touched}
+use Rattle.rules.specs.declared.Cause.the-variants.{Worse, Unpaired, Executed, Withdrawn, OutOfBand, NotOpen, Replaced, Touched, NoUnit}
 use Rattle.rules.specs.declared.Verdict.the-variants.{Stands, Fails}
 use Rattle.rules.specs.Words.{buy, sell, closed, opened, noRegular, noComplex, noLegging, notListed, noEdition, freshVenue, withRegular, withComplex, withLegging, withSeries, withEditions, withLast}
+use Rattle.rules.specs.Bytes.{kindField}
 use Rattle.rules.specs.Messages.{lengthOf, encodeMessage}
 use Rattle.rules.specs.Records.{Report, answer, trade, pair, generated, removed, crossed, cancelled, encode, encodeAll, recordOf, records, sheet}
 use Rattle.rules.specs.Prices.{inBand}
@@ -67,7 +69,7 @@ pub data Outcome : Type 0 where
 
 -- a complex order that sells series 0 and buys series 1
 spread : Complex
-spread = record { id = 1; series1 = 0; side1 = sell; series2 = 1; side2 = buy; class = 0; limit = pos 0; quantity = 1 }
+spread = record { id = 1; series1 = 0; side1 = sell; series2 = 1; side2 = buy; class = 0; limit = pos 0; quantity = 1; ratio1 = 1; ratio2 = 1 }
 
 open1 : (bid : ℕ) → Listed
 open1 b = record { status = opened; bid = b; offer = 0 }
@@ -91,7 +93,11 @@ rest : (id series side price quantity : ℕ) → Regular
 rest i s d p q = single i s d p q q
 
 both : (id quantity : ℕ) → Complex
-both i q = record { id = i; series1 = 0; side1 = buy; series2 = 1; side2 = buy; class = 1; limit = pos 205; quantity = q }
+both i q = record { id = i; series1 = 0; side1 = buy; series2 = 1; side2 = buy; class = 1; limit = pos 205; quantity = q; ratio1 = 1; ratio2 = 1 }
+
+-- complex order 3 of other ratios and limits
+byRatios : (n : ℤ) (r q : ℕ) → Complex
+byRatios n r q = record { id = 3; series1 = 0; side1 = buy; series2 = 1; side2 = buy; class = 1; limit = n; quantity = 8; ratio1 = r; ratio2 = q }
 
 leg : (parent price quantity : ℕ) → Legging
 leg i p q = record { parent = i; price = p; quantity = q }
@@ -118,7 +124,7 @@ outcome (onward v before room bytes number done rs w) =
     let c = called room (runFrom (length bytes) v before room bytes) in
     returned (c .returned .number) (c .returned .done) (c .returned .written) (records (c .report)) (c .report) (c .returned .venue)
 outcome (band bid offer t b) = near (inBand (setAway 1 0 offer (setAway 0 bid 0 freshVenue)) spread t)
-outcome (ranged m b) = near (inRange m && not (offIncrement freshVenue m))
+outcome (ranged m b) = near (inRange (kindField (encodeMessage m)) m && not (offIncrement freshVenue m))
 outcome (taken bytes m) = read (decoded bytes) (encodeMessage m)
 outcome (told r bytes) = laid (encode r) (recordOf bytes)
 outcome (counted is should) = numbered is
@@ -158,7 +164,7 @@ reserves id s d p q x = encodeMessage (Order (single id s d p q x))
 -- both legs of side d, in series a and b, class 1
 pairUp : (id a b d : ℕ) (n : ℤ) (quantity : ℕ) → List ℕ
 pairUp id a b d n q =
-    encodeMessage (TwoLeg (record { id = id; series1 = a; side1 = d; series2 = b; side2 = d; class = 1; limit = n; quantity = q }))
+    encodeMessage (TwoLeg (record { id = id; series1 = a; side1 = d; series2 = b; side2 = d; class = 1; limit = n; quantity = q; ratio1 = 1; ratio2 = 1 }))
 
 -- buy series 0 and buy series 1, class 1
 buysBoth : (id : ℕ) (n : ℤ) (quantity : ℕ) → List ℕ
@@ -239,7 +245,7 @@ together =
     ++ pairUp 2 1 0 buy (pos 150) 5
     ++ enters 3 0 sell 90 5
     ++ enters 4 2 sell 60 10
-    ++ encodeMessage (TwoLeg (record { id = 5; series1 = 0; side1 = sell; series2 = 2; side2 = buy; class = 1; limit = minus 30; quantity = 3 }))
+    ++ encodeMessage (TwoLeg (record { id = 5; series1 = 0; side1 = sell; series2 = 2; side2 = buy; class = 1; limit = minus 30; quantity = 3; ratio1 = 1; ratio2 = 1 }))
     ++ pairUp 6 2 0 buy (pos 130) 5
     ++ enters 7 2 sell 40 10
 
@@ -252,7 +258,7 @@ wrongs =
     ∷ removed 3 0 0 Executed ∷ removed 3 1 0 Executed ∷ []))
     -- "pairing the other leg with a legging order": order 3 hides the offers of series 1 from order 5, whose leg in series 0 makes none
     ∷ session 400 (opening ++ encodeMessage (Away 1 60 0)
-    ++ encodeMessage (TwoLeg (record { id = 3; series1 = 1; side1 = sell; series2 = 0; side2 = buy; class = 1; limit = pos 45; quantity = 4 }))
+    ++ encodeMessage (TwoLeg (record { id = 3; series1 = 1; side1 = sell; series2 = 0; side2 = buy; class = 1; limit = pos 45; quantity = 4; ratio1 = 1; ratio2 = 1 }))
     ++ buysBoth 5 (pos 195) 4) 0 7
     (accepted 1 5 ++ (answer 6 0 8 1 ∷ generated 3 1 1 85 85 4 ∷ answer 7 0 12 2 ∷ generated 5 1 0 65 65 4 ∷ []))
     -- "testing removals one by one"
@@ -274,7 +280,15 @@ wrongs =
 -- any two legs, of a class
 twoLeg : (id s d t e class : ℕ) (n : ℤ) (quantity : ℕ) → List ℕ
 twoLeg id s d t e k n q =
-    encodeMessage (TwoLeg (record { id = id; series1 = s; side1 = d; series2 = t; side2 = e; class = k; limit = n; quantity = q }))
+    encodeMessage (TwoLeg (record { id = id; series1 = s; side1 = d; series2 = t; side2 = e; class = k; limit = n; quantity = q; ratio1 = 1; ratio2 = 1 }))
+
+-- request (g): r of a series and q of another, class 1; and both of side d in series 0 and 1
+weighing : (id s d r t e q : ℕ) (n : ℤ) (quantity : ℕ) → List ℕ
+weighing id s d r t e q n k =
+    encodeMessage (TwoLeg (record { id = id; series1 = s; side1 = d; series2 = t; side2 = e; class = 1; limit = n; quantity = k; ratio1 = r; ratio2 = q }))
+
+ratioed : (id d r q : ℕ) (n : ℤ) (quantity : ℕ) → List ℕ
+ratioed id d r q n k = weighing id 0 d r 1 d q n k
 
 -- complex order 3 has legging orders at 115 and 75
 legged : List ℕ
@@ -505,6 +519,121 @@ reserved =
     (accepted 1 3 ++ (trade 0 0 100 1 12 9 ∷ trade 0 0 100 5 12 11 ∷ trade 0 0 100 1 12 9 ∷ []))
     ∷ []
 
+-- Request (g) ----------------------------------------------------------------------------------
+
+-- complex orders that rest, with ids from n on
+pairs : (count n : ℕ) → List ℕ
+pairs zero n = []
+pairs (suc count) n = buysBoth n (pos 100) 1 ++ pairs count (suc n)
+
+-- complex order 3 for one contract has legging orders for one, at 115 and 75
+oneEach : List ℕ
+oneEach = opening ++ buysBoth 3 (pos 205) 1
+
+oneEachSheet : List Report
+oneEachSheet = accepted 1 4 ++ (answer 5 0 5 2 ∷ generated 3 0 0 115 115 1 ∷ generated 3 1 0 75 75 1 ∷ [])
+
+-- a message of kind 10 with these ratios and this limit
+tenth : (r q : ℕ) (n : ℤ) → Message
+tenth r q n = TwoLeg (record { id = 1; series1 = 0; side1 = sell; series2 = 1; side2 = buy; class = 0; limit = n; quantity = 1; ratio1 = r; ratio2 = q })
+
+pub unequal : List Trial
+unequal =
+    -- two of series 0 and one of series 1: 15 and 12 fill 7 units, at 350 each; "trade whole units", and what is left of 8 rests
+    session 200 (opening ++ ratioed 3 buy 2 1 (pos 350) 8) 0 5
+    (accepted 1 5 ++ (trade 0 0 130 14 3 1 ∷ trade 1 0 90 7 3 2 ∷ pair 3 (pos 350) 7 ∷ []))
+    ∷ session 200 (opening ++ ratioed 3 buy 2 1 (pos 349) 8) 0 5 (accepted 1 5)
+    -- one and two: 6 units at 310
+    ∷ session 200 (opening ++ ratioed 3 buy 1 2 (pos 310) 8) 0 5
+    (accepted 1 5 ++ (trade 0 0 130 6 3 1 ∷ trade 1 0 90 12 3 2 ∷ pair 3 (pos 310) 6 ∷ []))
+    -- 5 of the second leg fill two of these, and one is left
+    ∷ session 200 (enters 1 0 sell 130 15 ++ enters 2 1 sell 90 5 ++ ratioed 3 buy 1 2 (pos 310) 8) 0 3
+    (accepted 1 3 ++ (trade 0 0 130 2 3 1 ∷ trade 1 0 90 4 3 2 ∷ pair 3 (pos 310) 2 ∷ []))
+    -- two sold against one bought: 2 units at -130
+    ∷ session 200 (enters 1 0 buy 110 5 ++ enters 2 1 sell 90 7 ++ weighing 3 0 sell 2 1 buy 1 (minus 130) 8) 0 3
+    (accepted 1 3 ++ (trade 0 1 110 4 3 1 ∷ trade 1 0 90 2 3 2 ∷ pair 3 (minus 130) 2 ∷ []))
+    -- no more than is open
+    ∷ session 200 (opening ++ ratioed 3 buy 3 2 (pos 570) 4) 0 5
+    (accepted 1 5 ++ (trade 0 0 130 12 3 1 ∷ trade 1 0 90 8 3 2 ∷ pair 3 (pos 570) 4 ∷ []))
+    -- "a leg-in step that can't fill a unit trades nothing and ends": 3 at 130 fill one unit, and what is left of them none with the 9 at 135
+    ∷ session 200 (enters 1 0 sell 130 3 ++ enters 2 0 sell 135 9 ++ enters 3 1 sell 90 12 ++ ratioed 4 buy 2 1 (pos 370) 20) 0 4
+    (accepted 1 4 ++ (trade 0 0 130 2 4 1 ∷ trade 1 0 90 1 4 3 ∷ pair 4 (pos 350) 1 ∷ []))
+    ∷ session 200 (enters 1 0 sell 130 1 ++ enters 2 0 sell 135 5 ++ enters 3 1 sell 90 12 ++ ratioed 4 buy 2 1 (pos 360) 2) 0 4 (accepted 1 4)
+    -- it goes on where units are filled at each price
+    ∷ session 200 (enters 1 0 sell 130 4 ++ enters 2 0 sell 135 9 ++ enters 3 1 sell 90 12 ++ ratioed 4 buy 2 1 (pos 360) 4) 0 4
+    (accepted 1 4 ++ (trade 0 0 130 4 4 1 ∷ trade 1 0 90 2 4 3 ∷ pair 4 (pos 350) 2 ∷ trade 0 0 135 4 4 2 ∷ trade 1 0 90 2 4 3 ∷ pair 4 (pos 360) 2 ∷ []))
+    -- "the net weighs each leg by its ratio", O too: 350 is out of the band of 330, and in that of 340
+    ∷ session 200 (opening ++ encodeMessage (Away 0 0 120) ++ ratioed 3 buy 2 1 (pos 350) 8) 0 6 (accepted 1 6)
+    ∷ session 200 (opening ++ encodeMessage (Away 0 0 125) ++ ratioed 3 buy 2 1 (pos 350) 8) 0 6
+    (accepted 1 6 ++ (trade 0 0 130 14 3 1 ∷ trade 1 0 90 7 3 2 ∷ pair 3 (pos 350) 7 ∷ []))
+    -- "cross only with the same series and ratios reversed in side": order 4, whichever leg is named first; not order 2, and not order 3, of kind 2
+    ∷ session 200 (quoted ++ ratioed 1 buy 2 1 (pos 300) 5 ++ ratioed 2 sell 1 2 (minus 300) 5 ++ pairUp 3 0 1 sell (minus 300) 5
+    ++ weighing 4 1 sell 1 0 sell 2 (minus 300) 3) 0 8
+    (accepted 1 8 ++ (crossed 4 1 (minus 300) 3 ∷ []))
+    -- one of the ratios is not the same, of the second leg and of the first, more or less than the other's; the nets are in band
+    ∷ session 200 (quotes 1000 1000 5 5 ++ ratioed 1 buy 2 1 (pos 2005) 5 ++ ratioed 2 sell 2 3 (minus 2005) 5 ++ weighing 3 1 sell 3 0 sell 2 (minus 2005) 5
+    ++ ratioed 4 buy 2 1 (pos 2005) 5 ++ weighing 5 1 buy 1 0 buy 2 (pos 2005) 5) 0 9
+    (accepted 1 9)
+    ∷ session 200 (quotes 5 5 1000 1000 ++ ratioed 1 buy 1 2 (pos 2005) 5 ++ ratioed 2 sell 3 2 (minus 2005) 5 ++ weighing 3 1 sell 2 0 sell 3 (minus 2005) 5) 0 7
+    (accepted 1 7)
+    -- request (b) of weighed nets: the bids give -250, and it crosses there; or -255, and it legs in
+    ∷ session 200 (quotes 0 101 0 51 ++ enters 1 0 buy 100 5 ++ enters 2 1 buy 50 5 ++ ratioed 3 buy 2 1 (pos 250) 5 ++ ratioed 4 sell 2 1 (minus 250) 3) 0 8
+    (accepted 1 8 ++ (crossed 4 3 (minus 250) 3 ∷ []))
+    ∷ session 200 (quotes 0 101 0 51 ++ enters 1 0 buy 100 5 ++ enters 2 1 buy 55 5 ++ ratioed 3 buy 2 1 (pos 250) 5 ++ ratioed 4 sell 2 1 (minus 250) 3) 0 8
+    (accepted 1 8 ++ (trade 0 1 100 4 4 1 ∷ trade 1 1 55 2 4 2 ∷ pair 4 (minus 255) 2 ∷ []))
+    -- 115 and 75 are touched at 305: 8 of each fill a unit of two and one, though not five
+    ∷ session 200 (legged ++ ratioed 4 sell 2 1 (minus 305) 5) 0 6 (leggedSheet ++ (answer 6 0 0 0 ∷ removed 3 0 0 Touched ∷ removed 3 1 0 Touched ∷ []))
+    ∷ session 200 (legged ++ ratioed 4 sell 2 1 (minus 306) 5) 0 6 (leggedSheet ++ (answer 6 0 5 2 ∷ []))
+    -- "can't fill a unit": one of each does not, by the first leg or by the second, whichever is named first; it does with a regular order beside it
+    ∷ session 200 (oneEach ++ ratioed 4 sell 2 1 (minus 305) 5) 0 6 (oneEachSheet ++ (answer 6 0 0 0 ∷ removed 3 0 0 NoUnit ∷ removed 3 1 0 NoUnit ∷ []))
+    ∷ session 200 (oneEach ++ ratioed 4 sell 1 2 (minus 265) 5) 0 6 (oneEachSheet ++ (answer 6 0 0 0 ∷ removed 3 0 0 NoUnit ∷ removed 3 1 0 NoUnit ∷ []))
+    ∷ session 200 (oneEach ++ weighing 4 1 sell 2 0 sell 1 (minus 265) 5) 0 6 (oneEachSheet ++ (answer 6 0 0 0 ∷ removed 3 0 0 NoUnit ∷ removed 3 1 0 NoUnit ∷ []))
+    ∷ session 200 (oneEach ++ enters 4 0 buy 115 1 ++ ratioed 5 sell 2 1 (minus 305) 5) 0 7
+    (oneEachSheet ++ (answer 6 0 5 2 ∷ answer 7 0 0 0 ∷ removed 3 0 0 Touched ∷ removed 3 1 0 Touched ∷ []))
+    -- "shown and legging": 2 and 1 fill a unit of three, 1 and 1 do not, whatever the reserve
+    ∷ session 300 (oneEach ++ reserves 4 0 buy 115 5 2 ++ ratioed 5 sell 3 1 (minus 420) 2) 0 7
+    (oneEachSheet ++ (answer 6 0 5 2 ∷ answer 7 0 0 0 ∷ removed 3 0 0 Touched ∷ removed 3 1 0 Touched ∷ []))
+    ∷ session 300 (oneEach ++ reserves 4 0 buy 115 5 1 ++ ratioed 5 sell 3 1 (minus 420) 2) 0 7
+    (oneEachSheet ++ (answer 6 0 5 2 ∷ answer 7 0 0 0 ∷ removed 3 0 0 NoUnit ∷ removed 3 1 0 NoUnit ∷ []))
+    -- "at the prices touched": the bid of 110 does not count beside 115
+    ∷ session 200 (oneEach ++ enters 4 0 buy 110 5 ++ ratioed 5 sell 2 1 (minus 305) 5) 0 7
+    (oneEachSheet ++ (answer 6 0 5 2 ∷ answer 7 0 0 0 ∷ removed 3 0 0 NoUnit ∷ removed 3 1 0 NoUnit ∷ []))
+    -- a side without a legging order, too: one contract is bid for in series 2, or two; 15 and 12 are offered in series 0 and 1
+    ∷ session 200 (legged ++ enters 4 2 buy 50 1 ++ weighing 5 0 sell 1 2 sell 2 (minus 215) 5) 0 7
+    (leggedSheet ++ (answer 6 0 5 2 ∷ answer 7 0 4 1 ∷ removed 3 0 0 NoUnit ∷ []))
+    ∷ session 200 (legged ++ enters 4 2 buy 50 2 ++ weighing 5 0 sell 1 2 sell 2 (minus 215) 5) 0 7
+    (leggedSheet ++ (answer 6 0 5 2 ∷ answer 7 0 4 1 ∷ removed 3 0 0 Touched ∷ []))
+    ∷ session 200 (oneEach ++ weighing 4 0 sell 2 1 buy 1 (minus 140) 5) 0 6 (oneEachSheet ++ (answer 6 0 4 1 ∷ removed 3 0 0 NoUnit ∷ []))
+    ∷ session 200 (oneEach ++ weighing 4 0 sell 1 1 buy 2 (pos 65) 5) 0 6 (oneEachSheet ++ (answer 6 0 4 1 ∷ removed 3 0 0 Touched ∷ []))
+    -- and then it legs in at the regular prices
+    ∷ session 300 (oneEach ++ enters 4 0 buy 110 5 ++ enters 5 1 buy 70 5 ++ ratioed 6 sell 2 1 (minus 290) 1) 0 8
+    (oneEachSheet ++ (answer 6 0 5 2 ∷ answer 7 0 5 2 ∷ answer 8 0 0 0 ∷ removed 3 0 0 NoUnit ∷ removed 3 1 0 NoUnit
+    ∷ trade 0 1 110 2 6 4 ∷ trade 1 1 70 1 6 5 ∷ pair 6 (minus 290) 1 ∷ []))
+    -- "never generate": one to one both would, at 115 and 75
+    ∷ session 200 (opening ++ ratioed 3 buy 2 1 (pos 205) 8 ++ ratioed 4 buy 1 2 (pos 205) 8 ++ sweeps) 0 7 (accepted 1 7)
+    -- a sweep works it; "Quantities of theirs outside 65 are units": 2 paired and 1 cancelled
+    ∷ session 200 (ratioed 1 buy 2 1 (pos 350) 3 ++ enters 2 0 sell 130 5 ++ enters 3 1 sell 90 5 ++ sweeps ++ cancels 1) 0 5
+    (accepted 1 4 ++ (trade 0 0 130 4 1 2 ∷ trade 1 0 90 2 1 3 ∷ pair 1 (pos 350) 2 ∷ answer 5 0 0 0 ∷ cancelled 1 1 ∷ []))
+    -- units of what shows alone, which shows again for the sweep
+    ∷ session 400 (reserves 1 0 sell 130 15 4 ++ enters 2 1 sell 90 12 ++ ratioed 3 buy 2 1 (pos 350) 5 ++ sweeps) 0 4
+    (accepted 1 3 ++ (trade 0 0 130 4 3 1 ∷ trade 1 0 90 2 3 2 ∷ pair 3 (pos 350) 2 ∷ answer 4 0 0 0 ∷ trade 0 0 130 4 3 1 ∷ trade 1 0 90 2 3 2 ∷ pair 3 (pos 350) 2 ∷ []))
+    -- "Refusals that name kind 2 cover kind 10", and it shares the 32 places; 14 before 5 and before 7
+    ∷ session 600 (ratioed 1 buy 2 1 (pos 0) 1 ++ ratioed 1 buy 2 1 (pos 0) 1 ++ ratioed 1 buy 2 2 (pos 0) 1 ++ pairs 31 2 ++ ratioed 40 buy 2 1 (pos 0) 1
+    ++ ratioed 40 buy 3 3 (pos 0) 1 ++ closes 1 ++ ratioed 41 buy 2 1 (pos 0) 1 ++ ratioed 1 buy 2 1 (pos 0) 1) 0 39
+    (answer 1 0 0 0 ∷ answer 2 5 0 0 ∷ answer 3 14 0 0 ∷ (accepted 4 31 ++ (answer 35 7 0 0 ∷ answer 36 14 0 0 ∷ answer 37 0 0 0 ∷ answer 38 6 0 0 ∷ answer 39 5 0 0 ∷ [])))
+    -- 3 before 4, of kind 10 and of kind 2; 4 before 14, which equal bytes 0, 4, or an N of 600,001 meet
+    ∷ session 200 ((21 ∷ 0 ∷ 10 ∷ 0 ∷ replicate 17 0) ++ (23 ∷ 0 ∷ 2 ∷ 0 ∷ replicate 19 0) ++ (23 ∷ 0 ∷ 10 ∷ 0 ∷ replicate 19 0) ++ ratioed 1 buy 4 4 (pos 0) 1
+    ++ ratioed 1 buy 2 2 (pos 600001) 1) 0 5
+    (answer 1 3 0 0 ∷ answer 2 3 0 0 ∷ answer 3 4 0 0 ∷ answer 4 4 0 0 ∷ answer 5 4 0 0 ∷ [])
+    -- 14: "equal ratio bytes", one to one too and where N is 300,000, which of kind 2 is a 4; before 6
+    ∷ session 200 (closes 0 ++ (23 ∷ 0 ∷ 10 ∷ 0 ∷ 1 ∷ 0 ∷ 0 ∷ 0 ∷ 0 ∷ 0 ∷ 1 ∷ 0 ∷ 1 ∷ 224 ∷ 147 ∷ 4 ∷ 0 ∷ 1 ∷ 0 ∷ 0 ∷ 0 ∷ 1 ∷ 1 ∷ [])
+    ++ buysBoth 1 (pos 300000) 1 ++ ratioed 1 buy 3 3 (pos 0) 1 ++ ratioed 1 buy 3 2 (pos 0) 1) 0 5
+    (answer 1 0 0 0 ∷ answer 2 14 0 0 ∷ answer 3 4 0 0 ∷ answer 4 14 0 0 ∷ answer 5 6 0 0 ∷ [])
+    -- "each 1 to 3", "N runs from -600,000 to 600,000"
+    ∷ ranged (tenth 3 1 (pos 600000)) true ∷ ranged (tenth 1 3 (minus 600000)) true ∷ ranged (tenth 2 1 (pos 600001)) false ∷ ranged (tenth 2 1 (minus 600001)) false
+    ∷ ranged (tenth 4 1 (pos 0)) false ∷ ranged (tenth 1 4 (pos 0)) false ∷ ranged (tenth 0 1 (pos 0)) false ∷ ranged (tenth 1 0 (pos 0)) false
+    ∷ []
+
 -- Bytes ---------------------------------------------------------------------------------------
 
 -- a legging order of complex order 67,305,985 gone from side 1 of series 6, by the cause's number
@@ -519,7 +648,9 @@ layouts =
     ∷ taken (22 ∷ 0 ∷ 9 ∷ 0 ∷ 1 ∷ 2 ∷ 3 ∷ 4 ∷ 5 ∷ 1 ∷ 160 ∷ 134 ∷ 1 ∷ 0 ∷ 16 ∷ 39 ∷ 0 ∷ 0 ∷ 44 ∷ 1 ∷ 0 ∷ 0 ∷ [])
     (Order (single 67305985 5 1 100000 10000 300))
     ∷ taken (21 ∷ 0 ∷ 2 ∷ 0 ∷ 1 ∷ 2 ∷ 3 ∷ 4 ∷ 7 ∷ 1 ∷ 6 ∷ 0 ∷ 1 ∷ 254 ∷ 255 ∷ 255 ∷ 255 ∷ 16 ∷ 39 ∷ 0 ∷ 0 ∷ [])
-    (TwoLeg (record { id = 67305985; series1 = 7; side1 = 1; series2 = 6; side2 = 0; class = 1; limit = minus 2; quantity = 10000 }))
+    (TwoLeg (record { id = 67305985; series1 = 7; side1 = 1; series2 = 6; side2 = 0; class = 1; limit = minus 2; quantity = 10000; ratio1 = 1; ratio2 = 1 }))
+    ∷ taken (23 ∷ 0 ∷ 10 ∷ 0 ∷ 1 ∷ 2 ∷ 3 ∷ 4 ∷ 7 ∷ 1 ∷ 6 ∷ 0 ∷ 1 ∷ 254 ∷ 255 ∷ 255 ∷ 255 ∷ 16 ∷ 39 ∷ 0 ∷ 0 ∷ 3 ∷ 2 ∷ [])
+    (TwoLeg (record { id = 67305985; series1 = 7; side1 = 1; series2 = 6; side2 = 0; class = 1; limit = minus 2; quantity = 10000; ratio1 = 3; ratio2 = 2 }))
     ∷ taken (8 ∷ 0 ∷ 3 ∷ 0 ∷ 1 ∷ 2 ∷ 3 ∷ 4 ∷ []) (Cancel 67305985)
     ∷ taken (13 ∷ 0 ∷ 4 ∷ 0 ∷ 3 ∷ 44 ∷ 1 ∷ 0 ∷ 0 ∷ 160 ∷ 134 ∷ 1 ∷ 0 ∷ []) (Away 3 300 100000)
     ∷ taken (6 ∷ 0 ∷ 5 ∷ 0 ∷ 7 ∷ 2 ∷ []) (Status 7 2)
@@ -534,7 +665,7 @@ layouts =
     ∷ told (pair 67305985 (minus 2) 10000) (16 ∷ 0 ∷ 66 ∷ 0 ∷ 1 ∷ 2 ∷ 3 ∷ 4 ∷ 254 ∷ 255 ∷ 255 ∷ 255 ∷ 16 ∷ 39 ∷ 0 ∷ 0 ∷ [])
     ∷ told (generated 67305985 6 1 99999 100000 10000)
     (22 ∷ 0 ∷ 67 ∷ 0 ∷ 1 ∷ 2 ∷ 3 ∷ 4 ∷ 6 ∷ 1 ∷ 159 ∷ 134 ∷ 1 ∷ 0 ∷ 160 ∷ 134 ∷ 1 ∷ 0 ∷ 16 ∷ 39 ∷ 0 ∷ 0 ∷ [])
-    ∷ gone Worse 1 ∷ gone Unpaired 2 ∷ gone Executed 3 ∷ gone Withdrawn 4 ∷ gone OutOfBand 5 ∷ gone NotOpen 6 ∷ gone Replaced 7 ∷ gone Touched 8
+    ∷ gone Worse 1 ∷ gone Unpaired 2 ∷ gone Executed 3 ∷ gone Withdrawn 4 ∷ gone OutOfBand 5 ∷ gone NotOpen 6 ∷ gone Replaced 7 ∷ gone Touched 8 ∷ gone NoUnit 10
     ∷ told (crossed 67305985 134678021 (minus 2) 10000)
     (20 ∷ 0 ∷ 70 ∷ 0 ∷ 1 ∷ 2 ∷ 3 ∷ 4 ∷ 5 ∷ 6 ∷ 7 ∷ 8 ∷ 254 ∷ 255 ∷ 255 ∷ 255 ∷ 16 ∷ 39 ∷ 0 ∷ 0 ∷ [])
     ∷ told (cancelled 67305985 10000) (12 ∷ 0 ∷ 71 ∷ 0 ∷ 1 ∷ 2 ∷ 3 ∷ 4 ∷ 16 ∷ 39 ∷ 0 ∷ 0 ∷ [])
@@ -553,7 +684,7 @@ whole : (id series side price quantity : ℕ) → Message
 whole i s d p q = Order (rest i s d p q)
 
 double : (s d t e class : ℕ) (n : ℤ) (quantity : ℕ) → Message
-double s d t e k n q = TwoLeg (record { id = 1; series1 = s; side1 = d; series2 = t; side2 = e; class = k; limit = n; quantity = q })
+double s d t e k n q = TwoLeg (record { id = 1; series1 = s; side1 = d; series2 = t; side2 = e; class = k; limit = n; quantity = q; ratio1 = 1; ratio2 = 1 })
 
 -- each range at its ends and one beyond
 pub edges : List Trial
@@ -567,7 +698,7 @@ edges =
     ∷ ranged (double 0 0 1 0 0 (pos 200001) 1) false ∷ ranged (double 0 0 1 0 0 (minus 200001) 1) false ∷ ranged (double 0 0 1 0 2 (pos 0) 1) false
     ∷ ranged (double 8 0 1 0 0 (pos 0) 1) false ∷ ranged (double 0 0 8 0 0 (pos 0) 1) false ∷ ranged (double 0 2 1 0 0 (pos 0) 1) false ∷ ranged (double 0 0 1 2 0 (pos 0) 1) false
     ∷ ranged (double 3 0 3 1 0 (pos 0) 1) false ∷ ranged (double 0 0 1 0 0 (pos 0) 0) false ∷ ranged (double 0 0 1 0 0 (pos 0) 10001) false
-    ∷ ranged (TwoLeg (record { id = 0; series1 = 0; side1 = 0; series2 = 1; side2 = 0; class = 0; limit = pos 0; quantity = 1 })) false
+    ∷ ranged (TwoLeg (record { id = 0; series1 = 0; side1 = 0; series2 = 1; side2 = 0; class = 0; limit = pos 0; quantity = 1; ratio1 = 1; ratio2 = 1 })) false
     ∷ ranged (whole 4294967296 0 0 5 1) false
     ∷ ranged (Cancel 0) false ∷ ranged (Cancel 1) true
     ∷ ranged (Away 7 100000 0) true ∷ ranged (Away 8 0 0) false ∷ ranged (Away 0 100001 0) false ∷ ranged (Away 0 0 100001) false
@@ -583,11 +714,6 @@ edges =
 offers : (count n : ℕ) → List ℕ
 offers zero n = []
 offers (suc count) n = enters n 0 sell 100 1 ++ offers count (suc n)
-
--- complex orders that rest, with ids from n on
-pairs : (count n : ℕ) → List ℕ
-pairs zero n = []
-pairs (suc count) n = buysBoth n (pos 100) 1 ++ pairs count (suc n)
 
 -- a venue with "two orders with id 1"
 twice : Venue
@@ -608,7 +734,7 @@ refused =
     ∷ session 100 ((4 ∷ 0 ∷ 6 ∷ 1 ∷ []) ++ (4 ∷ 1 ∷ 6 ∷ 0 ∷ [])) 1 2 (answer 1 2 0 0 ∷ answer 2 1 0 0 ∷ [])
     -- 2: "04 00 63 00"
     ∷ session 100 (4 ∷ 0 ∷ 99 ∷ 0 ∷ []) 0 1 (answer 1 2 0 0 ∷ [])
-    ∷ session 100 ((5 ∷ 0 ∷ 0 ∷ 0 ∷ 7 ∷ []) ++ (4 ∷ 0 ∷ 10 ∷ 0 ∷ []) ++ (4 ∷ 0 ∷ 12 ∷ 0 ∷ []) ++ (4 ∷ 0 ∷ 64 ∷ 0 ∷ [])) 0 4 (answer 1 2 0 0 ∷ answer 2 2 0 0 ∷ answer 3 2 0 0 ∷ answer 4 2 0 0 ∷ [])
+    ∷ session 100 ((5 ∷ 0 ∷ 0 ∷ 0 ∷ 7 ∷ []) ++ (4 ∷ 0 ∷ 11 ∷ 0 ∷ []) ++ (4 ∷ 0 ∷ 12 ∷ 0 ∷ []) ++ (4 ∷ 0 ∷ 64 ∷ 0 ∷ [])) 0 4 (answer 1 2 0 0 ∷ answer 2 2 0 0 ∷ answer 3 2 0 0 ∷ answer 4 2 0 0 ∷ [])
     -- 3: "05 00 06 00 00"
     ∷ session 100 (5 ∷ 0 ∷ 6 ∷ 0 ∷ 0 ∷ []) 0 1 (answer 1 3 0 0 ∷ [])
     -- too short; 3 before 4, which a cancel of id 0 is
@@ -844,7 +970,7 @@ base = standing 0 (leg 3 115 8)
 atTop : (n : ℤ) (price : ℕ) (bids : List Regular) → Venue
 atTop n p os =
     legsUp 99995 (rest 1 1 sell 100 10 ∷ os) 0
-    (record { id = 3; series1 = 0; side1 = sell; series2 = 1; side2 = buy; class = 1; limit = n; quantity = 5 })
+    (record { id = 3; series1 = 0; side1 = sell; series2 = 1; side2 = buy; class = 1; limit = n; quantity = 5; ratio1 = 1; ratio2 = 1 })
     1 (leg 3 p 5)
 
 -- an offer of 130 in series 0 and a bid of 70 in 1
@@ -853,7 +979,7 @@ market x y = rest 1 0 sell 130 x ∷ rest 2 1 buy 70 y ∷ []
 
 -- complex order 3 buys in series 0 and sells in 1
 spreading : (n : ℤ) (quantity : ℕ) → Complex
-spreading n q = record { id = 3; series1 = 0; side1 = buy; series2 = 1; side2 = sell; class = 1; limit = n; quantity = q }
+spreading n q = record { id = 3; series1 = 0; side1 = buy; series2 = 1; side2 = sell; class = 1; limit = n; quantity = q; ratio1 = 1; ratio2 = 1 }
 
 -- a sound venue, of this mask and count: a cancel of what does not rest
 isSound : Venue → (m n : ℕ) → Trial
@@ -862,6 +988,13 @@ isSound v m n = upon v 5 100 (cancels 9) 8 1 (answer 6 8 m n ∷ []) v
 -- an unsound one: given back, with 9
 unsound : Venue → Trial
 unsound v = upon v 5 100 (cancels 9) 9 0 [] v
+
+-- complex order 3 at a limit with ratios, resting alone in a sound venue; and in an unsound one with a legging order or none
+weighed : (n : ℤ) (r q : ℕ) → Trial
+weighed n r q = isSound (legsUp 0 resting 0 (byRatios n r q) 0 noLegging) 0 0
+
+misweighed : (n : ℤ) (r q : ℕ) (l : Legging) → Trial
+misweighed n r q l = unsound (legsUp 0 resting 0 (byRatios n r q) 0 l)
 
 -- a series that is locked
 locked : (series : ℕ) → Trial
@@ -888,7 +1021,7 @@ faults =
     ∷ isSound (withLast base 4294967295) 1 1 ∷ isSound (standing 0 (leg 3 1 8)) 1 1 ∷ isSound (legsUp 0 (market 15 6) 0 (spreading (pos 59) 4) 3 (leg 3 71 4)) 8 1
     -- "fields are in range"
     ∷ unsound (legsUp 0 (rest 1 0 sell 131 15 ∷ rest 2 1 sell 90 12 ∷ []) 0 (both 3 8) 0 (leg 3 115 8))
-    ∷ unsound (legsUp 0 resting 0 (record { id = 3; series1 = 0; side1 = buy; series2 = 1; side2 = buy; class = 2; limit = pos 205; quantity = 8 }) 0 (leg 3 115 8))
+    ∷ unsound (legsUp 0 resting 0 (record { id = 3; series1 = 0; side1 = buy; series2 = 1; side2 = buy; class = 2; limit = pos 205; quantity = 8; ratio1 = 1; ratio2 = 1 }) 0 (leg 3 115 8))
     ∷ unsound (standing 0 (leg 3 0 8)) ∷ unsound (atTop (minus 99901) 100001 [])
     ∷ listing (record { status = 3; bid = 0; offer = 0 }) ∷ listing (record { status = 0; bid = 100001; offer = 0 })
     ∷ listing (record { status = 0; bid = 0; offer = 100001 }) ∷ unsound (withLast base 4294967296)
@@ -901,13 +1034,14 @@ faults =
     ∷ unsound (legsUp 0 resting 1 (both 3 8) 0 (leg 3 115 8))
     ∷ stale (rest 1 0 0 0 0) ∷ stale (rest 0 1 0 0 0) ∷ stale (rest 0 0 1 0 0) ∷ stale (rest 0 0 0 5 0) ∷ stale (single 0 0 0 0 0 1)
     ∷ stale (record { id = 0; series = 0; side = 0; price = 0; quantity = 0; display = 0; reserve = 1 })
-    ∷ staleComplex (record { id = 1; series1 = 0; side1 = 0; series2 = 0; side2 = 0; class = 0; limit = pos 0; quantity = 0 })
-    ∷ staleComplex (record { id = 0; series1 = 1; side1 = 0; series2 = 0; side2 = 0; class = 0; limit = pos 0; quantity = 0 })
-    ∷ staleComplex (record { id = 0; series1 = 0; side1 = 1; series2 = 0; side2 = 0; class = 0; limit = pos 0; quantity = 0 })
-    ∷ staleComplex (record { id = 0; series1 = 0; side1 = 0; series2 = 1; side2 = 0; class = 0; limit = pos 0; quantity = 0 })
-    ∷ staleComplex (record { id = 0; series1 = 0; side1 = 0; series2 = 0; side2 = 1; class = 0; limit = pos 0; quantity = 0 })
-    ∷ staleComplex (record { id = 0; series1 = 0; side1 = 0; series2 = 0; side2 = 0; class = 1; limit = pos 0; quantity = 0 })
-    ∷ staleComplex (record { id = 0; series1 = 0; side1 = 0; series2 = 0; side2 = 0; class = 0; limit = minus 1; quantity = 0 })
+    ∷ staleComplex (record { id = 1; series1 = 0; side1 = 0; series2 = 0; side2 = 0; class = 0; limit = pos 0; quantity = 0; ratio1 = 0; ratio2 = 0 })
+    ∷ staleComplex (record { id = 0; series1 = 1; side1 = 0; series2 = 0; side2 = 0; class = 0; limit = pos 0; quantity = 0; ratio1 = 0; ratio2 = 0 })
+    ∷ staleComplex (record { id = 0; series1 = 0; side1 = 1; series2 = 0; side2 = 0; class = 0; limit = pos 0; quantity = 0; ratio1 = 0; ratio2 = 0 })
+    ∷ staleComplex (record { id = 0; series1 = 0; side1 = 0; series2 = 1; side2 = 0; class = 0; limit = pos 0; quantity = 0; ratio1 = 0; ratio2 = 0 })
+    ∷ staleComplex (record { id = 0; series1 = 0; side1 = 0; series2 = 0; side2 = 1; class = 0; limit = pos 0; quantity = 0; ratio1 = 0; ratio2 = 0 })
+    ∷ staleComplex (record { id = 0; series1 = 0; side1 = 0; series2 = 0; side2 = 0; class = 1; limit = pos 0; quantity = 0; ratio1 = 0; ratio2 = 0 })
+    ∷ staleComplex (record { id = 0; series1 = 0; side1 = 0; series2 = 0; side2 = 0; class = 0; limit = minus 1; quantity = 0; ratio1 = 0; ratio2 = 0 })
+    ∷ staleComplex (record { id = 0; series1 = 0; side1 = 0; series2 = 0; side2 = 0; class = 0; limit = pos 0; quantity = 0; ratio1 = 1; ratio2 = 0 }) ∷ staleComplex (record { id = 0; series1 = 0; side1 = 0; series2 = 0; side2 = 0; class = 0; limit = pos 0; quantity = 0; ratio1 = 0; ratio2 = 1 })
     ∷ staleLegging (leg 3 0 0) ∷ staleLegging (leg 0 115 0)
     -- "no series is locked or crossed counting own prices": by regular orders in each series; by a legging order of either side
     ∷ locked 0 ∷ locked 1 ∷ locked 2 ∷ locked 3 ∷ locked 4 ∷ locked 5 ∷ locked 6 ∷ locked 7
@@ -915,6 +1049,12 @@ faults =
     ∷ unsound (atTop (minus 99900) 100000 (rest 2 0 buy 100000 1 ∷ []))
     -- "each legging order matches an open parent leg": no parent; the other side; another series
     ∷ unsound (standing 0 (leg 2 115 8)) ∷ unsound (standing 1 (leg 3 115 8)) ∷ unsound (standing 3 (leg 3 75 8)) ∷ unsound (standing 4 (leg 3 75 8))
+    -- request (g): "a given venue with a legging order of one, or one of equal ratios, is unsound"; one to one it is of kind 2, and N within 200,000
+    ∷ weighed (pos 600000) 2 1 ∷ weighed (minus 600000) 1 3 ∷ weighed (pos 200000) 1 1 ∷ weighed (minus 200000) 1 1
+    ∷ misweighed (pos 205) 2 2 noLegging ∷ misweighed (pos 205) 3 3 noLegging ∷ misweighed (pos 205) 0 1 noLegging ∷ misweighed (pos 205) 1 0 noLegging
+    ∷ misweighed (pos 205) 4 1 noLegging ∷ misweighed (pos 205) 1 4 noLegging ∷ misweighed (pos 600001) 2 1 noLegging ∷ misweighed (minus 600001) 1 2 noLegging
+    ∷ misweighed (pos 200001) 1 1 noLegging ∷ misweighed (minus 200001) 1 1 noLegging
+    ∷ misweighed (pos 205) 2 1 (leg 3 115 8) ∷ misweighed (pos 205) 1 2 (leg 3 115 8)
     -- "is no larger than what its parent has open"; "passes its test": 116 and 90 are 206
     ∷ unsound (standing 0 (leg 3 115 9)) ∷ unsound (standing 0 (leg 3 116 8))
     ∷ []
@@ -923,7 +1063,7 @@ faults =
 
 -- complex order 1 or 2 of `pairs`, resting alone
 lone : (id : ℕ) → Venue
-lone i = legsUp 0 [] 0 (record { id = i; series1 = 0; side1 = buy; series2 = 1; side2 = buy; class = 1; limit = pos 100; quantity = 1 }) 0 noLegging
+lone i = legsUp 0 [] 0 (record { id = i; series1 = 0; side1 = buy; series2 = 1; side2 = buy; class = 1; limit = pos 100; quantity = 1; ratio1 = 1; ratio2 = 1 }) 0 noLegging
 
 -- series 0 with a status and away prices
 quoting : (status bid offer : ℕ) → Venue
@@ -932,13 +1072,13 @@ quoting x b a = withSeries freshVenue (set (freshVenue .series) 0 (record { stat
 -- complex orders in series that are closed, with ids from n on, and then one more
 idle : (count n : ℕ) → Complex → List Complex
 idle zero n c = c ∷ []
-idle (suc k) n c = record { id = n; series1 = 2; side1 = buy; series2 = 3; side2 = buy; class = 1; limit = pos 100; quantity = 1 } ∷ idle k (suc n) c
+idle (suc k) n c = record { id = n; series1 = 2; side1 = buy; series2 = 3; side2 = buy; class = 1; limit = pos 100; quantity = 1; ratio1 = 1; ratio2 = 1 } ∷ idle k (suc n) c
 
 -- 32 complex orders, of which the last, of this quantity, buys series 0 and 1 at 220
 allHeld : (orders : List Regular) (quantity : ℕ) → List Legging → Venue
 allHeld os q ls = record {
   regular = os ++ drop (length os) (freshVenue .regular);
-  complex = idle 31 1 (record { id = 32; series1 = 0; side1 = buy; series2 = 1; side2 = buy; class = 1; limit = pos 220; quantity = q });
+  complex = idle 31 1 (record { id = 32; series1 = 0; side1 = buy; series2 = 1; side2 = buy; class = 1; limit = pos 220; quantity = q; ratio1 = 1; ratio2 = 1 });
   legging = ls ++ drop (length ls) (freshVenue .legging);
   series = open1 0 ∷ open1 0 ∷ replicate 6 notListed;
   last = 40;
@@ -986,9 +1126,9 @@ numbers =
     counted (length (freshVenue .regular)) 128 ∷ counted (length (freshVenue .complex)) 32
     ∷ counted (length (freshVenue .legging)) 16 ∷ counted (length (freshVenue .series)) 8
     -- no length where there is no such kind
-    ∷ counted (lengthOf 0) 0 ∷ counted (lengthOf 10) 0
+    ∷ counted (lengthOf 0) 0 ∷ counted (lengthOf 11) 0
     -- the numbers of answers that are enums
-    ∷ counted (verdictNumber Stands) 0 ∷ counted (verdictNumber (Fails NotOpen)) 6 ∷ counted (decodedNumber (Taken Sweep)) 0 ∷ counted (decodedNumber (Refused 3)) 3
+    ∷ counted (verdictNumber Stands) 0 ∷ counted (verdictNumber (Fails NotOpen)) 6 ∷ counted (verdictNumber (Fails NoUnit)) 10 ∷ counted (decodedNumber (Taken Sweep)) 0 ∷ counted (decodedNumber (Refused 3)) 3
     -- "contracts in a series from that series' 65, as taker or maker; pairs, or paired, from 66; crossed from 70, as taker or maker; cancelled from 71"
     ∷ counted (total (contracts 3 0) named) 12 ∷ counted (total (contracts 3 1) named) 6 ∷ counted (total (contracts 4 0) named) 5 ∷ counted (total (contracts 4 1) named) 0
     ∷ counted (total (contractsAt 3 0 115) named) 5 ∷ counted (total (contractsAt 3 0 120) named) 7 ∷ counted (total (contractsAt 3 1 120) named) 0
@@ -1073,8 +1213,12 @@ pub trials : List Trial
 trials = starred ++ wrongs ++ choices ++ respecting ++ reserved ++ layouts ++ edges ++ refused ++ met ++ settled ++ worked ++ made ++ faults ++ lefts ++ numbers
 
 pub trials-hold : map outcome trials ≡ map expected trials
-unfolding opened-rules outcome expected spread open1 legsUp single rest both leg resting leggedVenue minus opens closes enters reserves pairUp buysBoth cancels sweeps opening accepted awayAdded starred together wrongs twoLeg legged leggedSheet quoted relying inAuction restingBefore keptApart choices quotes bidding asked dearer respecting withOne half allShown tooShort reserved gone layouts whole double edges offers pairs twice refused met settled threeOpen farApart worked awayAlone nearTop made standing base atTop isSound unsound locked stale staleComplex staleLegging listing market spreading faults lone quoting idle allHeld lefts named numbers trials
+unfolding opened-rules outcome expected spread open1 legsUp single rest both byRatios leg resting leggedVenue minus opens closes enters reserves pairUp buysBoth cancels sweeps opening accepted awayAdded starred together wrongs twoLeg legged leggedSheet quoted relying inAuction restingBefore keptApart choices quotes bidding asked dearer respecting withOne half allShown tooShort reserved pairs gone layouts whole double edges offers twice refused met settled threeOpen farApart worked awayAlone nearTop made standing base atTop isSound unsound weighed misweighed locked stale staleComplex staleLegging listing market spreading faults lone quoting idle allHeld lefts named numbers trials
 trials-hold = refl
+
+pub units-hold : map outcome unequal ≡ map expected unequal
+unfolding opened-rules outcome expected single rest minus opens closes enters reserves pairUp buysBoth cancels sweeps opening accepted weighing ratioed legged leggedSheet quoted quotes pairs oneEach oneEachSheet tenth unequal
+units-hold = refl
 
 pub seasons-hold : map outcome seasons ≡ map expected seasons
 unfolding opened-rules outcome expected single rest opens closes enters pairUp buysBoth cancels sweeps opening accepted awayAdded twice increments bands dating dated many full inAll seasons

@@ -4,7 +4,7 @@ use mathlib.Core.List.{List}
 use Prim.Native.Nat.{ℕ, _+_, _-_, _*_}
 use lib.Dec.{leb, ltb, eqb}
 use lib.ListN.{getD, replicate}
-use lib.IntN.{ℤ, pos, negsuc, negℤ}
+use lib.IntN.{ℤ, pos, negℤ}
 use lib.Signed.{leZ}
 use Rattle.rules.specs.declared.Regular.{Regular}
 use Rattle.rules.specs.declared.Complex.{Complex}
@@ -79,9 +79,13 @@ isAway = within 0 100000
 unfoldable pub isPrice : ℕ → Bool
 isPrice = within 1 100000
 
--- "a complex order's limit N, from -200,000 to 200,000"
-unfoldable pub isLimit : ℤ → Bool
-isLimit n = leZ (negsuc 199999) n && leZ n (pos 200000)
+-- "a complex order's limit N, from -200,000 to 200,000", or as far as `far` on both sides of 0
+unfoldable pub isLimit : (far : ℕ) → ℤ → Bool
+isLimit far n = leZ (negℤ (pos far)) n && leZ n (pos far)
+
+-- request (g): "two ratio bytes …, each 1 to 3"
+unfoldable pub isRatio : ℕ → Bool
+isRatio = within 1 3
 
 -- Places --------------------------------------------------------------------------------------
 
@@ -94,7 +98,7 @@ abbrev pub noRegular : Regular
 noRegular = record { id = 0; series = 0; side = 0; price = 0; quantity = 0; display = 0; reserve = 0 }
 
 abbrev pub noComplex : Complex
-noComplex = record { id = 0; series1 = 0; side1 = 0; series2 = 0; side2 = 0; class = 0; limit = pos 0; quantity = 0 }
+noComplex = record { id = 0; series1 = 0; side1 = 0; series2 = 0; side2 = 0; class = 0; limit = pos 0; quantity = 0; ratio1 = 0; ratio2 = 0 }
 
 abbrev pub noLegging : Legging
 noLegging = record { parent = 0; price = 0; quantity = 0 }
@@ -164,6 +168,10 @@ isRegularOf id o = held (o .quantity) && eqb (o .id) id
 
 unfoldable pub isComplexOf : (id : ℕ) → Complex → Bool
 isComplexOf id c = held (c .quantity) && eqb (c .id) id
+
+-- a complex order of kind 2: "one-to-one ratio"; every other one is of kind 10 (request (g))
+unfoldable pub oneToOne : Complex → Bool
+oneToOne c = eqb (c .ratio1) 1 && eqb (c .ratio2) 1
 
 -- "a lower id is earlier"
 unfoldable pub earlier : Regular → Regular → Bool

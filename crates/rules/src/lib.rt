@@ -2,7 +2,9 @@
 // The definitions (specs/) use these types as their records: an array is a list, an unsigned number a natural one, an i32 an integer.
 ghost use mathlib.Core.Path.{_≡_};
 ghost use Prim.Native.Nat.{ℕ, min, _+_, _≤_};
+ghost use lib.Dec.{eqb};
 ghost use lib.IntN.{ℤ, pos, natAbs, _+ℤ_};
+ghost use Rattle.rules.specs.Base.{if_then_else_};
 ghost use Rattle.rules.specs.Words.{opposite, signed, placeOf, freshVenue};
 ghost use Rattle.rules.specs.Settings.{baseFigure};
 ghost use Rattle.rules.specs.Messages.{lengthOf, messageForm};
@@ -23,7 +25,8 @@ pub struct Regular {
     pub reserve: u32,
 }
 
-// A two-leg complex order; limit is N. Its place is free when its quantity is 0.
+// A two-leg complex order; limit is N. A unit of it is ratio1 contracts of the first leg and ratio2 of the second, and its quantity is in units.
+// Its place is free when its quantity is 0.
 pub struct Complex {
     pub id: u32,
     pub series1: u8,
@@ -33,6 +36,8 @@ pub struct Complex {
     pub class: u8,
     pub limit: i32,
     pub quantity: u32,
+    pub ratio1: u8,
+    pub ratio2: u8,
 }
 
 // A legging order; its place says its series and side. The place is free when its quantity is 0.
@@ -88,7 +93,7 @@ pub struct Settings {
     pub percent: u8,
 }
 
-// A message, kinds 1 to 9; an order of kind 1 is one of kind 9 that shows all of it.
+// A message, kinds 1 to 10: an order of kind 1 is one of kind 9 that shows all of it, and TwoLeg is kind 2 where it is one to one, else kind 10.
 pub enum Message {
     Order(Regular),
     TwoLeg(Complex),
@@ -100,13 +105,13 @@ pub enum Message {
     Percent(u8, u32),
 }
 
-// The bytes at the front of a message list: a message whose fields are in range, or the refusal, 1 to 4, that they meet.
+// The bytes at the front of a message list: a message whose fields are in range, or the refusal, 1 to 4 or 14, that they meet.
 pub enum Decoded {
     Taken(Message),
     Refused(u8),
 }
 
-// Why a legging order goes, in the order of the filing's (C)(4)(i) to (ix).
+// Why a legging order goes, in the order of the filing's (C)(4)(i) to (x).
 pub enum Cause {
     Worse,
     Unpaired,
@@ -116,6 +121,7 @@ pub enum Cause {
     NotOpen,
     Replaced,
     Touched,
+    NoUnit,
 }
 
 // What a test says of a legging order.
@@ -146,6 +152,8 @@ pub fn fresh() -> Venue
         class: 0,
         limit: 0,
         quantity: 0,
+        ratio1: 0,
+        ratio2: 0,
     };
     let legging = Legging {
         parent: 0,
@@ -256,18 +264,29 @@ pub fn signed_price(side: u8, price: u32) -> i64
     0 - (price as i64)
 }
 
-// The net of prices a and b at two legs of these sides, one to one.
-pub fn net_of(side1: u8, a: u32, side2: u8, b: u32) -> i64
-    ensures { λ r. ⌜ (r ≡ weighed 1 side1 a +ℤ weighed 1 side2 b) × (natAbs r ≤ 8589934590) ⌝ }
+// What a leg adds to the net: sign × price, by its ratio.
+pub fn weighed_price(ratio: u8, side: u8, price: u32) -> i64
+    ensures { λ r. ⌜ (r ≡ weighed ratio side price) × (natAbs r ≤ 1095216660225) ⌝ }
 {
-    let x = signed_price(side1, a);
-    let y = signed_price(side2, b);
+    let p = (ratio as u64) * (price as u64);
+    if side == 0 {
+        return p as i64;
+    }
+    0 - (p as i64)
+}
+
+// The net of prices a and b at two legs of these ratios and sides.
+pub fn net_of(ratio1: u8, side1: u8, a: u32, ratio2: u8, side2: u8, b: u32) -> i64
+    ensures { λ r. ⌜ (r ≡ weighed ratio1 side1 a +ℤ weighed ratio2 side2 b) × (natAbs r ≤ 2190433320450) ⌝ }
+{
+    let x = weighed_price(ratio1, side1, a);
+    let y = weighed_price(ratio2, side2, b);
     x + y
 }
 
 // The net t is within some percent of the net o of the market bests: 100 t ≤ 100 o + percent |o|.
 pub fn near_net(percent: u8, o: i64, t: i64) -> bool
-    requires { ⌜ (natAbs o ≤ 8589934590) × (natAbs t ≤ 8589934590) ⌝ }
+    requires { ⌜ (natAbs o ≤ 2190433320450) × (natAbs t ≤ 2190433320450) ⌝ }
     ensures { λ r. ⌜ r ≡ nearNet percent o t ⌝ }
 {
     let x = percent as i64;
@@ -277,7 +296,7 @@ pub fn near_net(percent: u8, o: i64, t: i64) -> bool
     100 * t <= 100 * o + x * o
 }
 
-// A message's form, by the first kind that has it: an order of kind 9 is of the form of kind 1.
+// A message's form, by the first kind that has it: an order of kind 9 is of the form of kind 1, one of kind 10 of that of kind 2.
 pub fn message_form(m: Message) -> u16
     ensures { λ r. ⌜ r ≡ messageForm m ⌝ }
 {
@@ -327,12 +346,15 @@ pub fn length_of(kind: u16) -> u16
     if kind <= 9 {
         return 22;
     }
+    if kind <= 10 {
+        return 23;
+    }
     0
 }
 
-// A cause's number.
-pub fn cause_number(cause: Cause) -> u8
-    ensures { λ r. ⌜ r ≡ causeNumber cause ⌝ }
+// A cause's place among the causes, from 1 on: its number, but that the last one's is 10.
+fn cause_order(cause: Cause) -> u8
+    ensures { λ r. ⌜ (if eqb r 9 then 10 else r) ≡ causeNumber cause ⌝ }
 {
     match cause {
         Cause::Worse => 1,
@@ -343,7 +365,19 @@ pub fn cause_number(cause: Cause) -> u8
         Cause::NotOpen => 6,
         Cause::Replaced => 7,
         Cause::Touched => 8,
+        Cause::NoUnit => 9,
     }
+}
+
+// A cause's number, in two steps: of numbers that do not rise by one a compiler makes a table.
+pub fn cause_number(cause: Cause) -> u8
+    ensures { λ r. ⌜ r ≡ causeNumber cause ⌝ }
+{
+    let n = cause_order(cause);
+    if n == 9 {
+        return 10;
+    }
+    n
 }
 
 // A verdict's number: 0, or its cause's.
@@ -356,7 +390,7 @@ pub fn verdict_number(verdict: Verdict) -> u8
     }
 }
 
-// The refusal, 1 to 4, that a message's bytes meet; 0 if none.
+// The refusal, 1 to 4 or 14, that a message's bytes meet; 0 if none.
 pub fn decoded_number(decoded: Decoded) -> u8
     ensures { λ r. ⌜ r ≡ decodedNumber decoded ⌝ }
 {
