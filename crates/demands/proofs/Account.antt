@@ -18,7 +18,6 @@ use Rattle.rules.specs.Words.{noComplex, noRegular}
 use Rattle.rules.specs.Messages.{messageOf}
 use Rattle.rules.specs.Records.{ForAll, Report, FourBytes, answer}
 use Rattle.rules.specs.Effects.{Effect}
-use Rattle.rules.specs.Prices.{ratio1, ratio2}
 use Rattle.rules.specs.Sound.{follows}
 use Rattle.rules.specs.Sums.{cancelledOf, contracts, crossedFor, openComplex, openRegular, paired, total}
 use Rattle.demands.specs.Demand.{Accepted, Seen, start}
@@ -43,8 +42,8 @@ pub record OrderAccount (s : Seen) (o : Regular) : Type 0 where
 pub record ComplexAccount (s : Seen) (c : Complex) : Type 0 where
   pub known : c .id ≤ s .venue .last
   pub own : ComplexId c (s .venue)
-  pub first : total (contracts (c .id) (c .series1)) (s .reports) ≡ ratio1 c * total (paired (c .id)) (s .reports)
-  pub second : total (contracts (c .id) (c .series2)) (s .reports) ≡ ratio2 c * total (paired (c .id)) (s .reports)
+  pub first : total (contracts (c .id) (c .series1)) (s .reports) ≡ c .ratio1 * total (paired (c .id)) (s .reports)
+  pub second : total (contracts (c .id) (c .series2)) (s .reports) ≡ c .ratio2 * total (paired (c .id)) (s .reports)
   pub adds : c .quantity ≡ total (paired (c .id)) (s .reports) + total (crossedFor (c .id)) (s .reports) + total (cancelledOf (c .id)) (s .reports) + openComplex (c .id) (s .venue .complex)
 
 -- records name no id y
@@ -83,7 +82,7 @@ moved-above {v} {w} {qs} g m y lt =
   where
     -- some order of that id
     named : ℕ → Complex
-    named y = record { id = y; series1 = 0; side1 = 0; series2 = 0; side2 = 0; class = 0; limit = pos 0; quantity = 0 }
+    named y = record { id = y; series1 = 0; side1 = 0; series2 = 0; side2 = 0; class = 0; limit = pos 0; quantity = 0; ratio1 = 0; ratio2 = 0 }
 
 -- One message more ----------------------------------------------------------------------------
 
@@ -162,8 +161,8 @@ module _ {s : Seen} {u : Venue} {ns : List Message} (bs : List ℕ) {e : Effect}
       record {
         known = let l = t .admitted .later in let e = last-is in let k = x .known in omega arith;
         own = z .cxs _ (cx-kept (t .moved .regular) (t .moved .complex) r);
-        first = rw (total-append (contracts (c .id) (c .series1)) (s .reports) qs, total-append (paired (c .id)) (s .reports) qs) (ratio-then (ratio1 c) _ _ _ _ (x .first) (p .first));
-        second = rw (total-append (contracts (c .id) (c .series2)) (s .reports) qs, total-append (paired (c .id)) (s .reports) qs) (ratio-then (ratio2 c) _ _ _ _ (x .second) (p .second));
+        first = rw (total-append (contracts (c .id) (c .series1)) (s .reports) qs, total-append (paired (c .id)) (s .reports) qs) (ratio-then (c .ratio1) _ _ _ _ (x .first) (p .first));
+        second = rw (total-append (contracts (c .id) (c .series2)) (s .reports) qs, total-append (paired (c .id)) (s .reports) qs) (ratio-then (c .ratio2) _ _ _ _ (x .second) (p .second));
         adds = rw (total-append (paired (c .id)) (s .reports) qs, total-append (crossedFor (c .id)) (s .reports) qs, total-append (cancelledOf (c .id)) (s .reports) qs)
             (let y = x .adds in let f = p .falls in let g = z .openC (c .id) in omega arith);
       }
@@ -177,9 +176,9 @@ module _ {s : Seen} {u : Venue} {ns : List Message} (bs : List ℕ) {e : Effect}
         known = let e = last-is in let k = x .known in omega arith;
         own = z .cxs _ (cx-kept (t .moved .regular) (t .moved .complex) (x .own));
         first = rw (total-append (contracts (c .id) (c .series1)) (s .reports) qs, total-append (paired (c .id)) (s .reports) qs)
-            (ratio-then (ratio1 c) _ _ _ _ (ratio-none (ratio1 c) _ _ (f .contracts0 (c .series1)) (f .paired0)) (p .first));
+            (ratio-then (c .ratio1) _ _ _ _ (ratio-none (c .ratio1) _ _ (f .contracts0 (c .series1)) (f .paired0)) (p .first));
         second = rw (total-append (contracts (c .id) (c .series2)) (s .reports) qs, total-append (paired (c .id)) (s .reports) qs)
-            (ratio-then (ratio2 c) _ _ _ _ (ratio-none (ratio2 c) _ _ (f .contracts0 (c .series2)) (f .paired0)) (p .second));
+            (ratio-then (c .ratio2) _ _ _ _ (ratio-none (c .ratio2) _ _ (f .contracts0 (c .series2)) (f .paired0)) (p .second));
         adds = rw (total-append (paired (c .id)) (s .reports) qs, total-append (crossedFor (c .id)) (s .reports) qs, total-append (cancelledOf (c .id)) (s .reports) qs)
             (let y = x .whole in let h = p .falls in let g = z .openC (c .id) in omega arith);
       }

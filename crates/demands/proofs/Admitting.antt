@@ -247,7 +247,7 @@ module _ (v : Venue) (c : Complex) (i : ℕ) where
         let ne : o .at ≢ i = λ e. (let z = held-pos (l .quantity) h in let y = o .enough in let w = free-none (cx v i .quantity) (joins .free) in
         let u : cx v (o .at) .quantity ≡ cx v i .quantity = ap (λ (m : ℕ). cx v m .quantity) e in omega arith) in
         let s = getD-set-other (v .complex) i (o .at) c noComplex ne in
-        record { at = o .at; fits = rw length-set (o .fits); id = rw s (o .id); leg = rw s (o .leg); enough = rw s (o .enough) }
+        record { at = o .at; fits = rw length-set (o .fits); id = rw s (o .id); leg = rw s (o .leg); even = rw s (o .even); enough = rw s (o .enough) }
 
     complex-fine : Fine withComplexOrder
     unfolding withComplex withLast

@@ -9,7 +9,6 @@ use Rattle.rules.specs.declared.Complex.{Complex}
 use Rattle.rules.specs.declared.Venue.{Venue}
 use Rattle.rules.specs.Words.{freshVenue}
 use Rattle.rules.specs.Records.{FourBytes}
-use Rattle.rules.specs.Prices.{ratio1, ratio2}
 use Rattle.rules.specs.Step.{answered, step}
 use Rattle.rules.specs.Calls.{after, called, ends, one, oneFrom}
 use Rattle.demands.specs.Kept.{AlwaysSound, DoneFits, FreshSound, Kept, NeverNine, SoundAt}
@@ -62,10 +61,8 @@ all-account = all-keep Account (λ s a. a .invariant .ranged) start-account step
 
 -- The theorems --------------------------------------------------------------------------------
 
--- at equal ratios the contracts are the pairs
 adds : (s : Seen) (c : Complex) → ComplexAccount s c → ComplexAdds s c
-unfolding ratio1 ratio2
-adds s c x = record { first = (let y = x .first in omega arith); second = (let y = x .second in omega arith); adds = x .adds }
+adds s c x = record { first = x .first; second = x .second; adds = x .adds }
 
 pub demand3 : Demand3
 demand3 o gs =

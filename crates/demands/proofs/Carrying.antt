@@ -21,7 +21,7 @@ use Rattle.rules.specs.Prices.{bestRegular, bestSize}
 use Rattle.rules.specs.Removal.{remove, removeOf}
 use Rattle.rules.specs.Standing.{settle, showAgain, verdict}
 use Rattle.rules.specs.Trading.{fillComplex}
-use Rattle.rules.specs.Complex.{anyClosed, cross, crossTurn, crosses, legIn, legInTurn, legsIn, reversed, touch, touches, work}
+use Rattle.rules.specs.Complex.{anyClosed, cross, crossTurn, crosses, legIn, legInTurn, legsIn, reversed, touch, touches, unitsIn, work}
 use Rattle.rules.proofs.Cases.{crossTurn-by, if-by, repeat-by}
 use Rattle.rules.proofs.Ending.{legs-facts}
 use Rattle.rules.proofs.Filling.{cx}
@@ -30,6 +30,7 @@ use Rattle.rules.proofs.Moving.{Crosses, moves-cross, other-sameC}
 use Rattle.rules.proofs.Pairing.{LegsIn, legIn-venue, legged, legged-complex, legged-legging, moves-legIn}
 use Rattle.rules.proofs.Picking.{At}
 use Rattle.rules.proofs.Tests.{and-l, and-r}
+use Rattle.rules.proofs.Units.{units-open, units-size1, units-size2}
 use Rattle.demands.proofs.Homes.{Fine, Homes, good-kept, homes-fill, homes-pairOff, homes-remove, homes-same}
 
 pub record Carries (v : Venue) (e : Effect) : Type 0 where
@@ -80,8 +81,10 @@ opposite-not d e = omega arith
 reversed-not : (c : Complex) → c .series1 ≢ c .series2 → reversed c c ≡ true → ⊥
 unfolding reversed
 reversed-not c ne h =
-    let z : (eqb (c .series1) (c .series1) && eqb (c .side1) (opposite (c .side1)) && eqb (c .series2) (c .series2) && eqb (c .side2) (opposite (c .side2))
-    || eqb (c .series1) (c .series2) && eqb (c .side1) (opposite (c .side2)) && eqb (c .series2) (c .series1) && eqb (c .side2) (opposite (c .side1))) ≡ true = h in
+    let z : (eqb (c .series1) (c .series1) && eqb (c .side1) (opposite (c .side1)) && eqb (c .ratio1) (c .ratio1)
+    && eqb (c .series2) (c .series2) && eqb (c .side2) (opposite (c .side2)) && eqb (c .ratio2) (c .ratio2)
+    || eqb (c .series1) (c .series2) && eqb (c .side1) (opposite (c .side2)) && eqb (c .ratio1) (c .ratio2)
+    && eqb (c .series2) (c .series1) && eqb (c .side2) (opposite (c .side1)) && eqb (c .ratio2) (c .ratio1)) ≡ true = h in
     false≢true (rw (ne-eqb (c .series1) (c .series2) ne, ne-eqb (c .side1) (opposite (c .side1)) (opposite-not _), eq-eqb (c .series1) (c .series1) refl) at z)
 
 module _ (i j k : ℕ) (v : Venue) (f : Fine v) (m : Crosses v i j k) where
@@ -140,15 +143,15 @@ module _ (i : ℕ) (i32 : i < 32) where
       let c = cx v i in
       let a = bestRegular v (c .series1) (opposite (c .side1)) in
       let b = bestRegular v (c .series2) (opposite (c .side2)) in
-      if-by (TurnOk (λ _. Unit {0}) v) (legsIn v c a b)
+      if-by (TurnOk (λ _. Unit {0}) v) (legsIn v c a b && held (unitsIn v c))
       (λ e. (
         carries-legIn a b _ v f (record {
           fits = rw (f .good .len2) i32;
-          holds = legs-facts v c a b e .0;
-          apart = f .good .ranges i (legs-facts v c a b e .0) .apart;
-          enough = omega arith;
-          size1 = omega arith;
-          size2 = omega arith;
+          holds = legs-facts v c a b (and-l _ (held (unitsIn v c)) e) .0;
+          apart = f .good .ranges i (legs-facts v c a b (and-l _ (held (unitsIn v c)) e) .0) .apart;
+          enough = units-open v c;
+          size1 = units-size1 v c;
+          size2 = units-size2 v c;
         }),
         tt,
       ))

@@ -69,6 +69,7 @@ module _ (v : Venue) where
         fits = held-fitsC (w .complex) _ (rw there hc);
         id = rw there (h .id);
         leg = rw there (h .leg);
+        even = rw there (h .even);
         enough = rw there (h .enough);
       }
 

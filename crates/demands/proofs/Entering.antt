@@ -30,7 +30,7 @@ use Rattle.rules.proofs.Settling.{clear-best}
 use Rattle.rules.proofs.Sizes.{Elsewhere, elsewhere-trans, fill-elsewhere, once-most, rests-held, rests-series, rests-side}
 use Rattle.rules.proofs.Tests.{and-l}
 use Rattle.demands.proofs.Carrying.{Carries, TurnOk, opposite-not, repeat-carries}
-use Rattle.demands.proofs.Homes.{Fine, Home, Homes, home-held, homes-pairOff, homes-same, parent-found, place-at}
+use Rattle.demands.proofs.Homes.{even-first, even-second, Fine, Home, Homes, home-held, homes-pairOff, homes-same, parent-found, place-at}
 
 -- The legging order that the order could hit --------------------------------------------------
 
@@ -162,6 +162,8 @@ module _ (i s d : ℕ) (v : Venue) (f : Fine v) (r : Ready i s d v) where
           place = place-at v (f .good) j (home .fits) holdsC;
           leg = at-series;
           apart = f .good .ranges j holdsC .apart;
+          even1 = even-first (cx v j) (home .even);
+          even2 = even-second (cx v j) (home .even);
           size = rw (r .series) (let z = paid in omega arith);
         }
 

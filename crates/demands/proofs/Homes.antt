@@ -9,9 +9,11 @@ use mathlib.Core.List.{List}
 use Prim.Native.Nat.{_%_, _/_, _<_, _≤_, ℕ}
 use native.Mathlib.Decide.{decLt}
 use native.Mathlib.Omega.{arith}
+use lib.Dec.{eqb}
 use lib.IntN.{ℤ}
 use lib.ListN.{getD, length, length-set}
 use lib.Seq.{getD-set-other}
+use borrow.Author.Tests.{eqb-true}
 use Rattle.rules.specs.declared.Cause.{Cause}
 use Rattle.rules.specs.declared.Cause.the-variants.{Executed}
 use Rattle.rules.specs.declared.Complex.{Complex}
@@ -19,7 +21,7 @@ use Rattle.rules.specs.declared.Legging.{Legging}
 use Rattle.rules.specs.declared.Venue.{Venue}
 use Rattle.rules.specs.declared.Verdict.{Verdict}
 use Rattle.rules.specs.Base.{held, placeWhere}
-use Rattle.rules.specs.Words.{buy, complexAt, isComplexOf, noComplex, noLegging, sell, withComplex, withLegging}
+use Rattle.rules.specs.Words.{buy, complexAt, isComplexOf, noComplex, noLegging, oneToOne, sell, withComplex, withLegging}
 use Rattle.rules.specs.Records.{Report}
 use Rattle.rules.specs.Effects.{_⟫_, report}
 use Rattle.rules.specs.Removal.{remove, removeOf}
@@ -37,7 +39,7 @@ use Rattle.rules.proofs.Owning.{Own}
 use Rattle.rules.proofs.Removing.{length-stayers, stay-of}
 use Rattle.rules.proofs.Settling.{Kept, stayers-kept}
 use Rattle.rules.proofs.Showing.{Showing}
-use Rattle.rules.proofs.Tests.{held-pos, pos-held}
+use Rattle.rules.proofs.Tests.{and-l, and-r, held-pos, pos-held}
 use Rattle.rules.proofs.Widths.{Ranged}
 
 -- a complex order in range
@@ -112,6 +114,7 @@ pub record Home (v : Venue) (n : ℕ) (l : Legging) : Type 0 where
   pub fits : at < length (v .complex)
   pub id : cx v at .id ≡ l .parent
   pub leg : LegOf (cx v at) (n / 2) (n % 2)
+  pub even : oneToOne (cx v at) ≡ true
   pub enough : l .quantity ≤ cx v at .quantity
 
 pub record Homes (v : Venue) : Type 0 where
@@ -124,6 +127,7 @@ home-same {v} {w} e h = record {
   fits = rw e (h .fits);
   id = ap (λ (x : List Complex). getD x (h .at) noComplex .id) e ∙ h .id;
   leg = rw e (h .leg);
+  even = rw e (h .even);
   enough = rw e (h .enough);
 }
 
@@ -162,6 +166,7 @@ homes-fill j k c v h = record {
           fits = rw length-set (o .fits);
           id = rw s (o .id);
           leg = rw s (o .leg);
+          even = rw s (o .even);
           enough = rw s (o .enough);
         }
 
@@ -210,6 +215,15 @@ module _ (v : Venue) (f : Fine v) (n : ℕ) (h : held (lg v n .quantity) ≡ tru
       go : (n / 2 ≡ c .series1) ⊎ (n / 2 ≡ c .series2) → n / 2 ≢ otherLeg c (n / 2) .series
       go (inl e) x = ne (sym e ∙ x ∙ other-is₂ c (n / 2) (sym e))
       go (inr e) x = ne (sym (sym e ∙ x ∙ other-is₁ c (n / 2) (λ y. ne (y ∙ e))))
+
+-- an order that is one to one
+pub even-first : (c : Complex) → oneToOne c ≡ true → c .ratio1 ≡ 1
+unfolding oneToOne
+even-first c e = eqb-true (c .ratio1) 1 (and-l (eqb (c .ratio1) 1) (eqb (c .ratio2) 1) e)
+
+pub even-second : (c : Complex) → oneToOne c ≡ true → c .ratio2 ≡ 1
+unfolding oneToOne
+even-second c e = eqb-true (c .ratio2) 1 (and-r (eqb (c .ratio1) 1) (eqb (c .ratio2) 1) e)
 
 -- Between messages ----------------------------------------------------------------------------
 

@@ -15,7 +15,7 @@ use Rattle.rules.specs.declared.Legging.{Legging}
 use Rattle.rules.specs.declared.Venue.{Venue}
 use Rattle.rules.specs.declared.Verdict.{Verdict}
 use Rattle.rules.specs.Base.{held, if_then_else_}
-use Rattle.rules.specs.Words.{complexAt, noComplex, noLegging, opposite, placeOf, withLegging}
+use Rattle.rules.specs.Words.{complexAt, noComplex, noLegging, oneToOne, opposite, placeOf, withLegging}
 use Rattle.rules.specs.Bytes.{i32}
 use Rattle.rules.specs.Records.{generated}
 use Rattle.rules.specs.Effects.{Effect, _⟫_, nothing, report}
@@ -30,11 +30,12 @@ use Rattle.rules.proofs.Dating.{steps-generate, steps-leg, steps-swept}
 use Rattle.rules.proofs.Editions.{Stepped}
 use Rattle.rules.proofs.Filling.{cx}
 use Rattle.rules.proofs.Finding.{LegOf}
-use Rattle.rules.proofs.Generating.{AllStand, generate-stands, place-series, place-side}
+use Rattle.rules.proofs.Generating.{AllStand, Makes, generate-stands, made, place-series, place-side}
 use Rattle.rules.proofs.Hitting.{other-is₁, other-is₂}
 use Rattle.rules.proofs.Ledger.{moves-placed}
 use Rattle.rules.proofs.Picking.{At}
 use Rattle.rules.proofs.Sweeping.{leg-same}
+use Rattle.rules.proofs.Tests.{and-r}
 use Rattle.demands.proofs.Carrying.{Carries, carries-nothing, carries-remove, carries-then, fine-after, settle-carries, work-carries}
 use Rattle.demands.proofs.Homes.{Fine, Home, Homes, InRange, found, home-same}
 
@@ -59,7 +60,7 @@ unfolding placed withLegging
 placed-homes n l v n16 a h = record { len = length-set (v .legging) n l ∙ h .len; home = λ m. go m (ℕ-discrete m n) }
   where
     keep : (m : ℕ) (x : Legging) → Home v m x → Home (placed n l v) m x
-    keep m x b = record { at = b .at; fits = b .fits; id = b .id; leg = b .leg; enough = b .enough }
+    keep m x b = record { at = b .at; fits = b .fits; id = b .id; leg = b .leg; even = b .even; enough = b .enough }
 
     go : (m : ℕ) → Dec (m ≡ n) → held (getD (set (v .legging) n l) m noLegging .quantity) ≡ true → Home (placed n l v) m (getD (set (v .legging) n l) m noLegging)
     go m (yes e) t = rw (e, getD-set-same (v .legging) n l noLegging n16) (keep n l a)
@@ -83,26 +84,26 @@ module _ (v : Venue) (i : ℕ) (i32 : i < 32) (f : Fine v) (h : held (cx v i .qu
   fitsL : placeOf s d < length (v .legging)
   fitsL = rw (f .homes .len) (place-fits s d (g .series) (g .side))
 
-  new-home : Home v (placeOf s d) (newLegging v c s d)
+  new-home : oneToOne c ≡ true → Home v (placeOf s d) (newLegging v c s d)
   unfolding newLegging
-  new-home = record { at = i; fits = fitsC; id = refl; leg = rw (place-series s d (g .side), place-side s d (g .side)) (g .leg); enough = new-open v c s d }
+  new-home e = record { at = i; fits = fitsC; id = refl; leg = rw (place-series s d (g .side), place-side s d (g .side)) (g .leg); even = e; enough = new-open v c s d }
 
   -- when the holder has gone, the new order takes its place
-  placed-carries : (w : Venue) (id p x q : ℕ) → Fine w → w .complex ≡ v .complex → Carries w (report (generated id s d p x q) (placed (placeOf s d) (newLegging v c s d) w))
-  placed-carries w id p x q g′ e = record {
+  placed-carries : (w : Venue) (id p x q : ℕ) → oneToOne c ≡ true → Fine w → w .complex ≡ v .complex → Carries w (report (generated id s d p x q) (placed (placeOf s d) (newLegging v c s d) w))
+  placed-carries w id p x q even g′ e = record {
     moves = moves-placed (placeOf s d) (newLegging v c s d) id s d p x q w;
-    homes = unfold report in (placed-homes (placeOf s d) (newLegging v c s d) w (rw (g′ .homes .len) (place-fits s d (g .series) (g .side))) (home-same e new-home) (g′ .homes));
+    homes = unfold report in (placed-homes (placeOf s d) (newLegging v c s d) w (rw (g′ .homes .len) (place-fits s d (g .series) (g .side))) (home-same e (new-home even)) (g′ .homes));
   }
 
-  make-carries : Carries v (make c s d v)
+  make-carries : Makes v c s d → Carries v (make c s d v)
   unfolding make
-  make-carries =
+  make-carries m =
       let a = carries-remove (λ n _. failIf (eqb n (placeOf s d)) Replaced) v f in
-      carries-then _ _ a (placed-carries _ _ _ _ _ (fine-after f a) (remove-complex _ v))
+      carries-then _ _ a (placed-carries _ _ _ _ _ (m .even) (fine-after f a) (remove-complex _ v))
 
   pub leg-carries : Carries v (generateLeg c s d v)
   unfolding generateLeg
-  leg-carries = if-by (Carries v) (held (c .quantity) && makes v c s d) (λ _. make-carries) (λ _. carries-nothing v f)
+  leg-carries = if-by (Carries v) (held (c .quantity) && makes v c s d) (λ e. make-carries (made (and-r (held (c .quantity)) (makes v c s d) e))) (λ _. carries-nothing v f)
 
   opposite-small : (x : ℕ) → opposite x < 2
   unfolding opposite

@@ -23,7 +23,7 @@ use Rattle.rules.specs.Standing.{settle}
 use Rattle.rules.specs.Trading.{fillRegular, freeComplex, freeRegular, putComplex, putRegular}
 use Rattle.rules.specs.Order.{enterRegular, order}
 use Rattle.rules.specs.Complex.{cancel, cancelComplex, cancelRegular, complex, complexPlace, regularPlace, restsComplex, restsRegular, work}
-use Rattle.rules.specs.Refusals.{full, idTooLow, inRange, refusal, unknown}
+use Rattle.rules.specs.Refusals.{full, idTooLow, refusal, unknown}
 use Rattle.rules.specs.Step.{accept, answered, perform, setAway, setFigure, setStatus, step}
 use Rattle.rules.specs.Sound.{follows}
 use Rattle.rules.specs.Sums.{cancelledOf, contracts, crossedFor, paired, total}
@@ -38,7 +38,7 @@ use Rattle.rules.proofs.Finding.{where-passes}
 use Rattle.rules.proofs.Generating.{AllStand, new}
 use Rattle.rules.proofs.Ledger.{Moved, moved-silent, moved-trans, silent-nil}
 use Rattle.rules.proofs.Moving.{moves-cancelComplex, moves-cancelRegular}
-use Rattle.rules.proofs.Refusing.{Passed, accepted}
+use Rattle.rules.proofs.Refusing.{Passed, accepted, wellFormed}
 use Rattle.rules.proofs.Showing.{step-showing}
 use Rattle.rules.proofs.Shapes.{Sized, step-sized}
 use Rattle.rules.proofs.Tests.{and-l, or-r}
@@ -197,7 +197,7 @@ module _ (number : ℕ) (v : Venue) (f : Fine v) (z : Stepped v) (st : AllStand 
         let free = free-isC v there f in
         record {
           fine = f;
-          range = range-of c (unfold inRange in (p .range));
+          range = range-of c (unfold wellFormed in (p .range));
           new = unfold idTooLow in (leb-false (c .id) (v .last) (p .fresh-id));
           there = there;
           free = free;

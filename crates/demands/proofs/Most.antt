@@ -9,6 +9,7 @@ use Rattle.rules.specs.Calls.{after, called, ends, one}
 use Rattle.demands.specs.Kept.{SoundVenue}
 use Rattle.demands.specs.Most.{Lengths, Parts, RoomEnough, WritesAtMost}
 use Rattle.rules.proofs.Calling.{not-exceeds, oneFrom-done}
+use Rattle.rules.proofs.Costs.{Apart}
 use Rattle.rules.proofs.Matching.{Housed}
 use Rattle.rules.proofs.Worth.{lengths, written}
 use Rattle.rules.proofs.Written.{places, step-writes}
@@ -28,9 +29,13 @@ sound-housed v s n h =
     let f = sound-out v s .fine in
     ap (λ (c : Complex). c .id) (parent-found v f n h) ∙ f .homes .home n h .id
 
+sound-apart : (v : Venue) → SoundVenue v → (i : ℕ) → Apart i v
+unfolding Apart
+sound-apart v s i h = sound-out v s .fine .good .ranges i h .apart
+
 pub writes-at-most : WritesAtMost
 writes-at-most v s number bs =
-    let a = step-writes v (sound-housed v s) number bs in
+    let a = step-writes v (record { places32 = s .shaped .complex; housed = sound-housed v s; apart = sound-apart v s }) number bs in
     let x = s .shaped .regular in
     let y = s .shaped .complex in
     let z = s .shaped .legging in

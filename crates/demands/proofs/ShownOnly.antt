@@ -31,7 +31,7 @@ use Rattle.rules.specs.Standing.{settle}
 use Rattle.rules.specs.Trading.{fillComplex, fillRegular, freeRegular, lessRegular, pairOff, putComplex, putRegular, take, tradeWith}
 use Rattle.rules.specs.Order.{enterRegular, hit, meet, meetTurn, order}
 use Rattle.rules.specs.Generation.{generate, generateLeg, make, makes}
-use Rattle.rules.specs.Complex.{anyClosed, cancel, cancelComplex, cancelRegular, complex, cross, crossTurn, each, legIn, legInTurn, legsIn, restsRegular, sweep, touch, touches, work}
+use Rattle.rules.specs.Complex.{anyClosed, cancel, cancelComplex, cancelRegular, complex, cross, crossTurn, each, legIn, legInTurn, legsIn, restsRegular, sweep, touch, touches, unitsIn, work}
 use Rattle.rules.specs.Refusals.{full, idTooLow, refusal}
 use Rattle.rules.specs.Step.{accept, answered, perform, step}
 use Rattle.rules.specs.Sums.{openIn, total}
@@ -204,11 +204,11 @@ module _ (x y : ℕ) where
 
     legs : (a b k : ℕ) (v : Venue) → Takes v (legIn i a b k v)
     unfolding legIn
-    legs a b k v = takes-then v _ _ (takes-then v _ _ (takes-take _ _ _ _ k k v) (takes-take _ _ _ _ k k _)) (pairs-off i _ _ k _)
+    legs a b k v = takes-then v _ _ (takes-then v _ _ (takes-take _ _ _ _ _ _ v) (takes-take _ _ _ _ _ _ _)) (pairs-off i _ _ k _)
 
     leg-turns : (v : Venue) → Any v → TakesTurn Any v (legInTurn i v)
     unfolding legInTurn
-    leg-turns v _ = if-by (TakesTurn Any v) (legsIn v (complexAt v i) _ _) (λ _. (legs _ _ _ v, tt)) (λ _. tt)
+    leg-turns v _ = if-by (TakesTurn Any v) (legsIn v (complexAt v i) _ _ && held (unitsIn v (complexAt v i))) (λ _. (legs _ _ _ v, tt)) (λ _. tt)
 
     works : (v : Venue) → Takes v (work i v)
     unfolding work

@@ -15,11 +15,11 @@ use Rattle.rules.specs.declared.Regular.{Regular}
 use Rattle.rules.specs.declared.Venue.{Venue}
 use Rattle.rules.specs.declared.Verdict.the-variants.{Stands}
 use Rattle.rules.specs.Base.{all, held, if_then_else_}
-use Rattle.rules.specs.Words.{isAway, isId, isPrice, isQuantity, isStatus, noComplex, noEdition, noLegging, noRegular, notListed, within}
+use Rattle.rules.specs.Words.{isAway, isId, isPrice, isQuantity, isStatus, noComplex, noEdition, noLegging, noRegular, notListed, oneToOne, within}
 use Rattle.rules.specs.Standing.{findComplex, hasLeg, parentOf, stands, verdict}
 use Rattle.rules.specs.Complex.{restsComplex}
 use Rattle.rules.specs.Places.{blankComplex, blankEdition, blankLegging, blankRegular, holdsComplex, holdsEdition, holdsRegular}
-use Rattle.rules.specs.Refusals.{complexInRange, onIncrement, regularInRange}
+use Rattle.rules.specs.Refusals.{complexInRange, onIncrement, regularInRange, twoLegInRange}
 use Rattle.rules.specs.Sound.{apart, complexesSound, editionInRange, editionsSound, idsDistinct, leggingSound, leggingsSound, listedInRange, regularsSound, showsFully, sound}
 use Rattle.demands.specs.Kept.{Shaped, SoundVenue}
 use Rattle.rules.proofs.Arranging.{Arranged, all-at, all-in, arranged-in, arranged-out, blank-free, blank-freeC, blank-is}
@@ -65,6 +65,8 @@ blank-fitsC c z =
       high = omega arith;
       low = omega arith;
       quantity = (let x = eqb-true (c .quantity) 0 (unfold blankComplex in (search (and-l, and-r, z) depth 12)) in omega arith);
+      ratio1 = (let x = eqb-true (c .ratio1) 0 (unfold blankComplex in (search (and-l, and-r, z) depth 12)) in omega arith);
+      ratio2 = (let x = eqb-true (c .ratio2) 0 (unfold blankComplex in (search (and-l, and-r, z) depth 12)) in omega arith);
       ok = λ h. absurd (true≢false (sym h ∙ blank-freeC c z));
     }
 
@@ -117,10 +119,10 @@ dated-out v h i t =
 
 -- a complex order in range
 pub range-of : (c : Complex) → complexInRange c ≡ true → InRange c
-unfolding complexInRange
+unfolding complexInRange twoLegInRange
 range-of c z =
     let f = complex-fits c z in
-    let g : not (eqb (c .series1) (c .series2)) ≡ true = search (and-l, and-r, z) depth 12 in
+    let g : not (eqb (c .series1) (c .series2)) ≡ true = search (and-l, and-r, z) depth 14 in
     record { side1 = f .side1; side2 = f .side2; series1 = f .series1; series2 = f .series2; apart = eqb-false (c .series1) (c .series2) (not-true _ g) }
 
 -- of the legging order at a place
@@ -139,6 +141,7 @@ leggings-in v n (l ∷ ls) h =
 record LeggingIs (v : Venue) (n : ℕ) (l : Legging) : Type 0 where
   ok : (isId (l .parent) && isPrice (l .price) && isQuantity (l .quantity)) ≡ true
   leg : hasLeg (parentOf v l) (n / 2) (n % 2) ≡ true
+  even : oneToOne (parentOf v l) ≡ true
   enough : leb (l .quantity) (parentOf v l .quantity) ≡ true
   passes : stands (verdict v n l) ≡ true
 
@@ -146,13 +149,14 @@ legging-out : (v : Venue) (n : ℕ) (l : Legging) → leggingSound v n l ≡ tru
 unfolding leggingSound
 legging-out v n l h t =
     let z : (isId (l .parent) && isPrice (l .price) && isQuantity (l .quantity) && hasLeg (parentOf v l) (n / 2) (n % 2)
-    && leb (l .quantity) (parentOf v l .quantity) && stands (verdict v n l)) ≡ true = rw t at h in
+    && oneToOne (parentOf v l) && leb (l .quantity) (parentOf v l .quantity) && stands (verdict v n l)) ≡ true = rw t at h in
     let a : isId (l .parent) ≡ true = search (and-l, and-r, z) depth 8 in
     let b : isPrice (l .price) ≡ true = search (and-l, and-r, z) depth 8 in
     let c : isQuantity (l .quantity) ≡ true = search (and-l, and-r, z) depth 8 in
     record {
       ok = rw (a, b, c);
       leg = search (and-l, and-r, z) depth 8;
+      even = search (and-l, and-r, z) depth 8;
       enough = search (and-l, and-r, z) depth 8;
       passes = search (and-l, and-r, z) depth 8;
     }
@@ -247,6 +251,7 @@ module _ (v : Venue) (sh : Shaped v) (t : Asked v) where
         fits = f .fits;
         id = ap (λ (c : Complex). c .id) (f .there) ∙ f .is;
         leg = subst (λ (c : Complex). LegOf c (n / 2) (n % 2)) (sym e) (leg-out (parentOf v (lg v n)) (n / 2) (n % 2) (x .leg));
+        even = rw e (x .even);
         enough = rw e q;
       }
 
@@ -307,7 +312,7 @@ unfolding regularInRange isId within
 some-id o z = leb-true 1 (o .id) (search (and-l, and-r, z) depth 12)
 
 some-idC : (c : Complex) → complexInRange c ≡ true → 0 < c .id
-unfolding complexInRange isId within
+unfolding complexInRange twoLegInRange isId within
 some-idC c z = leb-true 1 (c .id) (search (and-l, and-r, z) depth 14)
 
 module _ (v : Venue) (k : Invariant v) where
@@ -361,14 +366,15 @@ module _ (v : Venue) (k : Invariant v) where
 
       go : (b : Bool) → held (l .quantity) ≡ b →
           (if b then isId (l .parent) && isPrice (l .price) && isQuantity (l .quantity) && hasLeg (parentOf v l) (n / 2) (n % 2)
-          && leb (l .quantity) (parentOf v l .quantity) && stands (verdict v n l) else blankLegging l) ≡ true
+          && oneToOne (parentOf v l) && leb (l .quantity) (parentOf v l .quantity) && stands (verdict v n l) else blankLegging l) ≡ true
       go true h =
           let home = k .fine .homes .home n h in
           let e = parent-found v (k .fine) n h in
           let a = k .ranged .legging n .ok h in
           let b = subst (λ (c : Complex). hasLeg c (n / 2) (n % 2) ≡ true) (sym e) (leg-in _ (n / 2) (n % 2) (home .leg)) in
           let c = subst (λ (c : Complex). leb (l .quantity) (c .quantity) ≡ true) (sym e) (le-leb (l .quantity) _ (home .enough)) in
-          and-in _ _ (and-in _ _ (and-in _ _ a b) c) (unfold stands in (rw (k .stand n)))
+          let o = subst (λ (c : Complex). oneToOne c ≡ true) (sym e) (home .even) in
+          and-in _ _ (and-in _ _ (and-in _ _ (and-in _ _ a b) o) c) (unfold stands in (rw (k .stand n)))
       go false h = k .ranged .legging n .zero h
 
   pub sound-in : SoundVenue v

@@ -204,6 +204,7 @@ module _ (v : Venue) (f : Fine v) (all : AllStand v) (show : Shown v) (s d : ℕ
     stands = record {
       rests = rests;
       leg = leg;
+      even = rw (parent-found v f n h) (home .even);
       best = shown-best v c s d l passes show;
       bestLegging = λ m p q _. is-false _ (λ b. better-irrefl _ _ (rw (only m p q) at b));
       band = passes .band;

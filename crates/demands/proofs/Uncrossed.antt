@@ -27,7 +27,6 @@ use Rattle.rules.specs.Order.{enterRegular, meetTurn, order}
 use Rattle.rules.specs.Generation.{generate, generateLeg, legPrice, makes, newLegging, placed, reachesAny}
 use Rattle.rules.specs.Complex.{cancel, complex, sweep, work}
 use Rattle.rules.specs.Places.{closeGaps}
-use Rattle.rules.specs.Refusals.{inRange}
 use Rattle.rules.specs.Step.{perform, setAway, setFigure, setStatus}
 use Rattle.rules.specs.Sound.{apart}
 use Rattle.rules.proofs.Again.{Shown}
@@ -39,6 +38,7 @@ use Rattle.rules.proofs.Generating.{Makes, after, made, make-venue}
 use Rattle.rules.proofs.Keeping.{keeps-cancel, keeps-each, keeps-matching, keeps-settle, keeps-work}
 use Rattle.rules.proofs.Owning.{Below, Own, below-lasts, below-refl, best-own, bid-best, byLegging, byRegular, offer-best, own-below, own-closed, own-pos, rests-lesser, still-there}
 use Rattle.rules.proofs.Settling.{Kept}
+use Rattle.rules.proofs.Refusing.{wellFormed}
 use Rattle.rules.proofs.Showing.{Showing, leg-showing, settle-showing, showing-shown}
 use Rattle.rules.proofs.Tests.{and-r, pos-held}
 use Rattle.rules.proofs.Widths.{Ranged, RegFits, complex-fits, last-ranged, order-fits, put-ranged, putC-ranged}
@@ -288,13 +288,13 @@ clean-settle v k = record { clean = record { ranged = writes-settle v (k .ranged
 clean-work : (i : ℕ) (v : Venue) → Clean v → Clean (work i v .venue)
 clean-work i v k = record { ranged = writes-work i v (k .ranged) .ranged; uncrossed = uncrossed-work i v (k .uncrossed) }
 
-pub uncrossed-perform : (number : ℕ) (m : Message) (v : Venue) → inRange m ≡ true → Clean v → Uncrossed (perform number m v .venue)
+pub uncrossed-perform : (number : ℕ) (m : Message) (v : Venue) → wellFormed m ≡ true → Clean v → Uncrossed (perform number m v .venue)
 unfolding perform order complex putComplex sweep _⟫_
 uncrossed-perform number (Order o) v h k =
-    let f = order-fits o (unfold inRange in h) in
+    let f = order-fits o (unfold wellFormed in h) in
     uncrossed-settle _ (uncrossed-enter (withLast v (o .id)) o (uncrossed-last (o .id) v (k .uncrossed)) (last-ranged (o .id) v (f .id) (k .ranged)) f)
 uncrossed-perform number (TwoLeg c) v h k =
-    let f = complex-fits c (unfold inRange in h) in
+    let f = complex-fits c (unfold wellFormed in h) in
     let a : Clean (withComplex (withLast v (c .id)) (set (withLast v (c .id) .complex) (freeComplex (withLast v (c .id))) c)) = record {
       ranged = putC-ranged _ c _ f (last-ranged (c .id) v (f .id) (k .ranged));
       uncrossed = uncrossed-putC _ _ (uncrossed-last (c .id) v (k .uncrossed));

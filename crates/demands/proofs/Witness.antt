@@ -8,7 +8,7 @@ use borrow.Author.Tests.{ltb-true}
 use Rattle.rules.specs.Records.{Report, answer, cancelled}
 use Rattle.rules.specs.Opened.{opened-rules}
 use Rattle.demands.specs.Demand.{calls, extend, opening, parts, start}
-use Rattle.demands.specs.Witness.{Witness, arriving, atEnd, bytesOf, causes, kindOf, later, ofKind, regularSums, session, sums}
+use Rattle.demands.specs.Witness.{Witness, arriving, atEnd, bytesOf, causes, kindOf, later, ofKind, regularSums, session, sums, unitSums}
 
 -- what stands at a place of a list is one of it
 at-mem : (l : List Report) (n : ℕ) (d r : Report) → n < length l → getD l n d ≡ r → List·Memᴰ r l
@@ -24,12 +24,16 @@ told-regular : List·Memᴰ (answer 4 0 0 0) (atEnd .reports)
 unfolding opened-rules bytesOf session later atEnd start extend parts opening calls
 told-regular = at-mem (atEnd .reports) 3 (cancelled 0 0) (answer 4 0 0 0) (ltb-true 3 (length (atEnd .reports)) refl) refl
 
-told-reserve : List·Memᴰ (answer 33 0 5 2) (atEnd .reports)
+told-units : List·Memᴰ (answer 34 0 0 0) (atEnd .reports)
 unfolding opened-rules bytesOf session later atEnd start extend parts opening calls
-told-reserve = at-mem (atEnd .reports) 74 (cancelled 0 0) (answer 33 0 5 2) (ltb-true 74 (length (atEnd .reports)) refl) refl
+told-units = at-mem (atEnd .reports) 78 (cancelled 0 0) (answer 34 0 0 0) (ltb-true 78 (length (atEnd .reports)) refl) refl
+
+told-reserve : List·Memᴰ (answer 37 0 5 2) (atEnd .reports)
+unfolding opened-rules bytesOf session later atEnd start extend parts opening calls
+told-reserve = at-mem (atEnd .reports) 86 (cancelled 0 0) (answer 37 0 5 2) (ltb-true 86 (length (atEnd .reports)) refl) refl
 
 pub witness : Witness
-unfolding opened-rules bytesOf session later atEnd kindOf ofKind causes sums regularSums arriving start extend parts opening calls
+unfolding opened-rules bytesOf session later atEnd kindOf ofKind causes sums unitSums regularSums arriving start extend parts opening calls
 witness = record {
   done = refl;
   standing = refl;
@@ -42,9 +46,11 @@ witness = record {
   removals = refl;
   accepted = record { before = 4; is = refl; mask = 5; count = 2; told = told };
   account = refl;
+  unitsAccepted = record { before = 33; is = refl; mask = 0; count = 0; told = told-units };
+  unitsAccount = refl;
   regularAccepted = record { before = 3; is = refl; mask = 0; count = 0; told = told-regular };
   regularAccount = refl;
-  reserveAccepted = record { before = 32; is = refl; mask = 5; count = 2; told = told-reserve };
+  reserveAccepted = record { before = 36; is = refl; mask = 5; count = 2; told = told-reserve };
   reserveAccount = refl;
   shows = refl;
   free = refl;

@@ -3,13 +3,15 @@
 -- the best displayed price of its side and within the band; a hit on it, for any number of contracts up to its quantity, finds that many of its
 -- other leg at one price from regular orders, the net at its complex order's limit or better; and by the reports, the messages done and the
 -- venue left, for every complex order accepted its contracts in the first series equal those in the second and equal its pairs, and quantity
--- entered = paired + crossed + cancelled + still open. What is quoted below is document 01's paragraph, sentence by sentence.
+-- entered = paired + crossed + cancelled + still open. With request (g): its contracts in each series are its ratio × its paired units, and these
+-- quantities are units; of an order one to one, whose unit is a contract of each, that is the same claim. What is quoted below is document 01's
+-- paragraph, sentence by sentence, and the sentence of (g) that replaces one for unequal ratios.
 -- The calls are those of `Calls`. That the compiled ones are `Calls.run` and `Calls.one` is what their contracts in crates/engine/src/lib.rt say, by
 -- equation and with no `requires`: `run` and `one_message`, and for a host `legging_run` and `legging_message`.
 use mathlib.Core.Path.{_≡_}
 use mathlib.Core.Bool.{false, true}
 use mathlib.Core.List.{List, List·Memᴰ, [], _++_, _∷_}
-use Prim.Native.Nat.{_%_, _+_, _/_, _<_, _≤_, suc, zero, ℕ}
+use Prim.Native.Nat.{_%_, _*_, _+_, _/_, _<_, _≤_, suc, zero, ℕ}
 use lib.ListN.{drop, getD, length}
 use lib.Signed.{leZ}
 use Rattle.rules.specs.declared.Cause.the-variants.{Executed}
@@ -20,7 +22,7 @@ use Rattle.rules.specs.declared.Message.the-variants.{Order, TwoLeg}
 use Rattle.rules.specs.declared.Regular.{Regular}
 use Rattle.rules.specs.declared.Venue.{Venue}
 use Rattle.rules.specs.Base.{held}
-use Rattle.rules.specs.Words.{freshVenue, isComplexOf, leggingAt, noLegging, opposite, regularAt}
+use Rattle.rules.specs.Words.{freshVenue, isComplexOf, leggingAt, noLegging, oneToOne, opposite, regularAt}
 use Rattle.rules.specs.Settings.{increment}
 use Rattle.rules.specs.Bytes.{lengthField}
 use Rattle.rules.specs.Messages.{messageOf}
@@ -124,6 +126,8 @@ pub record Standing (v : Venue) (s d : ℕ) (l : Legging) : Type 0 where
   -- its complex order rests, and has the leg
   pub rests : isComplexOf (l .parent) (parentOf v l) ≡ true
   pub leg : hasLeg (parentOf v l) s d ≡ true
+  -- request (g): orders of unequal ratios "never generate"
+  pub even : oneToOne (parentOf v l) ≡ true
   -- "Best displayed: no regular order's price … in the same series and side is better (higher to buy, lower to sell), away prices aside"
   pub best : (i : ℕ) → restsAt s d (regularAt v i) ≡ true → better d (regularAt v i .price) (displayed (increment v s) d (l .price)) ≡ false
   -- "and no legging order's displayed price": of what stands at a place m, which is side m % 2 of series m / 2
@@ -147,9 +151,10 @@ pub record Accepted (s : Seen) (m : Message) : Type 0 where
 -- "Entered is the quantity in its message; still open is the quantity resting in the venue left (0 if none rests). The rest is summed from the
 -- records that name its id": the sums of `Sums`, over all records written
 pub record ComplexAdds (s : Seen) (c : Complex) : Type 0 where
-  -- its contracts in the first series, and those in the second, equal its pairs
-  pub first : total (contracts (c .id) (c .series1)) (s .reports) ≡ total (paired (c .id)) (s .reports)
-  pub second : total (contracts (c .id) (c .series2)) (s .reports) ≡ total (paired (c .id)) (s .reports)
+  -- its contracts in the first series, and those in the second, equal its pairs; request (g): "leg contracts must equal ratio × paired units in each series,
+  -- proved for all ratios together; for such an order this replaces demand 3's equality of contracts and pairs". Of kind 2 both ratios are 1
+  pub first : total (contracts (c .id) (c .series1)) (s .reports) ≡ c .ratio1 * total (paired (c .id)) (s .reports)
+  pub second : total (contracts (c .id) (c .series2)) (s .reports) ≡ c .ratio2 * total (paired (c .id)) (s .reports)
   -- entered = paired + crossed + cancelled + still open
   pub adds : c .quantity ≡
       total (paired (c .id)) (s .reports) + total (crossedFor (c .id)) (s .reports)

@@ -5,7 +5,7 @@ use Prim.Native.Nat.{ℕ, suc, _+_, _*_, _≤_, _<_}
 use lib.ListN.{length}
 use Rattle.rules.specs.declared.Venue.{Venue}
 use Rattle.rules.specs.Records.{Report, encode, encodeAll}
-use Rattle.rules.specs.Lengths.{perComplex, perLeg, perLegging, perRegular, recordLength}
+use Rattle.rules.specs.Lengths.{perLegging, perRegular, perUnequal, recordLength}
 use Rattle.rules.specs.Step.{step}
 use Rattle.rules.specs.Calls.{one}
 use Rattle.demands.specs.Kept.{SoundAt, SoundVenue}
@@ -15,11 +15,11 @@ abbrev pub Lengths : Type 0
 Lengths = (r : Report) → length (encode r) ≡ recordLength r
 
 abbrev pub most : ℕ
-most = 10112
+most = 10428
 
--- the answer, all orders that can rest, and a complex order that arrives with both its legs
+-- the answer, and all orders that can rest, each complex one of unequal ratios
 abbrev pub Parts : Type 0
-Parts = _≡_ {A = ℕ} most (12 + (perRegular * 128 + perComplex * 32 + perLegging * 16) + (perComplex + 2 * perLeg))
+Parts = _≡_ {A = ℕ} most (12 + (perRegular * 128 + perUnequal * 32 + perLegging * 16))
 
 -- No message upon a sound venue writes more.
 abbrev pub WritesAtMost : Type 0
