@@ -158,16 +158,16 @@ fn put_generated(out: &mut [u8], at: usize, s: &[u8]) -> usize
     put_fields(out, at, 67, &fields)
 }
 
-// The cause's number, which a record that was written has as it is.
+// The cause's number, which a record that was written has as it is; a byte that is no cause reads as 10.
 fn cause_at(s: &[u8], at: usize) -> u32
     ensures { λ r. ⌜ r ≡ causeNumber (causeOf (u8At (now (s .entry)) at)) ⌝ }
 {
     let n = byte_at(s, at);
     if n == 0 {
-        return 8;
+        return 10;
     }
     if 8 < n {
-        return 8;
+        return 10;
     }
     n
 }

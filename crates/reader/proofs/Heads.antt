@@ -52,7 +52,7 @@ module _ (v : Venue) (bs : List ℕ) where
   unfolding refusal
   whole-refused =
       decoded-by (λ (x : Decoded). torn bs ≡ false → eqb (elim x [ Taken m ↦ refusalOf v m | Refused n ↦ n ]) 1 ≡ false) bs
-      (λ t w. absurd (true≢false (sym t ∙ w))) (λ _ _ _. refl) (λ _ _ _. refl) (λ _ _ _. refl)
+      (λ t w. absurd (true≢false (sym t ∙ w))) (λ _ _ _. refl) (λ _ _ _. refl) (λ _ _ _. refl) (λ _ _ _. refl)
       (λ _ _ _ _. refusalOf-by (λ x. eqb x 1 ≡ false) v (messageOf bs) refl refl refl refl refl refl refl refl (λ _ _ _ _ _ _ _ _. refl))
 
 -- At a position -------------------------------------------------------------------------------

@@ -1,4 +1,4 @@
--- The refusals 1 to 4 and the message, each from what the code has found of the bytes.
+-- The refusals 1 to 4 and 14 and the message, each from what the code has found of the bytes.
 use mathlib.Core.Path.{_≡_, refl}
 use mathlib.Core.Bool.{Bool, true, false, not, _&&_, _||_}
 use mathlib.Core.List.{List}
@@ -14,11 +14,11 @@ use Rattle.rules.specs.declared.Complex.{Complex}
 use Rattle.rules.specs.declared.Message.{Message}
 use Rattle.rules.specs.declared.Message.the-variants.{Order, TwoLeg, Cancel, Away, Status, Sweep, Increment, Percent}
 use Rattle.rules.specs.declared.Decoded.the-variants.{Taken, Refused}
-use Rattle.rules.specs.Words.{within, isId, isSeries, isSide, isClass, isQuantity, isPrice, isLimit}
+use Rattle.rules.specs.Words.{within, isId, isSeries, isSide, isClass, isQuantity, isPrice, isLimit, isRatio}
 use Rattle.rules.specs.Settings.{isEdition}
 use Rattle.rules.specs.Bytes.{u8At, u16At, u32At, lengthField, kindField}
 use Rattle.rules.specs.Messages.{lengthOf, orderAt, twoLegAt, messageOf}
-use Rattle.rules.specs.Refusals.{torn, isKind, isLength, regularInRange, complexInRange, inRange, decoded}
+use Rattle.rules.specs.Refusals.{torn, isKind, isLength, regularInRange, twoLegInRange, inRange, equalRatios, decoded}
 use Rattle.rules.proofs.Tests.{and-true, and-false}
 
 -- Ranges --------------------------------------------------------------------------------------
@@ -77,20 +77,19 @@ regular-shown o a b s d p q x =
     (within-top 1 (o .quantity) (o .display) x)
 
 -- a complex order whose other fields are in range
-pub complex-quantity : (c : Complex) → 0 < c .id → c .id ≤ 4294967295 → c .series1 ≤ 7 → c .side1 ≤ 1 → c .series2 ≤ 7 → c .side2 ≤ 1 →
-    (c .series1 ≡ c .series2 → ⊥) → c .class ≤ 1 → isLimit (c .limit) ≡ true → isQuantity (c .quantity) ≡ complexInRange c
-unfolding complexInRange isId isSeries isSide isClass
-complex-quantity c a b s d t e n k l =
-    rw (
-      inside 1 4294967295 (c .id) a b,
-      inside 0 7 (c .series1) (omega arith) s,
-      inside 0 1 (c .side1) (omega arith) d,
-      inside 0 7 (c .series2) (omega arith) t,
-      inside 0 1 (c .side2) (omega arith) e,
-      ne-eqb (c .series1) (c .series2) n,
-      inside 0 1 (c .class) (omega arith) k,
-      l,
-    )
+module _ (far : ℕ) (c : Complex) (a : 0 < c .id) (b : c .id ≤ 4294967295) where
+  -- its legs: in range, and in two series
+  abbrev legs : Bool
+  legs = isSeries (c .series1) && isSide (c .side1) && isSeries (c .series2) && isSide (c .side2) && not (eqb (c .series1) (c .series2))
+
+  pub two-leg-out : legs ≡ false → false ≡ twoLegInRange far c
+  unfolding twoLegInRange isId
+  two-leg-out l = rw (inside 1 4294967295 (c .id) a b, l)
+
+  pub two-leg-ratio : legs ≡ true → c .class ≤ 1 → isLimit far (c .limit) ≡ true → isQuantity (c .quantity) ≡ true → isRatio (c .ratio1) ≡ true →
+      isRatio (c .ratio2) ≡ twoLegInRange far c
+  unfolding twoLegInRange isId isClass
+  two-leg-ratio l k n q r = rw (inside 1 4294967295 (c .id) a b, l, inside 0 1 (c .class) (omega arith) k, n, q, r)
 
 -- Kinds ---------------------------------------------------------------------------------------
 
@@ -103,7 +102,7 @@ module _ (s : List ℕ) where
   unfolding messageOf kindField
   message-order e = rw e
 
-  pub message-two-leg : u16At s 2 ≡ 2 → messageOf s ≡ TwoLeg (twoLegAt s)
+  pub message-two-leg : u16At s 2 ≡ 2 → messageOf s ≡ TwoLeg (twoLegAt s 1 1)
   unfolding messageOf kindField
   message-two-leg e = rw e
 
@@ -134,6 +133,10 @@ module _ (s : List ℕ) where
   pub message-reserve : u16At s 2 ≡ 9 → messageOf s ≡ Order (orderAt (u32At s 18) s)
   unfolding messageOf kindField
   message-reserve e = rw e
+
+  pub message-ratios : u16At s 2 ≡ 10 → messageOf s ≡ TwoLeg (twoLegAt s (u8At s 21) (u8At s 22))
+  unfolding messageOf kindField
+  message-ratios e = rw e
 
 -- Refusals ------------------------------------------------------------------------------------
 
@@ -168,10 +171,15 @@ module _ (s : List ℕ) where
   no-length t k n = rw (t, k, ne-eqb _ _ n)
 
   module _ (m : Message) (e : m ≡ messageOf s) (t : torn s ≡ false) (k : isKind (u16At s 2) ≡ true) (n : u16At s 0 ≡ lengthOf (u16At s 2)) where
-    pub no-range : inRange m ≡ false → Refused 4 ≡ decoded s
+    pub no-range : inRange (u16At s 2) m ≡ false → Refused 4 ≡ decoded s
     unfolding decoded kindField lengthField isLength
     no-range h = rw (t, k, eq-eqb _ _ n, ← e, h)
 
-    pub taken : inRange m ≡ true → Taken m ≡ decoded s
-    unfolding decoded kindField lengthField isLength
-    taken h = rw (t, k, eq-eqb _ _ n, ← e, h)
+    module _ (h : inRange (u16At s 2) m ≡ true) where
+      pub equal : equalRatios s ≡ true → Refused 14 ≡ decoded s
+      unfolding decoded kindField lengthField isLength
+      equal q = rw (t, k, eq-eqb _ _ n, ← e, h, q)
+
+      pub taken : equalRatios s ≡ false → Taken m ≡ decoded s
+      unfolding decoded kindField lengthField isLength
+      taken q = rw (t, k, eq-eqb _ _ n, ← e, h, q)

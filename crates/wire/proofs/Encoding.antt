@@ -1,28 +1,31 @@
 -- A message is decoded from its bytes.
 use mathlib.Core.Path.{_≡_, refl, sym, ap, _∙_}
-use mathlib.Core.Bool.{Bool, true, false}
+use mathlib.Core.Bool.{Bool, true, false, not, _&&_}
 use mathlib.Core.List.{List, _∷_, _++_}
 use Prim.Native.Nat.{ℕ, _-_, _≤_}
 use native.Mathlib.Omega.{arith}
-use lib.Dec.{leb, eqb}
+use lib.Dec.{eqb, leb}
 use lib.ListN.{length, length-append}
 use lib.IntN.{ℤ, pos, negsuc}
-use lib.Signed.{leZ}
 use borrow.Author.Tests.{leb-true, eqb-true}
 use Rattle.rules.specs.declared.Regular.{Regular}
+use Rattle.rules.specs.declared.Complex.{Complex}
 use Rattle.rules.specs.declared.Message.{Message}
 use Rattle.rules.specs.declared.Message.the-variants.{Order, TwoLeg, Cancel, Away, Status, Sweep, Increment, Percent}
 use Rattle.rules.specs.declared.Decoded.the-variants.{Taken}
 use Rattle.rules.specs.Base.{if_then_else_}
-use Rattle.rules.specs.Words.{within, isId, isSeries, isSide, isClass, isStatus, isQuantity, isAway, isPrice, isLimit}
+use Rattle.rules.specs.Words.{within, isId, isSeries, isSide, isClass, isStatus, isQuantity, isAway, isPrice, oneToOne}
 use Rattle.rules.specs.Settings.{isIncrement, isPercent, isEdition}
-use Rattle.rules.specs.Bytes.{u8At, u16At, u32At, asUnsigned, lengthField, kindField, bytes, u32, framed}
-use Rattle.rules.specs.Messages.{lengthOf, orderAt, twoLegAt, messageOf, orderFields, encodeMessage}
+use Rattle.rules.specs.Bytes.{u8At, u16At, u32At, asUnsigned, lengthField, kindField, bytes, u8, u32, framed}
+use Rattle.rules.specs.Messages.{lengthOf, orderAt, twoLegAt, messageOf, orderFields, twoLegFields, encodeMessage}
 use Rattle.rules.specs.Records.{OneByte, FourBytes, FourSigned}
-use Rattle.rules.specs.Refusals.{isKind, regularInRange, complexInRange, inRange, decoded}
+use Rattle.rules.specs.Refusals.{isKind, regularInRange, twoLegInRange, farOf, inRange, equalRatios, decoded, complexInRange}
 use Rattle.rules.specs.Sound.{showsFully}
-use Rattle.rules.proofs.Tests.{and-l, and-r}
+use Rattle.rules.proofs.Integers.{plus, minus}
+use Rattle.rules.proofs.Tests.{and-l, and-r, not-out}
 use Rattle.rules.proofs.Reading.{byte, word, signed-back, signed-small}
+use Rattle.rules.proofs.Refusing.{wellFormed}
+use Rattle.rules.proofs.Widths.{complex-fits}
 use Rattle.wire.specs.Brought.{Shows}
 use Rattle.wire.proofs.Decoding.{whole, taken}
 
@@ -33,10 +36,10 @@ at-most : (low high x : ℕ) → within low high x ≡ true → x ≤ high
 unfolding within
 at-most low high x h = leb-true x high (and-r (leb low x) (leb x high) h)
 
-limit-fits : (z : ℤ) → isLimit z ≡ true → FourSigned z
-unfolding isLimit
-limit-fits (pos n) h = let k = leb-true n 200000 (and-r (leZ (negsuc 199999) (pos n)) (leb n 200000) h) in omega arith
-limit-fits (negsuc n) h = let k = leb-true n 199999 (and-l (leb n 199999) (leZ (negsuc n) (pos 200000)) h) in omega arith
+limit-fits : (z : ℤ) → plus z ≤ 600000 → minus z ≤ 600000 → FourSigned z
+unfolding plus minus
+limit-fits (pos n) h k = omega arith
+limit-fits (negsuc n) h k = omega arith
 
 id-fits : (x : ℕ) → isId x ≡ true → FourBytes x
 unfolding isId
@@ -119,11 +122,51 @@ unfolding showsFully
 order-back o h f a b c d rest x e =
     fields-back o h a b c d rest x ∙ (rw (e, ← eqb-true (o .reserve) (o .quantity - o .display) f))
 
+-- A complex order's bytes ----------------------------------------------------------------------
+
+-- its fields, after a length and a kind, are read back, with its ratios
+two-leg-back : (o : Complex) → complexInRange o ≡ true → (a b c d : ℕ) (rest : List ℕ) (r s : ℕ) → r ≡ o .ratio1 → s ≡ o .ratio2 →
+    twoLegAt (a ∷ b ∷ c ∷ d ∷ (twoLegFields o ++ rest)) r s ≡ o
+unfolding twoLegAt twoLegFields bytes u8At u16At u32At complexInRange twoLegInRange
+two-leg-back o h a b c d rest r s e q =
+    let z = h in
+    let f = complex-fits o h in
+    let s1 = f .series1 in
+    let d1 = f .side1 in
+    let s2 = f .series2 in
+    let d2 = f .side2 in
+    let k = f .quantity in
+    let n = limit-fits (o .limit) (f .high) (f .low) in
+    rw (
+      word (o .id) (f .id),
+      byte (o .series1) (omega arith),
+      byte (o .side1) (omega arith),
+      byte (o .series2) (omega arith),
+      byte (o .side2) (omega arith),
+      byte (o .class) (class-fits _ (search (and-l, and-r, z) depth 14)),
+      word (asUnsigned (o .limit)) (signed-small (o .limit) n),
+      signed-back (o .limit) n,
+      word (o .quantity) (omega arith),
+      e,
+      q,
+    )
+
+-- a ratio is one byte
+first-fits : (c : Complex) → complexInRange c ≡ true → OneByte (c .ratio1)
+first-fits c h = let r = complex-fits c h .ratio1 in omega arith
+
+second-fits : (c : Complex) → complexInRange c ≡ true → OneByte (c .ratio2)
+second-fits c h = let r = complex-fits c h .ratio2 in omega arith
+
 -- A message's bytes ---------------------------------------------------------------------------
 
--- a message whose fields are in range is the one at the front of its bytes, whatever follows
-pub message-back : (m : Message) → inRange m ≡ true → Shows m → (rest : List ℕ) → messageOf (encodeMessage m ++ rest) ≡ m
-unfolding messageOf twoLegAt encodeMessage orderFields framed bytes kindField u8At u16At u32At inRange regularInRange complexInRange Shows
+-- the bytes of a complex order, by whether it is one to one
+abbrev twoLegBytes : Complex → Bool → List ℕ
+twoLegBytes c t = if t then framed 2 (twoLegFields c) else framed 10 (twoLegFields c ++ u8 (c .ratio1) ++ u8 (c .ratio2))
+
+-- a message that may be taken is the one at the front of its bytes, whatever follows
+pub message-back : (m : Message) → wellFormed m ≡ true → Shows m → (rest : List ℕ) → messageOf (encodeMessage m ++ rest) ≡ m
+unfolding messageOf encodeMessage orderFields twoLegFields framed bytes kindField u8At u16At u32At wellFormed regularInRange oneToOne Shows
 message-back (Order o) h f rest = go (eqb (o .display) (o .quantity)) refl
   where
     z : regularInRange o ≡ true
@@ -141,20 +184,16 @@ message-back (Order o) h f rest = go (eqb (o .display) (o .quantity)) refl
     go false e =
         let x = display-fits o h in
         ap Order (order-back o h shows _ _ _ _ (u32 (o .display) ++ rest) _ (word (o .display) x))
-message-back (TwoLeg c) h f rest =
-    let z = h in
-    let l : isLimit (c .limit) ≡ true = search (and-l, and-r, z) depth 12 in
-    rw (
-      word (c .id) (id-fits _ (search (and-l, and-r, z) depth 12)),
-      byte (c .series1) (series-fits _ (search (and-l, and-r, z) depth 12)),
-      byte (c .side1) (side-fits _ (search (and-l, and-r, z) depth 12)),
-      byte (c .series2) (series-fits _ (search (and-l, and-r, z) depth 12)),
-      byte (c .side2) (side-fits _ (search (and-l, and-r, z) depth 12)),
-      byte (c .class) (class-fits _ (search (and-l, and-r, z) depth 12)),
-      word (asUnsigned (c .limit)) (signed-small (c .limit) (limit-fits (c .limit) l)),
-      signed-back (c .limit) (limit-fits (c .limit) l),
-      word (c .quantity) (quantity-fits _ (search (and-l, and-r, z) depth 12)),
-    )
+message-back (TwoLeg c) h f rest = go (oneToOne c) refl
+  where
+    -- either kind
+    go : (t : Bool) → oneToOne c ≡ t → messageOf (twoLegBytes c t ++ rest) ≡ TwoLeg c
+    go true e =
+        let one = eqb-true (c .ratio1) 1 (and-l _ (eqb (c .ratio2) 1) e) in
+        let two = eqb-true (c .ratio2) 1 (and-r (eqb (c .ratio1) 1) _ e) in
+        ap TwoLeg (two-leg-back c h _ _ _ _ rest 1 1 (sym one) (sym two))
+    go false e =
+        ap TwoLeg (two-leg-back c h _ _ _ _ (u8 (c .ratio1) ++ u8 (c .ratio2) ++ rest) _ _ (byte (c .ratio1) (first-fits c h)) (byte (c .ratio2) (second-fits c h)))
 message-back (Cancel id) h f rest = rw (word id (id-fits id h))
 message-back (Away s bid offer) h f rest =
     let z = h in
@@ -176,36 +215,52 @@ message-back (Increment s i e) h f rest =
 message-back (Percent x e) h f rest =
     rw (byte x (percent-fits x (and-l (isPercent x) (isEdition e) h)), word e (edition-fits e (and-r (isPercent x) (isEdition e) h)))
 
--- what stands at the front of a message's bytes: its length, which is its kind's, and its kind
-pub record Front (s : List ℕ) (n : ℕ) : Type 0 where
+-- what stands at the front of a message's bytes: its length, which is its kind's, and its kind, of which its fields are in range and its ratios differ
+pub record Front (m : Message) (s : List ℕ) (n : ℕ) : Type 0 where
   pub size : lengthField s ≡ n
   pub kind : isKind (kindField s) ≡ true
   pub kinds-size : n ≡ lengthOf (kindField s)
   pub least : 4 ≤ n
+  pub range : inRange (kindField s) m ≡ true
+  pub uneven : equalRatios s ≡ false
 
-pub front : (m : Message) (rest : List ℕ) → Front (encodeMessage m ++ rest) (length (encodeMessage m))
-unfolding encodeMessage orderFields framed bytes lengthField kindField u8At u16At isKind within lengthOf
-front (Order o) rest = go (eqb (o .display) (o .quantity))
+pub front : (m : Message) (rest : List ℕ) → wellFormed m ≡ true → Front m (encodeMessage m ++ rest) (length (encodeMessage m))
+unfolding encodeMessage orderFields twoLegFields framed bytes lengthField kindField u8At u16At isKind within lengthOf wellFormed inRange equalRatios farOf complexInRange
+front (Order o) rest h = go (eqb (o .display) (o .quantity))
   where
     -- either kind
-    go : (t : Bool) → let bs = if t then framed 1 (orderFields o) else framed 9 (orderFields o ++ u32 (o .display)) in Front (bs ++ rest) (length bs)
-    go true = record { size = refl; kind = refl; kinds-size = refl; least = omega arith }
-    go false = record { size = refl; kind = refl; kinds-size = refl; least = omega arith }
-front (TwoLeg c) rest = record { size = refl; kind = refl; kinds-size = refl; least = omega arith }
-front (Cancel id) rest = record { size = refl; kind = refl; kinds-size = refl; least = omega arith }
-front (Away s bid offer) rest = record { size = refl; kind = refl; kinds-size = refl; least = omega arith }
-front (Status s x) rest = record { size = refl; kind = refl; kinds-size = refl; least = omega arith }
-front Sweep rest = record { size = refl; kind = refl; kinds-size = refl; least = omega arith }
-front (Increment s i e) rest = record { size = refl; kind = refl; kinds-size = refl; least = omega arith }
-front (Percent x e) rest = record { size = refl; kind = refl; kinds-size = refl; least = omega arith }
+    go : (t : Bool) → let bs = if t then framed 1 (orderFields o) else framed 9 (orderFields o ++ u32 (o .display)) in Front (Order o) (bs ++ rest) (length bs)
+    go true = record { size = refl; kind = refl; kinds-size = refl; least = omega arith; range = h; uneven = refl }
+    go false = record { size = refl; kind = refl; kinds-size = refl; least = omega arith; range = h; uneven = refl }
+front (TwoLeg c) rest h = go (oneToOne c) refl
+  where
+    -- either kind
+    go : (t : Bool) → oneToOne c ≡ t → Front (TwoLeg c) (twoLegBytes c t ++ rest) (length (twoLegBytes c t))
+    go true e = record { size = refl; kind = refl; kinds-size = refl; least = omega arith; range = and-l _ true (rw e at h); uneven = refl }
+    go false e =
+        let w : (twoLegInRange 600000 c && not (eqb (c .ratio1) (c .ratio2))) ≡ true = rw e at h in
+        record {
+          size = refl;
+          kind = refl;
+          kinds-size = refl;
+          least = omega arith;
+          range = and-l (twoLegInRange 600000 c) _ w;
+          uneven = rw (byte (c .ratio1) (first-fits c h), byte (c .ratio2) (second-fits c h)) (not-out _ (and-r (twoLegInRange 600000 c) _ w));
+        }
+front (Cancel id) rest h = record { size = refl; kind = refl; kinds-size = refl; least = omega arith; range = h; uneven = refl }
+front (Away s bid offer) rest h = record { size = refl; kind = refl; kinds-size = refl; least = omega arith; range = h; uneven = refl }
+front (Status s x) rest h = record { size = refl; kind = refl; kinds-size = refl; least = omega arith; range = h; uneven = refl }
+front Sweep rest h = record { size = refl; kind = refl; kinds-size = refl; least = omega arith; range = h; uneven = refl }
+front (Increment s i e) rest h = record { size = refl; kind = refl; kinds-size = refl; least = omega arith; range = h; uneven = refl }
+front (Percent x e) rest h = record { size = refl; kind = refl; kinds-size = refl; least = omega arith; range = h; uneven = refl }
 
 -- decoding gives the message back, whatever follows
-pub decodes-back : (m : Message) → inRange m ≡ true → Shows m → (rest : List ℕ) → decoded (encodeMessage m ++ rest) ≡ Taken m
+pub decodes-back : (m : Message) → wellFormed m ≡ true → Shows m → (rest : List ℕ) → decoded (encodeMessage m ++ rest) ≡ Taken m
 unfolding lengthField kindField
 decodes-back m h z rest =
     let s : List ℕ = encodeMessage m ++ rest in
     let n = length-append (encodeMessage m) rest in
-    let f = front m rest in
+    let f = front m rest h in
     let k : u16At s 0 ≡ length (encodeMessage m) = f .size in
     let l = f .least in
-    sym (taken s m (sym (message-back m h z rest)) (whole s (omega arith) (omega arith) (omega arith)) (f .kind) (k ∙ f .kinds-size) h)
+    sym (taken s m (sym (message-back m h z rest)) (whole s (omega arith) (omega arith) (omega arith)) (f .kind) (k ∙ f .kinds-size) (f .range) (f .uneven))

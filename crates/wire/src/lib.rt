@@ -5,16 +5,16 @@ use rules::Decoded;
 use rules::Message;
 use rules::Regular;
 ghost use mathlib.Core.Path.{_≡_};
-ghost use mathlib.Core.Bool.{_&&_};
+ghost use mathlib.Core.Bool.{not, _&&_};
 ghost use mathlib.Core.List.{List, [], _∷_, _++_};
-ghost use Prim.Native.Nat.{_+_, _-_, _*_, _≤_, _<_};
+ghost use Prim.Native.Nat.{ℕ, _+_, _-_, _*_, _≤_, _<_};
+ghost use lib.Dec.{eqb};
 ghost use lib.ListN.{length, take, drop, replicate};
-ghost use Rattle.rules.specs.declared.Message.the-variants.{Away, Status};
-ghost use Rattle.rules.specs.Words.{isSeries, isPrice, isQuantity, isLimit};
+ghost use Rattle.rules.specs.Words.{isSeries, isSide, isStatus, isAway, isPrice, isQuantity, isLimit, isRatio, oneToOne};
 ghost use Rattle.rules.specs.Settings.{isIncrement};
 ghost use Rattle.rules.specs.Bytes.{u8At, u16At, u32At, asSigned, bytes, i32};
 ghost use Rattle.rules.specs.Messages.{lengthOf, messageForm, orderAt, twoLegAt, messageOf};
-ghost use Rattle.rules.specs.Refusals.{regularInRange, complexInRange, inRange, decoded};
+ghost use Rattle.rules.specs.Refusals.{regularInRange, twoLegInRange, farOf, inRange, decoded, complexInRange};
 ghost use Rattle.rules.specs.Records.{answer, trade, pair, generated, removed, crossed, cancelled, causeNumber};
 ghost use Rattle.wire.specs.Seen.{seen, pasted, wordBytes, _plus_, _writes_};
 ghost use Rattle.wire.specs.Next.{nextRecord};
@@ -119,13 +119,25 @@ fn is_quantity(n: u32) -> bool
     n <= 10000
 }
 
-fn is_limit(n: i32) -> bool
-    ensures { λ r. ⌜ r ≡ isLimit n ⌝ }
+// A limit goes as far as `far` on both sides of 0.
+fn is_limit(far: u32, n: i32) -> bool
+    ensures { λ r. ⌜ r ≡ isLimit far n ⌝ }
 {
-    if n < -200000 {
+    let top = far as i64;
+    let x = n as i64;
+    if x < 0 - top {
         return false;
     }
-    n <= 200000
+    x <= top
+}
+
+fn is_ratio(n: u8) -> bool
+    ensures { λ r. ⌜ r ≡ isRatio n ⌝ }
+{
+    if n == 0 {
+        return false;
+    }
+    n <= 3
 }
 
 pub fn is_increment(n: u8) -> bool
@@ -165,16 +177,10 @@ pub fn regular_in_range(o: Regular) -> bool
     o.display <= o.quantity
 }
 
-// A complex order's fields are in their ranges, its legs in two series.
-pub fn complex_in_range(c: Complex) -> bool
-    ensures { λ r. ⌜ r ≡ complexInRange c ⌝ }
+// A complex order's legs are in their ranges, and in two series.
+fn legs_in_range(c: Complex) -> bool
+    ensures { λ r. ⌜ r ≡ (isSeries (c .series1) && isSide (c .side1) && isSeries (c .series2) && isSide (c .side2) && not (eqb (c .series1) (c .series2))) ⌝ }
 {
-    if c.series1 == c.series2 {
-        return false;
-    }
-    if c.id == 0 {
-        return false;
-    }
     if 7 < c.series1 {
         return false;
     }
@@ -187,17 +193,59 @@ pub fn complex_in_range(c: Complex) -> bool
     if 1 < c.side2 {
         return false;
     }
+    c.series1 != c.series2
+}
+
+// A complex order's fields are in their ranges, its limit as far as `far`.
+fn two_leg_in_range(far: u32, c: Complex) -> bool
+    ensures { λ r. ⌜ r ≡ twoLegInRange far c ⌝ }
+{
+    if c.id == 0 {
+        return false;
+    }
+    if !legs_in_range(c) {
+        return false;
+    }
     if 1 < c.class {
         return false;
     }
-    if !is_limit(c.limit) {
+    if !is_limit(far, c.limit) {
         return false;
     }
-    is_quantity(c.quantity)
+    if !is_quantity(c.quantity) {
+        return false;
+    }
+    if !is_ratio(c.ratio1) {
+        return false;
+    }
+    is_ratio(c.ratio2)
+}
+
+// A complex order is of kind 2; every other one is of kind 10.
+pub fn is_one_to_one(c: Complex) -> bool
+    ensures { λ r. ⌜ r ≡ oneToOne c ⌝ }
+{
+    if c.ratio1 != 1 {
+        return false;
+    }
+    c.ratio2 == 1
+}
+
+// A complex order may rest: one of kind 2, or one of kind 10 whose ratios differ.
+pub fn complex_in_range(c: Complex) -> bool
+    ensures { λ r. ⌜ r ≡ complexInRange c ⌝ }
+{
+    if is_one_to_one(c) {
+        return two_leg_in_range(200000, c);
+    }
+    if c.ratio1 == c.ratio2 {
+        return false;
+    }
+    two_leg_in_range(600000, c)
 }
 
 fn away_in_range(series: u8, bid: u32, offer: u32) -> bool
-    ensures { λ r. ⌜ r ≡ inRange (Away series bid offer) ⌝ }
+    ensures { λ r. ⌜ r ≡ (isSeries series && isAway bid && isAway offer) ⌝ }
 {
     if 7 < series {
         return false;
@@ -209,7 +257,7 @@ fn away_in_range(series: u8, bid: u32, offer: u32) -> bool
 }
 
 fn status_in_range(series: u8, status: u8) -> bool
-    ensures { λ r. ⌜ r ≡ inRange (Status series status) ⌝ }
+    ensures { λ r. ⌜ r ≡ (isSeries series && isStatus status) ⌝ }
 {
     if 7 < series {
         return false;
@@ -229,7 +277,7 @@ fn increment_in_range(series: u8, increment: u8) -> bool
 // A new setting's fields are in their ranges; any u32 is an edition.
 fn setting_in_range(m: Message) -> bool
     requires { ⌜ 6 < messageForm m ⌝ }
-    ensures { λ r. ⌜ r ≡ inRange m ⌝ }
+    ensures { λ r. ⌜ ((kind : ℕ) → r ≡ inRange kind m) ⌝ }
 {
     match m {
         Message::Increment(series, increment, _) => increment_in_range(series, increment),
@@ -238,9 +286,19 @@ fn setting_in_range(m: Message) -> bool
     }
 }
 
-// Every field of a message is in its range. In three parts, by the form: of a match of all forms a compiler makes a table of addresses.
-fn in_range(m: Message) -> bool
-    ensures { λ r. ⌜ r ≡ inRange m ⌝ }
+// How far a complex order's limit goes, by its kind.
+fn far_of(kind: u16) -> u32
+    ensures { λ r. ⌜ r ≡ farOf kind ⌝ }
+{
+    if kind == 10 {
+        return 600000;
+    }
+    200000
+}
+
+// Every field of a message of this kind is in its range. In three parts, by the form: of a match of all forms a compiler makes a table of addresses.
+fn in_range(kind: u16, m: Message) -> bool
+    ensures { λ r. ⌜ r ≡ inRange kind m ⌝ }
 {
     let form = rules::message_form(m);
     if 6 < form {
@@ -249,7 +307,7 @@ fn in_range(m: Message) -> bool
     if form <= 3 {
         return match m {
             Message::Order(o) => regular_in_range(o),
-            Message::TwoLeg(c) => complex_in_range(c),
+            Message::TwoLeg(c) => two_leg_in_range(far_of(kind), c),
             Message::Cancel(id) => id != 0,
             _ => false,
         };
@@ -288,9 +346,10 @@ fn order_at(s: &[u8], display: u32) -> Regular
     }
 }
 
-fn two_leg_at(s: &[u8]) -> Complex
+// The complex order at the front of `s`, of these ratios.
+fn two_leg_at(s: &[u8], ratio1: u8, ratio2: u8) -> Complex
     requires { ⌜ 21 ≤ length (now s) ⌝ }
-    ensures { λ r. ⌜ r ≡ twoLegAt (now (s .entry)) ⌝ }
+    ensures { λ r. ⌜ r ≡ twoLegAt (now (s .entry)) ratio1 ratio2 ⌝ }
 {
     Complex {
         id: word_at(s, 4),
@@ -301,12 +360,14 @@ fn two_leg_at(s: &[u8]) -> Complex
         class: byte_at(s, 12),
         limit: signed(word_at(s, 13)),
         quantity: word_at(s, 17),
+        ratio1,
+        ratio2,
     }
 }
 
 // The message at the front of `s`, of its kind's length, compared in order as in `length_of`.
 fn message_of(s: &[u8]) -> Message
-    requires { ⌜ (4 ≤ length (now s)) × (0 < u16At (now s) 2) × (u16At (now s) 2 ≤ 9) × (lengthOf (u16At (now s) 2) ≤ length (now s)) ⌝ }
+    requires { ⌜ (4 ≤ length (now s)) × (0 < u16At (now s) 2) × (u16At (now s) 2 ≤ 10) × (lengthOf (u16At (now s) 2) ≤ length (now s)) ⌝ }
     ensures { λ r. ⌜ r ≡ messageOf (now (s .entry)) ⌝ }
 {
     let kind = half_at(s, 2);
@@ -314,7 +375,7 @@ fn message_of(s: &[u8]) -> Message
         return Message::Order(order_at(s, word_at(s, 14)));
     }
     if kind <= 2 {
-        return Message::TwoLeg(two_leg_at(s));
+        return Message::TwoLeg(two_leg_at(s, 1, 1));
     }
     if kind <= 3 {
         return Message::Cancel(word_at(s, 4));
@@ -334,10 +395,23 @@ fn message_of(s: &[u8]) -> Message
     if kind <= 8 {
         return Message::Percent(byte_at(s, 4), word_at(s, 5));
     }
-    Message::Order(order_at(s, word_at(s, 18)))
+    if kind <= 9 {
+        return Message::Order(order_at(s, word_at(s, 18)));
+    }
+    Message::TwoLeg(two_leg_at(s, byte_at(s, 21), byte_at(s, 22)))
 }
 
-// The message at the front of `s`, or the first of the refusals 1 to 4 that it meets.
+// Kind 10 has equal ratio bytes.
+fn equal_ratios(s: &[u8], kind: u16) -> bool
+    ensures { λ r. ⌜ r ≡ (eqb kind 10 && eqb (u8At (now (s .entry)) 21) (u8At (now (s .entry)) 22)) ⌝ }
+{
+    if kind != 10 {
+        return false;
+    }
+    u8_at(s, 21) == u8_at(s, 22)
+}
+
+// The message at the front of `s`, or the first of the refusals 1 to 4 and 14 that it meets.
 pub fn decode(s: &[u8]) -> Decoded
     ensures { λ r. ⌜ r ≡ decoded (now (s .entry)) ⌝ }
 {
@@ -355,15 +429,18 @@ pub fn decode(s: &[u8]) -> Decoded
     if kind == 0 {
         return Decoded::Refused(2);
     }
-    if 9 < kind {
+    if 10 < kind {
         return Decoded::Refused(2);
     }
     if size != rules::length_of(kind) {
         return Decoded::Refused(3);
     }
     let m = message_of(s);
-    if !in_range(m) {
+    if !in_range(kind, m) {
         return Decoded::Refused(4);
+    }
+    if equal_ratios(s, kind) {
+        return Decoded::Refused(14);
     }
     Decoded::Taken(m)
 }

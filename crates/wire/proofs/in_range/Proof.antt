@@ -1,6 +1,7 @@
 use mathlib.Core.Path.{sym, ap, _∙_}
 use native.Mathlib.Omega.{arith}
-use Rattle.rules.specs.Refusals.{inRange}
+use Prim.Native.Nat.{ℕ}
+use Rattle.rules.specs.Refusals.{twoLegInRange, inRange}
 use Rattle.rules.proofs.ByKind.{kinds-left, sweep-left}
 use Rattle.wire.proofs.Decoding.{id-is}
 use borrow.Author.Needs.{needs}
@@ -14,7 +15,7 @@ setting-in-range-requires : tie.Need-setting-in-range-requires
 setting-in-range-requires c κs = search needs
 
 returns : tie.Need-returns
-returns c = search needs
+returns c = c .setting-in-range .ensures (c .before .before .before .args .kind)
 
 enum-known-m : tie.Need-enum-known-m
 enum-known-m c = search needs
@@ -25,23 +26,28 @@ regular-in-range-requires c κs = search needs
 enum-known-m-2 : tie.Need-enum-known-m-2
 enum-known-m-2 c = search needs
 
-complex-in-range-requires : tie.Need-complex-in-range-requires
-complex-in-range-requires c κs = search needs
+far-of-requires : tie.Need-far-of-requires
+far-of-requires c κs = search needs
+
+two-leg-in-range-requires : tie.Need-two-leg-in-range-requires
+two-leg-in-range-requires c κs = search needs
 
 enum-known-m-3 : tie.Need-enum-known-m-3
 enum-known-m-3 c = search needs
 
 returns-2 : tie.Need-returns-2
 unfolding inRange
-returns-2 c = c .regular-in-range .ensures ∙ sym (ap inRange (c .before .before .m .given .1))
+returns-2 c = c .regular-in-range .ensures ∙ sym (ap (inRange (c .before .before .before .before .before .before .before .args .kind)) (c .before .before .m .given .1))
 
 returns-3 : tie.Need-returns-3
 unfolding inRange
-returns-3 c = c .complex-in-range .ensures ∙ sym (ap inRange (c .before .before .m2 .given .1))
+returns-3 c =
+    let o = c .before .before .before .m2 .given in
+    c .two-leg-in-range .ensures ∙ ap (λ (far : ℕ). twoLegInRange far (o .0 .0)) (c .before .far-of .ensures) ∙ sym (ap (inRange (c .before .before .before .before .before .before .before .before .args .kind)) (o .1))
 
 returns-4 : tie.Need-returns-4
 unfolding inRange
-returns-4 c = id-is (c .before .m3 .given .0 .0) (omega arith) ∙ sym (ap inRange (c .before .m3 .given .1))
+returns-4 c = id-is (c .before .m3 .given .0 .0) (omega arith) ∙ sym (ap (inRange (c .before .before .before .before .before .before .args .kind)) (c .before .m3 .given .1))
 
 returns-5 : tie.Need-returns-5
 returns-5 c = let k = kinds-left (c .before .before .before .before .args .m) (c .match .keys4) in let e = c .before .before .before .message-form .ensures in absurd (omega arith)
@@ -59,16 +65,19 @@ status-in-range-requires : tie.Need-status-in-range-requires
 status-in-range-requires c κs = search needs
 
 returns-6 : tie.Need-returns-6
-returns-6 c = c .away-in-range .ensures ∙ sym (ap inRange (c .before .before .m4 .given .1))
+unfolding inRange
+returns-6 c = c .away-in-range .ensures ∙ sym (ap (inRange (c .before .before .before .before .before .before .before .args .kind)) (c .before .before .m4 .given .1))
 
 returns-7 : tie.Need-returns-7
-returns-7 c = c .status-in-range .ensures ∙ sym (ap inRange (c .before .before .m5 .given .1))
+unfolding inRange
+returns-7 c = c .status-in-range .ensures ∙ sym (ap (inRange (c .before .before .before .before .before .before .before .args .kind)) (c .before .before .m5 .given .1))
 
 returns-8 : tie.Need-returns-8
 unfolding inRange
 returns-8 c =
+    let s = c .before .before .before .before .args in
     let e = c .before .before .before .message-form .ensures in
-    sym (ap inRange (sweep-left (c .before .before .before .before .args .m) (c .match2 .keys3) (omega arith) (omega arith)))
+    sym (ap (inRange (s .kind)) (sweep-left (s .m) (c .match2 .keys3) (omega arith) (omega arith)))
 
 pub in-range-spec : {M : Type 1} → statement M
 in-range-spec =
@@ -80,7 +89,8 @@ in-range-spec =
     enum-known-m
     regular-in-range-requires
     enum-known-m-2
-    complex-in-range-requires
+    far-of-requires
+    two-leg-in-range-requires
     enum-known-m-3
     returns-2
     returns-3

@@ -1,10 +1,10 @@
-use mathlib.Core.Path.{_≡_, sym, ap, _∙_}
+use mathlib.Core.Path.{_≡_, sym, ap, ap₂, _∙_}
 use Prim.Native.Nat.{ℕ}
 use native.Mathlib.Omega.{arith}
 use Rattle.rules.specs.declared.Message.the-variants.{Order, TwoLeg, Cancel}
 use Rattle.rules.specs.Bytes.{u16At}
-use Rattle.rules.specs.Messages.{lengthOf, orderAt}
-use Rattle.wire.proofs.Decoding.{of-length, message-order, message-two-leg, message-cancel, message-away, message-status, message-sweep, message-increment, message-percent, message-reserve}
+use Rattle.rules.specs.Messages.{lengthOf, orderAt, twoLegAt}
+use Rattle.wire.proofs.Decoding.{of-length, message-order, message-two-leg, message-cancel, message-away, message-status, message-sweep, message-increment, message-percent, message-reserve, message-ratios}
 use borrow.Author.Needs.{needs}
 use Rattle.wire.proofs.message_of.Statement.{statement}
 use Rattle.wire.proofs.message_of.Tie as tie
@@ -97,17 +97,35 @@ returns-8 c = let s = c .before .before .before .before .before .before .before 
 
 word-at-requires-7 : tie.Need-word-at-requires-7
 unfolding lengthOf
-word-at-requires-7 c κs = let s = c .before .before .before .before .before .before .before .before .before .before .args .s .now in let e : u16At s 2 ≡ 9 = omega arith in let n = of-length s 9 e (c .before .before .before .before .before .before .before .before .before .before .pre .3) in omega arith
+word-at-requires-7 c κs = let s = c .before .before .before .before .before .before .before .before .before .before .before .args .s .now in let e : u16At s 2 ≡ 9 = omega arith in let n = of-length s 9 e (c .before .before .before .before .before .before .before .before .before .before .before .pre .3) in omega arith
 
 order-at-requires-2 : tie.Need-order-at-requires-2
 unfolding lengthOf
-order-at-requires-2 c κs = let s = c .before .before .before .before .before .before .before .before .before .before .before .args .s .now in let e : u16At s 2 ≡ 9 = omega arith in let n = of-length s 9 e (c .before .before .before .before .before .before .before .before .before .before .before .pre .3) in omega arith
+order-at-requires-2 c κs = let s = c .before .before .before .before .before .before .before .before .before .before .before .before .args .s .now in let e : u16At s 2 ≡ 9 = omega arith in let n = of-length s 9 e (c .before .before .before .before .before .before .before .before .before .before .before .before .pre .3) in omega arith
 
 returns-9 : tie.Need-returns-9
 returns-9 c =
-    let s = c .before .before .before .before .before .before .before .before .before .before .before .before .args .s .now in
+    let s = c .before .before .before .before .before .before .before .before .before .before .before .before .before .args .s .now in
     let e : u16At s 2 ≡ 9 = omega arith in
     ap Order (c .order-at2 .ensures ∙ ap (λ (x : ℕ). orderAt x s) (c .before .word-at7 .ensures)) ∙ sym (message-reserve s e)
+
+byte-at-requires-7 : tie.Need-byte-at-requires-7
+unfolding lengthOf
+byte-at-requires-7 c κs = let s = c .before .before .before .before .before .before .before .before .before .before .before .args .s .now in let e : u16At s 2 ≡ 10 = omega arith in let n = of-length s 10 e (c .before .before .before .before .before .before .before .before .before .before .before .pre .3) in omega arith
+
+byte-at-requires-8 : tie.Need-byte-at-requires-8
+unfolding lengthOf
+byte-at-requires-8 c κs = let s = c .before .before .before .before .before .before .before .before .before .before .before .before .args .s .now in let e : u16At s 2 ≡ 10 = omega arith in let n = of-length s 10 e (c .before .before .before .before .before .before .before .before .before .before .before .before .pre .3) in omega arith
+
+two-leg-at-requires-2 : tie.Need-two-leg-at-requires-2
+unfolding lengthOf
+two-leg-at-requires-2 c κs = let s = c .before .before .before .before .before .before .before .before .before .before .before .before .before .args .s .now in let e : u16At s 2 ≡ 10 = omega arith in let n = of-length s 10 e (c .before .before .before .before .before .before .before .before .before .before .before .before .before .pre .3) in omega arith
+
+returns-10 : tie.Need-returns-10
+returns-10 c =
+    let s = c .before .before .before .before .before .before .before .before .before .before .before .before .before .before .args .s .now in
+    let e : u16At s 2 ≡ 10 = omega arith in
+    ap TwoLeg (c .two-leg-at2 .ensures ∙ ap₂ (twoLegAt s) (c .before .before .byte-at7 .ensures) (c .before .byte-at8 .ensures)) ∙ sym (message-ratios s e)
 
 pub message-of-spec : {M : Type 1} → statement M
 message-of-spec =
@@ -138,4 +156,8 @@ message-of-spec =
     returns-8
     word-at-requires-7
     order-at-requires-2
-    returns-9)
+    returns-9
+    byte-at-requires-7
+    byte-at-requires-8
+    two-leg-at-requires-2
+    returns-10)

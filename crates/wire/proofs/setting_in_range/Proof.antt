@@ -19,18 +19,18 @@ enum-known-m-2 c = search needs
 
 returns : tie.Need-returns
 unfolding inRange
-returns c =
+returns c k =
     let m = c .before .before .m .given in
-    c .increment-in-range .ensures ∙ sym (ap inRange (m .1) ∙ any-edition _ (m .0 .1 .1 .0) (omega arith))
+    c .increment-in-range .ensures ∙ sym (ap (inRange k) (m .1) ∙ any-edition _ (m .0 .1 .1 .0) (omega arith))
 
 returns-2 : tie.Need-returns-2
 unfolding inRange isPercent
-returns-2 c =
+returns-2 c k =
     let m = c .before .m2 .given in
-    within-top 0 50 (m .0 .0) (omega arith) ∙ sym (ap inRange (m .1) ∙ any-edition _ (m .0 .1 .0) (omega arith))
+    within-top 0 50 (m .0 .0) (omega arith) ∙ sym (ap (inRange k) (m .1) ∙ any-edition _ (m .0 .1 .0) (omega arith))
 
 returns-3 : tie.Need-returns-3
-returns-3 c = let k = lower-left (c .before .args .m) (c .match .keys3) in absurd (omega arith)
+returns-3 c k = let l = lower-left (c .before .args .m) (c .match .keys3) in absurd (omega arith)
 
 pub setting-in-range-spec : {M : Type 1} → statement M
 setting-in-range-spec =

@@ -1,16 +1,15 @@
 use native.Mathlib.Omega.{arith}
 use Rattle.rules.specs.Words.{isSeries, isStatus}
-use Rattle.rules.specs.Refusals.{inRange}
 use Rattle.wire.proofs.Decoding.{above, inside, within-top}
 use Rattle.wire.proofs.status_in_range.Statement.{statement}
 use Rattle.wire.proofs.status_in_range.Tie as tie
 
 returns : tie.Need-returns
-unfolding inRange isSeries
+unfolding isSeries
 returns c = rw (above 0 7 (c .before .args .series) (c .if1 .taken))
 
 returns-2 : tie.Need-returns-2
-unfolding inRange isSeries isStatus
+unfolding isSeries isStatus
 returns-2 c = rw (inside 0 7 (c .before .args .series) (omega arith) (c .if1 .left)) (within-top 0 2 (c .before .args .status) (omega arith))
 
 pub status-in-range-spec : {M : Type 1} → statement M
