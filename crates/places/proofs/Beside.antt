@@ -8,15 +8,13 @@ use native.Mathlib.Omega.{arith}
 use native.Mathlib.Decide.{decLt, ℕ-discrete}
 use lib.Dec.{eqb}
 use lib.ListN.{getD}
-use Rattle.rules.specs.declared.Regular.{Regular}
 use Rattle.rules.specs.Words.{placeOf}
 use Rattle.rules.specs.Places.{holdsRegular, holdsComplex}
 use Rattle.rules.specs.Step.{mask}
 use Rattle.rules.specs.Settings.{figureNow}
-use Rattle.rules.specs.declared.Venue.{Venue}
 use Rattle.rules.proofs.Showing.{Showing}
 use Rattle.places.specs.Layout.{regularsUsed, complexesUsed, regularIn, complexIn, venueOf, Filled, levelOf, levelIn, isUnmarked, Fully, Marked, figureIn, Figured, Orderly, Right, SameCounts}
-use Rattle.places.proofs.Parts.{Outside, regulars-few, complexes-few, regular-kept, complex-kept, holds-kept, count-kept, count-kept2, regulars-kept, complexes-kept, leggings-kept, series-kept, editions-kept, last-kept, venue-is}
+use Rattle.places.proofs.Parts.{Outside, regulars-few, complexes-few, complex-kept, holds-kept, count-kept, count-kept2, regulars-kept, complexes-kept, leggings-kept, series-kept, editions-kept, last-kept, venue-is}
 
 -- the places known to be held are
 abbrev pub RegularsMarked : List ℕ → Type 0

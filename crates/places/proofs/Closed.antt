@@ -84,6 +84,8 @@ unfolding complexIn limitNumber
 complex-keeps c k = record {
   class = omega arith;
   limit = ap (λ (z : ℤ). pos (natAbs z) -ℤ pos 2147483648) (-ℤ-+ℤ-cancel (pos (getD c (6 * k + 516) 0)) (pos 2147483648));
+  ratio1 = omega arith;
+  ratio2 = omega arith;
 }
 
 complex-again : (a c : List ℕ) (i k : ℕ) → length a ≡ size → i < 32 → complexIn (sets a (6 * i + 512) (complexRow (complexIn c k))) i ≡ complexIn c k

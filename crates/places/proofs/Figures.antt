@@ -5,7 +5,7 @@ use mathlib.Core.Logic.{_≢_, _⊎_, inl, inr}
 use mathlib.Core.List.{List, [], _∷_, _++_}
 use Prim.Native.Nat.{ℕ, zero, suc, _+_, _*_, _%_, _≤_, _<_}
 use native.Mathlib.Omega.{arith}
-use native.Mathlib.Decide.{decLt, ℕ-discrete}
+use native.Mathlib.Decide.{ℕ-discrete}
 use native.Mathlib.Numerals.{add-one}
 use borrow.Author.Tests.{eqb-true, eq-eqb, ne-eqb}
 use lib.Dec.{eqb, ltb}
@@ -19,10 +19,10 @@ use Rattle.rules.specs.Words.{noEdition, withEditions}
 use Rattle.rules.specs.Places.{holdsEdition}
 use Rattle.rules.specs.Settings.{baseFigure, sets, lastValue, figureNow, freeEdition}
 use Rattle.rules.proofs.Cases.{if-by}
-use Rattle.places.specs.Layout.{size, upto, Filled, regularsUsed, complexesUsed, editionIn, venueOf, editionRow, figureIn, Figured, FiguresBase, FigureSet, FiguresCounted, SameCounts}
+use Rattle.places.specs.Layout.{size, upto, Filled, editionIn, venueOf, editionRow, figureIn, Figured, FiguresBase, FigureSet, FiguresCounted, SameCounts}
 use Rattle.places.proofs.Tables.{upto-length, upto-at}
 use Rattle.places.proofs.Parts.{Outside, wider, count-kept, count-kept2, regulars-kept, edition-kept, edition-set}
-use Rattle.places.proofs.Beside.{levels-kept, regulars-marked, complexes-marked, legging-marked, figure-same, shows-marked, beside-venue, right-kept}
+use Rattle.places.proofs.Beside.{levels-kept, regulars-marked, complexes-marked, legging-marked, shows-marked, beside-venue, right-kept}
 use Rattle.places.proofs.Stores.{sets-outside, edition-back}
 
 -- What is counted -----------------------------------------------------------------------------
@@ -120,13 +120,12 @@ last-more f x (y ∷ es) e = last-more f _ es e
 
 -- the figures are those of the first i editions
 pub record Counting (a b : List ℕ) (i : ℕ) : Type 0 where
-  pub long : length a ≡ size
   pub aside : Aside a b
   pub so : (f : ℕ) → f < 9 → figureIn b f ≡ lastValue f (baseFigure f) (take i (venueOf a .editions))
 
 pub counting-first : (a b : List ℕ) → length b ≡ size → FiguresBase a b → Counting b b 0
 unfolding lastValue
-counting-first a b n h = record { long = n; aside = record { long = n; others = λ k w. refl }; so = h .figures }
+counting-first a b n h = record { aside = record { long = n; others = λ k w. refl }; so = h .figures }
 
 edition-at : (a : List ℕ) (i : ℕ) → i < 32 → getD (venueOf a .editions) i noEdition ≡ editionIn a i
 unfolding venueOf
@@ -138,7 +137,6 @@ editions-many a = upto-length (editionIn a) 0 32
 
 pub counting-next : (a b c : List ℕ) (i : ℕ) (e : Edition) → length c ≡ length b → Counting a b i → i < 32 → e ≡ editionIn b i → FigureSet e b c → Counting a c (i + 1)
 counting-next a b c i e l m h is s = record {
-  long = m .long;
   aside = record { long = l ∙ m .aside .long; others = λ k w. s .others k w ∙ m .aside .others k w };
   so = λ f w. s .figures f w ∙ ap (λ (x : ℕ). if sets f e then e .value else x) (m .so f w) ∙ sym (last-more f (baseFigure f) (take i es) e)
       ∙ ap (λ (y : Edition). lastValue f (baseFigure f) (take i es ++ (y ∷ []))) here

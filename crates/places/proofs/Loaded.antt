@@ -21,10 +21,10 @@ use Rattle.rules.specs.Words.{noRegular, noComplex, noLegging, notListed, noEdi
 use Rattle.rules.specs.Places.{holdsRegular, holdsComplex, holdsEdition, blankRegular, blankComplex, blankEdition, packed, closeGaps}
 use Rattle.rules.specs.Step.{mask}
 use Rattle.rules.specs.Settings.{figureNow, increment}
-use Rattle.rules.specs.Refusals.{regularInRange, complexInRange, onIncrement}
-use Rattle.rules.specs.Sound.{showsFully, regularsSound, complexesSound, editionsSound, editionInRange, figureInRange, sound}
+use Rattle.rules.specs.Refusals.{regularInRange, twoLegInRange, complexInRange, onIncrement}
+use Rattle.rules.specs.Sound.{showsFully, regularsSound, complexesSound, editionsSound, editionInRange, sound}
 use Rattle.rules.proofs.Tests.{and-l, and-r}
-use Rattle.rules.proofs.Editions.{ed, Dated, Stepped, dated-steps}
+use Rattle.rules.proofs.Editions.{Dated, Stepped, dated-steps}
 use Rattle.rules.proofs.Dating.{edition-free}
 use Rattle.rules.proofs.Closing.{packed-free}
 use Rattle.rules.proofs.Arranging.{arranged-out, blank-free, blank-freeC, closed-same}
@@ -341,13 +341,13 @@ regular-asked v o h =
     let f : showsFully o ≡ true = search (and-l, and-r, h) depth 8 in
     (regular-side o r, range-bounded o r f)
 
-complex-sides : (c : Complex) (t : Bool) → (complexInRange c && t) ≡ true → OnSide (c .series1) (c .side1) × OnSide (c .series2) (c .side2)
-unfolding complexInRange isSeries isSide within
+pub complex-sides : (c : Complex) (t : Bool) → (complexInRange c && t) ≡ true → OnSide (c .series1) (c .side1) × OnSide (c .series2) (c .side2)
+unfolding complexInRange twoLegInRange isSeries isSide within
 complex-sides c t z =
-    let a = leb-true (c .series1) 7 (search (and-l, and-r, z) depth 12) in
-    let b = leb-true (c .side1) 1 (search (and-l, and-r, z) depth 12) in
-    let e = leb-true (c .series2) 7 (search (and-l, and-r, z) depth 12) in
-    let f = leb-true (c .side2) 1 (search (and-l, and-r, z) depth 12) in
+    let a = leb-true (c .series1) 7 (search (and-l, and-r, z) depth 14) in
+    let b = leb-true (c .side1) 1 (search (and-l, and-r, z) depth 14) in
+    let e = leb-true (c .series2) 7 (search (and-l, and-r, z) depth 14) in
+    let f = leb-true (c .side2) 1 (search (and-l, and-r, z) depth 14) in
     (record { series = omega arith; side = omega arith }, record { series = omega arith; side = omega arith })
 
 books-load : (v : Venue) → regularsSound v ≡ true → complexesSound v ≡ true → closeGaps v ≡ v → Stepped v → Loadable v

@@ -58,10 +58,10 @@ regular-fields a b i p q =
     )
 
 complex-fields : (a b : List ℕ) (i : ℕ) → getD b (6 * i + 512) 0 ≡ getD a (6 * i + 512) 0 → getD b (6 * i + 513) 0 ≡ getD a (6 * i + 513) 0 →
-    getD b (6 * i + 515) 0 ≡ getD a (6 * i + 515) 0 → getD b (6 * i + 516) 0 ≡ getD a (6 * i + 516) 0 →
+    getD b (6 * i + 514) 0 ≡ getD a (6 * i + 514) 0 → getD b (6 * i + 515) 0 ≡ getD a (6 * i + 515) 0 → getD b (6 * i + 516) 0 ≡ getD a (6 * i + 516) 0 →
     getD b (6 * i + 517) 0 ≡ getD a (6 * i + 517) 0 → complexIn a i ≡ complexIn b i
 unfolding complexIn
-complex-fields a b i p q r s t = rw (p, q, r, s, t)
+complex-fields a b i p q r s t u = rw (p, q, r, s, t, u)
 
 legging-fields : (a b : List ℕ) (i : ℕ) → getD b (3 * i + 704) 0 ≡ getD a (3 * i + 704) 0 → getD b (3 * i + 705) 0 ≡ getD a (3 * i + 705) 0 →
     getD b (3 * i + 706) 0 ≡ getD a (3 * i + 706) 0 → leggingIn a i ≡ leggingIn b i
@@ -96,9 +96,9 @@ module _ {low high : ℕ} {a b : List ℕ} (o : Outside low high a b) where
 
   pub complex-kept : (i : ℕ) → (6 * i + 518 ≤ low) ⊎ (high ≤ 6 * i + 512) → complexIn a i ≡ complexIn b i
   complex-kept i (inl h) = complex-fields a b i (o .same (6 * i + 512) (inl (omega arith))) (o .same (6 * i + 513) (inl (omega arith)))
-      (o .same (6 * i + 515) (inl (omega arith))) (o .same (6 * i + 516) (inl (omega arith))) (o .same (6 * i + 517) (inl (omega arith)))
+      (o .same (6 * i + 514) (inl (omega arith))) (o .same (6 * i + 515) (inl (omega arith))) (o .same (6 * i + 516) (inl (omega arith))) (o .same (6 * i + 517) (inl (omega arith)))
   complex-kept i (inr h) = complex-fields a b i (o .same (6 * i + 512) (inr (omega arith))) (o .same (6 * i + 513) (inr (omega arith)))
-      (o .same (6 * i + 515) (inr (omega arith))) (o .same (6 * i + 516) (inr (omega arith))) (o .same (6 * i + 517) (inr (omega arith)))
+      (o .same (6 * i + 514) (inr (omega arith))) (o .same (6 * i + 515) (inr (omega arith))) (o .same (6 * i + 516) (inr (omega arith))) (o .same (6 * i + 517) (inr (omega arith)))
 
   pub legging-kept : (i : ℕ) → (3 * i + 707 ≤ low) ⊎ (high ≤ 3 * i + 704) → leggingIn a i ≡ leggingIn b i
   legging-kept i (inl h) = legging-fields a b i (o .same (3 * i + 704) (inl (omega arith))) (o .same (3 * i + 705) (inl (omega arith))) (o .same (3 * i + 706) (inl (omega arith)))

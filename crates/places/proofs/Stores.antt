@@ -25,7 +25,7 @@ use Rattle.rules.specs.Sound.{showsFully}
 use Rattle.rules.specs.Step.{mask}
 use Rattle.rules.proofs.Showing.{less-fully, filled-fully}
 use Rattle.places.specs.declared.Level.{Level}
-use Rattle.places.specs.Layout.{size, inUse, regularsUsed, complexesUsed, regularIn, complexIn, leggingIn, listedIn, editionIn, venueOf, regularRow, reserveRow, regularPut, Bounded, editionRow, legsKey, limitNumber, complexRow, Kept, bitOf, levelOf, levelIn, Fully, Marked, Beside, SameBeside, LevelPut, Counts, SameCounts}
+use Rattle.places.specs.Layout.{size, inUse, regularsUsed, complexesUsed, regularIn, complexIn, leggingIn, listedIn, editionIn, venueOf, regularRow, reserveRow, regularPut, Bounded, editionRow, legsKey, ratiosNumber, limitNumber, complexRow, Kept, bitOf, levelIn, Fully, Marked, Beside, SameBeside, LevelPut, Counts, SameCounts}
 use Rattle.places.proofs.Tables.{used-more}
 use Rattle.places.proofs.Parts.{Outside, stored, wider, joined, unmoved, regulars-few, regulars-many, complexes-few, regular-kept, other-kept, complex-kept, regulars-kept, regular-at, complex-at, regular-set, complex-set, legging-set, listed-set, last-set, regular-unused, complex-unused, regulars-counted, complexes-counted, count-kept, count-kept2}
 use Rattle.places.proofs.Masks.{mask-put}
@@ -178,6 +178,7 @@ less-inC a i k h =
       getD-set-same a (6 * i + 517) (getD a (6 * i + 517) 0 - k) 0 h,
       getD-set-other a (6 * i + 517) (6 * i + 512) (getD a (6 * i + 517) 0 - k) 0 (λ e. omega arith),
       getD-set-other a (6 * i + 517) (6 * i + 513) (getD a (6 * i + 517) 0 - k) 0 (λ e. omega arith),
+      getD-set-other a (6 * i + 517) (6 * i + 514) (getD a (6 * i + 517) 0 - k) 0 (λ e. omega arith),
       getD-set-other a (6 * i + 517) (6 * i + 515) (getD a (6 * i + 517) 0 - k) 0 (λ e. omega arith),
       getD-set-other a (6 * i + 517) (6 * i + 516) (getD a (6 * i + 517) 0 - k) 0 (λ e. omega arith),
     ) refl
@@ -411,22 +412,28 @@ added-regular a b c n o m h s d w z p q r = rw (r, q, p) (
 
 pub complex-back : (a : List ℕ) (i : ℕ) (c : Complex) → length a ≡ size → i < 32 → c .series1 < 8 → c .side1 < 2 → c .series2 < 8 → c .side2 < 2 → Kept c →
     complexIn (sets a (6 * i + 512) (complexRow c)) i ≡ c
-unfolding complexIn complexRow legsKey placeOf
+unfolding complexIn complexRow legsKey ratiosNumber placeOf
 complex-back a i c n h s1 d1 s2 d2 k =
     let legs = 16 * (2 * c .series1 + c .side1) + (2 * c .series2 + c .side2) in
-    let xs : List ℕ = c .id ∷ legs ∷ 0 ∷ c .class ∷ limitNumber (c .limit) ∷ c .quantity ∷ [] in
+    let ratios = 256 * c .ratio1 + c .ratio2 in
+    let xs : List ℕ = c .id ∷ legs ∷ ratios ∷ c .class ∷ limitNumber (c .limit) ∷ c .quantity ∷ [] in
     let w = k .class in
+    let w1 = k .ratio1 in
+    let w2 = k .ratio2 in
     let e0 : getD (sets a (6 * i + 512) xs) (6 * i + 512) 0 ≡ c .id = row-at a (6 * i + 512) (6 * i + 512) xs 0 (omega arith) (omega arith) (omega arith) in
     let e1 : getD (sets a (6 * i + 512) xs) (6 * i + 513) 0 ≡ legs = row-at a (6 * i + 512) (6 * i + 513) xs 1 (omega arith) (omega arith) (omega arith) in
-    let e2 : getD (sets a (6 * i + 512) xs) (6 * i + 515) 0 ≡ c .class = row-at a (6 * i + 512) (6 * i + 515) xs 3 (omega arith) (omega arith) (omega arith) in
-    let e3 : getD (sets a (6 * i + 512) xs) (6 * i + 516) 0 ≡ limitNumber (c .limit) = row-at a (6 * i + 512) (6 * i + 516) xs 4 (omega arith) (omega arith) (omega arith) in
-    let e4 : getD (sets a (6 * i + 512) xs) (6 * i + 517) 0 ≡ c .quantity = row-at a (6 * i + 512) (6 * i + 517) xs 5 (omega arith) (omega arith) (omega arith) in
+    let e2 : getD (sets a (6 * i + 512) xs) (6 * i + 514) 0 ≡ ratios = row-at a (6 * i + 512) (6 * i + 514) xs 2 (omega arith) (omega arith) (omega arith) in
+    let e3 : getD (sets a (6 * i + 512) xs) (6 * i + 515) 0 ≡ c .class = row-at a (6 * i + 512) (6 * i + 515) xs 3 (omega arith) (omega arith) (omega arith) in
+    let e4 : getD (sets a (6 * i + 512) xs) (6 * i + 516) 0 ≡ limitNumber (c .limit) = row-at a (6 * i + 512) (6 * i + 516) xs 4 (omega arith) (omega arith) (omega arith) in
+    let e5 : getD (sets a (6 * i + 512) xs) (6 * i + 517) 0 ≡ c .quantity = row-at a (6 * i + 512) (6 * i + 517) xs 5 (omega arith) (omega arith) (omega arith) in
     let f1 : legs % 256 / 32 ≡ c .series1 = omega arith in
     let g1 : legs / 16 % 2 ≡ c .side1 = omega arith in
     let f2 : legs % 16 / 2 ≡ c .series2 = omega arith in
     let g2 : legs % 2 ≡ c .side2 = omega arith in
     let f3 : c .class % 256 ≡ c .class = omega arith in
-    rw (e0, e1, e2, e3, e4, f1, g1, f2, g2, f3, k .limit) refl
+    let r1 : ratios / 256 % 256 ≡ c .ratio1 = omega arith in
+    let r2 : ratios % 256 ≡ c .ratio2 = omega arith in
+    rw (e0, e1, e2, e3, e4, e5, f1, g1, f2, g2, f3, r1, r2, k .limit) refl
 
 pub counted2 : (b : List ℕ) (k : ℕ) → getD b 777 0 ≡ k → k ≤ 32 → complexesUsed b ≡ k
 unfolding complexesUsed
@@ -439,7 +446,7 @@ whole-part2 b = refl
 wide-row2 : (a : List ℕ) (i : ℕ) (c : Complex) → Outside (6 * i + 512) (6 * i + 518) a (sets a (6 * i + 512) (complexRow c))
 unfolding complexRow
 wide-row2 a i c =
-    wider (omega arith) (omega arith) (sets-outside a (6 * i + 512) (c .id ∷ legsKey c ∷ 0 ∷ c .class ∷ limitNumber (c .limit) ∷ c .quantity ∷ []))
+    wider (omega arith) (omega arith) (sets-outside a (6 * i + 512) (c .id ∷ legsKey c ∷ ratiosNumber c ∷ c .class ∷ limitNumber (c .limit) ∷ c .quantity ∷ []))
 
 count-is2 : (a b : List ℕ) → length a ≡ size → length b ≡ size → complexesUsed a < 32 → complexesUsed (set b 777 (complexesUsed a + 1)) ≡ suc (complexesUsed a)
 count-is2 a b n m h =

@@ -2,7 +2,7 @@
 --
 --   from   numbers                                                             places
 --      0   id, legging place of its series and side, price, quantity           128 regular
---    512   id, legs, 0, class, limit + 2^31, quantity                          32 complex
+--    512   id, legs, ratios, class, limit + 2^31, quantity                     32 complex
 --    704   parent, price, quantity                                             16 legging
 --    752   status, bid, offer                                                  8 series
 --    776   regular places in use, complex places in use, last id
@@ -14,7 +14,7 @@
 --    975   reserve and shown quantity of an order, as last written               128 regular, by their place
 --   1231   the mark: 0 where every order shows what it should
 --
--- Legs is 16 * the legging place of the first leg + that of the second.
+-- Legs is 16 * the legging place of the first leg + that of the second; ratios is 256 * the ratio of the first leg + that of the second.
 -- What stands in regular and complex places that are not in use means nothing. The numbers from 779 to 829, from 958 to 974 and the mark are kept
 -- beside the venue. Figures stand apart, since of those next to each other a compiler keeps the first ones, edition 0's, as a table.
 -- A fill writes an order's quantity alone: its reserve and its shown quantity are the numbers written, and no more than what is left.
@@ -84,6 +84,8 @@ complexIn b i = record {
   class = getD b (6 * i + 515) 0 % 256;
   limit = pos (getD b (6 * i + 516) 0) -ℤ pos 2147483648;
   quantity = getD b (6 * i + 517) 0;
+  ratio1 = getD b (6 * i + 514) 0 / 256 % 256;
+  ratio2 = getD b (6 * i + 514) 0 % 256;
 }
 
 unfoldable pub leggingIn : List ℕ → ℕ → Legging
@@ -139,17 +141,23 @@ pub record Bounded (o : Regular) : Type 0 where
 unfoldable pub limitNumber : ℤ → ℕ
 limitNumber z = natAbs (z +ℤ pos 2147483648)
 
+-- the ratios of a complex order as one number
+unfoldable pub ratiosNumber : Complex → ℕ
+ratiosNumber c = 256 * c .ratio1 + c .ratio2
+
 unfoldable pub complexRow : Complex → List ℕ
-complexRow c = c .id ∷ legsKey c ∷ 0 ∷ c .class ∷ limitNumber (c .limit) ∷ c .quantity ∷ []
+complexRow c = c .id ∷ legsKey c ∷ ratiosNumber c ∷ c .class ∷ limitNumber (c .limit) ∷ c .quantity ∷ []
 
 -- an edition's
 unfoldable pub editionRow : Edition → List ℕ
 editionRow e = e .edition ∷ e .message ∷ e .figure ∷ e .value ∷ []
 
--- a class and a limit that are kept whole
+-- a class, a limit and ratios that are kept whole
 pub record Kept (c : Complex) : Type 0 where
   pub class : c .class < 256
   pub limit : pos (limitNumber (c .limit)) -ℤ pos 2147483648 ≡ c .limit
+  pub ratio1 : c .ratio1 < 256
+  pub ratio2 : c .ratio2 < 256
 
 -- Held places ---------------------------------------------------------------------------------
 

@@ -196,6 +196,7 @@ pub fn complex_at(b: &[u32], i: usize) -> Complex
     ensures { λ r. ⌜ r ≡ complexIn (now (b .entry)) i ⌝ }
 {
     let legs = b[6 * i + 513];
+    let ratios = b[6 * i + 514];
     let class = b[6 * i + 515];
     let limit = limit_of(b[6 * i + 516]);
     Complex {
@@ -207,6 +208,8 @@ pub fn complex_at(b: &[u32], i: usize) -> Complex
         class: (class % 256) as u8,
         limit,
         quantity: b[6 * i + 517],
+        ratio1: (ratios / 256 % 256) as u8,
+        ratio2: (ratios % 256) as u8,
     }
 }
 
@@ -368,7 +371,7 @@ fn write_complex(b: &mut [u32], i: usize, c: Complex)
     let limit = limit_number(c.limit);
     b[6 * i + 512] = c.id;
     b[6 * i + 513] = 16 * one + two;
-    b[6 * i + 514] = 0;
+    b[6 * i + 514] = 256 * (c.ratio1 as u32) + (c.ratio2 as u32);
     b[6 * i + 515] = c.class as u32;
     b[6 * i + 516] = limit;
     b[6 * i + 517] = c.quantity;
@@ -638,6 +641,8 @@ fn complexes_of(b: &[u32]) -> [Complex; 32]
         class: 0,
         limit: 0,
         quantity: 0,
+        ratio1: 0,
+        ratio2: 0,
     };
     let mut r = [free; 32];
     let n = complexes_used(b);

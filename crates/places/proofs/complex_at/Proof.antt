@@ -19,6 +19,18 @@ mul-legs-2 c = search needs
 shared-slice-read-legs : tie.Need-shared-slice-read-legs
 shared-slice-read-legs c = search needs
 
+mul-ratios : tie.Need-mul-ratios
+mul-ratios c = search needs
+
+add-ratios : tie.Need-add-ratios
+add-ratios c = search needs
+
+mul-ratios-2 : tie.Need-mul-ratios-2
+mul-ratios-2 c = search needs
+
+shared-slice-read-ratios : tie.Need-shared-slice-read-ratios
+shared-slice-read-ratios c = search needs
+
 mul-class : tie.Need-mul-class
 mul-class c = search needs
 
@@ -46,26 +58,23 @@ shared-slice-read-limit-of c = search needs
 limit-of-requires : tie.Need-limit-of-requires
 limit-of-requires c κs = search needs
 
-mul-t6 : tie.Need-mul-t6
-mul-t6 c = search needs
+mul-t7 : tie.Need-mul-t7
+mul-t7 c = search needs
 
-add-t7 : tie.Need-add-t7
-add-t7 c = search needs
+add-t8 : tie.Need-add-t8
+add-t8 c = search needs
 
-mul-t8 : tie.Need-mul-t8
-mul-t8 c = search needs
+mul-t9 : tie.Need-mul-t9
+mul-t9 c = search needs
 
-shared-slice-read-t10 : tie.Need-shared-slice-read-t10
-shared-slice-read-t10 c = search needs
+shared-slice-read-t11 : tie.Need-shared-slice-read-t11
+shared-slice-read-t11 c = search needs
 
-cast-t16 : tie.Need-cast-t16
-cast-t16 c = search needs
+cast-t18 : tie.Need-cast-t18
+cast-t18 c = search needs
 
-cast-t19 : tie.Need-cast-t19
-cast-t19 c = search needs
-
-cast-t22 : tie.Need-cast-t22
-cast-t22 c = search needs
+cast-t21 : tie.Need-cast-t21
+cast-t21 c = search needs
 
 cast-t24 : tie.Need-cast-t24
 cast-t24 c = search needs
@@ -73,17 +82,26 @@ cast-t24 c = search needs
 cast-t26 : tie.Need-cast-t26
 cast-t26 c = search needs
 
-mul-t27 : tie.Need-mul-t27
-mul-t27 c = search needs
-
-add-t28 : tie.Need-add-t28
-add-t28 c = search needs
+cast-t28 : tie.Need-cast-t28
+cast-t28 c = search needs
 
 mul-t29 : tie.Need-mul-t29
 mul-t29 c = search needs
 
-shared-slice-read-t31 : tie.Need-shared-slice-read-t31
-shared-slice-read-t31 c = search needs
+add-t30 : tie.Need-add-t30
+add-t30 c = search needs
+
+mul-t31 : tie.Need-mul-t31
+mul-t31 c = search needs
+
+shared-slice-read-t33 : tie.Need-shared-slice-read-t33
+shared-slice-read-t33 c = search needs
+
+cast-t36 : tie.Need-cast-t36
+cast-t36 c = search needs
+
+cast-t38 : tie.Need-cast-t38
+cast-t38 c = search needs
 
 returns : tie.Need-returns
 unfolding complexIn
@@ -97,6 +115,10 @@ complex-at-spec =
     add-legs
     mul-legs-2
     shared-slice-read-legs
+    mul-ratios
+    add-ratios
+    mul-ratios-2
+    shared-slice-read-ratios
     mul-class
     add-class
     mul-class-2
@@ -106,17 +128,19 @@ complex-at-spec =
     mul-limit-of-2
     shared-slice-read-limit-of
     limit-of-requires
-    mul-t6
-    add-t7
-    mul-t8
-    shared-slice-read-t10
-    cast-t16
-    cast-t19
-    cast-t22
+    mul-t7
+    add-t8
+    mul-t9
+    shared-slice-read-t11
+    cast-t18
+    cast-t21
     cast-t24
     cast-t26
-    mul-t27
-    add-t28
+    cast-t28
     mul-t29
-    shared-slice-read-t31
+    add-t30
+    mul-t31
+    shared-slice-read-t33
+    cast-t36
+    cast-t38
     returns)

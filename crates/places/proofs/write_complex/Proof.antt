@@ -5,7 +5,7 @@ use Prim.Native.Nat.{suc, _+_, _*_}
 use mir.Syntax.{w32}
 use mir.Val.{SFits}
 use Rattle.rules.specs.Words.{placeOf}
-use Rattle.places.specs.Layout.{legsKey, limitNumber, complexRow}
+use Rattle.places.specs.Layout.{legsKey, ratiosNumber, limitNumber, complexRow}
 use Rattle.places.proofs.Limits.{back32, limit-back}
 use lib.ListN.{length-set}
 use borrow.Author.Needs.{needs}
@@ -53,8 +53,14 @@ mul-b-5 c = search needs
 slice-write-b-2 : tie.Need-slice-write-b-2
 slice-write-b-2 c = simp length-set (omega arith)
 
+cast-b : tie.Need-cast-b
+cast-b c = search needs
+
 mul-b-6 : tie.Need-mul-b-6
 mul-b-6 c = search needs
+
+cast-b-2 : tie.Need-cast-b-2
+cast-b-2 c = search needs
 
 add-b-4 : tie.Need-add-b-4
 add-b-4 c = search needs
@@ -62,44 +68,50 @@ add-b-4 c = search needs
 mul-b-7 : tie.Need-mul-b-7
 mul-b-7 c = search needs
 
-slice-write-b-3 : tie.Need-slice-write-b-3
-slice-write-b-3 c = simp length-set (omega arith)
-
-cast-b : tie.Need-cast-b
-cast-b c = search needs
+add-b-5 : tie.Need-add-b-5
+add-b-5 c = search needs
 
 mul-b-8 : tie.Need-mul-b-8
 mul-b-8 c = search needs
 
-add-b-5 : tie.Need-add-b-5
-add-b-5 c = search needs
+slice-write-b-3 : tie.Need-slice-write-b-3
+slice-write-b-3 c = simp length-set (omega arith)
+
+cast-b-3 : tie.Need-cast-b-3
+cast-b-3 c = search needs
 
 mul-b-9 : tie.Need-mul-b-9
 mul-b-9 c = search needs
 
-slice-write-b-4 : tie.Need-slice-write-b-4
-slice-write-b-4 c = simp length-set (omega arith)
+add-b-6 : tie.Need-add-b-6
+add-b-6 c = search needs
 
 mul-b-10 : tie.Need-mul-b-10
 mul-b-10 c = search needs
 
-add-b-6 : tie.Need-add-b-6
-add-b-6 c = search needs
+slice-write-b-4 : tie.Need-slice-write-b-4
+slice-write-b-4 c = simp length-set (omega arith)
 
 mul-b-11 : tie.Need-mul-b-11
 mul-b-11 c = search needs
 
-slice-write-b-5 : tie.Need-slice-write-b-5
-slice-write-b-5 c = simp length-set (omega arith)
+add-b-7 : tie.Need-add-b-7
+add-b-7 c = search needs
 
 mul-b-12 : tie.Need-mul-b-12
 mul-b-12 c = search needs
 
-add-b-7 : tie.Need-add-b-7
-add-b-7 c = search needs
+slice-write-b-5 : tie.Need-slice-write-b-5
+slice-write-b-5 c = simp length-set (omega arith)
 
 mul-b-13 : tie.Need-mul-b-13
 mul-b-13 c = search needs
+
+add-b-8 : tie.Need-add-b-8
+add-b-8 c = search needs
+
+mul-b-14 : tie.Need-mul-b-14
+mul-b-14 c = search needs
 
 slice-write-b-6 : tie.Need-slice-write-b-6
 slice-write-b-6 c = simp length-set (omega arith)
@@ -108,16 +120,19 @@ same-length : tie.Need-same-length
 same-length c = simp length-set
 
 returns : tie.Need-returns
-unfolding complexRow legsKey
-returns c = let i = c .before .before .before .before .before .before .args .i in
-    let p1 : 6 * i + 513 ≡ suc (6 * i + 512) = omega arith in
-    let p2 : 6 * i + 514 ≡ suc (suc (6 * i + 512)) = omega arith in
-    let p3 : 6 * i + 515 ≡ suc (suc (suc (6 * i + 512))) = omega arith in
-    let p4 : 6 * i + 516 ≡ suc (suc (suc (suc (6 * i + 512)))) = omega arith in
-    let p5 : 6 * i + 517 ≡ suc (suc (suc (suc (suc (6 * i + 512))))) = omega arith in
-    let f : SFits w32 (c .before .before .before .before .before .before .args .c .limit) = record { sfits = c .before .before .struct-told .given .1 .1 .1 .1 .1 .1 .0 .1 } in (
-      rw (p1, p2, p3, p4, p5, c .before .before .before .before .place-number .ensures, c .before .before .before .place-number2 .ensures, c .before .limit-number .ensures ∙ ap limitNumber (back32 f)) refl,
-      record { class = c .struct-known .given .1 .1 .1 .1 .1 .0 .fits; limit = limit-back f },
+unfolding complexRow legsKey ratiosNumber
+returns c =
+    let named = c .before .before .before .before .before in
+    let a = named .before .before .before .args in
+    let p1 : 6 * a .i + 513 ≡ suc (6 * a .i + 512) = omega arith in
+    let p2 : 6 * a .i + 514 ≡ suc (suc (6 * a .i + 512)) = omega arith in
+    let p3 : 6 * a .i + 515 ≡ suc (suc (suc (6 * a .i + 512))) = omega arith in
+    let p4 : 6 * a .i + 516 ≡ suc (suc (suc (suc (6 * a .i + 512)))) = omega arith in
+    let p5 : 6 * a .i + 517 ≡ suc (suc (suc (suc (suc (6 * a .i + 512))))) = omega arith in
+    let f : SFits w32 (a .c .limit) = record { sfits = c .before .before .before .before .struct-told .given .1 .1 .1 .1 .1 .1 .0 .1 } in
+    let fits = c .struct-known3 .given .1 .1 .1 .1 .1 in (
+      rw (p1, p2, p3, p4, p5, named .before .place-number .ensures, named .place-number2 .ensures, c .before .before .before .limit-number .ensures ∙ ap limitNumber (back32 f)) refl,
+      record { class = fits .0 .fits; limit = limit-back f; ratio1 = fits .1 .1 .1 .0 .fits; ratio2 = fits .1 .1 .1 .1 .0 .fits },
     )
 
 pub write-complex-spec : {M : Type 1} → statement M
@@ -137,22 +152,26 @@ write-complex-spec =
     add-b-3
     mul-b-5
     slice-write-b-2
+    cast-b
     mul-b-6
+    cast-b-2
     add-b-4
     mul-b-7
-    slice-write-b-3
-    cast-b
-    mul-b-8
     add-b-5
+    mul-b-8
+    slice-write-b-3
+    cast-b-3
     mul-b-9
-    slice-write-b-4
-    mul-b-10
     add-b-6
+    mul-b-10
+    slice-write-b-4
     mul-b-11
-    slice-write-b-5
-    mul-b-12
     add-b-7
+    mul-b-12
+    slice-write-b-5
     mul-b-13
+    add-b-8
+    mul-b-14
     slice-write-b-6
     same-length
     returns)
