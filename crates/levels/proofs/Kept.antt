@@ -230,9 +230,12 @@ module _ (b : List ℕ) (few : (k : ℕ) → getD b k 0 < 4294967296) where
         | no h ↦ omega (arith, ap (λ (o : Regular). o .quantity) (regular-past b i (omega arith)))
       ]
 
+  pub level-most : (s d : ℕ) (l : Level) → l ≡ levelOf s d (venueOf b .regular) → l .size ≤ 549755813760
+  level-most s d l e =
+      omega (arith, ap (λ (x : Level). x .size) e, level-bound s d (venueOf b .regular) (λ i _. quantities i), ap (λ (k : ℕ). k * 4294967295) (regulars-many b))
+
   pub level-small : (s d n : ℕ) (l : Level) → Right b → s < 8 → d < 2 → n ≡ placeOf s d → l ≡ levelIn b n → l .size ≤ 549755813760
-  level-small s d n l r hs hd en el =
-      omega (arith, ap (λ (x : Level). x .size) (level-read b s d n l r hs hd en el), level-bound s d (venueOf b .regular) (λ i _. quantities i), ap (λ (k : ℕ). k * 4294967295) (regulars-many b))
+  level-small s d n l r hs hd en el = level-most s d l (level-read b s d n l r hs hd en el)
 
 -- An order added ------------------------------------------------------------------------------
 

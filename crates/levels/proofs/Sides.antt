@@ -1,12 +1,12 @@
 -- The prices of a side, as the code reads them: what stands at a place, a level's price and size, and the tests' outcomes.
-use mathlib.Core.Path.{_≡_, sym, ap, ap₂, _∙_}
+use mathlib.Core.Path.{_≡_, refl, sym, ap, ap₂, _∙_}
 use mathlib.Core.Bool.{Bool, true, false}
 use mathlib.Core.List.{List}
-use Prim.Native.Nat.{ℕ, zero, suc, _+_, _*_, _<_}
+use Prim.Native.Nat.{ℕ, zero, suc, _+_, _*_, _<_, zero-le}
 use native.Mathlib.Omega.{arith}
 use native.Mathlib.Nat.{zero-add}
 use native.Mathlib.Decide.{decLt}
-use borrow.Author.Tests.{eq-eqb, ne-eqb}
+use borrow.Author.Tests.{eq-eqb, ne-eqb, le-ltb}
 use lib.Dec.{eqb}
 use lib.IntN.{ℤ, _+ℤ_}
 use Rattle.rules.specs.declared.Regular.{Regular}
@@ -16,10 +16,13 @@ use Rattle.rules.specs.declared.Listed.{Listed}
 use Rattle.rules.specs.declared.Venue.{Venue}
 use Rattle.rules.specs.Base.{if_then_else_}
 use Rattle.rules.specs.Words.{opposite, noComplex, noLegging, notListed, placeOf, complexAt, leggingAt, listedAt, statusOf, isComplexOf}
-use Rattle.rules.specs.Prices.{better, betterOf, bestIn, bestRegular, bestSize, ownPrice, bestOwn, clearPrice, away, marketBest, ratio1, ratio2, weighed, net, taken1, taken2, nearNet, inBand}
+use Rattle.rules.specs.Prices.{better, betterOf, bestIn, bestRegular, bestSize, ownPrice, bestOwn, ownSize, clearPrice, away, marketBest, weighed, net, taken1, taken2, nearNet, inBand}
 use Rattle.rules.specs.Settings.{figureNow, percent, increment}
 use Rattle.rules.specs.Standing.{findComplex, parentOf, bothOpen}
 use Rattle.rules.specs.Complex.{anyClosed}
+use Rattle.rules.proofs.Tests.{if-same}
+use Rattle.rules.proofs.Better.{better-irrefl}
+use Rattle.rules.proofs.Units.{own-size}
 use Rattle.places.specs.Layout.{Figured, upto, complexesUsed, complexIn, leggingIn, listedIn, venueOf, levelOf}
 use Rattle.places.proofs.Tables.{upto-at}
 use Rattle.places.proofs.Parts.{complex-at, complex-past}
@@ -121,6 +124,39 @@ module _ (v : Venue) (s d best : ℕ) (eb : best ≡ bestRegular v s d) where
   unfolding marketBest
   market-is out r eo q = q ∙ ap₂ (betterOf d) eo eb
 
+-- The size at the best own price --------------------------------------------------------------
+
+-- by the level of the regular orders, and what stands at the legging place
+module _ (v : Venue) (s d : ℕ) (x : Level) (e : x ≡ levelOf s d (v .regular)) (l : Legging) (el : l ≡ leggingAt v s d) where
+  size-by : (own p : ℕ) → own ≡ ownPrice l → betterOf d own (x .price) ≡ p → ownSize v s d ≡ (if eqb (x .price) p then x .size else 0) + (if eqb own p then l .quantity else 0)
+  unfolding bestOwn
+  size-by own p ew ep = rw (← ep, ew, level-price v s d x e, level-size v s d x e, el) (own-size v s d)
+
+  pub size-free : l .quantity ≡ 0 → x .size ≡ ownSize v s d
+  unfolding better betterOf
+  size-free h =
+      sym (size-by 0 (x .price) (own-free l l refl h) (simp (le-ltb (x .price) 0 zero-le, if-same))
+      ∙ rw (eq-eqb (x .price) (x .price) refl, h, if-same {A = ℕ} (eqb 0 (x .price)) 0) (omega arith))
+
+  module _ (h : l .quantity ≡ 0 → ⊥) where
+    pub size-same : l .price ≡ x .price → x .size + l .quantity ≡ ownSize v s d
+    unfolding betterOf
+    size-same q =
+        sym (size-by (l .price) (x .price) (own-held l l refl h) (rw q (if-same (better d (x .price) (x .price)) (x .price)))
+        ∙ rw (eq-eqb (x .price) (x .price) refl, eq-eqb (l .price) (x .price) q) refl)
+
+    pub size-better : better d (l .price) (x .price) ≡ true → l .quantity ≡ ownSize v s d
+    unfolding betterOf
+    size-better b =
+        sym (size-by (l .price) (l .price) (own-held l l refl h) (rw b refl)
+        ∙ rw (ne-eqb (x .price) (l .price) (λ z. better-irrefl d (l .price) (rw z at b)), eq-eqb (l .price) (l .price) refl) (omega arith))
+
+    pub size-worse : (l .price ≡ x .price → ⊥) → better d (l .price) (x .price) ≡ false → x .size ≡ ownSize v s d
+    unfolding betterOf
+    size-worse n b =
+        sym (size-by (l .price) (x .price) (own-held l l refl h) (rw b refl)
+        ∙ rw (eq-eqb (x .price) (x .price) refl, ne-eqb (l .price) (x .price) n) (omega arith))
+
 module _ (v : Venue) (s d : ℕ) (x : Listed) (e : x ≡ listedAt v s) where
   pub away-bid : d ≡ 0 → x .bid ≡ away v s d
   unfolding away
@@ -154,12 +190,12 @@ module _ (v : Venue) (c : Complex) (a f : ℕ) (ea : a ≡ marketBest v (c .seri
     unfolding inBand
     band-none2 t h = rw (← one, ← two) (simp (ne-eqb _ _ n, eq-eqb _ _ h))
 
-    pub band-near : (b ≡ 0 → ⊥) → (r : Bool) (x : ℕ) (o u t : ℤ) → x ≡ figureNow v 8 → o ≡ weighed 1 (c .side1) a +ℤ weighed 1 (c .side2) b → u ≡ t → r ≡ nearNet x o u → r ≡ inBand v c t
-    unfolding inBand net ratio1 ratio2 percent
-    band-near m r x o u t ex eo eu h =
+    pub band-near : (b ≡ 0 → ⊥) → (r : Bool) (x : ℕ) (o y u t : ℤ) → x ≡ figureNow v 8 → o ≡ y → y ≡ weighed (c .ratio1) (c .side1) a +ℤ weighed (c .ratio2) (c .side2) b → u ≡ t → r ≡ nearNet x o u → r ≡ inBand v c t
+    unfolding inBand net percent
+    band-near m r x o y u t ex eo ey eu h =
         rw (← one, ← two) (simp (ne-eqb _ _ n, ne-eqb _ _ m)
-        (h ∙ ap (λ (k : ℕ). nearNet k o u) ex ∙ ap (λ (z : ℤ). nearNet (figureNow v 8) z u) eo
-        ∙ ap (nearNet (figureNow v 8) (weighed 1 (c .side1) a +ℤ weighed 1 (c .side2) b)) eu))
+        (h ∙ ap (λ (k : ℕ). nearNet k o u) ex ∙ ap (λ (z : ℤ). nearNet (figureNow v 8) z u) (eo ∙ ey)
+        ∙ ap (nearNet (figureNow v 8) (weighed (c .ratio1) (c .side1) a +ℤ weighed (c .ratio2) (c .side2) b)) eu))
 
 -- The increment -------------------------------------------------------------------------------
 

@@ -13,7 +13,7 @@ ghost use lib.ListN.{length};
 ghost use Rattle.rules.specs.Base.{held};
 ghost use Rattle.rules.specs.Words.{sell, leggingAt, statusOf, isComplexOf};
 ghost use Rattle.rules.specs.Settings.{increment};
-ghost use Rattle.rules.specs.Prices.{better, betterOf, reaches, bestRegular, ownPrice, bestOwn, clearPrice, away, marketBest, inBand};
+ghost use Rattle.rules.specs.Prices.{better, betterOf, reaches, bestRegular, ownPrice, bestOwn, ownSize, clearPrice, away, marketBest, inBand};
 ghost use Rattle.rules.specs.Trading.{fillRegular, putRegular};
 ghost use Rattle.rules.specs.Generation.{reachesAny};
 ghost use Rattle.rules.specs.Standing.{otherLeg, parentOf, bothOpen, showAgain};
@@ -327,6 +327,25 @@ pub fn best_own(b: &[u32], best: u32, s: u8, d: u8) -> u32
     better_of(d, own, best)
 }
 
+// The size at the best own price of a side, legging included; level is that of its regular orders.
+pub fn own_size(b: &[u32], level: Level, s: u8, d: u8) -> u64
+    requires { ⌜ (length (now b) ≡ size) × (level ≡ levelOf s d (venueOf (now b) .regular)) × (s < 8) × (d < 2) ⌝ }
+    ensures { λ r. ⌜ r ≡ ownSize (venueOf (now (b .entry))) s d ⌝ }
+{
+    let l = places::legging_at(b, rules::place_of(s, d));
+    if l.quantity == 0 {
+        return level.size;
+    }
+    let legging = l.quantity as u64;
+    if l.price == level.price {
+        return level.size + legging;
+    }
+    if is_better(d, l.price, level.price) {
+        return legging;
+    }
+    level.size
+}
+
 // The best regular price, 0 if there is none or if the legging order has a strictly better own price.
 pub fn clear_price(b: &[u32], best: u32, s: u8, d: u8) -> u32
     requires { ⌜ (length (now b) ≡ size) × (best ≡ bestRegular (venueOf (now b)) s d) × (s < 8) × (d < 2) ⌝ }
@@ -362,7 +381,7 @@ pub fn market_best(b: &[u32], best: u32, s: u8, d: u8) -> u32
 
 // The net t of a complex order is in band; taken has the levels that its legs take.
 pub fn in_band(b: &[u32], taken: Taken, c: Complex, t: i64) -> bool
-    requires { ⌜ (length (now b) ≡ size) × (TakenOf taken c (venueOf (now b) .regular)) × (LegsIn c) × (natAbs t ≤ 8589934590) × (Figured (now b)) ⌝ }
+    requires { ⌜ (length (now b) ≡ size) × (TakenOf taken c (venueOf (now b) .regular)) × (LegsIn c) × (natAbs t ≤ 2190433320450) × (Figured (now b)) ⌝ }
     ensures { λ r. ⌜ r ≡ inBand (venueOf (now (b .entry))) c t ⌝ }
 {
     let one = taken.first;
@@ -375,7 +394,7 @@ pub fn in_band(b: &[u32], taken: Taken, c: Complex, t: i64) -> bool
     if second == 0 {
         return false;
     }
-    let o = rules::net_of(c.side1, first, c.side2, second);
+    let o = rules::net_of(c.ratio1, c.side1, first, c.ratio2, c.side2, second);
     rules::near_net(places::figure_at(b, 8), o, t)
 }
 
@@ -436,6 +455,8 @@ pub fn parent_of(b: &[u32], l: Legging) -> Complex
         class: 0,
         limit: 0,
         quantity: 0,
+        ratio1: 0,
+        ratio2: 0,
     }
 }
 

@@ -4,7 +4,7 @@ use lib.Dec.{eqb}
 use lib.ListN.{getD}
 use Rattle.rules.specs.declared.Legging.{Legging}
 use Rattle.rules.specs.declared.Venue.{Venue}
-use Rattle.rules.specs.declared.Cause.the-variants.{Worse, Unpaired, Executed, Withdrawn, OutOfBand, NotOpen, Replaced, Touched}
+use Rattle.rules.specs.declared.Cause.the-variants.{Worse, Unpaired, Executed, Withdrawn, OutOfBand, NotOpen, Replaced, Touched, NoUnit}
 use Rattle.rules.specs.declared.Verdict.{Verdict}
 use Rattle.rules.specs.declared.Verdict.the-variants.{Stands, Fails}
 use Rattle.rules.specs.Base.{if_then_else_}
@@ -30,6 +30,7 @@ verdictBy x =
     else if eqb x 6 then Fails NotOpen
     else if eqb x 7 then Fails Replaced
     else if eqb x 8 then Fails Touched
+    else if eqb x 10 then Fails NoUnit
     else Stands
 
 -- the number of a place in marks: a digit to the base 16 for each place, the lowest that of place 0

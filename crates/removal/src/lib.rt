@@ -111,6 +111,9 @@ pub fn verdict_by(x: u8) -> Verdict
     if x == 8 {
         return Verdict::Fails(Cause::Touched);
     }
+    if x == 10 {
+        return Verdict::Fails(Cause::NoUnit);
+    }
     Verdict::Stands
 }
 

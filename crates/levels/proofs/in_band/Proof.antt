@@ -2,7 +2,6 @@
 use Rattle.levels.proofs.Sides.{first-best, second-best, band-none1, band-none2, band-near}
 use Rattle.places.specs.Layout.{venueOf}
 use Rattle.rules.proofs.Machine.{back}
-use mathlib.Core.Path.{_∙_}
 use borrow.Author.Needs.{needs}
 use Rattle.levels.proofs.in_band.Statement.{statement}
 use Rattle.levels.proofs.in_band.Tie as tie
@@ -45,8 +44,8 @@ returns-3 c =
     let a = c .before .before .before .before .before .before .before .before .before .before .before .before .args in
     let u = c .before .before .net-of in
     band-near _ (a .c) _ _ (c .before .before .before .before .before .before .before .before .market-best .ensures) (c .before .before .before .before .before .before .before .before .before .opposite-of .ensures) (c .before .before .before .before .before .before .before .if1 .left) _ _
-    (c .before .before .before .before .market-best2 .ensures) (c .before .before .before .before .before .opposite-of2 .ensures) (c .before .before .before .if2 .left) _ _ _ _ _ (c .before .figure-at .ensures)
-    (back {z = u .result} (record { sfits = u .ok }) ∙ u .ensures .0) (back {z = a .t} (c .before .before .before .before .before .before .before .before .before .before .before .before .fits .t)) (c .near-net .ensures)
+    (c .before .before .before .before .market-best2 .ensures) (c .before .before .before .before .before .opposite-of2 .ensures) (c .before .before .before .if2 .left) _ _ _ _ _ _ (c .before .figure-at .ensures)
+    (back {z = u .result} (record { sfits = u .ok })) (u .ensures .0) (back {z = a .t} (c .before .before .before .before .before .before .before .before .before .before .before .before .fits .t)) (c .near-net .ensures)
 
 pub in-band-spec : {M : Type 1} → statement M
 in-band-spec =

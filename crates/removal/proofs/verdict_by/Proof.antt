@@ -39,19 +39,24 @@ returns-8 c = sym (ap verdictBy (c .if8 .taken))
 
 returns-9 : tie.Need-returns-9
 unfolding verdictBy
-returns-9 c =
-    let p2 = c .before .before in
-    let p4 = p2 .before .before in
-    let p6 = p4 .before .before in
+returns-9 c = sym (ap verdictBy (c .if9 .taken))
+
+returns-10 : tie.Need-returns-10
+unfolding verdictBy
+returns-10 c =
+    let p3 = c .before .before .before in
+    let p5 = p3 .before .before in
+    let p7 = p5 .before .before in
     simp (
-      ne-eqb _ _ (p6 .before .if1 .left),
-      ne-eqb _ _ (p6 .if2 .left),
-      ne-eqb _ _ (p4 .before .if3 .left),
-      ne-eqb _ _ (p4 .if4 .left),
-      ne-eqb _ _ (p2 .before .if5 .left),
-      ne-eqb _ _ (p2 .if6 .left),
-      ne-eqb _ _ (c .before .if7 .left),
-      ne-eqb _ _ (c .if8 .left),
+      ne-eqb _ _ (p7 .before .if1 .left),
+      ne-eqb _ _ (p7 .if2 .left),
+      ne-eqb _ _ (p5 .before .if3 .left),
+      ne-eqb _ _ (p5 .if4 .left),
+      ne-eqb _ _ (p3 .before .if5 .left),
+      ne-eqb _ _ (p3 .if6 .left),
+      ne-eqb _ _ (c .before .before .if7 .left),
+      ne-eqb _ _ (c .before .if8 .left),
+      ne-eqb _ _ (c .if9 .left),
     )
 
 pub verdict-by-spec : {M : Type 1} → statement M
@@ -66,4 +71,5 @@ verdict-by-spec =
     returns-6
     returns-7
     returns-8
-    returns-9)
+    returns-9
+    returns-10)
