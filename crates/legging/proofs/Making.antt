@@ -19,7 +19,7 @@ use Rattle.rules.specs.declared.Leg.{Leg}
 use Rattle.rules.specs.declared.Venue.{Venue}
 use Rattle.rules.specs.declared.Cause.the-variants.{Replaced}
 use Rattle.rules.specs.Base.{if_then_else_, held}
-use Rattle.rules.specs.Words.{buy, within, opposite, signed, noComplex, noLegging, placeOf, leggingAt, complexAt, statusOf, withLegging}
+use Rattle.rules.specs.Words.{buy, within, opposite, signed, noComplex, noLegging, oneToOne, placeOf, leggingAt, complexAt, statusOf, withLegging}
 use Rattle.rules.specs.Settings.{figureNow, increment, percent}
 use Rattle.rules.specs.Prices.{better, bestRegular, ownPrice, bestOwn, displayed, away, marketBest, taken1, taken2, inBand}
 use Rattle.rules.specs.Records.{generated}
@@ -41,7 +41,7 @@ use Rattle.places.specs.declared.Level.{Level}
 use Rattle.levels.specs.Grid.{GridOf, LegsIn}
 use Rattle.levels.proofs.Sides.{legs-in}
 use Rattle.removal.proofs.Removing.{legging-at, remove-same}
-use Rattle.legging.specs.Parts.{rangedPrice, pricedLeg, marketOpen, standsClear, mayStand, plannedLeg, madeBy}
+use Rattle.legging.specs.Parts.{rangedPrice, pricedLeg, mayGenerate, standsClear, mayStand, plannedLeg, madeBy}
 
 -- Signed numbers of 64 bits -------------------------------------------------------------------
 
@@ -144,10 +144,10 @@ module _ (v : Venue) (c : Complex) (d p own : ℕ) (l : Legging) (ew : own ≡ o
     unfolding givesWay
     way-class k n m em = rw (← ew, h, eq-eqb p own k, eq-eqb (c .class) 0 n, ← em)
 
--- no legging order has a part in whether the market is open
-market-beside : (n : ℕ) (l : Legging) (v : Venue) (c : Complex) → marketOpen (placed n l v) c ≡ marketOpen v c
-unfolding marketOpen bothOpen statusOf inBand percent figureNow taken1 taken2 marketBest away bestRegular placed withLegging
-market-beside n l v c = refl
+-- no legging order has a part in whether an order may generate
+generates-beside : (n : ℕ) (l : Legging) (v : Venue) (c : Complex) → mayGenerate (placed n l v) c ≡ mayGenerate v c
+unfolding mayGenerate bothOpen statusOf inBand percent figureNow taken1 taken2 marketBest away bestRegular placed withLegging
+generates-beside n l v c = refl
 
 -- the increments in force
 pub steps-some : (b : List ℕ) (s : ℕ) → Figured b → s < 8 → 0 < increment (venueOf b) s
@@ -202,13 +202,13 @@ module _ (v : Venue) (c : Complex) (s d : ℕ) where
 
   -- Made or not -----------------------------------------------------------------------------
 
-  market-made : Makes v c s d → marketOpen v c ≡ true
-  unfolding marketOpen
-  market-made m = rw (m .opens, m .band)
+  generates-made : Makes v c s d → mayGenerate v c ≡ true
+  unfolding mayGenerate
+  generates-made m = rw (m .even, m .opens, m .band)
 
   may-made : Makes v c s d → mayStand v c s d (legPrice v c s d) ≡ true
   unfolding mayStand standsClear
-  may-made m = rw (market-made m, m .shown, m .inside, m .outside, m .way)
+  may-made m = rw (generates-made m, m .shown, m .inside, m .outside, m .way)
 
   planned-made : 0 < increment v s → held (c .quantity) ≡ true → Makes v c s d → plannedLeg v c s d ≡ newLegging v c s d
   unfolding asked
@@ -220,21 +220,21 @@ module _ (v : Venue) (c : Complex) (s d : ℕ) where
   unfolding generateLeg
   not-made h = rw h
 
-  -- nothing is made for an order that is gone, nor where the market is not open to it
+  -- nothing is made for an order that is gone, nor for one that may not generate
   gone-none : c .quantity ≡ 0 → nothing v ≡ generateLeg c s d v
   gone-none h = not-made (rw (eq-eqb (c .quantity) 0 h))
 
-  shut-none : marketOpen v c ≡ false → nothing v ≡ generateLeg c s d v
+  shut-none : mayGenerate v c ≡ false → nothing v ≡ generateLeg c s d v
   shut-none h =
-      not-made (is-false (held (c .quantity) && makes v c s d) (λ t. true≢false (sym (market-made (made (and-r (held (c .quantity)) (makes v c s d) t))) ∙ h)))
+      not-made (is-false (held (c .quantity) && makes v c s d) (λ t. true≢false (sym (generates-made (made (and-r (held (c .quantity)) (makes v c s d) t))) ∙ h)))
 
-  -- what is made leaves the market as it was
-  pub market-kept : (w : Venue) → w ≡ generateLeg c s d v .venue → marketOpen w c ≡ marketOpen v c
+  -- what is made leaves that as it was
+  pub generates-kept : (w : Venue) → w ≡ generateLeg c s d v .venue → mayGenerate w c ≡ mayGenerate v c
   unfolding generateLeg nothing
-  market-kept w e = ap (λ (x : Venue). marketOpen x c) e ∙ go (held (c .quantity) && makes v c s d)
+  generates-kept w e = ap (λ (x : Venue). mayGenerate x c) e ∙ go (held (c .quantity) && makes v c s d)
     where
-      go : (t : Bool) → marketOpen ((if t then make c s d v else nothing v) .venue) c ≡ marketOpen v c
-      go true = ap (λ (x : Venue). marketOpen x c) (make-venue v c s d) ∙ market-beside (placeOf s d) (newLegging v c s d) v c
+      go : (t : Bool) → mayGenerate ((if t then make c s d v else nothing v) .venue) c ≡ mayGenerate v c
+      go true = ap (λ (x : Venue). mayGenerate x c) (make-venue v c s d) ∙ generates-beside (placeOf s d) (newLegging v c s d) v c
       go false = refl
 
   pub made-none : 0 < increment v s → (l : Legging) → l ≡ plannedLeg v c s d → l .price ≡ 0 → nothing v ≡ generateLeg c s d v
@@ -285,29 +285,29 @@ module _ (v : Venue) (c : Complex) (s d : ℕ) where
       unfolding placed withLegging
       made-alone h = not-made (is-false (held (c .quantity) && makes v c s d) (λ t. true≢false (sym (made (and-r (held (c .quantity)) (makes v c s d) t) .others) ∙ sym others-is ∙ h)))
 
-      may-open : marketOpen v c ≡ true
+      may-generate : mayGenerate v c ≡ true
       unfolding mayStand
-      may-open = and-l _ _ (and-l _ _ asked-may)
+      may-generate = and-l _ _ (and-l _ _ asked-may)
 
       may-clear : standsClear v s d (legPrice v c s d) ≡ true
       unfolding mayStand
-      may-clear = and-r (marketOpen v c) (standsClear v s d (legPrice v c s d)) (and-l _ _ asked-may)
+      may-clear = and-r (mayGenerate v c) (standsClear v s d (legPrice v c s d)) (and-l _ _ asked-may)
 
       may-way : givesWay v c d (legPrice v c s d) (leggingAt v s d) ≡ true
       unfolding mayStand
-      may-way = and-r (marketOpen v c && standsClear v s d (legPrice v c s d)) _ asked-may
+      may-way = and-r (mayGenerate v c && standsClear v s d (legPrice v c s d)) _ asked-may
 
       makes-all : othersStand (placed k l v) k 0 (placed k l v .legging) ≡ true → makes v c s d ≡ true
-      unfolding makes marketOpen standsClear
+      unfolding makes mayGenerate standsClear
       makes-all h =
           let o = sym others-is ∙ h in
-          let opens : bothOpen v c ≡ true = and-l _ (inBand v c (c .limit)) may-open in
+          let market : (oneToOne c && bothOpen v c) ≡ true = and-l _ (inBand v c (c .limit)) may-generate in
           let shown : shownWell v s d (legPrice v c s d) ≡ true = and-l _ _ (and-l _ _ may-clear) in
-          let band : inBand v c (c .limit) ≡ true = and-r (bothOpen v c) _ may-open in
+          let band : inBand v c (c .limit) ≡ true = and-r (oneToOne c && bothOpen v c) _ may-generate in
           let inside : not (reachesAny d (legPrice v c s d) (bestOwn v s (opposite d))) ≡ true = and-r (shownWell v s d (legPrice v c s d)) _ (and-l _ _ may-clear) in
           let outside : not (reachesAny d (legPrice v c s d) (away v s (opposite d))) ≡ true =
           and-r (shownWell v s d (legPrice v c s d) && not (reachesAny d (legPrice v c s d) (bestOwn v s (opposite d)))) _ may-clear in
-          rw (opens, band, priced-clear asked-priced, priced-range asked-priced, shown, inside, outside, may-way, o)
+          rw (and-l (oneToOne c) (bothOpen v c) market, and-r (oneToOne c) (bothOpen v c) market, band, priced-clear asked-priced, priced-range asked-priced, shown, inside, outside, may-way, o)
 
       pub made-is : othersStand (placed k l v) k 0 (placed k l v .legging) ≡ true → madeBy (c .id) s d l v ≡ generateLeg c s d v
       unfolding generateLeg make madeBy
@@ -375,7 +375,7 @@ module _ (b : List ℕ) (i : ℕ) (c : Complex) (ec : c ≡ complexIn b i) where
     pub generate-gone : c .quantity ≡ 0 → nothing (venueOf b) ≡ generate i (venueOf b)
     generate-gone k = neither (venueOf b) i (λ s d. rw (complex-at b i h, ← ec) (gone-none (venueOf b) c s d k))
 
-    pub generate-shut : marketOpen (venueOf b) c ≡ false → nothing (venueOf b) ≡ generate i (venueOf b)
+    pub generate-shut : mayGenerate (venueOf b) c ≡ false → nothing (venueOf b) ≡ generate i (venueOf b)
     generate-shut k = neither (venueOf b) i (λ s d. rw (complex-at b i h, ← ec) (shut-none (venueOf b) c s d k))
 
     pub generate-is : generateLeg c (c .series1) (c .side1) (venueOf b) ⟫ generateLeg c (c .series2) (c .side2) ≡ generate i (venueOf b)

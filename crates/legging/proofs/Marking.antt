@@ -13,7 +13,7 @@ use Rattle.rules.specs.declared.Legging.{Legging}
 use Rattle.rules.specs.declared.Verdict.{Verdict}
 use Rattle.rules.specs.declared.Verdict.the-variants.{Stands, Fails}
 use Rattle.rules.specs.declared.Cause.{Cause}
-use Rattle.rules.specs.declared.Cause.the-variants.{Worse, Unpaired, Executed, Withdrawn, OutOfBand, NotOpen, Replaced, Touched}
+use Rattle.rules.specs.declared.Cause.the-variants.{Worse, Unpaired, Executed, Withdrawn, OutOfBand, NotOpen, Replaced, Touched, NoUnit}
 use Rattle.rules.specs.Words.{noLegging}
 use Rattle.rules.specs.Standing.{verdict, verdictNumber, stands}
 use Rattle.rules.specs.Generation.{othersStand}
@@ -35,6 +35,7 @@ number-small (Fails OutOfBand) = omega arith
 number-small (Fails NotOpen) = omega arith
 number-small (Fails Replaced) = omega arith
 number-small (Fails Touched) = omega arith
+number-small (Fails NoUnit) = omega arith
 
 -- a number put below the marks is that of place 0, and the others move on by one place
 module _ (marks x : ℕ) (h : x < 16) where

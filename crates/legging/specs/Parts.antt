@@ -7,7 +7,7 @@ use Rattle.rules.specs.declared.Legging.{Legging}
 use Rattle.rules.specs.declared.Venue.{Venue}
 use Rattle.rules.specs.declared.Cause.the-variants.{Replaced}
 use Rattle.rules.specs.Base.{if_then_else_, held}
-use Rattle.rules.specs.Words.{within, opposite, noLegging, placeOf, leggingAt}
+use Rattle.rules.specs.Words.{within, opposite, noLegging, oneToOne, placeOf, leggingAt}
 use Rattle.rules.specs.Settings.{increment}
 use Rattle.rules.specs.Prices.{bestOwn, displayed, away, inBand}
 use Rattle.rules.specs.Standing.{otherClear, bothOpen, shownWell}
@@ -30,9 +30,9 @@ rangedPrice v s d p = if within (increment v s) 100000 (displayed (increment v s
 unfoldable pub pricedLeg : Venue → Complex → (series side : ℕ) → ℕ
 pricedLeg v c s d = if held (otherClear v c s) then rangedPrice v s d (legPrice v c s d) else 0
 
--- the market is open to legging orders of c
-unfoldable pub marketOpen : Venue → Complex → Bool
-marketOpen v c = bothOpen v c && inBand v c (c .limit)
+-- what is asked of c for both its legs, and no legging order changes
+unfoldable pub mayGenerate : Venue → Complex → Bool
+mayGenerate v c = oneToOne c && bothOpen v c && inBand v c (c .limit)
 
 -- a price p at side d of series s is no worse than the best regular of its side, and reaches nothing opposite
 unfoldable pub standsClear : Venue → (series side p : ℕ) → Bool
@@ -43,7 +43,7 @@ standsClear v s d p =
 
 -- all that is asked of the leg's legging order at price p but that the others stand
 unfoldable pub mayStand : Venue → Complex → (series side p : ℕ) → Bool
-mayStand v c s d p = marketOpen v c && standsClear v s d p && givesWay v c d p (leggingAt v s d)
+mayStand v c s d p = mayGenerate v c && standsClear v s d p && givesWay v c d p (leggingAt v s d)
 
 -- the leg's legging order, where it may stand; else a free place
 unfoldable pub plannedLeg : Venue → Complex → (series side : ℕ) → Legging

@@ -25,7 +25,7 @@ ghost use Rattle.wire.specs.Stage.{stage, _does_};
 ghost use Rattle.places.specs.Layout.{size, leggingIn, venueOf, Figured, Right, SameCounts};
 ghost use Rattle.levels.specs.Grid.{GridOf, LegsIn, TakenOf, SidesOf};
 ghost use Rattle.removal.specs.Marks.{markAt};
-ghost use Rattle.legging.specs.Parts.{otherTaken, rangedPrice, pricedLeg, marketOpen, standsClear, mayStand, plannedLeg, madeBy};
+ghost use Rattle.legging.specs.Parts.{otherTaken, rangedPrice, pricedLeg, mayGenerate, standsClear, mayStand, plannedLeg, madeBy};
 
 // A price p at side d of series s, displayed.
 fn shown_price(b: &[u32], s: u8, d: u8, p: u32) -> u64
@@ -73,7 +73,7 @@ pub fn can_pair(b: &[u32], taken: Taken, c: Complex, s: u8, d: u8, l: Legging) -
         return false;
     }
     let other = levels::other_leg(c, s);
-    let net = rules::net_of(d, l.price, other.side, clear);
+    let net = rules::net_of(1, d, l.price, 1, other.side, clear);
     let limit = limit_of(c);
     if net <= limit {
         let best = other_level(taken, c, s);
@@ -252,11 +252,14 @@ pub fn leg_price(b: &[u32], taken: Taken, c: Complex, s: u8, d: u8) -> u32
     ranged(b, s, d, as_price(signed_of(d, limit - price)))
 }
 
-// Both series of c are open, and N is in band.
-fn market_open(b: &[u32], taken: Taken, c: Complex) -> bool
+// c is one to one, both its series are open, and N is in band.
+fn may_generate(b: &[u32], taken: Taken, c: Complex) -> bool
     requires { ⌜ (length (now b) ≡ size) × (TakenOf taken c (venueOf (now b) .regular)) × (LegsIn c) × (Figured (now b)) ⌝ }
-    ensures { λ r. ⌜ r ≡ marketOpen (venueOf (now (b .entry))) c ⌝ }
+    ensures { λ r. ⌜ r ≡ mayGenerate (venueOf (now (b .entry))) c ⌝ }
 {
+    if !wire::is_one_to_one(c) {
+        return false;
+    }
     if !levels::both_open(b, c) {
         return false;
     }
@@ -297,9 +300,9 @@ pub fn gives_way(b: &[u32], c: Complex, s: u8, d: u8, p: u32) -> bool
     holder.class == 1
 }
 
-// All that is asked of a legging order of c at price p but that the others stand; the market is open to it.
+// All that is asked of a legging order of c at price p but that the others stand; c may generate.
 fn may_stand(b: &[u32], sides: LegSides, c: Complex, s: u8, d: u8, p: u32) -> bool
-    requires { ⌜ (length (now b) ≡ size) × (SidesOf sides c s d (venueOf (now b) .regular)) × (LegsIn c) × (s < 8) × (d < 2) × (marketOpen (venueOf (now b)) c ≡ true) × (Figured (now b)) ⌝ }
+    requires { ⌜ (length (now b) ≡ size) × (SidesOf sides c s d (venueOf (now b) .regular)) × (LegsIn c) × (s < 8) × (d < 2) × (mayGenerate (venueOf (now b)) c ≡ true) × (Figured (now b)) ⌝ }
     ensures { λ r. ⌜ r ≡ mayStand (venueOf (now (b .entry))) c s d p ⌝ }
 {
     if !stands_clear(b, sides.own, sides.facing, s, d, p) {
@@ -335,9 +338,9 @@ fn others_stand_with(b: &mut [u32], n: usize, l: Legging) -> bool
     stand
 }
 
-// The legging order of the leg of c at side d of series s, where it may stand; else a free place. c has open quantity, and the market is open to it.
+// The legging order of the leg of c at side d of series s, where it may stand; else a free place. c has open quantity, and may generate.
 fn plan_leg(b: &[u32], c: Complex, s: u8, d: u8) -> Legging
-    requires { ⌜ (length (now b) ≡ size) × (Right (now b)) × (LegsIn c) × (s < 8) × (d < 2) × (0 < c .quantity) × (marketOpen (venueOf (now b)) c ≡ true) ⌝ }
+    requires { ⌜ (length (now b) ≡ size) × (Right (now b)) × (LegsIn c) × (s < 8) × (d < 2) × (0 < c .quantity) × (mayGenerate (venueOf (now b)) c ≡ true) ⌝ }
     ensures { λ r. ⌜ r ≡ plannedLeg (venueOf (now (b .entry))) c s d ⌝ }
 {
     let none = Legging {
@@ -375,9 +378,9 @@ fn make_leg(b: &mut [u32], id: u32, s: u8, d: u8, l: Legging, out: &mut [u8], at
     wire::emit_generated(out, pos, id, s, d, l.price, shown, l.quantity)
 }
 
-// The legging order of a leg of c, made where every condition holds. Those that no leg changes, on the order and on the market, are tested before.
+// The legging order of a leg of c, made where every condition holds. Those that no leg changes are tested before.
 pub fn generate_leg(b: &mut [u32], c: Complex, s: u8, d: u8, out: &mut [u8], at: usize) -> usize
-    requires { ⌜ (length (now b) ≡ size) × (Right (now b)) × (LegsIn c) × (s < 8) × (d < 2) × (0 < c .quantity) × (marketOpen (venueOf (now b)) c ≡ true) ⌝ }
+    requires { ⌜ (length (now b) ≡ size) × (Right (now b)) × (LegsIn c) × (s < 8) × (d < 2) × (0 < c .quantity) × (mayGenerate (venueOf (now b)) c ≡ true) ⌝ }
     ensures { λ r. ⌜ stage (venueOf (now (b .exit))) (now (out .exit)) r ≡ seen (now (out .entry)) at does generateLeg c s d (venueOf (now (b .entry))) ⌝ }
     ensures counts { λ r. ⌜ SameCounts (now (b .entry)) (now (b .exit)) ⌝ }
 {
@@ -391,7 +394,7 @@ pub fn generate_leg(b: &mut [u32], c: Complex, s: u8, d: u8, out: &mut [u8], at:
     make_leg(b, c.id, s, d, l, out, at)
 }
 
-// Generation for the first leg and then the second of the order at place i. No legging order changes whether the market is open to it.
+// Generation for the first leg and then the second of the order at place i. No legging order changes whether it may.
 pub fn generate_order(b: &mut [u32], i: usize, out: &mut [u8], at: usize) -> usize
     requires { ⌜ (length (now b) ≡ size) × (Right (now b)) ⌝ }
     ensures { λ r. ⌜ stage (venueOf (now (b .exit))) (now (out .exit)) r ≡ seen (now (out .entry)) at does generate i (venueOf (now (b .entry))) ⌝ }
@@ -404,7 +407,7 @@ pub fn generate_order(b: &mut [u32], i: usize, out: &mut [u8], at: usize) -> usi
     if c.quantity == 0 {
         return at;
     }
-    if !market_open(b, levels::taken_at(b, c), c) {
+    if !may_generate(b, levels::taken_at(b, c), c) {
         return at;
     }
     let pos = generate_leg(b, c, c.series1, c.side1, out, at);

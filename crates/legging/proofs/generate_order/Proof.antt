@@ -1,5 +1,5 @@
 -- `legging::generate_order` meets its contract.
-use Rattle.legging.proofs.Making.{market-kept, generate-past, generate-gone, generate-shut, generate-is, complex-in}
+use Rattle.legging.proofs.Making.{generates-kept, generate-past, generate-gone, generate-shut, generate-is, complex-in}
 use Rattle.legging.proofs.Testing.{off, on}
 use Rattle.removal.proofs.Removing.{counts-on}
 use Rattle.places.specs.Layout.{venueOf, complexesUsed}
@@ -60,8 +60,8 @@ taken-at-requires c κs =
     let x = p3 .complex-at in
     (s .pre .0, s .pre .1, complex-in _ _ (x .result) (x .ensures))
 
-market-open-requires : tie.Need-market-open-requires
-market-open-requires c κs =
+may-generate-requires : tie.Need-may-generate-requires
+may-generate-requires c κs =
     let p4 = c .before .before .before .before in
     let s = p4 .before .before .before .before .before .before .before in
     let x = p4 .complex-at in
@@ -77,7 +77,7 @@ returns-3 c =
     let a = p6 .before .before .before .before .before .before .before .args in (
       does-nothing (venueOf (a .b .now)) (a .out .now) (a .at)
           ∙ ap (λ (e : Effect). seen (a .out .now) (a .at) does e)
-          (generate-shut (a .b .now) (a .i) (x .result) (x .ensures) (used p6) (off _ _ (c .before .market-open .ensures) (c .if3 .taken))),
+          (generate-shut (a .b .now) (a .i) (x .result) (x .ensures) (used p6) (off _ _ (c .before .may-generate .ensures) (c .if3 .taken))),
       record { regulars = refl; complexes = refl; right = λ h. h },
     )
 
@@ -89,7 +89,7 @@ generate-leg-requires c κs =
     let s = p8 .before .before .before .before .before .before .before in
     let x = p8 .complex-at in
     let h = complex-in _ _ (x .result) (x .ensures) in
-    (s .pre .0, s .pre .1, h, h .first, h .side1, omega (arith, p6 .if2 .left), on _ _ (p2 .before .market-open .ensures) (p2 .if3 .left))
+    (s .pre .0, s .pre .1, h, h .first, h .side1, omega (arith, p6 .if2 .left), on _ _ (p2 .before .may-generate .ensures) (p2 .if3 .left))
 
 generate-leg-requires-2 : tie.Need-generate-leg-requires-2
 generate-leg-requires-2 c κs =
@@ -107,8 +107,8 @@ generate-leg-requires-2 c κs =
       h .second,
       h .side2,
       omega (arith, p13 .if2 .left),
-      market-kept (venueOf (s .args .b .now)) (x .result) (x .result .series1) (x .result .side1) _ (stage-venue _ _ _ _ _ _ (w .0))
-          ∙ on _ _ (p9 .before .market-open .ensures) (p9 .if3 .left),
+      generates-kept (venueOf (s .args .b .now)) (x .result) (x .result .series1) (x .result .side1) _ (stage-venue _ _ _ _ _ _ (w .0))
+          ∙ on _ _ (p9 .before .may-generate .ensures) (p9 .if3 .left),
     )
 
 same-length-4 : tie.Need-same-length-4
@@ -142,7 +142,7 @@ generate-order-spec =
     same-length-2
     returns-2
     taken-at-requires
-    market-open-requires
+    may-generate-requires
     same-length-3
     returns-3
     generate-leg-requires
