@@ -47,7 +47,7 @@ fill-unused b i k h =
     sym (ap (λ (c : Complex). withComplex (venueOf b) (set (venueOf b .complex) i c)) e ∙ same)
   where
     none : lessComplex k noComplex ≡ noComplex
-    none = unfold lessComplex in ap (λ (q : ℕ). record { id = 0; series1 = 0; side1 = 0; series2 = 0; side2 = 0; class = 0; limit = pos 0; quantity = q }) (omega arith)
+    none = unfold lessComplex in ap (λ (q : ℕ). record { id = 0; series1 = 0; side1 = 0; series2 = 0; side2 = 0; class = 0; limit = pos 0; quantity = q; ratio1 = 0; ratio2 = 0 }) (omega arith)
 
     same : withComplex (venueOf b) (set (venueOf b .complex) i (complexAt (venueOf b) i)) ≡ venueOf b
     same = unfold complexAt in unfold withComplex in ap (λ (cs : List Complex). withComplex (venueOf b) cs) (set-getD (venueOf b .complex) i noComplex)

@@ -144,9 +144,9 @@ module _ {taker s d p k : ℕ} {b₀ out₀ b out : List ℕ} {at pos left : ℕ
       taken-out (take-out taker s d p (venueOf b) left h (e ∙ ap (λ (x : ℕ). pickOf (first (showsFor s x p) earlier (venueOf b .regular))) eo))
 
   module _ (other j : ℕ) (o : Regular) (q : ℕ) (h : 0 < left) (eo : other ≡ opposite d)
-      (e : pick.At j o ≡ pickOf (first (showsFor s other p) earlier (venueOf b .regular))) (x : ℕ) (ex : x ≡ shown o) (r : q ≡ min left x) where
+      (e : pick.At j o ≡ pickOf (first (showsFor s other p) earlier (venueOf b .regular))) (x : ℕ) (ex : x ≡ shown o) (r : q ≡ min x left) where
     taken : q ≡ min left (shown o)
-    taken = r ∙ ap (min left) ex
+    taken = omega arith
 
     found : pick.At j o ≡ pickOf (first (showsFor s (opposite d) p) earlier (venueOf b .regular))
     found = e ∙ ap (λ (x : ℕ). pickOf (first (showsFor s x p) earlier (venueOf b .regular))) eo

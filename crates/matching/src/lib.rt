@@ -2,7 +2,7 @@
 // Each function says in one equation the venue that it leaves and all that it writes: those of its definition.
 ghost use mathlib.Core.Path.{_≡_};
 ghost use mathlib.Core.Bool.{true};
-ghost use Prim.Native.Nat.{ℕ, suc, _≤_, _<_};
+ghost use Prim.Native.Nat.{ℕ, suc, _≤_, _<_, min};
 ghost use lib.IntN.{natAbs};
 ghost use lib.ListN.{length};
 ghost use Rattle.rules.specs.Base.{held};
@@ -45,6 +45,16 @@ fn trade_with(
     wire::emit_trade(out, at, m.series, side, m.price, k, taker, m.id)
 }
 
+// q, but at most n.
+pub fn at_most(q: u32, n: u64) -> u32
+    ensures { λ r. ⌜ r ≡ min q n ⌝ }
+{
+    if n < (q as u64) {
+        return n as u32;
+    }
+    q
+}
+
 // A taker of a side takes contracts that are shown at a price in a series, by id, until it has all or none are left there.
 pub fn take(
     b: &mut [u32],
@@ -52,7 +62,7 @@ pub fn take(
     series: u8,
     side: u8,
     price: u32,
-    quantity: u32,
+    quantity: u64,
     out: &mut [u8],
     at: usize,
 ) -> usize
@@ -68,14 +78,14 @@ pub fn take(
         let Pick::At(j, m) = found else {
             return pos;
         };
-        let k = lesser(left, rules::shown_of(m));
+        let k = at_most(rules::shown_of(m), left);
         pos = trade_with(b, taker, side, j, k, out, pos);
-        left -= k;
+        left -= k as u64;
     }
     pos
 }
 
-// The complex order at place i, if there is one, is filled for k contracts.
+// The complex order at place i, if there is one, is filled for k units.
 fn fill_pair(b: &mut [u32], i: usize, k: u32)
     requires { ⌜ length (now b) ≡ size ⌝ }
     ensures { λ _. ⌜ venueOf (now (b .exit)) ≡ fillComplex i k (venueOf (now (b .entry))) ⌝ }
@@ -87,7 +97,7 @@ fn fill_pair(b: &mut [u32], i: usize, k: u32)
     places::fill_complex(b, i, k);
 }
 
-// The complex order of this id, at place i, pairs k contracts at a net; its legging orders go.
+// The complex order of this id, at place i, pairs k units at a net; its legging orders go.
 pub fn pair_off(
     b: &mut [u32],
     i: usize,
@@ -118,14 +128,14 @@ pub struct Pairing {
 fn pairing_of(b: &[u32], l: Legging, series: u8, side: u8) -> Pairing
     requires { ⌜ (length (now b) ≡ size) × (Right (now b)) ⌝ }
     ensures { λ r. ⌜ r ≡ pairingOf (venueOf (now (b .entry))) l series side ⌝ }
-    ensures bounded { λ r. ⌜ natAbs (r .net) ≤ 8589934590 ⌝ }
+    ensures bounded { λ r. ⌜ natAbs (r .net) ≤ 2190433320450 ⌝ }
 {
     let c = levels::parent_of(b, l);
     let leg = levels::other_leg(c, series);
     let other = rules::opposite_of(leg.side);
     let best = levels::best_regular(b, leg.series, other);
     let clear = levels::clear_price(b, best, leg.series, other);
-    let net = rules::net_of(rules::opposite_of(side), l.price, leg.side, clear);
+    let net = rules::net_of(1, rules::opposite_of(side), l.price, 1, leg.side, clear);
     Pairing {
         id: c.id,
         series: leg.series,
@@ -157,7 +167,7 @@ fn hit(b: &mut [u32], i: usize, l: Legging, k: u32, out: &mut [u8], at: usize) -
     let p = pairing_of(b, l, o.series, o.side);
     levels::fill_order(b, i, k);
     let traded = wire::emit_trade(out, at, o.series, o.side, l.price, k, o.id, p.id);
-    let taken = take(b, p.id, p.series, p.side, p.clear, k, out, traded);
+    let taken = take(b, p.id, p.series, p.side, p.clear, k as u64, out, traded);
     let j = place_or_end(b, p.id);
     pair_off(b, j, p.id, p.net, k, out, taken)
 }

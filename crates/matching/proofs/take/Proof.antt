@@ -50,8 +50,8 @@ returns c =
 shown-of-requires : tie.Need-shown-of-requires Inv-loop μ-loop
 shown-of-requires c κs = search needs
 
-lesser-requires : tie.Need-lesser-requires Inv-loop μ-loop
-lesser-requires c κs = search needs
+at-most-requires : tie.Need-at-most-requires Inv-loop μ-loop
+at-most-requires c κs = search needs
 
 trade-with-requires : tie.Need-trade-with-requires Inv-loop μ-loop
 trade-with-requires c κs =
@@ -64,11 +64,14 @@ trade-with-requires c κs =
     let p11 = p10 .before in (
       p10 .loop .inv .whole,
       taking-used (p10 .loop .inv) _ _ _ _ (p9 .loop-test .taken) (p11 .opposite-of .ensures) (sym (p5 .found .given .1) ∙ p7 .first-for .ensures)
-          _ (p3 .shown-of .ensures) (p2 .lesser .ensures),
+          _ (p3 .shown-of .ensures) (p2 .at-most .ensures),
     )
 
+cast-left : tie.Need-cast-left Inv-loop μ-loop
+cast-left c = search needs
+
 sub-left : tie.Need-sub-left Inv-loop μ-loop
-sub-left c = omega (arith, c .before .before .before .before .before .before .before .lesser .ensures)
+sub-left c = omega (arith, c .before .before .before .before .before .before .before .at-most .ensures)
 
 loop-less : tie.Need-loop-less Inv-loop μ-loop
 loop-less c =
@@ -80,7 +83,7 @@ loop-less c =
     let p15 = p14 .before in
     let p16 = p15 .before in
     taking-less (p15 .loop .inv) _ _ _ _ (p14 .loop-test .taken) (p16 .opposite-of .ensures) (sym (p10 .found .given .1) ∙ p12 .first-for .ensures)
-    _ (p8 .shown-of .ensures) (p7 .lesser .ensures)
+    _ (p8 .shown-of .ensures) (p7 .at-most .ensures)
 
 loop-again : tie.Need-loop-again Inv-loop μ-loop
 loop-again c =
@@ -93,7 +96,7 @@ loop-again c =
     let p15 = p14 .before in
     let p16 = p15 .before in
     taking-turn (p15 .loop .inv) _ _ _ _ (p14 .loop-test .taken) (p16 .opposite-of .ensures) (sym (p10 .found .given .1) ∙ p12 .first-for .ensures)
-    _ (p8 .shown-of .ensures) (p7 .lesser .ensures) _ _ _ (p4 .trade-with .kept .0) (p4 .trade-with .ensures)
+    _ (p8 .shown-of .ensures) (p7 .at-most .ensures) _ _ _ (p4 .trade-with .kept .0) (p4 .trade-with .ensures)
 
 same-length-3 : tie.Need-same-length-3 Inv-loop μ-loop
 same-length-3 c = c .before .loop .inv .whole ∙ sym (c .before .before .before .before .before .pre .0)
@@ -119,8 +122,9 @@ take-spec =
     same-length-2
     returns
     shown-of-requires
-    lesser-requires
+    at-most-requires
     trade-with-requires
+    cast-left
     sub-left
     loop-less
     loop-again
