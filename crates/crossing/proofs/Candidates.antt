@@ -12,7 +12,7 @@ use Rattle.rules.specs.declared.Complex.{Complex}
 use Rattle.rules.specs.declared.Venue.{Venue}
 use Rattle.rules.specs.Base.{ranked, firstFrom, first}
 use Rattle.rules.specs.Words.{opposite, noComplex, earlierComplex}
-use Rattle.rules.specs.Prices.{bestRegular, ratio1, ratio2, weighed, net, inBand}
+use Rattle.rules.specs.Prices.{bestRegular, weighed, net, inBand}
 use Rattle.rules.specs.Complex.{reversed, respectsLegs, crosses, limitThenId}
 use Rattle.rules.proofs.Tests.{not-out}
 use Rattle.places.specs.Layout.{upto, complexesUsed, complexIn, venueOf}
@@ -28,10 +28,11 @@ off r x e h = sym e ∙ not-out r h
 pub on : (r x : Bool) → r ≡ x → not r ≡ false → x ≡ true
 on r x e h = sym e ∙ not-false r h
 
--- the last leg decides where the others face
-pub last-faces : (a b c d e f g h o q : ℕ) → a ≡ b → o ≡ opposite d → c ≡ o → e ≡ f → q ≡ opposite h →
-    eqb g q ≡ (eqb a b && eqb c (opposite d) && eqb e f && eqb g (opposite h))
-last-faces a b c d e f g h o q i j k l m = rw (eq-eqb a b i, eq-eqb c (opposite d) (k ∙ j), eq-eqb e f l, ← m)
+-- the last test decides where all else faces
+pub last-faces : (a b c d e f g h i j o q : ℕ) (t : Bool) → a ≡ b → o ≡ opposite d → c ≡ o → e ≡ f → g ≡ h → q ≡ opposite j → i ≡ q →
+    t ≡ (eqb a b && eqb c (opposite d) && eqb e f && eqb g h && eqb i (opposite j) && t)
+last-faces a b c d e f g h i j o q t series oo side ratio series' qq side' =
+    rw (eq-eqb a b series, eq-eqb c (opposite d) (side ∙ oo), eq-eqb e f ratio, eq-eqb g h series', eq-eqb i (opposite j) (side' ∙ qq))
 
 module _ (v : Venue) (c m : Complex) where
   pub cross-free : m .quantity ≡ 0 → false ≡ crosses v c m
@@ -80,8 +81,8 @@ module _ (v : Venue) (c : Complex) (t : ℤ) (a : ℕ) (ea : a ≡ bestRegular v
     unfolding respectsLegs
     legs-none2 h = rw (← ea, ne-eqb a 0 n, ← eb, eq-eqb b 0 h)
 
-    pub legs-net : (b ≡ 0 → ⊥) → (y x : ℤ) → y ≡ t → x ≡ weighed 1 (c .side1) a +ℤ weighed 1 (c .side2) b → leZ y x ≡ respectsLegs v c t
-    unfolding respectsLegs net ratio1 ratio2
+    pub legs-net : (b ≡ 0 → ⊥) → (y x : ℤ) → y ≡ t → x ≡ weighed (c .ratio1) (c .side1) a +ℤ weighed (c .ratio2) (c .side2) b → leZ y x ≡ respectsLegs v c t
+    unfolding respectsLegs net
     legs-net m y x ey ex = rw (← ea, ne-eqb a 0 n, ← eb, ne-eqb b 0 m, ← ex, ey)
 
 -- Rank ----------------------------------------------------------------------------------------

@@ -1,6 +1,6 @@
 -- Whoever crosses has one of two keys.
 use mathlib.Core.Path.{_≡_}
-use mathlib.Core.Bool.{false, _&&_, _||_}
+use mathlib.Core.Bool.{true, false, _&&_, _||_}
 use Prim.Native.Nat.{ℕ, _<_}
 use native.Mathlib.Omega.{arith}
 use borrow.Author.Tests.{eqb-true, eqb-false}
@@ -20,16 +20,18 @@ leg-faces : (a b s d : ℕ) → d < 2 → a ≡ s → b ≡ opposite d → place
 unfolding placeOf opposite
 leg-faces a b s d h p q = omega arith
 
--- two legs that do not both face
-legs-aside : (a b s d a' b' s' d' : ℕ) → d < 2 → d' < 2 → (placeOf s d ≡ placeOf a (opposite b) → placeOf s' d' ≡ placeOf a' (opposite b') → ⊥) →
-    (eqb a s && eqb b (opposite d) && eqb a' s' && eqb b' (opposite d')) ≡ false
-legs-aside a b s d a' b' s' d' h h' n =
+-- two legs that do not both face, whatever their ratios
+legs-aside : (a b q s d r a' b' q' s' d' r' : ℕ) → d < 2 → d' < 2 → (placeOf s d ≡ placeOf a (opposite b) → placeOf s' d' ≡ placeOf a' (opposite b') → ⊥) →
+    (eqb a s && eqb b (opposite d) && eqb q r && eqb a' s' && eqb b' (opposite d') && eqb q' r') ≡ false
+legs-aside a b q s d r a' b' q' s' d' r' h h' n =
     is-false _ (λ e.
-    let e3 = and-l (eqb a s && eqb b (opposite d) && eqb a' s') (eqb b' (opposite d')) e in
-    let e2 = and-l (eqb a s && eqb b (opposite d)) (eqb a' s') e3 in
+    let series : eqb a s ≡ true = search (and-l, and-r, e) depth 8 in
+    let side : eqb b (opposite d) ≡ true = search (and-l, and-r, e) depth 8 in
+    let series' : eqb a' s' ≡ true = search (and-l, and-r, e) depth 8 in
+    let side' : eqb b' (opposite d') ≡ true = search (and-l, and-r, e) depth 8 in
     n
-    (leg-faces a b s d h (eqb-true a s (and-l (eqb a s) (eqb b (opposite d)) e2)) (eqb-true b (opposite d) (and-r (eqb a s) (eqb b (opposite d)) e2)))
-    (leg-faces a' b' s' d' h' (eqb-true a' s' (and-r (eqb a s && eqb b (opposite d)) (eqb a' s') e3)) (eqb-true b' (opposite d') (and-r (eqb a s && eqb b (opposite d) && eqb a' s') (eqb b' (opposite d')) e))))
+    (leg-faces a b s d h (eqb-true a s series) (eqb-true b (opposite d) side))
+    (leg-faces a' b' s' d' h' (eqb-true a' s' series') (eqb-true b' (opposite d') side')))
 
 -- an order with neither key is not reversed, and so no candidate
 module _ (c m : Complex) (i : LegsIn m) (k x y : ℕ) (e : k ≡ legsKey m)
@@ -39,9 +41,9 @@ module _ (c m : Complex) (i : LegsIn m) (k x y : ℕ) (e : k ≡ legsKey m)
   unfolding reversed legsKey facingKey
   reversed-key =
       rw (
-        legs-aside (c .series1) (c .side1) (m .series1) (m .side1) (c .series2) (c .side2) (m .series2) (m .side2) (i .side1) (i .side2)
+        legs-aside (c .series1) (c .side1) (c .ratio1) (m .series1) (m .side1) (m .ratio1) (c .series2) (c .side2) (c .ratio2) (m .series2) (m .side2) (m .ratio2) (i .side1) (i .side2)
             (λ u w. eqb-false k x (or-false-l (eqb k x) (eqb k y) n) (omega arith)),
-        legs-aside (c .series1) (c .side1) (m .series2) (m .side2) (c .series2) (c .side2) (m .series1) (m .side1) (i .side2) (i .side1)
+        legs-aside (c .series1) (c .side1) (c .ratio1) (m .series2) (m .side2) (m .ratio2) (c .series2) (c .side2) (c .ratio2) (m .series1) (m .side1) (m .ratio1) (i .side2) (i .side1)
             (λ u w. eqb-false k y (or-false-r (eqb k x) (eqb k y) n) (omega arith)),
       )
 

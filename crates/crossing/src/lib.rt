@@ -12,10 +12,11 @@ ghost use lib.IntN.{ℤ, pos, natAbs, negℤ, _+ℤ_};
 ghost use lib.ListN.{length};
 ghost use lib.Signed.{leZ};
 ghost use Rattle.rules.specs.declared.Venue.{Venue};
-ghost use Rattle.rules.specs.Base.{ranked, first};
+ghost use Rattle.rules.specs.declared.Cause.the-variants.{Touched, NoUnit};
+ghost use Rattle.rules.specs.Base.{if_then_else_, ranked, first};
 ghost use Rattle.rules.specs.Words.{opposite, complexAt};
 ghost use Rattle.rules.specs.Effects.{repeat};
-ghost use Rattle.rules.specs.Complex.{reversed, respectsLegs, crosses, limitThenId, cross, crossTurn, touches, touch};
+ghost use Rattle.rules.specs.Complex.{reversed, respectsLegs, crosses, limitThenId, cross, crossTurn, touches, fillsUnit, touch};
 ghost use Rattle.wire.specs.Seen.{seen};
 ghost use Rattle.wire.specs.Stage.{stage, _does_};
 ghost use Rattle.places.specs.Layout.{size, complexesUsed, venueOf, Right, SameCounts};
@@ -36,9 +37,9 @@ fn net_against(m: Complex) -> i64
     0 - n
 }
 
-// The legs of c stand in series s and t at the sides opposite to d and e.
-fn legs_face(c: Complex, s: u8, d: u8, t: u8, e: u8) -> bool
-    ensures { λ r. ⌜ r ≡ (eqb (c .series1) s && eqb (c .side1) (opposite d) && eqb (c .series2) t && eqb (c .side2) (opposite e)) ⌝ }
+// The legs of c stand in series s and t at the sides opposite to d and e, with ratios q and r.
+fn legs_face(c: Complex, s: u8, d: u8, q: u8, t: u8, e: u8, r: u8) -> bool
+    ensures { λ x. ⌜ x ≡ (eqb (c .series1) s && eqb (c .side1) (opposite d) && eqb (c .ratio1) q && eqb (c .series2) t && eqb (c .side2) (opposite e) && eqb (c .ratio2) r) ⌝ }
 {
     if c.series1 != s {
         return false;
@@ -46,20 +47,42 @@ fn legs_face(c: Complex, s: u8, d: u8, t: u8, e: u8) -> bool
     if c.side1 != rules::opposite_of(d) {
         return false;
     }
+    if c.ratio1 != q {
+        return false;
+    }
     if c.series2 != t {
         return false;
     }
-    c.side2 == rules::opposite_of(e)
+    if c.side2 != rules::opposite_of(e) {
+        return false;
+    }
+    c.ratio2 == r
 }
 
-// The same series, and in each the reversed side, whichever leg is named first.
+// The same series, and in each the reversed side and the same ratio, whichever leg is named first.
 pub fn is_reversed(c: Complex, m: Complex) -> bool
     ensures { λ r. ⌜ r ≡ reversed c m ⌝ }
 {
-    if legs_face(c, m.series1, m.side1, m.series2, m.side2) {
+    if legs_face(
+        c,
+        m.series1,
+        m.side1,
+        m.ratio1,
+        m.series2,
+        m.side2,
+        m.ratio2,
+    ) {
         return true;
     }
-    legs_face(c, m.series2, m.side2, m.series1, m.side1)
+    legs_face(
+        c,
+        m.series2,
+        m.side2,
+        m.ratio2,
+        m.series1,
+        m.side1,
+        m.ratio1,
+    )
 }
 
 // The limits of two orders leave room for a cross.
@@ -83,7 +106,7 @@ fn respects_legs(taken: Taken, c: Complex, net: i64) -> bool
     if two.price == 0 {
         return true;
     }
-    net <= rules::net_of(c.side1, one.price, c.side2, two.price)
+    net <= rules::net_of(c.ratio1, c.side1, one.price, c.ratio2, c.side2, two.price)
 }
 
 // The resting order m is a candidate for c.
@@ -187,7 +210,7 @@ pub fn first_cross(b: &[u32], c: Complex) -> Pick
     best
 }
 
-// The orders at places i and j cross for k contracts at the limit of the latter; the legging orders of the taker go, then the maker's.
+// The orders at places i and j cross for k units at the limit of the latter; the legging orders of the taker go, then the maker's.
 pub fn cross(b: &mut [u32], i: usize, j: usize, k: u32, out: &mut [u8], at: usize) -> usize
     requires { ⌜ (length (now b) ≡ size) × (i < complexesUsed (now b)) × (j < complexesUsed (now b)) ⌝ }
     ensures { λ r. ⌜ stage (venueOf (now (b .exit))) (now (out .exit)) r ≡ seen (now (out .entry)) at does cross i j k (venueOf (now (b .entry))) ⌝ }
@@ -244,8 +267,34 @@ fn can_touch(b: &[u32], taken: Taken, c: Complex) -> bool
     if second == 0 {
         return false;
     }
-    let net = rules::net_of(c.side1, first, c.side2, second);
+    let net = rules::net_of(c.ratio1, c.side1, first, c.ratio2, c.side2, second);
     net <= limit_of(c)
+}
+
+// The sizes at the best own prices that c would take fill a unit of it.
+fn fills_unit(b: &[u32], taken: Taken, c: Complex) -> bool
+    requires { ⌜ (length (now b) ≡ size) × (TakenOf taken c (venueOf (now b) .regular)) × (LegsIn c) ⌝ }
+    ensures { λ r. ⌜ r ≡ fillsUnit (venueOf (now (b .entry))) c ⌝ }
+{
+    let one = taken.first;
+    let first = levels::own_size(b, one, c.series1, rules::opposite_of(c.side1));
+    if first < (c.ratio1 as u64) {
+        return false;
+    }
+    let two = taken.second;
+    let second = levels::own_size(b, two, c.series2, rules::opposite_of(c.side2));
+    (c.ratio2 as u64) <= second
+}
+
+// Why the legging orders that c touches go.
+fn touch_cause(b: &[u32], taken: Taken, c: Complex) -> Cause
+    requires { ⌜ (length (now b) ≡ size) × (TakenOf taken c (venueOf (now b) .regular)) × (LegsIn c) ⌝ }
+    ensures { λ r. ⌜ r ≡ (if fillsUnit (venueOf (now (b .entry))) c then Touched else NoUnit) ⌝ }
+{
+    if fills_unit(b, taken, c) {
+        return Cause::Touched;
+    }
+    Cause::NoUnit
 }
 
 // The legging orders at the two sides that the order at place i would take go, where it touches.
@@ -259,7 +308,8 @@ pub fn touch(b: &mut [u32], i: usize, out: &mut [u8], at: usize) -> usize
     if !can_touch(b, taken, c) {
         return at;
     }
+    let cause = touch_cause(b, taken, c);
     let one = rules::place_of(c.series1, rules::opposite_of(c.side1));
     let two = rules::place_of(c.series2, rules::opposite_of(c.side2));
-    removal::remove_at(b, one, two, Cause::Touched, out, at)
+    removal::remove_at(b, one, two, cause, out, at)
 }

@@ -28,7 +28,16 @@ same-length : tie.Need-same-length
 same-length c = search needs
 
 returns : tie.Need-returns
-returns c = (touch-not (c .before .before .before .before .before .before .before .before .before .args .i) _ _ (c .before .before .before .before .before .complex-at .ensures ∙ sym (complex-at (c .before .before .before .before .before .before .before .before .before .args .b .now) (c .before .before .before .before .before .before .before .before .before .args .i) (c .before .before .before .before .before .before .before .before .before .pre .2))) _ _ (off _ _ (c .before .can-touch .ensures) (c .if1 .taken)), record { regulars = refl; complexes = refl; right = λ h. h })
+returns c =
+    let p5 = c .before .before .before .before .before in
+    let s = p5 .before .before .before .before in
+    let a = s .args in (
+      touch-not (a .i) _ _ (p5 .complex-at .ensures ∙ sym (complex-at (a .b .now) (a .i) (s .pre .2))) _ _ (off _ _ (c .before .can-touch .ensures) (c .if1 .taken)),
+      record { regulars = refl; complexes = refl; right = λ h. h },
+    )
+
+touch-cause-requires : tie.Need-touch-cause-requires
+touch-cause-requires c κs = can-touch-requires (c .before .before .before) κs
 
 opposite-of-requires : tie.Need-opposite-of-requires
 opposite-of-requires c κs = search needs
@@ -52,7 +61,21 @@ same-length-3 : tie.Need-same-length-3
 same-length-3 c = search needs
 
 returns-2 : tie.Need-returns-2
-returns-2 c = (touch-both (c .before .before .before .before .before .before .before .before .before .before .before .before .before .before .before .before .before .before .before .before .args .i) _ _ (c .before .before .before .before .before .before .before .before .before .before .before .before .before .before .before .before .complex-at .ensures ∙ sym (complex-at (c .before .before .before .before .before .before .before .before .before .before .before .before .before .before .before .before .before .before .before .before .args .b .now) (c .before .before .before .before .before .before .before .before .before .before .before .before .before .before .before .before .before .before .before .before .args .i) (c .before .before .before .before .before .before .before .before .before .before .before .before .before .before .before .before .before .before .before .before .pre .2))) _ _ _ _ _ (on _ _ (c .before .before .before .before .before .before .before .before .before .before .before .before .can-touch .ensures) (c .before .before .before .before .before .before .before .before .before .before .before .if1 .left)) _ _ _ _ (c .before .before .before .before .before .before .before .before .before .before .opposite-of .ensures) (c .before .before .before .before .before .before .before .before .before .place-of .ensures) (c .before .before .before .before .before .before .before .before .opposite-of2 .ensures) (c .before .before .before .before .before .before .before .place-of2 .ensures) (c .before .before .before .before .remove-at .ensures .0), c .before .before .before .before .remove-at .ensures .1)
+returns-2 c =
+    let p4 = c .before .before .before .before in
+    let p7 = p4 .before .before .before in
+    let p8 = p7 .before in
+    let p9 = p8 .before in
+    let p10 = p9 .before in
+    let p11 = p10 .before in
+    let p13 = p11 .before .before in
+    let p18 = p13 .before .before .before .before .before in
+    let s = p18 .before .before .before .before in
+    let a = s .args in (
+      touch-both (a .i) _ _ (p18 .complex-at .ensures ∙ sym (complex-at (a .b .now) (a .i) (s .pre .2))) _ _ _ _ _ (on _ _ (p13 .before .can-touch .ensures) (p13 .if1 .left)) _
+          (p11 .touch-cause .ensures) _ _ _ _ (p10 .opposite-of .ensures) (p9 .place-of .ensures) (p8 .opposite-of2 .ensures) (p7 .place-of2 .ensures) (p4 .remove-at .ensures .0),
+      p4 .remove-at .ensures .1,
+    )
 
 pub touch-spec : {M : Type 1} → statement M
 touch-spec =
@@ -63,6 +86,7 @@ touch-spec =
     can-touch-requires
     same-length
     returns
+    touch-cause-requires
     opposite-of-requires
     place-of-requires
     opposite-of-requires-2
