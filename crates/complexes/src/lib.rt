@@ -6,13 +6,14 @@ use rules::Complex;
 use rules::Regular;
 ghost use mathlib.Core.Path.{_≡_};
 ghost use mathlib.Core.Bool.{true, _||_};
-ghost use Prim.Native.Nat.{ℕ, suc, min, _≤_, _<_};
+ghost use Prim.Native.Nat.{ℕ, suc, _*_, _/_, _≤_, _<_};
 ghost use lib.ListN.{length};
+ghost use Rattle.rules.specs.declared.Venue.{Venue};
 ghost use Rattle.rules.specs.Base.{held};
 ghost use Rattle.rules.specs.Effects.{repeat};
 ghost use Rattle.rules.specs.Order as order;
 ghost use Rattle.rules.specs.Generation.{generate};
-ghost use Rattle.rules.specs.Complex.{legsIn, legInTurn, each, complexPlace, cancelComplex, restsRegular, restsComplex};
+ghost use Rattle.rules.specs.Complex.{legsIn, unitsIn, legInTurn, each, complexPlace, cancelComplex, restsRegular, restsComplex};
 ghost use Rattle.rules.specs.Complex as complex;
 ghost use Rattle.rules.specs.Sound.{showsFully};
 ghost use Rattle.wire.specs.Seen.{seen};
@@ -36,7 +37,7 @@ fn can_leg_in(b: &[u32], taken: Taken, c: Complex, a: u32, p: u32) -> bool
     if p == 0 {
         return false;
     }
-    let net = rules::net_of(c.side1, a, c.side2, p);
+    let net = rules::net_of(c.ratio1, c.side1, a, c.ratio2, c.side2, p);
     let limit = rules::limit_of(c);
     if limit < net {
         return false;
@@ -44,30 +45,52 @@ fn can_leg_in(b: &[u32], taken: Taken, c: Complex, a: u32, p: u32) -> bool
     levels::in_band(b, taken, c, net)
 }
 
-// k contracts of each leg of the order at place i, at prices a and p: the first leg's trades, the second's, the pair.
+// The contracts of one leg in k units.
+fn contracts(ratio: u8, k: u32) -> u64
+    ensures { λ r. ⌜ r ≡ ratio * k ⌝ }
+{
+    (ratio as u64) * (k as u64)
+}
+
+// k units of the order at place i, at prices a and p: the first leg's trades, the second's, the pair.
 pub fn leg_in(b: &mut [u32], i: usize, a: u32, p: u32, k: u32, out: &mut [u8], at: usize) -> usize
     requires { ⌜ (length (now b) ≡ size) × (Right (now b)) × (i < complexesUsed (now b)) ⌝ }
     ensures { λ r. ⌜ stage (venueOf (now (b .exit))) (now (out .exit)) r ≡ seen (now (out .entry)) at does complex.legIn i a p k (venueOf (now (b .entry))) ⌝ }
     ensures counts { λ _. ⌜ SameCounts (now (b .entry)) (now (b .exit)) ⌝ }
 {
     let c = places::complex_at(b, i);
-    let net = rules::net_of(c.side1, a, c.side2, p);
-    let first = matching::take(b, c.id, c.series1, c.side1, a, k, out, at);
-    let second = matching::take(b, c.id, c.series2, c.side2, p, k, out, first);
+    let net = rules::net_of(c.ratio1, c.side1, a, c.ratio2, c.side2, p);
+    let one = contracts(c.ratio1, k);
+    let two = contracts(c.ratio2, k);
+    let first = matching::take(b, c.id, c.series1, c.side1, a, one, out, at);
+    let second = matching::take(b, c.id, c.series2, c.side2, p, two, out, first);
     matching::pair_off(b, i, c.id, net, k, out, second)
 }
 
-// q, but at most a size.
-fn at_most(q: u32, n: u64) -> u32
-    ensures { λ r. ⌜ r ≡ min q n ⌝ }
+// The units that a size fills, each of `ratio` contracts; none where that is 0.
+fn units(n: u64, ratio: u8) -> u64
+    ensures { λ r. ⌜ r ≡ n / ratio ⌝ }
 {
-    if n < (q as u64) {
-        return n as u32;
+    if ratio == 1 {
+        return n;
     }
-    q
+    if ratio == 0 {
+        return 0;
+    }
+    n / (ratio as u64)
 }
 
-// The order at place i legs in while the best prices allow it, in at most `quantity` turns.
+// As many units as c has open and the sizes at the best prices fill; taken has their levels.
+fn units_in(taken: Taken, c: Complex) -> u32
+    ensures { λ r. ⌜ ((v : Venue) → TakenOf taken c (v .regular) → r ≡ unitsIn v c) ⌝ }
+{
+    let one = taken.first;
+    let two = taken.second;
+    let open = matching::at_most(c.quantity, units(one.size, c.ratio1));
+    matching::at_most(open, units(two.size, c.ratio2))
+}
+
+// The order at place i legs in while the best prices allow it and fill a unit, in at most `quantity` turns.
 pub fn leg_in_all(b: &mut [u32], i: usize, quantity: u32, out: &mut [u8], at: usize) -> usize
     requires { ⌜ (length (now b) ≡ size) × (Right (now b)) × (i < complexesUsed (now b)) ⌝ }
     ensures { λ r. ⌜ stage (venueOf (now (b .exit))) (now (out .exit)) r ≡ seen (now (out .entry)) at does repeat quantity (legInTurn i) (venueOf (now (b .entry))) ⌝ }
@@ -84,7 +107,10 @@ pub fn leg_in_all(b: &mut [u32], i: usize, quantity: u32, out: &mut [u8], at: us
         if !can_leg_in(b, taken, c, first.price, second.price) {
             return pos;
         }
-        let k = at_most(at_most(c.quantity, first.size), second.size);
+        let k = units_in(taken, c);
+        if k == 0 {
+            return pos;
+        }
         pos = leg_in(b, i, first.price, second.price, k, out, pos);
     }
     pos

@@ -9,7 +9,7 @@ use Rattle.levels.specs.Grid.{LegsIn}
 use Rattle.levels.proofs.Sides.{legs-in}
 use Rattle.crossing.proofs.Candidates.{off, on}
 use Rattle.crossing.proofs.Loops.{Doing, doing-start, doing-turn, doing-end, doing-room, repeat-zero, repeat-stop, repeat-turn}
-use Rattle.complexes.proofs.Pairing.{leg-stop, leg-turn}
+use Rattle.complexes.proofs.Pairing.{leg-stop, leg-short, leg-turn}
 use borrow.Author.Needs.{needs}
 use Rattle.complexes.proofs.leg_in_all.Statement.{statement}
 use Rattle.complexes.proofs.leg_in_all.Tie as tie
@@ -48,21 +48,43 @@ same-length-2 c = doing-room (c .before .before .before .before .before .before 
 
 returns : tie.Need-returns Inv-loop μ-loop
 returns c =
-    let l = c .before .before .before .before .before .before .before .before .before .before .loop in
-    let s = c .before .before .before .before .before .before .before .before .before .before .before .before .before in
-    let t = c .before .before .before .before .before .taken-at in (
+    let p5 = c .before .before .before .before .before in
+    let p7 = p5 .before .before in
+    let l = p7 .before .before .before .loop in
+    let s = p7 .before .before .before .before .before .before in
+    let t = p5 .taken-at in (
       doing-end (l .inv)
           (repeat-stop _ _ _
-          (leg-stop (s .args .i) _ _ (c .before .before .before .before .before .before .before .complex-at .ensures ∙ sym (complex-at (l .b) (s .args .i) (omega (arith, l .inv .counts .complexes, s .pre .2)))) (t .result) (t .ensures)
+          (leg-stop _ _ (t .result) (t .ensures) (s .args .i) (p7 .complex-at .ensures ∙ sym (complex-at (l .b) (s .args .i) (omega (arith, l .inv .counts .complexes, s .pre .2))))
           (off _ _ (c .before .can-leg-in .ensures) (c .if1 .taken)))),
       l .inv .counts,
     )
 
-at-most-requires : tie.Need-at-most-requires Inv-loop μ-loop
-at-most-requires c κs = search needs
+units-in-requires : tie.Need-units-in-requires Inv-loop μ-loop
+units-in-requires c κs = search needs
 
-at-most-requires-2 : tie.Need-at-most-requires-2 Inv-loop μ-loop
-at-most-requires-2 c κs = search needs
+same-length-3 : tie.Need-same-length-3 Inv-loop μ-loop
+same-length-3 c =
+    let p12 = c .before .before .before .before .before .before .before .before .before .before .before .before in
+    p12 .loop .inv .whole ∙ sym (p12 .before .before .before .pre .0)
+
+same-length-4 : tie.Need-same-length-4 Inv-loop μ-loop
+same-length-4 c = doing-room (c .before .before .before .before .before .before .before .before .before .before .before .before .loop .inv)
+
+returns-2 : tie.Need-returns-2 Inv-loop μ-loop
+returns-2 c =
+    let p2 = c .before .before in
+    let p7 = p2 .before .before .before .before .before in
+    let p9 = p7 .before .before in
+    let l = p9 .before .before .before .loop in
+    let s = p9 .before .before .before .before .before .before in
+    let t = p7 .taken-at in (
+      doing-end (l .inv)
+          (repeat-stop _ _ _
+          (leg-short _ _ (t .result) (t .ensures) (s .args .i) (p9 .complex-at .ensures ∙ sym (complex-at (l .b) (s .args .i) (omega (arith, l .inv .counts .complexes, s .pre .2))))
+          (on _ _ (p2 .before .can-leg-in .ensures) (p2 .if1 .left)) _ (c .before .units-in .ensures _ (t .ensures)) (c .if2 .taken))),
+      l .inv .counts,
+    )
 
 leg-in-requires : tie.Need-leg-in-requires Inv-loop μ-loop
 leg-in-requires c κs =
@@ -75,24 +97,30 @@ loop-less c = search needs
 
 loop-again : tie.Need-loop-again Inv-loop μ-loop
 loop-again c =
-    let l = c .before .before .before .before .before .before .before .before .before .before .before .before .before .before .before .before .before .before .before .loop in
-    let s = c .before .before .before .before .before .before .before .before .before .before .before .before .before .before .before .before .before .before .before .before .before .before in
-    let t = c .before .before .before .before .before .before .before .before .before .before .before .before .before .before .taken-at in
-    let x = c .before .before .before .before .leg-in in
+    let p4 = c .before .before .before .before in
+    let p7 = p4 .before .before .before in
+    let p9 = p7 .before .before in
+    let p14 = p9 .before .before .before .before .before in
+    let p16 = p14 .before .before in
+    let p18 = p16 .before .before in
+    let l = p18 .before .loop in
+    let s = p18 .before .before .before .before in
+    let t = p14 .taken-at in
+    let x = p4 .leg-in in
     doing-turn (l .inv) _ _ _ _ _
-    (repeat-turn _ _ _ _ _ (omega (arith, c .before .before .before .before .before .before .before .before .before .before .before .before .before .before .before .before .before .before .loop-test .taken))
-    (leg-turn (s .args .i) _ _ (c .before .before .before .before .before .before .before .before .before .before .before .before .before .before .before .before .complex-at .ensures ∙ sym (complex-at (l .b) (s .args .i) (omega (arith, l .inv .counts .complexes, s .pre .2)))) (t .result) (t .ensures) _ _
-    (on _ _ (c .before .before .before .before .before .before .before .before .before .before .can-leg-in .ensures) (c .before .before .before .before .before .before .before .before .before .if1 .left)) (c .before .before .before .before .before .before .before .before .at-most .ensures) (c .before .before .before .before .before .before .before .at-most2 .ensures)))
+    (repeat-turn _ _ _ _ _ (omega (arith, p18 .loop-test .taken))
+    (leg-turn _ _ (t .result) (t .ensures) (s .args .i) (p16 .complex-at .ensures ∙ sym (complex-at (l .b) (s .args .i) (omega (arith, l .inv .counts .complexes, s .pre .2))))
+    (on _ _ (p9 .before .can-leg-in .ensures) (p9 .if1 .left)) _ (p7 .before .units-in .ensures _ (t .ensures)) (p7 .if2 .left)))
     (x .kept .0) (x .ensures .0) (x .ensures .1)
 
-same-length-3 : tie.Need-same-length-3 Inv-loop μ-loop
-same-length-3 c = c .before .loop .inv .whole ∙ sym (c .before .before .before .before .pre .0)
+same-length-5 : tie.Need-same-length-5 Inv-loop μ-loop
+same-length-5 c = c .before .loop .inv .whole ∙ sym (c .before .before .before .before .pre .0)
 
-same-length-4 : tie.Need-same-length-4 Inv-loop μ-loop
-same-length-4 c = doing-room (c .before .loop .inv)
+same-length-6 : tie.Need-same-length-6 Inv-loop μ-loop
+same-length-6 c = doing-room (c .before .loop .inv)
 
-returns-2 : tie.Need-returns-2 Inv-loop μ-loop
-returns-2 c = (doing-end (c .before .loop .inv) (repeat-zero _ _ _ (omega (arith, c .loop-test .left))), c .before .loop .inv .counts)
+returns-3 : tie.Need-returns-3 Inv-loop μ-loop
+returns-3 c = (doing-end (c .before .loop .inv) (repeat-zero _ _ _ (omega (arith, c .loop-test .left))), c .before .loop .inv .counts)
 
 pub leg-in-all-spec : {M : Type 1} → statement M
 leg-in-all-spec =
@@ -108,11 +136,13 @@ leg-in-all-spec =
     same-length
     same-length-2
     returns
-    at-most-requires
-    at-most-requires-2
+    units-in-requires
+    same-length-3
+    same-length-4
+    returns-2
     leg-in-requires
     loop-less
     loop-again
-    same-length-3
-    same-length-4
-    returns-2)
+    same-length-5
+    same-length-6
+    returns-3)
