@@ -9,7 +9,6 @@ use lib.ListN.{length, getD, drop, replicate, drop-of-length-le}
 use lib.Seq.{drop-cons}
 use Rattle.rules.specs.declared.Edition.{Edition}
 use Rattle.rules.specs.declared.Venue.{Venue}
-use Rattle.rules.specs.declared.Settings.{Settings}
 use Rattle.rules.specs.Base.{if_then_else_, keep}
 use Rattle.rules.specs.Words.{noEdition}
 use Rattle.rules.specs.Settings.{baseFigure, sets, lastValue, inForce}

@@ -13,7 +13,7 @@ use Rattle.rules.specs.declared.Complex.{Complex}
 use Rattle.rules.specs.declared.Legging.{Legging}
 use Rattle.rules.specs.declared.Venue.{Venue}
 use Rattle.rules.specs.Base.{if_then_else_, held, all}
-use Rattle.rules.specs.Words.{noRegular, isId, isPrice, isQuantity}
+use Rattle.rules.specs.Words.{noRegular, isId, isPrice, isQuantity, oneToOne}
 use Rattle.rules.specs.Settings.{increment}
 use Rattle.rules.specs.Prices.{bestOwn}
 use Rattle.rules.specs.Refusals.{onIncrement}
@@ -148,19 +148,23 @@ unfolding leggingInRange isId isPrice isQuantity
 legging-quantity l a b c d e = rw (inside 1 4294967295 (l .parent) a b, inside 1 100000 (l .price) c d) (within-top 1 10000 (l .quantity) e)
 
 module _ (v : Venue) (l : Legging) (s d : ℕ) (c : Complex) (e : c ≡ parentOf v l) where
-  home-is : (hasLeg c s d && leb (l .quantity) (c .quantity)) ≡ hasHome v l s d
+  home-is : (hasLeg c s d && oneToOne c && leb (l .quantity) (c .quantity)) ≡ hasHome v l s d
   unfolding hasHome
-  home-is = ap (λ (x : Complex). hasLeg x s d && leb (l .quantity) (x .quantity)) e
+  home-is = ap (λ (x : Complex). hasLeg x s d && oneToOne x && leb (l .quantity) (x .quantity)) e
 
   pub home-none : hasLeg c s d ≡ false → false ≡ hasHome v l s d
   home-none h = rw h at home-is
 
-  pub home-open : hasLeg c s d ≡ true → leb (l .quantity) (c .quantity) ≡ hasHome v l s d
-  home-open h = rw h at home-is
+  module _ (h : hasLeg c s d ≡ true) where
+    pub home-uneven : oneToOne c ≡ false → false ≡ hasHome v l s d
+    home-uneven u = rw (h, u) at home-is
 
-and-assoc : (a b c : Bool) → (a && b && c) ≡ (a && (b && c))
-and-assoc true b c = refl
-and-assoc false b c = refl
+    pub home-open : oneToOne c ≡ true → leb (l .quantity) (c .quantity) ≡ hasHome v l s d
+    home-open u = rw (h, u) at home-is
+
+and-assoc : (a b c d : Bool) → (a && b && c && d) ≡ (a && (b && c && d))
+and-assoc true b c d = refl
+and-assoc false b c d = refl
 
 pub sound-free : (v : Venue) (n : ℕ) (l : Legging) → l .quantity ≡ 0 → blankLegging l ≡ leggingSound v n l
 unfolding leggingSound
@@ -172,7 +176,7 @@ module _ (v : Venue) (n : ℕ) (l : Legging) (h : l .quantity ≡ 0 → ⊥) whe
   sound-held =
       rw (ne-eqb (l .quantity) 0 h)
       (ap (λ (t : Bool). t && stands (verdict v n l))
-      (sym (and-assoc (isId (l .parent) && isPrice (l .price) && isQuantity (l .quantity)) (hasLeg (parentOf v l) (n / 2) (n % 2)) (leb (l .quantity) (parentOf v l .quantity)))))
+      (sym (and-assoc (isId (l .parent) && isPrice (l .price) && isQuantity (l .quantity)) (hasLeg (parentOf v l) (n / 2) (n % 2)) (oneToOne (parentOf v l)) (leb (l .quantity) (parentOf v l .quantity)))))
 
 leggings-on : (b : List ℕ) (v : Venue) (n : ℕ) → n < 16 → leggingsSound v n (upto (leggingIn b) n (16 - n)) ≡
     (leggingSound v n (leggingIn b n) && leggingsSound v (n + 1) (upto (leggingIn b) (n + 1) (16 - (n + 1))))

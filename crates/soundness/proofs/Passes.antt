@@ -225,10 +225,20 @@ unfolding blankEdition
 edition-zero e a b c = rw (eq-eqb (e .edition) 0 a, eq-eqb (e .message) 0 b, eq-eqb (e .figure) 0 c)
 
 pub complex-zero : (c : Complex) → c .id ≡ 0 → c .series1 ≡ 0 → c .side1 ≡ 0 → c .series2 ≡ 0 → c .side2 ≡ 0 → c .class ≡ 0 → eqb (natAbs (c .limit)) 0 ≡ true →
-    eqb (c .quantity) 0 ≡ blankComplex c
+    c .quantity ≡ 0 → c .ratio1 ≡ 0 → eqb (c .ratio2) 0 ≡ blankComplex c
 unfolding blankComplex
-complex-zero x a b c d e f g =
-    rw (eq-eqb (x .id) 0 a, eq-eqb (x .series1) 0 b, eq-eqb (x .side1) 0 c, eq-eqb (x .series2) 0 d, eq-eqb (x .side2) 0 e, eq-eqb (x .class) 0 f, g)
+complex-zero x a b c d e f g q r =
+    rw (
+      eq-eqb (x .id) 0 a,
+      eq-eqb (x .series1) 0 b,
+      eq-eqb (x .side1) 0 c,
+      eq-eqb (x .series2) 0 d,
+      eq-eqb (x .side2) 0 e,
+      eq-eqb (x .class) 0 f,
+      g,
+      eq-eqb (x .quantity) 0 q,
+      eq-eqb (x .ratio1) 0 r,
+    )
 
 -- Three tests, one after another --------------------------------------------------------------
 

@@ -4,16 +4,15 @@ use mathlib.Core.Bool.{Bool, true, false, _&&_, true≢false}
 use mathlib.Core.List.{List, []}
 use Prim.Native.Nat.{ℕ, _<_}
 use native.Mathlib.Omega.{arith}
-use borrow.Author.Tests.{leb-true, le-leb}
+use borrow.Author.Tests.{le-leb}
 use lib.Dec.{leb}
 use lib.ListN.{getD}
 use Rattle.rules.specs.declared.Regular.{Regular}
-use Rattle.rules.specs.declared.Complex.{Complex}
 use Rattle.rules.specs.declared.Venue.{Venue}
 use Rattle.rules.specs.Base.{held, all}
-use Rattle.rules.specs.Words.{noRegular, noComplex, withRegular, withComplex, isSeries, isSide, within}
+use Rattle.rules.specs.Words.{noRegular, noComplex, withRegular, withComplex}
 use Rattle.rules.specs.Places.{holdsRegular, holdsComplex, blankRegular, blankComplex, arranged, packed, closeGaps}
-use Rattle.rules.specs.Refusals.{regularInRange, onIncrement, complexInRange}
+use Rattle.rules.specs.Refusals.{regularInRange, onIncrement}
 use Rattle.rules.specs.Sound.{apart, listedInRange, leggingsSound, showsFully, regularsSound, complexesSound, idsDistinct, editionsSound, sound}
 use Rattle.rules.proofs.Tests.{and-l, and-r}
 use Rattle.rules.proofs.Closing.{packed-free}
@@ -21,28 +20,12 @@ use Rattle.rules.proofs.Arranging.{arranged-out, blank-is, blank-free, blank-fr
 use Rattle.rules.proofs.Editions.{Stepped, dated-steps}
 use Rattle.places.proofs.Orderly.{range-priced, range-displayed}
 use Rattle.places.proofs.Fully.{range-bounded}
-use Rattle.places.proofs.Loaded.{editions-dated}
-use Rattle.places.specs.Layout.{OnSide, Fully, Loadable, Loaded, venueOf}
+use Rattle.places.proofs.Loaded.{regular-side, complex-sides, editions-dated}
+use Rattle.places.specs.Layout.{Fully, Loadable, Loaded, venueOf}
 use Rattle.soundness.specs.Checked.{askedRegular, regularsFrom, placesSound, pricedOn, onIncrements, eight, ordersSound, Checked}
 use Rattle.soundness.proofs.Passes.{arranged-split}
 
 -- Loading -------------------------------------------------------------------------------------
-
-regular-side : (o : Regular) → regularInRange o ≡ true → OnSide (o .series) (o .side)
-unfolding regularInRange isSeries isSide within
-regular-side o z =
-    let a = leb-true (o .series) 7 (search (and-l, and-r, z) depth 8) in
-    let b = leb-true (o .side) 1 (search (and-l, and-r, z) depth 8) in
-    record { series = omega arith; side = omega arith }
-
-complex-sides : (c : Complex) (t : Bool) → (complexInRange c && t) ≡ true → OnSide (c .series1) (c .side1) × OnSide (c .series2) (c .side2)
-unfolding complexInRange isSeries isSide within
-complex-sides c t z =
-    let a = leb-true (c .series1) 7 (search (and-l, and-r, z) depth 12) in
-    let b = leb-true (c .side1) 1 (search (and-l, and-r, z) depth 12) in
-    let e = leb-true (c .series2) 7 (search (and-l, and-r, z) depth 12) in
-    let f = leb-true (c .side2) 1 (search (and-l, and-r, z) depth 12) in
-    (record { series = omega arith; side = omega arith }, record { series = omega arith; side = omega arith })
 
 -- what is asked of a regular order
 asked-out : (last : ℕ) (o : Regular) → askedRegular last o ≡ true → (regularInRange o ≡ true) × (showsFully o ≡ true)

@@ -10,7 +10,7 @@ use Rattle.rules.specs.declared.Legging.{Legging}
 use Rattle.rules.specs.declared.Edition.{Edition}
 use Rattle.rules.specs.declared.Venue.{Venue}
 use Rattle.rules.specs.Base.{held, all}
-use Rattle.rules.specs.Words.{isId, isPrice, isQuantity}
+use Rattle.rules.specs.Words.{isId, isPrice, isQuantity, oneToOne}
 use Rattle.rules.specs.Standing.{hasLeg, parentOf}
 use Rattle.rules.specs.Places.{holdsRegular, holdsComplex, holdsEdition, blankRegular, blankComplex, blankEdition, arranged}
 use Rattle.rules.specs.Refusals.{regularInRange, onIncrement, complexInRange}
@@ -62,9 +62,9 @@ eight = 0 ∷ 1 ∷ 2 ∷ 3 ∷ 4 ∷ 5 ∷ 6 ∷ 7 ∷ []
 unfoldable pub leggingInRange : Legging → Bool
 leggingInRange l = isId (l .parent) && isPrice (l .price) && isQuantity (l .quantity)
 
--- its parent rests, has this leg, and has as much open
+-- its parent rests, has this leg, is one to one, and has as much open
 unfoldable pub hasHome : Venue → Legging → (series side : ℕ) → Bool
-hasHome v l s d = hasLeg (parentOf v l) s d && leb (l .quantity) (parentOf v l .quantity)
+hasHome v l s d = hasLeg (parentOf v l) s d && oneToOne (parentOf v l) && leb (l .quantity) (parentOf v l .quantity)
 
 -- what is asked of the last id, of prices beside the increments, and of orders beside one another
 unfoldable pub ordersSound : Venue → Bool

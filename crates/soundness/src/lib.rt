@@ -128,7 +128,13 @@ fn blank_complex(c: Complex) -> bool
     if 0 < limit {
         return false;
     }
-    c.quantity == 0
+    if c.quantity != 0 {
+        return false;
+    }
+    if c.ratio1 != 0 {
+        return false;
+    }
+    c.ratio2 == 0
 }
 
 fn complexes_blank(l: [Complex; 32], from: usize) -> bool
@@ -431,13 +437,16 @@ fn has_leg(c: Complex, s: u8, d: u8) -> bool
     is_leg(c.series2, c.side2, s, d)
 }
 
-// A legging order's parent rests, has this leg, and has as much open.
+// A legging order's parent rests, has this leg, is one to one, and has as much open.
 fn has_home(b: &[u32], l: Legging, s: u8, d: u8) -> bool
     requires { ⌜ length (now b) ≡ size ⌝ }
     ensures { λ r. ⌜ r ≡ hasHome (venueOf (now (b .entry))) l s d ⌝ }
 {
     let c = levels::parent_of(b, l);
     if !has_leg(c, s, d) {
+        return false;
+    }
+    if !wire::is_one_to_one(c) {
         return false;
     }
     l.quantity <= c.quantity

@@ -19,12 +19,12 @@ use Rattle.wire.proofs.Numbers.{u32-here}
 use Rattle.places.specs.Layout.{upto}
 use Rattle.places.proofs.Tables.{upto-length, upto-at}
 use Rattle.places.proofs.Parts.{venue-is}
-use Rattle.state.specs.Held.{editionsAt, reservesAt, regularBytes, complexBytes, leggingBytes, listedBytes, editionBytes, reserveBytes, rows, venueBytes}
-use Rattle.state.specs.Held.{rowAt, regularRowsAt, venueFrom, regularFrom, complexFrom, leggingFrom, listedFrom, editionFrom}
+use Rattle.state.specs.Held.{editionsAt, reservesAt, ratiosAt, regularBytes, complexBytes, leggingBytes, listedBytes, editionBytes, reserveBytes, ratioBytes, rows, venueBytes}
+use Rattle.state.specs.Held.{rowAt, rowsAt, venueFrom, regularFrom, complexFrom, leggingFrom, listedFrom, editionFrom}
 use Rattle.state.specs.Held.{RegularFits, ComplexFits, LeggingFits, ListedFits, EditionFits, HeldWhole, zerosVenue, ZerosHeld, closings, ClosedFirst}
 use Rattle.state.proofs.Rows.{rows-append, rows-length}
-use Rattle.state.proofs.Widths.{regular-width, complex-width, legging-width, listed-width, edition-width, reserve-width}
-use Rattle.state.proofs.Whole.{regular-part, complex-part, legging-part, series-part, last-part, editions-part}
+use Rattle.state.proofs.Widths.{regular-width, complex-width, legging-width, listed-width, edition-width, reserve-width, ratio-width}
+use Rattle.state.proofs.Whole.{regular-part, complex-part, legging-part, series-part, last-part, editions-part, reserves-part}
 
 -- A row ---------------------------------------------------------------------------------------
 
@@ -41,9 +41,9 @@ regular-back o f rest more =
       word (o .reserve) (f .reserve),
     )
 
-complex-back : (c : Complex) → ComplexFits c → (rest : List ℕ) → complexFrom (complexBytes c ++ rest) ≡ c
-unfolding complexFrom complexBytes bytes u8At u16At u32At
-complex-back c f rest =
+complex-back : (c : Complex) → ComplexFits c → (rest more : List ℕ) → complexFrom (complexBytes c ++ rest) (ratioBytes c ++ more) ≡ c
+unfolding complexFrom complexBytes ratioBytes bytes u8At u16At u32At
+complex-back c f rest more =
     rw (
       word (c .id) (f .id),
       byte (c .series1) (f .series1),
@@ -54,6 +54,8 @@ complex-back c f rest =
       word (asUnsigned (c .limit)) (signed-small (c .limit) (f .limit)),
       signed-back (c .limit) (f .limit),
       word (c .quantity) (f .quantity),
+      byte (c .ratio1) (f .ratio1),
+      byte (c .ratio2) (f .ratio2),
     )
 
 legging-back : (l : Legging) → LeggingFits l → (rest : List ℕ) → leggingFrom (leggingBytes l ++ rest) ≡ l
@@ -111,10 +113,22 @@ module _ {A : Type 0} (row : A → List ℕ) (width : ℕ) (even : (x : A) → l
   table-back read from n bs front rest l e f k back =
       all-back (rowAt read from width bs) none l n k (λ i h. row-at read from bs front rest l i e f h ∙ back i _)
 
+-- a list in two tables
+module _ {A : Type 0} (row more : A → List ℕ) (width short : ℕ) (even : (x : A) → length (row x) ≡ width) (flat : (x : A) → length (more x) ≡ short) (none : A) where
+  tables-back : (read : List ℕ → List ℕ → A) (from later n : ℕ) (bs front rest before after : List ℕ) (l : List A) → bs ≡ front ++ rows row l ++ rest → length front ≡ from →
+      bs ≡ before ++ rows more l ++ after → length before ≡ later → length l ≡ n →
+      ((i : ℕ) (r s : List ℕ) → read (row (getD l i none) ++ r) (more (getD l i none) ++ s) ≡ getD l i none) → upto (rowsAt read from width later short bs) 0 n ≡ l
+  unfolding rowsAt
+  tables-back read from later n bs front rest before after l e f g h k back =
+      all-back (rowsAt read from width later short bs) none l n k
+      (λ i lt. row-at more short flat none (rowAt read from width bs i) later bs before after l i g h lt
+      ∙ ap (λ (r : List ℕ → A). r (more (getD l i none) ++ (rows more (drop (suc i) l) ++ after))) (row-at row width even none read from bs front rest l i e f lt)
+      ∙ back i _ _)
+
 -- The venue -----------------------------------------------------------------------------------
 
 pub held-whole : HeldWhole
-unfolding venueFrom venueBytes regularRowsAt
+unfolding venueFrom venueBytes
 held-whole v d =
     let R : List ℕ = rows regularBytes (v .regular) in
     let C : List ℕ = rows complexBytes (v .complex) in
@@ -123,29 +137,27 @@ held-whole v d =
     let Z : List ℕ = u32 (v .last) in
     let E : List ℕ = rows editionBytes (v .editions) in
     let H : List ℕ = rows reserveBytes (v .regular) in
+    let Q : List ℕ = rows ratioBytes (v .complex) in
     let s = d .sized in
+    let split : venueBytes v ≡ R ++ C ++ L ++ S ++ (Z ++ (E ++ H ++ Q)) = simp append-assoc in
     venue-is _ _
-    (all-back (regularRowsAt (venueBytes v)) noRegular (v .regular) 128 (s .regular)
-    (λ i h. row-at reserveBytes 8 reserve-width noRegular (rowAt regularFrom 0 14 (venueBytes v) i) reservesAt (venueBytes v) (R ++ C ++ L ++ S ++ Z ++ E) [] (v .regular) i
-    (simp append-nil) (editions-part v s) h
-    ∙ ap (λ (f : List ℕ → Regular). f (reserveBytes (getD (v .regular) i noRegular) ++ (rows reserveBytes (drop (suc i) (v .regular)) ++ [])))
-    (row-at regularBytes 14 regular-width noRegular regularFrom 0 (venueBytes v) [] (C ++ L ++ S ++ Z ++ E ++ H) (v .regular) i (simp append-assoc) refl h)
-    ∙ regular-back _ (d .regular i) _ _))
-    (table-back complexBytes 17 complex-width noComplex complexFrom 1792 32 (venueBytes v) R (L ++ S ++ Z ++ E ++ H) (v .complex) (simp append-assoc) (regular-part v s) (s .complex)
-    (λ i r. complex-back _ (d .complex i) r))
-    (table-back leggingBytes 12 legging-width noLegging leggingFrom 2336 16 (venueBytes v) (R ++ C) (S ++ Z ++ E ++ H) (v .legging) (simp append-assoc) (complex-part v s) (s .legging)
+    (tables-back regularBytes reserveBytes 14 8 regular-width reserve-width noRegular regularFrom 0 reservesAt 128 (venueBytes v) [] (C ++ L ++ S ++ Z ++ E ++ H ++ Q) (R ++ C ++ L ++ S ++ Z ++ E) Q (v .regular)
+    (simp append-assoc) refl refl (editions-part v s) (s .regular) (λ i r t. regular-back _ (d .regular i) r t))
+    (tables-back complexBytes ratioBytes 17 2 complex-width ratio-width noComplex complexFrom 1792 ratiosAt 32 (venueBytes v) R (L ++ S ++ Z ++ E ++ H ++ Q) (R ++ C ++ L ++ S ++ Z ++ E ++ H) [] (v .complex)
+    (simp append-assoc) (regular-part v s) (simp append-nil) (reserves-part v s) (s .complex) (λ i r t. complex-back _ (d .complex i) r t))
+    (table-back leggingBytes 12 legging-width noLegging leggingFrom 2336 16 (venueBytes v) (R ++ C) (S ++ Z ++ E ++ H ++ Q) (v .legging) (simp append-assoc) (complex-part v s) (s .legging)
     (λ i r. legging-back _ (d .legging i) r))
-    (table-back listedBytes 9 listed-width notListed listedFrom 2528 8 (venueBytes v) (R ++ C ++ L) (Z ++ E ++ H) (v .series) (simp append-assoc) (legging-part v s) (s .series)
+    (table-back listedBytes 9 listed-width notListed listedFrom 2528 8 (venueBytes v) (R ++ C ++ L) (Z ++ E ++ H ++ Q) (v .series) (simp append-assoc) (legging-part v s) (s .series)
     (λ i r. listed-back _ (d .series i) r))
-    (table-back editionBytes 10 edition-width noEdition editionFrom editionsAt 32 (venueBytes v) (R ++ C ++ L ++ S ++ Z) H (v .editions) refl (last-part v s) (s .editions)
+    (table-back editionBytes 10 edition-width noEdition editionFrom editionsAt 32 (venueBytes v) (R ++ C ++ L ++ S ++ Z) (H ++ Q) (v .editions) (simp append-assoc) (last-part v s) (s .editions)
     (λ i r. edition-back _ (d .editions i) r))
     (u32-here 2600 (venueBytes v)
-    ∙ ap (λ (x : List ℕ). u32At (drop 2600 x) 0) (append-assoc (R ++ C ++ L ++ S ++ Z) E H ∙ append-assoc (R ++ C ++ L ++ S) Z (E ++ H))
-    ∙ ap (λ (x : List ℕ). u32At x 0) (drop-at (R ++ C ++ L ++ S) (Z ++ (E ++ H)) 2600 (series-part v s))
-    ∙ last-back (v .last) (d .last) (E ++ H))
+    ∙ ap (λ (x : List ℕ). u32At (drop 2600 x) 0) split
+    ∙ ap (λ (x : List ℕ). u32At x 0) (drop-at (R ++ C ++ L ++ S) (Z ++ (E ++ H ++ Q)) 2600 (series-part v s))
+    ∙ last-back (v .last) (d .last) (E ++ H ++ Q))
 
 pub zeros-held : ZerosHeld
-unfolding opened-rules venueFrom rowAt regularRowsAt upto regularFrom complexFrom leggingFrom listedFrom editionFrom zerosVenue
+unfolding opened-rules venueFrom rowAt rowsAt upto regularFrom complexFrom leggingFrom listedFrom editionFrom zerosVenue
 zeros-held = (refl, refl)
 
 pub closed-first : ClosedFirst

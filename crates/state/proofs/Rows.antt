@@ -7,10 +7,9 @@ use native.Mathlib.Omega.{arith}
 use native.Mathlib.Numerals.{add-one}
 use lib.ListN.{length, getD, take, drop, length-append}
 use lib.Seq.{take-suc, take-all, length-take-le}
-use Rattle.rules.specs.declared.Regular.{Regular}
 use Rattle.wire.specs.Seen.{Seen, seen, pasted, _plus_}
 use Rattle.wire.proofs.Writes.{plus-in, pasted-nil, pasted-length, pasted-pasted, part-all}
-use Rattle.state.specs.Held.{reservesAt, rows, rowAt, regularFrom, regularRowsAt}
+use Rattle.state.specs.Held.{rows, rowAt, rowsAt}
 
 module _ {A : Type 0} (row : A → List ℕ) where
   pub rows-append : (a b : List A) → rows row (a ++ b) ≡ rows row a ++ rows row b
@@ -78,14 +77,14 @@ pub row-read : {A : Type 0} (row : List ℕ → A) (from width : ℕ) (s : List 
 unfolding rowAt
 row-read row from width s i at x e p = p ∙ ap row (part-all s at ∙ ap (λ (k : ℕ). drop k s) e)
 
--- a regular order, read from its two rows
-pub regular-read : (s : List ℕ) (i at reserve : ℕ) (x : Regular) → at ≡ 14 * i + 0 → reserve ≡ 8 * i + reservesAt →
-    x ≡ regularFrom (take (length s - at) (drop at s)) (take (length s - reserve) (drop reserve s)) → x ≡ regularRowsAt s i
-unfolding regularRowsAt
-regular-read s i at reserve x e f p =
+-- an order, read from its two rows
+pub rows-read : {A : Type 0} (read : List ℕ → List ℕ → A) (from width later short : ℕ) (s : List ℕ) (i at next : ℕ) (x : A) → at ≡ width * i + from → next ≡ short * i + later →
+    x ≡ read (take (length s - at) (drop at s)) (take (length s - next) (drop next s)) → x ≡ rowsAt read from width later short s i
+unfolding rowsAt
+rows-read {A} read from width later short s i at next x e f p =
     let row : List ℕ = take (length s - at) (drop at s) in
-    row-read (regularFrom row) reservesAt 8 s i reserve x f p
-    ∙ ap (λ (g : List ℕ → Regular). rowAt g reservesAt 8 s i) (row-read regularFrom 0 14 s i at (regularFrom row) e refl)
+    row-read (read row) later short s i next x f p
+    ∙ ap (λ (g : List ℕ → A). rowAt g later short s i) (row-read read from width s i at (read row) e refl)
 
 -- bytes written at a position are the row's
 pub row-put : (l m : List ℕ) (at end : ℕ) (a b : List ℕ) → seen m end ≡ seen l at plus a → a ≡ b → m ≡ (seen l at plus b) .memory

@@ -8,10 +8,10 @@ use Rattle.rules.specs.declared.Venue.{Venue}
 use Rattle.rules.specs.Bytes.{u32, bytes}
 use Rattle.wire.specs.Seen.{Seen, seen, pasted, _plus_}
 use Rattle.wire.proofs.Writes.{plus-in, pasted-length, pasted-pasted}
-use Rattle.state.specs.Held.{editionsAt, reservesAt, venueSize, rows, venueBytes, Sized}
-use Rattle.state.specs.Held.{regularBytes, complexBytes, leggingBytes, listedBytes, editionBytes, reserveBytes}
+use Rattle.state.specs.Held.{editionsAt, reservesAt, ratiosAt, venueSize, rows, venueBytes, Sized}
+use Rattle.state.specs.Held.{regularBytes, complexBytes, leggingBytes, listedBytes, editionBytes, reserveBytes, ratioBytes}
 use Rattle.state.proofs.Rows.{rows-length}
-use Rattle.state.proofs.Widths.{regular-width, complex-width, legging-width, listed-width, edition-width, reserve-width}
+use Rattle.state.proofs.Widths.{regular-width, complex-width, legging-width, listed-width, edition-width, reserve-width, ratio-width}
 
 -- bytes in the place of all
 all : (l x : List ℕ) → length l ≤ length x → pasted l 0 x ≡ x
@@ -43,6 +43,9 @@ module _ (v : Venue) (sized : Sized v) where
   abbrev H : List ℕ
   H = rows reserveBytes (v .regular)
 
+  abbrev Q : List ℕ
+  Q = rows ratioBytes (v .complex)
+
   pub regular-part : length R ≡ 1792
   regular-part = let n = sized .regular in rows-length regularBytes 14 regular-width (v .regular) ∙ omega arith
 
@@ -65,17 +68,23 @@ module _ (v : Venue) (sized : Sized v) where
       let k = last-part in
       length-append (R ++ C ++ L ++ S ++ u32 (v .last)) E ∙ omega (arith, rows-length editionBytes 10 edition-width (v .editions))
 
-  pub venue-length : length (venueBytes v) ≡ venueSize
-  unfolding venueBytes
-  venue-length =
+  pub reserves-part : length (R ++ C ++ L ++ S ++ u32 (v .last) ++ E ++ H) ≡ ratiosAt
+  reserves-part =
       let n = sized .regular in
       let k = editions-part in
       length-append (R ++ C ++ L ++ S ++ u32 (v .last) ++ E) H ∙ omega (arith, rows-length reserveBytes 8 reserve-width (v .regular))
 
-  pub venue-put : (l a b c d e f g : List ℕ) (end : ℕ) → length l ≡ venueSize → a ≡ pasted l 0 R → b ≡ pasted a 1792 C → c ≡ pasted b 2336 L → d ≡ pasted c 2528 S →
-      seen e end ≡ seen d 2600 plus u32 (v .last) → f ≡ pasted e editionsAt E → g ≡ pasted f reservesAt H → g ≡ venueBytes v
+  pub venue-length : length (venueBytes v) ≡ venueSize
+  unfolding venueBytes
+  venue-length =
+      let n = sized .complex in
+      let k = reserves-part in
+      length-append (R ++ C ++ L ++ S ++ u32 (v .last) ++ E ++ H) Q ∙ omega (arith, rows-length ratioBytes 2 ratio-width (v .complex))
+
+  pub venue-put : (l a b c d e f g h : List ℕ) (end : ℕ) → length l ≡ venueSize → a ≡ pasted l 0 R → b ≡ pasted a 1792 C → c ≡ pasted b 2336 L → d ≡ pasted c 2528 S →
+      seen e end ≡ seen d 2600 plus u32 (v .last) → f ≡ pasted e editionsAt E → g ≡ pasted f reservesAt H → h ≡ pasted g ratiosAt Q → h ≡ venueBytes v
   unfolding venueBytes seen bytes
-  venue-put l a b c d e f g end n p q r s t u w =
+  venue-put l a b c d e f g h end n p q r s t u w x =
       let rc = then l a b R C 1792 p q (omega (arith, regular-part)) (omega arith) in
       let rcl = then l b c (R ++ C) L 2336 rc r (omega (arith, complex-part)) (omega arith) in
       let rcls = then l c d (R ++ C ++ L) S 2528 rcl s (omega (arith, legging-part)) (omega arith) in
@@ -83,5 +92,6 @@ module _ (v : Venue) (sized : Sized v) where
       let last : e ≡ pasted d 2600 (u32 (v .last)) = ap (λ (w : Seen). w .memory) (t ∙ plus-in d (u32 (v .last)) 2600 (omega arith)) in
       let rclsl = then l d e (R ++ C ++ L ++ S) (u32 (v .last)) 2600 rcls last (omega (arith, series-part)) (omega arith) in
       let rclsle = then l e f (R ++ C ++ L ++ S ++ u32 (v .last)) E editionsAt rclsl u (omega (arith, last-part)) (omega arith) in
-      then l f g (R ++ C ++ L ++ S ++ u32 (v .last) ++ E) H reservesAt rclsle w (omega (arith, editions-part)) (omega arith)
-      ∙ all l (R ++ C ++ L ++ S ++ u32 (v .last) ++ E ++ H) (omega (arith, venue-length))
+      let rclsleh = then l f g (R ++ C ++ L ++ S ++ u32 (v .last) ++ E) H reservesAt rclsle w (omega (arith, editions-part)) (omega arith) in
+      then l g h (R ++ C ++ L ++ S ++ u32 (v .last) ++ E ++ H) Q ratiosAt rclsleh x (omega (arith, reserves-part)) (omega arith)
+      ∙ all l (R ++ C ++ L ++ S ++ u32 (v .last) ++ E ++ H ++ Q) (omega (arith, venue-length))

@@ -7,7 +7,7 @@ use Rattle.rules.specs.declared.Legging.{Legging}
 use Rattle.rules.specs.declared.Listed.{Listed}
 use Rattle.rules.specs.declared.Edition.{Edition}
 use Rattle.rules.specs.Bytes.{bytes}
-use Rattle.state.specs.Held.{regularBytes, reserveBytes, complexBytes, leggingBytes, listedBytes, editionBytes}
+use Rattle.state.specs.Held.{regularBytes, reserveBytes, complexBytes, ratioBytes, leggingBytes, listedBytes, editionBytes}
 
 pub regular-width : (o : Regular) → length (regularBytes o) ≡ 14
 unfolding regularBytes bytes
@@ -20,6 +20,10 @@ reserve-width o = refl
 pub complex-width : (c : Complex) → length (complexBytes c) ≡ 17
 unfolding complexBytes bytes
 complex-width c = refl
+
+pub ratio-width : (c : Complex) → length (ratioBytes c) ≡ 2
+unfolding ratioBytes bytes
+ratio-width c = refl
 
 pub legging-width : (l : Legging) → length (leggingBytes l) ≡ 12
 unfolding leggingBytes bytes

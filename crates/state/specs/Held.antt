@@ -1,5 +1,5 @@
--- A venue as bytes, which a host holds between calls: 3,948 of them, each number as in a message, little-endian. What a request adds to a venue
--- stands after what there was before, so that what (e) adds to a regular order is a row of its own.
+-- A venue as bytes, which a host holds between calls: 4,012 of them, each number as in a message, little-endian. What a request adds to a venue
+-- stands after what there was before, so that what (e) adds to a regular order and (g) to a complex order are rows of their own.
 --
 --   from   a row                                                                                      bytes   rows
 --      0   id u32, series u8, side u8, price u32, quantity u32                                           14   128 regular
@@ -9,6 +9,7 @@
 --   2600   last id u32                                                                                    4
 --   2604   edition u32, message number u32, figure u8, value u8                                          10   32 editions
 --   2924   reserve u32, display u32                                                                       8   128 regular
+--   3948   ratio1 u8, ratio2 u8                                                                           2   32 complex
 --
 -- An edition's figure is 0 to 7, the increment of that series, or 8, the percent.
 use mathlib.Core.Path.{_≡_}
@@ -39,8 +40,12 @@ editionsAt = 2604
 abbrev pub reservesAt : ℕ
 reservesAt = 2924
 
+-- where the complex orders' ratios begin
+abbrev pub ratiosAt : ℕ
+ratiosAt = 3948
+
 abbrev pub venueSize : ℕ
-venueSize = 3948
+venueSize = 4012
 
 -- Writing -------------------------------------------------------------------------------------
 
@@ -55,6 +60,10 @@ reserveBytes o = u32 (o .reserve) ++ u32 (o .display)
 unfoldable pub complexBytes : Complex → List ℕ
 complexBytes c =
     u32 (c .id) ++ u8 (c .series1) ++ u8 (c .side1) ++ u8 (c .series2) ++ u8 (c .side2) ++ u8 (c .class) ++ i32 (c .limit) ++ u32 (c .quantity)
+
+-- what (g) adds to it: how many contracts of each leg are in a unit
+unfoldable pub ratioBytes : Complex → List ℕ
+ratioBytes c = u8 (c .ratio1) ++ u8 (c .ratio2)
 
 unfoldable pub leggingBytes : Legging → List ℕ
 leggingBytes l = u32 (l .parent) ++ u32 (l .price) ++ u32 (l .quantity)
@@ -73,11 +82,11 @@ rows row (x ∷ xs) = row x ++ rows row xs
 unfoldable pub venueBytes : Venue → List ℕ
 venueBytes v =
     rows regularBytes (v .regular) ++ rows complexBytes (v .complex) ++ rows leggingBytes (v .legging) ++ rows listedBytes (v .series) ++ u32 (v .last)
-    ++ rows editionBytes (v .editions) ++ rows reserveBytes (v .regular)
+    ++ rows editionBytes (v .editions) ++ rows reserveBytes (v .regular) ++ rows ratioBytes (v .complex)
 
 -- Reading -------------------------------------------------------------------------------------
 
--- the row at the front of bs; a regular order's two rows, at the front of bs and of rs
+-- the row at the front of bs; an order's two rows, at the front of bs and of rs
 unfoldable pub regularFrom : (bs rs : List ℕ) → Regular
 regularFrom bs rs = record {
   id = u32At bs 0;
@@ -89,8 +98,8 @@ regularFrom bs rs = record {
   reserve = u32At rs 0;
 }
 
-unfoldable pub complexFrom : List ℕ → Complex
-complexFrom bs = record {
+unfoldable pub complexFrom : (bs rs : List ℕ) → Complex
+complexFrom bs rs = record {
   id = u32At bs 0;
   series1 = u8At bs 4;
   side1 = u8At bs 5;
@@ -99,6 +108,8 @@ complexFrom bs = record {
   class = u8At bs 8;
   limit = asSigned (u32At bs 9);
   quantity = u32At bs 13;
+  ratio1 = u8At rs 0;
+  ratio2 = u8At rs 1;
 }
 
 unfoldable pub leggingFrom : List ℕ → Legging
@@ -114,14 +125,14 @@ editionFrom bs = record { edition = u32At bs 0; message = u32At bs 4; figure = u
 unfoldable pub rowAt : {A : Type 0} → (List ℕ → A) → (from width : ℕ) → List ℕ → (i : ℕ) → A
 rowAt row from width bs i = row (drop (width * i + from) bs)
 
--- regular order i, from its row in either table
-unfoldable pub regularRowsAt : List ℕ → (i : ℕ) → Regular
-regularRowsAt bs i = rowAt (rowAt regularFrom 0 14 bs i) reservesAt 8 bs i
+-- order i, from its row in either table
+unfoldable pub rowsAt : {A : Type 0} → (List ℕ → List ℕ → A) → (from width later short : ℕ) → List ℕ → (i : ℕ) → A
+rowsAt read from width later short bs i = rowAt (rowAt read from width bs i) later short bs i
 
 unfoldable pub venueFrom : List ℕ → Venue
 venueFrom bs = record {
-  regular = upto (regularRowsAt bs) 0 128;
-  complex = upto (rowAt complexFrom 1792 17 bs) 0 32;
+  regular = upto (rowsAt regularFrom 0 14 reservesAt 8 bs) 0 128;
+  complex = upto (rowsAt complexFrom 1792 17 ratiosAt 2 bs) 0 32;
   legging = upto (rowAt leggingFrom 2336 12 bs) 0 16;
   series = upto (rowAt listedFrom 2528 9 bs) 0 8;
   editions = upto (rowAt editionFrom editionsAt 10 bs) 0 32;
@@ -149,6 +160,8 @@ pub record ComplexFits (c : Complex) : Type 0 where
   pub class : OneByte (c .class)
   pub limit : FourSigned (c .limit)
   pub quantity : FourBytes (c .quantity)
+  pub ratio1 : OneByte (c .ratio1)
+  pub ratio2 : OneByte (c .ratio2)
 
 pub record LeggingFits (l : Legging) : Type 0 where
   pub parent : FourBytes (l .parent)

@@ -9,8 +9,8 @@ ghost use mathlib.Core.Path.{_≡_};
 ghost use Prim.Native.Nat.{_≤_};
 ghost use lib.ListN.{length};
 ghost use Rattle.wire.specs.Seen.{seen, pasted, _plus_};
-ghost use Rattle.state.specs.Held.{editionsAt, reservesAt, venueSize};
-ghost use Rattle.state.specs.Held.{regularBytes, complexBytes, leggingBytes, listedBytes, editionBytes, reserveBytes, rows, venueBytes};
+ghost use Rattle.state.specs.Held.{editionsAt, reservesAt, ratiosAt, venueSize};
+ghost use Rattle.state.specs.Held.{regularBytes, complexBytes, leggingBytes, listedBytes, editionBytes, reserveBytes, ratioBytes, rows, venueBytes};
 ghost use Rattle.state.specs.Held.{regularFrom, complexFrom, leggingFrom, listedFrom, editionFrom, venueFrom};
 
 // Where the editions begin.
@@ -19,8 +19,11 @@ const EDITIONS_AT: usize = 2604;
 // Where the regular orders' reserves begin.
 const RESERVES_AT: usize = EDITIONS_AT + 10 * 32;
 
+// Where the complex orders' ratios begin.
+const RATIOS_AT: usize = RESERVES_AT + 8 * 128;
+
 // How many bytes a venue has.
-pub const VENUE_SIZE: usize = RESERVES_AT + 8 * 128;
+pub const VENUE_SIZE: usize = RATIOS_AT + 2 * 32;
 
 // A row read ----------------------------------------------------------------------------------
 
@@ -39,9 +42,9 @@ fn regular_from(row: &[u8], reserve: &[u8]) -> Regular
     }
 }
 
-fn complex_from(row: &[u8]) -> Complex
-    requires { ⌜ 17 ≤ length (now row) ⌝ }
-    ensures { λ r. ⌜ r ≡ complexFrom (now (row .entry)) ⌝ }
+fn complex_from(row: &[u8], ratio: &[u8]) -> Complex
+    requires { ⌜ (17 ≤ length (now row)) × (2 ≤ length (now ratio)) ⌝ }
+    ensures { λ r. ⌜ r ≡ complexFrom (now (row .entry)) (now (ratio .entry)) ⌝ }
 {
     Complex {
         id: wire::word_at(row, 0),
@@ -52,6 +55,8 @@ fn complex_from(row: &[u8]) -> Complex
         class: wire::byte_at(row, 8),
         limit: wire::signed(wire::word_at(row, 9)),
         quantity: wire::word_at(row, 13),
+        ratio1: wire::byte_at(ratio, 0),
+        ratio2: wire::byte_at(ratio, 1),
     }
 }
 
@@ -129,12 +134,15 @@ fn complexes_from(bytes: &[u8]) -> [Complex; 32]
         class: 0,
         limit: 0,
         quantity: 0,
+        ratio1: 0,
+        ratio2: 0,
     };
     let mut r = [free; 32];
     let mut i: usize = 0;
     while i < 32 {
         let at = 17 * i + 1792;
-        let x = complex_from(&bytes[at..]);
+        let ratio = 2 * i + RATIOS_AT;
+        let x = complex_from(&bytes[at..], &bytes[ratio..]);
         r[i] = x;
         i += 1;
     }
@@ -261,6 +269,13 @@ fn put_complex(out: &mut [u8], at: usize, c: Complex)
     wire::put_words(out, at, &head, &words);
 }
 
+fn put_ratio(out: &mut [u8], at: usize, c: Complex)
+    ensures { λ _. ⌜ now (out .exit) ≡ (seen (now (out .entry)) at plus ratioBytes c) .memory ⌝ }
+{
+    let row = [c.ratio1, c.ratio2];
+    wire::put(out, at, &row);
+}
+
 fn put_legging(out: &mut [u8], at: usize, l: Legging)
     ensures { λ _. ⌜ now (out .exit) ≡ (seen (now (out .entry)) at plus leggingBytes l) .memory ⌝ }
 {
@@ -371,6 +386,18 @@ fn put_reserves(out: &mut [u8], l: [Regular; 128])
     }
 }
 
+fn put_ratios(out: &mut [u8], l: [Complex; 32])
+    requires { ⌜ length (now out) ≡ venueSize ⌝ }
+    ensures { λ _. ⌜ now (out .exit) ≡ pasted (now (out .entry)) ratiosAt (rows ratioBytes l) ⌝ }
+{
+    let mut i: usize = 0;
+    while i < 32 {
+        let c = l[i];
+        put_ratio(out, 2 * i + RATIOS_AT, c);
+        i += 1;
+    }
+}
+
 // The venue's bytes in the place of what stood there.
 pub fn put_venue(out: &mut [u8], v: Venue)
     requires { ⌜ length (now out) ≡ venueSize ⌝ }
@@ -389,4 +416,5 @@ pub fn put_venue(out: &mut [u8], v: Venue)
     let editions = v.editions;
     put_editions(out, editions);
     put_reserves(out, regular);
+    put_ratios(out, complex);
 }

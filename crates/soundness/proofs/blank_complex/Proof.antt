@@ -51,12 +51,24 @@ returns-8 c =
     simp (some-above z h, and-false)
 
 returns-9 : tie.Need-returns-9
-returns-9 c =
-    let x = c .before .before .before .before .before .before .before .before .before .before .before .before .before .before .before .before .args .c in
-    let b = toZ-ofZ w32 (x .limit) (record { sfits = c .before .before .before .struct-told .given .1 .1 .1 .1 .1 .1 .0 .1 }) in
-    let g : ltZ (x .limit) (pos 0) ≡ false = rw b at (c .before .before .if7 .left) in
-    let h : ltZ (pos 0) (x .limit) ≡ false = rw b at (c .before .if8 .left) in
-    complex-zero x (c .before .before .before .before .before .before .before .before .before .before .before .before .before .before .if1 .left) (c .before .before .before .before .before .before .before .before .before .before .before .before .if2 .left) (c .before .before .before .before .before .before .before .before .before .before .if3 .left) (c .before .before .before .before .before .before .before .before .if4 .left) (c .before .before .before .before .before .before .if5 .left) (c .before .before .before .before .if6 .left) (none-beside (x .limit) g h)
+unfolding blankComplex
+returns-9 c = simp (ne-eqb _ _ (c .if9 .taken), and-false)
+
+returns-10 : tie.Need-returns-10
+unfolding blankComplex
+returns-10 c = simp (ne-eqb _ _ (c .if10 .taken), and-false)
+
+returns-11 : tie.Need-returns-11
+returns-11 c =
+    let f = c .before .before .before .before .before in
+    let l = f .before .before in
+    let k = l .before in
+    let x = k .before .before .before .before .before .before .before .before .before .before .before .before .args .c in
+    let b = toZ-ofZ w32 (x .limit) (record { sfits = l .struct-told .given .1 .1 .1 .1 .1 .1 .0 .1 }) in
+    let g : ltZ (x .limit) (pos 0) ≡ false = rw b at (f .before .if7 .left) in
+    let h : ltZ (pos 0) (x .limit) ≡ false = rw b at (f .if8 .left) in
+    complex-zero x (k .before .before .before .before .before .before .before .before .before .before .if1 .left) (k .before .before .before .before .before .before .before .before .if2 .left) (k .before .before .before .before .before .before .if3 .left) (k .before .before .before .before .if4 .left) (k .before .before .if5 .left) (k .if6 .left) (none-beside (x .limit) g h)
+    (c .before .before .before .if9 .left) (c .before .if10 .left)
 
 pub blank-complex-spec : {M : Type 1} → statement M
-blank-complex-spec = tie.close (tie.spec returns returns-2 returns-3 returns-4 returns-5 returns-6 returns-7 returns-8 returns-9)
+blank-complex-spec = tie.close (tie.spec returns returns-2 returns-3 returns-4 returns-5 returns-6 returns-7 returns-8 returns-9 returns-10 returns-11)

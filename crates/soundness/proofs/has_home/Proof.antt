@@ -2,7 +2,7 @@
 use mathlib.Core.Path.{sym, _∙_}
 use borrow.Author.Tests.{not-true, not-false}
 use Rattle.places.specs.Layout.{venueOf}
-use Rattle.soundness.proofs.Beside.{home-none, home-open}
+use Rattle.soundness.proofs.Beside.{home-none, home-uneven, home-open}
 use borrow.Author.Needs.{needs}
 use Rattle.soundness.proofs.has_home.Statement.{statement}
 use Rattle.soundness.proofs.has_home.Tie as tie
@@ -14,10 +14,25 @@ has-leg-requires : tie.Need-has-leg-requires
 has-leg-requires c κs = search needs
 
 returns : tie.Need-returns
-returns c = home-none (venueOf (c .before .before .before .before .args .b .now)) (c .before .before .before .before .args .l) (c .before .before .before .before .args .s) (c .before .before .before .before .args .d) (c .before .before .parent-of .result) (c .before .before .parent-of .ensures) (sym (c .before .has-leg .ensures) ∙ not-true _ (c .if1 .taken))
+returns c =
+    let s = c .before .before .before .before in
+    home-none (venueOf (s .args .b .now)) (s .args .l) (s .args .s) (s .args .d) (c .before .before .parent-of .result) (c .before .before .parent-of .ensures) (sym (c .before .has-leg .ensures) ∙ not-true _ (c .if1 .taken))
+
+is-one-to-one-requires : tie.Need-is-one-to-one-requires
+is-one-to-one-requires c κs = search needs
 
 returns-2 : tie.Need-returns-2
-returns-2 c = home-open (venueOf (c .before .before .before .before .before .before .args .b .now)) (c .before .before .before .before .before .before .args .l) (c .before .before .before .before .before .before .args .s) (c .before .before .before .before .before .before .args .d) (c .before .before .before .before .parent-of .result) (c .before .before .before .before .parent-of .ensures) (sym (c .before .before .before .has-leg .ensures) ∙ not-false _ (c .before .before .if1 .left))
+returns-2 c =
+    let h = c .before .before in
+    let s = h .before .before .before .before in
+    home-uneven (venueOf (s .args .b .now)) (s .args .l) (s .args .s) (s .args .d) (h .before .before .parent-of .result) (h .before .before .parent-of .ensures) (sym (h .before .has-leg .ensures) ∙ not-false _ (h .if1 .left)) (sym (c .before .is-one-to-one .ensures) ∙ not-true _ (c .if2 .taken))
+
+returns-3 : tie.Need-returns-3
+returns-3 c =
+    let o = c .before .before in
+    let h = o .before .before in
+    let s = h .before .before .before .before in
+    home-open (venueOf (s .args .b .now)) (s .args .l) (s .args .s) (s .args .d) (h .before .before .parent-of .result) (h .before .before .parent-of .ensures) (sym (h .before .has-leg .ensures) ∙ not-false _ (h .if1 .left)) (sym (o .before .is-one-to-one .ensures) ∙ not-false _ (o .if2 .left))
 
 pub has-home-spec : {M : Type 1} → statement M
-has-home-spec = tie.close (tie.spec parent-of-requires has-leg-requires returns returns-2)
+has-home-spec = tie.close (tie.spec parent-of-requires has-leg-requires returns is-one-to-one-requires returns-2 returns-3)

@@ -33,20 +33,28 @@ signed-requires c κs = search needs
 word-at-requires-3 : tie.Need-word-at-requires-3
 word-at-requires-3 c κs = search needs
 
+byte-at-requires-6 : tie.Need-byte-at-requires-6
+byte-at-requires-6 c κs = search needs
+
+byte-at-requires-7 : tie.Need-byte-at-requires-7
+byte-at-requires-7 c κs = search needs
+
 returns : tie.Need-returns
 unfolding complexFrom
 returns c =
     rw (
-      toZ-ofZ w32 (c .before .signed .result) (record { sfits = c .before .signed .ok }),
-      c .before .before .before .before .before .before .before .before .word-at .ensures,
-      c .before .before .before .before .before .before .before .byte-at .ensures,
-      c .before .before .before .before .before .before .byte-at2 .ensures,
-      c .before .before .before .before .before .byte-at3 .ensures,
-      c .before .before .before .before .byte-at4 .ensures,
-      c .before .before .before .byte-at5 .ensures,
-      c .before .signed .ensures,
-      c .before .before .word-at2 .ensures,
-      c .word-at3 .ensures,
+      toZ-ofZ w32 (c .before .before .before .signed .result) (record { sfits = c .before .before .before .signed .ok }),
+      c .before .before .before .before .before .before .before .before .before .before .word-at .ensures,
+      c .before .before .before .before .before .before .before .before .before .byte-at .ensures,
+      c .before .before .before .before .before .before .before .before .byte-at2 .ensures,
+      c .before .before .before .before .before .before .before .byte-at3 .ensures,
+      c .before .before .before .before .before .before .byte-at4 .ensures,
+      c .before .before .before .before .before .byte-at5 .ensures,
+      c .before .before .before .signed .ensures,
+      c .before .before .before .before .word-at2 .ensures,
+      c .before .before .word-at3 .ensures,
+      c .before .byte-at6 .ensures,
+      c .byte-at7 .ensures,
     )
 
 pub complex-from-spec : {M : Type 1} → statement M
@@ -62,4 +70,6 @@ complex-from-spec =
     word-at-requires-2
     signed-requires
     word-at-requires-3
+    byte-at-requires-6
+    byte-at-requires-7
     returns)

@@ -7,13 +7,13 @@ use borrow.Author.Needs.{needs}
 use Rattle.rules.specs.Words.{noComplex}
 use Rattle.places.specs.Layout.{upto, inUse}
 use Rattle.places.proofs.Tables.{used-length, used-next, used-done, whole}
-use Rattle.state.specs.Held.{complexFrom, rowAt, venueFrom}
-use Rattle.state.proofs.Rows.{row-read}
+use Rattle.state.specs.Held.{ratiosAt, complexFrom, rowsAt, venueFrom}
+use Rattle.state.proofs.Rows.{rows-read}
 use Rattle.state.proofs.complexes_from.Statement.{statement}
 use Rattle.state.proofs.complexes_from.Tie as tie
 
 abbrev Inv-loop : tie.InvT-loop
-Inv-loop bytes r₀ i₀ r i = (i ≤ 32) × (r ≡ inUse (rowAt complexFrom 1792 17 bytes) noComplex i 32)
+Inv-loop bytes r₀ i₀ r i = (i ≤ 32) × (r ≡ inUse (rowsAt complexFrom 1792 17 ratiosAt 2 bytes) noComplex i 32)
 
 abbrev μ-loop : tie.MeasureT-loop
 μ-loop bytes r₀ i₀ r i = 32 - i
@@ -28,6 +28,12 @@ mul-at c = search needs
 add-at : tie.Need-add-at Inv-loop μ-loop
 add-at c = search needs
 
+mul-ratio : tie.Need-mul-ratio Inv-loop μ-loop
+mul-ratio c = search needs
+
+add-ratio : tie.Need-add-ratio Inv-loop μ-loop
+add-ratio c = search needs
+
 sub-complex-from : tie.Need-sub-complex-from Inv-loop μ-loop
 sub-complex-from c = search needs
 
@@ -37,6 +43,15 @@ part-complex-from-start c = search needs
 part-complex-from-end : tie.Need-part-complex-from-end Inv-loop μ-loop
 part-complex-from-end c = search needs
 
+sub-complex-from-2 : tie.Need-sub-complex-from-2 Inv-loop μ-loop
+sub-complex-from-2 c = search needs
+
+part-complex-from-start-2 : tie.Need-part-complex-from-start-2 Inv-loop μ-loop
+part-complex-from-start-2 c = search needs
+
+part-complex-from-end-2 : tie.Need-part-complex-from-end-2 Inv-loop μ-loop
+part-complex-from-end-2 c = search needs
+
 complex-from-requires : tie.Need-complex-from-requires Inv-loop μ-loop
 complex-from-requires c κs = search needs
 
@@ -44,7 +59,7 @@ mul-r : tie.Need-mul-r Inv-loop μ-loop
 mul-r c = search needs
 
 array-set-from-r : tie.Need-array-set-from-r Inv-loop μ-loop
-array-set-from-r c = let h = c .before .before .before in let z = ap length (h .loop .inv .1) in let y = used-length (rowAt complexFrom 1792 17 (c .before .before .before .before .before .args .bytes .now)) noComplex (h .loop .i) 32 (omega arith) in omega arith
+array-set-from-r c = let h = c .before .before .before .before in let z = ap length (h .loop .inv .1) in let y = used-length (rowsAt complexFrom 1792 17 ratiosAt 2 (c .before .before .before .before .before .before .args .bytes .now)) noComplex (h .loop .i) 32 (omega arith) in omega arith
 
 add-i : tie.Need-add-i Inv-loop μ-loop
 add-i c = search needs
@@ -53,11 +68,11 @@ loop-less : tie.Need-loop-less Inv-loop μ-loop
 loop-less c = search needs
 
 loop-again : tie.Need-loop-again Inv-loop μ-loop
-loop-again c = let h = c .before .before .before in (omega arith, used-next _ _ _ 32 _ _ (omega arith) (h .loop .inv .1) (row-read complexFrom 1792 17 _ (h .loop .i) _ _ (omega arith) (c .complex-from .ensures)))
+loop-again c = let h = c .before .before .before .before in (omega arith, used-next _ _ _ 32 _ _ (omega arith) (h .loop .inv .1) (rows-read complexFrom 1792 17 ratiosAt 2 _ (h .loop .i) _ _ _ (omega arith) (omega arith) (c .complex-from .ensures)))
 
 returns : tie.Need-returns Inv-loop μ-loop
 unfolding venueFrom
-returns c = used-done _ _ _ _ 32 _ (omega arith) (c .before .loop .inv .1) ∙ whole (rowAt complexFrom 1792 17 (c .before .before .before .args .bytes .now)) noComplex 32
+returns c = used-done _ _ _ _ 32 _ (omega arith) (c .before .loop .inv .1) ∙ whole (rowsAt complexFrom 1792 17 ratiosAt 2 (c .before .before .before .args .bytes .now)) noComplex 32
 
 pub complexes-from-spec : {M : Type 1} → statement M
 complexes-from-spec =
@@ -68,9 +83,14 @@ complexes-from-spec =
     loop-holds
     mul-at
     add-at
+    mul-ratio
+    add-ratio
     sub-complex-from
     part-complex-from-start
     part-complex-from-end
+    sub-complex-from-2
+    part-complex-from-start-2
+    part-complex-from-end-2
     complex-from-requires
     mul-r
     array-set-from-r

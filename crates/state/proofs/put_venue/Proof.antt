@@ -51,12 +51,16 @@ put-editions-requires c κs = search needs
 put-reserves-requires : tie.Need-put-reserves-requires
 put-reserves-requires c κs = search needs
 
+put-ratios-requires : tie.Need-put-ratios-requires
+put-ratios-requires c κs = search needs
+
 same-length : tie.Need-same-length
 same-length c = search needs
 
 returns : tie.Need-returns
 returns c =
-    let h = c .before .before in
+    let t = c .before .before in
+    let h = t .before .before .before .before in
     let e = h .before .before .before .before in
     let l = e .before .before .before .before .before in
     let d = l .before .before .before .before .before .before in
@@ -64,8 +68,8 @@ returns c =
     let x = g .before .before .before .before .before in
     let r = x .before .before .before .before .before in
     let s = r .before .before .before .before in
-    venue-put (s .args .v) (sized s) (s .args .out .now) _ _ _ _ _ _ _ _ (s .pre) (r .put-regulars .ensures) (x .put-complexes .ensures) (g .put-leggings .ensures) (d .put-series .ensures)
-    (l .put .ensures ∙ ap (λ (y : List ℕ). seen (d .put-series .last .0) 2600 plus y) (l .before .before .before .bytes4 .ensures)) (e .put-editions .ensures) (h .put-reserves .ensures)
+    venue-put (s .args .v) (sized s) (s .args .out .now) _ _ _ _ _ _ _ _ _ (s .pre) (r .put-regulars .ensures) (x .put-complexes .ensures) (g .put-leggings .ensures) (d .put-series .ensures)
+    (l .put .ensures ∙ ap (λ (y : List ℕ). seen (d .put-series .last .0) 2600 plus y) (l .before .before .before .bytes4 .ensures)) (e .put-editions .ensures) (h .put-reserves .ensures) (t .put-ratios .ensures)
 
 pub put-venue-spec : {M : Type 1} → statement M
 put-venue-spec =
@@ -80,5 +84,6 @@ put-venue-spec =
     put-requires
     put-editions-requires
     put-reserves-requires
+    put-ratios-requires
     same-length
     returns)

@@ -7,13 +7,13 @@ use borrow.Author.Needs.{needs}
 use Rattle.rules.specs.Words.{noRegular}
 use Rattle.places.specs.Layout.{upto, inUse}
 use Rattle.places.proofs.Tables.{used-length, used-next, used-done, whole}
-use Rattle.state.specs.Held.{regularRowsAt, venueFrom}
-use Rattle.state.proofs.Rows.{regular-read}
+use Rattle.state.specs.Held.{reservesAt, regularFrom, rowsAt, venueFrom}
+use Rattle.state.proofs.Rows.{rows-read}
 use Rattle.state.proofs.regulars_from.Statement.{statement}
 use Rattle.state.proofs.regulars_from.Tie as tie
 
 abbrev Inv-loop : tie.InvT-loop
-Inv-loop bytes r₀ i₀ r i = (i ≤ 128) × (r ≡ inUse (regularRowsAt bytes) noRegular i 128)
+Inv-loop bytes r₀ i₀ r i = (i ≤ 128) × (r ≡ inUse (rowsAt regularFrom 0 14 reservesAt 8 bytes) noRegular i 128)
 
 abbrev μ-loop : tie.MeasureT-loop
 μ-loop bytes r₀ i₀ r i = 128 - i
@@ -56,7 +56,7 @@ mul-r : tie.Need-mul-r Inv-loop μ-loop
 mul-r c = search needs
 
 array-set-from-r : tie.Need-array-set-from-r Inv-loop μ-loop
-array-set-from-r c = let h = c .before .before .before .before in let z = ap length (h .loop .inv .1) in let y = used-length (regularRowsAt (c .before .before .before .before .before .before .args .bytes .now)) noRegular (h .loop .i) 128 (omega arith) in omega arith
+array-set-from-r c = let h = c .before .before .before .before in let z = ap length (h .loop .inv .1) in let y = used-length (rowsAt regularFrom 0 14 reservesAt 8 (c .before .before .before .before .before .before .args .bytes .now)) noRegular (h .loop .i) 128 (omega arith) in omega arith
 
 add-i : tie.Need-add-i Inv-loop μ-loop
 add-i c = search needs
@@ -65,11 +65,11 @@ loop-less : tie.Need-loop-less Inv-loop μ-loop
 loop-less c = search needs
 
 loop-again : tie.Need-loop-again Inv-loop μ-loop
-loop-again c = let h = c .before .before .before .before in (omega arith, used-next _ _ _ 128 _ _ (omega arith) (h .loop .inv .1) (regular-read _ (h .loop .i) _ _ _ (omega arith) (omega arith) (c .regular-from .ensures)))
+loop-again c = let h = c .before .before .before .before in (omega arith, used-next _ _ _ 128 _ _ (omega arith) (h .loop .inv .1) (rows-read regularFrom 0 14 reservesAt 8 _ (h .loop .i) _ _ _ (omega arith) (omega arith) (c .regular-from .ensures)))
 
 returns : tie.Need-returns Inv-loop μ-loop
 unfolding venueFrom
-returns c = used-done _ _ _ _ 128 _ (omega arith) (c .before .loop .inv .1) ∙ whole (regularRowsAt (c .before .before .before .args .bytes .now)) noRegular 128
+returns c = used-done _ _ _ _ 128 _ (omega arith) (c .before .loop .inv .1) ∙ whole (rowsAt regularFrom 0 14 reservesAt 8 (c .before .before .before .args .bytes .now)) noRegular 128
 
 pub regulars-from-spec : {M : Type 1} → statement M
 regulars-from-spec =
