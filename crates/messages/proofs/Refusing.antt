@@ -12,13 +12,15 @@ use Rattle.rules.specs.declared.Venue.{Venue}
 use Rattle.rules.specs.declared.Message.{Message}
 use Rattle.rules.specs.declared.Message.the-variants.{Order, TwoLeg, Cancel, Away, Status, Sweep, Increment, Percent}
 use Rattle.rules.specs.Base.{if_then_else_, held, all}
-use Rattle.rules.specs.Words.{closed, within, isSeries, isSide, statusOf, listedAt, withSeries}
+use Rattle.rules.specs.Words.{closed, within, isSeries, statusOf, listedAt, withSeries}
 use Rattle.rules.specs.Messages.{messageForm}
 use Rattle.rules.specs.Settings.{isIncrement, freeEdition}
 use Rattle.rules.specs.Complex.{regularPlace, complexPlace, restsRegular, restsComplex}
-use Rattle.rules.specs.Refusals.{complexInRange, inRange, offIncrement, editionTooLow, idle, inUse, noEditionLeft, idTooLow, onClosed, full, unknown, refusalOf}
+use Rattle.rules.specs.Refusals.{complexInRange, offIncrement, editionTooLow, idle, inUse, noEditionLeft, idTooLow, onClosed, full, unknown, refusalOf}
 use Rattle.rules.specs.Step.{setAway, setStatus}
 use Rattle.rules.proofs.Tests.{and-l, and-r}
+use Rattle.rules.proofs.Refusing.{wellFormed}
+use Rattle.rules.proofs.Widths.{complex-fits}
 use Rattle.levels.specs.Grid.{LegsIn}
 use Rattle.book.specs.declared.Found.{Found}
 use Rattle.book.specs.declared.Found.the-variants.{At, Nothing}
@@ -28,25 +30,19 @@ use Rattle.messages.specs.Steps.{editionRefusal}
 -- Fields in range -----------------------------------------------------------------------------
 
 pub legs-in : (c : Complex) → complexInRange c ≡ true → LegsIn c
-unfolding complexInRange isSeries isSide within
-legs-in c z =
-    let a = leb-true (c .series1) 7 (search (and-l, and-r, z) depth 12) in
-    let b = leb-true (c .side1) 1 (search (and-l, and-r, z) depth 12) in
-    let e = leb-true (c .series2) 7 (search (and-l, and-r, z) depth 12) in
-    let f = leb-true (c .side2) 1 (search (and-l, and-r, z) depth 12) in
-    record { first = omega arith; side1 = omega arith; second = omega arith; side2 = omega arith }
+legs-in c z = let f = complex-fits c z in record { first = f .series1; side1 = f .side1; second = f .series2; side2 = f .side2 }
 
-pub away-series : (s bid offer : ℕ) → inRange (Away s bid offer) ≡ true → s < 8
-unfolding inRange isSeries within
+pub away-series : (s bid offer : ℕ) → wellFormed (Away s bid offer) ≡ true → s < 8
+unfolding wellFormed isSeries within
 away-series s bid offer z = let a = leb-true s 7 (search (and-l, and-r, z) depth 8) in omega arith
 
-pub status-series : (s x : ℕ) → inRange (Status s x) ≡ true → s < 8
-unfolding inRange isSeries within
+pub status-series : (s x : ℕ) → wellFormed (Status s x) ≡ true → s < 8
+unfolding wellFormed isSeries within
 status-series s x z = let a = leb-true s 7 (search (and-l, and-r, z) depth 8) in omega arith
 
 -- an increment is some number of cents
-pub increment-set : (s x e : ℕ) → inRange (Increment s x e) ≡ true → (s < 8) × (0 < x)
-unfolding inRange isSeries within
+pub increment-set : (s x e : ℕ) → wellFormed (Increment s x e) ≡ true → (s < 8) × (0 < x)
+unfolding wellFormed isSeries within
 increment-set s x e z =
     let a = leb-true s 7 (search (and-l, and-r, z) depth 8) in
     (omega arith, some x (search (and-l, and-r, z) depth 8))

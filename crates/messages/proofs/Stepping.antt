@@ -24,12 +24,12 @@ use Rattle.rules.specs.Effects.{Effect, nothing}
 use Rattle.rules.specs.Trading.{freeRegular, freeComplex}
 use Rattle.rules.specs.Complex.{restsRegular, restsComplex}
 use Rattle.rules.specs.Places.{closeGaps, holdsRegular, blankRegular}
-use Rattle.rules.specs.Refusals.{regularInRange, inRange, decoded, onIncrement, noEditionLeft, idTooLow, full, unknown, refusalOf, refusal}
+use Rattle.rules.specs.Refusals.{regularInRange, decoded, onIncrement, noEditionLeft, idTooLow, full, unknown, refusalOf, refusal}
 use Rattle.rules.specs.Sound.{showsFully, regularsSound, sound}
 use Rattle.rules.specs.Step.{perform, accept, mask, StepOutcome, answered, step}
 use Rattle.rules.proofs.Tests.{and-l, and-r}
 use Rattle.rules.proofs.Arranging.{arranged-out, blank-free}
-use Rattle.rules.proofs.Refusing.{decoded-by, refusalOf-by}
+use Rattle.rules.proofs.Refusing.{wellFormed, decoded-by, refusalOf-by}
 use Rattle.rules.proofs.Showing.{message-fully}
 use Rattle.wire.specs.Seen.{Seen, seen, _writes_}
 use Rattle.wire.specs.Stage.{stage, _does_}
@@ -159,14 +159,14 @@ module _ (v : Venue) (number : ℕ) (m : Message) where
 
 -- what is so of bytes that decode so
 abbrev Told : List ℕ → Decoded → Type 0
-Told bs (Taken m) = (messageOf bs ≡ m) × (inRange m ≡ true)
+Told bs (Taken m) = (messageOf bs ≡ m) × (wellFormed m ≡ true)
 Told bs (Refused x) = x ≡ 0 → ⊥
 
 told : (bs : List ℕ) → Told bs (decoded bs)
 told bs =
-    decoded-by (Told bs) bs (λ _ h. omega arith) (λ _ _ h. omega arith) (λ _ _ h. omega arith) (λ _ _ h. omega arith) (λ _ _ r. (refl, r))
+    decoded-by (Told bs) bs (λ _ h. omega arith) (λ _ _ h. omega arith) (λ _ _ h. omega arith) (λ _ _ h. omega arith) (λ _ _ h. omega arith) (λ _ _ r. (refl, r))
 
-pub taken-out : (bs : List ℕ) (m : Message) → Taken m ≡ decoded bs → (messageOf bs ≡ m) × (inRange m ≡ true)
+pub taken-out : (bs : List ℕ) (m : Message) → Taken m ≡ decoded bs → (messageOf bs ≡ m) × (wellFormed m ≡ true)
 taken-out bs m e = let t : Told bs (Taken m) = rw (sym e) at (told bs) in t
 
 -- an order that was decoded shows what it should

@@ -20,12 +20,13 @@ ghost use Rattle.rules.specs.Settings.{freeEdition};
 ghost use Rattle.rules.specs.Effects.{nothing};
 ghost use Rattle.rules.specs.Order.{order};
 ghost use Rattle.rules.specs.Complex.{complex, restsRegular, restsComplex};
-ghost use Rattle.rules.specs.Refusals.{regularInRange, complexInRange, inRange, offIncrement, idle, refusalOf};
+ghost use Rattle.rules.specs.Refusals.{regularInRange, complexInRange, offIncrement, idle, refusalOf};
 ghost use Rattle.rules.specs.Sound.{showsFully};
 ghost use Rattle.rules.specs.Step.{setAway, setStatus, setFigure, answered};
 ghost use Rattle.rules.specs.Step as step;
 ghost use Rattle.demands.specs.Kept.{SoundVenue};
 ghost use Rattle.rules.specs.Standing.{settle};
+ghost use Rattle.rules.proofs.Refusing.{wellFormed};
 ghost use Rattle.wire.specs.Seen.{seen};
 ghost use Rattle.wire.specs.Stage.{stage, _does_};
 ghost use Rattle.wire.specs.Brought.{Shows};
@@ -219,7 +220,7 @@ fn edition_refusal(b: &[u32], edition: u32, used: bool) -> u8
 
 // The first of 11 to 13 that a new setting meets.
 fn setting_refusal(b: &[u32], m: Message) -> u8
-    requires { ⌜ (length (now b) ≡ size) × (6 < messageForm m) × (inRange m ≡ true) ⌝ }
+    requires { ⌜ (length (now b) ≡ size) × (6 < messageForm m) × (wellFormed m ≡ true) ⌝ }
     ensures { λ r. ⌜ r ≡ refusalOf (venueOf (now (b .entry))) m ⌝ }
 {
     match m {
@@ -234,7 +235,7 @@ fn setting_refusal(b: &[u32], m: Message) -> u8
 
 // The first of the refusals 4, 11 to 13 and 5 to 8 that a message meets; 0 where it is accepted. In parts as in `wire::in_range`.
 fn refusal_of(b: &[u32], m: Message) -> u8
-    requires { ⌜ (length (now b) ≡ size) × (Dense (now b)) × (inRange m ≡ true) ⌝ }
+    requires { ⌜ (length (now b) ≡ size) × (Dense (now b)) × (wellFormed m ≡ true) ⌝ }
     ensures { λ r. ⌜ r ≡ refusalOf (venueOf (now (b .entry))) m ⌝ }
 {
     let form = rules::message_form(m);
@@ -329,7 +330,7 @@ fn enter_complex(b: &mut [u32], c: Complex, out: &mut [u8], at: usize) -> usize
 
 // What a new setting that is not refused does.
 fn perform_setting(b: &mut [u32], number: u32, m: Message, out: &mut [u8], at: usize) -> usize
-    requires { ⌜ (length (now b) ≡ size) × (6 < messageForm m) × (inRange m ≡ true) × (refusalOf (venueOf (now b)) m ≡ 0) × (Right (now b)) ⌝ }
+    requires { ⌜ (length (now b) ≡ size) × (6 < messageForm m) × (wellFormed m ≡ true) × (refusalOf (venueOf (now b)) m ≡ 0) × (Right (now b)) ⌝ }
     ensures { λ r. ⌜ stage (venueOf (now (b .exit))) (now (out .exit)) r ≡ seen (now (out .entry)) at does step.perform number m (venueOf (now (b .entry))) ⌝ }
     ensures counts { λ _. ⌜ SameCounts (now (b .entry)) (now (b .exit)) ⌝ }
 {
@@ -344,7 +345,7 @@ fn perform_setting(b: &mut [u32], number: u32, m: Message, out: &mut [u8], at: u
 
 // What a message of this number that is not refused does, by its form, in parts as in `wire::in_range`.
 fn perform(b: &mut [u32], number: u32, m: Message, out: &mut [u8], at: usize) -> usize
-    requires { ⌜ (length (now b) ≡ size) × (Dense (now b)) × (inRange m ≡ true) × (refusalOf (venueOf (now b)) m ≡ 0) × (SoundVenue (venueOf (now b))) × (Shows m) ⌝ }
+    requires { ⌜ (length (now b) ≡ size) × (Dense (now b)) × (wellFormed m ≡ true) × (refusalOf (venueOf (now b)) m ≡ 0) × (SoundVenue (venueOf (now b))) × (Shows m) ⌝ }
     ensures { λ r. ⌜ stage (venueOf (now (b .exit))) (now (out .exit)) r ≡ seen (now (out .entry)) at does step.perform number m (venueOf (now (b .entry))) ⌝ }
     ensures right { λ _. ⌜ Right (now (b .exit)) ⌝ }
 {
@@ -369,7 +370,7 @@ fn perform(b: &mut [u32], number: u32, m: Message, out: &mut [u8], at: usize) ->
 
 // The same, and then the gaps that it left are closed.
 fn accept(b: &mut [u32], number: u32, m: Message, out: &mut [u8], at: usize) -> usize
-    requires { ⌜ (length (now b) ≡ size) × (Dense (now b)) × (inRange m ≡ true) × (refusalOf (venueOf (now b)) m ≡ 0) × (SoundVenue (venueOf (now b))) × (Shows m) ⌝ }
+    requires { ⌜ (length (now b) ≡ size) × (Dense (now b)) × (wellFormed m ≡ true) × (refusalOf (venueOf (now b)) m ≡ 0) × (SoundVenue (venueOf (now b))) × (Shows m) ⌝ }
     ensures { λ r. ⌜ stage (venueOf (now (b .exit))) (now (out .exit)) r ≡ seen (now (out .entry)) at does step.accept number m (venueOf (now (b .entry))) ⌝ }
     ensures dense { λ _. ⌜ Dense (now (b .exit)) ⌝ }
 {
@@ -399,7 +400,7 @@ fn refuse(b: &[u32], number: u32, refused: u8, out: &mut [u8]) -> Stepped
 
 // An accepted message: the answer's record first, then its effects; mask and count are set last.
 fn answer_accepted(b: &mut [u32], number: u32, m: Message, out: &mut [u8]) -> Stepped
-    requires { ⌜ (length (now b) ≡ size) × (Dense (now b)) × (inRange m ≡ true) × (refusalOf (venueOf (now b)) m ≡ 0) × (SoundVenue (venueOf (now b))) × (Shows m) ⌝ }
+    requires { ⌜ (length (now b) ≡ size) × (Dense (now b)) × (wellFormed m ≡ true) × (refusalOf (venueOf (now b)) m ≡ 0) × (SoundVenue (venueOf (now b))) × (Shows m) ⌝ }
     ensures { λ r. ⌜ Steps (answered number 0 (step.accept number m (venueOf (now (b .entry))))) (now (out .entry)) r (now (b .exit)) (now (out .exit)) ⌝ }
 {
     let at = wire::emit_answer(out, 0, number, 0, 0, 0);
@@ -413,9 +414,9 @@ fn answer_accepted(b: &mut [u32], number: u32, m: Message, out: &mut [u8]) -> St
     }
 }
 
-// A message whose fields are in range.
+// A message that was taken.
 fn answer(b: &mut [u32], number: u32, m: Message, out: &mut [u8]) -> Stepped
-    requires { ⌜ (length (now b) ≡ size) × (Dense (now b)) × (inRange m ≡ true) × (SoundVenue (venueOf (now b))) × (Shows m) ⌝ }
+    requires { ⌜ (length (now b) ≡ size) × (Dense (now b)) × (wellFormed m ≡ true) × (SoundVenue (venueOf (now b))) × (Shows m) ⌝ }
     ensures { λ r. ⌜ Steps (answeredBy (venueOf (now (b .entry))) number m) (now (out .entry)) r (now (b .exit)) (now (out .exit)) ⌝ }
 {
     let refused = refusal_of(b, m);
@@ -471,7 +472,7 @@ pub fn try_step(b: &mut [u32], number: u32, message: &[u8], out: &mut [u8]) -> S
     requires { ⌜ (length (now b) ≡ size) × (Dense (now b)) × (SoundVenue (venueOf (now b))) ⌝ }
     ensures { λ r. ⌜ Tries (step.step (venueOf (now (b .entry))) number (now (message .entry))) (now (b .entry)) (now (out .entry)) r (now (b .exit)) (now (out .exit)) ⌝ }
 {
-    if out.len() < 10112 {
+    if out.len() < 10428 {
         return step_or_leave(b, number, message, out);
     }
     step(b, number, message, out)

@@ -2,9 +2,10 @@
 use mathlib.Core.Path.{_≡_, refl, sym, ap, _∙_}
 use native.Mathlib.Omega.{arith}
 use Rattle.rules.specs.declared.Message.{Message}
-use Rattle.rules.specs.Refusals.{inRange, refusalOf}
+use Rattle.rules.specs.Refusals.{refusalOf}
 use Rattle.rules.specs.Step.{perform}
 use Rattle.rules.proofs.ByKind.{kinds-left, sweep-left}
+use Rattle.rules.proofs.Refusing.{wellFormed}
 use Rattle.wire.specs.Seen.{seen}
 use Rattle.wire.specs.Stage.{_does_}
 use Rattle.wire.specs.Brought.{Shows}
@@ -35,19 +36,19 @@ enum-known-m : tie.Need-enum-known-m
 enum-known-m c = search needs
 
 enter-order-requires : tie.Need-enter-order-requires
-unfolding inRange Shows
+unfolding wellFormed Shows
 enter-order-requires c κs =
     let s = c .before .before .before .before .before .before .before .before .before .before in
     let e = c .before .before .before .m .given .1 in
     let r = sym (ap (refusalOf (venueOf (s .args .b .now))) e) ∙ s .pre .3 in
-    (s .pre .0, s .pre .1, order-room _ (s .pre .1) _ r, sym (ap inRange e) ∙ s .pre .2, s .pre .5 _ e, order-below (venueOf (s .args .b .now)) _ r (s .pre .4 .is))
+    (s .pre .0, s .pre .1, order-room _ (s .pre .1) _ r, sym (ap wellFormed e) ∙ s .pre .2, s .pre .5 _ e, order-below (venueOf (s .args .b .now)) _ r (s .pre .4 .is))
 
 enum-known-m-2 : tie.Need-enum-known-m-2
 enum-known-m-2 c = search needs
 
 enter-complex-requires : tie.Need-enter-complex-requires
-unfolding inRange
-enter-complex-requires c κs = let s = c .before .before .before .before .before .before .before .before .before .before in let e = c .before .before .before .m2 .given .1 in (s .pre .0, s .pre .1, complex-room _ (s .pre .1) _ (sym (ap (refusalOf (venueOf (s .args .b .now))) e) ∙ s .pre .3), legs-in _ (sym (ap inRange e) ∙ s .pre .2))
+unfolding wellFormed
+enter-complex-requires c κs = let s = c .before .before .before .before .before .before .before .before .before .before in let e = c .before .before .before .m2 .given .1 in (s .pre .0, s .pre .1, complex-room _ (s .pre .1) _ (sym (ap (refusalOf (venueOf (s .args .b .now))) e) ∙ s .pre .3), legs-in _ (sym (ap wellFormed e) ∙ s .pre .2))
 
 enum-known-m-3 : tie.Need-enum-known-m-3
 enum-known-m-3 c = search needs
@@ -92,13 +93,13 @@ enum-known-m-4 : tie.Need-enum-known-m-4
 enum-known-m-4 c = search needs
 
 set-away-requires : tie.Need-set-away-requires
-set-away-requires c κs = let s = c .before .before .before .before .before .before .before .before .before .before in let e = c .before .before .before .m4 .given .1 in (s .pre .0, away-series _ _ _ (sym (ap inRange e) ∙ s .pre .2), s .pre .1 .right)
+set-away-requires c κs = let s = c .before .before .before .before .before .before .before .before .before .before in let e = c .before .before .before .m4 .given .1 in (s .pre .0, away-series _ _ _ (sym (ap wellFormed e) ∙ s .pre .2), s .pre .1 .right)
 
 enum-known-m-5 : tie.Need-enum-known-m-5
 enum-known-m-5 c = search needs
 
 set-status-requires : tie.Need-set-status-requires
-set-status-requires c κs = let s = c .before .before .before .before .before .before .before .before .before .before in let e = c .before .before .before .m5 .given .1 in (s .pre .0, status-series _ _ (sym (ap inRange e) ∙ s .pre .2), s .pre .1 .right)
+set-status-requires c κs = let s = c .before .before .before .before .before .before .before .before .before .before in let e = c .before .before .before .m5 .given .1 in (s .pre .0, status-series _ _ (sym (ap wellFormed e) ∙ s .pre .2), s .pre .1 .right)
 
 sweep-requires : tie.Need-sweep-requires
 sweep-requires c κs = let s = c .before .before .before .before .before .before .before .before in (s .pre .0, s .pre .1 .right, sound-rising _ (s .pre .4 .is))

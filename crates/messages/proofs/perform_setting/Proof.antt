@@ -3,9 +3,10 @@ use mathlib.Core.Path.{_≡_, sym, ap, _∙_}
 use mathlib.Core.Logic.{inl, inr}
 use native.Mathlib.Omega.{arith}
 use Rattle.rules.specs.declared.Message.{Message}
-use Rattle.rules.specs.Refusals.{inRange, refusalOf}
+use Rattle.rules.specs.Refusals.{refusalOf}
 use Rattle.rules.specs.Step.{perform}
 use Rattle.rules.proofs.ByKind.{lower-left}
+use Rattle.rules.proofs.Refusing.{wellFormed}
 use Rattle.wire.specs.Seen.{seen}
 use Rattle.wire.specs.Stage.{_does_}
 use Rattle.places.specs.Layout.{venueOf}
@@ -19,7 +20,7 @@ enum-known-m : tie.Need-enum-known-m
 enum-known-m c = search needs
 
 set-figure-requires : tie.Need-set-figure-requires
-set-figure-requires c κs = let s = c .before .before .before .before .before .before .before in let e = c .before .before .before .m .given .1 in (s .pre .0, increment-place _ _ _ _ (sym (ap (refusalOf (venueOf (s .args .b .now))) e) ∙ s .pre .3), inl (increment-set _ _ _ (sym (ap inRange e) ∙ s .pre .2) .1), s .pre .4)
+set-figure-requires c κs = let s = c .before .before .before .before .before .before .before in let e = c .before .before .before .m .given .1 in (s .pre .0, increment-place _ _ _ _ (sym (ap (refusalOf (venueOf (s .args .b .now))) e) ∙ s .pre .3), inl (increment-set _ _ _ (sym (ap wellFormed e) ∙ s .pre .2) .1), s .pre .4)
 
 enum-known-m-2 : tie.Need-enum-known-m-2
 enum-known-m-2 c = search needs

@@ -1,8 +1,9 @@
 -- `messages::refusal_of` meets its contract.
 use mathlib.Core.Path.{_≡_, sym, ap, _∙_}
 use native.Mathlib.Omega.{arith}
-use Rattle.rules.specs.Refusals.{inRange, refusalOf}
+use Rattle.rules.specs.Refusals.{refusalOf}
 use Rattle.rules.proofs.ByKind.{kinds-left}
+use Rattle.rules.proofs.Refusing.{wellFormed}
 use Rattle.places.specs.Layout.{venueOf}
 use Rattle.messages.proofs.Refusing.{never-refused}
 use borrow.Author.Needs.{needs}
@@ -25,15 +26,15 @@ enum-known-m : tie.Need-enum-known-m
 enum-known-m c = search needs
 
 order-refusal-requires : tie.Need-order-refusal-requires
-unfolding inRange
-order-refusal-requires c κs = let s = c .before .before .before .before .before .before .before in (s .pre .0, s .pre .1, sym (ap inRange (c .before .m .given .1)) ∙ s .pre .2)
+unfolding wellFormed
+order-refusal-requires c κs = let s = c .before .before .before .before .before .before .before in (s .pre .0, s .pre .1, sym (ap wellFormed (c .before .m .given .1)) ∙ s .pre .2)
 
 enum-known-m-2 : tie.Need-enum-known-m-2
 enum-known-m-2 c = search needs
 
 complex-refusal-requires : tie.Need-complex-refusal-requires
-unfolding inRange
-complex-refusal-requires c κs = let s = c .before .before .before .before .before .before .before in (s .pre .0, s .pre .1, sym (ap inRange (c .before .m2 .given .1)) ∙ s .pre .2)
+unfolding wellFormed
+complex-refusal-requires c κs = let s = c .before .before .before .before .before .before .before in (s .pre .0, s .pre .1, sym (ap wellFormed (c .before .m2 .given .1)) ∙ s .pre .2)
 
 enum-known-m-3 : tie.Need-enum-known-m-3
 enum-known-m-3 c = search needs

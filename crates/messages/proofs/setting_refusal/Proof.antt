@@ -1,8 +1,9 @@
 -- `messages::setting_refusal` meets its contract.
 use mathlib.Core.Path.{_≡_, sym, ap, _∙_}
 use native.Mathlib.Omega.{arith}
-use Rattle.rules.specs.Refusals.{inRange, refusalOf}
+use Rattle.rules.specs.Refusals.{refusalOf}
 use Rattle.rules.proofs.ByKind.{lower-left}
+use Rattle.rules.proofs.Refusing.{wellFormed}
 use Rattle.places.specs.Layout.{venueOf}
 use Rattle.messages.proofs.Refusing.{increment-set, increment-refusal, percent-refusal}
 use borrow.Author.Needs.{needs}
@@ -13,7 +14,7 @@ enum-known-m : tie.Need-enum-known-m
 enum-known-m c = search needs
 
 is-idle-requires : tie.Need-is-idle-requires
-is-idle-requires c κs = let s = c .before .before .before .before in (s .pre .0, increment-set _ _ _ (sym (ap inRange (c .before .m .given .1)) ∙ s .pre .2) .0)
+is-idle-requires c κs = let s = c .before .before .before .before in (s .pre .0, increment-set _ _ _ (sym (ap wellFormed (c .before .m .given .1)) ∙ s .pre .2) .0)
 
 edition-refusal-requires : tie.Need-edition-refusal-requires
 edition-refusal-requires c κs = search needs
