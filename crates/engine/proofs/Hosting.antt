@@ -18,7 +18,7 @@ use Rattle.rules.specs.Words.{within, isClass, isStatus, isAway, notListed, fre
 use Rattle.rules.specs.Records.{OneByte, FourBytes, FourSigned, encodeAll, sheet}
 use Rattle.rules.specs.Effects.{Effect}
 use Rattle.rules.specs.Places.{blankRegular, blankComplex}
-use Rattle.rules.specs.Refusals.{regularInRange, complexInRange, refusal}
+use Rattle.rules.specs.Refusals.{regularInRange, twoLegInRange, complexInRange, refusal}
 use Rattle.rules.specs.Step.{StepOutcome, answered, step}
 use Rattle.rules.specs.Sound.{showsFully, listedInRange, sound, follows}
 use Rattle.rules.specs.Calls.{Call, called, exceeds, ends, after, one}
@@ -74,15 +74,15 @@ module _ (memory : List ℕ) (n : ℕ) (l bs : List ℕ) where
 
 -- The next call -------------------------------------------------------------------------------
 
-limit-fits : (z : ℤ) → plus z ≤ 200000 → minus z ≤ 200000 → FourSigned z
+limit-fits : (z : ℤ) → plus z ≤ 600000 → minus z ≤ 600000 → FourSigned z
 unfolding plus minus
 limit-fits (pos n) a b = omega arith
 limit-fits (negsuc n) a b = omega arith
 
 class-fits : (c : Complex) (t : Bool) → held (c .quantity) ≡ t → (held (c .quantity) ≡ true → complexInRange c ≡ true) →
     (held (c .quantity) ≡ false → blankComplex c ≡ true) → OneByte (c .class)
-unfolding complexInRange isClass within blankComplex
-class-fits c true h asked blank = let z = asked h in let k = leb-true (c .class) 1 (search (and-l, and-r, z) depth 12) in omega arith
+unfolding complexInRange twoLegInRange isClass within blankComplex
+class-fits c true h asked blank = let z = asked h in let k = leb-true (c .class) 1 (search (and-l, and-r, z) depth 14) in omega arith
 class-fits c false h asked blank = let z = blank h in let k = eqb-true (c .class) 0 (search (and-l, and-r, z) depth 12) in omega arith
 
 -- a regular order's shown quantity is no more than what is left, nor is its reserve
@@ -121,6 +121,8 @@ declared v s =
         class = class-fits (cx v i) (held (cx v i .quantity)) refl (f .ok) (k .tidy .blank2 i);
         limit = limit-fits (cx v i .limit) (f .high) (f .low);
         quantity = omega arith;
+        ratio1 = omega arith;
+        ratio2 = omega arith;
       };
       legging = λ i. let f = g .legging i in record { parent = f .parent; price = omega arith; quantity = omega arith };
       series = λ i. listed-fits (getD (v .series) i notListed) (g .listed i);
