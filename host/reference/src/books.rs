@@ -2,7 +2,7 @@
 
 use crate::book::{Level, RegularBook, Resting};
 use crate::price::{
-    better, bit, displayed, facing, in_band, is_open, place, series_of, side_of, signed, Place,
+    better, bit, by_place, displayed, in_band, is_open, place, series_of, side_of, Legs, Place,
 };
 use crate::types::{Complex, Edition, Legging, Listed, Regular, Settings, Venue};
 use crate::types::{BUY, COMPLEX_PLACES, LEGGING_PLACES, SERIES};
@@ -10,39 +10,36 @@ use crate::types::{BUY, COMPLEX_PLACES, LEGGING_PLACES, SERIES};
 #[derive(Clone, Copy, Debug)]
 pub struct ComplexOrder {
     pub id: u32,
-    pub legs: [Place; 2],
+    pub legs: Legs,
     pub class: u8,
     pub limit: i32,
+    /// In units.
     pub quantity: u32,
-    /// The legs as a mask of places.
-    pub mask: u16,
+    /// The ratio of each of its legs, by place.
+    pub by_place: u32,
 }
 
 impl ComplexOrder {
-    pub fn new(id: u32, legs: [Place; 2], class: u8, limit: i32, quantity: u32) -> Self {
+    pub fn new(id: u32, legs: Legs, class: u8, limit: i32, quantity: u32) -> Self {
         ComplexOrder {
             id,
             legs,
             class,
             limit,
             quantity,
-            mask: bit(legs[0]) | bit(legs[1]),
+            by_place: by_place(legs.places, legs.ratios),
         }
     }
 
-    /// The mask of an order with the same series and each side reversed.
-    pub fn reversed_mask(&self) -> u16 {
-        bit(facing(self.legs[0])) | bit(facing(self.legs[1]))
+    /// What an order has by place that has the same series and ratios and each side
+    /// reversed, whichever leg is named first.
+    pub fn reversed(&self) -> u32 {
+        by_place(self.legs.taken(), self.legs.ratios)
     }
 
     /// The two places of its legging orders, rising.
     pub fn places(&self) -> [Place; 2] {
-        rising(self.legs)
-    }
-
-    /// The two sides it would take, rising.
-    pub fn taken(&self) -> [Place; 2] {
-        rising(self.legs.map(facing))
+        rising(self.legs.places)
     }
 }
 
@@ -110,6 +107,20 @@ impl Books {
         best_of(place, self.regular.best(place), self.legging_price(place))
     }
 
+    /// What is shown at the best own price of a side, the legging order's quantity
+    /// included where that is its price.
+    pub fn own_level(&self, place: Place) -> Option<Level> {
+        let price = self.best_own(place)?;
+        let shown = self
+            .regular
+            .level(place)
+            .filter(|level| level.price == price);
+        let legging = self.legging_price(place).filter(|own| *own == price);
+        let size = shown.map_or(0, |level| level.size)
+            + legging.map_or(0, |_| self.standing[place].quantity);
+        Some(Level { price, size })
+    }
+
     /// The best regular price and its size, unless a legging order on that
     /// side has a strictly better own price.
     pub fn clear(&self, place: Place) -> Option<Level> {
@@ -135,20 +146,20 @@ impl Books {
     }
 
     /// Net of the market bests that the legs would take.
-    pub fn market_net(&self, legs: [Place; 2]) -> Option<i32> {
-        let first = self.market_best(facing(legs[0]))?;
-        let second = self.market_best(facing(legs[1]))?;
-        Some(signed(legs[0], first) + signed(legs[1], second))
+    pub fn market_net(&self, legs: &Legs) -> Option<i32> {
+        let [first, second] = legs.taken();
+        let prices = [self.market_best(first)?, self.market_best(second)?];
+        Some(legs.net(prices))
     }
 
     /// Net of the best regular prices that the legs would take, where both have one.
-    pub fn regular_net(&self, legs: [Place; 2]) -> Option<i32> {
-        let first = self.regular.best(facing(legs[0]))?;
-        let second = self.regular.best(facing(legs[1]))?;
-        Some(signed(legs[0], first) + signed(legs[1], second))
+    pub fn regular_net(&self, legs: &Legs) -> Option<i32> {
+        let [first, second] = legs.taken();
+        let prices = [self.regular.best(first)?, self.regular.best(second)?];
+        Some(legs.net(prices))
     }
 
-    pub fn is_in_band(&self, net: i32, legs: [Place; 2]) -> bool {
+    pub fn is_in_band(&self, net: i32, legs: &Legs) -> bool {
         match self.market_net(legs) {
             Some(market) => in_band(net, market, self.settings.percent),
             None => false,
@@ -190,10 +201,13 @@ impl Books {
     }
 
     pub fn add_complex(&mut self, order: &Complex) {
-        let legs = [
-            place(order.series1, order.side1),
-            place(order.series2, order.side2),
-        ];
+        let legs = Legs {
+            places: [
+                place(order.series1, order.side1),
+                place(order.series2, order.side2),
+            ],
+            ratios: [order.ratio1, order.ratio2],
+        };
         let added = ComplexOrder::new(order.id, legs, order.class, order.limit, order.quantity);
         self.complex.push(added);
     }
@@ -238,14 +252,20 @@ fn regular_at(place: Place, order: &Resting) -> Regular {
 }
 
 fn complex_of(order: &ComplexOrder) -> Complex {
+    let Legs {
+        places: [first, second],
+        ratios: [ratio1, ratio2],
+    } = order.legs;
     Complex {
         id: order.id,
-        series1: series_of(order.legs[0]) as u8,
-        side1: side_of(order.legs[0]),
-        series2: series_of(order.legs[1]) as u8,
-        side2: side_of(order.legs[1]),
+        series1: series_of(first) as u8,
+        side1: side_of(first),
+        series2: series_of(second) as u8,
+        side2: side_of(second),
         class: order.class,
         limit: order.limit,
         quantity: order.quantity,
+        ratio1,
+        ratio2,
     }
 }

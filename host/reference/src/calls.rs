@@ -142,8 +142,8 @@ fn accept(books: &mut Books, number: u32, message: Message, report: &mut Report)
 /// order that stands. A trade uses up what one of the regular orders shows, or its
 /// reserve, which arriving orders alone take, or is the last of an order, a hit or a
 /// leg of a round. A cross fills one of the complex orders. A round of legging in
-/// fills an order worked or uses up the size shown at a price, of which there are no
-/// more than regular orders. Each leg of an order worked makes one legging order and
+/// is the last of an order worked, filled or with less than a unit left at a price, or
+/// uses up the size shown at a price, of which there are no more than regular orders. Each leg of an order worked makes one legging order and
 /// removes one.
 fn most_bytes(books: &Books, message: &Message) -> usize {
     const TRADE: usize = 22;

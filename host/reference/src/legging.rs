@@ -1,7 +1,9 @@
 //! Legging orders: the standing test, settling, removal and generation.
 
 use crate::books::{Books, ComplexOrder, Standing};
-use crate::price::{better, bit, facing, places, reaches, sign, signed, Place, HIGHEST_PRICE};
+use crate::price::{
+    better, bit, facing, places, reaches, sign, signed, Legs, Place, HIGHEST_PRICE,
+};
 use crate::types::{CUSTOMER, LEGGING_PLACES, OTHER};
 use crate::wire::Report;
 
@@ -16,6 +18,8 @@ pub enum Cause {
     NotOpen,
     Replaced,
     Touched,
+    /// Touched by an order of which the sizes there cannot fill a unit.
+    TouchedShort,
 }
 
 impl Cause {
@@ -29,6 +33,7 @@ impl Cause {
             Cause::NotOpen => 6,
             Cause::Replaced => 7,
             Cause::Touched => 8,
+            Cause::TouchedShort => 10,
         }
     }
 }
@@ -47,7 +52,8 @@ impl Books {
         if self.is_worse_than_book(place, self.displayed(place, order.price as i32) as u32) {
             return Verdict::Fails(Cause::WorseThanBook);
         }
-        if !self.is_in_band(order.limit, [place, order.other]) {
+        // An order of unequal ratios has no legging order.
+        if !self.is_in_band(order.limit, &Legs::even([place, order.other])) {
             return Verdict::Fails(Cause::OutOfBand);
         }
         if !self.other_leg_holds(place, order) {
@@ -106,12 +112,16 @@ impl Books {
         }
     }
 
-    /// Makes legging orders for the first leg, then the second. Neither leg
-    /// changes what both need: open series and a limit in band.
+    /// Makes legging orders for the first leg, then the second; none of an order of
+    /// unequal ratios. Neither leg changes what both need: open series and a limit
+    /// in band.
     pub fn generate(&mut self, order: ComplexOrder, report: &mut Report) {
-        let [first, second] = order.legs;
+        if !order.legs.is_even() {
+            return;
+        }
+        let [first, second] = order.legs.places;
         let both_open = self.is_series_open(first) && self.is_series_open(second);
-        if both_open && self.is_in_band(order.limit, order.legs) {
+        if both_open && self.is_in_band(order.limit, &order.legs) {
             self.generate_leg(&order, first, second, report);
             self.generate_leg(&order, second, first, report);
         }

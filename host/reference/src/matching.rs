@@ -4,7 +4,8 @@ use crate::book::Resting;
 use crate::books::{Books, ComplexOrder};
 use crate::legging::Cause;
 use crate::price::{
-    better, bit, facing, in_band, place, places, reaches, series_of, signed, Place,
+    better, bit, by_place, facing, in_band, place, places, reaches, series_of, signed, Legs, Place,
+    HIGHEST_RATIO,
 };
 use crate::types::{Edition, BUY, CLOSED, COMPLEX_PLACES, EDITION_PLACES, PERCENT};
 use crate::wire::{Message, NewComplex, NewOrder, NewSetting, Refusal, Report};
@@ -15,10 +16,10 @@ enum Met {
     Legging,
 }
 
-/// One round of legging in: the net of both best prices and the quantity.
+/// One round of legging in: the net of a unit at both best prices, and the units.
 struct Round {
     net: i32,
-    quantity: u32,
+    units: u32,
 }
 
 impl Books {
@@ -30,7 +31,7 @@ impl Books {
             }
             Message::Complex(order) => {
                 let full = self.complex.len() >= COMPLEX_PLACES;
-                self.admit_new(order.id, &order.legs, full)
+                self.admit_new(order.id, &order.legs.places, full)
             }
             Message::Cancel { id } if !self.rests(*id) => Err(Refusal::NoSuchOrder),
             Message::Setting(setting) => self.admit_setting(setting),
@@ -68,10 +69,10 @@ impl Books {
     /// Whether the series of a side is not closed, or has a resting order or leg.
     fn is_in_use(&self, bids: Place) -> bool {
         let sides = [bids, facing(bids)];
-        let both = bit(sides[0]) | bit(sides[1]);
+        let both = by_place(sides, [HIGHEST_RATIO; 2]);
         !self.is_closed(bids)
             || sides.iter().any(|side| !self.regular.is_empty(*side))
-            || self.complex.iter().any(|order| order.mask & both != 0)
+            || self.complex.iter().any(|order| order.by_place & both != 0)
     }
 
     fn is_closed(&self, place: Place) -> bool {
@@ -222,7 +223,7 @@ impl Books {
     fn sweep(&mut self, report: &mut Report) {
         for index in 0..self.complex.len() {
             let order = &self.complex[index];
-            let closed = order.legs.iter().any(|leg| self.is_closed(*leg));
+            let closed = order.legs.places.iter().any(|leg| self.is_closed(*leg));
             if order.quantity > 0 && !closed {
                 self.work(index, report);
             }
@@ -262,9 +263,9 @@ impl Books {
     /// the earliest.
     fn best_maker(&self, index: usize) -> Option<usize> {
         let taker = &self.complex[index];
-        let reversed = taker.reversed_mask();
+        let reversed = taker.reversed();
         let candidates = self.complex.iter().enumerate().filter(|(_, maker)| {
-            maker.mask == reversed && maker.quantity > 0 && taker.limit + maker.limit >= 0
+            maker.by_place == reversed && maker.quantity > 0 && taker.limit + maker.limit >= 0
         });
         let mut best: Option<(usize, i32)> = None;
         for (at, maker) in candidates {
@@ -280,8 +281,8 @@ impl Books {
 
     /// Both nets dealt at, each against the market net of its own order.
     fn cross_in_band(&self, taker: &ComplexOrder, maker: &ComplexOrder) -> bool {
-        let (Some(taken), Some(made)) = (self.market_net(taker.legs), self.market_net(maker.legs))
-        else {
+        let nets = (self.market_net(&taker.legs), self.market_net(&maker.legs));
+        let (Some(taken), Some(made)) = nets else {
             return false;
         };
         let percent = self.settings.percent;
@@ -292,7 +293,7 @@ impl Books {
     /// would give that order, where both legs have one.
     fn cross_respects_legs(&self, taker: &ComplexOrder, maker: &ComplexOrder) -> bool {
         let not_above = |net: i32, order: &ComplexOrder| {
-            self.regular_net(order.legs).is_none_or(|best| net <= best)
+            self.regular_net(&order.legs).is_none_or(|best| net <= best)
         };
         not_above(-maker.limit, taker) && not_above(maker.limit, maker)
     }
@@ -307,48 +308,53 @@ impl Books {
         self.remove_all_of(&maker, Cause::Executed, report);
     }
 
-    /// Where the best own prices would fill an order, the legging orders on
+    /// Where the best own prices net within an order's limit, the legging orders on
     /// the sides it would take give way.
     fn touch(&mut self, index: usize, report: &mut Report) {
-        let order = &self.complex[index];
-        let [first, second] = order.legs;
-        let taken = order.taken();
-        if self.filled & (bit(taken[0]) | bit(taken[1])) == 0 {
+        let order = self.complex[index];
+        let [first, second] = order.legs.taken();
+        let touched = self.filled & (bit(first) | bit(second));
+        if touched == 0 {
             return;
         }
-        let (Some(a), Some(b)) = (self.best_own(facing(first)), self.best_own(facing(second)))
-        else {
+        let (Some(a), Some(b)) = (self.own_level(first), self.own_level(second)) else {
             return;
         };
-        if signed(first, a) + signed(second, b) > order.limit {
+        if order.legs.net([a.price, b.price]) > order.limit {
             return;
         }
-        for place in places(self.filled & (bit(taken[0]) | bit(taken[1]))) {
-            self.remove(place, Cause::Touched, report);
+        let cause = match order.legs.units([a.size, b.size]) {
+            0 => Cause::TouchedShort,
+            _ => Cause::Touched,
+        };
+        for place in places(touched) {
+            self.remove(place, cause, report);
         }
     }
 
     fn leg_in(&mut self, index: usize, report: &mut Report) {
         while let Some(round) = self.next_round(&self.complex[index]) {
             let order = self.complex[index];
-            self.trade_leg(order.legs[0], round.quantity, order.id, report);
-            self.trade_leg(order.legs[1], round.quantity, order.id, report);
-            report.pair(order.id, round.net, round.quantity);
-            self.complex[index].quantity -= round.quantity;
+            let Legs { places, ratios } = order.legs;
+            for (leg, ratio) in places.into_iter().zip(ratios) {
+                self.trade_leg(leg, u32::from(ratio) * round.units, order.id, report);
+            }
+            report.pair(order.id, round.net, round.units);
+            self.complex[index].quantity -= round.units;
             self.remove_all_of(&order, Cause::Executed, report);
         }
     }
 
-    /// The next round, if something is open and the best regular prices net
-    /// within the limit and the band.
+    /// The next round, if something is open, the best regular prices net within the
+    /// limit and the band, and the sizes at them fill a unit.
     fn next_round(&self, order: &ComplexOrder) -> Option<Round> {
-        let [first, second] = order.legs;
-        let a = self.regular.level(facing(first))?;
-        let b = self.regular.level(facing(second))?;
-        let net = signed(first, a.price) + signed(second, b.price);
-        let quantity = order.quantity.min(a.size).min(b.size);
-        let goes = quantity > 0 && net <= order.limit && self.is_in_band(net, order.legs);
-        goes.then_some(Round { net, quantity })
+        let [first, second] = order.legs.taken();
+        let a = self.regular.level(first)?;
+        let b = self.regular.level(second)?;
+        let net = order.legs.net([a.price, b.price]);
+        let units = order.quantity.min(order.legs.units([a.size, b.size]));
+        let goes = units > 0 && net <= order.limit && self.is_in_band(net, &order.legs);
+        goes.then_some(Round { net, units })
     }
 
     fn cancel(&mut self, id: u32, report: &mut Report) {

@@ -3,7 +3,11 @@
 use crate::types::{BUY, OPEN};
 
 pub const HIGHEST_PRICE: u32 = 100_000;
+/// Of an order of one contract against one.
 pub const HIGHEST_NET: i32 = 200_000;
+/// Of an order of unequal ratios.
+pub const HIGHEST_UNEQUAL_NET: i32 = 600_000;
+pub const HIGHEST_RATIO: u8 = 3;
 pub const HIGHEST_QUANTITY: u32 = 10_000;
 
 pub const HIGHEST_PERCENT: u8 = 50;
@@ -115,8 +119,69 @@ pub fn valid_percent(percent: u8) -> bool {
     percent <= HIGHEST_PERCENT
 }
 
+pub fn valid_ratio(ratio: u8) -> bool {
+    (1..=HIGHEST_RATIO).contains(&ratio)
+}
+
 pub fn valid_limit(limit: i32) -> bool {
     (-HIGHEST_NET..=HIGHEST_NET).contains(&limit)
+}
+
+pub fn valid_unequal_limit(limit: i32) -> bool {
+    (-HIGHEST_UNEQUAL_NET..=HIGHEST_UNEQUAL_NET).contains(&limit)
+}
+
+/// The legs of a complex order, each with its ratio: what one unit of it is.
+#[derive(Clone, Copy, Debug)]
+pub struct Legs {
+    pub places: [Place; 2],
+    pub ratios: [u8; 2],
+}
+
+impl Legs {
+    /// One contract of each.
+    pub fn even(places: [Place; 2]) -> Self {
+        Legs {
+            places,
+            ratios: [1, 1],
+        }
+    }
+
+    pub fn is_even(&self) -> bool {
+        self.ratios == [1, 1]
+    }
+
+    /// The net of a unit at these prices of the first leg and the second.
+    pub fn net(&self, prices: [u32; 2]) -> i32 {
+        let part = |at: usize| i32::from(self.ratios[at]) * signed(self.places[at], prices[at]);
+        part(0) + part(1)
+    }
+
+    /// How many whole units these sizes of the sides taken fill.
+    pub fn units(&self, sizes: [u32; 2]) -> u32 {
+        let fills = |at: usize| whole_units(sizes[at], self.ratios[at]);
+        fills(0).min(fills(1))
+    }
+
+    /// The two sides that the legs would take.
+    pub fn taken(&self) -> [Place; 2] {
+        self.places.map(facing)
+    }
+}
+
+/// How many times a size holds a ratio, by divisors that are known.
+fn whole_units(size: u32, ratio: u8) -> u32 {
+    match ratio {
+        1 => size,
+        2 => size / 2,
+        _ => size / 3,
+    }
+}
+
+/// Two bits for each place: the ratio of the leg there, 0 where there is none.
+pub fn by_place(places: [Place; 2], ratios: [u8; 2]) -> u32 {
+    let at = |which: usize| u32::from(ratios[which]) << (2 * places[which]);
+    at(0) | at(1)
 }
 
 /// The places set in a mask, rising.
@@ -180,6 +245,43 @@ mod tests {
         assert!(in_band(150, 100, 50) && !in_band(151, 100, 50));
         assert!(in_band(-100, -200, 50) && !in_band(-99, -200, 50));
         assert!(in_band(200_000, 200_000, 50));
+    }
+
+    #[test]
+    fn net_weighs_each_leg_by_its_ratio() {
+        let legs = Legs {
+            places: [place(0, 0), place(1, 1)],
+            ratios: [3, 2],
+        };
+        assert_eq!(legs.net([130, 90]), 210);
+        assert_eq!(legs.net([1, 100_000]), -199_997);
+        assert_eq!(Legs::even(legs.places).net([130, 90]), 40);
+        let bought = Legs {
+            places: [place(0, 0), place(1, 0)],
+            ratios: [3, 2],
+        };
+        assert_eq!(bought.net([100_000, 100_000]), 500_000);
+        assert!(in_band(500_000, 500_000, 50) && !in_band(600_000, 399_999, 50));
+    }
+
+    #[test]
+    fn units_are_whole() {
+        let legs = Legs {
+            places: [0, 2],
+            ratios: [3, 2],
+        };
+        assert_eq!(legs.units([9, 5]), 2);
+        assert_eq!(legs.units([2, 100]), 0);
+        assert_eq!(legs.units([100, 1]), 0);
+        assert_eq!(legs.units([3, 2]), 1);
+    }
+
+    #[test]
+    fn by_place_tells_ratios_and_sides_whichever_leg_is_first() {
+        let told = by_place([0, 3], [2, 1]);
+        assert_eq!(told, by_place([3, 0], [1, 2]));
+        assert_ne!(told, by_place([0, 3], [1, 2]));
+        assert_ne!(told, by_place([1, 3], [2, 1]));
     }
 
     #[test]

@@ -3,8 +3,8 @@
 use crate::books::{Books, Standing};
 use crate::legging::Verdict;
 use crate::price::{
-    better, facing, place, places, valid_limit, valid_price, valid_quantity, valid_regular_price,
-    valid_shown, Place,
+    better, facing, place, places, valid_limit, valid_price, valid_quantity, valid_ratio,
+    valid_regular_price, valid_shown, valid_unequal_limit, Place,
 };
 use crate::settings::held_editions;
 use crate::types::{Complex, Legging, Listed, Regular, Settings, Venue};
@@ -75,8 +75,21 @@ impl Rests for Complex {
             && valid_leg(self.series2, self.side2)
             && self.series1 != self.series2
             && self.class <= OTHER
-            && valid_limit(self.limit)
+            && valid_ratios_at_rest(self)
             && valid_quantity(self.quantity)
+    }
+}
+
+/// 1 and 1 with the limit of kind 2, or unequal ratios with that of kind 10.
+fn valid_ratios_at_rest(order: &Complex) -> bool {
+    match (order.ratio1, order.ratio2) {
+        (1, 1) => valid_limit(order.limit),
+        (first, second) => {
+            first != second
+                && valid_ratio(first)
+                && valid_ratio(second)
+                && valid_unequal_limit(order.limit)
+        }
     }
 }
 
@@ -120,10 +133,14 @@ fn lay_out_legging(books: &mut Books, orders: &[Legging; LEGGING_PLACES]) -> Opt
     Some(())
 }
 
-/// The legging order with its parent's leg, if it matches one.
+/// The legging order with its parent's leg, if it matches one; an order of unequal
+/// ratios has no legging order.
 fn standing_of(books: &Books, place: Place, order: &Legging) -> Option<Standing> {
     let parent = &books.complex[books.complex_index(order.parent)?];
-    let other = match parent.legs {
+    if !parent.legs.is_even() {
+        return None;
+    }
+    let other = match parent.legs.places {
         [leg, other] if leg == place => other,
         [other, leg] if leg == place => other,
         _ => return None,

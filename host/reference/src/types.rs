@@ -47,7 +47,11 @@ pub struct Complex {
     pub side2: u8,
     pub class: u8,
     pub limit: i32,
+    /// In units: so many contracts of each leg as its ratio.
     pub quantity: u32,
+    /// 1 and 1 for an order of kind 2.
+    pub ratio1: u8,
+    pub ratio2: u8,
 }
 
 /// A legging order; its series and side are those of its place.

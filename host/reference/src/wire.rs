@@ -2,7 +2,8 @@
 
 use crate::price::{
     place, series_of, side_of, valid_increment, valid_limit, valid_percent, valid_price,
-    valid_quantity, valid_regular_price, valid_shown, Place,
+    valid_quantity, valid_ratio, valid_regular_price, valid_shown, valid_unequal_limit, Legs,
+    Place,
 };
 use crate::types::{AUCTION, OTHER, PERCENT, SELL, SERIES};
 
@@ -20,6 +21,7 @@ pub enum Refusal {
     EditionNotAbove,
     SeriesInUse,
     EditionsFull,
+    EqualRatios,
 }
 
 impl Refusal {
@@ -36,6 +38,7 @@ impl Refusal {
             Refusal::EditionNotAbove => 11,
             Refusal::SeriesInUse => 12,
             Refusal::EditionsFull => 13,
+            Refusal::EqualRatios => 14,
         }
     }
 }
@@ -53,7 +56,7 @@ pub struct NewOrder {
 #[derive(Clone, Copy, Debug)]
 pub struct NewComplex {
     pub id: u32,
-    pub legs: [Place; 2],
+    pub legs: Legs,
     pub class: u8,
     pub limit: i32,
     pub quantity: u32,
@@ -101,16 +104,29 @@ pub fn decode(bytes: &[u8], increments: &[u8; SERIES]) -> Result<Message, Refusa
     }
     let message = match kind {
         1 => decode_order(bytes, u32_at(bytes, QUANTITY_AT), increments),
-        2 => decode_complex(bytes),
+        2 => decode_complex(bytes, None),
         3 => decode_cancel(bytes),
         4 => decode_away(bytes),
         5 => decode_status(bytes),
         6 => Some(Message::Sweep),
         7 => decode_increment(bytes),
         8 => decode_percent(bytes),
-        _ => decode_order(bytes, u32_at(bytes, SHOWN_AT), increments),
+        9 => decode_order(bytes, u32_at(bytes, SHOWN_AT), increments),
+        _ => decode_complex(bytes, Some(ratio_bytes(bytes))),
     };
-    message.ok_or(Refusal::OutOfRange)
+    let message = message.ok_or(Refusal::OutOfRange)?;
+    if kind == 10 && has_equal(ratio_bytes(bytes)) {
+        return Err(Refusal::EqualRatios);
+    }
+    Ok(message)
+}
+
+fn ratio_bytes(bytes: &[u8]) -> [u8; 2] {
+    [bytes[RATIOS_AT], bytes[RATIOS_AT + 1]]
+}
+
+fn has_equal([first, second]: [u8; 2]) -> bool {
+    first == second
 }
 
 fn length_of(kind: u16) -> Option<usize> {
@@ -124,6 +140,7 @@ fn length_of(kind: u16) -> Option<usize> {
         7 => Some(10),
         8 => Some(9),
         9 => Some(22),
+        10 => Some(23),
         _ => None,
     }
 }
@@ -131,6 +148,9 @@ fn length_of(kind: u16) -> Option<usize> {
 /// Where an order's quantity stands, and after it the shown quantity of kind 9.
 const QUANTITY_AT: usize = 14;
 const SHOWN_AT: usize = 18;
+
+/// Where the two ratios of kind 10 stand, after the fields of kind 2.
+const RATIOS_AT: usize = 21;
 
 /// An order of kind 1 or 9, with its shown quantity.
 fn decode_order(bytes: &[u8], shown: u32, increments: &[u8; SERIES]) -> Option<Message> {
@@ -152,7 +172,8 @@ fn decode_order(bytes: &[u8], shown: u32, increments: &[u8; SERIES]) -> Option<M
     })
 }
 
-fn decode_complex(bytes: &[u8]) -> Option<Message> {
+/// A complex order of kind 2, or of kind 10 with its ratios.
+fn decode_complex(bytes: &[u8], named: Option<[u8; 2]>) -> Option<Message> {
     let (id, class) = (u32_at(bytes, 4), bytes[12]);
     let (series1, side1, series2, side2) = (bytes[8], bytes[9], bytes[10], bytes[11]);
     let (limit, quantity) = (u32_at(bytes, 13) as i32, u32_at(bytes, 17));
@@ -161,17 +182,28 @@ fn decode_complex(bytes: &[u8]) -> Option<Message> {
         && valid_leg(series2, side2)
         && series1 != series2
         && class <= OTHER
-        && valid_limit(limit)
+        && valid_ratios(named, limit)
         && valid_quantity(quantity);
     valid.then(|| {
         Message::Complex(NewComplex {
             id,
-            legs: [place(series1, side1), place(series2, side2)],
+            legs: Legs {
+                places: [place(series1, side1), place(series2, side2)],
+                ratios: named.unwrap_or([1, 1]),
+            },
             class,
             limit,
             quantity,
         })
     })
+}
+
+/// Whether ratios, where named, are in range, and the limit in that of its kind.
+fn valid_ratios(named: Option<[u8; 2]>, limit: i32) -> bool {
+    match named {
+        None => valid_limit(limit),
+        Some(ratios) => ratios.into_iter().all(valid_ratio) && valid_unequal_limit(limit),
+    }
 }
 
 fn decode_cancel(bytes: &[u8]) -> Option<Message> {
