@@ -11,7 +11,7 @@ use crate::text::{bodies, parse_line, LineError, Words};
 use std::fmt::{self, Display};
 
 /// Report memory that holds the records of any message.
-pub const ENOUGH: u32 = 10_112;
+pub const ENOUGH: u32 = 10_428;
 
 #[derive(Clone, Debug, PartialEq, Eq)]
 pub enum Asked {
@@ -96,7 +96,7 @@ mod tests {
 
     #[test]
     fn turns_are_so_many_and_lines_are_counted() {
-        let script = parse_script("# a script\nturns 2\n\nturn 10112 # enough\n").unwrap();
+        let script = parse_script("# a script\nturns 2\n\nturn 10428 # enough\n").unwrap();
         let turn = Asked::Turn { room: ENOUGH };
         assert_eq!(script, [(2, turn.clone()), (2, turn.clone()), (4, turn)]);
         assert_eq!(parse_script("turns 0"), Ok(Vec::new()));

@@ -1,6 +1,6 @@
-//! The audit of a sheet: every complex order's sums, from the session and the
-//! sheet, against what the reference leaves open; and every line against the
-//! reference's.
+//! The audit of a sheet: every complex order's sums in units, and its contracts, from
+//! the session and the sheet, against what the reference leaves open; and every line
+//! against the reference's.
 
 use crate::ledger::{Account, Ledger};
 use crate::message::{split, Message};
@@ -15,6 +15,12 @@ pub struct Row {
     pub account: Account,
     pub open: u64,
     pub fault: Option<String>,
+}
+
+impl Row {
+    fn has_ratios(&self) -> bool {
+        self.account.ratios != [1, 1]
+    }
 }
 
 /// An order with reserve, what is left of it and what that shows.
@@ -153,26 +159,13 @@ impl Display for Audit {
             "order", "entered", "paired", "crossed", "cancelled", "open", "contracts by series"
         )?;
         for row in &self.complex {
-            let account = &row.account;
-            let verdict = if row.fault.is_none() {
-                "agree"
-            } else {
-                "DISAGREE"
-            };
-            writeln!(
-                f,
-                "{:>10} {:>8} {:>8} {:>8} {:>9} {:>8}  {:<24} {verdict}",
-                account.id,
-                account.entered,
-                account.paired,
-                account.crossed,
-                account.cancelled,
-                row.open,
-                contracts(account)
-            )?;
+            writeln!(f, "{row}")?;
         }
         let orders = self.complex.len();
         writeln!(f, "{} messages, {orders} complex orders", self.messages)?;
+        for row in self.complex.iter().filter(|row| row.has_ratios()) {
+            writeln!(f, "{}", units_in_words(&row.account))?;
+        }
         for order in &self.reserve {
             writeln!(f, "{order}")?;
         }
@@ -183,6 +176,45 @@ impl Display for Audit {
             writeln!(f, "disagreement: {fault}")?;
         }
         Ok(())
+    }
+}
+
+/// The contracts of an order of unequal ratios, beside its ratios and paired units.
+fn units_in_words(account: &Account) -> String {
+    let Account {
+        id,
+        series,
+        ratios: [first, second],
+        paired,
+        ..
+    } = account;
+    let [a, b] = series.map(|series| {
+        let contracts = account.contracts[usize::from(series)];
+        format!("{contracts} in series {series}")
+    });
+    format!("order {id} of ratios {first} and {second}: {paired} units paired, contracts {a}, {b}")
+}
+
+/// A line of the table.
+impl Display for Row {
+    fn fmt(&self, f: &mut fmt::Formatter) -> fmt::Result {
+        let account = &self.account;
+        let verdict = if self.fault.is_none() {
+            "agree"
+        } else {
+            "DISAGREE"
+        };
+        write!(
+            f,
+            "{:>10} {:>8} {:>8} {:>8} {:>9} {:>8}  {:<24} {verdict}",
+            account.id,
+            account.entered,
+            account.paired,
+            account.crossed,
+            account.cancelled,
+            self.open,
+            contracts(account)
+        )
     }
 }
 

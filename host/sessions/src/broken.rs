@@ -1,9 +1,9 @@
-//! Rows of editions and orders that are not sound, one of each kind, and some that are.
+//! Rows of editions, orders and ratios that are not sound, one of each kind, and some that are.
 
 use crate::settings::{held_editions, InForce, PERCENT};
 use crate::sound::fault;
-use crate::view::held_regular;
-use reference::{Edition, Regular, Venue};
+use crate::view::{has_ratios, held_complex, held_regular, legs_of, place_of};
+use reference::{Complex, Edition, Legging, Regular, Venue};
 
 /// Editions that leave every setting as it is, until a venue holds so many.
 pub fn with_editions(venue: &Venue, least: usize) -> Venue {
@@ -206,6 +206,126 @@ pub fn broken_orders(venue: &Venue, at: usize) -> Vec<(&'static str, Venue)> {
     broken
 }
 
+/// The venue with ratios drawn by `at` for its complex orders without legging orders.
+pub fn with_ratios(venue: &Venue, at: usize) -> Venue {
+    const RATIOS: [[u8; 2]; 7] = [[1, 2], [3, 2], [1, 1], [2, 1], [1, 3], [2, 3], [3, 1]];
+    let mut changed = venue.clone();
+    for (place, order) in changed.complex.iter_mut().enumerate() {
+        let stands = |made: &Legging| made.parent == order.id;
+        let beyond = order.limit.abs_diff(0) > 200_000;
+        if order.quantity > 0 && !beyond && !venue.legging.iter().any(stands) {
+            [order.ratio1, order.ratio2] = RATIOS[(at + place) % RATIOS.len()];
+        }
+    }
+    changed
+}
+
+type ComplexChange = (&'static str, fn(&mut Complex));
+
+fn set_ratios(order: &mut Complex, ratio1: u8, ratio2: u8) {
+    (order.ratio1, order.ratio2) = (ratio1, ratio2);
+}
+
+/// Changes to a complex order that rests, whatever its ratios.
+const RATIO: [ComplexChange; 16] = [
+    ("ratios 2 and 2", |order| set_ratios(order, 2, 2)),
+    ("ratios 3 and 3", |order| set_ratios(order, 3, 3)),
+    ("no ratios", |order| set_ratios(order, 0, 0)),
+    ("first ratio 0", |order| order.ratio1 = 0),
+    ("second ratio 0", |order| order.ratio2 = 0),
+    ("first ratio 4", |order| order.ratio1 = 4),
+    ("second ratio 4", |order| order.ratio2 = 4),
+    ("ratios 4 and 4", |order| set_ratios(order, 4, 4)),
+    ("first ratio at the end of its width", |order| {
+        order.ratio1 = 255
+    }),
+    ("second ratio at the end of its width", |order| {
+        order.ratio2 = 255
+    }),
+    ("limit above that of one against one", |order| {
+        set_ratios(order, 1, 1);
+        order.limit = 200_001;
+    }),
+    ("limit below that of one against one", |order| {
+        set_ratios(order, 1, 1);
+        order.limit = -200_001;
+    }),
+    ("limit above that of unequal ratios", |order| {
+        set_ratios(order, 3, 2);
+        order.limit = 600_001;
+    }),
+    ("limit below that of unequal ratios", |order| {
+        set_ratios(order, 1, 3);
+        order.limit = -600_001;
+    }),
+    ("limit at the end of its width", |order| {
+        set_ratios(order, 2, 1);
+        order.limit = i32::MIN;
+    }),
+    ("quantity above 10,000 units", |order| {
+        set_ratios(order, 2, 3);
+        order.quantity = 10_001;
+    }),
+];
+
+/// Changes to a free place.
+const FREE_RATIO: [ComplexChange; 3] = [
+    ("a free place of ratios 1 and 1", |order| {
+        set_ratios(order, 1, 1)
+    }),
+    ("a free place with a first ratio", |order| order.ratio1 = 2),
+    ("a free place with a second ratio", |order| order.ratio2 = 1),
+];
+
+/// The venue with the ratios of a complex order broken in every way, each by its name.
+/// The place that is changed, and the ratios before it, are drawn by `at`.
+pub fn broken_ratios(venue: &Venue, at: usize) -> Vec<(&'static str, Venue)> {
+    let venue = with_ratios(venue, at);
+    let held = held_complex(&venue).count();
+    let free = venue.complex.len() - held;
+    let mut broken = Vec::new();
+    let mut add = |place: usize, (name, change): ComplexChange| {
+        let mut changed = venue.clone();
+        change(&mut changed.complex[place]);
+        broken.push((name, changed));
+    };
+    if held > 0 {
+        RATIO.into_iter().for_each(|change| add(at % held, change));
+    }
+    if free > 0 {
+        let place = held + at % free;
+        FREE_RATIO.into_iter().for_each(|change| add(place, change));
+    }
+    broken.extend(made_of_ratios(&venue, at));
+    broken.extend(parent_of_ratios(&venue, at));
+    broken
+}
+
+/// A legging order put in the place of a leg of an order of unequal ratios.
+fn made_of_ratios(venue: &Venue, at: usize) -> Option<(&'static str, Venue)> {
+    let unequal: Vec<&Complex> = held_complex(venue)
+        .filter(|order| has_ratios(order))
+        .collect();
+    let order = unequal.get(at % unequal.len().max(1))?;
+    let mut changed = venue.clone();
+    changed.legging[place_of(legs_of(order)[at % 2])] = Legging {
+        parent: order.id,
+        price: 100,
+        quantity: 1,
+    };
+    Some(("a legging order of unequal ratios", changed))
+}
+
+/// Unequal ratios given to the parent of a legging order that stands.
+fn parent_of_ratios(venue: &Venue, at: usize) -> Option<(&'static str, Venue)> {
+    let parents: Vec<u32> = venue.legging.iter().map(|made| made.parent).collect();
+    let mut changed = venue.clone();
+    let mut held = changed.complex.iter_mut();
+    let parent = held.find(|order| order.id > 0 && parents.contains(&order.id))?;
+    [parent.ratio1, parent.ratio2] = if at.is_multiple_of(2) { [2, 1] } else { [1, 3] };
+    Some(("unequal ratios above a legging order", changed))
+}
+
 #[cfg(test)]
 mod tests {
     use super::*;
@@ -250,6 +370,28 @@ mod tests {
         }
         let names = |text| broken_orders(&venue_after(text), 0).len();
         assert_eq!((names("sweep\n"), names(text)), (4, 18));
+    }
+
+    #[test]
+    fn each_broken_ratio_is_unsound_by_both_tests() {
+        let text = "order 1 sell 15 series 0 at 130\norder 2 sell 12 series 1 at 90\n\
+            complex 3 buy 0 buy 1 class 1 net 205 quantity 8\n\
+            complex 4 buy 2 sell 3 class 0 net 9 quantity 9 ratio 3 2\n\
+            complex 5 buy 2 sell 4 class 0 net 9 quantity 9\n\
+            complex 6 buy 2 sell 4 class 0 net 500000 quantity 9 ratio 1 3\n";
+        for venue in [Venue::fresh(), venue_after(text)] {
+            assert!(is_sound(&venue));
+            for at in 0..80 {
+                let drawn = with_ratios(&venue, at);
+                assert!(is_sound(&drawn) && fault(&drawn).is_none(), "{at}");
+                for (name, broken) in broken_ratios(&venue, at) {
+                    assert!(fault(&broken).is_some(), "{name} at {at}");
+                    assert!(!is_sound(&broken), "{name} at {at}");
+                }
+            }
+        }
+        let names = |text| broken_ratios(&venue_after(text), 0).len();
+        assert_eq!((names("sweep\n"), names(text)), (3, 21));
     }
 
     #[test]

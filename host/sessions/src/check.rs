@@ -4,14 +4,14 @@
 use crate::ledger::Ledger;
 use crate::message::Leg;
 use crate::message::Message;
-use crate::model::{refusal, work, AboveLegs, OutOfBand, Work};
+use crate::model::{refusal, work, AboveLegs, OutOfBand, ShortOfUnit, Work};
 use crate::phases::{expected_generation, expected_settling, phases, Attempt, Phases};
 use crate::record::Record;
 use crate::settings::{InForce, PERCENT};
 use crate::sound::fault;
 use crate::takings::check_takings;
 use crate::view::{beats, find_complex, held_regular, leg_at, legs_of, opposite, sign};
-use crate::view::{shown, View};
+use crate::view::{parts_of, shown, View};
 use reference::{settings, Complex, Edition, Legging, Returned, Venue};
 
 /// One message as a caller saw it.
@@ -32,6 +32,8 @@ pub struct Seen<'a> {
     pub above: Vec<AboveLegs>,
     /// What else was not made for the band, no market best missing.
     pub out_of_band: Vec<OutOfBand>,
+    /// Where legging in ended for less than a unit.
+    pub short: Vec<ShortOfUnit>,
 }
 
 /// Follows one list of messages from a fresh venue.
@@ -158,6 +160,7 @@ impl Checker {
             attempts,
             above: work.above,
             out_of_band: work.out_of_band,
+            short: work.short,
         })
     }
 }
@@ -230,7 +233,7 @@ fn check_standing(venue: &Venue) -> Result<(), String> {
             return Err(format!("the legging order at place {place} has no parent"));
         };
         check_best_displayed(&view, venue, leg, order)?;
-        if !view.in_band(i64::from(parent.limit), legs_of(parent)) {
+        if !view.in_band(i64::from(parent.limit), parts_of(parent)) {
             return Err(format!("order {} is not in band", parent.id));
         }
         check_hit(&view, venue, leg, order, parent)?;
@@ -411,6 +414,23 @@ mod tests {
     }
 
     #[test]
+    fn contracts_that_are_not_ratio_times_units_are_found() {
+        let order = "complex 4 buy 0 buy 1 class 1 net 350 quantity 2 ratio 2 1\n";
+        assert_eq!(check_last(order, |_, _| {}), Ok(()));
+        for (index, line) in [
+            (1, "65 0 0 130 2 4 1"),
+            (2, "65 1 0 90 4 4 2"),
+            (3, "66 4 350 4"),
+            (3, "66 4 220 2"),
+            (3, "67 4 0 0 130 130 2"),
+        ] {
+            let record = parse_sheet(line).unwrap()[0];
+            let found = check_last(order, |_, records| records[index] = record);
+            assert!(found.is_err(), "{line}");
+        }
+    }
+
+    #[test]
     fn settling_by_falling_place_is_found() {
         assert_eq!(check_last("close 0\n", |_, _| {}), Ok(()));
         let expected = "settling removed [(2, 6), (0, 6)], expected [(0, 6), (2, 6)]";
@@ -420,7 +440,7 @@ mod tests {
 
     #[test]
     fn every_changed_part_of_the_venue_left_is_found() {
-        let changes: [fn(&mut Venue); 11] = [
+        let changes: [fn(&mut Venue); 13] = [
             |venue| venue.regular[0].quantity = 14,
             |venue| venue.regular[0].reserve = 1,
             |venue| venue.regular[0].display = 14,
@@ -428,6 +448,8 @@ mod tests {
             |venue| venue.regular[1].quantity = 8,
             |venue| venue.complex[0].quantity = 4,
             |venue| venue.complex[0].limit = 204,
+            |venue| venue.complex[0].ratio1 = 2,
+            |venue| venue.complex[0].ratio2 = 3,
             |venue| venue.series[5].status = 0,
             |venue| venue.last = 5,
             |venue| {

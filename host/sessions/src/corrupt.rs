@@ -63,7 +63,7 @@ fn corrupt_complex(venue: &mut Venue, random: &mut Random) {
     let held = venue.complex.iter().filter(|order| order.id > 0).count();
     let at = random.below(held as u64 + 1).min(31) as usize;
     let order = &mut venue.complex[at];
-    match random.below(8) {
+    match random.below(11) {
         0 => order.id = odd_number(random),
         1 => order.series1 = random.below(10) as u8,
         2 => order.side1 = random.below(4) as u8,
@@ -71,6 +71,12 @@ fn corrupt_complex(venue: &mut Venue, random: &mut Random) {
         4 => order.side2 = random.below(4) as u8,
         5 => order.class = random.below(4) as u8,
         6 => order.limit = random.pick(&[-200_001, -200_000, 0, 200_000, 200_001, i32::MIN]),
+        7 => order.ratio1 = random.below(6) as u8,
+        8 => order.ratio2 = random.below(6) as u8,
+        9 => {
+            (order.ratio1, order.ratio2) = (random.between(0, 4) as u8, random.between(0, 4) as u8);
+            order.limit = random.pick(&[-600_001, -600_000, 0, 200_001, 600_000, 600_001]);
+        }
         _ => order.quantity = odd_number(random),
     }
 }

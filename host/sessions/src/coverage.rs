@@ -1,5 +1,6 @@
 //! What a number of sessions showed: records, causes, refusals, rare cases.
 
+mod ratios;
 mod reserve;
 
 use crate::check::{Seen, Step};
@@ -11,7 +12,7 @@ use crate::phases::Phases;
 use crate::record::Record;
 use crate::settings::{held_editions, InForce};
 use crate::view::{beats, find_complex, held_complex, held_regular, leg_at, legs_of};
-use crate::view::{opposite, place_of, rounded, within, Declined, View};
+use crate::view::{opposite, parts_of, place_of, rounded, within, Declined, View};
 use reference::{Legging, Venue};
 use std::fmt::{self, Display};
 
@@ -65,6 +66,22 @@ pub enum Rare {
     SharedInSweep,
     GeneratedByShown,
     RemovedByShown,
+    RatiosRefused,
+    EqualBeforeOthers,
+    LimitOfRatios,
+    UnitsCancelled,
+    PairOfUnits,
+    UnitsInSweep,
+    RoundsOfUnits,
+    ShortAtOnce,
+    ShortAfterPair,
+    ShortOfShown,
+    CrossOfUnits,
+    CrossNamedOtherwise,
+    OtherRatios,
+    UnitsAboveLegs,
+    TouchOfUnits,
+    TouchShortThenPair,
 }
 
 impl Rare {
@@ -197,15 +214,67 @@ impl Rare {
             Rare::RemovedByShown,
             "settling: cause 2 for the size shown, with reserve enough",
         ),
+        (Rare::RatiosRefused, "refusal 4 for the ratios alone"),
+        (
+            Rare::EqualBeforeOthers,
+            "refusal 14 where 5, 6 or 7 applies too",
+        ),
+        (
+            Rare::LimitOfRatios,
+            "unequal ratios: limit beyond that of kind 2",
+        ),
+        (Rare::UnitsCancelled, "unequal ratios: cancel"),
+        (Rare::PairOfUnits, "unequal ratios: pair"),
+        (Rare::UnitsInSweep, "unequal ratios: pair in a sweep"),
+        (
+            Rare::RoundsOfUnits,
+            "unequal ratios: legging in of several rounds",
+        ),
+        (
+            Rare::ShortAtOnce,
+            "unequal ratios: less than a unit at a price, no pair",
+        ),
+        (
+            Rare::ShortAfterPair,
+            "unequal ratios: less than a unit at a price after a pair",
+        ),
+        (
+            Rare::ShortOfShown,
+            "unequal ratios: less than a unit shown, with reserve enough",
+        ),
+        (Rare::CrossOfUnits, "unequal ratios: cross"),
+        (
+            Rare::CrossNamedOtherwise,
+            "  of these, with the other leg named first",
+        ),
+        (
+            Rare::OtherRatios,
+            "no cross: sides reversed and limits met, other ratios",
+        ),
+        (
+            Rare::UnitsAboveLegs,
+            "no cross of unequal ratios: a net above best regular prices",
+        ),
+        (
+            Rare::TouchOfUnits,
+            "unequal ratios: touch of sizes that fill a unit",
+        ),
+        (
+            Rare::TouchShortThenPair,
+            "touch with cause 10 that a pair follows",
+        ),
     ];
 }
 
-const RARE: usize = 47;
+const RARE: usize = 63;
 
-/// Numbers of a run or a one-message call: 0 to 13.
-const NUMBERS: usize = 14;
+/// Numbers of a run or a one-message call: 0 to 14.
+const NUMBERS: usize = 15;
 
-const DECLINED: [&str; 9] = [
+/// Causes of a removal.
+const CAUSES: [u8; 9] = [1, 2, 3, 4, 5, 6, 7, 8, 10];
+
+const DECLINED: [&str; 10] = [
     "a series not open",
     "limit out of band",
     "no clear price",
@@ -215,6 +284,7 @@ const DECLINED: [&str; 9] = [
     "reaches an away price",
     "place held",
     "another order would fail",
+    "unequal ratios",
 ];
 
 fn declined_index(declined: &Declined) -> usize {
@@ -228,6 +298,7 @@ fn declined_index(declined: &Declined) -> usize {
         Declined::ReachesAway { .. } => 6,
         Declined::PlaceHeld { .. } => 7,
         Declined::OtherWouldFail { .. } => 8,
+        Declined::HasRatios { .. } => 9,
     }
 }
 
@@ -238,9 +309,9 @@ pub struct Coverage {
     pub sessions: u64,
     pub messages: u64,
     records: [u64; 7],
-    causes: [u64; 9],
+    causes: [u64; CAUSES.len()],
     answers: [u64; NUMBERS],
-    declined: [u64; 9],
+    declined: [u64; DECLINED.len()],
     rare: [u64; RARE],
     pub feeds: FeedCoverage,
     pub layers: LayerCoverage,
@@ -252,9 +323,9 @@ impl Default for Coverage {
             sessions: 0,
             messages: 0,
             records: [0; 7],
-            causes: [0; 9],
+            causes: [0; CAUSES.len()],
             answers: [0; NUMBERS],
-            declined: [0; 9],
+            declined: [0; DECLINED.len()],
             rare: [0; RARE],
             feeds: FeedCoverage::default(),
             layers: LayerCoverage::default(),
@@ -284,16 +355,19 @@ impl Coverage {
             let kind = RECORD_KINDS.iter().position(|kind| *kind == record.kind());
             self.records[kind.unwrap_or(0)] += 1;
             if let Record::Removed { cause, .. } = record {
-                self.causes[usize::from(*cause).min(8)] += 1;
+                let cause = CAUSES.iter().position(|known| known == cause);
+                self.causes[cause.unwrap_or(0)] += 1;
             }
         }
         self.observe_settings(step);
         self.observe_shown(step);
+        self.observe_ratios(step);
         let Some(seen) = seen else {
             return;
         };
         self.observe_takings(step);
         self.observe_sizes(step, &seen.phases);
+        self.observe_units(step, seen);
         for attempt in &seen.attempts {
             if let Err(declined) = &attempt.outcome {
                 self.declined[declined_index(declined)] += 1;
@@ -346,14 +420,14 @@ impl Coverage {
             let Some(order) = find_complex(&step.returned.venue, attempt.id) else {
                 continue;
             };
-            let legs = legs_of(order);
-            let Some(market) = view.market_net(legs) else {
+            let parts = parts_of(order);
+            let Some(market) = view.market_net(parts) else {
                 continue;
             };
             let limit = i64::from(order.limit);
             let first = InForce::first().percent().value;
             let by_first = within(limit, market, i64::from(first));
-            let by_edition = view.in_band(limit, legs);
+            let by_edition = view.in_band(limit, parts);
             self.add(Rare::InByEdition, by_edition && !by_first);
             self.add(Rare::OutByEdition, by_first && !by_edition);
         }
@@ -453,7 +527,7 @@ impl Coverage {
             return;
         };
         let next = i64::from(order.limit) + 1;
-        let at_edge = !phases.settled_view.in_band(next, legs_of(order));
+        let at_edge = !phases.settled_view.in_band(next, parts_of(order));
         self.add(Rare::LimitAtBandEdge, at_edge);
     }
 
@@ -470,7 +544,7 @@ impl Coverage {
                     self.add(Rare::CrossInSweep, *step.message == Message::Sweep);
                     self.add(Rare::CrossOfTwoWithLegging, both);
                 }
-                Record::Removed { cause: 8, .. } => touched = true,
+                Record::Removed { cause: 8 | 10, .. } => touched = true,
                 _ => {}
             }
         }
@@ -513,8 +587,8 @@ impl Coverage {
         for (kind, count) in RECORD_KINDS.iter().zip(self.records) {
             missing.extend((count == 0).then(|| format!("record {kind}")));
         }
-        for (cause, count) in self.causes.iter().enumerate().skip(1) {
-            missing.extend((*count == 0).then(|| format!("cause {cause}")));
+        for (cause, count) in CAUSES.iter().zip(self.causes) {
+            missing.extend((count == 0).then(|| format!("cause {cause}")));
         }
         for (number, count) in self.answers.iter().enumerate() {
             missing.extend((*count == 0).then(|| format!("answer {number}")));
@@ -552,7 +626,7 @@ impl Display for Coverage {
         for (kind, count) in RECORD_KINDS.iter().zip(self.records) {
             writeln!(f, "{count:>10}  record {kind}")?;
         }
-        for (cause, count) in self.causes.iter().enumerate().skip(1) {
+        for (cause, count) in CAUSES.iter().zip(self.causes) {
             writeln!(f, "{count:>10}  cause {cause}")?;
         }
         for (number, count) in self.answers.iter().enumerate() {

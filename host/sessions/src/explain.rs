@@ -1,15 +1,16 @@
 //! What happened, message by message, and why a legging order or a cross was not
-//! made; with the edition that held where a band or an increment decided, and with what
-//! trades took of shown size and of reserve.
+//! made; with the edition that held where a band or an increment decided, with what
+//! trades took of shown size and of reserve, and with the contracts of units.
 
 use crate::check::{Checker, Seen, Step};
 use crate::message::{split, Leg, Message};
-use crate::model::{fields_in_range, off_increment, only_shown_is_out};
-use crate::model::{AboveLegs, OutOfBand, Turn};
+use crate::model::{fields_in_range, off_increment, only_ratios_are_out, only_shown_is_out};
+use crate::model::{AboveLegs, OutOfBand, ShortOfUnit, Turn};
+use crate::phases::Attempt;
 use crate::record::{read_report, Record};
 use crate::settings::{figure_name, InForce, PERCENT};
 use crate::takings::Takings;
-use crate::view::{find_complex, find_regular, held_regular, legs_of, shown};
+use crate::view::{find_complex, find_regular, held_regular, parts_of, ratios_of, shown};
 use reference::{one_message, Regular, Venue};
 
 /// Explains a whole session. An error is a violation of the checks.
@@ -59,22 +60,17 @@ fn explain_message(number: usize, step: &Step, seen: Option<&Seen>) -> String {
     if let Some(words) = told.setting_in_words() {
         text.push_str(&format!("    {words}\n"));
     }
-    for out in &seen.out_of_band {
-        text.push_str(&format!("    {}\n", told.out_of_band_in_words(out)));
-    }
-    for passed in &seen.above {
-        text.push_str(&format!("    {}\n", passed_in_words(passed)));
-    }
-    for attempt in &seen.attempts {
-        if let Err(declined) = &attempt.outcome {
-            let leg = leg_name(attempt.leg);
-            let id = attempt.id;
-            text.push_str(&format!(
-                "    no legging order of {id}, {leg}: {declined}\n"
-            ));
-        }
+    for words in told.not_made(seen) {
+        text.push_str(&format!("    {words}\n"));
     }
     text
+}
+
+/// Why a leg has no legging order, if it has none.
+fn declined_in_words(attempt: &Attempt) -> Option<String> {
+    let declined = attempt.outcome.as_ref().err()?;
+    let (id, leg) = (attempt.id, leg_name(attempt.leg));
+    Some(format!("no legging order of {id}, {leg}: {declined}"))
 }
 
 /// What an order with reserve shows once the message's trades are done.
@@ -94,6 +90,18 @@ fn passed_in_words(passed: &AboveLegs) -> String {
     format!(
         "no cross of {taker} with {maker}: net {net} of order {party} is above the {legs} of its best regular prices"
     )
+}
+
+/// Why legging in ended for less than a unit.
+fn short_in_words(short: &ShortOfUnit) -> String {
+    let ShortOfUnit {
+        id,
+        leg,
+        ratio,
+        level,
+    } = short;
+    let (leg, size, price) = (leg_name(*leg), level.size, level.price);
+    format!("no further unit of {id}: {leg} takes {ratio}, {size} shown at {price}")
 }
 
 fn side_name(side: u8) -> &'static str {
@@ -116,6 +124,16 @@ struct Told<'a> {
 }
 
 impl Told<'_> {
+    /// The crosses, pairs, units and legging orders that were not made.
+    fn not_made(&self, seen: &Seen) -> Vec<String> {
+        let out = seen.out_of_band.iter();
+        let mut lines: Vec<String> = out.map(|out| self.out_of_band_in_words(out)).collect();
+        lines.extend(seen.above.iter().map(passed_in_words));
+        lines.extend(seen.short.iter().map(short_in_words));
+        lines.extend(seen.attempts.iter().filter_map(declined_in_words));
+        lines
+    }
+
     fn in_words(&self, record: &Record) -> String {
         match *record {
             Record::Answer {
@@ -136,8 +154,8 @@ impl Told<'_> {
                 format!("trade: {taker} {leg}, {quantity} at {price}, maker {maker}")
             }
             Record::Pair { id, net, quantity } => {
-                let in_band = self.paired_in_band();
-                format!("pair: {id}, {quantity} at net {net}{in_band}")
+                let (units, in_band) = (self.units_of(id, quantity), self.paired_in_band());
+                format!("pair: {id}, {quantity}{units} at net {net}{in_band}")
             }
             Record::Generated { .. } | Record::Removed { .. } => self.legging_in_words(record),
             Record::Cross {
@@ -145,15 +163,13 @@ impl Told<'_> {
                 maker,
                 net,
                 quantity,
-            } => format!(
-                "cross: {taker} with {maker}, {quantity} at the taker's net {net}{}",
-                self.in_band()
-            ),
+            } => {
+                let (units, in_band) = (self.units_of(taker, quantity), self.in_band());
+                format!("cross: {taker} with {maker}, {quantity}{units} at the taker's net {net}{in_band}")
+            }
             Record::Cancelled { id, quantity } => {
-                format!(
-                    "cancelled: {id}, {quantity} were open{}",
-                    self.reserve_of(id)
-                )
+                let (units, reserve) = (self.units_of(id, quantity), self.reserve_of(id));
+                format!("cancelled: {id}, {quantity}{units} were open{reserve}")
             }
         }
     }
@@ -170,7 +186,42 @@ impl Told<'_> {
             self.off_increment(refusal),
             self.shown_out_of_range(refusal),
         );
-        format!("refused with {refusal}: {name}{price}{shown}")
+        let ratios = self.ratios_out_of_range(refusal);
+        format!("refused with {refusal}: {name}{price}{shown}{ratios}")
+    }
+
+    /// The ratios of a complex order that rested before the message, or came with it.
+    fn ratios_of(&self, id: u32) -> [u8; 2] {
+        match *self.step.message {
+            Message::Complex {
+                id: came, ratios, ..
+            } if came == id => ratios.unwrap_or([1, 1]),
+            _ => find_complex(self.step.before, id).map_or([1, 1], ratios_of),
+        }
+    }
+
+    /// Of an order of unequal ratios: that a quantity is of units, and their contracts.
+    fn units_of(&self, id: u32, quantity: u32) -> String {
+        let ratios = self.ratios_of(id);
+        if ratios == [1, 1] {
+            return String::new();
+        }
+        let [first, second] = ratios.map(|ratio| u32::from(ratio) * quantity);
+        format!(" units ({first} and {second} contracts)")
+    }
+
+    /// The ratios, where nothing else is out of range.
+    fn ratios_out_of_range(&self, refusal: u8) -> String {
+        let message = self.step.message;
+        match message {
+            Message::Complex {
+                ratios: Some([first, second]),
+                ..
+            } if refusal == 4 && only_ratios_are_out(message) => {
+                format!(", ratios {first} and {second} are not of 1 to 3")
+            }
+            _ => String::new(),
+        }
     }
 
     /// How much of an order was in reserve before the message.
@@ -275,7 +326,7 @@ impl Told<'_> {
         let view = self.seen.map(|seen| &seen.phases.at_settling);
         let net = view
             .zip(parent)
-            .and_then(|(view, parent)| view.market_net(legs_of(parent)));
+            .and_then(|(view, parent)| view.market_net(parts_of(parent)));
         net.is_some()
     }
 
@@ -362,7 +413,7 @@ fn places(mask: u16) -> String {
 pub fn refusal_name(refusal: u8) -> &'static str {
     match refusal {
         1 => "the message is torn",
-        2 => "the kind is not 1 to 9",
+        2 => "the kind is not 1 to 10",
         3 => "the length is not its kind's",
         4 => "a field is outside its range",
         5 => "the id is not above the last accepted",
@@ -374,6 +425,7 @@ pub fn refusal_name(refusal: u8) -> &'static str {
         11 => "the edition is not above the last",
         12 => "the series is not closed, or has a resting order or leg",
         13 => "32 editions are held already",
+        14 => "the two ratios are equal",
         _ => "not a number of documents 01 and 02",
     }
 }
@@ -388,6 +440,7 @@ fn cause_name(cause: u8) -> &'static str {
         6 => "a series of its parent is not open",
         7 => "replaced by another legging order",
         8 => "touched by a complex order",
-        _ => "not a cause of document 01",
+        10 => "touched by a complex order of which the sizes there cannot fill a unit",
+        _ => "not a cause of documents 01 and 02",
     }
 }

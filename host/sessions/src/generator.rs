@@ -1,5 +1,6 @@
 //! Random sessions that follow the state of the venue, from a profile and a seed.
 
+mod ratios;
 mod reserve;
 mod settings;
 
@@ -9,6 +10,8 @@ use crate::random::Random;
 use crate::scripts;
 use crate::view::View;
 use crate::view::{beats, held_complex, held_regular, leg_at, legs_of, opposite, side_of, sign};
+use crate::view::{parts, Part};
+use ratios::is_even;
 use reference::{Complex, Venue};
 use std::collections::VecDeque;
 
@@ -22,6 +25,8 @@ pub struct Generator {
     apart: Random,
     /// Draws what orders show, apart from all else too.
     shown: Random,
+    /// Draws ratios, apart from all else too.
+    ratios: Random,
 }
 
 impl Generator {
@@ -35,11 +40,21 @@ impl Generator {
             since_script: usize::MAX - 1,
             apart: Random::new(!mixed),
             shown: Random::new(mixed.rotate_left(32)),
+            ratios: Random::new(mixed.rotate_left(16)),
         };
         if generator.shape.script_every == 0 {
             generator.plan_opening();
         }
         generator
+    }
+
+    /// Keeps to the kinds 1 to `last`, and to numbers that are no kind. Each later kind is
+    /// drawn apart from all else, so the session is the one drawn before that kind came.
+    pub fn up_to(self, last: u16) -> Self {
+        Generator {
+            shape: self.shape.up_to(last),
+            ..self
+        }
     }
 
     /// Opens the series in use and quotes most of them away. Some sessions begin
@@ -100,7 +115,7 @@ impl Generator {
         if bytes.len() >= 4 && self.random.chance(80) {
             bytes[0] = self.random.below(24) as u8;
             bytes[1] = 0;
-            bytes[2] = self.random.below(10) as u8;
+            bytes[2] = self.random.below(11) as u8;
             bytes[3] = 0;
         }
         bytes
@@ -304,24 +319,26 @@ impl Generator {
         let crossing = drawn < self.shape.crossing_limits;
         let copying = !crossing && drawn < self.shape.crossing_limits + copies;
         let other = self.resting_complex(venue).filter(|_| crossing || copying);
-        let (legs, limit) = match other {
+        let (parts, limit) = match other {
             Some(other) => self.against(other, crossing),
             None => {
-                let legs = self.legs();
-                (legs, self.limit(view, legs))
+                let parts = parts(self.legs(), self.new_ratios());
+                (parts, self.limit(view, parts))
             }
         };
+        let most = if is_even(parts) { 200_000 } else { 600_000 };
         Message::Complex {
             id: self.next_id(venue),
-            legs,
+            legs: parts.map(|part| part.leg),
             class: self.random.below(2) as u8,
-            limit: limit.clamp(-200_000, 200_000) as i32,
+            limit: limit.clamp(-most, most) as i32,
             quantity: self.quantity(),
+            ratios: self.ratio_bytes(parts),
         }
     }
 
     /// Legs and limit of an order that crosses another, or competes with it.
-    fn against(&mut self, other: &Complex, crossing: bool) -> ([Leg; 2], i64) {
+    fn against(&mut self, other: &Complex, crossing: bool) -> ([Part; 2], i64) {
         let mut legs = legs_of(other);
         let mut limit = i64::from(other.limit);
         if crossing {
@@ -330,17 +347,20 @@ impl Generator {
         } else if self.random.chance(40) {
             limit += self.random.between(-1, 2);
         }
+        let mut parts = parts(legs, self.ratios_like(other));
         if self.random.chance(50) {
-            legs.swap(0, 1);
+            parts.swap(0, 1);
         }
-        (legs, limit)
+        (parts, limit)
     }
 
-    fn limit(&mut self, view: &View, legs: [Leg; 2]) -> i64 {
-        let centres = legs.map(|leg| sign(leg) * self.centre(leg.series));
-        let market = view.market_net(legs).unwrap_or(centres[0] + centres[1]);
+    fn limit(&mut self, view: &View, parts: [Part; 2]) -> i64 {
+        let [first, second] = parts.map(|part| part.of_net(self.centre(part.leg.series)));
+        let market = view.market_net(parts).unwrap_or(first + second);
         if self.profile == Profile::PriceEdges && self.random.chance(50) {
-            if let Some(limit) = self.edge_limit(view, legs) {
+            let legs = parts.map(|part| part.leg);
+            let limit = self.edge_limit(view, legs);
+            if let Some(limit) = limit.filter(|_| is_even(parts)) {
                 return limit;
             }
         }
@@ -459,7 +479,7 @@ impl Generator {
         }
     }
 
-    /// A message meant to be refused with one of 2 to 8.
+    /// A message meant to be refused with one of 2 to 8, or 14.
     fn refused(&mut self, venue: &Venue, view: &View) -> Message {
         match self.random.below(8) {
             1 => Message::Raw(self.wrong_length(venue, view)),
@@ -477,7 +497,7 @@ impl Generator {
         let length = 4 + self.random.below(30);
         let kind = self
             .random
-            .pick(&[0, 10, 11, 12, 13, 63, 64, 65, 80, 99, 255, 256, 65_535]);
+            .pick(&[0, 14, 11, 12, 13, 63, 64, 65, 80, 99, 255, 256, 65_535]);
         let mut bytes = vec![length as u8, 0];
         bytes.extend_from_slice(&u16::to_le_bytes(kind));
         bytes.extend((4..length).map(|_| self.random.below(256) as u8));

@@ -1,10 +1,10 @@
 //! A venue as hosts hold it, without padding, in the order of the venue's fields; but
-//! reserve and display of the regular orders come last. Any value goes to bytes and
-//! back, sound or not.
+//! reserve and display of the regular orders come after all these, and then the ratios
+//! of the complex orders. Any value goes to bytes and back, sound or not.
 
 use reference::{Complex, Edition, Legging, Listed, Regular, Venue};
 
-pub const VENUE_BYTES: usize = 3_948;
+pub const VENUE_BYTES: usize = 4_012;
 
 /// The bytes of a venue.
 pub fn to_bytes(venue: &Venue) -> [u8; VENUE_BYTES] {
@@ -36,15 +36,7 @@ pub fn to_bytes(venue: &Venue) -> [u8; VENUE_BYTES] {
         writer.u32(listed.offer);
     }
     writer.u32(venue.last);
-    for entry in &venue.editions {
-        writer.u32(entry.edition);
-        writer.u32(entry.number);
-        writer.all(&[entry.figure, entry.value]);
-    }
-    for order in &venue.regular {
-        writer.u32(order.reserve);
-        writer.u32(order.display);
-    }
+    writer.later_rows(venue);
     writer.bytes
 }
 
@@ -76,6 +68,10 @@ pub fn from_bytes(bytes: &[u8; VENUE_BYTES]) -> Venue {
         order.reserve = reader.u32();
         order.display = reader.u32();
     }
+    for order in &mut venue.complex {
+        order.ratio1 = reader.u8();
+        order.ratio2 = reader.u8();
+    }
     venue
 }
 
@@ -92,6 +88,22 @@ impl Writer {
 
     fn u32(&mut self, number: u32) {
         self.all(&number.to_le_bytes());
+    }
+
+    /// The rows that came with request (d), (e) and (g).
+    fn later_rows(&mut self, venue: &Venue) {
+        for entry in &venue.editions {
+            self.u32(entry.edition);
+            self.u32(entry.number);
+            self.all(&[entry.figure, entry.value]);
+        }
+        for order in &venue.regular {
+            self.u32(order.reserve);
+            self.u32(order.display);
+        }
+        for order in &venue.complex {
+            self.all(&[order.ratio1, order.ratio2]);
+        }
     }
 }
 
@@ -122,6 +134,7 @@ impl Reader<'_> {
         }
     }
 
+    /// The first fields of a complex order; the ratios stand in a row of their own.
     fn complex(&mut self) -> Complex {
         Complex {
             id: self.u32(),
@@ -132,6 +145,7 @@ impl Reader<'_> {
             class: self.u8(),
             limit: self.u32() as i32,
             quantity: self.u32(),
+            ..Complex::default()
         }
     }
 }
@@ -169,6 +183,9 @@ mod tests {
         venue.editions[31].value = 5;
         venue.regular[0].reserve = 0x0807_0605;
         venue.regular[127].display = 0x0403_0201;
+        venue.complex[0].ratio1 = 3;
+        venue.complex[31].ratio1 = 1;
+        venue.complex[31].ratio2 = 2;
         let bytes = to_bytes(&venue);
         assert_eq!(bytes[14 + 6..14 + 10], [1, 2, 3, 4]);
         assert_eq!(bytes[1_792 + 31 * 17 + 9..][..4], [0xFE, 0xFF, 0xFF, 0xFF]);
@@ -177,6 +194,8 @@ mod tests {
         assert_eq!(bytes[2_600..2_604], [1, 0, 0, 0]);
         assert_eq!(bytes[2_604 + 31 * 10 + 4..2_924], [1, 2, 3, 4, 0, 5]);
         assert_eq!(bytes[2_924..2_932], [5, 6, 7, 8, 0, 0, 0, 0]);
-        assert_eq!(bytes[2_924 + 127 * 8..], [0, 0, 0, 0, 1, 2, 3, 4]);
+        assert_eq!(bytes[2_924 + 127 * 8..3_948], [0, 0, 0, 0, 1, 2, 3, 4]);
+        assert_eq!(bytes[3_948..3_950], [3, 0]);
+        assert_eq!(bytes[3_948 + 31 * 2..], [1, 2]);
     }
 }

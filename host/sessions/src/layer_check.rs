@@ -14,7 +14,7 @@ use std::collections::{BTreeMap, VecDeque};
 const CALLS: usize = 120;
 
 /// The ways that random calls must show.
-const WAYS: [&str; 37] = [
+const WAYS: [&str; 38] = [
     "arrival 0: the first of a wait",
     "arrival 0: the eighth of a wait",
     "arrival 0: a message of 32 bytes",
@@ -43,6 +43,7 @@ const WAYS: [&str; 37] = [
     "turn 10: tried again and done",
     "turn 11",
     "turn 12",
+    "turn 14",
     "turn: the same venue again, none else waiting",
     "turn: the fourth since a message came to the head",
     "turn: past venues with nothing waiting",
@@ -297,16 +298,7 @@ impl Session<'_> {
             0 => "turn 0: accepted",
             1 if alone.wait[0].is_empty() => "turn 1: a message of no bytes",
             1 => "turn 1: a torn message",
-            2 => "turn 2",
-            3 => "turn 3",
-            4 => "turn 4",
-            5 => "turn 5",
-            6 => "turn 6",
-            7 => "turn 7",
-            8 => "turn 8",
-            11 => "turn 11",
-            12 => "turn 12",
-            _ => "turn 13",
+            refusal => refused_turn(refusal),
         });
         if self.ended {
             self.coverage.add("turn 10: tried again and done");
@@ -402,4 +394,21 @@ fn faults_of(layer: &Layer) -> Vec<&'static str> {
         }
     }
     faults
+}
+
+/// A turn whose message was refused, and whole.
+fn refused_turn(refusal: u8) -> &'static str {
+    match refusal {
+        2 => "turn 2",
+        3 => "turn 3",
+        4 => "turn 4",
+        5 => "turn 5",
+        6 => "turn 6",
+        7 => "turn 7",
+        8 => "turn 8",
+        11 => "turn 11",
+        12 => "turn 12",
+        13 => "turn 13",
+        _ => "turn 14",
+    }
 }

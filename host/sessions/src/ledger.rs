@@ -11,9 +11,12 @@ pub struct Account {
     pub id: u32,
     /// The two series of a complex order; one twice for a regular order.
     pub series: [u8; 2],
+    /// The contracts of each series in one unit: 1 and 1 but for kind 10.
+    pub ratios: [u8; 2],
     pub is_complex: bool,
+    /// In units, as all but the contracts.
     pub entered: u64,
-    /// The shown quantity that it was entered with; all of it for kinds 1 and 2.
+    /// The shown quantity that it was entered with; all of it but for kind 9.
     pub shown: u64,
     pub paired: u64,
     pub crossed: u64,
@@ -22,6 +25,52 @@ pub struct Account {
 }
 
 impl Account {
+    /// The account of an order before any record names it.
+    fn of(message: &Message) -> Option<Account> {
+        let account = match *message {
+            Message::Order {
+                id,
+                leg,
+                quantity,
+                shows,
+                ..
+            } => Account {
+                series: [leg.series; 2],
+                shown: u64::from(shows.unwrap_or(quantity)),
+                ..Account::new(id, quantity)
+            },
+            Message::Complex {
+                id,
+                legs,
+                quantity,
+                ratios,
+                ..
+            } => Account {
+                series: legs.map(|leg| leg.series),
+                ratios: ratios.unwrap_or([1, 1]),
+                is_complex: true,
+                ..Account::new(id, quantity)
+            },
+            _ => return None,
+        };
+        Some(account)
+    }
+
+    fn new(id: u32, quantity: u32) -> Account {
+        Account {
+            id,
+            series: [0; 2],
+            ratios: [1, 1],
+            is_complex: false,
+            entered: u64::from(quantity),
+            shown: u64::from(quantity),
+            paired: 0,
+            crossed: 0,
+            cancelled: 0,
+            contracts: [0; 8],
+        }
+    }
+
     /// What is wrong with the sums, given what is still open.
     pub fn disagreement(&self, open: u64) -> Option<String> {
         let traded = if self.is_complex {
@@ -39,12 +88,12 @@ impl Account {
     }
 
     fn series_disagreement(&self, series: u8) -> Option<String> {
-        let own = self.series.contains(&series);
         let contracts = self.contracts[usize::from(series)];
-        let expected = match (own, self.is_complex) {
-            (true, true) => self.paired,
-            (true, false) => contracts,
-            (false, _) => 0,
+        let leg = self.series.iter().position(|own| *own == series);
+        let expected = match leg {
+            Some(leg) if self.is_complex => u64::from(self.ratios[leg]) * self.paired,
+            Some(_) => contracts,
+            None => 0,
         };
         (contracts != expected).then(|| {
             format!(
@@ -64,36 +113,17 @@ pub struct Ledger {
 impl Ledger {
     /// Opens the account of an accepted order.
     pub fn enter(&mut self, message: &Message) -> Result<(), String> {
-        let (id, series, is_complex, quantity, shows) = match message {
-            Message::Order {
-                id,
-                leg,
-                quantity,
-                shows,
-                ..
-            } => (*id, [leg.series; 2], false, *quantity, *shows),
-            Message::Complex {
-                id, legs, quantity, ..
-            } => (*id, legs.map(|leg| leg.series), true, *quantity, None),
-            _ => return Ok(()),
+        let Some(account) = Account::of(message) else {
+            return Ok(());
         };
+        let Account { id, series, .. } = account;
         if series.iter().any(|series| *series > 7) {
             return Err(format!("order {id} was accepted with a series above 7"));
         }
         if self.accounts.last().is_some_and(|last| last.id >= id) {
             return Err(format!("order {id} was accepted after a higher id"));
         }
-        self.accounts.push(Account {
-            id,
-            series,
-            is_complex,
-            entered: u64::from(quantity),
-            shown: u64::from(shows.unwrap_or(quantity)),
-            paired: 0,
-            crossed: 0,
-            cancelled: 0,
-            contracts: [0; 8],
-        });
+        self.accounts.push(account);
         Ok(())
     }
 

@@ -23,6 +23,8 @@ pub enum Message {
         class: u8,
         limit: i32,
         quantity: u32,
+        /// The ratios of kind 10; kind 2 has none and is of one against one.
+        ratios: Option<[u8; 2]>,
     },
     Cancel {
         id: u32,
@@ -46,7 +48,7 @@ pub enum Message {
         percent: u8,
         edition: u32,
     },
-    /// Bytes that are no message of kinds 1 to 9 at its length.
+    /// Bytes that are no message of kinds 1 to 10 at its length.
     Raw(Vec<u8>),
 }
 
@@ -73,10 +75,14 @@ impl Message {
                 class,
                 limit,
                 quantity,
+                ratios,
             } => {
-                let legs = [first.bytes(), second.bytes()].concat();
+                let (id, legs) = (id.to_le_bytes(), [first.bytes(), second.bytes()].concat());
                 let (limit, quantity) = (limit.to_le_bytes(), quantity.to_le_bytes());
-                framed(2, &[&id.to_le_bytes(), &legs, &[*class], &limit, &quantity])
+                match ratios {
+                    None => framed(2, &[&id, &legs, &[*class], &limit, &quantity]),
+                    Some(ratios) => framed(10, &[&id, &legs, &[*class], &limit, &quantity, ratios]),
+                }
             }
             Message::Cancel { id } => framed(3, &[&id.to_le_bytes()]),
             Message::Away { series, bid, offer } => {
@@ -96,7 +102,7 @@ impl Message {
         }
     }
 
-    /// Reads one message cut from a list; what is none of kinds 1 to 9 at its
+    /// Reads one message cut from a list; what is none of kinds 1 to 10 at its
     /// length stays raw.
     pub fn decode(bytes: &[u8]) -> Message {
         let mut fields = Fields { bytes, at: 4 };
@@ -104,13 +110,7 @@ impl Message {
         let kind = if whole { word(bytes, 2) } else { 0 };
         match (kind, bytes.len()) {
             (1, 18) => fields.order(false),
-            (2, 21) => Message::Complex {
-                id: fields.u32(),
-                legs: [fields.leg(), fields.leg()],
-                class: fields.u8(),
-                limit: fields.u32() as i32,
-                quantity: fields.u32(),
-            },
+            (2, 21) => fields.complex(false),
             (3, 8) => Message::Cancel { id: fields.u32() },
             (4, 13) => Message::Away {
                 series: fields.u8(),
@@ -132,6 +132,7 @@ impl Message {
                 edition: fields.u32(),
             },
             (9, 22) => fields.order(true),
+            (10, 23) => fields.complex(true),
             _ => Message::Raw(bytes.to_vec()),
         }
     }
@@ -211,6 +212,18 @@ impl Fields<'_> {
             price: self.u32(),
             quantity: self.u32(),
             shows: has_shown.then(|| self.u32()),
+        }
+    }
+
+    /// A complex order, with ratios or without them.
+    fn complex(&mut self, has_ratios: bool) -> Message {
+        Message::Complex {
+            id: self.u32(),
+            legs: [self.leg(), self.leg()],
+            class: self.u8(),
+            limit: self.u32() as i32,
+            quantity: self.u32(),
+            ratios: has_ratios.then(|| [self.u8(), self.u8()]),
         }
     }
 }

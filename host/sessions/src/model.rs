@@ -6,7 +6,7 @@ use crate::message::{split, Leg, Message};
 use crate::record::Record;
 use crate::settings::{held_editions, last_edition, Figure, InForce, PERCENT};
 use crate::view::{held_complex, held_regular, legs_of, opposite, place_of, side_of, sign};
-use crate::view::{shown, View};
+use crate::view::{parts, parts_of, ratios_of, shown, Level, Part, View};
 use reference::{Complex, Edition, Legging, Regular, Venue};
 
 /// The refusal that a message meets, or 0. `left` is all that is left to read.
@@ -17,12 +17,13 @@ pub fn refusal(venue: &Venue, left: &[u8]) -> u8 {
     }
     let message = split(left)[0];
     let kind = u16::from_le_bytes([message[2], message[3]]);
-    if !(1..=9).contains(&kind) {
+    if !(1..=10).contains(&kind) {
         return 2;
     }
     match Message::decode(message) {
         Message::Raw(_) => 3,
         decoded if !in_range(&decoded, &InForce::of(venue)) => 4,
+        decoded if has_equal_ratios(&decoded) => 14,
         decoded => venue_refusal(venue, &decoded),
     }
 }
@@ -38,6 +39,25 @@ pub fn off_increment(message: &Message, in_force: &InForce) -> Option<Figure> {
     };
     let increment = in_force.increment(leg.series);
     (*price % u32::from(increment.value) != 0).then_some(increment)
+}
+
+/// Whether ratios are named, and are the same.
+pub fn has_equal_ratios(message: &Message) -> bool {
+    match message {
+        Message::Complex { ratios, .. } => ratios.is_some_and(|[first, second]| first == second),
+        _ => false,
+    }
+}
+
+/// Kind 10 has ratios of 1 to 3, and its limit may be thrice that of kind 2.
+fn limit_in_range(limit: i32, ratios: Option<[u8; 2]>) -> bool {
+    match ratios {
+        None => (-200_000..=200_000).contains(&limit),
+        Some(ratios) => {
+            ratios.iter().all(|ratio| (1..=3).contains(ratio))
+                && (-600_000..=600_000).contains(&limit)
+        }
+    }
 }
 
 fn leg_in_range(leg: &Leg) -> bool {
@@ -66,12 +86,13 @@ pub fn fields_in_range(message: &Message) -> bool {
             class,
             limit,
             quantity,
+            ratios,
         } => {
             *id >= 1
                 && legs.iter().all(leg_in_range)
                 && legs[0].series != legs[1].series
                 && *class <= 1
-                && (-200_000..=200_000).contains(limit)
+                && limit_in_range(*limit, *ratios)
                 && (1..=10_000).contains(quantity)
         }
         Message::Cancel { id } => *id >= 1,
@@ -80,11 +101,17 @@ pub fn fields_in_range(message: &Message) -> bool {
         }
         Message::Status { series, status } => *series <= 7 && *status <= 2,
         Message::Sweep => true,
+        _ => setting_in_range(message),
+    }
+}
+
+fn setting_in_range(message: &Message) -> bool {
+    match message {
         Message::Increment {
             series, increment, ..
         } => *series <= 7 && [1, 5, 10].contains(increment),
         Message::Percent { percent, .. } => *percent <= 50,
-        Message::Raw(_) => false,
+        _ => false,
     }
 }
 
@@ -95,6 +122,15 @@ pub fn only_shown_is_out(message: &Message, in_force: &InForce) -> bool {
         *shows = None;
     }
     in_range(&whole, in_force) && !in_range(message, in_force)
+}
+
+/// Whether nothing of a complex order is out of range but its ratios.
+pub fn only_ratios_are_out(message: &Message) -> bool {
+    let mut even = message.clone();
+    if let Message::Complex { ratios, .. } = &mut even {
+        *ratios = ratios.map(|_| [1, 1]);
+    }
+    fields_in_range(&even) && !fields_in_range(message)
 }
 
 fn venue_refusal(venue: &Venue, message: &Message) -> u8 {
@@ -178,6 +214,17 @@ pub struct OutOfBand {
     pub market: i64,
 }
 
+/// A side at whose best regular price less is shown than a unit takes, where nothing
+/// else would have kept an order from legging in.
+#[derive(Clone, Copy, Debug, PartialEq, Eq)]
+pub struct ShortOfUnit {
+    pub id: u32,
+    /// The leg, and the contracts that a unit has of it.
+    pub leg: Leg,
+    pub ratio: i64,
+    pub level: Level,
+}
+
 /// An accepted message's work: the venue at its settling, when its regular orders have
 /// shown again, and the records.
 pub struct Work {
@@ -187,6 +234,8 @@ pub struct Work {
     pub above: Vec<AboveLegs>,
     /// What else was not made for the band, no market best missing.
     pub out_of_band: Vec<OutOfBand>,
+    /// Where legging in ended for less than a unit.
+    pub short: Vec<ShortOfUnit>,
 }
 
 /// The work of the message with this number.
@@ -196,6 +245,7 @@ pub fn work(before: &Venue, message: &Message, number: u32) -> Work {
         records: Vec::new(),
         above: Vec::new(),
         out_of_band: Vec::new(),
+        short: Vec::new(),
     };
     match *message {
         Message::Order { .. } => work.order(message),
@@ -227,6 +277,19 @@ pub fn work(before: &Venue, message: &Message, number: u32) -> Work {
     work
 }
 
+/// The most units, one after another, that what is open and what is shown allow.
+fn whole_units(order: &Complex, parts: [Part; 2], levels: [Level; 2]) -> u32 {
+    let allowed = |units: u32| {
+        let mut sides = parts.iter().zip(&levels);
+        units <= order.quantity
+            && sides.all(|(part, level)| i64::from(units) * part.ratio <= level.size)
+    };
+    (0..)
+        .take_while(|units| allowed(*units))
+        .last()
+        .unwrap_or(0)
+}
+
 /// What comes first at one price.
 #[derive(Clone, Copy, Debug, PartialEq, Eq, PartialOrd, Ord)]
 pub enum Turn {
@@ -255,10 +318,12 @@ impl Work {
             class,
             limit,
             quantity,
+            ratios,
         } = *message
         else {
             return;
         };
+        let [ratio1, ratio2] = ratios.unwrap_or([1, 1]);
         let place = held_complex(&self.venue).count();
         self.venue.last = id;
         self.venue.complex[place] = Complex {
@@ -270,6 +335,8 @@ impl Work {
             class,
             limit,
             quantity,
+            ratio1,
+            ratio2,
         };
     }
 
@@ -481,11 +548,11 @@ impl Work {
     /// Whether a net of a party is in band; tells where the percentage forbids it.
     fn in_band(&mut self, id: u32, maker: Option<u32>, party: &Complex, net: i64) -> bool {
         let view = View::of(&self.venue);
-        let legs = legs_of(party);
-        if view.in_band(net, legs) {
+        let parts = parts_of(party);
+        if view.in_band(net, parts) {
             return true;
         }
-        let out = view.market_net(legs).map(|market| OutOfBand {
+        let out = view.market_net(parts).map(|market| OutOfBand {
             id,
             maker,
             party: party.id,
@@ -498,13 +565,14 @@ impl Work {
         false
     }
 
-    /// The resting orders reversed to this one whose limits meet its own.
+    /// The resting orders reversed to this one, of the same ratio in each series, whose
+    /// limits meet its own.
     fn reversed(&self, taker: &Complex) -> Vec<Complex> {
-        let wanted = legs_of(taker).map(opposite);
+        let wanted = parts(legs_of(taker).map(opposite), ratios_of(taker));
         held_complex(&self.venue)
             .filter(|maker| {
-                let legs = legs_of(maker);
-                legs == wanted || legs == [wanted[1], wanted[0]]
+                let found = parts_of(maker);
+                found == wanted || found == [wanted[1], wanted[0]]
             })
             .filter(|maker| taker.limit + maker.limit >= 0)
             .copied()
@@ -518,7 +586,7 @@ impl Work {
         let limit = i64::from(maker.limit);
         let parties = [(taker, -limit), (maker, limit)];
         parties.into_iter().find_map(|(party, net)| {
-            let legs = view.regular_net(legs_of(party))?;
+            let legs = view.regular_net(parts_of(party))?;
             (net > legs).then_some(AboveLegs {
                 taker: taker.id,
                 maker: maker.id,
@@ -576,14 +644,17 @@ impl Work {
             return;
         };
         let view = View::of(&self.venue);
-        let legs = legs_of(&order);
-        let own = |leg| Some(sign(leg) * view.best_own(opposite(leg))?);
-        let (Some(first), Some(second)) = (own(legs[0]), own(legs[1])) else {
+        let parts = parts_of(&order);
+        let levels = parts.map(|part| view.own_level(opposite(part.leg)));
+        let [Some(first), Some(second)] = levels else {
             return;
         };
-        if first + second <= i64::from(order.limit) {
-            let touched = legs.map(|leg| place_of(opposite(leg)));
-            self.remove(8, |place, _| touched.contains(&place));
+        let net = parts[0].of_net(first.price) + parts[1].of_net(second.price);
+        if net <= i64::from(order.limit) {
+            let fills = first.size >= parts[0].ratio && second.size >= parts[1].ratio;
+            let touched = parts.map(|part| place_of(opposite(part.leg)));
+            let cause = if fills { 8 } else { 10 };
+            self.remove(cause, |place, _| touched.contains(&place));
         }
     }
 
@@ -592,21 +663,38 @@ impl Work {
             return false;
         };
         let view = View::of(&self.venue);
-        let legs = legs_of(&order);
-        let levels = legs.map(|leg| view.best(opposite(leg)));
-        let [Some(first), Some(second)] = levels else {
+        let parts = parts_of(&order);
+        let [Some(first), Some(second)] = parts.map(|part| view.best(opposite(part.leg))) else {
             return false;
         };
-        let net = sign(legs[0]) * first.price + sign(legs[1]) * second.price;
+        let net = parts[0].of_net(first.price) + parts[1].of_net(second.price);
         if net > i64::from(order.limit) || !self.in_band(id, None, &order, net) {
             return false;
         }
-        let sizes = first.size.min(second.size);
-        let quantity = sizes.min(i64::from(order.quantity)) as u32;
-        self.take_best(legs[0], quantity, id);
-        self.take_best(legs[1], quantity, id);
-        self.pair(id, net, quantity);
+        let levels = [first, second];
+        let units = whole_units(&order, parts, levels);
+        if units == 0 {
+            self.tell_short(id, parts, levels);
+            return false;
+        }
+        for part in parts {
+            self.take_best(part.leg, units * part.ratio as u32, id);
+        }
+        self.pair(id, net, units);
         true
+    }
+
+    /// Takes note of the sides that cannot fill a unit.
+    fn tell_short(&mut self, id: u32, parts: [Part; 2], levels: [Level; 2]) {
+        let sides = parts.into_iter().zip(levels);
+        let short = sides.filter(|(part, level)| level.size < part.ratio);
+        self.short
+            .extend(short.map(|(Part { leg, ratio }, level)| ShortOfUnit {
+                id,
+                leg,
+                ratio,
+                level,
+            }));
     }
 
     fn cancel(&mut self, id: u32) {

@@ -17,10 +17,11 @@ pub enum Profile {
     OddBytes,
     Settings,
     Reserve,
+    Ratios,
 }
 
 impl Profile {
-    pub const ALL: [Profile; 15] = [
+    pub const ALL: [Profile; 16] = [
         Profile::Mixed,
         Profile::FewSeries,
         Profile::Credit,
@@ -36,6 +37,7 @@ impl Profile {
         Profile::OddBytes,
         Profile::Settings,
         Profile::Reserve,
+        Profile::Ratios,
     ];
 
     pub fn name(self) -> &'static str {
@@ -55,6 +57,7 @@ impl Profile {
             Profile::OddBytes => "odd-bytes",
             Profile::Settings => "settings",
             Profile::Reserve => "reserve",
+            Profile::Ratios => "ratios",
         }
     }
 
@@ -79,7 +82,7 @@ impl Profile {
                 .setting(2),
             Profile::Refusals => {
                 let shape = base.weighted([25, 12, 5, 5, 8, 3, 42]);
-                shape.closing(75).setting(8).reserving(25)
+                shape.closing(75).setting(8).reserving(25).weighing(25)
             }
             Profile::FullBooks => base
                 .weighted([62, 24, 2, 2, 1, 4, 5])
@@ -105,7 +108,7 @@ impl Profile {
             Profile::PriceEdges => base.over(&[0, 1, 6, 7]).at(0, 4).setting(2),
             Profile::OddBytes => {
                 let shape = base.weighted([30, 15, 5, 5, 4, 6, 35]);
-                shape.closing(50).setting(2).reserving(25)
+                shape.closing(50).setting(2).reserving(25).weighing(25)
             }
             Profile::Settings => base
                 .over(&[0, 1, 2, 3, 6, 7])
@@ -116,6 +119,12 @@ impl Profile {
                 .weighted([54, 24, 5, 4, 1, 11, 1])
                 .at(100, 3)
                 .reserving(60),
+            Profile::Ratios => base
+                .over(THREE)
+                .weighted([48, 32, 4, 3, 1, 11, 1])
+                .at(100, 3)
+                .sized(7)
+                .weighing(50),
         }
     }
 }
@@ -140,6 +149,9 @@ pub(crate) struct Shape {
     pub settings: u64,
     /// Percent of orders that have a shown quantity; scripts have none.
     pub reserve: u64,
+    /// Percent of complex orders, but of those made after a resting one, that have unequal
+    /// ratios; scripts have none.
+    pub ratios: u64,
 }
 
 impl Shape {
@@ -156,6 +168,7 @@ impl Shape {
             script_every: 0,
             settings: 0,
             reserve: 8,
+            ratios: 8,
         }
     }
 
@@ -210,5 +223,28 @@ impl Shape {
 
     fn reserving(self, reserve: u64) -> Self {
         Shape { reserve, ..self }
+    }
+
+    fn weighing(self, ratios: u64) -> Self {
+        Shape { ratios, ..self }
+    }
+
+    /// Without what brings kinds above `last`.
+    pub fn up_to(self, last: u16) -> Self {
+        let drawn = |kind, percent| if last < kind { 0 } else { percent };
+        Shape {
+            settings: drawn(8, self.settings),
+            reserve: drawn(9, self.reserve),
+            ratios: drawn(10, self.ratios),
+            ..self
+        }
+    }
+
+    /// Quantities up to this, but for some at the ends of the range.
+    fn sized(self, most_quantity: i64) -> Self {
+        Shape {
+            most_quantity,
+            ..self
+        }
     }
 }

@@ -23,6 +23,7 @@ fn complex(legs: [(u8, u8); 2], limit: i64, quantity: i64, random: &mut Random) 
         class: random.below(2) as u8,
         limit: limit as i32,
         quantity: quantity as u32,
+        ratios: None,
     }
 }
 

@@ -1,6 +1,8 @@
 //! Random sessions with every check after every message.
 
-use crate::broken::{broken_orders, broken_rows, with_editions, with_reserve};
+use crate::asked::ENOUGH;
+use crate::broken::{broken_orders, broken_ratios, broken_rows};
+use crate::broken::{with_editions, with_ratios, with_reserve};
 use crate::check::{Checker, Step};
 use crate::corrupt::corrupt;
 use crate::coverage::{Coverage, Rare};
@@ -66,16 +68,20 @@ pub fn session_length(profile: Profile, seed: u64) -> usize {
 
 /// The messages of a session, as the checks send them.
 pub fn generate(profile: Profile, seed: u64, messages: usize) -> Vec<Vec<u8>> {
-    let mut coverage = Coverage::default();
-    let mut session = Session::new(profile, seed, &mut coverage);
-    for _ in 0..messages {
-        let message = session.generator.next(&session.venue);
-        let before = session.pieces.len() as u32;
-        let returned = one_message(&session.venue, before, &message, session.lent.lend(ROOM));
-        session.venue = returned.venue;
-        session.pieces.push(message);
+    drawn(Generator::new(profile, seed), messages)
+}
+
+/// The messages that a generator draws, each upon the venue that those before it left.
+pub fn drawn(mut generator: Generator, messages: usize) -> Vec<Vec<u8>> {
+    let mut venue = Venue::fresh();
+    let mut lent = Lent::new();
+    let mut pieces = Vec::new();
+    for before in 0..messages as u32 {
+        let message = generator.next(&venue);
+        venue = one_message(&venue, before, &message, lent.lend(ROOM)).venue;
+        pieces.push(message);
     }
-    session.pieces
+    pieces
 }
 
 /// Runs one session with all checks, adding to the coverage.
@@ -139,6 +145,9 @@ impl<'a> Session<'a> {
         let before = self.pieces.len() as u32;
         let returned = one_message(&self.venue, before, &message, self.lent.lend(ROOM));
         let written = self.lent.written(returned.written)?;
+        if written.len() > ENOUGH as usize {
+            return Err(format!("{} bytes were written", written.len()));
+        }
         read_report_into(written, &mut self.records)?;
         let decoded = Message::decode(&message);
         let step = Step {
@@ -164,12 +173,13 @@ impl<'a> Session<'a> {
 
     /// Calls beside the list, which leave it as it is.
     fn probe(&mut self, probes: &mut Generator) -> Result<(), String> {
-        match probes.random().below(6) {
+        match probes.random().below(7) {
             0 => self.probe_memory(probes),
             1 => self.probe_number(probes),
             2 => self.probe_unsound(probes),
             3 => self.probe_editions(probes),
             4 => self.probe_reserve(probes),
+            5 => self.probe_ratios(probes),
             _ => self.probe_noise(probes),
         }
     }
@@ -264,6 +274,19 @@ impl<'a> Session<'a> {
             self.expect_taken(&broken, before)?;
         }
         self.expect_taken(&with_reserve(&self.venue, at), before)
+    }
+
+    /// Complex orders of ratios that they cannot have, and of others that they can.
+    fn probe_ratios(&mut self, probes: &mut Generator) -> Result<(), String> {
+        let at = probes.random().below(32 * 7) as usize;
+        let before = self.pieces.len() as u32;
+        for (name, broken) in broken_ratios(&self.venue, at) {
+            if fault(&broken).is_none() {
+                return Err(format!("{name} is not found in {broken:?}"));
+            }
+            self.expect_taken(&broken, before)?;
+        }
+        self.expect_taken(&with_ratios(&self.venue, at), before)
     }
 
     /// A call upon a venue gets 9 just where both tests of it say so, and its

@@ -2,7 +2,7 @@
 
 use crate::message::Leg;
 use crate::settings::{last_edition, InForce, PERCENT};
-use crate::view::{find_complex, leg_at, legs_of, View};
+use crate::view::{find_complex, has_ratios, leg_at, legs_of, ratios_of, View};
 use reference::{Complex, Edition, Legging, Listed, Regular, Venue};
 
 /// Why a one-message call gets 9, if it does: `before` messages went before its own.
@@ -123,11 +123,22 @@ fn complex_fault(venue: &Venue) -> Option<String> {
         legs.iter().any(|leg| leg.series > 7 || leg.side > 1)
             || legs[0].series == legs[1].series
             || order.class > 1
-            || order.limit.abs_diff(0) > 200_000
+            || ratio_out(order)
             || !(1..=10_000).contains(&order.quantity)
     });
     bad.next()
         .map(|order| format!("a field of complex order {} is out of range", order.id))
+}
+
+/// Ratios are from 1 to 3 and not the same, with the limit of kind 10; but 1 and 1 is
+/// an order of kind 2, with its limit.
+fn ratio_out(order: &Complex) -> bool {
+    let limit = order.limit.abs_diff(0);
+    match ratios_of(order) {
+        [1, 1] => limit > 200_000,
+        [1, 2 | 3] | [2, 1 | 3] | [3, 1 | 2] => limit > 600_000,
+        _ => true,
+    }
 }
 
 fn series_fault(venue: &Venue) -> Option<String> {
@@ -164,6 +175,9 @@ fn match_fault(venue: &Venue, leg: Leg, order: Legging) -> Option<String> {
     };
     if !legs_of(parent).contains(&leg) {
         return Some("matches no leg of its parent".to_string());
+    }
+    if has_ratios(parent) {
+        return Some("is one of an order of unequal ratios".to_string());
     }
     if !(1..=100_000).contains(&order.price) {
         return Some("has a price out of range".to_string());

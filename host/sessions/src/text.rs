@@ -3,6 +3,7 @@
 //! ```text
 //! order ID SIDE QUANTITY series SERIES at PRICE          (also: ... shows SHOWN)
 //! complex ID SIDE SERIES SIDE SERIES class CLASS net LIMIT quantity QUANTITY
+//!                               (also: ... ratio RATIO RATIO)
 //! cancel ID
 //! away SERIES bid PRICE offer PRICE
 //! status SERIES STATUS          (also: open SERIES, close SERIES, auction SERIES)
@@ -11,7 +12,8 @@
 //! percent PERCENT EDITION
 //! raw HEX HEX ...
 //! ```
-//! An order with `shows` is of kind 9, one without it of kind 1 and shows all.
+//! An order with `shows` is of kind 9, one without it of kind 1 and shows all. A
+//! complex order with `ratio` is of kind 10, one without it of kind 2.
 //! SIDE is `buy`, `sell` or `side=NUMBER`; STATUS is `open`, `closed`, `auction`
 //! or `status=NUMBER`. Any number that fits its field's width may be written.
 //! `#` begins a comment; blank lines are passed over.
@@ -174,12 +176,20 @@ fn parse_complex(words: &mut Words) -> Result<Message, LineError> {
     let limit = words.number("a net limit")?;
     words.literal("quantity")?;
     let quantity = words.number("a quantity")?;
+    let ratios = match words.first() {
+        Some("ratio") => {
+            words.next();
+            Some([words.number("a ratio")?, words.number("a ratio")?])
+        }
+        _ => None,
+    };
     Ok(Message::Complex {
         id,
         legs,
         class,
         limit,
         quantity,
+        ratios,
     })
 }
 
@@ -358,11 +368,15 @@ impl Display for Message {
                 class,
                 limit,
                 quantity,
+                ratios,
             } => {
                 let (side1, series1) = (Side(first.side), first.series);
                 let (side2, series2) = (Side(second.side), second.series);
                 write!(f, "complex {id} {side1} {series1} {side2} {series2} ")?;
-                write!(f, "class {class} net {limit} quantity {quantity}")
+                write!(f, "class {class} net {limit} quantity {quantity}")?;
+                ratios.map_or(Ok(()), |[first, second]| {
+                    write!(f, " ratio {first} {second}")
+                })
             }
             Message::Cancel { id } => write!(f, "cancel {id}"),
             Message::Away { series, bid, offer } => {
@@ -398,6 +412,8 @@ mod tests {
             order 6 side=9 0 series 9 at 4294967295 shows 4294967295\n\
             complex 3 buy 0 sell 1 class 1 net -205 quantity 8\n\
             complex 3 side=2 9 buy 1 class 255 net -2147483648 quantity 0\n\
+            complex 4 buy 0 sell 1 class 1 net -600000 quantity 8 ratio 2 1\n\
+            complex 5 buy 9 side=3 1 class 1 net 2147483647 quantity 8 ratio 0 255\n\
             cancel 3\naway 0 bid 0 offer 60\nstatus 0 open\nstatus 1 closed\n\
             status 2 auction\nstatus 9 status=3\nsweep\nincrement 7 10 4294967295\n\
             increment 255 0 0\npercent 50 2\npercent 255 0\nraw 09 00 06\n";
@@ -455,6 +471,11 @@ mod tests {
             ("order 4 buy 5 series 0 at 5 shows", "line 1: expected a shown quantity, a number from 0 to 4294967295, found the end of the line"),
             ("order 4 buy 5 series 0 at 5 shows -1", "line 1: expected a shown quantity, a number from 0 to 4294967295, found \"-1\""),
             ("order 4 buy 5 series 0 at 5 show 1", "line 1: expected the end of the line, found \"show\""),
+            ("complex 4 buy 0 buy 1 class 0 net 5 quantity 5 ratio 2", "line 1: expected a ratio, a number from 0 to 255, found the end of the line"),
+            ("complex 4 buy 0 buy 1 class 0 net 5 quantity 5 ratio 2 256", "line 1: expected a ratio, a number from 0 to 255, found \"256\""),
+            ("complex 4 buy 0 buy 1 class 0 net 5 quantity 5 ratio 2:1", "line 1: expected a ratio, a number from 0 to 255, found \"2:1\""),
+            ("complex 4 buy 0 buy 1 class 0 net 5 quantity 5 ratio 2 1 1", "line 1: expected the end of the line, found \"1\""),
+            ("complex 4 buy 0 buy 1 class 0 net 5 quantity 5 ratios 2 1", "line 1: expected the end of the line, found \"ratios\""),
             ("cancel 4294967296", "line 1: expected an id, a number from 0 to 4294967295, found \"4294967296\""),
             ("\n\ncancel +4", "line 3: expected an id, a number from 0 to 4294967295, found \"+4\""),
             ("open 256", "line 1: expected a series, a number from 0 to 255, found \"256\""),

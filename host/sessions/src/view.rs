@@ -45,6 +45,41 @@ pub fn legs_of(order: &Complex) -> [Leg; 2] {
     ]
 }
 
+/// A leg with the contracts that one unit of its order has of it.
+#[derive(Clone, Copy, Debug, PartialEq, Eq)]
+pub struct Part {
+    pub leg: Leg,
+    pub ratio: i64,
+}
+
+impl Part {
+    /// What it adds to the net of a unit at this price.
+    pub fn of_net(self, price: i64) -> i64 {
+        sign(self.leg) * self.ratio * price
+    }
+}
+
+pub fn parts(legs: [Leg; 2], ratios: [u8; 2]) -> [Part; 2] {
+    let part = |at: usize| Part {
+        leg: legs[at],
+        ratio: i64::from(ratios[at]),
+    };
+    [part(0), part(1)]
+}
+
+pub fn ratios_of(order: &Complex) -> [u8; 2] {
+    [order.ratio1, order.ratio2]
+}
+
+pub fn parts_of(order: &Complex) -> [Part; 2] {
+    parts(legs_of(order), ratios_of(order))
+}
+
+/// Whether an order is of kind 10: not of one contract against one.
+pub fn has_ratios(order: &Complex) -> bool {
+    ratios_of(order) != [1, 1]
+}
+
 pub fn opposite(leg: Leg) -> Leg {
     Leg {
         series: leg.series,
@@ -138,6 +173,18 @@ impl View {
         (order.quantity > 0).then_some(order)
     }
 
+    /// All that stands at the best own price of a side: shown size, and the legging
+    /// order's where that is its price.
+    pub fn own_level(&self, leg: Leg) -> Option<Level> {
+        let price = self.best_own(leg)?;
+        let shown = self.best(leg).map(|level| (level.price, level.size));
+        let legging = self.standing(leg);
+        let made = legging.map(|order| (i64::from(order.price), i64::from(order.quantity)));
+        let at_price = shown.into_iter().chain(made).filter(|(at, _)| *at == price);
+        let size = at_price.map(|(_, size)| size).sum();
+        Some(Level { price, size })
+    }
+
     /// The best own price of a side, legging orders included.
     pub fn best_own(&self, leg: Leg) -> Option<i64> {
         let regular = self.best(leg).map(|level| level.price);
@@ -164,14 +211,14 @@ impl View {
     }
 
     /// O: the net of the market bests that the legs would take.
-    pub fn market_net(&self, legs: [Leg; 2]) -> Option<i64> {
-        let taken = |leg| Some(sign(leg) * self.market_best(opposite(leg))?);
-        Some(taken(legs[0])? + taken(legs[1])?)
+    pub fn market_net(&self, parts: [Part; 2]) -> Option<i64> {
+        let taken = |part: Part| Some(part.of_net(self.market_best(opposite(part.leg))?));
+        Some(taken(parts[0])? + taken(parts[1])?)
     }
 
-    pub fn in_band(&self, net: i64, legs: [Leg; 2]) -> bool {
+    pub fn in_band(&self, net: i64, parts: [Part; 2]) -> bool {
         let percent = i64::from(self.in_force.percent().value);
-        self.market_net(legs)
+        self.market_net(parts)
             .is_some_and(|market| within(net, market, percent))
     }
 
@@ -184,9 +231,9 @@ impl View {
     }
 
     /// The net of the best regular prices that the legs would take.
-    pub fn regular_net(&self, legs: [Leg; 2]) -> Option<i64> {
-        let taken = |leg| Some(sign(leg) * self.best(opposite(leg))?.price);
-        Some(taken(legs[0])? + taken(legs[1])?)
+    pub fn regular_net(&self, parts: [Part; 2]) -> Option<i64> {
+        let taken = |part: Part| Some(part.of_net(self.best(opposite(part.leg))?.price));
+        Some(taken(parts[0])? + taken(parts[1])?)
     }
 
     pub fn is_open(&self, leg: Leg) -> bool {
@@ -213,7 +260,7 @@ impl View {
         });
         let conditions = [
             (1, !self.worse_than_book(leg, self.displayed(leg, price))),
-            (5, self.in_band(i64::from(parent.limit), legs)),
+            (5, self.in_band(i64::from(parent.limit), parts_of(parent))),
             (2, other_leg_holds),
             (6, self.is_open(leg) && self.is_open(other)),
         ];
@@ -232,6 +279,9 @@ fn better_of(leg: Leg, a: Option<i64>, b: Option<i64>) -> Option<i64> {
 /// The condition of generation that failed first.
 #[derive(Clone, Debug, PartialEq, Eq)]
 pub enum Declined {
+    HasRatios {
+        ratios: [u8; 2],
+    },
     NotOpen {
         series: u8,
     },
@@ -275,6 +325,9 @@ pub enum Declined {
 impl Display for Declined {
     fn fmt(&self, f: &mut fmt::Formatter) -> fmt::Result {
         match self {
+            Declined::HasRatios {
+                ratios: [first, second],
+            } => write!(f, "an order of ratios {first} and {second} has none"),
             Declined::NotOpen { series } => write!(f, "series {series} is not open"),
             Declined::OutOfBand {
                 limit,
@@ -324,20 +377,10 @@ impl View {
         order: &Complex,
         which: usize,
     ) -> Result<Legging, Declined> {
+        self.order_allowed(order)?;
         let legs = legs_of(order);
         let (leg, other) = (legs[which], legs[1 - which]);
         let limit = i64::from(order.limit);
-        if let Some(leg) = legs.iter().find(|leg| !self.is_open(**leg)) {
-            return Err(Declined::NotOpen { series: leg.series });
-        }
-        if !self.in_band(limit, legs) {
-            let market = self.market_net(legs);
-            return Err(Declined::OutOfBand {
-                limit,
-                market,
-                percent: self.in_force.percent(),
-            });
-        }
         let taken = opposite(other);
         let Some(clear) = self.clear(taken) else {
             return Err(Declined::NoClearPrice {
@@ -354,6 +397,27 @@ impl View {
         };
         self.place_allowed(venue, leg, order.class, made)?;
         Ok(made)
+    }
+
+    /// What both legs need of their order.
+    fn order_allowed(&self, order: &Complex) -> Result<(), Declined> {
+        if has_ratios(order) {
+            let ratios = ratios_of(order);
+            return Err(Declined::HasRatios { ratios });
+        }
+        let legs = legs_of(order);
+        if let Some(leg) = legs.iter().find(|leg| !self.is_open(**leg)) {
+            return Err(Declined::NotOpen { series: leg.series });
+        }
+        let (limit, parts) = (i64::from(order.limit), parts_of(order));
+        if !self.in_band(limit, parts) {
+            return Err(Declined::OutOfBand {
+                limit,
+                market: self.market_net(parts),
+                percent: self.in_force.percent(),
+            });
+        }
+        Ok(())
     }
 
     fn price_allowed(&self, leg: Leg, price: i64) -> Result<(), Declined> {

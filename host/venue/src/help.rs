@@ -1,5 +1,7 @@
 //! The help texts.
 
+use sessions::asked::ENOUGH;
+
 pub const OVERVIEW: &str = "\
 venue: session tools for the legging order engine
 
@@ -31,6 +33,7 @@ The text form, one message a line:
   order ID SIDE QUANTITY series SERIES at PRICE
                             also: ... at PRICE shows QUANTITY, an order with reserve
   complex ID SIDE SERIES SIDE SERIES class CLASS net LIMIT quantity QUANTITY
+                            also: ... ratio RATIO RATIO, of unequal ratios
   cancel ID
   away SERIES bid PRICE offer PRICE
   status SERIES STATUS      also: open SERIES, close SERIES, auction SERIES
@@ -80,7 +83,9 @@ messages each line served and what stopped them:
 With 19 to 21 the exit status is 1.
 ";
 
-const FOUR: &str = "\
+fn four() -> String {
+    format!(
+        "\
 venue four [SCRIPT]
 
 Plays arrivals and turns upon four fresh venues behind one line, and prints the sheet
@@ -91,11 +96,13 @@ of each venue under its number. The script is text, one call a line:
   turns COUNT               so many turns, up to 255
 
 A venue's wait holds up to 8 messages of up to 32 bytes. A turn does the message at the
-head of the next venue's wait, going round from venue 0. Report memory is 10,112 bytes
+head of the next venue's wait, going round from venue 0. Report memory is {ENOUGH} bytes
 where no other length is said: enough for any message. Standard error tells the
 arrivals that were refused (17 or 18), the turns that served no venue (0 or 10), and
 what still waits at the end.
-";
+"
+    )
+}
 
 const AUDIT: &str = "\
 venue audit [--text] SESSION [SHEET]
@@ -106,8 +113,10 @@ entered (from its message), paired, crossed, cancelled and contracts in each
 series (from the sheet), open (from the venue that the reference leaves after the
 messages that the sheet answers). Names each order whose sums do not agree, and
 the first line that is not the reference's; then the exit status is 1. Each line is
-read by the settings of its message; those that the session entered are listed. Orders
-that were to show a part of them are listed with what is left and what that shows.
+read by the settings of its message; those that the session entered are listed. Sums of
+an order of unequal ratios are in units, and its contracts in each series are listed
+beside ratio x paired units. Orders that were to show a part of them are listed with
+what is left and what that shows.
 ";
 
 const EXPLAIN: &str = "\
@@ -118,6 +127,8 @@ was made, the first condition of generation that failed. Where a band, an increm
 or refusal 4 depends on a setting, its edition is told with the message that entered
 it; edition 0 are the figures of document 01. Of an order with reserve it is told
 whether a trade took what it shows or its reserve, and what it shows after the trades.
+Quantities of an order of unequal ratios are units, told with their contracts, and so is
+which side could not fill a further unit.
 Every check is made meanwhile; a violation ends it with an error.
 ";
 
@@ -136,7 +147,7 @@ Writes a random session: bytes, or text with --text. Equal arguments give equal
 sessions. The profiles:
 
   mixed few-series credit band-edges refusals full-books sweeps status-flips
-  classes hits cross-parties price-edges odd-bytes settings reserve
+  classes hits cross-parties price-edges odd-bytes settings reserve ratios
 ";
 
 const CHECK: &str = "\
@@ -163,12 +174,12 @@ pub fn of(command: &str) -> Option<String> {
         ),
         "decode" => format!(
             "venue decode [--line] [FILE]\n\nWrites one message a line; bytes that are no \
-             message of kinds 1 to 9\nat its length become raw. With --line the bytes are a \
+             message of kinds 1 to 10\nat its length become raw. With --line the bytes are a \
              line of a feed.\n\n{TEXT_FORM}"
         ),
         "print" => PRINT.to_string(),
         "feed" => FEED.to_string(),
-        "four" => FOUR.to_string(),
+        "four" => four(),
         "audit" => AUDIT.to_string(),
         "explain" => EXPLAIN.to_string(),
         "settings" => SETTINGS.to_string(),

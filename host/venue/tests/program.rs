@@ -669,6 +669,54 @@ fn audit_lists_the_orders_with_reserve() {
     );
 }
 
+const RATIOS_TEXT: &str = include_str!("sessions/units.txt");
+
+#[test]
+fn explain_tells_units_and_why_there_are_no_more() {
+    let told = good(&["explain", "--text"], RATIOS_TEXT.as_bytes());
+    let told = String::from_utf8(told).unwrap();
+    for expected in [
+        "\n    refused with 14: the two ratios are equal\n",
+        "\n    refused with 4: a field is outside its range, ratios 4 and 1 are not of 1 to 3\n",
+        "\n    pair: 4, 1 units (2 and 1 contracts) at net 350, in band by percent 5 (edition 0)\n\
+         \x20   no further unit of 4: buy series 0 takes 2, 1 shown at 130\n\
+         \x20   no legging order of 4, buy series 0: an order of ratios 2 and 1 has none\n",
+        "\n    cross: 7 with 6, 3 units (3 and 6 contracts) at the taker's net -340,",
+        "\n    removed the legging order of 9, buy series 1: cause 10, touched by a complex \
+         order of which the sizes there cannot fill a unit\n",
+        "\n    removed the legging order of 9, buy series 0: cause 8, touched by a complex order\n",
+        "\n    cancelled: 4, 14 units (28 and 14 contracts) were open\n",
+    ] {
+        assert!(told.contains(expected), "{expected}\n{told}");
+    }
+}
+
+#[test]
+fn audit_tells_units_and_contracts() {
+    let told = good(&["audit", "--text", "-"], RATIOS_TEXT.as_bytes());
+    let told = String::from_utf8(told).unwrap();
+    let row = "         4       20        6        0        14        0  0: 12, 1: 6              agree\n";
+    assert!(told.contains(row), "{told}");
+    let line =
+        "order 4 of ratios 2 and 1: 6 units paired, contracts 12 in series 0, 6 in series 1\n";
+    assert!(told.contains(line), "{told}");
+    assert!(!told.contains("order 9 of ratios"), "{told}");
+}
+
+#[test]
+fn audit_names_an_order_whose_contracts_are_not_ratio_times_units() {
+    let sheet = String::from_utf8(good(&["sheet", "--text"], RATIOS_TEXT.as_bytes())).unwrap();
+    let wrong = sheet.replace("65 0 0 130 2 4 1\n", "65 0 0 130 1 4 1\n");
+    assert_ne!(sheet, wrong);
+    let session = Kept::new("ratios.txt", RATIOS_TEXT.as_bytes());
+    let sheet = Kept::new("ratios.sheet", wrong.as_bytes());
+    let output = venue(&["audit", "--text", session.path(), sheet.path()], b"");
+    let told = String::from_utf8(output.stdout).unwrap();
+    let line = "disagreement: order 4: 11 contracts in series 0, expected 12\n";
+    assert!(told.contains(line), "{told}");
+    assert_eq!(output.status.code(), Some(1));
+}
+
 #[test]
 fn explain_tells_refusals_in_words() {
     let told = good(&["explain", "--text"], b"cancel 9\nraw 09 00 06\n");

@@ -79,6 +79,7 @@ fn all() -> Vec<Session> {
         from_text("refused", include_str!("sessions/refused.txt")),
         editions(),
         from_text("shown", include_str!("sessions/shown.txt")),
+        from_text("units", include_str!("sessions/units.txt")),
         from_text("empty", ""),
         full(),
         beyond(),

@@ -4,7 +4,7 @@
 use super::Generator;
 use crate::message::{Leg, Message};
 use crate::settings::last_edition;
-use crate::view::{held_complex, held_regular, legs_of, sign, View};
+use crate::view::{held_complex, held_regular, legs_of, parts_of, sign, View};
 use reference::{Complex, Venue};
 
 impl Generator {
@@ -53,7 +53,7 @@ impl Generator {
     fn percent_at_edge(&mut self, venue: &Venue) -> Option<u8> {
         let view = View::of(venue);
         let least = |order: &&Complex| {
-            let market = view.market_net(legs_of(order)).filter(|net| *net != 0)?;
+            let market = view.market_net(parts_of(order)).filter(|net| *net != 0)?;
             let over = 100 * (i64::from(order.limit) - market);
             let least = over.div_euclid(market.abs()) + i64::from(over % market.abs() != 0);
             (1..=50).contains(&least).then_some(least as u8)

@@ -1,7 +1,7 @@
 //! Request (j): four venues behind one line.
 
 use reference::{arrive, one_message, settings, turn, Layer, Turned, Venue};
-use sessions::asked::{parse_script, Asked};
+use sessions::asked::{parse_script, Asked, ENOUGH};
 use sessions::held::VENUE_BYTES;
 use sessions::held_layer::{from_bytes, to_bytes, LANE_BYTES, LAYER_BYTES};
 use sessions::lent::Lent;
@@ -202,12 +202,12 @@ fn a_turn_ended_by_10_changes_nothing_and_is_tried_again_at_the_same_venue() {
     arrive(&mut layer, 3, &SWEEP);
     let given = layer.clone();
     for _ in 0..3 {
-        let (turned, _) = turn_in(&mut layer, 10_112);
+        let (turned, _) = turn_in(&mut layer, ENOUGH as usize);
         assert_eq!((turned.number, turned.served), (10, 4));
         assert_eq!(layer, given);
     }
     layer.lanes[2].done = u32::MAX - 1;
-    let (turned, sheet) = turn_in(&mut layer, 10_112);
+    let (turned, sheet) = turn_in(&mut layer, ENOUGH as usize);
     assert_eq!((turned.number, turned.served), (1, 2));
     assert_eq!(sheet, "64 4294967295 1 0 0\n");
     assert_eq!(turn_in(&mut layer, 12).0.served, 3);
@@ -236,6 +236,12 @@ fn unsound() -> Vec<Layer> {
         let order = "order 1 buy 5 series 0 at 115 shows 2";
         played(&mut layer, &format!("arrive {venue} {order}\nturn\n"));
         layer.lanes[venue].venue.regular[0].reserve = 0;
+        layers.push(layer);
+        // An order of equal ratios.
+        let mut layer = Layer::fresh();
+        let order = "complex 1 buy 0 buy 1 class 0 net 5 quantity 5 ratio 2 1";
+        played(&mut layer, &format!("arrive {venue} {order}\nturn\n"));
+        layer.lanes[venue].venue.complex[0].ratio2 = 2;
         layers.push(layer);
         // An edition of message 1, and no message done.
         let mut layer = Layer::fresh();

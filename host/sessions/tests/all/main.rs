@@ -4,6 +4,7 @@ mod common;
 mod feed;
 mod layer;
 mod random_sessions;
+mod ratios;
 mod refusals;
 mod report_memory;
 mod reserve;

@@ -5,12 +5,13 @@ use sessions::audit::audit;
 use sessions::coverage::Coverage;
 use sessions::explain::explain;
 use sessions::feed_generator::draw_feed;
+use sessions::generator::Generator;
 use sessions::message::{split, Message};
 use sessions::profile::Profile;
 use sessions::random::Random;
 use sessions::record::read_report;
 use sessions::sheet::run_whole;
-use sessions::soak::{check_session, generate};
+use sessions::soak::{check_session, drawn, generate};
 use sessions::text::{decode_session, encode_session};
 
 /// Sessions of each profile.
@@ -31,7 +32,7 @@ fn check_profiles(profiles: &[Profile]) -> Coverage {
 #[test]
 fn all_profiles_hold_every_check_and_show_every_case() {
     let coverage = check_profiles(&Profile::ALL);
-    assert_eq!(coverage.sessions, SESSIONS * 15);
+    assert_eq!(coverage.sessions, SESSIONS * 16);
     assert_eq!(coverage.missing(), Vec::<String>::new());
 }
 
@@ -41,6 +42,20 @@ fn equal_seeds_give_equal_sessions_and_others_differ() {
         let session = generate(profile, 5, 100);
         assert_eq!(session, generate(profile, 5, 100));
         assert_ne!(session, generate(profile, 6, 100));
+    }
+}
+
+#[test]
+fn sessions_up_to_a_kind_have_none_above_it() {
+    let kind = |message: &[u8]| u16::from_le_bytes([message[2], message[3]]);
+    for profile in Profile::ALL {
+        let session = |last| drawn(Generator::new(profile, 5).up_to(last), 300);
+        assert_eq!(session(10), generate(profile, 5, 300));
+        for last in [6, 8, 9] {
+            let messages = session(last);
+            let above = |message: &&Vec<u8>| (last + 1..=10).contains(&kind(message));
+            assert_eq!(messages.iter().find(above), None, "{}", profile.name());
+        }
     }
 }
 

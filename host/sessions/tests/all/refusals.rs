@@ -49,7 +49,7 @@ fn unknown_kinds_of_any_length_are_2() {
         "raw 04 00 63 00",
         "raw 05 00 00 00 01",
         "raw 04 00 40 00",
-        "raw 04 00 0a 00",
+        "raw 04 00 0c 00",
         "raw 06 00 05 01 00 01",
     ] {
         assert_eq!(sheet(raw), "64 1 2 0 0\n", "{raw}");
@@ -278,6 +278,7 @@ fn every_byte_of_every_field_is_read() {
         class: 1,
         limit: -70_000,
         quantity: 0x1234,
+        ratios: Some([3, 2]),
     };
     let (returned, _) = one(&venue, &order.encode());
     let held = returned.venue.complex[0];
@@ -285,6 +286,7 @@ fn every_byte_of_every_field_is_read() {
         (held.id, held.limit, held.quantity),
         (0x0102_0304, -70_000, 0x1234)
     );
+    assert_eq!((held.ratio1, held.ratio2), (3, 2));
     let legs = (
         held.series1,
         held.side1,

@@ -143,6 +143,19 @@ fn every_session_of_up_to_5_messages_from_10_with_reserve() {
 }
 
 #[test]
+fn every_session_of_up_to_5_messages_from_10_with_ratios() {
+    let first = "order 1 sell 3 series 0 at 130\norder 2 sell 4 series 1 at 90\n\
+        away 0 bid 100 offer 0\naway 1 bid 80 offer 0\n";
+    let choices = "complex 3 buy 0 buy 1 class 1 net 205 quantity 1\n\
+        complex 4 buy 0 buy 1 class 0 net 360 quantity 3 ratio 2 1\n\
+        complex 5 sell 1 sell 0 class 0 net -250 quantity 2 ratio 1 2\n\
+        complex 6 sell 0 sell 1 class 1 net -190 quantity 2 ratio 1 2\n\
+        order 7 sell 1 series 0 at 130\norder 8 buy 1 series 0 at 115\n\
+        order 9 buy 5 series 1 at 70 shows 1\ncancel 4\ncancel 2\nsweep\n";
+    assert_eq!(search(first, choices, 5), sessions_of(10, 5));
+}
+
+#[test]
 fn every_session_of_up_to_5_messages_from_10_with_settings() {
     let first = "away 0 bid 0 offer 100\norder 1 sell 15 series 0 at 130\n\
         order 2 sell 12 series 1 at 90\nclose 7\n";

@@ -2,7 +2,7 @@
 //! written apart from it; and what is sound stays sound.
 
 use crate::common::{one, venue_after, with_legging};
-use reference::{is_sound, Edition, Venue};
+use reference::{is_sound, Edition, Legging, Venue};
 use sessions::sound::fault;
 
 /// Regular orders in series 0 to 2, a complex order with two legging orders,
@@ -184,6 +184,57 @@ const RESERVE: &[Change] = &[
     }),
 ];
 
+/// A complex order with two legging orders, then one of ratios 3 and 2 and one of kind 2.
+fn with_ratios() -> Venue {
+    venue_after(&with_legging(
+        "complex 4 buy 2 buy 3 class 0 net 600000 quantity 5 ratio 3 2\n\
+         complex 5 buy 2 buy 3 class 0 net 9 quantity 5\n",
+    ))
+}
+
+fn set_ratios(venue: &mut Venue, at: usize, ratio1: u8, ratio2: u8) {
+    (venue.complex[at].ratio1, venue.complex[at].ratio2) = (ratio1, ratio2);
+}
+
+const RATIOS: &[Change] = &[
+    ("ratio 0", |v| v.complex[1].ratio1 = 0),
+    ("second ratio 0", |v| v.complex[1].ratio2 = 0),
+    ("no ratios", |v| set_ratios(v, 2, 0, 0)),
+    ("ratio 4", |v| v.complex[1].ratio1 = 4),
+    ("second ratio 4", |v| v.complex[1].ratio2 = 4),
+    ("ratios 2 and 2", |v| set_ratios(v, 2, 2, 2)),
+    ("ratios 3 and 3", |v| set_ratios(v, 2, 3, 3)),
+    ("ratios 255 and 255", |v| set_ratios(v, 2, 255, 255)),
+    ("ratios 1 and 1 with the limit of kind 10", |v| {
+        set_ratios(v, 1, 1, 1)
+    }),
+    ("limit above 600,000", |v| v.complex[1].limit = 600_001),
+    ("limit below -600,000", |v| v.complex[1].limit = -600_001),
+    ("limit of kind 10 in kind 2", |v| {
+        v.complex[2].limit = 200_001
+    }),
+    ("quantity above 10,000 units", |v| {
+        v.complex[1].quantity = 10_001
+    }),
+    ("a free place with a ratio", |v| v.complex[3].ratio1 = 1),
+    ("a free place with a second ratio", |v| {
+        v.complex[31].ratio2 = 1
+    }),
+    ("a free place of ratios 1 and 1", |v| {
+        set_ratios(v, 31, 1, 1)
+    }),
+    ("a parent of unequal ratios", |v| set_ratios(v, 0, 2, 1)),
+    ("a legging order of unequal ratios", |v| {
+        v.series[2].offer = 300;
+        v.series[3].offer = 300;
+        v.legging[4] = Legging {
+            parent: 4,
+            price: 5,
+            quantity: 1,
+        };
+    }),
+];
+
 fn expect_unsound(changes: &[Change]) {
     expect_unsound_upon(opened(), changes);
 }
@@ -229,6 +280,24 @@ fn each_fault_of_the_row_of_editions_is_unsound() {
 #[test]
 fn each_fault_of_what_an_order_shows_is_unsound() {
     expect_unsound_upon(with_reserve(), RESERVE);
+}
+
+#[test]
+fn each_fault_of_ratios_is_unsound() {
+    expect_unsound_upon(with_ratios(), RATIOS);
+}
+
+#[test]
+fn all_unequal_ratios_of_1_to_3_are_sound_with_either_end_of_the_limit() {
+    for (ratio1, ratio2) in [(1, 2), (2, 1), (1, 3), (3, 1), (2, 3), (3, 2)] {
+        for limit in [-600_000, -200_001, 0, 200_001, 600_000] {
+            let mut venue = with_ratios();
+            set_ratios(&mut venue, 1, ratio1, ratio2);
+            venue.complex[1].limit = limit;
+            assert!(is_sound(&venue));
+            assert_eq!(fault(&venue), None);
+        }
+    }
 }
 
 #[test]
