@@ -49,6 +49,8 @@
  *                7 increment  series u8, increment u8 (1, 5 or 10), edition u32             10
  *                8 percent    percent u8 (0 to 50), edition u32                              9
  *                9 reserve    as 1, and after it shown quantity u32 (1 to the quantity)     22
+ *               10 ratio      as 2, and after it two ratios u8 (1 to 3, not the same), of
+ *                             the first leg and of the second                               23
  *     records   64 answer     message number u32, refusal u8, place mask u16, count u8      12
  *               65 trade      series u8, taker's side u8, price u32, quantity u32,
  *                             taker id u32, maker id u32                                    22
@@ -84,6 +86,20 @@
  *   shown quantity and what is left of it, and it keeps its turn. Record 71 tells all
  *   that is left, shown or not.
  *
+ * RATIOS
+ *   An order of kind 2 is of one contract of each leg; one of kind 10 of as many as the
+ *   leg's ratio. That is a unit: its limit, from -600,000 to 600,000, is the highest net
+ *   of a unit, every net weighs each leg by its ratio, and all its quantities but those of
+ *   record 65 are units. It crosses only with an order of the same ratio in each series
+ *   and the other side, and legs in by whole units of what is shown at both best prices;
+ *   where these cannot fill one, it trades no more. It has no legging orders. It shares
+ *   the 32 places. So the contracts of each leg are ratio times the units of record 66.
+ *
+ *   Causes of record 68: 1 its displayed price is worse than the best regular one, 2 the
+ *   other leg cannot be had, 3 its parent crossed or paired, 4 was cancelled, 5 is out of
+ *   band, 6 a series is not open, 7 another took its place, 8 a complex order reached it,
+ *   10 one of kind 10 did where the sizes that it reached cannot fill a unit.
+ *
  * NUMBERS
  *   Each call returns one of these, and fails in no other way.
  */
@@ -95,7 +111,7 @@
 
 #define LEGGING_DONE          0u /* accepted; of a run: the whole list was done */
 #define LEGGING_TORN          1u /* 1 to 3 bytes left (of one message: 0 to 3), or a length below 4 or above what is left */
-#define LEGGING_UNKNOWN_KIND  2u /* kind not 1 to 9 */
+#define LEGGING_UNKNOWN_KIND  2u /* kind not 1 to 10 */
 #define LEGGING_WRONG_LENGTH  3u /* length not its kind's */
 #define LEGGING_OUT_OF_RANGE  4u /* a field outside its range, a shown quantity above the quantity, both legs in one series, or a price off the increment in force */
 #define LEGGING_ID_NOT_ABOVE  5u /* id not above the last accepted */
@@ -107,15 +123,17 @@
 #define LEGGING_EDITION_NOT_ABOVE 11u /* the edition is not above the last, of either kind */
 #define LEGGING_SERIES_IN_USE     12u /* an increment of a series that is not closed, or has a resting order or leg */
 #define LEGGING_EDITIONS_FULL     13u /* 32 editions are held already */
+#define LEGGING_EQUAL_RATIOS      14u /* the two ratios are equal */
 #define LEGGING_NO_PLACE     17u /* the venue's wait holds 8 messages, or the message is over 32 bytes */
 #define LEGGING_NO_VENUE     18u /* venue number above 3 */
 #define LEGGING_DIFFERS      19u /* both lines have the next number, but their bytes differ */
 #define LEGGING_LOST         20u /* neither line has the next number, though a later one stands on either */
 #define LEGGING_BAD_LINE     21u /* a line is torn, does not rise, or has a length below 4 or number 0 */
 
-#define LEGGING_VENUE_BYTES 3948u /* a venue held by a host */
+#define LEGGING_VENUE_BYTES 4012u /* a venue held by a host */
 #define LEGGING_SHOWN_AT    2924u /* where in it the rows of reserve and display begin */
-#define LEGGING_MOST_BYTES 10112u /* no message upon a sound venue writes more */
+#define LEGGING_RATIOS_AT   3948u /* where in it the rows of ratios begin */
+#define LEGGING_MOST_BYTES 10428u /* no message upon a sound venue writes more */
 #define LEGGING_SETTINGS_BYTES 9u /* eight increments and the percentage */
 
 #define LEGGING_VENUES       4u /* behind one line */
@@ -132,7 +150,7 @@ extern "C" {
  * Runs a message list from a fresh venue: no orders, all series open, no away
  * prices.
  *
- * Messages are taken one by one. One that is refused with 2 to 8 or 11 to 13 is
+ * Messages are taken one by one. One that is refused with 2 to 8 or 11 to 14 is
  * answered and passed over. Returns
  *   LEGGING_DONE     all messages were done, the refused ones included;
  *   LEGGING_TORN     1 to 3 bytes were left, or a length below 4 or above what was
@@ -203,6 +221,7 @@ uint8_t legging_fresh(uint8_t *venue, size_t venue_len);
  *                          shown, the display the part that is: the shown quantity, or what
  *                          is left where that is less. Of kind 1 the reserve is 0 and the
  *                          display the quantity
+ *      32 complex orders   once more, in the same places: two ratios u8, of kind 2 both 1
  *
  * Held places come first, in rising id or edition; free places are zero. Equal states
  * are equal bytes, so a venue may be copied, kept and compared as bytes.
@@ -210,7 +229,7 @@ uint8_t legging_fresh(uint8_t *venue, size_t venue_len);
  * Only the first message of `message` is read. Returns
  *   LEGGING_DONE     accepted: `venue` is the venue that follows, `report` the
  *                    message's answer and records;
- *   1 to 8, 11 to 13 refused: `venue` as it was, `report` the answer;
+ *   1 to 8, 11 to 14 refused: `venue` as it was, `report` the answer;
  *   LEGGING_UNSOUND  `venue_len` is not LEGGING_VENUE_BYTES, the bytes are no sound
  *                    venue, or the message's number is not above that of every
  *                    edition kept: `venue` as it was, `report` all zeros. A venue
@@ -288,7 +307,7 @@ uint8_t legging_arrive(uint8_t *layer, size_t layer_len, uint32_t venue,
  * the venue's own messages gone before. Returns the number, and 256 times the venue
  * served: LEGGING_TURN_NUMBER and LEGGING_TURN_VENUE take them apart.
  *   LEGGING_DONE,         with a venue: its message was accepted, or refused as the number
- *   1 to 8, 11 to 13      says. It waits no more, and `report` is its answer and records;
+ *   1 to 8, 11 to 14      says. It waits no more, and `report` is its answer and records;
  *   LEGGING_DONE          with LEGGING_NONE: nothing waits;
  *   LEGGING_UNSOUND       with LEGGING_NONE: as of legging_arrive;
  *   LEGGING_NO_ROOM       with LEGGING_NONE: the records do not fit, or the venue's message

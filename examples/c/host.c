@@ -22,8 +22,9 @@ static const char USAGE[] =
     "table order, and last the number that ended it.\n"
     "\n"
     "  --each        message by message, upon a venue held here; otherwise by one run\n"
-    "  --resting     message by message, and then the regular orders that rest, each with\n"
-    "                what is left of it and what of that is shown\n"
+    "  --resting     message by message, and then the orders that rest: of each regular one\n"
+    "                what is left and what of that is shown, of each complex one its legs\n"
+    "                with their ratios and the units open\n"
     "  --settings NUMBER\n"
     "                message by message, and then the increments of the eight series and\n"
     "                the percentage that held at this message\n"
@@ -174,6 +175,29 @@ static void print_resting(const uint8_t *venue)
     }
 }
 
+/* A leg of a complex order: its side, its ratio and its series. */
+static void print_leg(const uint8_t *leg, uint8_t ratio)
+{
+    printf(" %s %u series %u,", leg[1] == 0 ? "buy" : "sell", (unsigned)ratio, (unsigned)leg[0]);
+}
+
+/* The complex orders that rest: the legs of a unit, its highest net, and the units open. */
+static void print_resting_complex(const uint8_t *venue)
+{
+    enum { PLACES = 32, BEGIN_AT = 1792, ORDER_BYTES = 17, RATIO_BYTES = 2 };
+    for (size_t place = 0; place < PLACES; place++) {
+        const uint8_t *order = venue + BEGIN_AT + place * ORDER_BYTES;
+        const uint8_t *ratios = venue + LEGGING_RATIOS_AT + place * RATIO_BYTES;
+        uint32_t quantity = number_at(order + 13, 4);
+        if (quantity == 0)
+            return;
+        printf("complex %" PRIu32 ":", number_at(order, 4));
+        print_leg(order + 4, ratios[0]);
+        print_leg(order + 6, ratios[1]);
+        printf(" net %" PRId32 ", %" PRIu32 " units\n", (int32_t)number_at(order + 9, 4), quantity);
+    }
+}
+
 /* The same list by one-message calls: the venue is held here, and each message is
  * told how many went before it. */
 static uint8_t run_each(struct options options, struct bytes messages)
@@ -191,12 +215,14 @@ static uint8_t run_each(struct options options, struct bytes messages)
         print_records(report, "", options.hex);
         if (number == LEGGING_TORN || number == LEGGING_UNSOUND || number == LEGGING_NO_ROOM)
             break;
-        number = LEGGING_DONE; /* a message refused with 2 to 8 or 11 to 13 is passed over */
+        number = LEGGING_DONE; /* a message refused with 2 to 8 or 11 to 14 is passed over */
         before += 1;
         at += number_at(message, 2);
     }
-    if (options.lists)
+    if (options.lists) {
         print_resting(venue);
+        print_resting_complex(venue);
+    }
     if (options.tells)
         print_settings(venue, options.told_at);
     free(report.at);

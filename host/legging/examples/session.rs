@@ -1,7 +1,7 @@
 //! The printed session of document 01: opens two series, offers in both, a complex
 //! order that is shown in both books, and an order that hits it. First by one run,
 //! then message by message upon a venue held here: the records are the same. Then an
-//! order that shows a part of it.
+//! order that shows a part of it, and a complex order of two contracts against one.
 //!
 //!     cargo run --release --offline -p legging --example session
 
@@ -43,6 +43,16 @@ fn buy_both(id: u32, limit: i32, quantity: u32) -> Vec<u8> {
     message(2, &[&id, &[0, 0, 1, 0, 1], &limit, &quantity])
 }
 
+/// Buys two of series 0 and one of series 1 together, for at most `limit` a unit.
+fn buy_two_and_one(id: u32, limit: i32, quantity: u32) -> Vec<u8> {
+    let (id, limit, quantity) = (
+        id.to_le_bytes(),
+        limit.to_le_bytes(),
+        quantity.to_le_bytes(),
+    );
+    message(10, &[&id, &[0, 0, 1, 0, 1], &limit, &quantity, &[2, 1]])
+}
+
 /// The records in report memory: up to the first zero length or its end.
 fn records(report: &[u8]) -> Vec<&[u8]> {
     let mut records = Vec::new();
@@ -57,6 +67,25 @@ fn records(report: &[u8]) -> Vec<&[u8]> {
         rest = after;
     }
     records
+}
+
+/// An order that shows a part of it, and a complex order of two contracts against one.
+fn later_kinds(venue: &mut VenueBytes) {
+    let mut report = [0; MOST_BYTES];
+    let reserve = sell_showing(5, 2, 200, 20, 5);
+    assert_eq!(one_message(venue, 6, &reserve, &mut report), Number::DONE);
+    // 2 x 130 and 90 are offered: it pays 350 a unit, and legs in.
+    let ratio = buy_two_and_one(6, 350, 8);
+    assert_eq!(one_message(venue, 7, &ratio, &mut report), Number::DONE);
+    for record in records(&report) {
+        println!("kind {}: {:02x?}", record[2], &record[4..]);
+    }
+    for order in venue.regular_orders() {
+        println!("resting: {order:?}");
+    }
+    for order in venue.complex_orders() {
+        println!("resting: {order:?}");
+    }
 }
 
 fn main() {
@@ -88,12 +117,7 @@ fn main() {
         "the same message by message; the last id is {}",
         venue.last_id()
     );
-    let reserve = sell_showing(5, 2, 200, 20, 5);
-    let number = one_message(&mut venue, 6, &reserve, &mut report);
-    assert_eq!(number, Number::DONE);
-    for order in venue.regular_orders() {
-        println!("resting: {order:?}");
-    }
+    later_kinds(&mut venue);
     match settings(&venue, 6) {
         Some(told) => println!("at message 6 held {told:?}"),
         None => println!("{}", Number::UNSOUND),

@@ -56,7 +56,7 @@ extern "C" {
 
 /// Runs a message list from a fresh venue.
 ///
-/// Messages are taken one by one; one that is refused with 2 to 8 or 11 to 13 is
+/// Messages are taken one by one; one that is refused with 2 to 8 or 11 to 14 is
 /// answered and passed over. The number is [`Number::DONE`] when all were done,
 /// [`Number::TORN`] when a torn message ended the run, which is answered while
 /// nothing after it is read, and [`Number::NO_ROOM`] when the run ended before the
@@ -113,7 +113,7 @@ pub fn fresh_in(venue: &mut [u8]) -> Number {
 /// before it, and its own number is one more.
 ///
 /// An accepted message leaves the venue that follows from it. A refused one (1 to 8,
-/// 11 to 13) leaves the venue as it was. Both are answered in `report`. With
+/// 11 to 14) leaves the venue as it was. Both are answered in `report`. With
 /// [`Number::UNSOUND`], also where its number is not above that of every edition kept,
 /// and with [`Number::NO_ROOM`] nothing was done: the venue is as given and `report`
 /// all zeros.

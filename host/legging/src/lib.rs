@@ -70,7 +70,7 @@ pub use archive::{feed, fresh_in, one_message, one_message_in, run, settings_in}
 pub use layer::{LayerBytes, Turned, LAYER_BYTES, MOST_MESSAGE, MOST_WAITING, VENUES};
 pub use number::Number;
 pub use settings::{settings, Settings, SETTINGS_BYTES};
-pub use venue::{RegularOrder, VenueBytes, VENUE_BYTES};
+pub use venue::{ComplexOrder, RegularOrder, VenueBytes, VENUE_BYTES};
 
 /// No message upon a sound venue writes more bytes.
-pub const MOST_BYTES: usize = 10_112;
+pub const MOST_BYTES: usize = 10_428;

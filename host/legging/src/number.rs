@@ -2,7 +2,7 @@
 
 use std::fmt::{self, Display};
 
-/// What a call returned: 0 to 13, 17 and 18 of an arrival, 19 to 21 of a feed.
+/// What a call returned: 0 to 14, 17 and 18 of an arrival, 19 to 21 of a feed.
 #[derive(Clone, Copy, Debug, PartialEq, Eq, PartialOrd, Ord, Hash)]
 pub struct Number(u8);
 
@@ -12,7 +12,7 @@ impl Number {
     /// 1 to 3 bytes left (of one message: 0 to 3), or a length below 4 or above
     /// what is left.
     pub const TORN: Number = Number(1);
-    /// The kind is not 1 to 9.
+    /// The kind is not 1 to 10.
     pub const UNKNOWN_KIND: Number = Number(2);
     /// The length is not its kind's.
     pub const WRONG_LENGTH: Number = Number(3);
@@ -38,6 +38,8 @@ impl Number {
     pub const SERIES_IN_USE: Number = Number(12);
     /// 32 editions are held already.
     pub const EDITIONS_FULL: Number = Number(13);
+    /// The two ratios are equal.
+    pub const EQUAL_RATIOS: Number = Number(14);
     /// The venue's wait holds 8 messages, or the message is over 32 bytes.
     pub const NO_PLACE: Number = Number(17);
     /// The venue's number is above 3.
@@ -62,8 +64,8 @@ impl Number {
     /// Whether a message was done, refused or not: of a one-message call the
     /// messages done are then 1, else 0.
     pub fn is_done(self) -> bool {
-        let of_settings = Number::EDITION_NOT_ABOVE..=Number::EDITIONS_FULL;
-        self <= Number::NO_SUCH_ORDER || of_settings.contains(&self)
+        let later = Number::EDITION_NOT_ABOVE..=Number::EQUAL_RATIOS;
+        self <= Number::NO_SUCH_ORDER || later.contains(&self)
     }
 
     /// The number in words.
@@ -83,6 +85,7 @@ impl Number {
             11 => "edition not above the last",
             12 => "the series is not closed, or is in use",
             13 => "32 editions are held",
+            14 => "the two ratios are equal",
             17 => "the wait is full, or the message is too long to wait",
             18 => "there is no such venue",
             19 => "the lines differ in a message",

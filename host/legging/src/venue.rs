@@ -5,7 +5,7 @@ use crate::number::Number;
 use std::fmt;
 
 /// The length of a venue.
-pub const VENUE_BYTES: usize = 3_948;
+pub const VENUE_BYTES: usize = 4_012;
 
 /// Where the last id stands: after the orders and the series.
 const LAST_ID_AT: usize = 2_600;
@@ -13,9 +13,18 @@ const LAST_ID_AT: usize = 2_600;
 /// Where the regular orders' reserve and display begin: after the editions.
 const SHOWN_AT: usize = 2_924;
 
+/// Where the complex orders begin: after the regular ones.
+const COMPLEX_AT: usize = 1_792;
+
+/// Where the complex orders' ratios begin: after reserve and display.
+const RATIOS_AT: usize = 3_948;
+
 const REGULAR_PLACES: usize = 128;
 const REGULAR_BYTES: usize = 14;
 const SHOWN_BYTES: usize = 8;
+const COMPLEX_PLACES: usize = 32;
+const COMPLEX_BYTES: usize = 17;
+const RATIO_BYTES: usize = 2;
 
 /// A regular order that rests.
 #[derive(Clone, Copy, Debug, PartialEq, Eq)]
@@ -31,6 +40,23 @@ pub struct RegularOrder {
     pub shown: u32,
 }
 
+/// A complex order that rests. Each leg is its series, its side (0 to buy, 1 to sell) and
+/// its ratio: the contracts that one unit has of it.
+#[derive(Clone, Copy, Debug, PartialEq, Eq)]
+pub struct ComplexOrder {
+    pub id: u32,
+    pub series: [u8; 2],
+    pub sides: [u8; 2],
+    /// 1 and 1 for an order of kind 2.
+    pub ratios: [u8; 2],
+    /// 0 customer, 1 other.
+    pub class: u8,
+    /// The highest net of a unit that it accepts.
+    pub limit: i32,
+    /// What is open of it, in units.
+    pub quantity: u32,
+}
+
 /// A venue held as bytes: one value for one state.
 ///
 /// Without padding, numbers little-endian: 128 regular orders (id u32, series u8,
@@ -39,9 +65,10 @@ pub struct RegularOrder {
 /// place 2 × series + side (parent u32, price u32, quantity u32), 8 series (status
 /// u8, bid u32, offer u32), the last id u32, 32 editions (edition u32, message
 /// number u32, figure u8, value u8; figure 0 to 7 is the increment of that series, 8
-/// the percentage of the band), and of the 128 regular orders once more reserve u32 and
-/// display u32: the part of the quantity that is not shown, and the part that is. Held
-/// places come first, in rising id or edition; free places are zero.
+/// the percentage of the band), of the 128 regular orders once more reserve u32 and
+/// display u32, the part of the quantity that is not shown and the part that is, and of
+/// the 32 complex orders once more two ratios u8, 1 and 1 of kind 2. Held places come
+/// first, in rising id or edition; free places are zero.
 #[derive(Clone, PartialEq, Eq)]
 pub struct VenueBytes([u8; VENUE_BYTES]);
 
@@ -91,6 +118,24 @@ impl VenueBytes {
                 price: self.u32_at(at + 6),
                 quantity: self.u32_at(at + 10),
                 shown: self.u32_at(shown + 4),
+            }
+        });
+        orders.take_while(|order| order.quantity > 0)
+    }
+
+    /// The complex orders that rest, in rising id, with their ratios.
+    pub fn complex_orders(&self) -> impl Iterator<Item = ComplexOrder> + '_ {
+        let orders = (0..COMPLEX_PLACES).map(|place| {
+            let at = COMPLEX_AT + place * COMPLEX_BYTES;
+            let ratios = RATIOS_AT + place * RATIO_BYTES;
+            ComplexOrder {
+                id: self.u32_at(at),
+                series: [self.0[at + 4], self.0[at + 6]],
+                sides: [self.0[at + 5], self.0[at + 7]],
+                ratios: [self.0[ratios], self.0[ratios + 1]],
+                class: self.0[at + 8],
+                limit: self.u32_at(at + 9) as i32,
+                quantity: self.u32_at(at + 13),
             }
         });
         orders.take_while(|order| order.quantity > 0)

@@ -2,7 +2,7 @@
 
 use legging::{arrive, arrive_in, layer_fresh_in, turn, turn_in};
 use legging::{feed, fresh_in, one_message, one_message_in, run, settings, settings_in};
-use legging::{LayerBytes, Number, RegularOrder, Settings, VenueBytes};
+use legging::{ComplexOrder, LayerBytes, Number, RegularOrder, Settings, VenueBytes};
 use legging::{LAYER_BYTES, MOST_BYTES, SETTINGS_BYTES, VENUE_BYTES};
 use reference::{Layer, Venue};
 use sessions::held::to_bytes;
@@ -294,7 +294,7 @@ fn orders_that_rest_are_told_with_what_they_show() {
     let bytes = venue.as_bytes();
     assert_eq!(bytes[2_924..2_932], [1, 0, 0, 0, 4, 0, 0, 0]);
     assert_eq!(bytes[2_940..2_948], [5, 0, 0, 0, 3, 0, 0, 0]);
-    assert_eq!(bytes[2_948..], [0; 1_000]);
+    assert_eq!(bytes[2_948..], [0; 1_064]);
 }
 
 #[test]
@@ -314,6 +314,87 @@ fn an_order_that_shows_otherwise_is_unsound() {
 #[test]
 fn the_stored_session_of_reserve() {
     let text = include_str!("../../venue/tests/sessions/shown.txt");
+    let messages = encode_session(text).expect("the stored session is good");
+    let mut report = [0xC3; 4_096];
+    assert_eq!(run(&messages, &mut report), Number::DONE);
+    let mut wanted = [0; 4_096];
+    reference::run(&messages, &mut wanted);
+    assert_eq!(sheet(&report), sheet(&wanted));
+}
+
+/// Two contracts of series 0 against one of series 1, of which a unit is paired; then an
+/// order of one against one.
+const UNITS: &str = "order 1 sell 3 series 0 at 130\norder 2 sell 12 series 1 at 90\n\
+    complex 3 buy 0 buy 1 class 1 net 350 quantity 9 ratio 2 1\n\
+    complex 4 sell 7 buy 1 class 0 net -5 quantity 2\n";
+
+#[test]
+fn complex_orders_that_rest_are_told_with_their_ratios() {
+    let venue = venue_after(UNITS);
+    let order = |id, (series, sides), ratios, (class, limit), quantity| ComplexOrder {
+        id,
+        series,
+        sides,
+        ratios,
+        class,
+        limit,
+        quantity,
+    };
+    let expected = [
+        order(3, ([0, 1], [0, 0]), [2, 1], (1, 350), 8),
+        order(4, ([7, 1], [1, 0]), [1, 1], (0, -5), 2),
+    ];
+    assert_eq!(venue.complex_orders().collect::<Vec<_>>(), expected);
+    assert_eq!(VenueBytes::fresh().complex_orders().count(), 0);
+    let bytes = venue.as_bytes();
+    assert_eq!(bytes[3_948..3_952], [2, 1, 1, 1]);
+    assert_eq!(bytes[3_952..], [0; 60]);
+}
+
+#[test]
+fn ratios_that_no_order_has_are_unsound() {
+    let venue = venue_after(UNITS);
+    // Equal, 0, above 3, and in a free place.
+    for (at, byte) in [
+        (3_948, 1),
+        (3_949, 2),
+        (3_948, 0),
+        (3_949, 0),
+        (3_948, 4),
+        (3_949, 255),
+        (3_951, 0),
+        (3_952, 1),
+        (4_011, 1),
+    ] {
+        let mut bytes = *venue.as_bytes();
+        bytes[at] = byte;
+        // With ratios 1 and 1 it would be an order of kind 2, but not with this limit.
+        bytes[1_792 + 9..1_792 + 13].copy_from_slice(&200_001i32.to_le_bytes());
+        let mut given = VenueBytes::from_bytes(bytes);
+        let mut report = [0xC3; 20];
+        let number = one_message(&mut given, 9, &[4, 0, 6, 0], &mut report);
+        assert_eq!((number, report), (Number::UNSOUND, [0; 20]), "byte {at}");
+        assert_eq!(*given.as_bytes(), bytes);
+    }
+}
+
+#[test]
+fn equal_ratios_are_answered_with_14() {
+    let text = "complex 3 buy 0 buy 1 class 1 net 350 quantity 9 ratio 2 2";
+    let message = encode_session(text).expect("a good session");
+    let mut venue = VenueBytes::fresh();
+    let mut report = [0xC3; 20];
+    let number = one_message(&mut venue, 0, &message, &mut report);
+    assert_eq!(number, Number::EQUAL_RATIOS);
+    assert!(number.is_done());
+    assert_eq!(number.to_string(), "14: the two ratios are equal");
+    assert_eq!(sheet(&report), "64 1 14 0 0\n");
+    assert_eq!(venue, VenueBytes::fresh());
+}
+
+#[test]
+fn the_stored_session_of_unequal_ratios() {
+    let text = include_str!("../../venue/tests/sessions/units.txt");
     let messages = encode_session(text).expect("the stored session is good");
     let mut report = [0xC3; 4_096];
     assert_eq!(run(&messages, &mut report), Number::DONE);
@@ -650,9 +731,9 @@ fn a_stack_of_32_kibibytes_is_enough() {
     let list = generate(Profile::Sweeps, 3, 600);
     let line = line_bytes(&numbered(&list));
     let mut report = vec![0xC3; 1 << 20];
+    let mut venue = Box::new(VenueBytes::fresh());
     // The thread and the test take 6 KiB for themselves.
     upon_stack(38 << 10, move || {
-        let mut venue = VenueBytes::fresh();
         for (message, before) in list.iter().zip(0..) {
             one_message(&mut venue, before, message, &mut report);
         }
@@ -690,4 +771,26 @@ fn numbers_have_words() {
         "20: a message is lost from both lines"
     );
     assert!(!Number::DIFFERS.is_done() && !Number::BAD_LINE.is_done());
+}
+
+/// The number that a name stands for in the header for C.
+fn in_header(name: &str) -> usize {
+    let header = include_str!("../../../include/legging.h");
+    let line = header.lines().find_map(|line| {
+        let after = line.strip_prefix("#define ")?.strip_prefix(name)?;
+        after.starts_with(' ').then_some(after)
+    });
+    let word = line.and_then(|after| after.split_whitespace().next());
+    let digits = word.and_then(|word| word.strip_suffix('u'));
+    digits.unwrap().parse().unwrap()
+}
+
+#[test]
+fn hosts_in_c_and_rust_and_scripts_lend_the_same_memory() {
+    assert_eq!(in_header("LEGGING_VENUE_BYTES"), VENUE_BYTES);
+    assert_eq!(in_header("LEGGING_MOST_BYTES"), MOST_BYTES);
+    assert_eq!(in_header("LEGGING_RATIOS_AT") + 2 * 32, VENUE_BYTES);
+    assert_eq!(sessions::asked::ENOUGH as usize, MOST_BYTES);
+    assert_eq!(sessions::held::VENUE_BYTES, VENUE_BYTES);
+    assert_eq!(held_layer::LAYER_BYTES, LAYER_BYTES);
 }

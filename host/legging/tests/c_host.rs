@@ -243,6 +243,24 @@ fn orders_that_rest_are_listed_with_what_they_show() {
 }
 
 #[test]
+fn complex_orders_that_rest_are_listed_with_their_ratios() {
+    let text = "order 1 sell 3 series 0 at 130\norder 2 sell 12 series 1 at 90\n\
+        complex 3 buy 0 buy 1 class 1 net 350 quantity 9 ratio 2 2\n\
+        complex 3 buy 0 buy 1 class 1 net 350 quantity 9 ratio 2 1\n\
+        complex 4 sell 7 buy 1 class 0 net -5 quantity 2\n";
+    let messages = encode_session(text).expect("a good session");
+    let (status, told) = both_ways(&[], &messages);
+    assert_eq!(status, 0);
+    let unit = "64 3 14 0 0\n64 4 0 0 0\n65 0 0 130 2 3 1\n65 1 0 90 1 3 2\n66 3 350 1\n";
+    assert!(told.contains(unit), "{told}");
+    let (status, more, _) = host(&["--resting"], &messages);
+    let lines = "order 2: sell 11 series 1 at 90, shows 11\n\
+        complex 3: buy 2 series 0, buy 1 series 1, net 350, 8 units\n\
+        complex 4: sell 1 series 7, buy 1 series 1, net -5, 2 units\nnumber 0: ";
+    assert!(status == 0 && more.contains(lines), "{more}");
+}
+
+#[test]
 fn short_memory_and_hexadecimal() {
     let messages = encode_session(SESSION).expect("the stored session is good");
     let (status, told, _) = host(&["--room", "30", "--hex", "-"], &messages);
