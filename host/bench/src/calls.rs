@@ -2,7 +2,6 @@
 
 use crate::clock::Clock;
 use crate::layers::{Case, Layer};
-use crate::lists::session;
 use crate::race::{Both, Times};
 use crate::runs::{cells, spread, CONTENDERS};
 use crate::table::{header, number, row};
@@ -11,7 +10,6 @@ use legging::{VenueBytes, MOST_BYTES};
 use reference::Venue;
 use sessions::held::to_bytes;
 use sessions::message::split;
-use sessions::profile::Profile;
 use std::hint::black_box;
 
 pub const ROOM: usize = MOST_BYTES;
@@ -120,10 +118,10 @@ impl Track {
 }
 
 /// The messages of a session as calls.
-pub fn calls_of(profile: Profile, seed: u64) -> Result<Vec<Call>, String> {
+pub fn calls_of(pieces: &[Vec<u8>]) -> Result<Vec<Call>, String> {
     let mut venue = Venue::fresh();
     let mut calls = Vec::new();
-    for (message, before) in session(profile, seed).iter().zip(0..) {
+    for (message, before) in pieces.iter().zip(0..) {
         let call = Call::new(message, before, &venue);
         venue = call.agreed()?;
         calls.push(call);
@@ -149,8 +147,8 @@ pub fn profiles(options: &Options) -> Result<String, String> {
     let mut track = Track::new();
     for profile in options.profiles() {
         let mut all = Both::<Vec<f64>>::default();
-        for seed in 0..options.seeds {
-            for both in track.least(&calls_of(profile, seed)?, options.rounds) {
+        for pieces in options.sessions_of(profile) {
+            for both in track.least(&calls_of(&pieces)?, options.rounds) {
                 all.engine.push(both.engine);
                 all.reference.push(both.reference);
             }

@@ -1,7 +1,6 @@
 //! The feed of two whole lines beside the run of the list that came over them.
 
 use crate::clock::Clock;
-use crate::lists::session;
 use crate::race::{room_of, Both, Times};
 use crate::table::{header, number, pair, ratio, row};
 use crate::Options;
@@ -104,9 +103,8 @@ struct Group {
 }
 
 impl Group {
-    fn new(profile: Profile, seeds: u64) -> Result<Self, String> {
-        let pieces = (0..seeds).map(|seed| session(profile, seed));
-        let pieces: Vec<Vec<Vec<u8>>> = pieces.collect();
+    fn new(profile: Profile, options: &Options) -> Result<Self, String> {
+        let pieces: Vec<Vec<Vec<u8>>> = options.sessions_of(profile).collect();
         let sessions: Vec<Session> = pieces.iter().map(|pieces| Session::new(pieces)).collect();
         sessions.iter().try_for_each(Session::agrees)?;
         Ok(Group {
@@ -135,7 +133,7 @@ impl Group {
 
 /// Whole sessions over two lines.
 pub fn profiles(options: &Options) -> Result<String, String> {
-    let groups = options.profiles().map(|of| Group::new(of, options.seeds));
+    let groups = options.profiles().map(|of| Group::new(of, options));
     let groups: Vec<Group> = groups.collect::<Result<_, _>>()?;
     let sessions = groups.iter().flat_map(|group| &group.sessions);
     let most = sessions.map(|session| session.room).max().unwrap_or(0);

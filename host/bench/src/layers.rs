@@ -11,6 +11,7 @@ pub enum Layer {
     TakesReserve,
     Generates,
     Hit,
+    LegsInUnits,
     Cross,
     CrossWithLegging,
     SweepIdle,
@@ -19,12 +20,13 @@ pub enum Layer {
 }
 
 impl Layer {
-    pub const ALL: [Layer; 10] = [
+    pub const ALL: [Layer; 11] = [
         Layer::Rests,
         Layer::TakesTwo,
         Layer::TakesReserve,
         Layer::Generates,
         Layer::Hit,
+        Layer::LegsInUnits,
         Layer::Cross,
         Layer::CrossWithLegging,
         Layer::SweepIdle,
@@ -40,6 +42,7 @@ impl Layer {
             Layer::TakesReserve => "takes-reserve",
             Layer::Generates => "generates",
             Layer::Hit => "hit",
+            Layer::LegsInUnits => "legs-in-units",
             Layer::Cross => "cross",
             Layer::CrossWithLegging => "cross-legging",
             Layer::SweepIdle => "sweep-32",
@@ -56,7 +59,8 @@ impl Layer {
     fn brings_an_order(self) -> bool {
         match self {
             Layer::Rests | Layer::TakesTwo | Layer::TakesReserve | Layer::Hit => true,
-            Layer::Generates | Layer::Cross | Layer::CrossWithLegging => false,
+            Layer::Generates | Layer::LegsInUnits => false,
+            Layer::Cross | Layer::CrossWithLegging => false,
             Layer::SweepIdle | Layer::SweepWorking | Layer::Settles => false,
         }
     }
@@ -69,6 +73,9 @@ impl Layer {
             Layer::TakesReserve => "the same, each with reserve that it takes too",
             Layer::Generates => "a complex order that generates both legs; its cancel",
             Layer::Hit => "a complex order that generates both legs; the order that hits one",
+            Layer::LegsInUnits => {
+                "a complex order of two against one that legs in; what it took again"
+            }
             Layer::Cross => "a complex order that rests; the one that crosses it",
             Layer::CrossWithLegging => "the same, its two legging orders removed",
             Layer::SweepIdle => "a sweep of 32, eight legging orders standing, none made",
@@ -162,6 +169,17 @@ impl Script {
     }
 
     fn complex(&mut self, series: [u8; 2], side: u8, limit: i32, quantity: u32) {
+        self.complex_of(series, side, limit, quantity, None);
+    }
+
+    fn complex_of(
+        &mut self,
+        series: [u8; 2],
+        side: u8,
+        limit: i32,
+        quantity: u32,
+        ratios: Option<[u8; 2]>,
+    ) {
         self.last += 1;
         self.send(Message::Complex {
             id: self.last,
@@ -169,6 +187,7 @@ impl Script {
             class: 1,
             limit,
             quantity,
+            ratios,
         });
     }
 
@@ -200,6 +219,10 @@ impl Script {
                 self.resting += 2;
             }
             Layer::Generates | Layer::Hit => self.offers(),
+            Layer::LegsInUnits => {
+                self.offers_of_a_unit();
+                self.resting += 2;
+            }
             Layer::Cross | Layer::CrossWithLegging => {
                 self.offers();
                 self.rest(0, 0, BIDS[0], MOST);
@@ -209,6 +232,12 @@ impl Script {
                 (0..8).for_each(|series| self.rest(series, 1, OFFERS[0], MOST));
             }
         }
+    }
+
+    /// Two contracts of one series and one of the other.
+    fn offers_of_a_unit(&mut self) {
+        self.order(0, 1, OFFERS[0], 2);
+        self.order(1, 1, OFFERS[1], 1);
     }
 
     fn offers(&mut self) {
@@ -262,6 +291,10 @@ impl Script {
             Layer::Hit => {
                 self.complex([0, 1], 0, 205, 1);
                 self.order(0, 1, 115, 1);
+            }
+            Layer::LegsInUnits => {
+                self.complex_of([0, 1], 0, 350, 1, Some([2, 1]));
+                self.offers_of_a_unit();
             }
             Layer::Cross | Layer::CrossWithLegging => {
                 self.complex([0, 1], 0, 200, 8);
@@ -321,6 +354,7 @@ mod tests {
             assert_eq!(kinds(Layer::Generates, book), [64, 67, 67, 64, 71, 68, 68]);
             let hit = [64, 67, 67, 64, 65, 65, 66, 68, 68];
             assert_eq!(kinds(Layer::Hit, book), hit);
+            assert_eq!(kinds(Layer::LegsInUnits, book), [64, 65, 65, 66, 64, 64]);
             assert_eq!(kinds(Layer::Cross, book), [64, 64, 70]);
             let crossed = [64, 67, 67, 64, 70, 68, 68];
             assert_eq!(kinds(Layer::CrossWithLegging, book), crossed);

@@ -1,14 +1,19 @@
 //! Lists to be timed: sessions of the generator, alone and one after another.
 
 use reference::Venue;
+use sessions::generator::Generator;
 use sessions::message::Message;
 use sessions::profile::Profile;
-use sessions::soak::{generate, session_length};
+use sessions::soak::{drawn, session_length};
 use sessions::view::{held_complex, held_regular};
 
-/// The messages of the generator's own session.
-pub fn session(profile: Profile, seed: u64) -> Vec<Vec<u8>> {
-    generate(profile, seed, session_length(profile, seed))
+/// The last kind of message that there is.
+pub const LAST_KIND: u16 = 10;
+
+/// The messages of the generator's own session, of kinds up to `kinds`.
+pub fn session(profile: Profile, seed: u64, kinds: u16) -> Vec<Vec<u8>> {
+    let generator = Generator::new(profile, seed).up_to(kinds);
+    drawn(generator, session_length(profile, seed))
 }
 
 /// A session that takes back what it leaves, so that another can follow.
@@ -18,15 +23,14 @@ pub struct Closed(Vec<Message>);
 const HIGHEST: u32 = 4_000;
 
 /// The first sessions whose ids stay low, closed.
-pub fn closed_sessions(profile: Profile, count: usize) -> Vec<Closed> {
+pub fn closed_sessions(profile: Profile, kinds: u16, count: usize) -> Vec<Closed> {
     (0..)
-        .filter_map(|seed| closed(profile, seed))
+        .filter_map(|seed| closed(session(profile, seed, kinds)))
         .take(count)
         .collect()
 }
 
-fn closed(profile: Profile, seed: u64) -> Option<Closed> {
-    let pieces = session(profile, seed);
+fn closed(pieces: Vec<Vec<u8>>) -> Option<Closed> {
     let left = reference::run(&pieces.concat(), &mut vec![0; 1 << 18]);
     if left.number != 0 || left.venue.last > HIGHEST {
         return None;

@@ -14,13 +14,14 @@ mod table;
 mod turns;
 
 use layers::Layer;
+use lists::{session, LAST_KIND};
 use sessions::profile::Profile;
 use std::process::ExitCode;
 
 const HELP: &str = "\
 bench: the engine timed beside the reference, in ns
 
-  bench [TABLE ...] [--rounds N] [--seeds N] [--sessions N] [--only NAME] [--quick]
+  bench [TABLE ...] [--rounds N] [--seeds N] [--sessions N] [--only NAME] [--kinds N] [--quick]
   bench spin NAME [--book N] [--times N] [--who engine|reference]
 
 Tables: profiles, blocks, growing, books, layers, feeds, calls, call-layers, turns; all of
@@ -38,14 +39,15 @@ reference / engine of the least: above 1 the engine is faster.
   feeds      the sessions of `profiles` over two whole lines, each one feed, beside the
              engine's own run of the list
   calls      each message of the generator's sessions as a one-message call upon the
-             venue before it, with report memory of 10,112 bytes: eight calls are
-             timed together, least of the rounds for each message
+             venue before it, with report memory that holds any message's records: eight
+             calls are timed together, least of the rounds for each message
   call-layers  the messages of a unit as such calls
   turns      the messages of `calls` that can wait, each as an arrival and as a turn upon
              four copies of its venue behind one line, beside the engine's own call
 
---only keeps the profiles and layers of that name. --quick is 5 rounds, 10 seeds and
-200 sessions. Times are processor times of the thread. Both contenders run in turn,
+--only keeps the profiles and layers of that name. With --kinds 9 sessions have none of
+the kinds above 9: they are those drawn before these came, for an engine of that time.
+--quick is 5 rounds, 10 seeds and 200 sessions. Times are processor times of the thread. Both contenders run in turn,
 each first in every other round, upon report memory with 16,384 bytes more than the
 records; before anything is timed, their reports must be equal.
 
@@ -59,6 +61,7 @@ pub struct Options {
     pub seeds: u64,
     pub sessions: usize,
     pub only: Option<String>,
+    pub kinds: u16,
 }
 
 impl Options {
@@ -69,6 +72,11 @@ impl Options {
     pub fn profiles(&self) -> impl Iterator<Item = Profile> + '_ {
         let all = Profile::ALL.into_iter();
         all.filter(|profile| self.wants(profile.name()))
+    }
+
+    /// The messages of each session of a profile.
+    pub fn sessions_of(&self, profile: Profile) -> impl Iterator<Item = Vec<Vec<u8>>> + '_ {
+        (0..self.seeds).map(move |seed| session(profile, seed, self.kinds))
     }
 
     pub fn layers(&self) -> impl Iterator<Item = Layer> + '_ {
@@ -83,6 +91,7 @@ impl Options {
             seeds: 40,
             sessions: 2_500,
             only: None,
+            kinds: LAST_KIND,
         };
         let mut rest = arguments.iter();
         while let Some(word) = rest.next() {
@@ -91,6 +100,7 @@ impl Options {
                 "--seeds" => options.seeds = value(word, rest.next())?,
                 "--sessions" => options.sessions = value(word, rest.next())?,
                 "--only" => options.only = rest.next().cloned(),
+                "--kinds" => options.kinds = value(word, rest.next())?,
                 "--quick" => {
                     (options.rounds, options.seeds, options.sessions) = (5, 10, 200);
                 }

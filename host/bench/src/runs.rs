@@ -2,7 +2,7 @@
 //! to full, and the layers.
 
 use crate::layers::{Case, Layer};
-use crate::lists::{closed_sessions, joined, messages_in, session};
+use crate::lists::{closed_sessions, joined, messages_in};
 use crate::race::{quantile, Both, List, Times, Track};
 use crate::table::{header, number, pair, ratio, row};
 use crate::Options;
@@ -39,8 +39,7 @@ pub fn profiles(options: &Options) -> Table {
     let mut groups = Vec::new();
     let mut counts = Vec::new();
     for profile in options.profiles() {
-        let sessions = (0..options.seeds).map(|seed| session(profile, seed));
-        let sessions: Vec<Vec<Vec<u8>>> = sessions.collect();
+        let sessions: Vec<Vec<Vec<u8>>> = options.sessions_of(profile).collect();
         counts.push(sessions.iter().map(Vec::len).sum());
         groups.push(track.lists(sessions.iter().map(|pieces| pieces.concat()))?);
     }
@@ -76,8 +75,8 @@ pub fn blocks(options: &Options) -> Table {
     ]);
     for profile in options.profiles() {
         let mut all = Both::<Vec<f64>>::default();
-        for seed in 0..options.seeds {
-            for both in block_times(profile, seed, options.rounds)? {
+        for pieces in options.sessions_of(profile) {
+            for both in block_times(&pieces, options.rounds)? {
                 all.engine.push(both.engine);
                 all.reference.push(both.reference);
             }
@@ -101,9 +100,8 @@ pub fn spread(all: &Both<Vec<f64>>) -> Vec<String> {
     times.chain([ratio(&medians)]).collect()
 }
 
-fn block_times(profile: Profile, seed: u64, rounds: usize) -> Result<Vec<Both<f64>>, String> {
+fn block_times(pieces: &[Vec<u8>], rounds: usize) -> Result<Vec<Both<f64>>, String> {
     let mut track = Track::new();
-    let pieces = session(profile, seed);
     let cuts = (0..=pieces.len()).step_by(BLOCK);
     let lists = track.lists(cuts.map(|cut| pieces[..cut].concat()))?;
     let groups: Vec<Vec<List>> = lists.into_iter().map(|list| vec![list]).collect();
@@ -116,7 +114,7 @@ fn block_times(profile: Profile, seed: u64, rounds: usize) -> Result<Vec<Both<f6
 /// The same sessions in lists of growing length.
 pub fn growing(options: &Options) -> Table {
     let mut table = header(&[&["messages in a list", "lists"], &CONTENDERS[..]].concat());
-    let sessions = closed_sessions(Profile::Mixed, options.sessions);
+    let sessions = closed_sessions(Profile::Mixed, options.kinds, options.sessions);
     let messages = messages_in(&sessions);
     let mut track = Track::new();
     let mut groups = Vec::new();

@@ -1,7 +1,7 @@
 //! One contender alone, again and again, for a profiler.
 
 use crate::layers::{Case, Layer};
-use crate::lists::session;
+use crate::lists::{session, LAST_KIND};
 use crate::race::Track;
 use crate::runs::UNITS;
 use crate::value;
@@ -22,7 +22,7 @@ pub fn spin(arguments: &[String]) -> Result<(), String> {
         }
     }
     let messages = match (Profile::from_name(name), Layer::from_name(name)) {
-        (Some(profile), _) => session(profile, 0).concat(),
+        (Some(profile), _) => session(profile, 0, LAST_KIND).concat(),
         (None, Some(layer)) => Case::new(layer, book, UNITS).list,
         _ => return Err(format!("{name:?} is no profile and no layer")),
     };

@@ -8,7 +8,6 @@ use crate::Options;
 use legging::{LayerBytes, Number};
 use reference::{Lane, Layer, MOST_MESSAGE};
 use sessions::held_layer::{from_bytes, to_bytes};
-use sessions::profile::Profile;
 use std::hint::black_box;
 
 /// Turns timed together, each upon a copy of the layer made beforehand.
@@ -114,8 +113,8 @@ impl Layers {
 }
 
 /// The messages of a session that can wait.
-fn turns_of(profile: Profile, seed: u64) -> Result<Vec<Turn>, String> {
-    let mut calls = calls_of(profile, seed)?;
+fn turns_of(pieces: &[Vec<u8>]) -> Result<Vec<Turn>, String> {
+    let mut calls = calls_of(pieces)?;
     calls.retain(|call| call.message.len() <= MOST_MESSAGE);
     let turns: Vec<Turn> = calls.into_iter().map(Turn::new).collect();
     turns.iter().try_for_each(Turn::agrees)?;
@@ -141,8 +140,8 @@ pub fn profiles(options: &Options) -> Result<String, String> {
     };
     for profile in options.profiles() {
         let mut all = Vec::new();
-        for seed in 0..options.seeds {
-            all.extend(layers.least(&turns_of(profile, seed)?, options.rounds));
+        for pieces in options.sessions_of(profile) {
+            all.extend(layers.least(&turns_of(&pieces)?, options.rounds));
         }
         let [call, arrival, turn] = [0, 1, 2].map(|which| {
             let times: Vec<f64> = all.iter().map(|times| times[which]).collect();

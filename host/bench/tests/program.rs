@@ -19,15 +19,15 @@ fn bench(arguments: &[&str]) -> (bool, String, String) {
 fn every_table_has_its_rows() {
     let sizes = ["--rounds", "1", "--seeds", "1", "--sessions", "2"];
     for (table, rows) in [
-        ("profiles", 15),
-        ("blocks", 15),
+        ("profiles", 16),
+        ("blocks", 16),
         ("growing", 4),
         ("books", 8),
-        ("layers", 30),
-        ("feeds", 15),
-        ("calls", 15),
-        ("call-layers", 30),
-        ("turns", 15),
+        ("layers", 33),
+        ("feeds", 16),
+        ("calls", 16),
+        ("call-layers", 33),
+        ("turns", 16),
     ] {
         let (succeeded, told, error) = bench(&[&[table], &sizes[..]].concat());
         assert!(succeeded, "{error}");
@@ -35,6 +35,13 @@ fn every_table_has_its_rows() {
         assert_eq!(lines.count(), rows + 1, "{told}");
         assert!(!told.contains("NaN") && !told.contains("inf"), "{told}");
     }
+}
+
+#[test]
+fn sessions_may_be_those_of_an_earlier_engine() {
+    let sizes = ["--rounds", "1", "--seeds", "1", "--only", "ratios"];
+    let (succeeded, told, error) = bench(&[&["profiles", "--kinds", "9"], &sizes[..]].concat());
+    assert!(succeeded && told.contains("| ratios |"), "{error}");
 }
 
 #[test]
@@ -51,6 +58,7 @@ fn a_wrong_command_line_is_told() {
     for (arguments, word) in [
         (&["what"][..], "\"what\""),
         (&["--rounds"], "number after --rounds"),
+        (&["--kinds", "nine"], "number after --kinds"),
         (&["--rounds", "0"], "1 or more"),
         (&["--only", "what"], "no profile and no layer"),
         (&["spin"], "to spin"),

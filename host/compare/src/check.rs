@@ -21,6 +21,7 @@ pub enum Check {
     CallVenueLength,
     CallEditions,
     CallReserve,
+    CallRatios,
     Settings,
     LayerFresh,
     Arrive,
@@ -33,7 +34,7 @@ pub enum Check {
 }
 
 impl Check {
-    pub const ALL: [Check; 27] = [
+    pub const ALL: [Check; 28] = [
         Check::RunWhole,
         Check::RunShort,
         Check::RunEveryLength,
@@ -52,6 +53,7 @@ impl Check {
         Check::CallVenueLength,
         Check::CallEditions,
         Check::CallReserve,
+        Check::CallRatios,
         Check::Settings,
         Check::LayerFresh,
         Check::Arrive,
@@ -83,6 +85,7 @@ impl Check {
             Check::CallVenueLength => "call-venue-length",
             Check::CallEditions => "call-editions",
             Check::CallReserve => "call-reserve",
+            Check::CallRatios => "call-ratios",
             Check::Settings => "settings",
             Check::LayerFresh => "layer-fresh",
             Check::Arrive => "arrive",
@@ -119,6 +122,9 @@ impl Check {
             }
             Check::CallReserve => {
                 "a one-message call upon orders that show otherwise, or another part of them"
+            }
+            Check::CallRatios => {
+                "a one-message call upon complex orders of broken ratios, or of others"
             }
             Check::Settings => "the settings of a venue at a message number",
             Check::LayerFresh => "a fresh layer, in layer memory of any length",

@@ -25,13 +25,14 @@ message by message, the first upon a fresh venue and each other upon the venue t
 the last one left, with calls beside them upon short memory, the last message numbers,
 torn bytes, changed venues and venue memory of other lengths, upon rows of editions
 broken in every way, with numbers about the last edition's, upon orders that show
-otherwise in every way or another part of them; and the settings about each edition.
-Four sessions arrive at four venues behind one line and are done by turns, with calls
-beside them upon short memory, changed layers and layer memory of other lengths.
-Compared are the number, every byte of the report or settings memory (lent full of
-junk), of the venue, the layer and the lines, and the bytes around them. The first
-difference ends it with exit status 1, and names what repeats it. A soak tries report
-memory that ends near one in ten messages' records; the others try all of them.
+otherwise in every way or another part of them, upon complex orders of ratios broken in
+every way or of others, a legging order of unequal ratios among them; and the settings
+about each edition. Four sessions arrive at four venues behind one line and are done by
+turns, with calls beside them upon short memory, changed layers and layer memory of
+other lengths. Compared are the number, every byte of the report or settings memory
+(lent full of junk), of the venue, the layer and the lines, and the bytes around them.
+The first difference ends it with exit status 1, and names what repeats it. A soak tries
+report memory that ends near one in ten messages' records; the others try all of them.
 ";
 
 /// When to stop.
@@ -210,7 +211,7 @@ fn told(counts: &Counts) -> String {
     for (count, name) in lines {
         text += &format!("{count:>14}  {name}\n");
     }
-    for number in (0..=13).chain(17..=21) {
+    for number in (0..=14).chain(17..=21) {
         let count = counts.numbers[number];
         text += &format!("{count:>14}  number {number}\n");
     }

@@ -3,7 +3,8 @@
 use crate::calls::{Comparer, Expected};
 use crate::check::Check;
 use crate::layers::compare_layer;
-use sessions::broken::{broken_orders, broken_rows, with_editions, with_reserve};
+use sessions::broken::{broken_orders, broken_ratios, broken_rows};
+use sessions::broken::{with_editions, with_ratios, with_reserve};
 use sessions::corrupt::corrupt;
 use sessions::feed_generator::draw_feed;
 use sessions::generator::Generator;
@@ -294,7 +295,7 @@ impl Session<'_, '_> {
 
     /// Calls that leave the session as it is.
     fn beside(&mut self, venue: &[u8], before: u32, message: &[u8]) -> Checked {
-        match self.random().below(8) {
+        match self.random().below(9) {
             0 => self.short_calls(venue, before, message),
             1 => self.last_numbers(venue, message),
             2 => self.odd_bytes(venue, before, message),
@@ -302,6 +303,7 @@ impl Session<'_, '_> {
             4 => self.editions(venue, message),
             5 => self.settings_about(venue, before),
             6 => self.reserve(venue, before, message),
+            7 => self.ratios(venue, before, message),
             _ => self.changed_venues(venue, before, message),
         }
     }
@@ -397,6 +399,29 @@ impl Session<'_, '_> {
             let done = self.call(Check::CallReserve, &venue, before, message, ROOM)?;
             let next = before.saturating_add(done.done);
             self.call(Check::CallReserve, &done.venue, next, &SWEEP, ROOM)?;
+        }
+        Ok(())
+    }
+
+    /// Complex orders of which the ratios are broken in every way, a legging order of
+    /// unequal ratios among them; and the same orders with other ratios, upon which the
+    /// message is done, and a sweep.
+    fn ratios(&mut self, venue: &[u8], before: u32, message: &[u8]) -> Checked {
+        let Ok(held) = <&[u8; VENUE_BYTES]>::try_from(venue) else {
+            return Ok(());
+        };
+        let held = from_bytes(held);
+        let at = self.random().below(32 * 7) as usize;
+        for (name, broken) in broken_ratios(&held, at) {
+            let broken = to_bytes(&broken);
+            self.call(Check::CallRatios, &broken, before, message, ROOM)
+                .map_err(|(check, what)| (check, format!("{name}: {what}")))?;
+        }
+        for at in at..at + 4 {
+            let venue = to_bytes(&with_ratios(&held, at));
+            let done = self.call(Check::CallRatios, &venue, before, message, ROOM)?;
+            let next = before.saturating_add(done.done);
+            self.call(Check::CallRatios, &done.venue, next, &SWEEP, ROOM)?;
         }
         Ok(())
     }
