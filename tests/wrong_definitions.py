@@ -9,8 +9,8 @@ changed, a conjunct or a step dropped, two steps or two arguments exchanged. Def
 order drawn by the seed, one edit of each in a round. With --skip the list and the first M draws are left out, for a
 run in parts. Each edit is made in a copy of the crate `rules` that has its types, its definitions and its trials
 alone: no law and no function. There `trials-hold` must fail, over one part of the trials (the cheap lists first, then
-list by list), or `seasons-hold`: that is a failure of the whole. An edit that passes all parts is checked against the whole from nothing.
-One that does not compile is not counted, and another is drawn.
+list by list), or `seasons-hold` or `units-hold`: that is a failure of the whole. An edit that passes all parts is
+checked against the whole from nothing. One that does not compile is not counted, and another is drawn.
 Left out: Trials itself, Opened (a list of names), Lengths (bounds of what is written, for the proofs alone), and
 what only states a type. So are edits that tell nothing: the order of a table's rows (`if eqb k 1 .. else if eqb k 2
 ..`), the arguments of `eqb` exchanged, `leb x 0` for `eqb x 0`.
@@ -41,7 +41,8 @@ NAMES = {
     "otherClass": "customer", ".series1": ".series2", ".series2": ".series1", ".side1": ".side2", ".side2": ".side1",
     ".bid": ".offer", ".offer": ".bid", "bestOwn": "bestRegular", "bestRegular": "bestOwn",
     "marketBest": "bestRegular", "clearPrice": "bestRegular", "restsAt": "showsAt", "isPrice": "isAway",
-    "series1": "series2", "Worse": "Unpaired", "Unpaired": "OutOfBand", "OutOfBand": "NotOpen", "NotOpen": "Worse",
+    "series1": "series2", ".ratio1": ".ratio2", ".ratio2": ".ratio1", "ownSize": "bestSize", "NoUnit": "Touched",
+    "Worse": "Unpaired", "Unpaired": "OutOfBand", "OutOfBand": "NotOpen", "NotOpen": "Worse",
     "Executed": "Withdrawn", "Withdrawn": "Executed", "Touched": "Executed", "Replaced": "Touched",
     "u8": "u16", "u16": "u32", "u32": "u16", "i32": "u32", "u8At": "u16At", "u16At": "u8At", "u32At": "u16At",
 }
@@ -370,7 +371,7 @@ class Copy:
         if done.returncode == 0 and any(l.startswith("logic=proved") for l in said):
             return "survives", ""
         errors = [line[line.find("specs/"):] for line in said if ": error" in line]
-        if errors and all(re.search(r"Trials\.antt:\d+:\d+: error: `(?:trials|seasons)-[\w-]+`: expected type", e) for e in errors):
+        if errors and all(re.search(r"Trials\.antt:\d+:\d+: error: `(?:trials|seasons|units)-[\w-]+`: expected type", e) for e in errors):
             return "refused", errors[0]
         if errors and all("Trials.antt" in e and "steps" in e for e in errors):
             return "refused", errors[0]
