@@ -1,0 +1,68 @@
+-- Request (i): "For every list of messages from fresh: no trade record takes a side of a series while a strictly better shown or legging price stood on that
+-- side at that moment; and when an incoming regular order hits a legging order, no regular contract, shown or reserve, stood at that price." And request (b),
+-- of every cross at its moment. The moment of a record is just before it, all that was written before it done, by replay.
+use mathlib.Core.Path.{_≡_}
+use mathlib.Core.Bool.{false, true}
+use mathlib.Core.Logic.{_≢_}
+use mathlib.Core.List.{List, [], _∷_}
+use Prim.Native.Nat.{ℕ}
+use lib.IntN.{ℤ, negℤ}
+use Rattle.rules.specs.declared.Venue.{Venue}
+use Rattle.rules.specs.Words.{complexAt, freshVenue, isComplexOf, isRegularOf, leggingAt, opposite, regularAt}
+use Rattle.rules.specs.Records.{Report, answer, cancelled, crossed, generated, pair, removed, trade}
+use Rattle.rules.specs.Prices.{better, ownPrice, restsAt, showsAt}
+use Rattle.rules.specs.Step.{step}
+use Rattle.demands.specs.Crosses.{Respects}
+use Rattle.demands.specs.Demand.{Given, Opening, calls, opening}
+use Rattle.demands.specs.Kept.{SoundVenue}
+use Rattle.replay.specs.Replay.{State, next, upon}
+
+-- A trade -------------------------------------------------------------------------------------
+
+-- a trade at price p in series s by a taker of side d, upon the books v: it takes the side opposite to d
+pub record NonePassedOver (v : Venue) (s d p taker maker : ℕ) : Type 0 where
+  -- "no … strictly better shown … price stood on that side"
+  pub shown : (i : ℕ) → showsAt s (opposite d) (regularAt v i) ≡ true → better (opposite d) (regularAt v i .price) p ≡ false
+  -- "… or legging price"
+  pub legging : better (opposite d) (ownPrice (leggingAt v s (opposite d))) p ≡ false
+  -- beyond the request: an incoming regular order passes no better reserve over either
+  pub reserve : (j : ℕ) → isRegularOf taker (regularAt v j) ≡ true →
+      (i : ℕ) → restsAt s (opposite d) (regularAt v i) ≡ true → better (opposite d) (regularAt v i .price) p ≡ false
+  -- "when an incoming regular order hits a legging order, no regular contract, shown or reserve, stood at that price": the maker is a complex order
+  pub hit : (j : ℕ) → isComplexOf maker (complexAt v j) ≡ true →
+      (i : ℕ) → restsAt s (opposite d) (regularAt v i) ≡ true → regularAt v i .price ≢ p
+
+-- A cross -------------------------------------------------------------------------------------
+
+-- (b): "A cross is made only if neither party's net is above what best regular prices of both legs would give that party, where both legs have one":
+-- the taker's net n, and the maker's, minus that
+pub record BothRespected (v : Venue) (taker maker : ℕ) (n : ℤ) : Type 0 where
+  pub taking : (i : ℕ) → isComplexOf taker (complexAt v i) ≡ true → Respects v (complexAt v i) n
+  pub resting : (i : ℕ) → isComplexOf maker (complexAt v i) ≡ true → Respects v (complexAt v i) (negℤ n)
+
+-- Every record --------------------------------------------------------------------------------
+
+-- what is asked of a record upon the books just before it
+abbrev pub AtItsMoment : Venue → Report → Type 0
+AtItsMoment v (answer number refusal mask count) = Unit {0}
+AtItsMoment v (trade series side price quantity taker maker) = NonePassedOver v series side price taker maker
+AtItsMoment v (pair id n quantity) = Unit {0}
+AtItsMoment v (generated id series side price shown quantity) = Unit {0}
+AtItsMoment v (removed id series side cause) = Unit {0}
+AtItsMoment v (crossed taker maker n quantity) = BothRespected v taker maker n
+AtItsMoment v (cancelled id quantity) = Unit {0}
+
+-- of each record in turn
+abbrev pub AtEach : State → List Report → Type 0
+AtEach x [] = Unit {0}
+AtEach x (r ∷ rs) = AtItsMoment (x .books) r × AtEach (next r x) rs
+
+-- The claim -----------------------------------------------------------------------------------
+
+-- of one message upon a sound venue, and of every list of calls
+pub record NoBetterPassedOver : Type 0 where
+  pub message : (v : Venue) → SoundVenue v → (number : ℕ) (message : List ℕ) →
+      AtEach (upon v (message ∷ [])) (step v number message .effect .reports)
+  pub list : (o : Opening) (gs : List Given) →
+      let s = calls (opening o) gs in
+      AtEach (upon freshVenue (s .messages)) (s .reports)
