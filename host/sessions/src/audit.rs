@@ -1,9 +1,10 @@
 //! The audit of a sheet: every complex order's sums in units, and its contracts, from
-//! the session and the sheet, against what the reference leaves open; and every line
-//! against the reference's.
+//! the session and the sheet, against what the reference leaves open; every trade and
+//! cross at its moment; and every line against the reference's.
 
 use crate::ledger::{Account, Ledger};
 use crate::message::{split, Message};
+use crate::moments::{replay_sheet, Moment, Parties};
 use crate::record::{read_report, Record};
 use crate::settings::{figure_name, held_editions};
 use crate::sheet::run_whole;
@@ -37,7 +38,9 @@ pub struct Audit {
     pub reserve: Vec<Reserve>,
     /// The settings entered by the messages that the sheet answers.
     pub editions: Vec<Edition>,
-    /// What does not agree: order by order, then the first line.
+    /// The trades and crosses, as they were looked at by replay of the sheet.
+    pub moments: Vec<Moment>,
+    /// What does not agree: order by order, then record by record, then the first line.
     pub faults: Vec<String>,
 }
 
@@ -69,12 +72,15 @@ pub fn audit(list: &[u8], records: &[Record]) -> Result<Audit, String> {
         }
     }
     faults.extend(unknown_orders(&returned.venue, &complex));
+    let replayed = replay_sheet(&pieces, records);
+    faults.extend(replayed.faults);
     faults.extend(first_difference(records, &read_report(&report)?));
     Ok(Audit {
         messages: answered,
         complex,
         reserve,
         editions: held_editions(&returned.venue).copied().collect(),
+        moments: replayed.moments,
         faults,
     })
 }
@@ -172,11 +178,22 @@ impl Display for Audit {
         for entry in &self.editions {
             writeln!(f, "{}", edition_in_words(entry))?;
         }
+        writeln!(f, "{}", moments_in_words(&self.moments))?;
         for fault in &self.faults {
             writeln!(f, "disagreement: {fault}")?;
         }
         Ok(())
     }
+}
+
+/// How many trades and crosses were looked at.
+fn moments_in_words(moments: &[Moment]) -> String {
+    let count = |(parties, name): (Parties, &str)| {
+        let of = moments.iter().filter(|moment| moment.parties == parties);
+        format!("{} {name}", of.count())
+    };
+    let counts = Parties::ALL.map(count).join(", ");
+    format!("by replay: {counts}")
 }
 
 /// The contracts of an order of unequal ratios, beside its ratios and paired units.

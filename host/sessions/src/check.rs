@@ -5,6 +5,7 @@ use crate::ledger::Ledger;
 use crate::message::Leg;
 use crate::message::Message;
 use crate::model::{refusal, work, AboveLegs, OutOfBand, ShortOfUnit, Work};
+use crate::moments::{check_moments, Moment};
 use crate::phases::{expected_generation, expected_settling, phases, Attempt, Phases};
 use crate::record::Record;
 use crate::settings::{InForce, PERCENT};
@@ -34,6 +35,8 @@ pub struct Seen<'a> {
     pub out_of_band: Vec<OutOfBand>,
     /// Where legging in ended for less than a unit.
     pub short: Vec<ShortOfUnit>,
+    /// The trades and crosses that were looked at upon the books just before them.
+    pub moments: Vec<Moment>,
 }
 
 /// Follows one list of messages from a fresh venue.
@@ -135,6 +138,7 @@ impl Checker {
         }
         check_takings(step.before, step.message, effects)?;
         let after = &step.returned.venue;
+        let moments = check_moments(step.before, self.done, step.message, effects, after)?;
         let phases = phases(step.before, after, effects)?;
         let work = check_work(step, self.done, &phases)?;
         let expected = expected_settling(&phases.at_settling, after);
@@ -161,6 +165,7 @@ impl Checker {
             above: work.above,
             out_of_band: work.out_of_band,
             short: work.short,
+            moments,
         })
     }
 }

@@ -8,6 +8,7 @@ use crate::feed_check::FeedCoverage;
 use crate::layer_check::LayerCoverage;
 use crate::message::{Leg, Message};
 use crate::model::{in_use, AboveLegs};
+use crate::moments::Parties;
 use crate::phases::Phases;
 use crate::record::Record;
 use crate::settings::{held_editions, InForce};
@@ -313,6 +314,8 @@ pub struct Coverage {
     answers: [u64; NUMBERS],
     declined: [u64; DECLINED.len()],
     rare: [u64; RARE],
+    /// Trades and crosses looked at at their moment: all, and those with a choice.
+    moments: [[u64; 2]; Parties::ALL.len()],
     pub feeds: FeedCoverage,
     pub layers: LayerCoverage,
 }
@@ -327,6 +330,7 @@ impl Default for Coverage {
             answers: [0; NUMBERS],
             declined: [0; DECLINED.len()],
             rare: [0; RARE],
+            moments: [[0; 2]; Parties::ALL.len()],
             feeds: FeedCoverage::default(),
             layers: LayerCoverage::default(),
         }
@@ -372,6 +376,11 @@ impl Coverage {
             if let Err(declined) = &attempt.outcome {
                 self.declined[declined_index(declined)] += 1;
             }
+        }
+        for moment in &seen.moments {
+            let counts = &mut self.moments[moment.parties as usize];
+            counts[0] += 1;
+            counts[1] += u64::from(moment.had_choice);
         }
         self.observe_books(&step.returned.venue);
         self.observe_settling(&seen.phases, &step.returned.venue);
@@ -581,6 +590,21 @@ impl Coverage {
         }
     }
 
+    /// The moments looked at, each kind with those that had a choice.
+    fn moment_lines(&self) -> impl Iterator<Item = (String, u64)> + '_ {
+        Parties::ALL.into_iter().flat_map(|(parties, name)| {
+            let [all, with_choice] = self.moments[parties as usize];
+            let choice = match parties {
+                Parties::Cross => "with regular prices at both legs of a party",
+                _ => "with another price on the side taken",
+            };
+            [
+                (format!("replay: {name}"), all),
+                (format!("  of these, {choice}"), with_choice),
+            ]
+        })
+    }
+
     /// What a report over all profiles must show and does not.
     pub fn missing(&self) -> Vec<String> {
         let mut missing = Vec::new();
@@ -598,6 +622,9 @@ impl Coverage {
         }
         for (rare, name) in Rare::ALL {
             missing.extend((self.rare(rare) == 0).then(|| name.trim().to_string()));
+        }
+        for (name, count) in self.moment_lines() {
+            missing.extend((count == 0).then(|| name.trim().to_string()));
         }
         for (way, count) in self.feeds.counts() {
             missing.extend((count == 0).then(|| format!("feed {way}")));
@@ -638,6 +665,9 @@ impl Display for Coverage {
         }
         for (rare, name) in Rare::ALL {
             writeln!(f, "{:>10}  {name}", self.rare(rare))?;
+        }
+        for (name, count) in self.moment_lines() {
+            writeln!(f, "{count:>10}  {name}")?;
         }
         for (way, count) in self.feeds.counts() {
             writeln!(f, "{count:>10}  feed {way}")?;

@@ -112,7 +112,7 @@ fn side_name(side: u8) -> &'static str {
     }
 }
 
-fn leg_name(leg: Leg) -> String {
+pub(crate) fn leg_name(leg: Leg) -> String {
     format!("{} series {}", side_name(leg.side), leg.series)
 }
 

@@ -3,6 +3,7 @@
 mod common;
 mod feed;
 mod layer;
+mod moments;
 mod random_sessions;
 mod ratios;
 mod refusals;

@@ -1,0 +1,404 @@
+//! The books as a reader of the sheet keeps them: from a venue, the messages accepted
+//! and the records, one by one. No rule is asked; what a record says is done.
+
+use crate::explain::leg_name;
+use crate::message::{Leg, Message};
+use crate::model::fields_in_range;
+use crate::record::Record;
+use crate::settings::{figure_name, held_editions, PERCENT};
+use crate::view::{held_complex, held_regular, leg_at, legs_of, place_of, shown, side_of};
+use reference::{Complex, Edition, Legging, Listed, Venue};
+
+/// A regular order in the books.
+#[derive(Clone, Copy, Debug, PartialEq, Eq)]
+pub struct Resting {
+    pub id: u32,
+    pub side: Leg,
+    pub price: u32,
+    /// What is left of it; what of that is not shown is reserve.
+    pub left: u32,
+    pub shown: u32,
+    /// What it shows again, if as much is left.
+    display: u32,
+}
+
+/// What rests, stands and holds at a place of the sheet. An order of which nothing is
+/// left is struck out at once.
+#[derive(Clone, Debug, PartialEq, Eq)]
+pub struct Books {
+    /// In rising id, both kinds of orders.
+    regular: Vec<Resting>,
+    complex: Vec<Complex>,
+    legging: [Legging; 16],
+    series: [Listed; 8],
+    last: u32,
+    editions: Vec<Edition>,
+}
+
+impl Books {
+    /// Those of a venue between messages.
+    pub fn of(venue: &Venue) -> Self {
+        let regular = held_regular(venue).map(|order| Resting {
+            id: order.id,
+            side: side_of(order),
+            price: order.price,
+            left: order.quantity,
+            shown: shown(order),
+            display: order.display,
+        });
+        Books {
+            regular: regular.collect(),
+            complex: held_complex(venue).copied().collect(),
+            legging: venue.legging,
+            series: venue.series,
+            last: venue.last,
+            editions: held_editions(venue).copied().collect(),
+        }
+    }
+
+    pub fn order(&self, id: u32) -> Option<&Resting> {
+        self.regular.iter().find(|order| order.id == id)
+    }
+
+    pub fn complex(&self, id: u32) -> Option<&Complex> {
+        self.complex.iter().find(|order| order.id == id)
+    }
+
+    /// The regular orders of a side, shown or not.
+    pub fn resting(&self, side: Leg) -> impl Iterator<Item = &Resting> {
+        self.regular.iter().filter(move |order| order.side == side)
+    }
+
+    /// The legging order of a side.
+    pub fn standing(&self, side: Leg) -> Option<Legging> {
+        let order = self.legging[place_of(side)];
+        (order.quantity > 0).then_some(order)
+    }
+
+    /// What the accepted message of a number brings by itself. An order takes with all
+    /// of its quantity, and shows a part of what is left when its message ends.
+    pub fn enter(&mut self, number: u32, message: &Message) -> Result<(), String> {
+        if !fields_in_range(message) {
+            return Err("a message with a field outside its range was accepted".to_string());
+        }
+        match *message {
+            Message::Order { .. } => self.enter_order(message),
+            Message::Complex { .. } => self.enter_complex(message),
+            Message::Away { series, bid, offer } => {
+                let listed = &mut self.series[usize::from(series)];
+                (listed.bid, listed.offer) = (bid, offer);
+            }
+            Message::Status { series, status } => {
+                self.series[usize::from(series)].status = status;
+            }
+            Message::Increment {
+                series,
+                increment,
+                edition,
+            } => self.set(edition, number, series, increment),
+            Message::Percent { percent, edition } => self.set(edition, number, PERCENT, percent),
+            Message::Cancel { .. } | Message::Sweep | Message::Raw(_) => {}
+        }
+        Ok(())
+    }
+
+    fn enter_order(&mut self, message: &Message) {
+        let Message::Order {
+            id,
+            leg,
+            price,
+            quantity,
+            shows,
+        } = *message
+        else {
+            return;
+        };
+        self.last = id;
+        self.regular.push(Resting {
+            id,
+            side: leg,
+            price,
+            left: quantity,
+            shown: quantity,
+            display: shows.unwrap_or(quantity),
+        });
+    }
+
+    fn enter_complex(&mut self, message: &Message) {
+        let Message::Complex {
+            id,
+            legs: [first, second],
+            class,
+            limit,
+            quantity,
+            ratios,
+        } = *message
+        else {
+            return;
+        };
+        let [ratio1, ratio2] = ratios.unwrap_or([1, 1]);
+        self.last = id;
+        self.complex.push(Complex {
+            id,
+            series1: first.series,
+            side1: first.side,
+            series2: second.series,
+            side2: second.side,
+            class,
+            limit,
+            quantity,
+            ratio1,
+            ratio2,
+        });
+    }
+
+    fn set(&mut self, edition: u32, number: u32, figure: u8, value: u8) {
+        self.editions.push(Edition {
+            edition,
+            number,
+            figure,
+            value,
+        });
+    }
+
+    /// A message's last step: each order shows again the lesser of its shown quantity
+    /// and what is left of it.
+    pub fn finish(&mut self) {
+        for order in &mut self.regular {
+            order.display = order.display.min(order.left);
+            order.shown = order.display;
+        }
+    }
+}
+
+/// The records, one by one.
+impl Books {
+    /// One record more. An error tells what of it these books do not have; all else of
+    /// it is noted.
+    pub fn note(&mut self, record: &Record) -> Result<(), String> {
+        match *record {
+            Record::Answer { .. } => Ok(()),
+            Record::Trade { .. } => self.note_trade(record),
+            Record::Pair { id, quantity, .. } => self.lessen_complex(id, quantity),
+            Record::Generated {
+                id,
+                series,
+                side,
+                price,
+                quantity,
+                ..
+            } => self.note_generated(
+                leg_of(series, side)?,
+                Legging {
+                    parent: id,
+                    price,
+                    quantity,
+                },
+            ),
+            Record::Removed {
+                id, series, side, ..
+            } => self.note_removed(leg_of(series, side)?, id),
+            Record::Cross {
+                taker,
+                maker,
+                quantity,
+                ..
+            } => {
+                let taking = self.lessen_complex(taker, quantity);
+                taking.and(self.lessen_complex(maker, quantity))
+            }
+            Record::Cancelled { id, quantity } => self.note_cancelled(id, quantity),
+        }
+    }
+
+    /// Both parties have so much less. A complex order that takes, or whose legging order
+    /// is taken, is lessened by its 66, and the legging order stands until its 68.
+    fn note_trade(&mut self, record: &Record) -> Result<(), String> {
+        let Record::Trade {
+            series,
+            side,
+            price,
+            quantity,
+            taker,
+            maker,
+        } = *record
+        else {
+            return Ok(());
+        };
+        let taken = taken_side(series, side)?;
+        let is_maker = self.makes(maker, taken, price, quantity);
+        let taking = match self.complex(taker) {
+            Some(_) => Ok(()),
+            None => self.lessen_order(taker, quantity),
+        };
+        let making = match self.order(maker) {
+            Some(_) => self.lessen_order(maker, quantity),
+            None => Ok(()),
+        };
+        if !is_maker {
+            return Err(format!(
+                "order {maker} does not have {quantity} there at {price}"
+            ));
+        }
+        taking.and(making)
+    }
+
+    /// Whether an order, or the legging order of one, stands so on a side.
+    fn makes(&self, maker: u32, taken: Leg, price: u32, quantity: u32) -> bool {
+        match self.order(maker) {
+            Some(order) => order.side == taken && order.price == price && order.left >= quantity,
+            None => self.standing(taken).is_some_and(|order| {
+                order.parent == maker && order.price == price && order.quantity >= quantity
+            }),
+        }
+    }
+
+    fn lessen_order(&mut self, id: u32, quantity: u32) -> Result<(), String> {
+        let Some(at) = self.regular.iter().position(|order| order.id == id) else {
+            return Err(not_there(id));
+        };
+        let order = &mut self.regular[at];
+        let left = order.left;
+        order.left = left.saturating_sub(quantity);
+        order.shown = order.shown.saturating_sub(quantity);
+        if order.left == 0 {
+            self.regular.remove(at);
+        }
+        enough(id, left, quantity)
+    }
+
+    fn lessen_complex(&mut self, id: u32, quantity: u32) -> Result<(), String> {
+        let Some(at) = self.complex.iter().position(|order| order.id == id) else {
+            return Err(not_there(id));
+        };
+        let order = &mut self.complex[at];
+        let open = order.quantity;
+        order.quantity = open.saturating_sub(quantity);
+        if order.quantity == 0 {
+            self.complex.remove(at);
+        }
+        enough(id, open, quantity)
+    }
+
+    fn note_generated(&mut self, side: Leg, made: Legging) -> Result<(), String> {
+        let holder = self.standing(side);
+        self.legging[place_of(side)] = made;
+        match holder {
+            Some(holder) => Err(format!(
+                "the place is held by the legging order of {}",
+                holder.parent
+            )),
+            None => Ok(()),
+        }
+    }
+
+    fn note_removed(&mut self, side: Leg, parent: u32) -> Result<(), String> {
+        let held = self.standing(side);
+        self.legging[place_of(side)] = Legging::default();
+        match held {
+            Some(order) if order.parent == parent => Ok(()),
+            _ => Err(format!("no legging order of {parent} stands there")),
+        }
+    }
+
+    fn note_cancelled(&mut self, id: u32, quantity: u32) -> Result<(), String> {
+        match self.order(id) {
+            Some(_) => self.lessen_order(id, quantity),
+            None => self.lessen_complex(id, quantity),
+        }
+    }
+}
+
+/// A side as a record names it.
+fn leg_of(series: u8, side: u8) -> Result<Leg, String> {
+    match (series, side) {
+        (0..=7, 0..=1) => Ok(Leg { series, side }),
+        _ => Err(format!("there is no side {side} of series {series}")),
+    }
+}
+
+/// The side that a taker of a side takes.
+pub fn taken_side(series: u8, side: u8) -> Result<Leg, String> {
+    let Leg { series, side } = leg_of(series, side)?;
+    Ok(Leg {
+        series,
+        side: 1 - side,
+    })
+}
+
+fn not_there(id: u32) -> String {
+    format!("order {id} does not rest")
+}
+
+fn enough(id: u32, left: u32, quantity: u32) -> Result<(), String> {
+    match left >= quantity {
+        true => Ok(()),
+        false => Err(format!("order {id} has {left} left")),
+    }
+}
+
+/// The books in words, to tell where two differ.
+impl Books {
+    /// What these books have and a venue has not, or the other way round.
+    pub fn difference(&self, venue: &Venue) -> Option<String> {
+        let left = Books::of(venue);
+        if *self == left {
+            return None;
+        }
+        let (records, venue) = (self.lines(), left.lines());
+        let first = |lines: &[String], others: &[String]| {
+            let line = lines.iter().find(|line| !others.contains(line));
+            line.map_or("nothing else".to_string(), |line| format!("\"{line}\""))
+        };
+        Some(format!(
+            "the records lead to {}, the venue has {}",
+            first(&records, &venue),
+            first(&venue, &records)
+        ))
+    }
+
+    fn lines(&self) -> Vec<String> {
+        let mut lines = self.order_lines();
+        for (place, order) in self.legging.iter().enumerate() {
+            let (leg, Legging { parent, .. }) = (leg_name(leg_at(place)), order);
+            let (quantity, price) = (order.quantity, order.price);
+            lines.push(format!("{leg}: legging {quantity} at {price} of {parent}"));
+        }
+        for (series, listed) in self.series.iter().enumerate() {
+            let Listed { status, bid, offer } = listed;
+            lines.push(format!(
+                "series {series}: status {status}, away {bid} and {offer}"
+            ));
+        }
+        for entry in &self.editions {
+            let (name, value) = (figure_name(entry.figure), entry.value);
+            let (edition, number) = (entry.edition, entry.number);
+            lines.push(format!(
+                "edition {edition}, message {number}: {name} {value}"
+            ));
+        }
+        lines.push(format!("last id {}", self.last));
+        lines
+    }
+
+    fn order_lines(&self) -> Vec<String> {
+        let regular = self.regular.iter().map(|order| {
+            let (leg, price) = (leg_name(order.side), order.price);
+            let (left, shown, display) = (order.left, order.shown, order.display);
+            format!(
+                "order {}: {leg} at {price}, {left} left, {shown} of {display} shown",
+                order.id
+            )
+        });
+        let complex = self.complex.iter().map(|order| {
+            let [first, second] = legs_of(order).map(leg_name);
+            let (ratio1, ratio2) = (order.ratio1, order.ratio2);
+            let (class, limit, open) = (order.class, order.limit, order.quantity);
+            format!(
+                "order {}: {ratio1} {first}, {ratio2} {second}, class {class} net {limit}, {open} open",
+                order.id
+            )
+        });
+        regular.chain(complex).collect()
+    }
+}
