@@ -11,7 +11,8 @@ venue: session tools for the legging order engine
   venue print [FILE]                    report bytes to sheet lines
   venue feed [--text] MAIN SPARE        print the sheet of two lines of one feed
   venue four [SCRIPT]                   print the sheets of four venues behind one line
-  venue audit [--text] SESSION [SHEET]  sums of every complex order
+  venue audit [--text] SESSION [SHEET]  sums of every complex order, and whether a better
+                                        price was passed over
   venue explain [--text] [FILE]         what happened, message by message
   venue settings [--text] SESSION NUMBER
                                         increments and percent at a message number
@@ -117,6 +118,20 @@ read by the settings of its message; those that the session entered are listed. 
 an order of unequal ratios are in units, and its contracts in each series are listed
 beside ratio x paired units. Orders that were to show a part of them are listed with
 what is left and what that shows.
+
+The sheet is also replayed: from a fresh venue, its messages and its records alone, the
+books are kept record by record. Each trade and cross is looked at upon the books just
+before it, and named by its line and message, with the best of what it passed over:
+
+  - a trade takes a side of a series while a strictly better price is shown there, or a
+    legging order stands there at one; if its taker is a regular order, while there is
+    reserve at a better price;
+  - a legging order is taken while a regular order, shown or reserve, is at its price;
+  - in a cross a party's net is above what the best regular prices of both its legs
+    would give it, where both have one.
+
+Named too are records of what the books do not have, and the first message after which
+they are not those of the reference.
 ";
 
 const EXPLAIN: &str = "\

@@ -433,6 +433,83 @@ fn audit_compares_a_sheet_line_by_line() {
     }
 }
 
+/// An order that takes what is shown, reserve and a legging order at one price, and then
+/// a worse one.
+const TURNS_TEXT: &str = include_str!("sessions/turns.txt");
+
+/// The trades of its last message, in turn, the hit with all that follows from it.
+const TURNS: [&str; 5] = [
+    "65 0 1 115 2 7 4\n",
+    "65 0 1 115 1 7 5\n",
+    "65 0 1 115 3 7 4\n",
+    "65 0 1 115 8 7 3\n65 1 0 90 8 3 2\n66 3 205 8\n68 3 0 0 3\n68 3 1 0 3\n",
+    "65 0 1 110 1 7 6\n",
+];
+
+/// What an audit of a sheet of it says of records, with its exit status.
+fn audit_turns(name: &str, sheet: &str) -> (Option<i32>, Vec<String>) {
+    let session = Kept::new(&format!("{name}.txt"), TURNS_TEXT.as_bytes());
+    let sheet = Kept::new(&format!("{name}.sheet"), sheet.as_bytes());
+    let output = venue(&["audit", "--text", session.path(), sheet.path()], b"");
+    let told = String::from_utf8(output.stdout).unwrap();
+    let named = told.lines().filter(|line| line.contains("(message "));
+    (output.status.code(), named.map(str::to_string).collect())
+}
+
+/// Its sheet with the last message's trades in this order.
+fn turned(trades: &[&str]) -> String {
+    let sheet = String::from_utf8(good(&["sheet", "--text"], TURNS_TEXT.as_bytes())).unwrap();
+    let first = sheet.strip_suffix(&TURNS.concat()).unwrap();
+    format!("{first}{}", trades.concat())
+}
+
+#[test]
+fn audit_tells_what_was_looked_at() {
+    let told = good(&["audit", "--text", "-"], TURNS_TEXT.as_bytes());
+    let told = String::from_utf8(told).unwrap();
+    let line = "by replay: 4 trades of two regular orders, 1 trades of a regular with a legging \
+        order, 1 trades of a complex with a regular order, 0 crosses\n";
+    assert!(told.ends_with(line), "{told}");
+    assert_eq!(audit_turns("turns", &turned(&TURNS)), (Some(0), vec![]));
+}
+
+#[test]
+fn audit_names_the_record_that_passed_a_better_price_over() {
+    let [four, five, reserve, hit, worse] = TURNS;
+    let cheap = "65 0 1 110 1 7 5\n";
+    let cases = [
+        (
+            [worse, four, five, reserve, hit],
+            "line 10 (message 7): record \"65 0 1 110 1 7 6\" passes over 2 that order 4 shows at 115",
+        ),
+        (
+            [four, five, worse, reserve, hit],
+            "line 12 (message 7): record \"65 0 1 110 1 7 6\" passes over 3 in reserve of order 4 at 115",
+        ),
+        (
+            [four, five, reserve, worse, hit],
+            "line 13 (message 7): record \"65 0 1 110 1 7 6\" passes over the legging order of 3 at 115",
+        ),
+        (
+            [four, hit, five, reserve, worse],
+            "line 11 (message 7): record \"65 0 1 115 8 7 3\" takes the legging order of 3 before 3 in reserve of order 4 at 115",
+        ),
+        (
+            [four, cheap, reserve, hit, worse],
+            "line 11 (message 7): record \"65 0 1 110 1 7 5\" passes over 3 in reserve of order 4 at 115",
+        ),
+        (
+            [four, "", reserve, hit, worse],
+            "line 12 (message 7): record \"65 0 1 115 8 7 3\" takes the legging order of 3 before 1 that order 5 shows at 115",
+        ),
+    ];
+    for (trades, expected) in cases {
+        let (status, told) = audit_turns("turned", &turned(&trades));
+        let expected = format!("disagreement: {expected}");
+        assert_eq!((status, &told[0]), (Some(1), &expected), "{told:?}");
+    }
+}
+
 #[test]
 fn audit_refuses_a_sheet_of_another_session() {
     let session = Kept::new("other.txt", PRINTED_TEXT.as_bytes());
@@ -611,8 +688,9 @@ fn audit_reads_a_sheet_by_the_settings_of_its_day() {
     let editions = "22 messages, 2 complex orders\n\
         from message 3: increment of series 0 is 1 (edition 1)\n\
         from message 13: percent is 2 (edition 2)\n\
-        from message 19: increment of series 0 is 5 (edition 3)\n";
-    assert!(table.ends_with(editions), "{table}");
+        from message 19: increment of series 0 is 5 (edition 3)\n\
+        by replay: ";
+    assert!(table.contains(editions), "{table}");
     // Shown by the increment of edition 0 it would be another sheet.
     let other = sheet.replace("67 4 0 0 113 113 8", "67 4 0 0 113 110 8");
     let kept = Kept::new("other-day.sheet", other.as_bytes());
