@@ -5,6 +5,8 @@ use crate::engine::Engine;
 use reference::{Settings, Venue};
 use sessions::held::{from_bytes, to_bytes, VENUE_BYTES};
 use sessions::lent::Lent;
+use sessions::message::Message;
+use sessions::moments::check_moments;
 use sessions::record::{read_report_into, Record};
 use sessions::text::decode_line;
 
@@ -16,6 +18,8 @@ pub struct Counts {
     pub runs: u64,
     pub feeds: u64,
     pub calls: u64,
+    /// Trades and crosses that were looked at at their moment.
+    pub moments: u64,
     pub settings: u64,
     pub arrivals: u64,
     pub turns: u64,
@@ -206,6 +210,28 @@ impl<'a> Comparer<'a> {
         }
     }
 
+    /// Replays the engine's records of the last call, one upon a venue with this message:
+    /// no trade or cross passes a better price over, and they lead to the venue left.
+    pub fn replay(&mut self, given: &[u8], before: u32, message: &[u8]) -> Result<(), String> {
+        let held = |bytes: &[u8]| <&[u8; VENUE_BYTES]>::try_from(bytes).ok().map(from_bytes);
+        let (Some(given), Some(mut left)) = (held(given), held(self.venue.memory())) else {
+            return Ok(());
+        };
+        match self.fault.filter(|fault| fault.check == Check::Replay) {
+            Some(fault) if fault.part == Part::Venue => left.last ^= 1,
+            Some(_) => self.records.iter_mut().for_each(spoil_trade),
+            None => {}
+        }
+        let Some((Record::Answer { refusal: 0, .. }, effects)) = self.records.split_first() else {
+            return Ok(());
+        };
+        let (number, message) = (before.wrapping_add(1), Message::decode(message));
+        let moments = check_moments(&given, number, &message, effects, &left)
+            .map_err(|what| format!("the report of message {number}: {what}"))?;
+        self.counts.moments += moments.len() as u64;
+        Ok(())
+    }
+
     /// The settings of both at a message number, in memory of this length.
     pub fn settings(
         &mut self,
@@ -323,6 +349,13 @@ impl<'a> Comparer<'a> {
         }
         self.counts.bytes += wanted.len() as u64;
         same_bytes("layer", self.layer.memory(), wanted)
+    }
+}
+
+/// Moves a trade to a worse price for its taker.
+fn spoil_trade(record: &mut Record) {
+    if let Record::Trade { side, price, .. } = record {
+        *price = price.wrapping_add_signed(1 - 2 * i32::from(*side));
     }
 }
 

@@ -14,6 +14,7 @@ pub enum Check {
     FeedShort,
     Fresh,
     Call,
+    Replay,
     CallShort,
     CallNumber,
     CallBytes,
@@ -34,7 +35,7 @@ pub enum Check {
 }
 
 impl Check {
-    pub const ALL: [Check; 28] = [
+    pub const ALL: [Check; 29] = [
         Check::RunWhole,
         Check::RunShort,
         Check::RunEveryLength,
@@ -46,6 +47,7 @@ impl Check {
         Check::FeedShort,
         Check::Fresh,
         Check::Call,
+        Check::Replay,
         Check::CallShort,
         Check::CallNumber,
         Check::CallBytes,
@@ -78,6 +80,7 @@ impl Check {
             Check::FeedShort => "feed-short",
             Check::Fresh => "fresh",
             Check::Call => "call",
+            Check::Replay => "replay",
             Check::CallShort => "call-short",
             Check::CallNumber => "call-number",
             Check::CallBytes => "call-bytes",
@@ -112,6 +115,7 @@ impl Check {
             Check::FeedShort => "a feed with report memory that ends near a message's records",
             Check::Fresh => "a fresh venue, in venue memory of any length",
             Check::Call => "a one-message call",
+            Check::Replay => "the records of a one-message call, replayed",
             Check::CallShort => "a one-message call with short report memory",
             Check::CallNumber => "a one-message call with the last numbers",
             Check::CallBytes => "a one-message call with torn, random or further bytes",
@@ -145,10 +149,13 @@ impl Check {
     /// Whether its answer has this part.
     pub fn has(self, part: Part) -> bool {
         let is = |kind: &str| self.name().starts_with(kind);
+        let replay = self == Check::Replay;
         let venue = is("call") || is("settings") || self == Check::Fresh;
         let layer = is("arrive") || is("turn") || self == Check::LayerFresh;
         match part {
-            Part::Number => true,
+            Part::Number => !replay,
+            Part::Report if replay => true,
+            Part::Venue if replay => true,
             Part::Report | Part::BeforeReport | Part::AfterReport => {
                 is("run") || is("feed") || is("call") || is("settings") || is("turn")
             }

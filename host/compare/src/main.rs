@@ -27,7 +27,9 @@ torn bytes, changed venues and venue memory of other lengths, upon rows of editi
 broken in every way, with numbers about the last edition's, upon orders that show
 otherwise in every way or another part of them, upon complex orders of ratios broken in
 every way or of others, a legging order of unequal ratios among them; and the settings
-about each edition. Four sessions arrive at four venues behind one line and are done by
+about each edition. The engine's records of each message are replayed upon the venue
+before it: no trade or cross passes a better price over, and they lead to the venue that
+the engine left. Four sessions arrive at four venues behind one line and are done by
 turns, with calls beside them upon short memory, changed layers and layer memory of
 other lengths. Compared are the number, every byte of the report or settings memory
 (lent full of junk), of the venue, the layer and the lines, and the bytes around them.
@@ -203,6 +205,7 @@ fn told(counts: &Counts) -> String {
         (counts.runs, "runs"),
         (counts.feeds, "feeds of two lines"),
         (counts.calls, "one-message calls"),
+        (counts.moments, "trades and crosses replayed"),
         (counts.settings, "settings told"),
         (counts.arrivals, "arrivals"),
         (counts.turns, "turns"),

@@ -282,6 +282,8 @@ impl Session<'_, '_> {
                 self.beside(&venue, before, message)?;
             }
             let left = self.call(Check::Call, &venue, before, message, ROOM)?;
+            let replayed = self.comparer.replay(&venue, before, message);
+            replayed.map_err(|what| (Check::Replay, what))?;
             end += left.written;
             self.ends.push(end);
             venue = left.venue;
