@@ -141,7 +141,7 @@ buy-small v s p r m inside outside =
     not-reached p _ (o .0) (omega arith) inside)
     (better-either sell (away v s sell) (bestRegular v s sell) m)
 
-pub price-small : (v : Venue) (c : Complex) (s d : ℕ) → s < 8 → d < 2 → Makes v c s d → held (marketBest v s (opposite d)) ≡ true → Ranged v → legPrice v c s d ≤ 100000
+pub price-small : {number : ℕ} (v : Venue) (c : Complex) (s d : ℕ) → s < 8 → d < 2 → Makes number v c s d → held (marketBest v s (opposite d)) ≡ true → Ranged v → legPrice v c s d ≤ 100000
 unfolding opposite
 price-small v c s zero s8 d2 m t r = buy-small v s (legPrice v c s 0) r t (m .inside) (m .outside)
 price-small v c s (suc zero) s8 d2 m t r =
@@ -151,7 +151,7 @@ price-small v c s (suc zero) s8 d2 m t r =
 price-small v c s (suc (suc d)) s8 d2 m t r = absurd (omega arith)
 
 -- the new order is in range
-pub new-fits : (v : Venue) (c : Complex) (s d : ℕ) → CxFits c → held (c .quantity) ≡ true → s < 8 → d < 2 → Makes v c s d → held (marketBest v s (opposite d)) ≡ true → Ranged v →
+pub new-fits : {number : ℕ} (v : Venue) (c : Complex) (s d : ℕ) → CxFits c → held (c .quantity) ≡ true → s < 8 → d < 2 → Makes number v c s d → held (marketBest v s (opposite d)) ≡ true → Ranged v →
     LgFits (newLegging v c s d)
 unfolding newLegging complexInRange twoLegInRange isId isPrice isQuantity within
 new-fits v c s d f h s8 d2 m t r =

@@ -3,7 +3,7 @@
 use mathlib.Core.Path.{_∙_, _≡_, ap, refl, subst, sym}
 use mathlib.Core.Bool.{Bool, true, false, _&&_}
 use mathlib.Core.Logic.{_≢_}
-use mathlib.Core.List.{List}
+use mathlib.Core.List.{List, [], _∷_}
 use Prim.Native.Nat.{ℕ, zero, suc, _+_, _*_, _/_, _≤_, _<_, min}
 use native.Mathlib.Omega.{arith}
 use native.Mathlib.Decide.{decLe}
@@ -26,11 +26,11 @@ use Rattle.rules.specs.Removal.{remove, removeOf}
 use Rattle.rules.specs.Standing.{settle}
 use Rattle.rules.specs.Trading.{fillRegular, fillComplex, take, pairOff}
 use Rattle.rules.specs.Order.{atOnce, meet, hit}
-use Rattle.rules.specs.Complex.{crosses, cross, crossTurn, touches, touch, legsIn, legIn, unitsIn, legInTurn, anyClosed, work, each}
+use Rattle.rules.specs.Complex.{crosses, cross, crossTurn, touches, touch, legsIn, legIn, unitsIn, legInTurn, anyClosed, work, each, eachOf}
 use Rattle.rules.proofs.Tests.{and-l, and-r, held-pos}
 use Rattle.rules.proofs.Picking.{At}
 use Rattle.rules.specs.Lengths.{recordLength, perRound, perRegular}
-use Rattle.rules.proofs.Summing.{sum, due-held}
+use Rattle.rules.proofs.Summing.{sum, sum-mono, due-held}
 use Rattle.rules.proofs.Above.{above, above-fewer, next-above}
 use Rattle.rules.proofs.Worth.{worth, fill-le, fills-free, fillC-le, even-frees, fillsC-free, spent, spent-nothing, spent-report, spent-then, spent-remove, spent-lower, spent-settle}
 use Rattle.rules.proofs.Sizes.{best-some}
@@ -391,3 +391,14 @@ costs-works (suc fuel) id v two =
     let less = above-fewer share (λ x y l. let e = share-same (l .legs) in omega arith) (c .id) (work i v .venue .complex) (v .complex) (work-fewer i v) in
     costs-more _ _ (share (complexAt v i) + sum (above share (c .id)) (work i v .venue .complex)) (sum (above share id) (v .complex)) v _ (omega arith)
     (costs-then _ _ _ _ v (work i v) (each fuel work (c .id)) (costs-work i v (two i)) (costs-works fuel (c .id) _ (λ j. apart-fewer j v _ (work-fewer i v) (two j)))))
+
+-- and of a limited one
+pub costs-worksOf : (places : List ℕ) (v : Venue) → ((i : ℕ) → Apart i v) → Works (sum (λ i. share (cx v i)) places) v (eachOf work places v)
+unfolding eachOf sum
+costs-worksOf [] v two = costs-nothing _ _ v
+costs-worksOf (i ∷ places) v two =
+    let f = work-fewer i v in
+    let own : share (complexAt v i) ≡ share (cx v i) = unfold complexAt in refl in
+    let rest = sum-mono (λ j. share (cx v j)) (λ j. share (cx (work i v .venue) j)) (λ j. let e = share-same (f .lesser j .legs) in omega arith) places in
+    costs-more _ _ (share (complexAt v i) + sum (λ j. share (cx (work i v .venue) j)) places) (share (cx v i) + sum (λ j. share (cx v j)) places) v _ (omega arith)
+    (costs-then _ _ _ _ v (work i v) (eachOf work places) (costs-work i v (two i)) (costs-worksOf places _ (λ j. apart-fewer j v _ f (two j))))

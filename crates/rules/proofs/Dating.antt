@@ -12,11 +12,11 @@ use borrow.Author.Tests.{eq-eqb, le-leb, leb-false, leb-true, lt-ltb, ltb-true, 
 use Rattle.rules.specs.declared.Complex.{Complex}
 use Rattle.rules.specs.declared.Edition.{Edition}
 use Rattle.rules.specs.declared.Message.{Message}
-use Rattle.rules.specs.declared.Message.the-variants.{Away, Cancel, Increment, Order, Percent, Status, Sweep, TwoLeg}
+use Rattle.rules.specs.declared.Message.the-variants.{Away, Cancel, Increment, LimitedSweep, Order, Percent, Status, Sweep, TwoLeg}
 use Rattle.rules.specs.declared.Regular.{Regular}
 use Rattle.rules.specs.declared.Venue.{Venue}
 use Rattle.rules.specs.Base.{all, held, if_then_else_, placeWhere}
-use Rattle.rules.specs.Words.{isSeries, noEdition, noRegular, withComplex, withEditions, withLast, withLegging, withRegular, withSeries, within}
+use Rattle.rules.specs.Words.{isSeries, noEdition, noRegular, withComplex, withEditions, withGenerations, withLast, withLegging, withReached, withRegular, withSeries, within}
 use Rattle.rules.specs.Settings.{baseFigure, enterEdition, figureNow, freeEdition, inForce, increment, isEdition, isIncrement, isPercent, percentage, sets}
 use Rattle.rules.specs.Messages.{messageOf}
 use Rattle.rules.specs.Effects.{Effect, _⟫_, nothing, report}
@@ -24,8 +24,8 @@ use Rattle.rules.specs.Removal.{remove}
 use Rattle.rules.specs.Standing.{settle, showAgain}
 use Rattle.rules.specs.Trading.{fillComplex, fillRegular, putComplex, putRegular}
 use Rattle.rules.specs.Order.{enterRegular, order}
-use Rattle.rules.specs.Generation.{generate, generateLeg, make, makes, placed}
-use Rattle.rules.specs.Complex.{complex, each, sweep, work}
+use Rattle.rules.specs.Generation.{counted, generate, generateLeg, make, makes, placed}
+use Rattle.rules.specs.Complex.{complex, each, eachOf, limitedSweep, sweep, work}
 use Rattle.rules.specs.Places.{arranged, blankEdition, closeGaps, holdsEdition}
 use Rattle.rules.specs.Refusals.{editionTooLow, idle, inUse, noEditionLeft, offIncrement, onIncrement}
 use Rattle.rules.specs.Step.{accept, answered, perform, setAway, setFigure, setStatus, step}
@@ -38,7 +38,7 @@ use Rattle.rules.proofs.Editions.{Stepped, ed, figure-other, past-set, 
 use Rattle.rules.proofs.Filling.{Fewer, fill-fewer, reg, still-held}
 use Rattle.rules.proofs.Finding.{where-passes}
 use Rattle.rules.proofs.Gaps.{fr, was}
-use Rattle.rules.proofs.Keeping.{Lasts, keeps-cancel, keeps-each, keeps-matching, keeps-settle, keeps-work}
+use Rattle.rules.proofs.Keeping.{Lasts, keeps-cancel, keeps-each, keeps-eachOf, keeps-matching, keeps-settle, keeps-work}
 use Rattle.rules.proofs.Refusing.{Passed, accepted, wellFormed}
 use Rattle.rules.proofs.Tests.{and-in, and-l, and-r, pos-held}
 use Rattle.rules.proofs.Widths.{Ranged, set-each}
@@ -86,6 +86,7 @@ editionsAfter number (Status s x) v = v .editions
 editionsAfter number Sweep v = v .editions
 editionsAfter number (Increment s i e) v = setFigure number s i e v .editions
 editionsAfter number (Percent x e) v = setFigure number percentage x e v .editions
+editionsAfter number (LimitedSweep n) v = v .editions
 
 module _ (es : List Edition) where
   abbrev Has : Venue → Type 0
@@ -95,26 +96,29 @@ module _ (es : List Edition) where
   unfolding fillRegular fillComplex remove showAgain withRegular withComplex withLegging
   has-lasts = record { fillR = λ i k v h. h; fillC = λ i k v h. h; gone = λ f v h. h; again = λ v h. h }
 
-  has-leg : (x : Complex) (t d : ℕ) (v : Venue) → Has v → Has (generateLeg x t d v .venue)
-  unfolding generateLeg make report nothing _⟫_ remove placed withLegging
-  has-leg x t d v h = if-by (λ (f : Effect). Has (f .venue)) (held (x .quantity) && makes v x t d) (λ _. h) (λ _. h)
+  has-leg : (number : ℕ) (x : Complex) (t d : ℕ) (v : Venue) → Has v → Has (generateLeg number x t d v .venue)
+  unfolding generateLeg make report nothing _⟫_ remove placed counted withLegging withGenerations
+  has-leg number x t d v h = if-by (λ (f : Effect). Has (f .venue)) (held (x .quantity) && makes number v x t d) (λ _. h) (λ _. h)
 
-  has-generate : (i : ℕ) (v : Venue) → Has v → Has (generate i v .venue)
+  has-generate : (number i : ℕ) (v : Venue) → Has v → Has (generate number i v .venue)
   unfolding generate _⟫_
-  has-generate i v h = has-leg _ _ _ _ (has-leg _ _ _ v h)
+  has-generate number i v h = has-leg number _ _ _ _ (has-leg number _ _ _ v h)
 
 pub perform-editions : (number : ℕ) (m : Message) (v : Venue) → perform number m v .venue .editions ≡ editionsAfter number m v
-unfolding perform editionsAfter order enterRegular putRegular complex putComplex sweep setAway setStatus withRegular withComplex withSeries withLast _⟫_
+unfolding perform editionsAfter order enterRegular putRegular complex putComplex sweep limitedSweep setAway setStatus withRegular withComplex withSeries withLast withReached report _⟫_
 perform-editions number (Order o) v = keeps-settle (has-lasts (v .editions)) _ (keeps-matching (has-lasts (v .editions)) _ _ _ refl)
-perform-editions number (TwoLeg x) v = has-generate (v .editions) _ _ (keeps-settle (has-lasts (v .editions)) _ (keeps-work (has-lasts (v .editions)) _ _ refl))
+perform-editions number (TwoLeg x) v = has-generate (v .editions) number _ _ (keeps-settle (has-lasts (v .editions)) _ (keeps-work (has-lasts (v .editions)) _ _ refl))
 perform-editions number (Cancel id) v = keeps-cancel (has-lasts (v .editions)) id v refl
 perform-editions number (Away t b o) v = keeps-settle (has-lasts (v .editions)) _ refl
 perform-editions number (Status t x) v = keeps-settle (has-lasts (v .editions)) _ refl
 perform-editions number Sweep v =
-    keeps-each (Has (v .editions)) generate (has-generate (v .editions)) 32 0 _
+    keeps-each (Has (v .editions)) (generate number) (has-generate (v .editions) number) 32 0 _
     (keeps-settle (has-lasts (v .editions)) _ (keeps-each (Has (v .editions)) work (keeps-work (has-lasts (v .editions))) 32 0 v refl))
 perform-editions number (Increment s i e) v = keeps-settle (has-lasts (setFigure number s i e v .editions)) _ refl
 perform-editions number (Percent x e) v = keeps-settle (has-lasts (setFigure number percentage x e v .editions)) _ refl
+perform-editions number (LimitedSweep n) v =
+    keeps-eachOf (Has (v .editions)) (generate number) (has-generate (v .editions) number) _ _
+    (keeps-settle (has-lasts (v .editions)) _ (keeps-eachOf (Has (v .editions)) work (keeps-work (has-lasts (v .editions))) _ _ refl))
 
 accept-editions : (number : ℕ) (m : Message) (v : Venue) → accept number m v .venue .editions ≡ editionsAfter number m v
 unfolding accept nothing _⟫_ closeGaps withRegular withComplex
@@ -131,14 +135,19 @@ unfolding all
 some-above f n [] h l = absurd (omega arith)
 some-above f n (e ∷ es) h l = let z = ltb-true (f e) n (and-l (ltb (f e) n) _ h) in omega arith
 
+-- the editions' part
+follows-editions : (number : ℕ) (v : Venue) → follows number v ≡ true → all (λ k. ltb (k .message) number) (v .editions) ≡ true
+unfolding follows
+follows-editions number v h = and-l _ _ h
+
 -- a number that is above every edition's is some number
 pub some-number : (number : ℕ) (v : Venue) → length (v .editions) ≡ 32 → follows number v ≡ true → 0 < number
 unfolding follows
-some-number number v len h = some-above (λ k. k .message) number (v .editions) h (omega arith)
+some-number number v len h = some-above (λ k. k .message) number (v .editions) (and-l _ _ h) (omega arith)
 
 module _ (number f x e : ℕ) (v : Venue) (len : length (v .editions) ≡ 32)
     (low : not (all (λ k. ltb (k .edition) e) (v .editions)) ≡ false) (place : leb 32 (freeEdition v) ≡ false)
-    (next : follows number v ≡ true) where
+    (next : all (λ k. ltb (k .message) number) (v .editions) ≡ true) where
   abbrev entered : Edition
   entered = record { edition = e; message = number; figure = f; value = x }
 
@@ -196,12 +205,13 @@ accept-rises number (Cancel id) v p len few next s = sound-same v _ (accept-edit
 accept-rises number (Away t b o) v p len few next s = sound-same v _ (accept-editions number (Away t b o) v) s
 accept-rises number (Status t x) v p len few next s = sound-same v _ (accept-editions number (Status t x) v) s
 accept-rises number Sweep v p len few next s = sound-same v _ (accept-editions number Sweep v) s
+accept-rises number (LimitedSweep n) v p len few next s = sound-same v _ (accept-editions number (LimitedSweep n) v) s
 accept-rises number (Increment t i e) v p len few next s =
     sound-same (setFigure number t i e v) _ (accept-editions number (Increment t i e) v)
-    (figure-rises number t i e v len (p .rising) (p .place) next (increment-range v number t i e (p .range)) (increment-edition v t i e (p .range)) few s)
+    (figure-rises number t i e v len (p .rising) (p .place) (follows-editions number v next) (increment-range v number t i e (p .range)) (increment-edition v t i e (p .range)) few s)
 accept-rises number (Percent x e) v p len few next s =
     sound-same (setFigure number percentage x e v) _ (accept-editions number (Percent x e) v)
-    (figure-rises number percentage x e v len (p .rising) (p .place) next (percent-range v number x e (p .range)) (percent-edition v x e (p .range)) few s)
+    (figure-rises number percentage x e v len (p .rising) (p .place) (follows-editions number v next) (percent-range v number x e (p .range)) (percent-edition v x e (p .range)) few s)
 
 pub step-rises : (v : Venue) (number : ℕ) (bs : List ℕ) → length (v .editions) ≡ 32 → number ≤ 4294967295 → follows number v ≡ true →
     editionsSound v ≡ true → editionsSound (step v number bs .effect .venue) ≡ true
@@ -217,11 +227,11 @@ Below n es = (i : ℕ) → getD es i noEdition .message < n
 
 below-out : (n : ℕ) (v : Venue) → 0 < n → follows n v ≡ true → Below n (v .editions)
 unfolding follows
-below-out n v some h i = ltb-true (ed v i .message) n (all-at (λ e. ltb (e .message) n) noEdition (v .editions) (lt-ltb 0 n some) h i)
+below-out n v some h i = ltb-true (ed v i .message) n (all-at (λ e. ltb (e .message) n) noEdition (v .editions) (lt-ltb 0 n some) (and-l _ _ h) i)
 
-below-in : (n : ℕ) (v : Venue) → Below n (v .editions) → follows n v ≡ true
+below-in : (n : ℕ) (v : Venue) → Below n (v .editions) → all (λ g. all (λ k. ltb k n) (g .messages)) (v .generations) ≡ true → follows n v ≡ true
 unfolding follows
-below-in n v h = all-in (λ e. ltb (e .message) n) noEdition (v .editions) (λ i. lt-ltb (ed v i .message) n (h i))
+below-in n v h g = and-in _ _ (all-in (λ e. ltb (e .message) n) noEdition (v .editions) (λ i. lt-ltb (ed v i .message) n (h i))) g
 
 after-below : (number : ℕ) (m : Message) (v : Venue) → Below (suc number) (v .editions) → Below (suc number) (editionsAfter number m v)
 unfolding editionsAfter setFigure enterEdition withEditions
@@ -231,14 +241,17 @@ after-below number (Cancel id) v h = h
 after-below number (Away t b o) v h = h
 after-below number (Status t x) v h = h
 after-below number Sweep v h = h
+after-below number (LimitedSweep n) v h = h
 after-below number (Increment t i e) v h = set-each (λ k. k .message < suc number) noEdition (v .editions) (freeEdition v) _ (omega arith) h
 after-below number (Percent x e) v h = set-each (λ k. k .message < suc number) noEdition (v .editions) (freeEdition v) _ (omega arith) h
 
-pub step-follows : (v : Venue) (number : ℕ) (bs : List ℕ) → 0 < number → follows number v ≡ true → follows (suc number) (step v number bs .effect .venue) ≡ true
+-- of what is generated, by Traffic
+pub step-follows : (v : Venue) (number : ℕ) (bs : List ℕ) → 0 < number → follows number v ≡ true →
+    all (λ g. all (λ k. ltb k (suc number)) (g .messages)) (step v number bs .effect .venue .generations) ≡ true → follows (suc number) (step v number bs .effect .venue) ≡ true
 unfolding step answered nothing
 step-follows v number bs some h =
     let b : Below (suc number) (v .editions) = λ i. (let z = below-out number v some h i in omega arith) in
-    step-by (λ e. follows (suc number) (e .venue) ≡ true) v number bs
+    step-by (λ e. all (λ g. all (λ k. ltb k (suc number)) (g .messages)) (e .venue .generations) ≡ true → follows (suc number) (e .venue) ≡ true) v number bs
     (λ _. below-in (suc number) _ (rw (accept-editions number (messageOf bs) v) (after-below number (messageOf bs) v b)))
     (λ _. below-in (suc number) v b)
 
@@ -293,13 +306,13 @@ priced-lasts = record {
   again = λ v. priced-fewer v _ (again-fewer v) (again-editions v);
 }
 
-priced-leg : (x : Complex) (t d : ℕ) (v : Venue) → Priced v → Priced (generateLeg x t d v .venue)
-unfolding generateLeg make report nothing _⟫_ remove placed withLegging
-priced-leg x t d v h = if-by (λ (f : Effect). Priced (f .venue)) (held (x .quantity) && makes v x t d) (λ _. priced-same v _ refl refl h) (λ _. h)
+priced-leg : (number : ℕ) (x : Complex) (t d : ℕ) (v : Venue) → Priced v → Priced (generateLeg number x t d v .venue)
+unfolding generateLeg make report nothing _⟫_ remove placed counted withLegging withGenerations
+priced-leg number x t d v h = if-by (λ (f : Effect). Priced (f .venue)) (held (x .quantity) && makes number v x t d) (λ _. priced-same v _ refl refl h) (λ _. h)
 
-priced-generate : (i : ℕ) (v : Venue) → Priced v → Priced (generate i v .venue)
+priced-generate : (number i : ℕ) (v : Venue) → Priced v → Priced (generate number i v .venue)
 unfolding generate _⟫_
-priced-generate i v h = priced-leg _ _ _ _ (priced-leg _ _ _ v h)
+priced-generate number i v h = priced-leg number _ _ _ _ (priced-leg number _ _ _ v h)
 
 -- an order that comes is on the increment
 priced-put : (i : ℕ) (o : Regular) (v : Venue) → onIncrement v o ≡ true → Priced v → Priced (putRegular i o (withLast v (o .id)))
@@ -332,15 +345,18 @@ idle-apart v s h i t e =
     true≢false (sym (rw (t, eq-eqb (reg v i .series) s (sym e)) at z))
 
 perform-priced : (number : ℕ) (m : Message) (v : Venue) → Passed v m → length (v .editions) ≡ 32 → Ranged v → Priced v → Priced (perform number m v .venue)
-unfolding perform order enterRegular complex putComplex sweep setAway setStatus withComplex withSeries withLast _⟫_ inUse noEditionLeft
+unfolding perform order enterRegular complex putComplex sweep limitedSweep setAway setStatus withComplex withSeries withLast withReached report _⟫_ inUse noEditionLeft
 perform-priced number (Order o) v p len r h =
     keeps-settle priced-lasts _ (keeps-matching priced-lasts _ _ _ (priced-put _ o v (not-false _ (unfold offIncrement in (p .stepped))) h))
-perform-priced number (TwoLeg c) v p len r h = priced-generate _ _ (keeps-settle priced-lasts _ (keeps-work priced-lasts _ _ (priced-same v _ refl refl h)))
+perform-priced number (TwoLeg c) v p len r h = priced-generate number _ _ (keeps-settle priced-lasts _ (keeps-work priced-lasts _ _ (priced-same v _ refl refl h)))
 perform-priced number (Cancel id) v p len r h = keeps-cancel priced-lasts id v h
 perform-priced number (Away t b o) v p len r h = keeps-settle priced-lasts _ (priced-same v _ refl refl h)
 perform-priced number (Status t x) v p len r h = keeps-settle priced-lasts _ (priced-same v _ refl refl h)
 perform-priced number Sweep v p len r h =
-    keeps-each Priced generate priced-generate 32 0 _ (keeps-settle priced-lasts _ (keeps-each Priced work (keeps-work priced-lasts) 32 0 v h))
+    keeps-each Priced (generate number) (priced-generate number) 32 0 _ (keeps-settle priced-lasts _ (keeps-each Priced work (keeps-work priced-lasts) 32 0 v h))
+perform-priced number (LimitedSweep n) v p len r h =
+    keeps-eachOf Priced (generate number) (priced-generate number) _ _
+    (keeps-settle priced-lasts _ (keeps-eachOf Priced work (keeps-work priced-lasts) _ _ (priced-same v _ refl refl h)))
 perform-priced number (Increment s i e) v p len r h =
     keeps-settle priced-lasts _ (priced-figure number s i e v (let z = leb-false 32 (freeEdition v) (p .place) in omega arith) (idle-apart v s (not-false _ (p .unused))) h)
 perform-priced number (Percent x e) v p len r h =
@@ -372,11 +388,11 @@ pub steps-settled : (e : Effect) → Stepped (e .venue) → Stepped ((e ⟫ sett
 unfolding _⟫_
 steps-settled e h = keeps-settle steps-lasts _ h
 
-pub steps-leg : (x : Complex) (t d : ℕ) (v : Venue) → Stepped v → Stepped (generateLeg x t d v .venue)
-steps-leg x t d v = steps-same v _ (has-leg (v .editions) x t d v refl)
+pub steps-leg : (number : ℕ) (x : Complex) (t d : ℕ) (v : Venue) → Stepped v → Stepped (generateLeg number x t d v .venue)
+steps-leg number x t d v = steps-same v _ (has-leg (v .editions) number x t d v refl)
 
-pub steps-generate : (i : ℕ) (v : Venue) → Stepped v → Stepped (generate i v .venue)
-steps-generate i v = steps-same v _ (has-generate (v .editions) i v refl)
+pub steps-generate : (number i : ℕ) (v : Venue) → Stepped v → Stepped (generate number i v .venue)
+steps-generate number i v = steps-same v _ (has-generate (v .editions) number i v refl)
 
 pub steps-swept : (v : Venue) → Stepped v → Stepped ((each 32 work 0 v ⟫ settle) .venue)
 steps-swept v h = steps-settled (each 32 work 0 v) (keeps-each Stepped work steps-work 32 0 v h)
@@ -407,6 +423,7 @@ accept-past number (Cancel id) v p len k f lt = force-same v _ (accept-editions 
 accept-past number (Away t b o) v p len k f lt = force-same v _ (accept-editions number (Away t b o) v) k f
 accept-past number (Status t x) v p len k f lt = force-same v _ (accept-editions number (Status t x) v) k f
 accept-past number Sweep v p len k f lt = force-same v _ (accept-editions number Sweep v) k f
+accept-past number (LimitedSweep n) v p len k f lt = force-same v _ (accept-editions number (LimitedSweep n) v) k f
 accept-past number (Increment t i e) v p len k f lt =
     force-same (setFigure number t i e v) _ (accept-editions number (Increment t i e) v) k f
     ∙ figure-past number t i e v (let z = leb-false 32 (freeEdition v) (p .place) in omega arith) k f lt
@@ -418,3 +435,7 @@ pub step-past : (v : Venue) (number : ℕ) (bs : List ℕ) → length (v .editio
 unfolding step answered nothing
 step-past v number bs len k f lt =
     step-by (λ e. inForce (e .venue) k f ≡ inForce v k f) v number bs (λ h. accept-past number (messageOf bs) v (accepted v bs h) len k f lt) (λ _. refl)
+
+-- a limited sweep's orders have been worked
+pub steps-limited : (places : List ℕ) (v : Venue) → Stepped v → Stepped ((eachOf work places v ⟫ settle) .venue)
+steps-limited places v h = steps-settled (eachOf work places v) (keeps-eachOf Stepped work steps-work places v h)

@@ -97,7 +97,7 @@ below n (e ∷ es) h =
 -- "Every band and increment in the rules reads the edition in force": where no edition has a number above n
 pub in-force-now : (v : Venue) (n f : ℕ) → follows (suc n) v ≡ true → inForce v n f ≡ figureNow v f
 unfolding inForce figureNow follows
-in-force-now v n f h = ap (lastValue f (baseFigure f)) (keep-all n (v .editions) (below n (v .editions) h))
+in-force-now v n f h = ap (lastValue f (baseFigure f)) (keep-all n (v .editions) (below n (v .editions) (and-l _ _ h)))
 
 -- an edition of a later message, at a free place, moves nothing that was in force
 pub past-set : (k f x : ℕ) (es : List Edition) (i : ℕ) (e : Edition) → sets f (getD es i noEdition) ≡ false → leb (e .message) k ≡ false →

@@ -10,7 +10,7 @@ use lib.ListN.{length, take, drop, length-append, List·getD-append, take-append
 use borrow.Author.Tests.{eqb-true}
 use Rattle.rules.specs.declared.Venue.{Venue}
 use Rattle.rules.specs.declared.Message.{Message}
-use Rattle.rules.specs.declared.Message.the-variants.{Order, TwoLeg, Cancel, Away, Status, Sweep, Increment, Percent}
+use Rattle.rules.specs.declared.Message.the-variants.{Order, TwoLeg, Cancel, Away, Status, Sweep, Increment, Percent, LimitedSweep}
 use Rattle.rules.specs.declared.Decoded.{Decoded}
 use Rattle.rules.specs.declared.Decoded.the-variants.{Taken, Refused}
 use Rattle.rules.specs.Base.{if_then_else_}
@@ -68,14 +68,14 @@ module _ (m rest : List ℕ) where
 
   message-same : 4 ≤ length m → (4 ≤ lengthOf (kindField m)) × (lengthOf (kindField m) ≤ length m) → messageOf (m ++ rest) ≡ messageOf m
   unfolding messageOf lengthOf
-  message-same h le = rw (kind-same h) (go (eqb k 1) (eqb k 2) (eqb k 3) (eqb k 4) (eqb k 5) (eqb k 6) (eqb k 7) (eqb k 8) (eqb k 9) (eqb k 10) le)
+  message-same h le = rw (kind-same h) (go (eqb k 1) (eqb k 2) (eqb k 3) (eqb k 4) (eqb k 5) (eqb k 6) (eqb k 7) (eqb k 8) (eqb k 9) (eqb k 10) (eqb k 11) le)
     where
       k : ℕ
       k = kindField m
 
-      go : (a b c d e f g h i j : Bool) →
+      go : (a b c d e f g h i j x : Bool) →
           (let n : ℕ = if a then 18 else if b then 21 else if c then 8 else if d then 13 else if e then 6 else if f then 4 else if g then 10 else if h then 9
-          else if i then 22 else if j then 23 else 0 in
+          else if i then 22 else if j then 23 else if x then 5 else 0 in
           (4 ≤ n) × (n ≤ length m)) →
           _≡_ {A = Message}
           (if a then Order (orderAt (u32At (m ++ rest) 14) (m ++ rest)) else if b then TwoLeg (twoLegAt (m ++ rest) 1 1) else if c then Cancel (u32At (m ++ rest) 4)
@@ -84,23 +84,25 @@ module _ (m rest : List ℕ) where
           else if g then Increment (u8At (m ++ rest) 4) (u8At (m ++ rest) 5) (u32At (m ++ rest) 6)
           else if h then Percent (u8At (m ++ rest) 4) (u32At (m ++ rest) 5)
           else if i then Order (orderAt (u32At (m ++ rest) 18) (m ++ rest))
-          else TwoLeg (twoLegAt (m ++ rest) (u8At (m ++ rest) 21) (u8At (m ++ rest) 22)))
+          else if j then TwoLeg (twoLegAt (m ++ rest) (u8At (m ++ rest) 21) (u8At (m ++ rest) 22))
+          else LimitedSweep (u8At (m ++ rest) 4))
           (if a then Order (orderAt (u32At m 14) m) else if b then TwoLeg (twoLegAt m 1 1) else if c then Cancel (u32At m 4)
           else if d then Away (u8At m 4) (u32At m 5) (u32At m 9)
           else if e then Status (u8At m 4) (u8At m 5) else if f then Sweep
           else if g then Increment (u8At m 4) (u8At m 5) (u32At m 6) else if h then Percent (u8At m 4) (u32At m 5)
-          else if i then Order (orderAt (u32At m 18) m) else TwoLeg (twoLegAt m (u8At m 21) (u8At m 22)))
-      go true b c d e f g h i j le = let q = le .1 in rw (u32-same 14 (omega arith), order-same (u32At m 14) q)
-      go false true c d e f g h i j le = rw (complex-same 1 1 (le .1))
-      go false false true d e f g h i j le = let q = le .1 in rw (u32-same 4 (omega arith))
-      go false false false true e f g h i j le = let q = le .1 in rw (u8-same 4 (omega arith), u32-same 5 (omega arith), u32-same 9 (omega arith))
-      go false false false false true f g h i j le = let q = le .1 in rw (u8-same 4 (omega arith), u8-same 5 (omega arith))
-      go false false false false false true g h i j le = refl
-      go false false false false false false true h i j le = let q = le .1 in rw (u8-same 4 (omega arith), u8-same 5 (omega arith), u32-same 6 (omega arith))
-      go false false false false false false false true i j le = let q = le .1 in rw (u8-same 4 (omega arith), u32-same 5 (omega arith))
-      go false false false false false false false false true j le = let q = le .1 in rw (u32-same 18 (omega arith), order-same (u32At m 18) (omega arith))
-      go false false false false false false false false false true le = let q = le .1 in rw (complex-same _ _ (omega arith), u8-same 21 (omega arith), u8-same 22 (omega arith))
-      go false false false false false false false false false false le = let q = le .0 in absurd (omega arith)
+          else if i then Order (orderAt (u32At m 18) m) else if j then TwoLeg (twoLegAt m (u8At m 21) (u8At m 22)) else LimitedSweep (u8At m 4))
+      go true b c d e f g h i j x le = let q = le .1 in rw (u32-same 14 (omega arith), order-same (u32At m 14) q)
+      go false true c d e f g h i j x le = rw (complex-same 1 1 (le .1))
+      go false false true d e f g h i j x le = let q = le .1 in rw (u32-same 4 (omega arith))
+      go false false false true e f g h i j x le = let q = le .1 in rw (u8-same 4 (omega arith), u32-same 5 (omega arith), u32-same 9 (omega arith))
+      go false false false false true f g h i j x le = let q = le .1 in rw (u8-same 4 (omega arith), u8-same 5 (omega arith))
+      go false false false false false true g h i j x le = refl
+      go false false false false false false true h i j x le = let q = le .1 in rw (u8-same 4 (omega arith), u8-same 5 (omega arith), u32-same 6 (omega arith))
+      go false false false false false false false true i j x le = let q = le .1 in rw (u8-same 4 (omega arith), u32-same 5 (omega arith))
+      go false false false false false false false false true j x le = let q = le .1 in rw (u32-same 18 (omega arith), order-same (u32At m 18) (omega arith))
+      go false false false false false false false false false true x le = let q = le .1 in rw (complex-same _ _ (omega arith), u8-same 21 (omega arith), u8-same 22 (omega arith))
+      go false false false false false false false false false false true le = let q = le .1 in rw (u8-same 4 (omega arith))
+      go false false false false false false false false false false false le = let q = le .0 in absurd (omega arith)
 
   module _ (w : Whole m) where
     four : 4 ≤ length m

@@ -1,7 +1,7 @@
 -- Generation: the new legging order passes its own test, and each other passes as it did.
 use mathlib.Core.Path.{_≡_, refl}
 use mathlib.Core.Bool.{Bool, true, false, not, _&&_, _||_, false≢true}
-use mathlib.Core.Logic.{_≢_}
+use mathlib.Core.Logic.{_≢_, inl}
 use mathlib.Core.List.{List, [], _∷_}
 use Prim.Native.Nat.{ℕ, zero, suc, _+_, _-_, _/_, _%_, _≤_, _<_}
 use native.Mathlib.Omega.{arith}
@@ -21,16 +21,16 @@ use Rattle.rules.specs.declared.Verdict.the-variants.{Stands, Fails}
 use Rattle.rules.specs.declared.Cause.the-variants.{Replaced}
 use Rattle.rules.proofs.Tests.{and-l, and-r, or-r, if-same}
 use Rattle.rules.proofs.Cases.{if-by}
-use Rattle.rules.proofs.Settling.{free-stands}
+use Rattle.rules.proofs.Settling.{Kept, Thinned, free-stands, verdict-kept}
 use Rattle.rules.proofs.Verdicts.{Passes, passing}
 use Rattle.rules.specs.Base.{if_then_else_, held}
-use Rattle.rules.specs.Words.{within, buy, opposite, signed, noLegging, oneToOne, placeOf, leggingAt, statusOf, withLegging}
+use Rattle.rules.specs.Words.{within, buy, opposite, signed, noLegging, oneToOne, placeOf, leggingAt, statusOf, withGenerations, withLegging}
 use Rattle.rules.specs.Settings.{figureNow, increment, percent}
 use Rattle.rules.specs.Effects.{_⟫_, report, nothing}
 use Rattle.rules.specs.Prices.{bestRegular, bestSize, clearPrice, bestOwn, displayed, marketBest, away, taken1, taken2, inBand}
 use Rattle.rules.specs.Removal.{stay, stayers, remove, failIf}
 use Rattle.rules.specs.Standing.{otherLeg, findComplex, parentOf, bothOpen, shownWell, pairs, verdict, otherClear, otherSize, stands}
-use Rattle.rules.specs.Generation.{reachesAny, givesWay, asPrice, legPrice, newLegging, placed, makes, make, othersStand, generateLeg}
+use Rattle.rules.specs.Generation.{counted, generationsOf, underCeiling, reachesAny, givesWay, asPrice, legPrice, newLegging, placed, makes, make, othersStand, generateLeg}
 
 -- Numbers -------------------------------------------------------------------------------------
 
@@ -100,7 +100,7 @@ module _ (n : ℕ) (l : Legging) (v : Venue) where
 
 -- The conditions of generation, by name -------------------------------------------------------
 
-pub record Makes (v : Venue) (c : Complex) (s d : ℕ) : Type 0 where
+pub record Makes (number : ℕ) (v : Venue) (c : Complex) (s d : ℕ) : Type 0 where
   pub even : oneToOne c ≡ true
   pub opens : bothOpen v c ≡ true
   pub band : inBand v c (c .limit) ≡ true
@@ -110,9 +110,10 @@ pub record Makes (v : Venue) (c : Complex) (s d : ℕ) : Type 0 where
   pub inside : not (reachesAny d (legPrice v c s d) (bestOwn v s (opposite d))) ≡ true
   pub outside : not (reachesAny d (legPrice v c s d) (away v s (opposite d))) ≡ true
   pub way : givesWay v c d (legPrice v c s d) (leggingAt v s d) ≡ true
+  pub ceiling : underCeiling number (generationsOf v s) ≡ true
   pub others : othersStand (placed (placeOf s d) (newLegging v c s d) v) (placeOf s d) 0 (set (v .legging) (placeOf s d) (newLegging v c s d)) ≡ true
 
-pub made : {v : Venue} {c : Complex} {s d : ℕ} → makes v c s d ≡ true → Makes v c s d
+pub made : {number : ℕ} {v : Venue} {c : Complex} {s d : ℕ} → makes number v c s d ≡ true → Makes number v c s d
 unfolding makes placed withLegging
 made m = search (and-l, and-r, m) depth 12
 
@@ -127,12 +128,12 @@ module _ (v : Venue) (c : Complex) (s d : ℕ) where
   after = placed (placeOf s d) new v
 
   -- k contracts of the other leg can be had, at a net of N
-  new-pairs : 0 < increment v s → Makes v c s d → pairs v c s d (new .price) (new .quantity) ≡ true
+  new-pairs : {number : ℕ} → 0 < increment v s → Makes number v c s d → pairs v c s d (new .price) (new .quantity) ≡ true
   unfolding pairs newLegging
   new-pairs k m =
       rw (m .clear, leg-nets v c s d (zero-out (increment v s) d _ k (m .range)), leZ-refl, le-leb _ _ (min-le-right (c .quantity) (otherSize v c s)))
 
-  new-passes : 0 < increment v s → d < 2 → opposite (otherLeg c s .side) < 2 → s ≢ otherLeg c s .series → Makes v c s d → Passes after c s d new
+  new-passes : {number : ℕ} → 0 < increment v s → d < 2 → opposite (otherLeg c s .side) < 2 → s ≢ otherLeg c s .series → Makes number v c s d → Passes after c s d new
   unfolding shownWell increment percent figureNow bestRegular placed withLegging newLegging inBand taken1 taken2 marketBest away bothOpen statusOf
   new-passes k d2 e2 ne m = record {
     shown = m .shown;
@@ -162,9 +163,9 @@ set-stayers m n i [] x e = refl
 set-stayers m n zero (l ∷ ls) x e = rw (stayers-id (only m) (suc n) ls (λ k l′ q. only-other m k l′ (λ y. omega arith)))
 set-stayers m n (suc i) (l ∷ ls) x e = rw (only-other m n l (λ y. omega arith), set-stayers m (suc n) i ls x (omega arith))
 
-pub make-venue : (v : Venue) (c : Complex) (s d : ℕ) → make c s d v .venue ≡ after v c s d
-unfolding make remove placed withLegging _⟫_ report only
-make-venue v c s d = rw (set-stayers (placeOf s d) 0 (placeOf s d) (v .legging) (newLegging v c s d) (omega arith))
+pub make-venue : (number : ℕ) (v : Venue) (c : Complex) (s d : ℕ) → make number c s d v .venue ≡ counted number s (after v c s d)
+unfolding make remove placed counted generationsOf withLegging withGenerations _⟫_ report only
+make-venue number v c s d = rw (set-stayers (placeOf s d) 0 (placeOf s d) (v .legging) (newLegging v c s d) (omega arith))
 
 -- every legging order of w passes its test
 unfoldable pub AllStand : Venue → Type 0
@@ -174,6 +175,14 @@ pub is-stands : (x : Verdict) → stands x ≡ true → x ≡ Stands
 unfolding stands
 is-stands Stands h = refl
 is-stands (Fails c) h = absurd (false≢true h)
+
+-- the ceiling's count moves no test
+counted-stands : (number s : ℕ) (w : Venue) → AllStand w → AllStand (counted number s w)
+unfolding AllStand
+counted-stands number s w a i = verdict-kept (thins number s w) i _ (unfold counted withGenerations in (a i))
+  where
+    thins : (number s : ℕ) (w : Venue) → Thinned w (counted number s w)
+    thins number s w = unfold counted withGenerations in (record { regular = refl; complex = refl; series = refl; editions = refl; legging = λ i. unfold Kept in (inl refl) })
 
 others-stand : (w : Venue) (m n : ℕ) (ls : List Legging) (i : ℕ) → othersStand w m n ls ≡ true → n + i ≢ m →
     verdict w (n + i) (getD ls i noLegging) ≡ Stands
@@ -189,12 +198,12 @@ others-stand w m n (l ∷ ls) (suc i) h ne =
 module _ (v : Venue) (c : Complex) (s d : ℕ) (step : 0 < increment v s)
     (d2 : d < 2) (e2 : opposite (otherLeg c s .side) < 2) (ne : s ≢ otherLeg c s .series)
     (own : findComplex (c .id) (v .complex) ≡ c) (fits : placeOf s d < length (v .legging)) where
-  new-stands : Makes v c s d → verdict (after v c s d) (placeOf s d) (new v c s d) ≡ Stands
+  new-stands : {number : ℕ} → Makes number v c s d → verdict (after v c s d) (placeOf s d) (new v c s d) ≡ Stands
   unfolding verdict parentOf placed withLegging newLegging
   new-stands m =
       rw (own, place-series s d d2, place-side s d d2, passing (new-passes v c s d step d2 e2 ne m), if-same)
 
-  after-stands : Makes v c s d → AllStand (after v c s d)
+  after-stands : {number : ℕ} → Makes number v c s d → AllStand (after v c s d)
   unfolding AllStand placed withLegging
   after-stands m i = go (ℕ-discrete i (placeOf s d))
     where
@@ -202,10 +211,10 @@ module _ (v : Venue) (c : Complex) (s d : ℕ) (step : 0 < increment v s)
       go (yes e) = rw (e, getD-set-same) (new-stands m)
       go (no f) = rw zero-add at (others-stand (after v c s d) (placeOf s d) 0 (after v c s d .legging) i (m .others) (λ y. f (omega arith)))
 
-  pub generate-stands : AllStand v → AllStand (generateLeg c s d v .venue)
+  pub generate-stands : (number : ℕ) → AllStand v → AllStand (generateLeg number c s d v .venue)
   unfolding generateLeg nothing
-  generate-stands a = go (held (c .quantity) && makes v c s d) refl
+  generate-stands number a = go (held (c .quantity) && makes number v c s d) refl
     where
-      go : (b : Bool) → (held (c .quantity) && makes v c s d) ≡ b → AllStand ((if b then make c s d v else nothing v) .venue)
-      go true e = rw make-venue (after-stands (made (and-r (held (c .quantity)) (makes v c s d) e)))
+      go : (b : Bool) → (held (c .quantity) && makes number v c s d) ≡ b → AllStand ((if b then make number c s d v else nothing v) .venue)
+      go true e = rw make-venue (counted-stands number s _ (after-stands (made (and-r (held (c .quantity)) (makes number v c s d) e))))
       go false e = a

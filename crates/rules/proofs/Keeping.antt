@@ -1,5 +1,6 @@
 -- Whatever fills, removals and showing again keep, every effect keeps but admission and generation.
 use mathlib.Core.Path.{subst}
+use mathlib.Core.List.{List, [], _∷_}
 use mathlib.Core.Bool.{_&&_}
 use Prim.Native.Nat.{suc, zero, ℕ}
 use lib.IntN.{ℤ}
@@ -14,7 +15,7 @@ use Rattle.rules.specs.Removal.{remove, removeOf}
 use Rattle.rules.specs.Standing.{settle, showAgain, verdict}
 use Rattle.rules.specs.Trading.{fillComplex, fillRegular, pairOff, take, tradeWith}
 use Rattle.rules.specs.Order.{hit, meet, meetTurn}
-use Rattle.rules.specs.Complex.{anyClosed, cancel, cancelComplex, cancelRegular, cross, crossTurn, each, legIn, legInTurn, legsIn, restsRegular, unitsIn, touch, touches, work}
+use Rattle.rules.specs.Complex.{anyClosed, cancel, cancelComplex, cancelRegular, cross, crossTurn, each, eachOf, legIn, legInTurn, legsIn, restsRegular, unitsIn, touch, touches, work}
 use Rattle.rules.proofs.Cases.{crossTurn-by, each-by, if-by, meetTurn-by, repeat-by, take-by}
 
 -- f for each resting order of a sweep
@@ -23,6 +24,12 @@ unfolding nothing _⟫_
 keeps-each P f ok zero id v h = unfold each in h
 keeps-each P f ok (suc fuel) id v h =
     each-by (λ e. P (e .venue)) fuel f id v (λ _. h) (λ i c _ _. keeps-each P f ok fuel (c .id) _ (ok i v h))
+
+-- and for each of a limited one
+pub keeps-eachOf : (P : Venue → Type 0) (f : ℕ → Venue → Effect) → ((i : ℕ) (v : Venue) → P v → P (f i v .venue)) → (places : List ℕ) (v : Venue) → P v → P (eachOf f places v .venue)
+unfolding eachOf nothing _⟫_
+keeps-eachOf P f ok [] v h = h
+keeps-eachOf P f ok (i ∷ places) v h = keeps-eachOf P f ok places _ (ok i v h)
 
 -- fills, removals and showing again keep P
 pub record Lasts (P : Venue → Type 0) : Type 0 where

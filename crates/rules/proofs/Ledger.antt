@@ -11,12 +11,12 @@ use Rattle.rules.specs.declared.Legging.{Legging}
 use Rattle.rules.specs.declared.Venue.{Venue}
 use Rattle.rules.specs.declared.Verdict.{Verdict}
 use Rattle.rules.specs.Base.{held}
-use Rattle.rules.specs.Words.{withLegging, withRegular}
+use Rattle.rules.specs.Words.{withGenerations, withLegging, withRegular}
 use Rattle.rules.specs.Records.{Report, generated}
 use Rattle.rules.specs.Effects.{Effect, _⟫_, nothing, report}
 use Rattle.rules.specs.Removal.{remove, removeOf}
 use Rattle.rules.specs.Standing.{settle, showAgain, verdict}
-use Rattle.rules.specs.Generation.{placed}
+use Rattle.rules.specs.Generation.{counted, placed}
 use Rattle.rules.specs.Sums.{cancelledOf, contracts, crossedFor, openComplex, openRegular, paired, total}
 use Rattle.rules.proofs.Adding.{leavers-silent, total-append}
 use Rattle.rules.proofs.Again.{again-fewer, again-open}
@@ -162,7 +162,7 @@ pub moves-removeOf : (id : ℕ) (c : Cause) (v : Venue) → Moves v (removeOf id
 unfolding removeOf
 moves-removeOf id c v = moves-remove _ v
 
-pub moves-placed : (n : ℕ) (l : Legging) (id s d p x q : ℕ) (v : Venue) → Moves v (report (generated id s d p x q) (placed n l v))
-unfolding report placed withLegging total contracts paired crossedFor cancelledOf
-moves-placed n l id s d p x q v =
+pub moves-placed : (number n : ℕ) (l : Legging) (id s d p x q : ℕ) (v : Venue) → Moves v (report (generated id s d p x q) (counted number s (placed n l v)))
+unfolding report placed counted withLegging withGenerations total contracts paired crossedFor cancelledOf
+moves-placed number n l id s d p x q v =
     moved-silent refl refl refl (record { contracts0 = λ _ _. refl; paired0 = λ _. refl; crossed0 = λ _. refl; cancelled0 = λ _. refl })

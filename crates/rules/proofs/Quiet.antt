@@ -1,5 +1,5 @@
--- What effects write, upon any venue: what holds of every record but answers and crosses, holds of all that they write but in crossing. And no effect
--- writes an answer: the only one is the message's own.
+-- What effects write, upon any venue: what holds of every record but answers, 67, 70 and 72, holds of all that they write but in generation and crossing.
+-- And no effect writes an answer: the only one is the message's own.
 use mathlib.Core.Path.{subst}
 use mathlib.Core.Bool.{_&&_}
 use mathlib.Core.List.{List, [], _∷_}
@@ -10,19 +10,19 @@ use Rattle.rules.specs.declared.Complex.{Complex}
 use Rattle.rules.specs.declared.Legging.{Legging}
 use Rattle.rules.specs.declared.Venue.{Venue}
 use Rattle.rules.specs.declared.Message.{Message}
-use Rattle.rules.specs.declared.Message.the-variants.{Order, TwoLeg, Cancel, Away, Status, Sweep, Increment, Percent}
+use Rattle.rules.specs.declared.Message.the-variants.{Order, TwoLeg, Cancel, Away, Status, Sweep, Increment, Percent, LimitedSweep}
 use Rattle.rules.specs.declared.Cause.{Cause}
 use Rattle.rules.specs.declared.Verdict.{Verdict}
 use Rattle.rules.specs.Base.{held}
 use Rattle.rules.specs.Words.{complexAt}
-use Rattle.rules.specs.Records.{ForAll, Report, answer, trade, pair, generated, removed, crossed, cancelled}
+use Rattle.rules.specs.Records.{ForAll, Report, answer, trade, pair, generated, removed, crossed, cancelled, looked}
 use Rattle.rules.specs.Effects.{Effect, nothing, report, _⟫_, Turn, ended, turned, repeat}
 use Rattle.rules.specs.Removal.{remove, removeOf}
 use Rattle.rules.specs.Standing.{verdict, settle, showAgain}
 use Rattle.rules.specs.Trading.{fillRegular, tradeWith, take, pairOff}
 use Rattle.rules.specs.Order.{meet, hit, meetTurn, enterRegular, order}
 use Rattle.rules.specs.Generation.{makes, make, generateLeg, generate}
-use Rattle.rules.specs.Complex.{anyClosed, cross, crossTurn, touches, touch, legsIn, legIn, unitsIn, legInTurn, work, complex, each, sweep, cancelRegular, cancelComplex, restsRegular, cancel}
+use Rattle.rules.specs.Complex.{anyClosed, cross, crossTurn, touches, touch, legsIn, legIn, unitsIn, legInTurn, work, complex, each, sweep, eachOf, limitedSweep, cancelRegular, cancelComplex, restsRegular, cancel}
 use Rattle.rules.specs.Places.{closeGaps}
 use Rattle.rules.specs.Step.{perform, accept}
 use Rattle.rules.proofs.Cases.{crossTurn-by, each-by, if-by, meetTurn-by, repeat-by, take-by}
@@ -31,11 +31,10 @@ use Rattle.rules.proofs.Widths.{each-append}
 
 -- Effects -------------------------------------------------------------------------------------
 
--- P holds of every record that is neither an answer nor a cross
+-- P holds of every record but answers, 67, 70 and 72
 pub record Others (P : Report → Type 0) : Type 0 where
   pub trades : (s d p k x m : ℕ) → P (trade s d p k x m)
   pub pairs : (id : ℕ) (n : ℤ) (k : ℕ) → P (pair id n k)
-  pub made : (id s d p x k : ℕ) → P (generated id s d p x k)
   pub removals : (id s d : ℕ) (c : Cause) → P (removed id s d c)
   pub cancels : (id k : ℕ) → P (cancelled id k)
 
@@ -71,12 +70,17 @@ module _ (P : Report → Type 0) (others : Others P) where
   all-each f ok (suc fuel) id v =
       each-by (All P) fuel f id v (λ _. all-nothing v) (λ i c _ _. all-then (f i v) _ (ok i v) (all-each f ok fuel (c .id) _))
 
-  -- Everything but crossing
+  pub all-eachOf : (f : ℕ → Venue → Effect) → ((i : ℕ) (v : Venue) → All P (f i v)) → (places : List ℕ) (v : Venue) → All P (eachOf f places v)
+  unfolding eachOf
+  all-eachOf f ok [] v = all-nothing v
+  all-eachOf f ok (i ∷ places) v = all-then (f i v) _ (ok i v) (all-eachOf f ok places _)
+
+  -- Everything but generation and crossing
   all-removals : {n : ℕ} {rs : List Report} → ByPlace n rs → ForAll P rs
   all-removals none = tt
   all-removals (next m h p c r) = (others .removals _ _ _ c, all-removals r)
 
-  all-remove : (f : ℕ → Legging → Verdict) (v : Venue) → All P (remove f v)
+  pub all-remove : (f : ℕ → Legging → Verdict) (v : Venue) → All P (remove f v)
   all-remove f v = all-removals (removed-by-place f v)
 
   pub all-removeOf : (id : ℕ) (c : Cause) (v : Venue) → All P (removeOf id c v)
@@ -132,18 +136,6 @@ module _ (P : Report → Type 0) (others : Others P) where
   pub all-legging : (i fuel : ℕ) (v : Venue) → All P (repeat fuel (legInTurn i) v)
   all-legging i fuel v = all-repeat _ (all-legInTurn i) fuel v
 
-  all-make : (c : Complex) (s d : ℕ) (v : Venue) → All P (make c s d v)
-  unfolding make
-  all-make c s d v = all-then _ _ (all-remove _ v) (all-report (generated _ _ _ _ _ _) (others .made _ _ _ _ _ _) _)
-
-  all-leg : (c : Complex) (s d : ℕ) (v : Venue) → All P (generateLeg c s d v)
-  unfolding generateLeg
-  all-leg c s d v = if-by (All P) (held (c .quantity) && makes v c s d) (λ _. all-make c s d v) (λ _. all-nothing v)
-
-  pub all-generate : (i : ℕ) (v : Venue) → All P (generate i v)
-  unfolding generate
-  all-generate i v = all-then _ _ (all-leg _ _ _ v) (all-leg _ _ _ _)
-
   pub all-cancel : (id : ℕ) (v : Venue) → All P (cancel id v)
   unfolding cancel cancelRegular cancelComplex
   all-cancel id v =
@@ -152,6 +144,37 @@ module _ (P : Report → Type 0) (others : Others P) where
       (λ _. all-report (cancelled _ _) (others .cancels _ _) _)
       (λ _. all-then _ _ (all-report (cancelled _ _) (others .cancels _ _) _) (all-removeOf _ _ _)))
       (all-settle _)
+
+  -- Generation
+  module _ (made : (id s d p x k : ℕ) → P (generated id s d p x k)) where
+    all-make : (number : ℕ) (c : Complex) (s d : ℕ) (v : Venue) → All P (make number c s d v)
+    unfolding make
+    all-make number c s d v = all-then _ _ (all-remove _ v) (all-report (generated _ _ _ _ _ _) (made _ _ _ _ _ _) _)
+
+    all-leg : (number : ℕ) (c : Complex) (s d : ℕ) (v : Venue) → All P (generateLeg number c s d v)
+    unfolding generateLeg
+    all-leg number c s d v = if-by (All P) (held (c .quantity) && makes number v c s d) (λ _. all-make number c s d v) (λ _. all-nothing v)
+
+    pub all-generate : (number i : ℕ) (v : Venue) → All P (generate number i v)
+    unfolding generate
+    all-generate number i v = all-then _ _ (all-leg number _ _ _ v) (all-leg number _ _ _ _)
+
+  -- Crossing
+  module _ (crosses : (x m : ℕ) (n : ℤ) (k : ℕ) → P (crossed x m n k)) where
+    all-cross : (i j k : ℕ) (v : Venue) → All P (cross i j k v)
+    unfolding cross
+    all-cross i j k v =
+        all-then _ _ (all-then _ _ (all-report (crossed _ _ _ k) (crosses _ _ _ k) _) (all-removeOf _ _ _)) (all-removeOf _ _ _)
+
+    all-crossTurn : (i : ℕ) (v : Venue) → AllTurn (crossTurn i v)
+    all-crossTurn i v = crossTurn-by AllTurn i v (λ _. tt) (λ _ _. tt) (λ _ j m _. all-cross i j _ v)
+
+    pub all-work : (i : ℕ) (v : Venue) → All P (work i v)
+    unfolding work
+    all-work i v =
+        let n = complexAt v i .quantity in
+        if-by (All P) (anyClosed v (complexAt v i)) (λ _. all-nothing v)
+        (λ _. all-then _ _ (all-then _ _ (all-repeat _ (all-crossTurn i) n v) (all-touch i _)) (all-legging i n _))
 
 -- No answers ----------------------------------------------------------------------------------
 
@@ -164,44 +187,69 @@ NoAnswer (generated id series side price shown quantity) = Unit {0}
 NoAnswer (removed id series side cause) = Unit {0}
 NoAnswer (crossed taker maker n quantity) = Unit {0}
 NoAnswer (cancelled id quantity) = Unit {0}
+NoAnswer (looked count) = Unit {0}
 
 -- no answer among the records of an effect
 abbrev pub Quiet : Effect → Type 0
 Quiet = All NoAnswer
 
 no-answer : Others NoAnswer
-no-answer = record { trades = λ _ _ _ _ _ _. tt; pairs = λ _ _ _. tt; made = λ _ _ _ _ _ _. tt; removals = λ _ _ _ _. tt; cancels = λ _ _. tt }
+no-answer = record { trades = λ _ _ _ _ _ _. tt; pairs = λ _ _ _. tt; removals = λ _ _ _ _. tt; cancels = λ _ _. tt }
 
 pub quiet-nothing : (v : Venue) → Quiet (nothing v)
 quiet-nothing v = all-nothing NoAnswer no-answer v
 
-quiet-cross : (i j k : ℕ) (v : Venue) → Quiet (cross i j k v)
-unfolding cross
-quiet-cross i j k v =
-    all-then NoAnswer no-answer _ _ (all-then NoAnswer no-answer _ _ (all-report NoAnswer no-answer (crossed _ _ _ k) tt _) (all-removeOf NoAnswer no-answer _ _ _)) (all-removeOf NoAnswer no-answer _ _ _)
+quiet-then : (e : Effect) (f : Venue → Effect) → Quiet e → Quiet (f (e .venue)) → Quiet (e ⟫ f)
+quiet-then e f h k = all-then NoAnswer no-answer e f h k
 
-quiet-crossTurn : (i : ℕ) (v : Venue) → AllTurn NoAnswer no-answer (crossTurn i v)
-quiet-crossTurn i v = crossTurn-by (AllTurn NoAnswer no-answer) i v (λ _. tt) (λ _ _. tt) (λ _ j m _. quiet-cross i j _ v)
+quiet-settle : (v : Venue) → Quiet (settle v)
+quiet-settle v = all-settle NoAnswer no-answer v
 
 quiet-work : (i : ℕ) (v : Venue) → Quiet (work i v)
-unfolding work
-quiet-work i v =
-    let n = complexAt v i .quantity in
-    if-by Quiet (anyClosed v (complexAt v i)) (λ _. all-nothing NoAnswer no-answer v)
-    (λ _. all-then NoAnswer no-answer _ _ (all-then NoAnswer no-answer _ _ (all-repeat NoAnswer no-answer _ (quiet-crossTurn i) n v) (all-touch NoAnswer no-answer i _)) (all-legging NoAnswer no-answer i n _))
+quiet-work i v = all-work NoAnswer no-answer (λ _ _ _ _. tt) i v
+
+quiet-generate : (number i : ℕ) (v : Venue) → Quiet (generate number i v)
+quiet-generate number i v = all-generate NoAnswer no-answer (λ _ _ _ _ _ _. tt) number i v
 
 quiet-perform : (number : ℕ) (m : Message) (v : Venue) → Quiet (perform number m v)
-unfolding perform complex sweep
+unfolding perform complex sweep limitedSweep
 quiet-perform number (Order o) v = all-order NoAnswer no-answer o _
-quiet-perform number (TwoLeg c) v = all-then NoAnswer no-answer _ _ (all-then NoAnswer no-answer _ _ (quiet-work _ _) (all-settle NoAnswer no-answer _)) (all-generate NoAnswer no-answer _ _)
+quiet-perform number (TwoLeg c) v = quiet-then _ _ (quiet-then _ _ (quiet-work _ _) (quiet-settle _)) (quiet-generate number _ _)
 quiet-perform number (Cancel id) v = all-cancel NoAnswer no-answer id v
-quiet-perform number (Away s bid offer) v = all-settle NoAnswer no-answer _
-quiet-perform number (Status s x) v = all-settle NoAnswer no-answer _
+quiet-perform number (Away s bid offer) v = quiet-settle _
+quiet-perform number (Status s x) v = quiet-settle _
 quiet-perform number Sweep v =
-    all-then NoAnswer no-answer _ _ (all-then NoAnswer no-answer _ _ (all-each NoAnswer no-answer work quiet-work 32 0 v) (all-settle NoAnswer no-answer _)) (all-each NoAnswer no-answer generate (all-generate NoAnswer no-answer) 32 0 _)
-quiet-perform number (Increment s i e) v = all-settle NoAnswer no-answer _
-quiet-perform number (Percent x e) v = all-settle NoAnswer no-answer _
+    quiet-then _ _ (quiet-then _ _ (all-each NoAnswer no-answer work quiet-work 32 0 v) (quiet-settle _))
+    (all-each NoAnswer no-answer (generate number) (quiet-generate number) 32 0 _)
+quiet-perform number (Increment s i e) v = quiet-settle _
+quiet-perform number (Percent x e) v = quiet-settle _
+quiet-perform number (LimitedSweep n) v =
+    quiet-then _ _ (quiet-then _ _ (quiet-then _ _ (all-report NoAnswer no-answer (looked _) tt _) (all-eachOf NoAnswer no-answer work quiet-work _ _)) (quiet-settle _))
+    (all-eachOf NoAnswer no-answer (generate number) (quiet-generate number) _ _)
 
 pub quiet-accept : (number : ℕ) (m : Message) (v : Venue) → Quiet (accept number m v)
 unfolding accept
-quiet-accept number m v = all-then NoAnswer no-answer (perform number m v) (λ w. nothing (closeGaps w)) (quiet-perform number m v) (all-nothing NoAnswer no-answer _)
+quiet-accept number m v = quiet-then (perform number m v) (λ w. nothing (closeGaps w)) (quiet-perform number m v) (quiet-nothing _)
+
+-- Neither answers nor 67 nor 72 -----------------------------------------------------------------
+
+-- a record that is none of these
+abbrev pub Plain : Report → Type 0
+Plain (answer number refusal mask count) = ⊥
+Plain (trade series side price quantity taker maker) = Unit {0}
+Plain (pair id n quantity) = Unit {0}
+Plain (generated id series side price shown quantity) = ⊥
+Plain (removed id series side cause) = Unit {0}
+Plain (crossed taker maker n quantity) = Unit {0}
+Plain (cancelled id quantity) = Unit {0}
+Plain (looked count) = ⊥
+
+-- none of these among the records of an effect
+abbrev pub Still : Effect → Type 0
+Still = All Plain
+
+pub plain : Others Plain
+plain = record { trades = λ _ _ _ _ _ _. tt; pairs = λ _ _ _. tt; removals = λ _ _ _ _. tt; cancels = λ _ _. tt }
+
+pub still-work : (i : ℕ) (v : Venue) → Still (work i v)
+still-work i v = all-work Plain plain (λ _ _ _ _. tt) i v

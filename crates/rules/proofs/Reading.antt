@@ -9,7 +9,7 @@ use borrow.Author.Tests.{le-ltb, lt-ltb, ne-eqb}
 use Rattle.rules.specs.declared.Cause.{Cause}
 use Rattle.rules.specs.declared.Cause.the-variants.{Executed, NoUnit, NotOpen, OutOfBand, Replaced, Touched, Unpaired, Withdrawn, Worse}
 use Rattle.rules.specs.Bytes.{asSigned, asUnsigned, bytes, framed, kindField, lengthField, u16At, u32At, u8At}
-use Rattle.rules.specs.Records.{ForAll, Fits, FourSigned, Report, TwoBytes, FourBytes, OneByte, answer, cancelled, causeNumber, causeOf, crossed, encode, encodeAll, generated, pair, recordOf, records, recordsFrom, removed, sheet, trade}
+use Rattle.rules.specs.Records.{ForAll, Fits, FourSigned, Report, TwoBytes, FourBytes, OneByte, answer, cancelled, causeNumber, causeOf, crossed, encode, encodeAll, generated, looked, pair, recordOf, records, recordsFrom, removed, sheet, trade}
 
 -- Fields --------------------------------------------------------------------------------------
 
@@ -69,6 +69,7 @@ record-back (removed i s d c) h rest = rw (word i (h .0), byte s (h .1), byte d 
 record-back (crossed t m n q) h rest =
     rw (word t (h .0), word m (h .1), word (asUnsigned n) (signed-small n (h .2)), signed-back n (h .2), word q (h .3))
 record-back (cancelled i q) h rest = rw (word i (h .0), word q (h .1))
+record-back (looked n) h rest = rw (byte n h)
 
 -- a record's length stands at its front
 pub length-back : (r : Report) (rest : List ℕ) → lengthField (encode r ++ rest) ≡ length (encode r)
@@ -80,6 +81,7 @@ length-back (generated i s d p x q) rest = refl
 length-back (removed i s d c) rest = refl
 length-back (crossed t m n q) rest = refl
 length-back (cancelled i q) rest = refl
+length-back (looked n) rest = refl
 
 pub some-length : (r : Report) → 4 < length (encode r)
 unfolding encode framed bytes
@@ -90,6 +92,7 @@ some-length (generated i s d p x q) = omega arith
 some-length (removed i s d c) = omega arith
 some-length (crossed t m n q) = omega arith
 some-length (cancelled i q) = omega arith
+some-length (looked n) = omega arith
 
 drop-front : (a b : List ℕ) → drop (length a) (a ++ b) ≡ b
 drop-front [] b = refl

@@ -10,7 +10,7 @@ use lib.ListN.{length}
 use borrow.Author.Tests.{eq-eqb, eqb-false, eqb-true, le-ltb, leb-true, ltb-false, ne-eqb}
 use Rattle.rules.specs.declared.Venue.{Venue}
 use Rattle.rules.specs.declared.Message.{Message}
-use Rattle.rules.specs.declared.Message.the-variants.{Order, TwoLeg, Cancel, Away, Status, Sweep, Increment, Percent}
+use Rattle.rules.specs.declared.Message.the-variants.{Order, TwoLeg, Cancel, Away, Status, Sweep, Increment, Percent, LimitedSweep}
 use Rattle.rules.specs.declared.Decoded.{Decoded}
 use Rattle.rules.specs.declared.Decoded.the-variants.{Taken, Refused}
 use Rattle.rules.specs.Words.{within, isId, isSeries, isStatus, isAway, oneToOne}
@@ -31,6 +31,7 @@ wellFormed (Status s x) = isSeries s && isStatus x
 wellFormed Sweep = true
 wellFormed (Increment s i e) = isSeries s && isIncrement i && isEdition e
 wellFormed (Percent x e) = isPercent x && isEdition e
+wellFormed (LimitedSweep n) = within 1 32 n
 
 -- ratios that differ are not one to one
 uneven : (r s : ℕ) → eqb r s ≡ false → (eqb r 1 && eqb s 1) ≡ false
@@ -46,32 +47,17 @@ well-two : (k : ℕ) (bs : List ℕ) → eqb k 2 ≡ true → twoLegInRange (far
 unfolding complexInRange farOf oneToOne twoLegAt
 well-two k bs e r = let x = eqb-true k 2 e in and-in _ true (rw (ne-eqb k 10 (λ y. omega arith)) at r) refl
 
-well-ten : (k : ℕ) (bs : List ℕ) (r s : ℕ) → k ≡ 10 → (eqb k 10 && eqb r s) ≡ false → twoLegInRange (farOf k) (twoLegAt bs r s) ≡ true → complexInRange (twoLegAt bs r s) ≡ true
+well-ten : (k : ℕ) (bs : List ℕ) (r s : ℕ) → eqb k 10 ≡ true → eqb r s ≡ false → twoLegInRange (farOf k) (twoLegAt bs r s) ≡ true → complexInRange (twoLegAt bs r s) ≡ true
 unfolding complexInRange farOf oneToOne twoLegAt
-well-ten k bs r s e n h =
-    let t = eq-eqb k 10 e in
-    let m : eqb r s ≡ false = rw t at n in
-    rw (uneven r s m, m) (and-in _ true (rw t at h) refl)
+well-ten k bs r s e n h = rw (uneven r s n, n) (and-in _ true (rw e at h) refl)
 
--- the last of the kinds
-past : (n k : ℕ) → eqb k n ≡ false → n ≤ k → n < k
-past n k e le = let ne = eqb-false k n e in omega arith
-
-tenth : (k : ℕ) → isKind k ≡ true → eqb k 1 ≡ false → eqb k 2 ≡ false → eqb k 3 ≡ false → eqb k 4 ≡ false → eqb k 5 ≡ false → eqb k 6 ≡ false →
-    eqb k 7 ≡ false → eqb k 8 ≡ false → eqb k 9 ≡ false → k ≡ 10
-unfolding isKind within
-tenth k is a b c d e f g h i =
-    let low = past 9 k i (past 8 k h (past 7 k g (past 6 k f (past 5 k e (past 4 k d (past 3 k c (past 2 k b (past 1 k a (leb-true 1 k (and-l _ _ is)))))))))) in
-    let high = leb-true k 10 (and-r (leb 1 k) _ is) in
-    omega arith
-
-taken-well : (bs : List ℕ) → isKind (kindField bs) ≡ true → inRange (kindField bs) (messageOf bs) ≡ true → equalRatios bs ≡ false → wellFormed (messageOf bs) ≡ true
+taken-well : (bs : List ℕ) → inRange (kindField bs) (messageOf bs) ≡ true → equalRatios bs ≡ false → wellFormed (messageOf bs) ≡ true
 unfolding messageOf equalRatios wellFormed inRange
-taken-well bs is =
+taken-well bs =
     let k = kindField bs in
-    if-by Q (eqb k 1) (λ _ r _. r) (λ a. if-by Q (eqb k 2) (λ e r _. well-two k bs e r) (λ b. if-by Q (eqb k 3) (λ _ r _. r) (λ c. if-by Q (eqb k 4) (λ _ r _. r)
-    (λ d. if-by Q (eqb k 5) (λ _ r _. r) (λ e. if-by Q (eqb k 6) (λ _ r _. r) (λ f. if-by Q (eqb k 7) (λ _ r _. r) (λ g. if-by Q (eqb k 8) (λ _ r _. r)
-    (λ h. if-by Q (eqb k 9) (λ _ r _. r) (λ i r n. well-ten k bs (u8At bs 21) (u8At bs 22) (tenth k is a b c d e f g h i) n r)))))))))
+    if-by Q (eqb k 1) (λ _ r _. r) (λ _. if-by Q (eqb k 2) (λ e r _. well-two k bs e r) (λ _. if-by Q (eqb k 3) (λ _ r _. r) (λ _. if-by Q (eqb k 4) (λ _ r _. r)
+    (λ _. if-by Q (eqb k 5) (λ _ r _. r) (λ _. if-by Q (eqb k 6) (λ _ r _. r) (λ _. if-by Q (eqb k 7) (λ _ r _. r) (λ _. if-by Q (eqb k 8) (λ _ r _. r)
+    (λ _. if-by Q (eqb k 9) (λ _ r _. r) (λ _. if-by Q (eqb k 10) (λ e r n. well-ten k bs (u8At bs 21) (u8At bs 22) e (rw e at n) r) (λ _ r _. r))))))))))
   where
     Q : Message → Type 0
     Q m = inRange (kindField bs) m ≡ true → (eqb (kindField bs) 10 && eqb (u8At bs 21) (u8At bs 22)) ≡ false → wellFormed m ≡ true
@@ -88,9 +74,9 @@ module _ {ℓ} (Q : Decoded → Type ℓ) (bs : List ℕ) where
   unfolding decoded
   decoded-by r1 r2 r3 r4 r14 taken =
       if-by Q (torn bs) r1 (λ a. if-by Q (not (isKind (kindField bs))) (λ b. r2 a (not-out _ b))
-      (λ k. if-by Q (not (isLength (kindField bs) (lengthField bs))) (λ c. r3 a (not-out _ c))
+      (λ _. if-by Q (not (isLength (kindField bs) (lengthField bs))) (λ c. r3 a (not-out _ c))
       (λ c. if-by Q (not (inRange (kindField bs) (messageOf bs))) (λ d. r4 a (not-out _ d))
-      (λ d. if-by Q (equalRatios bs) (r14 a) (λ e. taken a (was _ c) (taken-well bs (was _ k) (was _ d) e))))))
+      (λ d. if-by Q (equalRatios bs) (r14 a) (λ e. taken a (was _ c) (taken-well bs (was _ d) e))))))
     where
       was : (b : Bool) → not b ≡ false → b ≡ true
       was true e = refl

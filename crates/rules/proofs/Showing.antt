@@ -9,11 +9,11 @@ use lib.ListN.{getD}
 use borrow.Author.Tests.{eq-eqb, eqb-true, leb-true}
 use Rattle.rules.specs.declared.Complex.{Complex}
 use Rattle.rules.specs.declared.Message.{Message}
-use Rattle.rules.specs.declared.Message.the-variants.{Away, Cancel, Increment, Order, Percent, Status, Sweep, TwoLeg}
+use Rattle.rules.specs.declared.Message.the-variants.{Away, Cancel, Increment, LimitedSweep, Order, Percent, Status, Sweep, TwoLeg}
 use Rattle.rules.specs.declared.Regular.{Regular}
 use Rattle.rules.specs.declared.Venue.{Venue}
 use Rattle.rules.specs.Base.{held}
-use Rattle.rules.specs.Words.{noRegular, withLegging, withRegular, within}
+use Rattle.rules.specs.Words.{noRegular, withGenerations, withLegging, withRegular, within}
 use Rattle.rules.specs.Bytes.{kindField, u32At}
 use Rattle.rules.specs.Messages.{messageOf, orderAt}
 use Rattle.rules.specs.Effects.{Effect, _⟫_, nothing, report}
@@ -22,8 +22,8 @@ use Rattle.rules.specs.Removal.{remove}
 use Rattle.rules.specs.Standing.{settle, showAgain, showsAgain}
 use Rattle.rules.specs.Trading.{lessRegular}
 use Rattle.rules.specs.Order.{order}
-use Rattle.rules.specs.Generation.{generate, generateLeg, make, makes, placed}
-use Rattle.rules.specs.Complex.{cancel, complex, sweep}
+use Rattle.rules.specs.Generation.{counted, generate, generateLeg, make, makes, placed}
+use Rattle.rules.specs.Complex.{cancel, complex, limitedSweep, sweep}
 use Rattle.rules.specs.Places.{closeGaps}
 use Rattle.rules.specs.Refusals.{refusal, regularInRange}
 use Rattle.rules.specs.Step.{accept, answered, perform, step}
@@ -32,7 +32,7 @@ use Rattle.rules.proofs.Again.{Shown, again-at}
 use Rattle.rules.proofs.Cases.{if-by}
 use Rattle.rules.proofs.Filling.{reg}
 use Rattle.rules.proofs.Gaps.{fr, was}
-use Rattle.rules.proofs.Keeping.{keeps-each}
+use Rattle.rules.proofs.Keeping.{keeps-each, keeps-eachOf}
 use Rattle.rules.proofs.Tests.{and-l, and-r, pos-held}
 use Rattle.rules.proofs.Widths.{Ranged}
 
@@ -104,7 +104,8 @@ message-fully bs =
     if-by Brings (eqb k 6) (λ _ o e. cc) (λ _.
     if-by Brings (eqb k 7) (λ _ o e. cc) (λ _.
     if-by Brings (eqb k 8) (λ _ o e. cc) (λ _.
-    if-by Brings (eqb k 9) (λ _. is-order _) (λ _ o e. cc)))))))))
+    if-by Brings (eqb k 9) (λ _. is-order _) (λ _.
+    if-by Brings (eqb k 10) (λ _ o e. cc) (λ _ o e. cc))))))))))
   where
     Brings : Message → Type 0
     Brings m = (o : Regular) → m ≡ Order o → showsFully o ≡ true
@@ -118,31 +119,32 @@ pub settle-showing : (v : Venue) → Showing (settle v .venue)
 unfolding settle remove withLegging Showing
 settle-showing v i = unfold Showing in (again-showing v i)
 
-leg-regular : (c : Complex) (s d : ℕ) (v : Venue) → generateLeg c s d v .venue .regular ≡ v .regular
-unfolding generateLeg make report remove withLegging placed nothing _⟫_
-leg-regular c s d v = if-by (λ (e : Effect). e .venue .regular ≡ v .regular) (held (c .quantity) && makes v c s d) (λ _. refl) (λ _. refl)
+leg-regular : (number : ℕ) (c : Complex) (s d : ℕ) (v : Venue) → generateLeg number c s d v .venue .regular ≡ v .regular
+unfolding generateLeg make report remove withLegging placed counted withGenerations nothing _⟫_
+leg-regular number c s d v = if-by (λ (e : Effect). e .venue .regular ≡ v .regular) (held (c .quantity) && makes number v c s d) (λ _. refl) (λ _. refl)
 
 same-showing : (v w : Venue) → w .regular ≡ v .regular → Showing v → Showing w
 unfolding Showing
 same-showing v w e z i = subst (λ (l : List Regular). showsFully (getD l i noRegular) ≡ true) (sym e) (z i)
 
-pub leg-showing : (c : Complex) (s d : ℕ) (v : Venue) → Showing v → Showing (generateLeg c s d v .venue)
-leg-showing c s d v z = same-showing v _ (leg-regular c s d v) z
+pub leg-showing : (number : ℕ) (c : Complex) (s d : ℕ) (v : Venue) → Showing v → Showing (generateLeg number c s d v .venue)
+leg-showing number c s d v z = same-showing v _ (leg-regular number c s d v) z
 
-generate-showing : (i : ℕ) (v : Venue) → Showing v → Showing (generate i v .venue)
+generate-showing : (number i : ℕ) (v : Venue) → Showing v → Showing (generate number i v .venue)
 unfolding generate _⟫_
-generate-showing i v z = leg-showing _ _ _ _ (leg-showing _ _ _ v z)
+generate-showing number i v z = leg-showing number _ _ _ _ (leg-showing number _ _ _ v z)
 
 perform-showing : (number : ℕ) (m : Message) (v : Venue) → Showing (perform number m v .venue)
-unfolding perform order cancel complex sweep _⟫_
+unfolding perform order cancel complex sweep limitedSweep _⟫_
 perform-showing number (Order o) v = settle-showing _
-perform-showing number (TwoLeg c) v = generate-showing _ _ (settle-showing _)
+perform-showing number (TwoLeg c) v = generate-showing number _ _ (settle-showing _)
 perform-showing number (Cancel id) v = settle-showing _
 perform-showing number (Away s b o) v = settle-showing _
 perform-showing number (Status s x) v = settle-showing _
-perform-showing number Sweep v = keeps-each Showing generate generate-showing 32 0 _ (settle-showing _)
+perform-showing number Sweep v = keeps-each Showing (generate number) (generate-showing number) 32 0 _ (settle-showing _)
 perform-showing number (Increment s i e) v = settle-showing _
 perform-showing number (Percent x e) v = settle-showing _
+perform-showing number (LimitedSweep n) v = keeps-eachOf Showing (generate number) (generate-showing number) _ _ (settle-showing _)
 
 closed-showing : (v : Venue) → Showing v → Showing (closeGaps v)
 unfolding Showing

@@ -1,12 +1,12 @@
 -- Sums over the places of a list, of any type, and what one place's change does to them.
 use mathlib.Core.Path.{_≡_, ap, refl}
 use mathlib.Core.Bool.{Bool, true, false}
-use mathlib.Core.List.{List, [], _∷_}
+use mathlib.Core.List.{List, [], _∷_, _++_}
 use Prim.Native.Nat.{ℕ, zero, suc, _+_, _-_, _*_, _≤_, _<_, min}
 use native.Mathlib.Omega.{arith}
 use native.Mathlib.Decide.{decLt, decLe}
 use native.Mathlib.Nat.{mul-suc}
-use lib.ListN.{length, getD, set, List·getD-eq-default}
+use lib.ListN.{length, getD, set, take, List·getD-eq-default}
 use lib.Seq.{set-out, getD-set-other}
 use Rattle.rules.specs.Base.{if_then_else_, held}
 use Rattle.rules.proofs.Tests.{held-pos, pos-held}
@@ -34,6 +34,17 @@ module _ {A : Type 0} (f : A → ℕ) where
   unfolding sum
   sum-most w h [] = omega arith
   sum-most w h (x ∷ l) = let z = sum-most w h l in let y = h x in rw (mul-suc w (length l)) (omega arith)
+
+  pub sum-join : (l m : List A) → sum (l ++ m) ≡ sum l + sum m
+  unfolding sum
+  sum-join [] m = omega arith
+  sum-join (x ∷ l) m = let z = sum-join l m in omega arith
+
+  pub sum-firsts : (n : ℕ) (l : List A) → sum (take n l) ≤ sum l
+  unfolding sum
+  sum-firsts zero l = omega arith
+  sum-firsts (suc n) [] = omega arith
+  sum-firsts (suc n) (x ∷ l) = let z = sum-firsts n l in omega arith
 
 -- place by place no more
 pub sum-places : {A : Type 0} (f : A → ℕ) (none : A) (l m : List A) → length l ≡ length m → ((i : ℕ) → f (getD l i none) ≤ f (getD m i none)) → sum f l ≤ sum f m

@@ -11,12 +11,12 @@ use borrow.Author.Tests.{le-ltb, ltb-false, ltb-true}
 use Rattle.rules.specs.declared.Complex.{Complex}
 use Rattle.rules.specs.declared.Venue.{Venue}
 use Rattle.rules.specs.Base.{Choice, held, if_then_else_, nobody, picked}
-use Rattle.rules.specs.Words.{complexAt, earlierComplex, noComplex, withLegging, withRegular}
+use Rattle.rules.specs.Words.{withGenerations, complexAt, earlierComplex, noComplex, withLegging, withRegular}
 use Rattle.rules.specs.Effects.{Effect, _⟫_, nothing, report}
 use Rattle.rules.specs.Removal.{remove}
 use Rattle.rules.specs.Standing.{showAgain}
 use Rattle.rules.specs.Trading.{fillRegular}
-use Rattle.rules.specs.Generation.{generate, generateLeg, make, makes, placed}
+use Rattle.rules.specs.Generation.{counted, generate, generateLeg, make, makes, placed}
 use Rattle.rules.specs.Complex.{each, nextAbove, work}
 use Rattle.rules.proofs.Cases.{each-by, each-done, each-on, if-by, isAbove}
 use Rattle.rules.proofs.Filling.{FewerC, LesserC, cx, fewerC-refl, fewerC-trans, fill-fewerC, still-heldC}
@@ -127,18 +127,18 @@ fewer-lasts v = record {
 pub work-fewer : (i : ℕ) (v : Venue) → FewerC (work i v .venue .complex) (v .complex)
 work-fewer i v = keeps-work (fewer-lasts v) i v (fewerC-refl _)
 
-pub leg-same : (v : Venue) (c : Complex) (s d : ℕ) → generateLeg c s d v .venue .complex ≡ v .complex
-unfolding generateLeg make report remove withLegging placed nothing _⟫_
-leg-same v c s d = if-by (λ (e : Effect). e .venue .complex ≡ v .complex) (held (c .quantity) && makes v c s d) (λ _. refl) (λ _. refl)
+pub leg-same : (number : ℕ) (v : Venue) (c : Complex) (s d : ℕ) → generateLeg number c s d v .venue .complex ≡ v .complex
+unfolding generateLeg make report remove withLegging withGenerations placed counted nothing _⟫_
+leg-same number v c s d = if-by (λ (e : Effect). e .venue .complex ≡ v .complex) (held (c .quantity) && makes number v c s d) (λ _. refl) (λ _. refl)
 
-pub generate-fewer : (i : ℕ) (v : Venue) → FewerC (generate i v .venue .complex) (v .complex)
+pub generate-fewer : (number i : ℕ) (v : Venue) → FewerC (generate number i v .venue .complex) (v .complex)
 unfolding generate complexAt _⟫_
-generate-fewer i v =
+generate-fewer number i v =
     let c = cx v i in
-    rw (leg-same (generateLeg c (c .series1) (c .side1) v .venue) c (c .series2) (c .side2), leg-same v c (c .series1) (c .side1)) (fewerC-refl _)
+    rw (leg-same number (generateLeg number c (c .series1) (c .side1) v .venue) c (c .series2) (c .side2), leg-same number v c (c .series1) (c .side1)) (fewerC-refl _)
 
-pub swept : (v : Venue) → length (v .complex) ≡ 32 → (more : ℕ) →
-    (each (32 + more) work 0 v ≡ each 32 work 0 v) × (each (32 + more) generate 0 v ≡ each 32 generate 0 v)
-swept v len more =
+pub swept : (number : ℕ) (v : Venue) → length (v .complex) ≡ 32 → (more : ℕ) →
+    (each (32 + more) work 0 v ≡ each 32 work 0 v) × (each (32 + more) (generate number) 0 v ≡ each 32 (generate number) 0 v)
+swept number v len more =
     let z = count-length 0 (v .complex) in
-    (each-more work work-fewer 32 more 0 v (omega arith), each-more generate generate-fewer 32 more 0 v (omega arith))
+    (each-more work work-fewer 32 more 0 v (omega arith), each-more (generate number) (generate-fewer number) 32 more 0 v (omega arith))

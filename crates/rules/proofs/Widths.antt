@@ -17,12 +17,12 @@ use Rattle.rules.specs.declared.Message.the-variants.{Away, Increment, P
 use Rattle.rules.specs.declared.Regular.{Regular}
 use Rattle.rules.specs.declared.Venue.{Venue}
 use Rattle.rules.specs.Base.{held, if_then_else_}
-use Rattle.rules.specs.Words.{complexAt, isAway, isClass, isId, isLimit, isPrice, isQuantity, isRatio, isSeries, isSide, isStatus, noComplex, noEdition, noLegging, noRegular, notListed, oneToOne, regularAt, statusOf, withComplex, withEditions, withLast, withLegging, withRegular, withSeries, within}
+use Rattle.rules.specs.Words.{complexAt, isAway, isClass, isId, isLimit, isPrice, isQuantity, isRatio, isSeries, isSide, isStatus, noComplex, noEdition, noLegging, noRegular, notListed, oneToOne, regularAt, statusOf, withComplex, withEditions, withGenerations, withLast, withReached, withLegging, withRegular, withSeries, within}
 use Rattle.rules.specs.Settings.{enterEdition, freeEdition, isIncrement, percentage}
 use Rattle.rules.specs.Records.{ForAll, Report, FourBytes}
 use Rattle.rules.specs.Standing.{showAgain, showsAgain}
 use Rattle.rules.specs.Trading.{fillComplex, fillRegular, lessComplex, lessRegular}
-use Rattle.rules.specs.Generation.{placed}
+use Rattle.rules.specs.Generation.{counted, placed}
 use Rattle.rules.specs.Places.{blankLegging, closeGaps}
 use Rattle.rules.specs.Refusals.{complexInRange, regularInRange, twoLegInRange}
 use Rattle.rules.specs.Step.{setAway, setFigure, setStatus}
@@ -212,6 +212,15 @@ fillC-ranged i k v r = putC-ranged i _ v (lessC-fits k (cx v i) (r .complex i)) 
 pub placed-ranged : (n : ℕ) (l : Legging) (v : Venue) → LgFits l → Ranged v → Ranged (placed n l v)
 unfolding placed
 placed-ranged n l v f r = with-legging r _ (set-each LgFits noLegging (v .legging) n l f (r .legging)) (length-set (v .legging) n l)
+
+-- the ceiling's count, and the id that a limited sweep reached, are in no place
+pub counted-ranged : (number s : ℕ) (v : Venue) → Ranged v → Ranged (counted number s v)
+unfolding counted withGenerations
+counted-ranged number s v r = record { regular = r .regular; complex = r .complex; legging = r .legging; listed = r .listed; last = r .last; len = r .len; eight = r .eight; dated = r .dated }
+
+pub reached-ranged : (x : ℕ) (v : Venue) → Ranged v → Ranged (withReached v x)
+unfolding withReached
+reached-ranged x v r = record { regular = r .regular; complex = r .complex; legging = r .legging; listed = r .listed; last = r .last; len = r .len; eight = r .eight; dated = r .dated }
 
 -- one series written
 series-ranged : (s : ℕ) (x : Listed) (v : Venue) → listedInRange x ≡ true → Ranged v → Ranged (withSeries v (set (v .series) s x))

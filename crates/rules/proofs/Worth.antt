@@ -18,7 +18,7 @@ use Rattle.rules.specs.declared.Verdict.the-variants.{Stands, Fails}
 use Rattle.rules.specs.Base.{if_then_else_, held}
 use Rattle.rules.specs.Words.{noRegular, noComplex, noLegging, regularAt, complexAt, oneToOne, withRegular, withComplex, withLegging}
 use Rattle.rules.specs.Bytes.{bytes, framed}
-use Rattle.rules.specs.Records.{Report, answer, trade, pair, generated, removed, crossed, cancelled, encode, encodeAll}
+use Rattle.rules.specs.Records.{Report, answer, trade, pair, generated, removed, crossed, cancelled, looked, encode, encodeAll}
 use Rattle.rules.specs.Effects.{Effect, nothing, report, _⟫_}
 use Rattle.rules.specs.Prices.{shown}
 use Rattle.rules.specs.Removal.{stay, goes, stayers, leavers, remove}
@@ -45,6 +45,7 @@ lengths (generated id series side price shown quantity) = refl
 lengths (removed id series side cause) = refl
 lengths (crossed taker maker n quantity) = refl
 lengths (cancelled id quantity) = refl
+lengths (looked count) = refl
 
 pub written : (rs : List Report) → length (encodeAll rs) ≡ total recordLength rs
 unfolding encodeAll total

@@ -6,7 +6,8 @@ use mathlib.Core.List.{List, [], _∷_}
 use Prim.Native.Nat.{_%_, _*_, _+_, _/_, _<_, _≤_, min, suc, zero, ℕ}
 use native.Mathlib.Nat.{mul-le-mul}
 use native.Mathlib.Omega.{arith}
-use lib.Dec.{eqb}
+use lib.Dec.{eqb, leb}
+use borrow.Author.Tests.{leb-true}
 use lib.IntN.{ℤ}
 use lib.ListN.{getD, length}
 use Rattle.rules.specs.declared.Cause.{Cause}
@@ -15,14 +16,14 @@ use Rattle.rules.specs.declared.Complex.{Complex}
 use Rattle.rules.specs.declared.Leg.{Leg}
 use Rattle.rules.specs.declared.Legging.{Legging}
 use Rattle.rules.specs.declared.Message.{Message}
-use Rattle.rules.specs.declared.Message.the-variants.{Away, Cancel, Increment, Order, Percent, Status, Sweep, TwoLeg}
+use Rattle.rules.specs.declared.Message.the-variants.{Away, Cancel, Increment, LimitedSweep, Order, Percent, Status, Sweep, TwoLeg}
 use Rattle.rules.specs.declared.Venue.{Venue}
 use Rattle.rules.specs.declared.Verdict.{Verdict}
 use Rattle.rules.specs.declared.Verdict.the-variants.{Fails, Stands}
 use Rattle.rules.specs.Base.{held, if_then_else_}
-use Rattle.rules.specs.Words.{complexAt, isComplexOf, leggingAt, noComplex, noLegging, opposite, regularAt, withLegging}
+use Rattle.rules.specs.Words.{complexAt, isComplexOf, leggingAt, noComplex, noLegging, opposite, regularAt, withLegging, within}
 use Rattle.rules.specs.Settings.{increment}
-use Rattle.rules.specs.Records.{ForAll, Fits, FourSigned, Report, FourBytes, removed}
+use Rattle.rules.specs.Records.{ForAll, Fits, FourSigned, Report, FourBytes, looked, removed}
 use Rattle.rules.specs.Effects.{Effect, Turn, _⟫_, ended, nothing, repeat, report, turned}
 use Rattle.rules.specs.Prices.{clearPrice, inBand, marketBest, net, shown, weighed}
 use Rattle.rules.specs.Removal.{goes, leavers, remove, removeOf, stayers}
@@ -30,7 +31,7 @@ use Rattle.rules.specs.Standing.{findComplex, otherClear, otherLeg, pare
 use Rattle.rules.specs.Trading.{pairOff, putComplex, putRegular, take, tradeWith}
 use Rattle.rules.specs.Order.{enterRegular, hit, meet, meetTurn, order}
 use Rattle.rules.specs.Generation.{generate, generateLeg, legPrice, make, makes, newLegging}
-use Rattle.rules.specs.Complex.{anyClosed, cancel, cancelComplex, cancelRegular, complex, complexPlace, cross, crossTurn, each, legIn, legInTurn, legsIn, regularPlace, restsRegular, sweep, touch, touches, unitsIn, work}
+use Rattle.rules.specs.Complex.{anyClosed, cancel, cancelComplex, cancelRegular, complex, complexPlace, cross, crossTurn, each, eachOf, examined, legIn, legInTurn, legsIn, regularPlace, limitedSweep, restsRegular, sweep, touch, touches, unitsIn, work}
 use Rattle.rules.specs.Step.{accept, perform}
 use Rattle.rules.proofs.Bounds.{band-first, band-second, clear-small, neg-i32, net-i32, new-fits, regular-small, shown-small}
 use Rattle.rules.proofs.Cases.{crossTurn-by, each-by, if-by, meetTurn-by, repeat-by, take-by}
@@ -41,7 +42,7 @@ use Rattle.rules.proofs.Settling.{Kept, stayers-kept}
 use Rattle.rules.proofs.Tests.{and-l, and-r}
 use Rattle.rules.proofs.Refusing.{wellFormed}
 use Rattle.rules.proofs.Units.{units-open}
-use Rattle.rules.proofs.Widths.{again-ranged, CxFits, LgFits, Ranged, away-ranged, closed-ranged, complex-fits, each-append, fill-ranged, fillC-ranged, increment-ranged, last-ranged, no-cx, no-lg, order-fits, percent-ranged, placed-ranged, put-ranged, putC-ranged, status-ranged, with-legging}
+use Rattle.rules.proofs.Widths.{again-ranged, CxFits, LgFits, Ranged, away-ranged, closed-ranged, complex-fits, counted-ranged, each-append, fill-ranged, fillC-ranged, increment-ranged, last-ranged, no-cx, no-lg, order-fits, percent-ranged, placed-ranged, put-ranged, putC-ranged, reached-ranged, status-ranged, with-legging}
 
 -- an effect that writes records that fit and leaves the fields in range
 pub record Writes (e : Effect) : Type 0 where
@@ -230,32 +231,32 @@ writes-work i v r =
 
 -- Generation ----------------------------------------------------------------------------------
 
-writes-make : (c : Complex) (s d : ℕ) (v : Venue) → CxFits c → held (c .quantity) ≡ true → s < 8 → d < 2 → Makes v c s d → held (marketBest v s (opposite d)) ≡ true → Ranged v → Writes (make c s d v)
+writes-make : (number : ℕ) (c : Complex) (s d : ℕ) (v : Venue) → CxFits c → held (c .quantity) ≡ true → s < 8 → d < 2 → Makes number v c s d → held (marketBest v s (opposite d)) ≡ true → Ranged v → Writes (make number c s d v)
 unfolding make newLegging
-writes-make c s d v f h s8 d2 m t r =
+writes-make number c s d v f h s8 d2 m t r =
     let n = new-fits v c s d f h s8 d2 m t r in
     let a = n .price in
     let b = shown-small _ (increment v s) d (legPrice v c s d) (m .range) in
     let q = f .quantity in
     writes-then _ _ (writes-remove _ v r)
-    (λ w x. writes-report _ _ (f .id, omega arith, omega arith, omega arith, omega arith, omega arith) (placed-ranged _ _ w n x))
+    (λ w x. writes-report _ _ (f .id, omega arith, omega arith, omega arith, omega arith, omega arith) (counted-ranged number s _ (placed-ranged _ _ w n x)))
 
-pub writes-leg : (c : Complex) (s d : ℕ) (v : Venue) → CxFits c → s < 8 → d < 2 → (inBand v c (c .limit) ≡ true → held (marketBest v s (opposite d)) ≡ true) → Ranged v → Writes (generateLeg c s d v)
+pub writes-leg : (number : ℕ) (c : Complex) (s d : ℕ) (v : Venue) → CxFits c → s < 8 → d < 2 → (inBand v c (c .limit) ≡ true → held (marketBest v s (opposite d)) ≡ true) → Ranged v → Writes (generateLeg number c s d v)
 unfolding generateLeg
-writes-leg c s d v f s8 d2 t r =
-    if-by Writes (held (c .quantity) && makes v c s d)
+writes-leg number c s d v f s8 d2 t r =
+    if-by Writes (held (c .quantity) && makes number v c s d)
     (λ e.
-    let m = made (and-r (held (c .quantity)) (makes v c s d) e) in
-    writes-make c s d v f (and-l (held (c .quantity)) (makes v c s d) e) s8 d2 m (t (m .band)) r)
+    let m = made (and-r (held (c .quantity)) (makes number v c s d) e) in
+    writes-make number c s d v f (and-l (held (c .quantity)) (makes number v c s d) e) s8 d2 m (t (m .band)) r)
     (λ _. writes-nothing v r)
 
-pub writes-generate : (i : ℕ) (v : Venue) → Ranged v → Writes (generate i v)
+pub writes-generate : (number i : ℕ) (v : Venue) → Ranged v → Writes (generate number i v)
 unfolding generate complexAt
-writes-generate i v r =
+writes-generate number i v r =
     let c = cx v i in
     let f = r .complex i in
-    writes-then _ _ (writes-leg c (c .series1) (c .side1) v f (f .series1) (f .side1) (band-first v c (c .limit)) r)
-    (λ w x. writes-leg c (c .series2) (c .side2) w f (f .series2) (f .side2) (band-second w c (c .limit)) x)
+    writes-then _ _ (writes-leg number c (c .series1) (c .side1) v f (f .series1) (f .side1) (band-first v c (c .limit)) r)
+    (λ w x. writes-leg number c (c .series2) (c .side2) w f (f .series2) (f .side2) (band-second w c (c .limit)) x)
 
 -- Messages ------------------------------------------------------------------------------------
 
@@ -268,6 +269,11 @@ writes-each f ok zero id v r = unfold each in (writes-nothing v r)
 writes-each f ok (suc fuel) id v r =
     each-by Writes fuel f id v (λ _. writes-nothing v r) (λ i c _ _. writes-then _ _ (ok i v r) (writes-each f ok fuel (c .id)))
 
+pub writes-eachOf : (f : ℕ → Venue → Effect) → ((i : ℕ) (v : Venue) → Ranged v → Writes (f i v)) → (places : List ℕ) (v : Venue) → Ranged v → Writes (eachOf f places v)
+unfolding eachOf
+writes-eachOf f ok [] v r = writes-nothing v r
+writes-eachOf f ok (i ∷ places) v r = writes-then _ _ (ok i v r) (writes-eachOf f ok places)
+
 writes-cancel : (id : ℕ) (v : Venue) → Ranged v → Writes (cancel id v)
 unfolding cancel cancelRegular cancelComplex regularAt complexAt
 writes-cancel id v r =
@@ -279,18 +285,23 @@ writes-cancel id v r =
     writes-settle
 
 pub writes-perform : (number : ℕ) (m : Message) (v : Venue) → wellFormed m ≡ true → Ranged v → Writes (perform number m v)
-unfolding perform order enterRegular putRegular complex putComplex sweep
+unfolding perform order enterRegular putRegular complex putComplex sweep limitedSweep
 writes-perform number (Order o) v h r =
     writes-then _ _ (writes-repeat _ (writes-meetTurn _) (o .quantity) _ (let f = order-fits o (unfold wellFormed in h) in put-ranged _ o _ f (last-ranged (o .id) v (f .id) r))) writes-settle
 writes-perform number (TwoLeg c) v h r =
-    writes-then _ _ (writes-then _ _ (writes-work _ _ (let f = complex-fits c (unfold wellFormed in h) in putC-ranged _ c _ f (last-ranged (c .id) v (f .id) r))) writes-settle) (writes-generate _)
+    writes-then _ _ (writes-then _ _ (writes-work _ _ (let f = complex-fits c (unfold wellFormed in h) in putC-ranged _ c _ f (last-ranged (c .id) v (f .id) r))) writes-settle) (writes-generate number _)
 writes-perform number (Cancel id) v h r = writes-cancel id v r
 writes-perform number (Away s b o) v h r = writes-settle _ (away-ranged s b o v h r)
 writes-perform number (Status s x) v h r = writes-settle _ (status-ranged s x v h r)
 writes-perform number Sweep v h r =
-    writes-then _ _ (writes-then _ _ (writes-each work writes-work 32 0 v r) writes-settle) (writes-each generate writes-generate 32 0)
+    writes-then _ _ (writes-then _ _ (writes-each work writes-work 32 0 v r) writes-settle) (writes-each (generate number) (writes-generate number) 32 0)
 writes-perform number (Increment s i e) v h r = writes-settle _ (increment-ranged number s i e v h r)
 writes-perform number (Percent x e) v h r = writes-settle _ (percent-ranged number x e v h r)
+writes-perform number (LimitedSweep n) v h r =
+    let few = leb-true n 32 (and-r (leb 1 n) _ (unfold wellFormed within in h)) in
+    writes-then _ _ (writes-then _ _ (writes-then _ _
+    (writes-report (looked (examined n v)) _ (unfold examined in (omega arith)) (reached-ranged _ v r)) (writes-eachOf work writes-work _)) writes-settle)
+    (writes-eachOf (generate number) (writes-generate number) _)
 
 pub writes-accept : (number : ℕ) (m : Message) (v : Venue) → wellFormed m ≡ true → Ranged v → Writes (accept number m v)
 unfolding accept

@@ -71,7 +71,7 @@ unfoldable pub run : (room : ℕ) → List ℕ → Call
 run room bs = called room (runFrom (length bs) freshVenue 0 room bs)
 
 -- "one message upon a venue", n messages having gone before: "9 before all"; "a one-message call's is 9, 10 or its message's own".
--- 02 (d): "A one-message call whose number is not above every kept edition's gets 9."
+-- 02 (d): "A one-message call whose number is not above every kept edition's gets 9." (m): "must be above every generation's, else 9"
 unfoldable pub oneFrom : Venue → (n room : ℕ) → List ℕ → Outcome
 oneFrom v n room bs =
     let a = step v (suc n) bs in

@@ -1,16 +1,19 @@
--- Document 01, "Complex (kind 2)", with "Sweep" and "Cancel"; and kind 10 of request (g), whose quantities "outside 65 are units": of kind 2 a unit is one contract of each leg.
+-- Document 01, "Complex (kind 2)", with "Sweep" and "Cancel"; kind 10 of request (g), whose quantities "outside 65 are units": of kind 2 a unit is one contract
+-- of each leg; and the limited sweep of request (m).
 use mathlib.Core.Bool.{Bool, not, _&&_, _||_}
+use mathlib.Core.List.{List, [], _∷_, _++_}
 use Prim.Native.Nat.{ℕ, zero, suc, _*_, _/_, min}
 use lib.Dec.{leb, ltb, eqb}
+use lib.ListN.{length, take as firsts}
 use lib.IntN.{ℤ, pos, negℤ, _+ℤ_}
 use lib.Signed.{leZ, ltZ}
 use Rattle.rules.specs.declared.Complex.{Complex}
 use Rattle.rules.specs.declared.Venue.{Venue}
 use Rattle.rules.specs.declared.Cause.the-variants.{Executed, Withdrawn, Touched, NoUnit}
 use Rattle.rules.specs.Base.{if_then_else_, held, placeWhere, Choice, nobody, picked, first}
-use Rattle.rules.specs.Words.{closed, opposite, placeOf, statusOf, regularAt, complexAt, isRegularOf, isComplexOf, earlierComplex}
+use Rattle.rules.specs.Words.{closed, opposite, placeOf, statusOf, regularAt, complexAt, isRegularOf, isComplexOf, earlierComplex, withReached}
 use Rattle.rules.specs.Prices.{bestRegular, bestSize, bestOwn, ownSize, net, inBand}
-use Rattle.rules.specs.Records.{crossed, cancelled}
+use Rattle.rules.specs.Records.{crossed, cancelled, looked}
 use Rattle.rules.specs.Effects.{Effect, nothing, report, _⟫_, Turn, ended, turned, repeat}
 use Rattle.rules.specs.Removal.{remove, removeOf, failIf}
 use Rattle.rules.specs.Standing.{settle}
@@ -145,10 +148,10 @@ work i v =
     else repeat (c .quantity) (crossTurn i) v ⟫ touch i ⟫ repeat (c .quantity) (legInTurn i)
 
 -- The order is given a place and is worked there; "The rest rests; settle; generate for its first leg, then second."
-unfoldable pub complex : Complex → Venue → Effect
-complex c v =
+unfoldable pub complex : (number : ℕ) → Complex → Venue → Effect
+complex number c v =
     let i = freeComplex v in
-    work i (putComplex i c v) ⟫ settle ⟫ generate i
+    work i (putComplex i c v) ⟫ settle ⟫ generate number i
 
 -- the earliest resting order above an id, with its place
 unfoldable pub nextAbove : (id : ℕ) → Venue → Choice Complex
@@ -161,8 +164,42 @@ each (suc fuel) f id v =
     elim (nextAbove id v) [ nobody ↦ nothing v | picked i c ↦ f i v ⟫ each fuel f (c .id) ]
 
 -- "Sweep: all this for each resting order, earliest first, but settle once and then generate."
-unfoldable pub sweep : Venue → Effect
-sweep v = each 32 work 0 v ⟫ settle ⟫ each 32 generate 0
+unfoldable pub sweep : (number : ℕ) → Venue → Effect
+sweep number v = each 32 work 0 v ⟫ settle ⟫ each 32 (generate number) 0
+
+-- The limited sweep: 02 (m) -------------------------------------------------------------------
+
+-- of the complex orders from place n on, the places of those that rest and pass a test, earliest first: between messages places are in rising id
+unfoldable pub placesOf : (Complex → Bool) → (n : ℕ) → List Complex → List ℕ
+placesOf f n [] = []
+placesOf f n (c ∷ cs) = if held (c .quantity) && f c then n ∷ placesOf f (suc n) cs else placesOf f (suc n) cs
+
+-- the resting orders, "starting after the last id that a kind 11 looked at and going round by id": those above it, and then the others
+unfoldable pub goingRound : Venue → List ℕ
+goingRound v =
+    placesOf (λ c. ltb (v .reached) (c .id)) 0 (v .complex) ++ placesOf (λ c. not (ltb (v .reached) (c .id))) 0 (v .complex)
+
+-- "the number looked at, the lesser of n and the orders resting when it starts"
+unfoldable pub examined : (n : ℕ) → Venue → ℕ
+examined n v = min n (length (goingRound v))
+
+-- the id at the last of some places; where there is none, the one reached before
+unfoldable pub idReached : Venue → (places : List ℕ) → ℕ
+idReached v [] = v .reached
+idReached v (i ∷ []) = complexAt v i .id
+idReached v (i ∷ j ∷ places) = idReached v (j ∷ places)
+
+-- f for the order at each of these places in turn; "one that is gone by its turn counts as looked at": its place is free, and nothing is done there
+unfoldable pub eachOf : (ℕ → Venue → Effect) → (places : List ℕ) → Venue → Effect
+eachOf f [] v = nothing v
+eachOf f (i ∷ places) v = f i v ⟫ eachOf f places
+
+-- "Kind 11 is a sweep limited to n resting orders …, generation too. It writes record 72 … right after its 64"
+unfoldable pub limitedSweep : (number n : ℕ) → Venue → Effect
+limitedSweep number n v =
+    let places = firsts n (goingRound v) in
+    report (looked (examined n v)) (withReached v (idReached v places))
+    ⟫ eachOf work places ⟫ settle ⟫ eachOf (generate number) places
 
 -- "Cancel: 71, then removals (4)"; (C)(4)(iv)
 unfoldable pub cancelRegular : (i : ℕ) → Venue → Effect

@@ -1,16 +1,16 @@
--- Document 01, "Generation of a leg".
+-- Document 01, "Generation of a leg", and document 02 (m), "A ceiling on legging traffic".
 use mathlib.Core.Bool.{Bool, true, not, _&&_, _||_}
-use mathlib.Core.List.{List, [], _∷_}
-use Prim.Native.Nat.{ℕ, suc, min}
-use lib.Dec.{eqb}
-use lib.ListN.{set}
+use mathlib.Core.List.{List, [], _∷_, _++_}
+use Prim.Native.Nat.{ℕ, suc, _+_, min}
+use lib.Dec.{leb, eqb}
+use lib.ListN.{getD, set, drop}
 use lib.IntN.{ℤ, pos, negsuc, _-ℤ_}
 use Rattle.rules.specs.declared.Complex.{Complex}
 use Rattle.rules.specs.declared.Legging.{Legging}
 use Rattle.rules.specs.declared.Venue.{Venue}
 use Rattle.rules.specs.declared.Cause.the-variants.{Replaced}
 use Rattle.rules.specs.Base.{if_then_else_, held}
-use Rattle.rules.specs.Words.{within, opposite, signed, customer, otherClass, oneToOne, withLegging, placeOf, complexAt, leggingAt}
+use Rattle.rules.specs.Words.{within, opposite, signed, customer, otherClass, noGenerations, oneToOne, withLegging, withGenerations, placeOf, complexAt, leggingAt}
 use Rattle.rules.specs.Settings.{increment}
 use Rattle.rules.specs.Prices.{better, reaches, bestOwn, ownPrice, displayed, away, inBand}
 use Rattle.rules.specs.Records.{generated}
@@ -37,6 +37,26 @@ newLegging v c s d = record { parent = c .id; price = legPrice v c s d; quantity
 unfoldable pub placed : (place : ℕ) → Legging → Venue → Venue
 placed n l v = withLegging v (set (v .legging) n l)
 
+-- The ceiling ---------------------------------------------------------------------------------
+
+-- "each series' last 20 generations … oldest first", by the numbers of their messages; 0 where there were fewer
+unfoldable pub generationsOf : Venue → (series : ℕ) → List ℕ
+generationsOf v s = getD (v .generations) s noGenerations .messages
+
+-- "Per series at most 20 are generated in any 256 consecutive messages, the present one counted … Refused messages count among the 256":
+-- the oldest of the 20 is none, or it was 256 messages before the present one or more
+unfoldable pub underCeiling : (number : ℕ) → (generations : List ℕ) → Bool
+underCeiling number gs =
+    let oldest = getD gs 0 0 in
+    not (held oldest) || leb (oldest + 256) number
+
+-- one more; the oldest is forgotten
+unfoldable pub oneMore : (number : ℕ) → (generations : List ℕ) → List ℕ
+oneMore number gs = drop 1 gs ++ (number ∷ [])
+
+unfoldable pub counted : (number series : ℕ) → Venue → Venue
+counted number s v = withGenerations v (set (v .generations) s (record { messages = oneMore number (generationsOf v s) }))
+
 -- When it is made -----------------------------------------------------------------------------
 
 -- "p itself not reaching (equal is reaching) any own price opposite …, nor the away price opposite where there is one":
@@ -57,10 +77,10 @@ unfoldable pub othersStand : (w : Venue) (m n : ℕ) → List Legging → Bool
 othersStand w m n [] = true
 othersStand w m n (l ∷ ls) = (eqb n m || stands (verdict w n l)) && othersStand w m (suc n) ls
 
--- "Made when", for the leg of c at side d of series s. So p is at most 100,000: a sell price is at most its displayed price; a buy price, which may be
+-- "Made when", for the leg of c at side d of series s, under the message of this number. So p is at most 100,000: a sell price is at most its displayed price; a buy price, which may be
 -- above the displayed one, is below 100,000, since "N in band" asks for an offer, regular or away, in its series and p reaches none.
-unfoldable pub makes : Venue → Complex → (series side : ℕ) → Bool
-makes v c s d =
+unfoldable pub makes : (number : ℕ) → Venue → Complex → (series side : ℕ) → Bool
+makes number v c s d =
     let p = legPrice v c s d in
     let n = placeOf s d in
     let w = placed n (newLegging v c s d) v in
@@ -84,21 +104,23 @@ makes v c s d =
     && givesWay v c d p (leggingAt v s d)
     -- the others
     && othersStand w n 0 (w .legging)
+    -- 02 (m): the ceiling, "as one more condition of generation"
+    && underCeiling number (generationsOf v s)
 
 -- What is done --------------------------------------------------------------------------------
 
 -- "(the holder goes, cause 7, before the 67)"
-unfoldable pub make : Complex → (series side : ℕ) → Venue → Effect
-make c s d v =
+unfoldable pub make : (number : ℕ) → Complex → (series side : ℕ) → Venue → Effect
+make number c s d v =
     let l = newLegging v c s d in
     remove (λ n _. failIf (eqb n (placeOf s d)) Replaced) v
-    ⟫ (λ w. report (generated (c .id) s d (l .price) (displayed (increment v s) d (l .price)) (l .quantity)) (placed (placeOf s d) l w))
+    ⟫ (λ w. report (generated (c .id) s d (l .price) (displayed (increment v s) d (l .price)) (l .quantity)) (counted number s (placed (placeOf s d) l w)))
 
-unfoldable pub generateLeg : Complex → (series side : ℕ) → Venue → Effect
-generateLeg c s d v = if held (c .quantity) && makes v c s d then make c s d v else nothing v
+unfoldable pub generateLeg : (number : ℕ) → Complex → (series side : ℕ) → Venue → Effect
+generateLeg number c s d v = if held (c .quantity) && makes number v c s d then make number c s d v else nothing v
 
 -- "generate for its first leg, then second", of the order at place i
-unfoldable pub generate : (i : ℕ) → Venue → Effect
-generate i v =
+unfoldable pub generate : (number i : ℕ) → Venue → Effect
+generate number i v =
     let c = complexAt v i in
-    generateLeg c (c .series1) (c .side1) v ⟫ generateLeg c (c .series2) (c .side2)
+    generateLeg number c (c .series1) (c .side1) v ⟫ generateLeg number c (c .series2) (c .side2)

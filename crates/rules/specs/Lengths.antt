@@ -1,6 +1,6 @@
 -- Lengths of records, and what each order pays for: by these the bytes that one message writes are bounded.
 use Prim.Native.Nat.{ℕ}
-use Rattle.rules.specs.Records.{Report, answer, trade, pair, generated, removed, crossed, cancelled}
+use Rattle.rules.specs.Records.{Report, answer, trade, pair, generated, removed, crossed, cancelled, looked}
 
 -- The table's column "Length", of a record.
 unfoldable pub recordLength : Report → ℕ
@@ -11,6 +11,7 @@ recordLength (generated id series side price shown quantity) = 22
 recordLength (removed id series side cause) = 11
 recordLength (crossed taker maker n quantity) = 20
 recordLength (cancelled id quantity) = 12
+recordLength (looked count) = 5
 
 -- What each order pays for when it goes, or in a sweep when its turn comes. A round of legging in writes, beside the trades that use up what their maker
 -- shows, a trade for each leg and the pair, 22 + 22 + 16; it uses up all that a level of one leg shows, or frees the complex order. A cross writes 20 and

@@ -1,4 +1,4 @@
--- Document 01, "Message and record bytes": the messages, kinds 1 to 6, and document 02's: (d) kinds 7 and 8, (e) kind 9, (g) kind 10.
+-- Document 01, "Message and record bytes": the messages, kinds 1 to 6, and document 02's: (d) kinds 7 and 8, (e) kind 9, (g) kind 10, (m) kind 11.
 use mathlib.Core.Path.{_≡_}
 use mathlib.Core.List.{List, [], _++_}
 use Prim.Native.Nat.{ℕ, _-_}
@@ -7,7 +7,7 @@ use lib.ListN.{length}
 use Rattle.rules.specs.declared.Regular.{Regular}
 use Rattle.rules.specs.declared.Complex.{Complex}
 use Rattle.rules.specs.declared.Message.{Message}
-use Rattle.rules.specs.declared.Message.the-variants.{Order, TwoLeg, Cancel, Away, Status, Sweep, Increment, Percent}
+use Rattle.rules.specs.declared.Message.the-variants.{Order, TwoLeg, Cancel, Away, Status, Sweep, Increment, Percent, LimitedSweep}
 use Rattle.rules.specs.Base.{if_then_else_}
 use Rattle.rules.specs.Words.{oneToOne}
 use Rattle.rules.specs.Bytes.{u8At, u32At, asSigned, kindField, u8, u32, i32, framed}
@@ -25,6 +25,7 @@ lengthOf k =
     else if eqb k 8 then 9
     else if eqb k 9 then 22
     else if eqb k 10 then 23
+    else if eqb k 11 then 5
     else 0
 
 -- 1 order: id u32, series u8, side u8, price u32, quantity u32. It shows so much of it, and the rest is reserve
@@ -54,10 +55,11 @@ twoLegAt bs r s = record {
   ratio2 = s;
 }
 
--- the message at the front of bs, whose kind is one of 1 to 10; an order of kind 1 shows all of it, and one of kind 2 is one to one:
+-- the message at the front of bs, whose kind is one of 1 to 11; an order of kind 1 shows all of it, and one of kind 2 is one to one:
 -- 3 cancel: id u32; 4 away: series u8, bid u32, offer u32; 5 status: series u8, status u8; 6 sweep: none;
 -- (d): "Kind 7 carries series u8, increment u8 … and edition u32. Kind 8 carries percent u8 … and edition u32."
 -- (e): "Kind 9 is kind 1 with a shown quantity u32 after it". (g): "Kind 10 is kind 2 with two ratio bytes after it".
+-- (m): "Kind 11 is a sweep limited to n resting orders (u8 …)".
 unfoldable pub messageOf : List ℕ → Message
 messageOf bs =
     let k = kindField bs in
@@ -70,7 +72,8 @@ messageOf bs =
     else if eqb k 7 then Increment (u8At bs 4) (u8At bs 5) (u32At bs 6)
     else if eqb k 8 then Percent (u8At bs 4) (u32At bs 5)
     else if eqb k 9 then Order (orderAt (u32At bs 18) bs)
-    else TwoLeg (twoLegAt bs (u8At bs 21) (u8At bs 22))
+    else if eqb k 10 then TwoLeg (twoLegAt bs (u8At bs 21) (u8At bs 22))
+    else LimitedSweep (u8At bs 4)
 
 -- the form of a message, by the first kind that has it: an order of kind 9 is of the form of kind 1, one of kind 10 of that of kind 2
 abbrev pub messageForm : Message → ℕ
@@ -82,6 +85,7 @@ messageForm (Status s x) = 5
 messageForm Sweep = 6
 messageForm (Increment s i e) = 7
 messageForm (Percent x e) = 8
+messageForm (LimitedSweep n) = 9
 
 -- the fields of an order, without its shown quantity
 unfoldable pub orderFields : Regular → List ℕ
@@ -105,6 +109,7 @@ encodeMessage (Status s x) = framed 5 (u8 s ++ u8 x)
 encodeMessage Sweep = framed 6 []
 encodeMessage (Increment s i e) = framed 7 (u8 s ++ u8 i ++ u32 e)
 encodeMessage (Percent x e) = framed 8 (u8 x ++ u32 e)
+encodeMessage (LimitedSweep n) = framed 11 (u8 n)
 
 -- "the lengths by kind … be proved those of document 01 for every kind" (request (c)): each message has as many bytes as the length of the kind that they tell
 abbrev pub KindLengths : Type 0

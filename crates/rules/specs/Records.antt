@@ -1,4 +1,4 @@
--- Document 01, "Message and record bytes": the records, kinds 64 to 71, and the sheet that they make.
+-- Document 01, "Message and record bytes": the records, kinds 64 to 71, document 02 (m)'s, kind 72, and the sheet that they make.
 use mathlib.Core.Bool.{true, false}
 use mathlib.Core.List.{List, [], _∷_, _++_}
 use Prim.Native.Nat.{ℕ, zero, suc, _-_, _<_}
@@ -19,6 +19,7 @@ pub data Report : Type 0 where
   removed : (id series side : ℕ) → Cause → Report
   crossed : (taker maker : ℕ) (n : ℤ) (quantity : ℕ) → Report
   cancelled : (id quantity : ℕ) → Report
+  looked : (count : ℕ) → Report
 
 -- 01's number of a cause; the filing's clause beside it
 abbrev pub causeNumber : Cause → ℕ
@@ -60,6 +61,8 @@ encode (removed id series side cause) = framed 68 (u32 id ++ u8 series ++ u8 sid
 encode (crossed taker maker n quantity) = framed 70 (u32 taker ++ u32 maker ++ i32 n ++ u32 quantity)
 -- 71 cancelled: id u32, quantity u32
 encode (cancelled id quantity) = framed 71 (u32 id ++ u32 quantity)
+-- "record 72, one u8"
+encode (looked count) = framed 72 (u8 count)
 
 unfoldable pub encodeAll : List Report → List ℕ
 encodeAll [] = []
@@ -94,7 +97,8 @@ recordOf bs =
     else if eqb k 67 then generated (u32At bs 4) (u8At bs 8) (u8At bs 9) (u32At bs 10) (u32At bs 14) (u32At bs 18)
     else if eqb k 68 then removed (u32At bs 4) (u8At bs 8) (u8At bs 9) (causeOf (u8At bs 10))
     else if eqb k 70 then crossed (u32At bs 4) (u32At bs 8) (asSigned (u32At bs 12)) (u32At bs 16)
-    else cancelled (u32At bs 4) (u32At bs 8)
+    else if eqb k 71 then cancelled (u32At bs 4) (u32At bs 8)
+    else looked (u8At bs 4)
 
 -- the records from bs on; the fuel is the length of bs
 unfoldable pub recordsFrom : (fuel : ℕ) → List ℕ → List Report
@@ -129,6 +133,7 @@ Fits (generated id series side price shown quantity) = FourBytes id × OneByte s
 Fits (removed id series side cause) = FourBytes id × OneByte series × OneByte side
 Fits (crossed taker maker n quantity) = FourBytes taker × FourBytes maker × FourSigned n × FourBytes quantity
 Fits (cancelled id quantity) = FourBytes id × FourBytes quantity
+Fits (looked count) = OneByte count
 
 -- each record of a list is so
 abbrev pub ForAll : (Report → Type 0) → List Report → Type 0

@@ -9,7 +9,7 @@ use Rattle.rules.specs.declared.Regular.{Regular}
 use Rattle.rules.specs.declared.Complex.{Complex}
 use Rattle.rules.specs.declared.Venue.{Venue}
 use Rattle.rules.specs.declared.Message.{Message}
-use Rattle.rules.specs.declared.Message.the-variants.{Order, TwoLeg, Cancel, Away, Status, Sweep, Increment, Percent}
+use Rattle.rules.specs.declared.Message.the-variants.{Order, TwoLeg, Cancel, Away, Status, Sweep, Increment, Percent, LimitedSweep}
 use Rattle.rules.specs.declared.Decoded.{Decoded}
 use Rattle.rules.specs.declared.Decoded.the-variants.{Taken, Refused}
 use Rattle.rules.specs.Base.{if_then_else_, held, all}
@@ -26,9 +26,9 @@ use Rattle.rules.specs.Complex.{anyClosed, restsRegular, restsComplex}
 unfoldable pub torn : List ℕ → Bool
 torn bs = ltb (length bs) 4 || ltb (lengthField bs) 4 || ltb (length bs) (lengthField bs)
 
--- 2: "kind not 1 to 6"; "Refusal 2 no longer meets the message kinds that this and later requests add": (d) 7 and 8, (e) 9, (g) 10
+-- 2: "kind not 1 to 6"; "Refusal 2 no longer meets the message kinds that this and later requests add": (d) 7 and 8, (e) 9, (g) 10, (m) 11
 unfoldable pub isKind : ℕ → Bool
-isKind = within 1 10
+isKind = within 1 11
 
 -- 3: "length not its kind's"
 unfoldable pub isLength : (kind length : ℕ) → Bool
@@ -59,6 +59,8 @@ inRange k (Status s x) = isSeries s && isStatus x
 inRange k Sweep = true
 inRange k (Increment s i e) = isSeries s && isIncrement i && isEdition e
 inRange k (Percent x e) = isPercent x && isEdition e
+-- "n resting orders (u8, 1 to 32)"
+inRange k (LimitedSweep n) = within 1 32 n
 
 -- 14: "equal ratio bytes; checked after 4 and 11 to 13", of kind 10, which meets none of 11 to 13
 unfoldable pub equalRatios : List ℕ → Bool
@@ -101,6 +103,7 @@ offIncrement v (Status s x) = false
 offIncrement v Sweep = false
 offIncrement v (Increment s i e) = false
 offIncrement v (Percent x e) = false
+offIncrement v (LimitedSweep n) = false
 
 -- 11: "edition not above the last of either kind, at first 0": not above each that is kept; a free place has edition 0
 unfoldable pub editionTooLow : Venue → Message → Bool
@@ -112,6 +115,7 @@ editionTooLow v (Status s x) = false
 editionTooLow v Sweep = false
 editionTooLow v (Increment s i e) = not (all (λ k. ltb (k .edition) e) (v .editions))
 editionTooLow v (Percent x e) = not (all (λ k. ltb (k .edition) e) (v .editions))
+editionTooLow v (LimitedSweep n) = false
 
 -- a series is closed, and no order or leg rests in it
 unfoldable pub idle : Venue → (series : ℕ) → Bool
@@ -130,6 +134,7 @@ inUse v (Status s x) = false
 inUse v Sweep = false
 inUse v (Increment s i e) = not (idle v s)
 inUse v (Percent x e) = false
+inUse v (LimitedSweep n) = false
 
 -- 13: "32 editions held already": no place is free
 unfoldable pub noEditionLeft : Venue → Message → Bool
@@ -141,6 +146,7 @@ noEditionLeft v (Status s x) = false
 noEditionLeft v Sweep = false
 noEditionLeft v (Increment s i e) = leb 32 (freeEdition v)
 noEditionLeft v (Percent x e) = leb 32 (freeEdition v)
+noEditionLeft v (LimitedSweep n) = false
 
 -- 5: "id not above the last accepted (kinds 1, 2)"
 unfoldable pub idTooLow : Venue → Message → Bool
@@ -152,6 +158,7 @@ idTooLow v (Status s x) = false
 idTooLow v Sweep = false
 idTooLow v (Increment s i e) = false
 idTooLow v (Percent x e) = false
+idTooLow v (LimitedSweep n) = false
 
 -- 6: "a series of the order is closed"
 unfoldable pub onClosed : Venue → Message → Bool
@@ -163,6 +170,7 @@ onClosed v (Status s x) = false
 onClosed v Sweep = false
 onClosed v (Increment s i e) = false
 onClosed v (Percent x e) = false
+onClosed v (LimitedSweep n) = false
 
 -- 7: "128 regular (kind 1) or 32 complex (kind 2) rest already, even if the order would trade": no place is free
 unfoldable pub full : Venue → Message → Bool
@@ -174,6 +182,7 @@ full v (Status s x) = false
 full v Sweep = false
 full v (Increment s i e) = false
 full v (Percent x e) = false
+full v (LimitedSweep n) = false
 
 -- 8: "no resting order has the id (kind 3)"
 unfoldable pub unknown : Venue → Message → Bool
@@ -185,6 +194,7 @@ unknown v (Status s x) = false
 unknown v Sweep = false
 unknown v (Increment s i e) = false
 unknown v (Percent x e) = false
+unknown v (LimitedSweep n) = false
 
 -- the first of these that a message meets upon v; 0 where it meets none and is accepted
 unfoldable pub refusalOf : Venue → Message → ℕ

@@ -1,6 +1,7 @@
 -- Document 01: "A venue is sound when fields are in range, resting ids distinct and at most the last id, no series is locked or crossed
 -- counting own prices, and each legging order matches an open parent leg, is no larger than what its parent has open, and passes its test."
 -- Document 02 (d): "Editions that don't rise from 0 in both numbers are unsound". (e): "a given venue where one shows otherwise is unsound".
+-- (m): "generations of a series that fall in number, or an id reached by kind 11 above the last accepted, are unsound".
 use mathlib.Core.Bool.{Bool, true, not, _&&_, _||_}
 use mathlib.Core.List.{List, [], _∷_}
 use Prim.Native.Nat.{ℕ, suc, _-_, _/_, _%_}
@@ -77,17 +78,27 @@ editionsSound v =
     arranged holdsEdition editionInRange blankEdition (λ e. e .edition) 0 (v .editions)
     && arranged holdsEdition (λ _. true) blankEdition (λ e. e .message) 0 (v .editions)
 
+-- numbers that do not fall, from `low` on; a place before the first generation has number 0
+unfoldable pub unfallen : (low : ℕ) → List ℕ → Bool
+unfallen low [] = true
+unfallen low (n ∷ ns) = leb low n && unfallen n ns
+
+unfoldable pub generationsSound : Venue → Bool
+generationsSound v = all (λ g. unfallen 0 (g .messages) && all (λ n. leb n 4294967295) (g .messages)) (v .generations)
+
 unfoldable pub sound : Venue → Bool
 sound v =
     regularsSound v
     && complexesSound v
     && all listedInRange (v .series)
     && editionsSound v
+    && generationsSound v
+    && leb (v .reached) (v .last)
     && leb (v .last) 4294967295
     && idsDistinct v
     && all (apart v) (0 ∷ 1 ∷ 2 ∷ 3 ∷ 4 ∷ 5 ∷ 6 ∷ 7 ∷ [])
     && leggingsSound v 0 (v .legging)
 
--- a message's number is "above every kept edition's"; a free place has number 0
+-- a message's number is "above every kept edition's", and "above every generation's"; a free place has number 0
 unfoldable pub follows : (number : ℕ) → Venue → Bool
-follows number v = all (λ e. ltb (e .message) number) (v .editions)
+follows number v = all (λ e. ltb (e .message) number) (v .editions) && all (λ g. all (λ n. ltb n number) (g .messages)) (v .generations)

@@ -6,7 +6,7 @@ use lib.ListN.{set}
 use Rattle.rules.specs.declared.Legging.{Legging}
 use Rattle.rules.specs.declared.Venue.{Venue}
 use Rattle.rules.specs.declared.Message.{Message}
-use Rattle.rules.specs.declared.Message.the-variants.{Order, TwoLeg, Cancel, Away, Status, Sweep, Increment, Percent}
+use Rattle.rules.specs.declared.Message.the-variants.{Order, TwoLeg, Cancel, Away, Status, Sweep, Increment, Percent, LimitedSweep}
 use Rattle.rules.specs.Base.{if_then_else_, held}
 use Rattle.rules.specs.Words.{statusOf, listedAt, withSeries, withLast}
 use Rattle.rules.specs.Settings.{percentage, enterEdition}
@@ -15,7 +15,7 @@ use Rattle.rules.specs.Records.{answer}
 use Rattle.rules.specs.Effects.{Effect, nothing, _⟫_}
 use Rattle.rules.specs.Standing.{settle}
 use Rattle.rules.specs.Order.{order}
-use Rattle.rules.specs.Complex.{complex, sweep, cancel}
+use Rattle.rules.specs.Complex.{complex, sweep, limitedSweep, cancel}
 use Rattle.rules.specs.Places.{closeGaps}
 use Rattle.rules.specs.Refusals.{refusal}
 
@@ -39,13 +39,14 @@ setFigure number f x e v = enterEdition (record { edition = e; message = number;
 -- by kind, the message of this number; "After every accepted message all are tested"; an order's id is the last accepted from then on
 unfoldable pub perform : (number : ℕ) → Message → Venue → Effect
 perform number (Order o) v = order o (withLast v (o .id))
-perform number (TwoLeg c) v = complex c (withLast v (c .id))
+perform number (TwoLeg c) v = complex number c (withLast v (c .id))
 perform number (Cancel id) v = cancel id v
 perform number (Away s bid offer) v = settle (setAway s bid offer v)
 perform number (Status s x) v = settle (setStatus s x v)
-perform number Sweep v = sweep v
+perform number Sweep v = sweep number v
 perform number (Increment s i e) v = settle (setFigure number s i e v)
 perform number (Percent x e) v = settle (setFigure number percentage x e v)
+perform number (LimitedSweep n) v = limitedSweep number n v
 
 -- and when all is done the gaps that it left are closed
 unfoldable pub accept : (number : ℕ) → Message → Venue → Effect

@@ -7,7 +7,7 @@ use lib.Dec.{eqb}
 use Rattle.rules.specs.declared.Regular.{Regular}
 use Rattle.rules.specs.declared.Complex.{Complex}
 use Rattle.rules.specs.Base.{if_then_else_}
-use Rattle.rules.specs.Records.{Report, answer, trade, pair, generated, removed, crossed, cancelled}
+use Rattle.rules.specs.Records.{Report, answer, trade, pair, generated, removed, crossed, cancelled, looked}
 
 -- the sum of what each record counts
 unfoldable pub total : (Report → ℕ) → List Report → ℕ
@@ -23,6 +23,7 @@ contracts id s (generated i t d p shown q) = 0
 contracts id s (removed i t d c) = 0
 contracts id s (crossed taker maker n q) = 0
 contracts id s (cancelled i q) = 0
+contracts id s (looked n) = 0
 
 -- and of these, at price p
 unfoldable pub contractsAt : (id s p : ℕ) → Report → ℕ
@@ -33,6 +34,7 @@ contractsAt id s p (generated i t d price shown q) = 0
 contractsAt id s p (removed i t d c) = 0
 contractsAt id s p (crossed taker maker n q) = 0
 contractsAt id s p (cancelled i q) = 0
+contractsAt id s p (looked n) = 0
 
 -- "pairs, or paired, from 66"
 unfoldable pub paired : ℕ → Report → ℕ
@@ -43,6 +45,7 @@ paired id (generated i t d p shown q) = 0
 paired id (removed i t d c) = 0
 paired id (crossed taker maker n q) = 0
 paired id (cancelled i q) = 0
+paired id (looked n) = 0
 
 -- "crossed from 70, as taker or maker"
 unfoldable pub crossedFor : ℕ → Report → ℕ
@@ -53,6 +56,7 @@ crossedFor id (generated i t d p shown q) = 0
 crossedFor id (removed i t d c) = 0
 crossedFor id (crossed taker maker n q) = if eqb taker id || eqb maker id then q else 0
 crossedFor id (cancelled i q) = 0
+crossedFor id (looked n) = 0
 
 -- "cancelled from 71"
 unfoldable pub cancelledOf : ℕ → Report → ℕ
@@ -63,6 +67,18 @@ cancelledOf id (generated i t d p shown q) = 0
 cancelledOf id (removed i t d c) = 0
 cancelledOf id (crossed taker maker n q) = 0
 cancelledOf id (cancelled i q) = if eqb i id then q else 0
+cancelledOf id (looked n) = 0
+
+-- 02 (m): how many "are generated" in a series, from its 67
+unfoldable pub generatedOf : (series : ℕ) → Report → ℕ
+generatedOf s (answer n x m c) = 0
+generatedOf s (trade t d p q taker maker) = 0
+generatedOf s (pair i n q) = 0
+generatedOf s (generated i t d p shown q) = if eqb t s then 1 else 0
+generatedOf s (removed i t d c) = 0
+generatedOf s (crossed taker maker n q) = 0
+generatedOf s (cancelled i q) = 0
+generatedOf s (looked n) = 0
 
 -- the quantity under an id in a list of places
 unfoldable pub openIn : {A : Type 0} → (id quantity : A → ℕ) → (y : ℕ) → List A → ℕ

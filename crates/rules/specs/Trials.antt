@@ -1,7 +1,7 @@
 -- Document 01, "Trials": the starred ones, the printed session, the wrongs named there, sessions for what these and the theorems leave open, the bytes
 -- of each kind of message and record, the ends of each range, the refusals by the examples of their table, then section by section what a wrong definition
--- would do otherwise (tests/wrong_definitions.py tries such), and soundness clause by clause: all in one statement over a list. The sessions of requests (d)
--- and (g) are a statement each, for the checker's limit on steps.
+-- would do otherwise (tests/wrong_definitions.py tries such), and soundness clause by clause: all in one statement over a list. The sessions of requests (d),
+-- (e), (g) and (m) are a statement each, for the checker's limit on steps.
 -- A session's messages go in as bytes and its records are read from the report memory's bytes.
 use mathlib.Core.Bool.{Bool, true, false, not, _&&_}
 use mathlib.Core.Path.{_≡_, refl}
@@ -15,24 +15,25 @@ use Rattle.rules.specs.declared.Venue.{Venue}
 use Rattle.rules.specs.declared.Legging.{Legging}
 use Rattle.rules.specs.declared.Listed.{Listed}
 use Rattle.rules.specs.declared.Edition.{Edition}
+use Rattle.rules.specs.declared.Generations.{Generations}
 use Rattle.rules.specs.declared.Settings.{Settings}
 use Rattle.rules.specs.declared.Cause.{Cause}
 use Rattle.rules.specs.declared.Decoded.{Decoded}
 use Rattle.rules.specs.declared.Decoded.the-variants.{Taken, Refused}
 use Rattle.rules.specs.declared.Message.{Message}
-use Rattle.rules.specs.declared.Message.the-variants.{Order, TwoLeg, Cancel, Away, Status, Sweep, Increment, Percent}
+use Rattle.rules.specs.declared.Message.the-variants.{Order, TwoLeg, Cancel, Away, Status, Sweep, Increment, Percent, LimitedSweep}
 use Rattle.rules.specs.declared.Cause.the-variants.{Worse, Unpaired, Executed, Withdrawn, OutOfBand, NotOpen, Replaced, Touched, NoUnit}
 use Rattle.rules.specs.declared.Verdict.the-variants.{Stands, Fails}
-use Rattle.rules.specs.Words.{buy, sell, closed, opened, noRegular, noComplex, noLegging, notListed, noEdition, freshVenue, withRegular, withComplex, withLegging, withSeries, withEditions, withLast}
+use Rattle.rules.specs.Words.{buy, sell, closed, opened, noRegular, noComplex, noLegging, notListed, noEdition, freshVenue, withRegular, withComplex, withLegging, withSeries, withEditions, withGenerations, withLast, withReached}
 use Rattle.rules.specs.Bytes.{kindField}
 use Rattle.rules.specs.Messages.{lengthOf, encodeMessage}
-use Rattle.rules.specs.Records.{Report, answer, trade, pair, generated, removed, crossed, cancelled, encode, encodeAll, recordOf, records, sheet}
+use Rattle.rules.specs.Records.{Report, answer, trade, pair, generated, removed, crossed, cancelled, looked, encode, encodeAll, recordOf, records, sheet}
 use Rattle.rules.specs.Prices.{inBand}
 use Rattle.rules.specs.Standing.{verdictNumber}
 use Rattle.rules.specs.Refusals.{decoded, decodedNumber, inRange, offIncrement}
 use Rattle.rules.specs.Step.{setAway, setStatus}
 use Rattle.rules.specs.Calls.{called, run, runFrom, one, settings}
-use Rattle.rules.specs.Sums.{total, contracts, contractsAt, paired, crossedFor, cancelledOf, openRegular, openComplex}
+use Rattle.rules.specs.Sums.{total, contracts, contractsAt, paired, crossedFor, cancelledOf, generatedOf, openRegular, openComplex}
 use Rattle.rules.specs.Opened.{opened-rules}
 
 -- What is tried -------------------------------------------------------------------------------
@@ -83,6 +84,8 @@ legsUp b os i c n l = record {
   series = open1 b ∷ replicate 7 (open1 0);
   last = 3;
   editions = freshVenue .editions;
+  generations = freshVenue .generations;
+  reached = 0;
 }
 
 -- a regular order of a shown quantity, and one that shows all of it
@@ -106,9 +109,19 @@ leg i p q = record { parent = i; price = p; quantity = q }
 resting : List Regular
 resting = rest 1 0 sell 130 15 ∷ rest 2 1 sell 90 12 ∷ []
 
+-- generations in series 0 and 1 by messages of these numbers
+numbering : (first second : List ℕ) → Venue → Venue
+numbering ms ns v =
+    let lastly : List ℕ → Generations = λ ks. record { messages = drop (length ks) (replicate 20 0) ++ ks } in
+    withGenerations v (lastly ms ∷ lastly ns ∷ drop 2 (freshVenue .generations))
+
+-- the starred trials' offers and complex order 3 with legging orders, and such generations
+busy : (leggings : List Legging) (first second : List ℕ) → Venue
+busy ls ms ns = numbering ms ns (withLegging (legsUp 0 resting 0 (both 3 8) 0 noLegging) (ls ++ drop (length ls) (freshVenue .legging)))
+
 -- what `legged` leaves: complex order 3 has legging orders at 115 and 75
 leggedVenue : Venue
-leggedVenue = withLegging (legsUp 0 resting 0 (both 3 8) 0 noLegging) (leg 3 115 8 ∷ noLegging ∷ leg 3 75 8 ∷ drop 3 (freshVenue .legging))
+leggedVenue = busy (leg 3 115 8 ∷ noLegging ∷ leg 3 75 8 ∷ []) (5 ∷ []) (5 ∷ [])
 
 pub outcome : Trial → Outcome
 outcome (session room bytes number done rs) =
@@ -657,6 +670,7 @@ layouts =
     ∷ taken (4 ∷ 0 ∷ 6 ∷ 0 ∷ []) Sweep
     ∷ taken (10 ∷ 0 ∷ 7 ∷ 0 ∷ 6 ∷ 5 ∷ 1 ∷ 2 ∷ 3 ∷ 4 ∷ []) (Increment 6 5 67305985)
     ∷ taken (9 ∷ 0 ∷ 8 ∷ 0 ∷ 50 ∷ 1 ∷ 2 ∷ 3 ∷ 4 ∷ []) (Percent 50 67305985)
+    ∷ taken (5 ∷ 0 ∷ 11 ∷ 0 ∷ 32 ∷ []) (LimitedSweep 32)
     ∷ told (answer 67305985 7 513 2) (12 ∷ 0 ∷ 64 ∷ 0 ∷ 1 ∷ 2 ∷ 3 ∷ 4 ∷ 7 ∷ 1 ∷ 2 ∷ 2 ∷ [])
     ∷ told (trade 5 1 100000 10000 67305985 134678021)
     (22 ∷ 0 ∷ 65 ∷ 0 ∷ 5 ∷ 1 ∷ 160 ∷ 134 ∷ 1 ∷ 0 ∷ 16 ∷ 39 ∷ 0 ∷ 0 ∷ 1 ∷ 2 ∷ 3 ∷ 4 ∷ 5 ∷ 6 ∷ 7 ∷ 8 ∷ [])
@@ -669,6 +683,7 @@ layouts =
     ∷ told (crossed 67305985 134678021 (minus 2) 10000)
     (20 ∷ 0 ∷ 70 ∷ 0 ∷ 1 ∷ 2 ∷ 3 ∷ 4 ∷ 5 ∷ 6 ∷ 7 ∷ 8 ∷ 254 ∷ 255 ∷ 255 ∷ 255 ∷ 16 ∷ 39 ∷ 0 ∷ 0 ∷ [])
     ∷ told (cancelled 67305985 10000) (12 ∷ 0 ∷ 71 ∷ 0 ∷ 1 ∷ 2 ∷ 3 ∷ 4 ∷ 16 ∷ 39 ∷ 0 ∷ 0 ∷ [])
+    ∷ told (looked 32) (5 ∷ 0 ∷ 72 ∷ 0 ∷ 32 ∷ [])
     -- each u32 in all its bytes
     ∷ taken (13 ∷ 0 ∷ 4 ∷ 0 ∷ 3 ∷ 160 ∷ 134 ∷ 1 ∷ 0 ∷ 44 ∷ 1 ∷ 0 ∷ 0 ∷ []) (Away 3 100000 300)
     ∷ told (trade 5 1 100000 134678021 67305985 1) (22 ∷ 0 ∷ 65 ∷ 0 ∷ 5 ∷ 1 ∷ 160 ∷ 134 ∷ 1 ∷ 0 ∷ 5 ∷ 6 ∷ 7 ∷ 8 ∷ 1 ∷ 2 ∷ 3 ∷ 4 ∷ 1 ∷ 0 ∷ 0 ∷ 0 ∷ [])
@@ -706,6 +721,7 @@ edges =
     ∷ ranged (Increment 7 1 0) true ∷ ranged (Increment 0 5 4294967295) true ∷ ranged (Increment 0 10 1) true
     ∷ ranged (Increment 8 5 1) false ∷ ranged (Increment 0 0 1) false ∷ ranged (Increment 0 2 1) false
     ∷ ranged (Percent 0 0) true ∷ ranged (Percent 50 4294967295) true ∷ ranged (Percent 51 1) false
+    ∷ ranged (LimitedSweep 0) false ∷ ranged (LimitedSweep 1) true ∷ ranged (LimitedSweep 32) true ∷ ranged (LimitedSweep 33) false
     ∷ []
 
 -- The refusals' table -------------------------------------------------------------------------
@@ -734,7 +750,7 @@ refused =
     ∷ session 100 ((4 ∷ 0 ∷ 6 ∷ 1 ∷ []) ++ (4 ∷ 1 ∷ 6 ∷ 0 ∷ [])) 1 2 (answer 1 2 0 0 ∷ answer 2 1 0 0 ∷ [])
     -- 2: "04 00 63 00"
     ∷ session 100 (4 ∷ 0 ∷ 99 ∷ 0 ∷ []) 0 1 (answer 1 2 0 0 ∷ [])
-    ∷ session 100 ((5 ∷ 0 ∷ 0 ∷ 0 ∷ 7 ∷ []) ++ (4 ∷ 0 ∷ 11 ∷ 0 ∷ []) ++ (4 ∷ 0 ∷ 12 ∷ 0 ∷ []) ++ (4 ∷ 0 ∷ 64 ∷ 0 ∷ [])) 0 4 (answer 1 2 0 0 ∷ answer 2 2 0 0 ∷ answer 3 2 0 0 ∷ answer 4 2 0 0 ∷ [])
+    ∷ session 100 ((5 ∷ 0 ∷ 0 ∷ 0 ∷ 7 ∷ []) ++ (4 ∷ 0 ∷ 12 ∷ 0 ∷ []) ++ (4 ∷ 0 ∷ 64 ∷ 0 ∷ [])) 0 3 (answer 1 2 0 0 ∷ answer 2 2 0 0 ∷ answer 3 2 0 0 ∷ [])
     -- 3: "05 00 06 00 00"
     ∷ session 100 (5 ∷ 0 ∷ 6 ∷ 0 ∷ 0 ∷ []) 0 1 (answer 1 3 0 0 ∷ [])
     -- too short; 3 before 4, which a cancel of id 0 is
@@ -1081,6 +1097,8 @@ allHeld os q ls = record {
   complex = idle 31 1 (record { id = 32; series1 = 0; side1 = buy; series2 = 1; side2 = buy; class = 1; limit = pos 220; quantity = q; ratio1 = 1; ratio2 = 1 });
   legging = ls ++ drop (length ls) (freshVenue .legging);
   series = open1 0 ∷ open1 0 ∷ replicate 6 notListed;
+  generations = freshVenue .generations;
+  reached = 0;
   last = 40;
   editions = freshVenue .editions;
 }
@@ -1103,7 +1121,7 @@ lefts =
     -- a sweep of 32 orders: the last legs in and generates
     ∷ upon (allHeld (rest 33 0 sell 130 15 ∷ rest 34 1 sell 90 12 ∷ rest 35 1 sell 95 20 ∷ []) 14 []) 0 200 sweeps 0 1
     (answer 1 0 5 2 ∷ trade 0 0 130 12 32 33 ∷ trade 1 0 90 12 32 34 ∷ pair 32 (pos 220) 12 ∷ generated 32 0 0 125 125 2 ∷ generated 32 1 0 90 90 2 ∷ [])
-    (allHeld (rest 33 0 sell 130 3 ∷ rest 35 1 sell 95 20 ∷ []) 2 (leg 32 125 2 ∷ noLegging ∷ leg 32 90 2 ∷ []))
+    (numbering (1 ∷ []) (1 ∷ []) (allHeld (rest 33 0 sell 130 3 ∷ rest 35 1 sell 95 20 ∷ []) 2 (leg 32 125 2 ∷ noLegging ∷ leg 32 90 2 ∷ [])))
     -- a run: two complex orders, of which the first is cancelled, and a torn message; then one without room for its last message
     ∷ onward freshVenue 0 100 (opens 0 ++ opens 1 ++ pairs 2 1 ++ cancels 1 ++ (4 ∷ 0 ∷ [])) 1 6
     (accepted 1 4 ++ (answer 5 0 0 0 ∷ cancelled 1 1 ∷ answer 6 1 0 0 ∷ [])) (withLast (lone 2) 2)
@@ -1118,7 +1136,7 @@ lefts =
 named : List Report
 named =
     answer 3 3 3 3 ∷ trade 0 1 115 5 4 3 ∷ trade 1 0 90 6 3 2 ∷ trade 0 0 120 7 3 1 ∷ pair 3 (pos 205) 8 ∷ generated 3 0 0 115 115 9
-    ∷ removed 3 0 0 Executed ∷ crossed 3 4 (pos 1) 10 ∷ crossed 5 3 (pos 1) 20 ∷ cancelled 3 11 ∷ []
+    ∷ removed 3 0 0 Executed ∷ crossed 3 4 (pos 1) 10 ∷ crossed 5 3 (pos 1) 20 ∷ cancelled 3 11 ∷ looked 3 ∷ []
 
 pub numbers : List Trial
 numbers =
@@ -1126,7 +1144,7 @@ numbers =
     counted (length (freshVenue .regular)) 128 ∷ counted (length (freshVenue .complex)) 32
     ∷ counted (length (freshVenue .legging)) 16 ∷ counted (length (freshVenue .series)) 8
     -- no length where there is no such kind
-    ∷ counted (lengthOf 0) 0 ∷ counted (lengthOf 11) 0
+    ∷ counted (lengthOf 0) 0 ∷ counted (lengthOf 12) 0
     -- the numbers of answers that are enums
     ∷ counted (verdictNumber Stands) 0 ∷ counted (verdictNumber (Fails NotOpen)) 6 ∷ counted (verdictNumber (Fails NoUnit)) 10 ∷ counted (decodedNumber (Taken Sweep)) 0 ∷ counted (decodedNumber (Refused 3)) 3
     -- "contracts in a series from that series' 65, as taker or maker; pairs, or paired, from 66; crossed from 70, as taker or maker; cancelled from 71"
@@ -1135,6 +1153,8 @@ numbers =
     ∷ counted (total (paired 3) named) 8 ∷ counted (total (paired 4) named) 0
     ∷ counted (total (crossedFor 3) named) 30 ∷ counted (total (crossedFor 5) named) 20 ∷ counted (total (crossedFor 6) named) 0
     ∷ counted (total (cancelledOf 3) named) 11 ∷ counted (total (cancelledOf 4) named) 0
+    -- 67 of a series
+    ∷ counted (total (generatedOf 0) named) 1 ∷ counted (total (generatedOf 1) named) 0
     -- "still open is the quantity resting in the venue left (0 if none rests)"
     ∷ counted (openRegular 2 resting) 12 ∷ counted (openRegular 3 resting) 0 ∷ counted (openComplex 3 (both 2 8 ∷ both 3 9 ∷ [])) 9
     ∷ []
@@ -1209,12 +1229,88 @@ seasons =
     ∷ session 500 (many 33 1 ++ bands 5 32 ++ opens 0 ++ increments 0 1 33) 0 36 (accepted 1 32 ++ (answer 33 13 0 0 ∷ answer 34 11 0 0 ∷ answer 35 0 0 0 ∷ answer 36 12 0 0 ∷ []))
     ∷ []
 
+-- A ceiling on legging traffic: request (m) -----------------------------------------------------
+
+limited : (n : ℕ) → List ℕ
+limited n = encodeMessage (LimitedSweep n)
+
+-- complex orders 3, 4 and 5 rest in closed series, and a limited sweep has looked at an id
+three : (reached : ℕ) → Venue
+three r = withReached (withLast (withComplex (setStatus 0 closed (setStatus 1 closed freshVenue)) (both 3 1 ∷ both 4 1 ∷ both 5 1 ∷ drop 3 (freshVenue .complex))) 5) r
+
+-- complex order 4 has joined, at 206
+outbid : (leggings : List Legging) (first second : List ℕ) (reached : ℕ) → Venue
+outbid ls ms ns r =
+    let c : Complex = record { id = 4; series1 = 0; side1 = buy; series2 = 1; side2 = buy; class = 1; limit = pos 206; quantity = 8; ratio1 = 1; ratio2 = 1 } in
+    let v = busy ls ms ns in
+    withReached (withLast (withComplex v (both 3 8 ∷ c ∷ drop 2 (freshVenue .complex))) 4) r
+
+-- away prices at which order 3 and one that sells both cross; nothing rests
+meeting : Venue
+meeting = withLast (setAway 1 70 80 (setAway 0 120 130 freshVenue)) 4
+
+sellsBoth : Complex
+sellsBoth = record { id = 4; series1 = 0; side1 = sell; series2 = 1; side2 = sell; class = 1; limit = negℤ (pos 205); quantity = 1; ratio1 = 1; ratio2 = 1 }
+
+pub traffic : List Trial
+traffic =
+    -- "at most 20 are generated in any 256 consecutive messages, the present one counted": 10 and 265 are in one, 10 and 266 are not
+    upon (busy [] (replicate 20 10) []) 264 100 sweeps 0 1 (answer 265 0 4 1 ∷ generated 3 1 0 75 75 8 ∷ [])
+    (busy (noLegging ∷ noLegging ∷ leg 3 75 8 ∷ []) (replicate 20 10) (265 ∷ []))
+    ∷ upon (busy [] (replicate 20 10) []) 265 100 sweeps 0 1 (answer 266 0 5 2 ∷ generated 3 0 0 115 115 8 ∷ generated 3 1 0 75 75 8 ∷ [])
+    (busy (leg 3 115 8 ∷ noLegging ∷ leg 3 75 8 ∷ []) (replicate 19 10 ++ (266 ∷ [])) (266 ∷ []))
+    -- the oldest of the 20 alone is asked, and 19 are under the ceiling
+    ∷ upon (busy [] (10 ∷ replicate 19 265) (replicate 19 265)) 265 100 sweeps 0 1 (answer 266 0 5 2 ∷ generated 3 0 0 115 115 8 ∷ generated 3 1 0 75 75 8 ∷ [])
+    (busy (leg 3 115 8 ∷ noLegging ∷ leg 3 75 8 ∷ []) (replicate 19 265 ++ (266 ∷ [])) (replicate 19 265 ++ (266 ∷ [])))
+    -- a replacement counts; at the ceiling the holder stays
+    ∷ upon (outbid (leg 3 115 8 ∷ noLegging ∷ leg 3 75 8 ∷ []) (replicate 20 10) (10 ∷ []) 3) 264 100 (limited 1) 0 1
+    (answer 265 0 5 2 ∷ looked 1 ∷ removed 3 1 0 Replaced ∷ generated 4 1 0 76 75 8 ∷ [])
+    (outbid (leg 3 115 8 ∷ noLegging ∷ leg 4 76 8 ∷ []) (replicate 20 10) (10 ∷ 265 ∷ []) 4)
+    -- "starting after the last id that a kind 11 looked at and going round by id"; "the lesser of n and the orders resting when it starts"
+    ∷ upon (three 0) 0 100 (limited 1) 0 1 (answer 1 0 0 0 ∷ looked 1 ∷ []) (three 3)
+    ∷ upon (three 4) 0 100 (limited 2) 0 1 (answer 1 0 0 0 ∷ looked 2 ∷ []) (three 3)
+    ∷ upon (three 5) 0 100 (limited 2) 0 1 (answer 1 0 0 0 ∷ looked 2 ∷ []) (three 4)
+    ∷ upon (three 4) 0 100 (limited 32) 0 1 (answer 1 0 0 0 ∷ looked 3 ∷ []) (three 4)
+    ∷ upon freshVenue 0 100 (limited 32) 0 1 (answer 1 0 0 0 ∷ looked 0 ∷ []) freshVenue
+    -- the id reached is the last one looked at, though it is gone
+    ∷ upon (withComplex meeting (both 3 1 ∷ sellsBoth ∷ drop 2 (freshVenue .complex))) 0 100 (limited 2) 0 1
+    (answer 1 0 0 0 ∷ looked 2 ∷ crossed 3 4 (pos 205) 1 ∷ []) (withReached meeting 4)
+    -- "generation too": order 4 first, and then order 3 has no place
+    ∷ upon (outbid [] [] [] 3) 9 100 (limited 2) 0 1 (answer 10 0 5 2 ∷ looked 2 ∷ generated 4 0 0 116 115 8 ∷ generated 4 1 0 76 75 8 ∷ [])
+    (outbid (leg 4 116 8 ∷ noLegging ∷ leg 4 76 8 ∷ []) (10 ∷ []) (10 ∷ []) 3)
+    -- the second looks at order 2
+    ∷ session 400 (buysBoth 1 (pos 205) 8 ++ buysBoth 2 (pos 206) 8 ++ enters 3 0 sell 130 15 ++ enters 4 1 sell 90 12 ++ limited 1 ++ limited 1) 0 6
+    (accepted 1 4 ++ (answer 5 0 5 2 ∷ looked 1 ∷ generated 1 0 0 115 115 8 ∷ generated 1 1 0 75 75 8
+    ∷ answer 6 0 5 2 ∷ looked 1 ∷ removed 1 0 0 Replaced ∷ generated 2 0 0 116 115 8 ∷ removed 1 1 0 Replaced ∷ generated 2 1 0 76 75 8 ∷ []))
+    -- "one that is gone by its turn counts as looked at": order 2, which order 1 crosses; and order 6, which order 5 crosses
+    ∷ session 200 (twoLeg 1 0 buy 1 buy 0 (pos 150) 5 ++ twoLeg 2 0 sell 1 sell 0 (minus 150) 5 ++ encodeMessage (Away 0 100 101) ++ encodeMessage (Away 1 50 51) ++ limited 2) 0 5
+    (accepted 1 5 ++ (looked 2 ∷ crossed 1 2 (pos 150) 5 ∷ []))
+    ∷ session 400 (keptApart ++ sweeps ++ limited 32) 0 14
+    (accepted 1 8 ++ (answer 9 0 8 1 ∷ generated 5 1 1 121 125 4 ∷ answer 10 0 8 1 ∷ answer 11 0 8 1 ∷ answer 12 0 8 1
+    ∷ answer 13 0 28 3 ∷ trade 0 0 100 5 7 1 ∷ trade 2 0 50 5 7 8 ∷ pair 7 (pos 150) 5 ∷ generated 6 1 0 85 85 3 ∷ generated 7 2 0 20 20 2
+    ∷ answer 14 0 24 2 ∷ looked 3 ∷ crossed 5 6 (minus 215) 3 ∷ removed 5 1 1 Executed ∷ removed 6 1 0 Executed ∷ generated 5 1 1 121 125 1 ∷ []))
+    -- units of what shows alone, which shows again for the sweep and again for the limited one
+    ∷ session 400 (reserves 1 0 sell 130 15 4 ++ enters 2 1 sell 90 12 ++ ratioed 3 buy 2 1 (pos 350) 5 ++ sweeps ++ limited 1) 0 5
+    (accepted 1 3 ++ (trade 0 0 130 4 3 1 ∷ trade 1 0 90 2 3 2 ∷ pair 3 (pos 350) 2 ∷ answer 4 0 0 0 ∷ trade 0 0 130 4 3 1 ∷ trade 1 0 90 2 3 2 ∷ pair 3 (pos 350) 2
+    ∷ answer 5 0 0 0 ∷ looked 1 ∷ trade 0 0 130 2 3 1 ∷ trade 1 0 90 1 3 2 ∷ pair 3 (pos 350) 1 ∷ []))
+    -- 3 and 4
+    ∷ session 100 ((4 ∷ 0 ∷ 11 ∷ 0 ∷ []) ++ limited 33) 0 2 (answer 1 3 0 0 ∷ answer 2 4 0 0 ∷ [])
+    -- 9: a number that is not above a generation's; generations that fall; an id reached above the last
+    ∷ upon (busy [] (replicate 20 10) []) 9 100 sweeps 9 0 [] (busy [] (replicate 20 10) [])
+    ∷ upon (busy [] (5 ∷ 4 ∷ []) []) 9 100 sweeps 9 0 [] (busy [] (5 ∷ 4 ∷ []) [])
+    ∷ upon (three 6) 9 100 sweeps 9 0 [] (three 6)
+    ∷ []
+
 pub trials : List Trial
-trials = starred ++ wrongs ++ choices ++ respecting ++ reserved ++ layouts ++ edges ++ refused ++ met ++ settled ++ worked ++ made ++ faults ++ lefts ++ numbers
+trials = starred ++ wrongs ++ choices ++ respecting ++ layouts ++ edges ++ refused ++ met ++ settled ++ worked ++ made ++ faults ++ lefts ++ numbers
 
 pub trials-hold : map outcome trials ≡ map expected trials
-unfolding opened-rules outcome expected spread open1 legsUp single rest both byRatios leg resting leggedVenue minus opens closes enters reserves pairUp buysBoth cancels sweeps opening accepted awayAdded starred together wrongs twoLeg legged leggedSheet quoted relying inAuction restingBefore keptApart choices quotes bidding asked dearer respecting withOne half allShown tooShort reserved pairs gone layouts whole double edges offers twice refused met settled threeOpen farApart worked awayAlone nearTop made standing base atTop isSound unsound weighed misweighed locked stale staleComplex staleLegging listing market spreading faults lone quoting idle allHeld lefts named numbers trials
+unfolding opened-rules outcome expected spread open1 legsUp single rest both byRatios leg resting numbering busy leggedVenue minus opens closes enters reserves pairUp buysBoth cancels sweeps opening accepted awayAdded starred together wrongs twoLeg legged leggedSheet quoted relying inAuction restingBefore keptApart choices quotes bidding asked dearer respecting pairs gone layouts whole double edges offers twice refused met settled threeOpen farApart worked awayAlone nearTop made standing base atTop isSound unsound weighed misweighed locked stale staleComplex staleLegging listing market spreading faults lone quoting idle allHeld lefts named numbers trials
 trials-hold = refl
+
+pub reserves-hold : map outcome reserved ≡ map expected reserved
+unfolding opened-rules outcome expected open1 legsUp single rest both leg resting minus opens closes enters reserves pairUp buysBoth cancels sweeps opening accepted twoLeg legged leggedSheet quoted quotes withOne half allShown tooShort reserved
+reserves-hold = refl
 
 pub units-hold : map outcome unequal ≡ map expected unequal
 unfolding opened-rules outcome expected single rest minus opens closes enters reserves pairUp buysBoth cancels sweeps opening accepted weighing ratioed legged leggedSheet quoted quotes pairs oneEach oneEachSheet tenth unequal
@@ -1223,3 +1319,7 @@ units-hold = refl
 pub seasons-hold : map outcome seasons ≡ map expected seasons
 unfolding opened-rules outcome expected single rest opens closes enters pairUp buysBoth cancels sweeps opening accepted awayAdded twice increments bands dating dated many full inAll seasons
 seasons-hold = refl
+
+pub traffic-holds : map outcome traffic ≡ map expected traffic
+unfolding opened-rules outcome expected open1 legsUp single rest both leg resting numbering busy minus opens enters reserves pairUp twoLeg weighing ratioed buysBoth sweeps accepted keptApart limited three outbid meeting sellsBoth traffic
+traffic-holds = refl

@@ -11,6 +11,7 @@ use Rattle.rules.specs.declared.Complex.{Complex}
 use Rattle.rules.specs.declared.Legging.{Legging}
 use Rattle.rules.specs.declared.Listed.{Listed}
 use Rattle.rules.specs.declared.Edition.{Edition}
+use Rattle.rules.specs.declared.Generations.{Generations}
 use Rattle.rules.specs.declared.Venue.{Venue}
 use Rattle.rules.specs.Base.{if_then_else_, held}
 
@@ -113,8 +114,11 @@ newlyListed = record { status = opened; bid = 0; offer = 0 }
 abbrev pub noEdition : Edition
 noEdition = record { edition = 0; message = 0; figure = 0; value = 0 }
 
+abbrev pub noGenerations : Generations
+noGenerations = record { messages = replicate 20 0 }
+
 -- "Fresh: no orders, all series closed, no away prices, last id 0."; request (l): "A fresh venue now has every series open."
--- "At most 128 regular and 32 complex orders rest"; 02 (d): "The venue keeps up to 32 editions"
+-- "At most 128 regular and 32 complex orders rest"; 02 (d): "The venue keeps up to 32 editions"; 02 (m): none generated, and no id looked at
 unfoldable pub freshVenue : Venue
 freshVenue = record {
   regular = replicate 128 noRegular;
@@ -122,7 +126,9 @@ freshVenue = record {
   legging = replicate 16 noLegging;
   series = replicate 8 newlyListed;
   editions = replicate 32 noEdition;
+  generations = replicate 8 noGenerations;
   last = 0;
+  reached = 0;
 }
 
 -- what stands at a place; past the end, nothing
@@ -143,22 +149,28 @@ statusOf v s = listedAt v s .status
 
 -- the venue with one part anew
 unfoldable pub withRegular : Venue → List Regular → Venue
-withRegular v x = record { regular = x; complex = v .complex; legging = v .legging; series = v .series; editions = v .editions; last = v .last }
+withRegular v x = record { regular = x; complex = v .complex; legging = v .legging; series = v .series; editions = v .editions; generations = v .generations; last = v .last; reached = v .reached }
 
 unfoldable pub withComplex : Venue → List Complex → Venue
-withComplex v x = record { regular = v .regular; complex = x; legging = v .legging; series = v .series; editions = v .editions; last = v .last }
+withComplex v x = record { regular = v .regular; complex = x; legging = v .legging; series = v .series; editions = v .editions; generations = v .generations; last = v .last; reached = v .reached }
 
 unfoldable pub withLegging : Venue → List Legging → Venue
-withLegging v x = record { regular = v .regular; complex = v .complex; legging = x; series = v .series; editions = v .editions; last = v .last }
+withLegging v x = record { regular = v .regular; complex = v .complex; legging = x; series = v .series; editions = v .editions; generations = v .generations; last = v .last; reached = v .reached }
 
 unfoldable pub withSeries : Venue → List Listed → Venue
-withSeries v x = record { regular = v .regular; complex = v .complex; legging = v .legging; series = x; editions = v .editions; last = v .last }
+withSeries v x = record { regular = v .regular; complex = v .complex; legging = v .legging; series = x; editions = v .editions; generations = v .generations; last = v .last; reached = v .reached }
 
 unfoldable pub withEditions : Venue → List Edition → Venue
-withEditions v x = record { regular = v .regular; complex = v .complex; legging = v .legging; series = v .series; editions = x; last = v .last }
+withEditions v x = record { regular = v .regular; complex = v .complex; legging = v .legging; series = v .series; editions = x; generations = v .generations; last = v .last; reached = v .reached }
+
+unfoldable pub withGenerations : Venue → List Generations → Venue
+withGenerations v x = record { regular = v .regular; complex = v .complex; legging = v .legging; series = v .series; editions = v .editions; generations = x; last = v .last; reached = v .reached }
 
 unfoldable pub withLast : Venue → ℕ → Venue
-withLast v x = record { regular = v .regular; complex = v .complex; legging = v .legging; series = v .series; editions = v .editions; last = x }
+withLast v x = record { regular = v .regular; complex = v .complex; legging = v .legging; series = v .series; editions = v .editions; generations = v .generations; last = x; reached = v .reached }
+
+unfoldable pub withReached : Venue → ℕ → Venue
+withReached v x = record { regular = v .regular; complex = v .complex; legging = v .legging; series = v .series; editions = v .editions; generations = v .generations; last = v .last; reached = x }
 
 -- Resting orders ------------------------------------------------------------------------------
 

@@ -63,13 +63,21 @@ pub struct Edition {
     pub value: u8,
 }
 
+// The numbers of the messages of a series' last 20 generations, oldest first; 0 where there were fewer.
+pub struct Generations {
+    pub messages: [u32; 20],
+}
+
 pub struct Venue {
     pub regular: [Regular; 128],
     pub complex: [Complex; 32],
     pub legging: [Legging; 16],
     pub series: [Listed; 8],
     pub editions: [Edition; 32],
+    pub generations: [Generations; 8],
     pub last: u32,
+    // the last id that a limited sweep looked at; 0 where there was none
+    pub reached: u32,
 }
 
 // One leg of a complex order.
@@ -93,7 +101,7 @@ pub struct Settings {
     pub percent: u8,
 }
 
-// A message, kinds 1 to 10: an order of kind 1 is one of kind 9 that shows all of it, and TwoLeg is kind 2 where it is one to one, else kind 10.
+// A message, kinds 1 to 11: an order of kind 1 is one of kind 9 that shows all of it, and TwoLeg is kind 2 where it is one to one, else kind 10.
 pub enum Message {
     Order(Regular),
     TwoLeg(Complex),
@@ -103,6 +111,7 @@ pub enum Message {
     Sweep,
     Increment(u8, u8, u32),
     Percent(u8, u32),
+    LimitedSweep(u8),
 }
 
 // The bytes at the front of a message list: a message whose fields are in range, or the refusal, 1 to 4 or 14, that they meet.
@@ -171,13 +180,16 @@ pub fn fresh() -> Venue
         figure: 0,
         value: 0,
     };
+    let generations = Generations { messages: [0; 20] };
     Venue {
         regular: [regular; 128],
         complex: [complex; 32],
         legging: [legging; 16],
         series: [listed; 8],
         editions: [edition; 32],
+        generations: [generations; 8],
         last: 0,
+        reached: 0,
     }
 }
 
@@ -309,6 +321,7 @@ pub fn message_form(m: Message) -> u16
         Message::Sweep => 6,
         Message::Increment(_, _, _) => 7,
         Message::Percent(_, _) => 8,
+        Message::LimitedSweep(_) => 9,
     }
 }
 
@@ -348,6 +361,9 @@ pub fn length_of(kind: u16) -> u16
     }
     if kind <= 10 {
         return 23;
+    }
+    if kind == 11 {
+        return 5;
     }
     0
 }

@@ -53,10 +53,14 @@ returns-11 c = let k : c .before .before .before .before .before .before .before
 
 returns-12 : tie.Need-returns-12
 unfolding lengthOf
-returns-12 c =
-    let k = c .before .before .before .before .before .before .before .before .before .before .before .args .kind in
-    rw (ne-eqb k 1 (λ e. omega arith), ne-eqb k 2 (λ e. omega arith), ne-eqb k 3 (λ e. omega arith), ne-eqb k 4 (λ e. omega arith), ne-eqb k 5 (λ e. omega arith), ne-eqb k 6 (λ e. omega arith), ne-eqb k 7 (λ e. omega arith), ne-eqb k 8 (λ e. omega arith), ne-eqb k 9 (λ e. omega arith), ne-eqb k 10 (λ e. omega arith))
+returns-12 c = let k : c .before .before .before .before .before .before .before .before .before .before .before .before .args .kind ≡ 11 = omega arith in sym (ap lengthOf k)
+
+returns-13 : tie.Need-returns-13
+unfolding lengthOf
+returns-13 c =
+    let k = c .before .before .before .before .before .before .before .before .before .before .before .before .args .kind in
+    rw (ne-eqb k 1 (λ e. omega arith), ne-eqb k 2 (λ e. omega arith), ne-eqb k 3 (λ e. omega arith), ne-eqb k 4 (λ e. omega arith), ne-eqb k 5 (λ e. omega arith), ne-eqb k 6 (λ e. omega arith), ne-eqb k 7 (λ e. omega arith), ne-eqb k 8 (λ e. omega arith), ne-eqb k 9 (λ e. omega arith), ne-eqb k 10 (λ e. omega arith), ne-eqb k 11 (λ e. omega arith))
 
 pub length-of-spec : {M : Type 1} → statement M
 length-of-spec =
-    tie.close (tie.spec returns returns-2 returns-3 returns-4 returns-5 returns-6 returns-7 returns-8 returns-9 returns-10 returns-11 returns-12)
+    tie.close (tie.spec returns returns-2 returns-3 returns-4 returns-5 returns-6 returns-7 returns-8 returns-9 returns-10 returns-11 returns-12 returns-13)
