@@ -22,6 +22,7 @@ use Rattle.rules.proofs.Reading.{reads-back}
 use Rattle.rules.proofs.Refusing.{refusal-own}
 use Rattle.rules.proofs.Showing.{showing-shown}
 use Rattle.rules.proofs.Tests.{and-in}
+use Rattle.rules.proofs.Traffic.{step-above}
 use Rattle.demands.proofs.Account.{Account, ComplexAccount, advance, onto}
 use Rattle.demands.proofs.Fresh.{fresh-follows, fresh-invariant, start-account}
 use Rattle.demands.proofs.Induction.{all-keep}
@@ -37,7 +38,7 @@ kept v n few s bs =
     let k = sound-out v (s .venue) in
     record {
       venue = sound-in _ (step-invariant v k n (omega arith) (s .next) bs);
-      next = step-follows v n bs (some-number n v (k .edited .len) (s .next)) (s .next);
+      next = (let some = some-number n v (k .edited .len) (s .next) in step-follows v n bs some (s .next) (step-above v n bs some (k .busy) (s .next)));
     }
 
 pub fresh-sound : FreshSound
@@ -54,7 +55,7 @@ step-account s bs a few =
     let t = step-takes (s .venue) (i .fine) (dated-steps (s .venue) (i .ranged .dated)) (i .stand) (i .tidy) n bs in
     let y = told (s .venue) (i .ranged) n bs in
     advance bs a (t .takes) (t .ends) (step (s .venue) n bs .refused) (y .mask) (y .count) (y .effects) (y .is) (y .quiet) (t .brings)
-    (step-invariant (s .venue) i n (omega arith) (a .dated) bs) few (step-follows (s .venue) n bs (omega arith) (a .dated))
+    (step-invariant (s .venue) i n (omega arith) (a .dated) bs) few (step-follows (s .venue) n bs (omega arith) (a .dated) (step-above (s .venue) n bs (omega arith) (i .busy) (a .dated)))
 
 all-account : (o : Opening) (gs : List Given) → Account (calls (opening o) gs)
 all-account = all-keep Account (λ s a. a .invariant .ranged) start-account step-account

@@ -7,24 +7,24 @@ use lib.Dec.{eqb}
 use lib.IntN.{negℤ}
 use Rattle.rules.specs.declared.Complex.{Complex}
 use Rattle.rules.specs.declared.Message.{Message}
-use Rattle.rules.specs.declared.Message.the-variants.{Order, TwoLeg, Cancel, Away, Status, Sweep, Increment, Percent}
+use Rattle.rules.specs.declared.Message.the-variants.{Order, TwoLeg, Cancel, Away, Status, Sweep, Increment, Percent, LimitedSweep}
 use Rattle.rules.specs.declared.Venue.{Venue}
 use Rattle.rules.specs.Base.{Choice, nobody, picked, if_then_else_}
 use Rattle.rules.specs.Words.{complexAt, freshVenue}
 use Rattle.rules.specs.Messages.{messageOf}
 use Rattle.rules.specs.Records.{ForAll, Report, FourBytes}
 use Rattle.rules.specs.Effects.{Effect, Turn, ended, turned, nothing, report, _⟫_, repeat}
-use Rattle.rules.specs.Complex.{anyClosed, cross, crossTurn, each, nextAbove, work, complex, sweep}
+use Rattle.rules.specs.Complex.{anyClosed, cross, crossTurn, each, eachOf, nextAbove, work, complex, limitedSweep, sweep}
 use Rattle.rules.specs.Generation.{generate}
 use Rattle.rules.specs.Places.{closeGaps}
 use Rattle.rules.specs.Refusals.{refusal}
 use Rattle.rules.specs.Step.{accept, answered, perform, step}
 use Rattle.demands.specs.Demand.{Seen, start}
 use Rattle.demands.specs.Truth.{leaves, venueAfter}
-use Rattle.demands.specs.Crosses.{CrossesRespect, Deal, Dealt, Moment, NoCross, Respects, crossings, deal, inAll, inEach, inMessage, inStep, inWork, none, other}
+use Rattle.demands.specs.Crosses.{CrossesRespect, Deal, Dealt, Moment, NoCross, Respects, crossings, deal, inAll, inEach, inEachOf, inMessage, inStep, inWork, none, other}
 use Rattle.rules.proofs.Crossing as law
 use Rattle.rules.proofs.Crossing.{cross-respects, respects}
-use Rattle.rules.proofs.Quiet.{All, Others, all-cancel, all-each, all-generate, all-legging, all-nothing, all-order, all-removeOf, all-settle, all-touch}
+use Rattle.rules.proofs.Quiet.{All, Others, all-cancel, all-each, all-eachOf, all-generate, all-legging, all-nothing, all-order, all-removeOf, all-settle, all-touch}
 use Rattle.demands.proofs.Account.{onto}
 use Rattle.demands.proofs.Induction.{all-keep}
 use Rattle.demands.proofs.Soundness.{sound-out}
@@ -33,7 +33,7 @@ use Rattle.demands.proofs.Truth.{Told, more-told, start-told}
 -- Records joined ------------------------------------------------------------------------------
 
 no-cross : Others NoCross
-no-cross = record { trades = λ _ _ _ _ _ _. tt; pairs = λ _ _ _. tt; made = λ _ _ _ _ _ _. tt; removals = λ _ _ _ _. tt; cancels = λ _ _. tt }
+no-cross = record { trades = λ _ _ _ _ _ _. tt; pairs = λ _ _ _. tt; removals = λ _ _ _ _. tt; cancels = λ _ _. tt }
 
 dealt-append : {xs ys : List Moment} {rs qs : List Report} → Dealt xs rs → Dealt ys qs → Dealt (xs ++ ys) (rs ++ qs)
 dealt-append none h = h
@@ -113,17 +113,28 @@ does-each (suc fuel) id v = go (nextAbove id v) (λ k w. does-each fuel k w)
     go nobody on = idle v
     go (picked i c) on = does-then _ _ (work i v) (each fuel work (c .id)) (does-work i v) (on (c .id) _)
 
+does-eachOf : (places : List ℕ) (v : Venue) → Does (inEachOf places v) (eachOf work places v)
+unfolding inEachOf eachOf
+does-eachOf [] v = idle v
+does-eachOf (i ∷ places) v = does-then _ _ (work i v) (eachOf work places) (does-work i v) (does-eachOf places _)
+
+plain-generate : (number i : ℕ) (v : Venue) → All NoCross (generate number i v)
+plain-generate number i v = all-generate NoCross no-cross (λ _ _ _ _ _ _. tt) number i v
+
 does-perform : (number : ℕ) (m : Message) (v : Venue) → Does (inMessage m v) (perform number m v)
-unfolding inMessage perform complex sweep
+unfolding inMessage perform complex sweep limitedSweep report
 does-perform number (Order o) v = no-deals _ (all-order NoCross no-cross o _)
-does-perform number (TwoLeg c) v = does-plain _ _ _ (does-plain _ _ _ (does-work _ _) (all-settle NoCross no-cross _)) (all-generate NoCross no-cross _ _)
+does-perform number (TwoLeg c) v = does-plain _ _ _ (does-plain _ _ _ (does-work _ _) (all-settle NoCross no-cross _)) (plain-generate number _ _)
 does-perform number (Cancel id) v = no-deals _ (all-cancel NoCross no-cross id v)
 does-perform number (Away s bid offer) v = no-deals _ (all-settle NoCross no-cross _)
 does-perform number (Status s x) v = no-deals _ (all-settle NoCross no-cross _)
 does-perform number Sweep v =
-    does-plain _ _ _ (does-plain _ _ _ (does-each 32 0 v) (all-settle NoCross no-cross _)) (all-each NoCross no-cross generate (all-generate NoCross no-cross) 32 0 _)
+    does-plain _ _ _ (does-plain _ _ _ (does-each 32 0 v) (all-settle NoCross no-cross _)) (all-each NoCross no-cross (generate number) (plain-generate number) 32 0 _)
 does-perform number (Increment s i e) v = no-deals _ (all-settle NoCross no-cross _)
 does-perform number (Percent x e) v = no-deals _ (all-settle NoCross no-cross _)
+does-perform number (LimitedSweep n) v =
+    does-plain _ _ _ (does-plain _ _ _ (does-then [] _ _ _ (other tt none) (does-eachOf _ _)) (all-settle NoCross no-cross _))
+    (all-eachOf NoCross no-cross (generate number) (plain-generate number) _ _)
 
 does-accept : (number : ℕ) (m : Message) (v : Venue) → Does (inMessage m v) (accept number m v)
 unfolding accept

@@ -6,10 +6,11 @@ use Prim.Native.Nat.{suc, zero, ℕ}
 use native.Mathlib.Omega.{arith}
 use lib.ListN.{getD, length, replicate}
 use Rattle.rules.specs.Base.{all, held}
-use Rattle.rules.specs.Words.{freshVenue, isAway, isStatus, leggingAt, noComplex, noEdition, noLegging, noRegular, notListed, placeOf, regularAt, within}
+use Rattle.rules.specs.Words.{freshVenue, isAway, isStatus, leggingAt, noComplex, noEdition, noGenerations, noLegging, noRegular, notListed, placeOf, regularAt, within}
 use Rattle.rules.specs.Prices.{restsAt}
 use Rattle.rules.specs.Places.{arranged, blankComplex, blankEdition, blankRegular}
-use Rattle.rules.specs.Sound.{editionsSound, follows, listedInRange, showsFully}
+use Rattle.rules.specs.Sound.{editionsSound, follows, generationsSound, listedInRange, unfallen, showsFully}
+use Rattle.rules.specs.Generation.{generationsOf}
 use Rattle.rules.specs.Sums.{total}
 use Rattle.demands.specs.Demand.{start}
 use Rattle.rules.proofs.Arranging.{all-at}
@@ -18,6 +19,7 @@ use Rattle.rules.proofs.Generating.{AllStand}
 use Rattle.rules.proofs.Integers.{minus, plus}
 use Rattle.rules.proofs.Owning.{Own, byLegging, byRegular}
 use Rattle.rules.proofs.Settling.{free-stands}
+use Rattle.rules.proofs.Traffic.{Busy}
 use Rattle.rules.proofs.Showing.{Showing}
 use Rattle.rules.proofs.Widths.{Ranged, no-cx, no-lg}
 use Rattle.demands.proofs.Account.{Account}
@@ -83,6 +85,10 @@ fresh-edited : Edited freshVenue
 unfolding freshVenue editionsSound arranged all blankEdition
 fresh-edited = record { len = refl; rise = refl }
 
+fresh-busy : Busy freshVenue
+unfolding freshVenue generationsOf generationsSound unfallen all
+fresh-busy = record { eight = refl; twenty = λ s. rw (getD-rep 8 s noGenerations) refl; rise = refl }
+
 pub fresh-follows : follows 1 freshVenue ≡ true
 unfolding freshVenue follows all
 fresh-follows = refl
@@ -108,6 +114,8 @@ fresh-invariant = record {
   showing = fresh-showing;
   uncrossed = λ s a b s8 p q. absurd (fresh-own p);
   edited = fresh-edited;
+  busy = fresh-busy;
+  reached = unfold freshVenue in (omega arith);
   priced = λ i h. absurd (fresh-reg i h);
 }
 

@@ -2,6 +2,7 @@
 -- `Good`: shapes, ranges and ids. `Homes`: each legging order has a resting parent whose leg it is and which has as much open.
 -- `Tidy`: no gap, and free places are all zero; `Showing`: each order shows what it should; these hold between messages.
 -- `Uncrossed`: no series is locked or crossed. `Edited`: editions rise in both numbers. `Priced`: resting prices are on the increments in force.
+-- `Busy`: the generations counted.
 use mathlib.Core.Path.{_∙_, _≡_, ap, refl, sym}
 use mathlib.Core.Bool.{Bool, false, false≢true, true, true≢false}
 use mathlib.Core.Logic.{_≢_, _⊎_, inl, inr}
@@ -40,6 +41,7 @@ use Rattle.rules.proofs.Removing.{length-stayers, stay-of}
 use Rattle.rules.proofs.Settling.{Kept, stayers-kept}
 use Rattle.rules.proofs.Showing.{Showing}
 use Rattle.rules.proofs.Tests.{and-l, and-r, held-pos, pos-held}
+use Rattle.rules.proofs.Traffic.{Busy}
 use Rattle.rules.proofs.Widths.{Ranged}
 
 -- a complex order in range
@@ -267,3 +269,5 @@ pub record Invariant (v : Venue) : Type 0 where
   pub uncrossed : Uncrossed v
   pub edited : Edited v
   pub priced : Priced v
+  pub busy : Busy v
+  pub reached : v .reached ≤ v .last

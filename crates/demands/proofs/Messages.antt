@@ -10,7 +10,7 @@ use borrow.Author.Tests.{leb-false, not-false, not-true}
 use Rattle.rules.specs.declared.Cause.the-variants.{Withdrawn}
 use Rattle.rules.specs.declared.Complex.{Complex}
 use Rattle.rules.specs.declared.Message.{Message}
-use Rattle.rules.specs.declared.Message.the-variants.{Away, Cancel, Increment, Order, Percent, Status, Sweep, TwoLeg}
+use Rattle.rules.specs.declared.Message.the-variants.{Away, Cancel, Increment, LimitedSweep, Order, Percent, Status, Sweep, TwoLeg}
 use Rattle.rules.specs.declared.Regular.{Regular}
 use Rattle.rules.specs.declared.Venue.{Venue}
 use Rattle.rules.specs.Base.{held}
@@ -31,7 +31,7 @@ use Rattle.rules.proofs.AllSettled.{settle-all, settled}
 use Rattle.rules.proofs.Answering.{told}
 use Rattle.rules.proofs.Calling.{left, step-by}
 use Rattle.rules.proofs.Cases.{if-by}
-use Rattle.rules.proofs.Dating.{step-priced, step-rises, steps-settled, steps-work}
+use Rattle.rules.proofs.Dating.{some-number, step-priced, step-rises, steps-settled, steps-work}
 use Rattle.rules.proofs.Editions.{Stepped, dated-steps, steps-same}
 use Rattle.rules.proofs.Filling.{cx, held-fits, held-fitsC, reg}
 use Rattle.rules.proofs.Finding.{where-passes}
@@ -41,6 +41,7 @@ use Rattle.rules.proofs.Moving.{moves-cancelComplex, moves-cancelRegular}
 use Rattle.rules.proofs.Refusing.{Passed, accepted, wellFormed}
 use Rattle.rules.proofs.Showing.{step-showing}
 use Rattle.rules.proofs.Shapes.{Sized, step-sized}
+use Rattle.rules.proofs.Traffic.{step-busy, step-reached}
 use Rattle.rules.proofs.Tests.{and-l, or-r}
 use Rattle.demands.proofs.Account.{Takes}
 use Rattle.demands.proofs.Admitting.{Admitted, Joins, JoinsC, NewComplex, NewOrder, admitted-none, complex-admitted, complex-new, order-admitted, order-new, order-ready, withComplexOrder, withOrder}
@@ -48,7 +49,7 @@ use Rattle.demands.proofs.Carrying.{Carries, carries-then, fine-after, 
 use Rattle.demands.proofs.Closed.{Ends, ends-closed, ends-here}
 use Rattle.demands.proofs.Entering.{enter-carries}
 use Rattle.demands.proofs.Homes.{Edited, Fine, Invariant, Tidy, Uncrossed, after-complex, after-regular, good-kept, homes-fill, homes-same}
-use Rattle.demands.proofs.Making.{Stood, generate-stood, stood-then, sweep-stood}
+use Rattle.demands.proofs.Making.{Stood, generate-stood, limited-stood, stood-then, sweep-stood}
 use Rattle.demands.proofs.Soundness.{range-of}
 use Rattle.demands.proofs.Uncrossed.{uncrossed-closed, uncrossed-perform}
 
@@ -82,6 +83,7 @@ kind (Status s x) = 5
 kind Sweep = 6
 kind (Increment s i e) = 7
 kind (Percent x e) = 8
+kind (LimitedSweep n) = 11
 
 no-order : (m : Message) → 2 < kind m → NoOrder (m ∷ [])
 unfolding kind
@@ -215,7 +217,7 @@ module _ (number : ℕ) (v : Venue) (f : Fine v) (z : Stepped v) (st : AllStand 
     complex-stood =
         let f₀ = admittedC .fine in
         let k = end-settled (work j u) f₀ (work-carries j (joinsC .there) u f₀) in
-        stood-then _ _ (k .carries) (generate-stood j (joinsC .there) _ (fine-after f₀ (k .carries)) (steps-settled (work j u) (steps-work j u (steps-same v u refl z))) (k .stand))
+        stood-then _ _ (k .carries) (generate-stood number j (joinsC .there) _ (fine-after f₀ (k .carries)) (steps-settled (work j u) (steps-work j u (steps-same v u refl z))) (k .stand))
 
     complex-takes : Takes v (perform number (TwoLeg c) v .reports) (perform number (TwoLeg c) v .venue) (TwoLeg c ∷ [])
     complex-takes = record {
@@ -236,9 +238,10 @@ module _ (number : ℕ) (v : Venue) (f : Fine v) (z : Stepped v) (st : AllStand 
   perform-takes (Cancel id) p = takes-stood (no-order (Cancel id) (omega arith)) f (cancel-stood id v f (not-false _ (p .known)))
   perform-takes (Away s b o) p = takes-series v (setAway s b o v) (no-order (Away s b o) (omega arith)) refl refl refl refl f
   perform-takes (Status s x) p = takes-series v (setStatus s x v) (no-order (Status s x) (omega arith)) refl refl refl refl f
-  perform-takes Sweep p = takes-stood (no-order Sweep (omega arith)) f (sweep-stood v f z)
+  perform-takes Sweep p = takes-stood (no-order Sweep (omega arith)) f (sweep-stood number v f z)
   perform-takes (Increment s i e) p = takes-series v (setFigure number s i e v) (no-order (Increment s i e) (omega arith)) refl refl refl refl f
   perform-takes (Percent x e) p = takes-series v (setFigure number percentage x e v) (no-order (Percent x e) (omega arith)) refl refl refl refl f
+  perform-takes (LimitedSweep n) p = takes-stood (no-order (LimitedSweep n) (omega arith)) f (limited-stood number n v f z)
 
 -- A step --------------------------------------------------------------------------------------
 
@@ -303,8 +306,8 @@ step-uncrossed v k n bs =
 step-edited : (v : Venue) → Edited v → (n : ℕ) → n ≤ 4294967295 → follows n v ≡ true → (bs : List ℕ) → Edited (step v n bs .effect .venue)
 step-edited v k n few next bs = record { len = step-sized {e = 32} v n bs (sizes v (k .len)) .editions; rise = step-rises v n bs (k .len) few next (k .rise) }
   where
-    sizes : (w : Venue) → length (w .editions) ≡ 32 → Sized (length (w .regular)) (length (w .complex)) (length (w .legging)) (length (w .series)) 32 w
-    sizes w e = record { regular = refl; complex = refl; legging = refl; series = refl; editions = e }
+    sizes : (w : Venue) → length (w .editions) ≡ 32 → Sized (length (w .regular)) (length (w .complex)) (length (w .legging)) (length (w .series)) 32 (length (w .generations)) w
+    sizes w e = record { regular = refl; complex = refl; legging = refl; series = refl; editions = e; generations = refl }
 
 pub step-invariant : (v : Venue) → Invariant v → (n : ℕ) → n ≤ 4294967295 → follows n v ≡ true → (bs : List ℕ) → Invariant (step v n bs .effect .venue)
 step-invariant v k n few next bs =
@@ -318,4 +321,6 @@ step-invariant v k n few next bs =
       uncrossed = step-uncrossed v k n bs;
       edited = step-edited v (k .edited) n few next bs;
       priced = step-priced v n bs (k .edited .len) (k .ranged) (k .priced);
+      busy = step-busy v n bs (some-number n v (k .edited .len) next) few (k .busy) next;
+      reached = step-reached v n bs (k .fine .good .xlast) (k .reached);
     }

@@ -3,7 +3,7 @@
 use mathlib.Core.Path.{_∙_, _≡_, ap, refl, subst}
 use mathlib.Core.Bool.{Bool, _&&_, false, not, true}
 use mathlib.Core.Logic.{_≢_}
-use mathlib.Core.List.{List, []}
+use mathlib.Core.List.{List, [], _∷_}
 use Prim.Native.Nat.{_+_, _-_, _<_, _≤_, suc, zero, ℕ}
 use native.Mathlib.Omega.{arith}
 use lib.Dec.{eqb}
@@ -16,14 +16,14 @@ use Rattle.rules.specs.declared.Cause.the-variants.{Executed}
 use Rattle.rules.specs.declared.Complex.{Complex}
 use Rattle.rules.specs.declared.Legging.{Legging}
 use Rattle.rules.specs.declared.Message.{Message}
-use Rattle.rules.specs.declared.Message.the-variants.{Away, Cancel, Increment, Order, Percent, Status, Sweep, TwoLeg}
+use Rattle.rules.specs.declared.Message.the-variants.{Away, Cancel, Increment, LimitedSweep, Order, Percent, Status, Sweep, TwoLeg}
 use Rattle.rules.specs.declared.Regular.{Regular}
 use Rattle.rules.specs.declared.Venue.{Venue}
 use Rattle.rules.specs.declared.Verdict.{Verdict}
 use Rattle.rules.specs.Base.{held, if_then_else_}
-use Rattle.rules.specs.Words.{complexAt, noRegular, regularAt, withComplex, withLast, withLegging, withRegular}
+use Rattle.rules.specs.Words.{complexAt, noRegular, regularAt, withComplex, withLast, withLegging, withReached, withRegular}
 use Rattle.rules.specs.Messages.{messageOf}
-use Rattle.rules.specs.Records.{Report, cancelled, crossed, generated, pair, trade}
+use Rattle.rules.specs.Records.{Report, cancelled, crossed, generated, looked, pair, trade}
 use Rattle.rules.specs.Effects.{Effect, Turn, _⟫_, ended, nothing, repeat, report, turned}
 use Rattle.rules.specs.Prices.{shown}
 use Rattle.rules.specs.Removal.{remove, removeOf}
@@ -31,7 +31,7 @@ use Rattle.rules.specs.Standing.{settle}
 use Rattle.rules.specs.Trading.{fillComplex, fillRegular, freeRegular, lessRegular, pairOff, putComplex, putRegular, take, tradeWith}
 use Rattle.rules.specs.Order.{enterRegular, hit, meet, meetTurn, order}
 use Rattle.rules.specs.Generation.{generate, generateLeg, make, makes}
-use Rattle.rules.specs.Complex.{anyClosed, cancel, cancelComplex, cancelRegular, complex, cross, crossTurn, each, legIn, legInTurn, legsIn, restsRegular, sweep, touch, touches, unitsIn, work}
+use Rattle.rules.specs.Complex.{anyClosed, cancel, cancelComplex, cancelRegular, complex, cross, crossTurn, each, eachOf, legIn, legInTurn, legsIn, limitedSweep, restsRegular, sweep, touch, touches, unitsIn, work}
 use Rattle.rules.specs.Refusals.{full, idTooLow, refusal}
 use Rattle.rules.specs.Step.{accept, answered, perform, step}
 use Rattle.rules.specs.Sums.{openIn, total}
@@ -220,6 +220,18 @@ module _ (x y : ℕ) where
   takes-each zero id v = unfold each in (takes-nothing v)
   takes-each (suc fuel) id v = each-by (Takes v) fuel work id v (λ _. takes-nothing v) (λ i c _ _. takes-then v (work i v) _ (works i v) (takes-each fuel (c .id) _))
 
+  takes-eachOf : (places : List ℕ) (v : Venue) → Takes v (eachOf work places v)
+  unfolding eachOf
+  takes-eachOf [] v = takes-nothing v
+  takes-eachOf (i ∷ places) v = takes-then v (work i v) _ (works i v) (takes-eachOf places _)
+
+  says-looked : (n r : ℕ) (v : Venue) → Takes v (report (looked n) (withReached v r))
+  unfolding report total takenFrom withReached
+  says-looked n r v = silent v (report (looked n) (withReached v r)) refl refl
+
+  takes-looked : (n r : ℕ) (places : List ℕ) (v : Venue) → took ((report (looked n) (withReached v r) ⟫ eachOf work places) .reports) ≤ shows v
+  takes-looked n r places v = let a = takes-then v (report (looked n) (withReached v r)) (eachOf work places) (says-looked n r v) (takes-eachOf places _) in omega arith
+
   -- From settling on ----------------------------------------------------------------------------
 
   abbrev None : Effect → Type 0
@@ -249,17 +261,23 @@ module _ (x y : ℕ) where
   unfolding report total takenFrom
   none-made id s d p z k v = refl
 
-  none-leg : (c : Complex) (s d : ℕ) (v : Venue) → None (generateLeg c s d v)
+  none-leg : (number : ℕ) (c : Complex) (s d : ℕ) (v : Venue) → None (generateLeg number c s d v)
   unfolding generateLeg make
-  none-leg c s d v = if-by None (held (c .quantity) && makes v c s d) (λ _. none-then _ _ (none-remove _ v) (none-made _ _ _ _ _ _ _)) (λ _. none-nothing v)
+  none-leg number c s d v = if-by None (held (c .quantity) && makes number v c s d) (λ _. none-then _ _ (none-remove _ v) (none-made _ _ _ _ _ _ _)) (λ _. none-nothing v)
 
-  none-generate : (i : ℕ) (v : Venue) → None (generate i v)
+  none-generate : (number i : ℕ) (v : Venue) → None (generate number i v)
   unfolding generate
-  none-generate i v = none-then _ _ (none-leg _ _ _ v) (none-leg _ _ _ _)
+  none-generate number i v = none-then _ _ (none-leg number _ _ _ v) (none-leg number _ _ _ _)
 
-  none-each : (fuel id : ℕ) (v : Venue) → None (each fuel generate id v)
-  none-each zero id v = unfold each in (none-nothing v)
-  none-each (suc fuel) id v = each-by None fuel generate id v (λ _. none-nothing v) (λ i c _ _. none-then (generate i v) _ (none-generate i v) (none-each fuel (c .id) _))
+  none-each : (number fuel id : ℕ) (v : Venue) → None (each fuel (generate number) id v)
+  none-each number zero id v = unfold each in (none-nothing v)
+  none-each number (suc fuel) id v =
+      each-by None fuel (generate number) id v (λ _. none-nothing v) (λ i c _ _. none-then (generate number i v) _ (none-generate number i v) (none-each number fuel (c .id) _))
+
+  none-eachOf : (number : ℕ) (places : List ℕ) (v : Venue) → None (eachOf (generate number) places v)
+  unfolding eachOf
+  none-eachOf number [] v = none-nothing v
+  none-eachOf number (i ∷ places) v = none-then (generate number i v) _ (none-generate number i v) (none-eachOf number places _)
 
   -- an effect that takes no more than is shown, and then one that takes nothing
   within : (v : Venue) (e : Effect) (f : Venue → Effect) → took (e .reports) ≤ shows v → None (f (e .venue)) → took ((e ⟫ f) .reports) ≤ shows v
@@ -310,6 +328,7 @@ module _ (x y : ℕ) where
   Arrives Sweep v = Unit {0}
   Arrives (Increment s i e) v = Unit {0}
   Arrives (Percent z e) v = Unit {0}
+  Arrives (LimitedSweep n) v = Unit {0}
 
   put-regular : (i : ℕ) (c : Complex) (v : Venue) → putComplex i c (withLast v (c .id)) .regular ≡ v .regular
   unfolding putComplex withComplex withLast
@@ -322,15 +341,17 @@ module _ (x y : ℕ) where
       omega arith
 
   performed : (number : ℕ) (m : Message) (v : Venue) → Arrives m v → took (perform number m v .reports) ≤ shows v
-  unfolding perform complex sweep
+  unfolding perform complex sweep limitedSweep
   performed number (Order o) v h = unfold withLast freeRegular in (ordered o (withLast v (o .id)) (h .0) (h .1) (h .2))
-  performed number (TwoLeg c) v h = within v _ _ (within v _ _ (worked _ v _ (put-regular _ c v)) (none-settle _)) (none-generate _ _)
+  performed number (TwoLeg c) v h = within v _ _ (within v _ _ (worked _ v _ (put-regular _ c v)) (none-settle _)) (none-generate number _ _)
   performed number (Cancel id) v h = (let a = none-cancel id v in omega arith)
   performed number (Away s b o) v h = settled v _
   performed number (Status s z) v h = settled v _
-  performed number Sweep v h = within v _ _ (within v _ _ (let a = takes-each 32 0 v in omega arith) (none-settle _)) (none-each 32 0 _)
+  performed number Sweep v h = within v _ _ (within v _ _ (let a = takes-each 32 0 v in omega arith) (none-settle _)) (none-each number 32 0 _)
   performed number (Increment s i e) v h = settled v _
   performed number (Percent z e) v h = settled v _
+  performed number (LimitedSweep n) v h =
+      within v _ _ (within v _ _ (takes-looked _ _ _ v) (none-settle _)) (none-eachOf number _ _)
 
 -- Every message -------------------------------------------------------------------------------
 
@@ -359,6 +380,7 @@ module _ (v : Venue) (s : SoundVenue v) (i : ℕ) (h : held (reg v i .quantity) 
   arrives Sweep p = tt
   arrives (Increment t z e) p = tt
   arrives (Percent z e) p = tt
+  arrives (LimitedSweep n) p = tt
 
   most : (number : ℕ) (m : Message) → Passed v m → took (arriving m) (reg v i .id) (accept number m v .reports) ≤ shown (reg v i)
   unfolding accept nothing _⟫_ total

@@ -20,7 +20,7 @@ use Rattle.rules.specs.Standing.{findComplex, hasLeg, parentOf, stands, verdict
 use Rattle.rules.specs.Complex.{restsComplex}
 use Rattle.rules.specs.Places.{blankComplex, blankEdition, blankLegging, blankRegular, holdsComplex, holdsEdition, holdsRegular}
 use Rattle.rules.specs.Refusals.{complexInRange, onIncrement, regularInRange, twoLegInRange}
-use Rattle.rules.specs.Sound.{apart, complexesSound, editionInRange, editionsSound, idsDistinct, leggingSound, leggingsSound, listedInRange, regularsSound, showsFully, sound}
+use Rattle.rules.specs.Sound.{apart, complexesSound, editionInRange, editionsSound, generationsSound, idsDistinct, leggingSound, leggingsSound, listedInRange, regularsSound, showsFully, sound}
 use Rattle.demands.specs.Kept.{Shaped, SoundVenue}
 use Rattle.rules.proofs.Arranging.{Arranged, all-at, all-in, arranged-in, arranged-out, blank-free, blank-freeC, blank-is}
 use Rattle.rules.proofs.Dating.{edition-free}
@@ -89,6 +89,8 @@ record Asked (v : Venue) : Type 0 where
   complexes : complexesSound v ≡ true
   listed : all listedInRange (v .series) ≡ true
   editions : editionsSound v ≡ true
+  generations : generationsSound v ≡ true
+  reached : leb (v .reached) (v .last) ≡ true
   last : leb (v .last) 4294967295 ≡ true
   ids : idsDistinct v ≡ true
   apart : all (apart v) (0 ∷ 1 ∷ 2 ∷ 3 ∷ 4 ∷ 5 ∷ 6 ∷ 7 ∷ []) ≡ true
@@ -299,6 +301,8 @@ module _ (v : Venue) (sh : Shaped v) (t : Asked v) where
     showing = showing-out;
     uncrossed = apart-out v ranged-out (showing-shown v ranged-out showing-out) apart-at;
     edited = record { len = sh .editions; rise = t .editions };
+    busy = record { eight = sh .generations; twenty = sh .twenty; rise = t .generations };
+    reached = leb-true (v .reached) (v .last) (t .reached);
     priced = λ i h. and-r (regularInRange (reg v i)) _ (and-l _ (showsFully (reg v i)) (and-l _ (leb (reg v i .id) (v .last)) (R .asks i h)));
   }
 
@@ -379,10 +383,11 @@ module _ (v : Venue) (k : Invariant v) where
 
   pub sound-in : SoundVenue v
   sound-in = record {
-    shaped = record { regular = k .fine .good .len1; complex = k .fine .good .len2; legging = k .fine .homes .len; series = k .ranged .eight; editions = k .edited .len };
+    shaped = record { regular = k .fine .good .len1; complex = k .fine .good .len2; legging = k .fine .homes .len; series = k .ranged .eight; editions = k .edited .len; generations = k .busy .eight; twenty = k .busy .twenty };
     is = unfold sound in
-        (and-in _ _ (and-in _ _ (and-in _ _ (and-in _ _ (and-in _ _ (and-in _ _ (and-in _ _ regulars-in complexes-in)
-        (all-in listedInRange notListed (v .series) (k .ranged .listed))) (k .edited .rise))
+        (and-in _ _ (and-in _ _ (and-in _ _ (and-in _ _ (and-in _ _ (and-in _ _ (and-in _ _ (and-in _ _ (and-in _ _ regulars-in complexes-in)
+        (all-in listedInRange notListed (v .series) (k .ranged .listed))) (k .edited .rise)) (k .busy .rise))
+        (le-leb (v .reached) (v .last) (k .reached)))
         (le-leb (v .last) 4294967295 (k .ranged .last))) ids-in) aparts-in)
         (leggings-in v 0 (v .legging) (λ i. rw zero-add (legging-in i))));
   }

@@ -12,7 +12,7 @@ use Rattle.rules.specs.declared.Venue.{Venue}
 use Rattle.rules.specs.Base.{if_then_else_}
 use Rattle.rules.specs.Words.{freshVenue}
 use Rattle.rules.specs.Messages.{messageOf}
-use Rattle.rules.specs.Records.{ForAll, Report, FourBytes, answer, cancelled, crossed, generated, pair, removed, trade}
+use Rattle.rules.specs.Records.{ForAll, Report, FourBytes, answer, cancelled, crossed, generated, looked, pair, removed, trade}
 use Rattle.rules.specs.Effects.{Effect, nothing}
 use Rattle.rules.specs.Refusals.{refusal}
 use Rattle.rules.specs.Step.{accept, answered, step}
@@ -38,6 +38,7 @@ no-answers (generated _ _ _ _ _ _ ∷ rs) h = no-answers rs (h .1)
 no-answers (removed _ _ _ _ ∷ rs) h = no-answers rs (h .1)
 no-answers (crossed _ _ _ _ ∷ rs) h = no-answers rs (h .1)
 no-answers (cancelled _ _ ∷ rs) h = no-answers rs (h .1)
+no-answers (looked _ ∷ rs) h = no-answers rs (h .1)
 
 answers-append : (a b : List Report) → answers (a ++ b) ≡ answers a ++ answers b
 unfolding answers
@@ -49,6 +50,7 @@ answers-append (generated _ _ _ _ _ _ ∷ rs) b = answers-append rs b
 answers-append (removed _ _ _ _ ∷ rs) b = answers-append rs b
 answers-append (crossed _ _ _ _ ∷ rs) b = answers-append rs b
 answers-append (cancelled _ _ ∷ rs) b = answers-append rs b
+answers-append (looked _ ∷ rs) b = answers-append rs b
 
 -- One message ---------------------------------------------------------------------------------
 
@@ -97,6 +99,7 @@ numbers-answers (generated _ _ _ _ _ _ ∷ rs) = numbers-answers rs
 numbers-answers (removed _ _ _ _ ∷ rs) = numbers-answers rs
 numbers-answers (crossed _ _ _ _ ∷ rs) = numbers-answers rs
 numbers-answers (cancelled _ _ ∷ rs) = numbers-answers rs
+numbers-answers (looked _ ∷ rs) = numbers-answers rs
 
 numbers-of : (v : Venue) (n : ℕ) (ms : List (List ℕ)) → numbers (answersOf v n ms) ≡ from (suc n) (length ms)
 unfolding numbers answersOf answerOf from

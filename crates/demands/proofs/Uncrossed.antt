@@ -13,19 +13,19 @@ use borrow.Author.Tests.{leb-false, lt-ltb, ltb-true, not-true}
 use Rattle.rules.specs.declared.Complex.{Complex}
 use Rattle.rules.specs.declared.Legging.{Legging}
 use Rattle.rules.specs.declared.Message.{Message}
-use Rattle.rules.specs.declared.Message.the-variants.{Away, Cancel, Increment, Order, Percent, Status, Sweep, TwoLeg}
+use Rattle.rules.specs.declared.Message.the-variants.{Away, Cancel, Increment, LimitedSweep, Order, Percent, Status, Sweep, TwoLeg}
 use Rattle.rules.specs.declared.Regular.{Regular}
 use Rattle.rules.specs.declared.Venue.{Venue}
 use Rattle.rules.specs.Base.{held}
-use Rattle.rules.specs.Words.{complexAt, leggingAt, noLegging, noRegular, opposite, placeOf, regularAt, withComplex, withEditions, withLast, withLegging, withRegular, withSeries}
+use Rattle.rules.specs.Words.{complexAt, leggingAt, noLegging, noRegular, opposite, placeOf, regularAt, withComplex, withEditions, withGenerations, withLast, withLegging, withReached, withRegular, withSeries}
 use Rattle.rules.specs.Settings.{enterEdition, percentage}
-use Rattle.rules.specs.Effects.{Effect, _⟫_, nothing}
+use Rattle.rules.specs.Effects.{Effect, _⟫_, nothing, report}
 use Rattle.rules.specs.Prices.{bestOwn, reaches, restsAt}
 use Rattle.rules.specs.Standing.{settle}
 use Rattle.rules.specs.Trading.{freeComplex, freeRegular, putComplex, putRegular}
 use Rattle.rules.specs.Order.{enterRegular, meetTurn, order}
-use Rattle.rules.specs.Generation.{generate, generateLeg, legPrice, makes, newLegging, placed, reachesAny}
-use Rattle.rules.specs.Complex.{cancel, complex, sweep, work}
+use Rattle.rules.specs.Generation.{counted, generate, generateLeg, legPrice, makes, newLegging, placed, reachesAny}
+use Rattle.rules.specs.Complex.{cancel, complex, limitedSweep, sweep, work}
 use Rattle.rules.specs.Places.{closeGaps}
 use Rattle.rules.specs.Step.{perform, setAway, setFigure, setStatus}
 use Rattle.rules.specs.Sound.{apart}
@@ -35,13 +35,13 @@ use Rattle.rules.proofs.Cases.{if-by}
 use Rattle.rules.proofs.Ending.{matching-ends, none-reaches}
 use Rattle.rules.proofs.Filling.{Lesser, cx, lesser-refl, reg}
 use Rattle.rules.proofs.Generating.{Makes, after, made, make-venue}
-use Rattle.rules.proofs.Keeping.{keeps-cancel, keeps-each, keeps-matching, keeps-settle, keeps-work}
+use Rattle.rules.proofs.Keeping.{keeps-cancel, keeps-each, keeps-eachOf, keeps-matching, keeps-settle, keeps-work}
 use Rattle.rules.proofs.Owning.{Below, Own, below-lasts, below-refl, best-own, bid-best, byLegging, byRegular, offer-best, own-below, own-closed, own-pos, rests-lesser, still-there}
 use Rattle.rules.proofs.Settling.{Kept}
 use Rattle.rules.proofs.Refusing.{wellFormed}
 use Rattle.rules.proofs.Showing.{Showing, leg-showing, settle-showing, showing-shown}
 use Rattle.rules.proofs.Tests.{and-r, pos-held}
-use Rattle.rules.proofs.Widths.{Ranged, RegFits, complex-fits, last-ranged, order-fits, put-ranged, putC-ranged}
+use Rattle.rules.proofs.Widths.{Ranged, RegFits, complex-fits, last-ranged, order-fits, put-ranged, putC-ranged, reached-ranged}
 use Rattle.rules.proofs.Writing.{writes-leg, writes-meetTurn, writes-repeat, writes-settle, writes-work}
 use Rattle.demands.proofs.Homes.{Uncrossed}
 
@@ -165,7 +165,7 @@ unfolding reachesAny reaches
 inside-sell p q h some = leb-false p q (rw (pos-held q some) at (not-true (held q && leb p q) h))
 
 -- the new legging order's price reaches no own price opposite
-module _ (v : Venue) (c : Complex) (s d : ℕ) (s8 : s < 8) (d2 : d < 2) (u : Uncrossed v) (r : Ranged v) (show : Shown v) (m : Makes v c s d) where
+module _ (v : Venue) (c : Complex) (s d : ℕ) (s8 : s < 8) (d2 : d < 2) (u : Uncrossed v) (r : Ranged v) (show : Shown v) {number : ℕ} (m : Makes number v c s d) where
   abbrev p : ℕ
   p = legPrice v c s d
 
@@ -225,11 +225,15 @@ module _ (v : Venue) (c : Complex) (s d : ℕ) (s8 : s < 8) (d2 : d < 2) (u : Un
           omega arith
       go (inr x) (inr y) = let e = x .1 in let f = y .1 in absurd (omega arith)
 
-uncrossed-leg : (v : Venue) (c : Complex) (s d : ℕ) → s < 8 → d < 2 → Uncrossed v → Ranged v → Shown v → Uncrossed (generateLeg c s d v .venue)
+uncrossed-counted : (number s : ℕ) (v : Venue) → Uncrossed v → Uncrossed (counted number s v)
+unfolding counted withGenerations
+uncrossed-counted number s v = uncrossed-same {v = v} refl refl
+
+uncrossed-leg : (number : ℕ) (v : Venue) (c : Complex) (s d : ℕ) → s < 8 → d < 2 → Uncrossed v → Ranged v → Shown v → Uncrossed (generateLeg number c s d v .venue)
 unfolding generateLeg nothing
-uncrossed-leg v c s d s8 d2 u r show =
-    if-by (λ (e : Effect). Uncrossed (e .venue)) (held (c .quantity) && makes v c s d)
-    (λ e. subst Uncrossed (sym (make-venue v c s d)) (uncrossed-after v c s d s8 d2 u r show (made (and-r (held (c .quantity)) (makes v c s d) e))))
+uncrossed-leg number v c s d s8 d2 u r show =
+    if-by (λ (e : Effect). Uncrossed (e .venue)) (held (c .quantity) && makes number v c s d)
+    (λ e. subst Uncrossed (sym (make-venue number v c s d)) (uncrossed-counted number s _ (uncrossed-after v c s d s8 d2 u r show (made (and-r (held (c .quantity)) (makes number v c s d) e)))))
     (λ _. u)
 
 -- fields in range, and no series locked or crossed
@@ -242,21 +246,21 @@ record Settled (v : Venue) : Type 0 where
   clean : Clean v
   showing : Showing v
 
-generate-settled : (i : ℕ) (v : Venue) → Settled v → Settled (generate i v .venue)
+generate-settled : (number i : ℕ) (v : Venue) → Settled v → Settled (generate number i v .venue)
 unfolding generate complexAt _⟫_
-generate-settled i v t =
+generate-settled number i v t =
     let k = t .clean in
     let c = cx v i in
     let f = k .ranged .complex i in
-    let a = writes-leg c (c .series1) (c .side1) v f (f .series1) (f .side1) (band-first v c (c .limit)) (k .ranged) .ranged in
-    let x = uncrossed-leg v c (c .series1) (c .side1) (f .series1) (f .side1) (k .uncrossed) (k .ranged) (showing-shown v (k .ranged) (t .showing)) in
-    let z = leg-showing c (c .series1) (c .side1) v (t .showing) in
+    let a = writes-leg number c (c .series1) (c .side1) v f (f .series1) (f .side1) (band-first v c (c .limit)) (k .ranged) .ranged in
+    let x = uncrossed-leg number v c (c .series1) (c .side1) (f .series1) (f .side1) (k .uncrossed) (k .ranged) (showing-shown v (k .ranged) (t .showing)) in
+    let z = leg-showing number c (c .series1) (c .side1) v (t .showing) in
     record {
       clean = record {
-        ranged = writes-leg c (c .series2) (c .side2) _ f (f .series2) (f .side2) (band-second _ c (c .limit)) a .ranged;
-        uncrossed = uncrossed-leg _ c (c .series2) (c .side2) (f .series2) (f .side2) x a (showing-shown _ a z);
+        ranged = writes-leg number c (c .series2) (c .side2) _ f (f .series2) (f .side2) (band-second _ c (c .limit)) a .ranged;
+        uncrossed = uncrossed-leg number _ c (c .series2) (c .side2) (f .series2) (f .side2) x a (showing-shown _ a z);
       };
-      showing = leg-showing c (c .series2) (c .side2) _ z;
+      showing = leg-showing number c (c .series2) (c .side2) _ z;
     }
 
 -- Messages ------------------------------------------------------------------------------------
@@ -288,8 +292,11 @@ clean-settle v k = record { clean = record { ranged = writes-settle v (k .ranged
 clean-work : (i : ℕ) (v : Venue) → Clean v → Clean (work i v .venue)
 clean-work i v k = record { ranged = writes-work i v (k .ranged) .ranged; uncrossed = uncrossed-work i v (k .uncrossed) }
 
+clean-reached : (x : ℕ) (v : Venue) → Clean v → Clean (withReached v x)
+clean-reached x v k = record { ranged = reached-ranged x v (k .ranged); uncrossed = unfold withReached in (uncrossed-same {v = v} refl refl (k .uncrossed)) }
+
 pub uncrossed-perform : (number : ℕ) (m : Message) (v : Venue) → wellFormed m ≡ true → Clean v → Uncrossed (perform number m v .venue)
-unfolding perform order complex putComplex sweep _⟫_
+unfolding perform order complex putComplex sweep limitedSweep report _⟫_
 uncrossed-perform number (Order o) v h k =
     let f = order-fits o (unfold wellFormed in h) in
     uncrossed-settle _ (uncrossed-enter (withLast v (o .id)) o (uncrossed-last (o .id) v (k .uncrossed)) (last-ranged (o .id) v (f .id) (k .ranged)) f)
@@ -299,11 +306,13 @@ uncrossed-perform number (TwoLeg c) v h k =
       ranged = putC-ranged _ c _ f (last-ranged (c .id) v (f .id) (k .ranged));
       uncrossed = uncrossed-putC _ _ (uncrossed-last (c .id) v (k .uncrossed));
     } in
-    generate-settled _ _ (clean-settle _ (clean-work _ _ a)) .clean .uncrossed
+    generate-settled number _ _ (clean-settle _ (clean-work _ _ a)) .clean .uncrossed
 uncrossed-perform number (Cancel id) v h k = uncrossed-cancel id v (k .uncrossed)
 uncrossed-perform number (Away s b o) v h k = uncrossed-settle _ (uncrossed-away s b o v (k .uncrossed))
 uncrossed-perform number (Status s x) v h k = uncrossed-settle _ (uncrossed-status s x v (k .uncrossed))
 uncrossed-perform number Sweep v h k =
-    keeps-each Settled generate generate-settled 32 0 _ (clean-settle _ (keeps-each Clean work clean-work 32 0 v k)) .clean .uncrossed
+    keeps-each Settled (generate number) (generate-settled number) 32 0 _ (clean-settle _ (keeps-each Clean work clean-work 32 0 v k)) .clean .uncrossed
 uncrossed-perform number (Increment s i e) v h k = uncrossed-settle _ (uncrossed-figure number s i e v (k .uncrossed))
 uncrossed-perform number (Percent x e) v h k = uncrossed-settle _ (uncrossed-figure number percentage x e v (k .uncrossed))
+uncrossed-perform number (LimitedSweep n) v h k =
+    keeps-eachOf Settled (generate number) (generate-settled number) _ _ (clean-settle _ (keeps-eachOf Clean work clean-work _ _ (clean-reached _ v k))) .clean .uncrossed

@@ -6,19 +6,20 @@ use mathlib.Core.List.{List, [], _∷_, _++_}
 use Prim.Native.Nat.{ℕ, zero, suc}
 use lib.Dec.{eqb}
 use lib.IntN.{ℤ, negℤ}
+use lib.ListN.{take as firsts}
 use lib.Signed.{leZ}
 use Rattle.rules.specs.declared.Complex.{Complex}
 use Rattle.rules.specs.declared.Message.{Message}
-use Rattle.rules.specs.declared.Message.the-variants.{Order, TwoLeg, Cancel, Away, Status, Sweep, Increment, Percent}
+use Rattle.rules.specs.declared.Message.the-variants.{Order, TwoLeg, Cancel, Away, Status, Sweep, Increment, Percent, LimitedSweep}
 use Rattle.rules.specs.declared.Venue.{Venue}
 use Rattle.rules.specs.Base.{if_then_else_, held, nobody, picked}
-use Rattle.rules.specs.Words.{complexAt, freshVenue, opposite, withLast}
+use Rattle.rules.specs.Words.{complexAt, freshVenue, opposite, withLast, withReached}
 use Rattle.rules.specs.Messages.{messageOf}
-use Rattle.rules.specs.Records.{Report, answer, trade, pair, generated, removed, crossed, cancelled}
+use Rattle.rules.specs.Records.{Report, answer, trade, pair, generated, removed, crossed, cancelled, looked}
 use Rattle.rules.specs.Effects.{ended, turned}
 use Rattle.rules.specs.Prices.{bestRegular, net}
 use Rattle.rules.specs.Trading.{freeComplex, putComplex}
-use Rattle.rules.specs.Complex.{anyClosed, cross, crossTurn, nextAbove, work}
+use Rattle.rules.specs.Complex.{anyClosed, cross, crossTurn, goingRound, idReached, nextAbove, work}
 use Rattle.rules.specs.Refusals.{refusal}
 use Rattle.demands.specs.Demand.{Given, Opening, calls, opening}
 use Rattle.demands.specs.Truth.{venueAfter}
@@ -46,7 +47,12 @@ inEach zero id v = []
 inEach (suc fuel) id v =
     elim (nextAbove id v) [ nobody ↦ [] | picked i c ↦ inWork i v ++ inEach fuel (c .id) (work i v .venue) ]
 
--- those of an accepted message: only a complex order that arrives and a sweep cross
+-- those of `eachOf work`, in a limited sweep
+unfoldable pub inEachOf : (places : List ℕ) → Venue → List Moment
+inEachOf [] v = []
+inEachOf (i ∷ places) v = inWork i v ++ inEachOf places (work i v .venue)
+
+-- those of an accepted message: only a complex order that arrives and sweeps cross
 unfoldable pub inMessage : Message → Venue → List Moment
 inMessage (Order o) v = []
 inMessage (TwoLeg c) v =
@@ -58,6 +64,9 @@ inMessage (Status s x) v = []
 inMessage Sweep v = inEach 32 0 v
 inMessage (Increment s i e) v = []
 inMessage (Percent x e) v = []
+inMessage (LimitedSweep n) v =
+    let places = firsts n (goingRound v) in
+    inEachOf places (withReached v (idReached v places))
 
 -- those of the message at the front of bs
 unfoldable pub inStep : Venue → (message : List ℕ) → List Moment
@@ -95,6 +104,7 @@ NoCross (generated id series side price shown quantity) = Unit {0}
 NoCross (removed id series side cause) = Unit {0}
 NoCross (crossed taker maker n quantity) = ⊥
 NoCross (cancelled id quantity) = Unit {0}
+NoCross (looked count) = Unit {0}
 
 -- record by record: no 70, or the 70 of the next moment
 pub data Dealt : List Moment → List Report → Type 0 where

@@ -8,6 +8,7 @@ use lib.ListN.{length}
 use Rattle.rules.specs.declared.Venue.{Venue}
 use Rattle.rules.specs.Words.{freshVenue}
 use Rattle.rules.specs.Records.{FourBytes}
+use Rattle.rules.specs.Generation.{generationsOf}
 use Rattle.rules.specs.Step.{step}
 use Rattle.rules.specs.Sound.{follows, sound}
 use Rattle.rules.specs.Calls.{one}
@@ -20,12 +21,14 @@ pub record Shaped (v : Venue) : Type 0 where
   pub legging : length (v .legging) ≡ 16
   pub series : length (v .series) ≡ 8
   pub editions : length (v .editions) ≡ 32
+  pub generations : length (v .generations) ≡ 8
+  pub twenty : (s : ℕ) → length (generationsOf v s) ≡ 20
 
 pub record SoundVenue (v : Venue) : Type 0 where
   pub shaped : Shaped v
   pub is : sound v ≡ true
 
--- sound, and the number of the next message is above every kept edition's
+-- sound, and the number of the next message is above every kept edition's and generation's
 pub record SoundAt (number : ℕ) (v : Venue) : Type 0 where
   pub venue : SoundVenue v
   pub next : follows number v ≡ true

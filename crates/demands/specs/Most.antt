@@ -15,11 +15,11 @@ abbrev pub Lengths : Type 0
 Lengths = (r : Report) → length (encode r) ≡ recordLength r
 
 abbrev pub most : ℕ
-most = 10428
+most = 10433
 
--- the answer, and all orders that can rest, each complex one of unequal ratios
+-- the answer, a limited sweep's 72, and all orders that can rest, each complex one of unequal ratios
 abbrev pub Parts : Type 0
-Parts = _≡_ {A = ℕ} most (12 + (perRegular * 128 + perUnequal * 32 + perLegging * 16))
+Parts = _≡_ {A = ℕ} most (12 + 5 + (perRegular * 128 + perUnequal * 32 + perLegging * 16))
 
 -- No message upon a sound venue writes more.
 abbrev pub WritesAtMost : Type 0

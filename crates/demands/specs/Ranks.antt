@@ -12,7 +12,7 @@ use Rattle.rules.specs.declared.Venue.{Venue}
 use Rattle.rules.specs.declared.Verdict.{Verdict}
 use Rattle.rules.specs.declared.Verdict.the-variants.{Fails, Stands}
 use Rattle.rules.specs.Base.{held, if_then_else_}
-use Rattle.rules.specs.Records.{Report, causeNumber, answer, cancelled, crossed, generated, pair, removed, trade}
+use Rattle.rules.specs.Records.{Report, causeNumber, answer, cancelled, crossed, generated, looked, pair, removed, trade}
 use Rattle.rules.specs.Effects.{Effect}
 use Rattle.rules.specs.Prices.{inBand}
 use Rattle.rules.specs.Removal.{remove}
@@ -58,6 +58,7 @@ retold v (pair id n quantity) = pair id n quantity
 retold v (generated id series side price shown quantity) = generated id series side price shown quantity
 retold v (crossed taker maker n quantity) = crossed taker maker n quantity
 retold v (cancelled id quantity) = cancelled id quantity
+retold v (looked count) = looked count
 
 -- The promise ---------------------------------------------------------------------------------
 

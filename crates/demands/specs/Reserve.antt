@@ -5,13 +5,13 @@ use mathlib.Core.List.{List, [], _++_, _∷_}
 use Prim.Native.Nat.{_≤_, ℕ}
 use lib.Dec.{eqb}
 use Rattle.rules.specs.declared.Message.{Message}
-use Rattle.rules.specs.declared.Message.the-variants.{Away, Cancel, Increment, Order, Percent, Status, Sweep, TwoLeg}
+use Rattle.rules.specs.declared.Message.the-variants.{Away, Cancel, Increment, LimitedSweep, Order, Percent, Status, Sweep, TwoLeg}
 use Rattle.rules.specs.declared.Regular.{Regular}
 use Rattle.rules.specs.declared.Venue.{Venue}
 use Rattle.rules.specs.Base.{held, if_then_else_}
 use Rattle.rules.specs.Words.{regularAt}
 use Rattle.rules.specs.Messages.{messageOf}
-use Rattle.rules.specs.Records.{Report, answer, cancelled, crossed, generated, pair, removed, trade}
+use Rattle.rules.specs.Records.{Report, answer, cancelled, crossed, generated, looked, pair, removed, trade}
 use Rattle.rules.specs.Prices.{shown}
 use Rattle.rules.specs.Step.{step}
 use Rattle.rules.specs.Sums.{total}
@@ -28,6 +28,7 @@ tradeOf x y (generated i s d p shown q) = []
 tradeOf x y (removed i s d c) = []
 tradeOf x y (crossed taker maker n q) = []
 tradeOf x y (cancelled i q) = []
+tradeOf x y (looked n) = []
 
 -- and of all of them, in order
 unfoldable pub tradesOf : (taker maker : ℕ) → List Report → List ℕ
@@ -59,6 +60,7 @@ arriving (Status s x) = 0
 arriving Sweep = 0
 arriving (Increment s i e) = 0
 arriving (Percent x e) = 0
+arriving (LimitedSweep n) = 0
 
 -- the contracts of a trade with a maker, whose taker is not the order x: only the regular order that arrives takes, and complex orders
 unfoldable pub takenFrom : (x maker : ℕ) → Report → ℕ
@@ -69,6 +71,7 @@ takenFrom x y (generated i s d p shown q) = 0
 takenFrom x y (removed i s d c) = 0
 takenFrom x y (crossed taker maker n q) = 0
 takenFrom x y (cancelled i q) = 0
+takenFrom x y (looked n) = 0
 
 -- "A complex order takes shown size only": of any message, upon a sound venue, all complex orders together from the order that rests at place i
 abbrev pub ShownOnly : Type 0

@@ -6,7 +6,7 @@ use Prim.Native.Nat.{ℕ, zero, suc}
 use lib.ListN.{length}
 use Rattle.rules.specs.declared.Venue.{Venue}
 use Rattle.rules.specs.Words.{freshVenue}
-use Rattle.rules.specs.Records.{Report, answer, trade, pair, generated, removed, crossed, cancelled}
+use Rattle.rules.specs.Records.{Report, answer, trade, pair, generated, removed, crossed, cancelled, looked}
 use Rattle.rules.specs.Refusals.{refusal}
 use Rattle.rules.specs.Step.{mask, filled, step}
 use Rattle.demands.specs.Demand.{Given, Opening, Seen, calls, opening}
@@ -23,6 +23,7 @@ answers (generated id series side price shown quantity ∷ rs) = answers rs
 answers (removed id series side cause ∷ rs) = answers rs
 answers (crossed taker maker n quantity ∷ rs) = answers rs
 answers (cancelled id quantity ∷ rs) = answers rs
+answers (looked count ∷ rs) = answers rs
 
 -- the venue after a message
 unfoldable pub venueAfter : Venue → (number : ℕ) → (message : List ℕ) → Venue
@@ -69,6 +70,7 @@ numbers (generated id series side price shown quantity ∷ rs) = numbers rs
 numbers (removed id series side cause ∷ rs) = numbers rs
 numbers (crossed taker maker n quantity ∷ rs) = numbers rs
 numbers (cancelled id quantity ∷ rs) = numbers rs
+numbers (looked count ∷ rs) = numbers rs
 
 -- n, and so on, `count` of them
 unfoldable pub from : (n count : ℕ) → List ℕ

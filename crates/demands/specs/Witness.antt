@@ -14,7 +14,7 @@ use Rattle.rules.specs.declared.Venue.{Venue}
 use Rattle.rules.specs.Base.{if_then_else_}
 use Rattle.rules.specs.Words.{leggingAt, noRegular, regularAt}
 use Rattle.rules.specs.Messages.{encodeMessage}
-use Rattle.rules.specs.Records.{Report, answer, cancelled, causeNumber, crossed, generated, pair, removed, trade}
+use Rattle.rules.specs.Records.{Report, answer, cancelled, causeNumber, crossed, generated, looked, pair, removed, trade}
 use Rattle.rules.specs.Standing.{parentOf}
 use Rattle.rules.specs.Trading.{putRegular}
 use Rattle.rules.specs.Order.{hit}
@@ -104,6 +104,7 @@ kindOf (generated i s d p x q) = 67
 kindOf (removed i s d c) = 68
 kindOf (crossed t m n q) = 70
 kindOf (cancelled i q) = 71
+kindOf (looked n) = 72
 
 unfoldable pub ofKind : (kind : ℕ) → List Report → List Report
 ofKind k [] = []
@@ -119,6 +120,7 @@ causes (generated i s d p x q ∷ rs) = causes rs
 causes (removed i s d c ∷ rs) = causeNumber c ∷ causes rs
 causes (crossed t m n q ∷ rs) = causes rs
 causes (cancelled i q ∷ rs) = causes rs
+causes (looked n ∷ rs) = causes rs
 
 -- of complex order 3, by what Demand 3 sums: contracts in its series, paired, crossed, cancelled, still open
 unfoldable pub sums : Seen → List ℕ

@@ -8,6 +8,7 @@ use Rattle.rules.specs.Words.{freshVenue, withSeries}
 use Rattle.rules.specs.Settings.{percentage, enterEdition}
 use Rattle.rules.specs.Messages.{encodeMessage}
 use Rattle.rules.specs.Records.{answer}
+use Rattle.rules.specs.Generation.{counted}
 use Rattle.layer.specs.Layer.{Lane, Layer, Asked, arrival, turning, freshLane, freshLayer, arrive, turn, after, afterAll, laneAt}
 use Rattle.layer.specs.Promises.{toldBy}
 
@@ -39,7 +40,8 @@ session =
 unfoldable pub eight : List Asked
 eight = arrival 1 [] ∷ arrival 1 [] ∷ arrival 1 [] ∷ arrival 1 [] ∷ arrival 1 [] ∷ arrival 1 [] ∷ arrival 1 [] ∷ arrival 1 [] ∷ arrival 1 [] ∷ []
 
--- 9: the venue served last is 4; a message of 33 bytes waits, or a ninth message; a venue is unsound, or its next number not above that of an edition it keeps
+-- 9: the venue served last is 4; a message of 33 bytes waits, or a ninth message; a venue is unsound, or its next number not above that of an edition it keeps,
+-- or of a generation
 unfoldable pub beyond : Layer
 beyond = record { lanes = freshLayer .lanes; last = 4 }
 
@@ -59,6 +61,10 @@ unsound = withThird (record { venue = withSeries freshVenue (replicate 8 (record
 unfoldable pub dated : (done : ℕ) → Layer
 dated n = withThird (record { venue = enterEdition (record { edition = 1; message = 5; figure = percentage; value = 7 }) freshVenue; done = n; wait = [] })
 
+-- a generation of message 5
+unfoldable pub busy : (done : ℕ) → Layer
+busy n = withThird (record { venue = counted 5 0 freshVenue; done = n; wait = [] })
+
 pub record Witness : Type 0 where
   pub numbered : numbers freshLayer session ≡ 0 ∷ 0 ∷ 0 ∷ 0 ∷ 18 ∷ 18 ∷ 17 ∷ 0 ∷ 0 ∷ 1 ∷ 10 ∷ 0 ∷ 1 ∷ 1 ∷ 0 ∷ []
   pub served : servedBy freshLayer session ≡ 0 ∷ 1 ∷ 4 ∷ 2 ∷ 3 ∷ 0 ∷ 4 ∷ []
@@ -67,5 +73,5 @@ pub record Witness : Type 0 where
   pub counts : laneAt (afterAll freshLayer session) 0 .done ≡ 2
   pub full : numbers freshLayer eight ≡ 0 ∷ 0 ∷ 0 ∷ 0 ∷ 0 ∷ 0 ∷ 0 ∷ 0 ∷ 17 ∷ []
   -- 9 before 18, and of a turn with none waiting
-  pub nine : map (λ l. numbers l (arrival 4 [] ∷ turning 100 ∷ [])) (beyond ∷ long ∷ crowded ∷ unsound ∷ dated 4 ∷ []) ≡ replicate 5 (9 ∷ 9 ∷ [])
-  pub follows : numbers (dated 5) (arrival 4 [] ∷ turning 100 ∷ []) ≡ 18 ∷ 0 ∷ []
+  pub nine : map (λ l. numbers l (arrival 4 [] ∷ turning 100 ∷ [])) (beyond ∷ long ∷ crowded ∷ unsound ∷ dated 4 ∷ busy 4 ∷ []) ≡ replicate 6 (9 ∷ 9 ∷ [])
+  pub follows : map (λ l. numbers l (arrival 4 [] ∷ turning 100 ∷ [])) (dated 5 ∷ busy 5 ∷ []) ≡ replicate 2 (18 ∷ 0 ∷ [])
