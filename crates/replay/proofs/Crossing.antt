@@ -2,7 +2,6 @@
 use mathlib.Core.Path.{_∙_, _≡_, ap, refl, subst, sym}
 use mathlib.Core.Bool.{false≢true, true}
 use mathlib.Core.Logic.{_≢_}
-use mathlib.Core.List.{List}
 use Prim.Native.Nat.{ℕ}
 use lib.IntN.{negℤ, negℤ-negℤ, ℤ}
 use lib.Seq.{getD-set-other}
@@ -23,7 +22,7 @@ use Rattle.rules.proofs.Tests.{and-l, and-r}
 use Rattle.demands.specs.Crosses.{Respects}
 use Rattle.demands.proofs.Carrying.{opposite-not}
 use Rattle.demands.proofs.Homes.{Fine}
-use Rattle.replay.specs.Replay.{lessenComplex, next, noted, upon}
+use Rattle.replay.specs.Replay.{State, lessenComplex, next, noted}
 use Rattle.replay.specs.Moments.{BothRespected}
 use Rattle.replay.proofs.Telling.{Any, Tells, TellsTurn, tells-report, tells-then}
 use Rattle.replay.proofs.Placing.{tells-remove}
@@ -35,9 +34,9 @@ unfolding reversed
 reversed-not c ne h =
     false≢true (rw (ne-eqb (c .series1) (c .series2) ne, ne-eqb (c .side1) (opposite (c .side1)) (opposite-not _), eq-eqb (c .series1) (c .series1) refl) at h)
 
-next-cross : (x y : ℕ) (n : ℤ) (q : ℕ) (v w : Venue) → lessenComplex y q (lessenComplex x q v) ≡ w → (ms : List (List ℕ)) → next (crossed x y n q) (upon v ms) ≡ upon w ms
-unfolding next noted upon
-next-cross x y n q v w e ms = ap (λ (u : Venue). upon u ms) e
+next-cross : (x y : ℕ) (n : ℤ) (q : ℕ) (v w : Venue) → lessenComplex y q (lessenComplex x q v) ≡ w → (a : State) → next (crossed x y n q) (noted a v) ≡ noted a w
+unfolding next noted
+next-cross x y n q v w e a = ap (noted a) e
 
 module _ (i j k : ℕ) (v : Venue) (a : Apart v) (ne : j ≢ i) (hi : held (cx v i .quantity) ≡ true) (hj : held (cx v j .quantity) ≡ true) where
   same : cx (fillComplex i k v) j ≡ cx v j

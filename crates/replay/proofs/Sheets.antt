@@ -25,7 +25,7 @@ use Rattle.demands.proofs.Account.{onto}
 use Rattle.demands.proofs.Induction.{all-keep}
 use Rattle.demands.proofs.Soundness.{sound-out}
 use Rattle.demands.proofs.Truth.{Told, more-told, start-told}
-use Rattle.replay.specs.Replay.{Replays, State, begun, entered, finished, next, replay, upon}
+use Rattle.replay.specs.Replay.{Replays, State, begun, entered, finished, next, noted, replay, upon}
 use Rattle.replay.specs.Moments.{AtEach, NoBetterPassedOver}
 use Rattle.replay.proofs.Telling.{each-append, replay-append}
 use Rattle.replay.proofs.Performing.{performs}
@@ -47,28 +47,33 @@ record Follows (x : State) (e : Effect) (ns : List (List ℕ)) : Type 0 where
   messages : replay x (e .reports) .messages ≡ ns
   moments : AtEach x (e .reports)
 
+-- the books v in the message of a number, with the messages ns still to come
+abbrev during : (number : ℕ) → Venue → List (List ℕ) → State
+during number v ns = record { books = v; number = number; messages = ns }
+
 -- the effects of an accepted message, from the books with what it brings
 accepts : (number : ℕ) (v : Venue) (bs : List ℕ) → SoundVenue v → refusal v bs ≡ 0 → (ns : List (List ℕ)) →
-    Follows (upon (entered number (messageOf bs) v) ns) (accept number (messageOf bs) v) ns
-unfolding accept nothing _⟫_
+    Follows (during number (entered number (messageOf bs) v) ns) (accept number (messageOf bs) v) ns
+unfolding accept nothing _⟫_ noted
 accepts number v bs s h ns =
     let m = messageOf bs in
     let e = performs v (sound-out v s) number m (accepted v bs h) in
+    let t = e .tells (during number v ns) refl in
     rw (append-nil (perform number m v .reports)) (record {
-      venue = ap (λ (y : State). finished (y .books)) (e .tells .replays ns) ∙ (unfold finished upon in (ap closeGaps (sym (e .shows))));
-      messages = ap (λ (y : State). y .messages) (e .tells .replays ns) ∙ (unfold upon in refl);
-      moments = e .tells .moments ns;
+      venue = ap (λ (y : State). finished (y .books)) (t .replays) ∙ (unfold finished noted in (ap closeGaps (sym (e .shows))));
+      messages = ap (λ (y : State). y .messages) (t .replays) ∙ (unfold noted in refl);
+      moments = t .moments;
     })
 
 -- those of a refused one
-refuses : (v : Venue) → SoundVenue v → (ns : List (List ℕ)) → Follows (upon v ns) (nothing v) ns
-unfolding nothing replay upon
-refuses v s ns = record { venue = finished-same v s; messages = refl; moments = tt }
+refuses : (number : ℕ) (v : Venue) → SoundVenue v → (ns : List (List ℕ)) → Follows (during number v ns) (nothing v) ns
+unfolding nothing replay
+refuses number v s ns = record { venue = finished-same v s; messages = refl; moments = tt }
 
 -- its 64 begins it
 begins : (x : State) (v : Venue) (bs : List ℕ) (ns : List (List ℕ)) → finished (x .books) ≡ v → x .messages ≡ bs ∷ ns → (number r : ℕ) →
-    begun number r x ≡ upon (if eqb r 0 then entered number (messageOf bs) v else v) ns
-unfolding begun upon
+    begun number r x ≡ during number (if eqb r 0 then entered number (messageOf bs) v else v) ns
+unfolding begun
 begins x v bs ns e q number r = rw (e, q)
 
 follows-answer : (x : State) (number r m c : ℕ) (e : Effect) (ns : List (List ℕ)) → Follows (begun number r x) e ns →
@@ -85,9 +90,9 @@ follows-step x v s e number bs ns q =
     (go (eqb (refusal v bs) 0) refl))
   where
     go : (b : Bool) → eqb (refusal v bs) 0 ≡ b →
-        Follows (upon (if b then entered number (messageOf bs) v else v) ns) (if b then accept number (messageOf bs) v else nothing v) ns
+        Follows (during number (if b then entered number (messageOf bs) v else v) ns) (if b then accept number (messageOf bs) v else nothing v) ns
     go true h = accepts number v bs s (eqb-true (refusal v bs) 0 h) ns
-    go false h = refuses v s ns
+    go false h = refuses number v s ns
 
 -- A list of calls -----------------------------------------------------------------------------
 
@@ -98,7 +103,7 @@ record Sheet (s : Seen) : Type 0 where
 
 start-sheet : Sheet start
 unfolding start
-start-sheet = record { told = start-told; follows = λ ns. unfold nothing in (refuses freshVenue (start-told .sound .venue) ns) }
+start-sheet = record { told = start-told; follows = λ ns. unfold nothing upon in (refuses 0 freshVenue (start-told .sound .venue) ns) }
 
 -- records joined
 follows-then : (x : State) (v : Venue) (a : List Report) (e : Effect) (ms ns : List (List ℕ)) → Follows x (record { venue = v; reports = a }) ms →

@@ -1,4 +1,5 @@
--- `Tells v e`: the records of the effect e upon v tell the venue that it leaves, and each is as claimed at its moment. One effect after another, turns, sweeps.
+-- `Tells v e`: the records of the effect e upon v tell the venue that it leaves, and each is as claimed at its moment, whatever the message; `TellsFrom x v e`,
+-- where the books of the state x are v. One effect after another, turns, sweeps.
 use mathlib.Core.Path.{_∙_, _≡_, ap, refl, subst, sym}
 use mathlib.Core.List.{List, [], _++_, _∷_}
 use Prim.Native.Nat.{_<_, suc, zero, ℕ}
@@ -6,9 +7,10 @@ use lib.ListN.{length}
 use Rattle.rules.specs.declared.Venue.{Venue}
 use Rattle.rules.specs.Records.{Report}
 use Rattle.rules.specs.Effects.{Effect, Turn, _⟫_, ended, nothing, repeat, report, turned}
-use Rattle.rules.specs.Complex.{each}
+use Rattle.rules.specs.Complex.{each, eachOf}
 use Rattle.rules.proofs.Cases.{each-by, repeat-by}
-use Rattle.replay.specs.Replay.{State, next, replay, upon}
+use Rattle.rules.proofs.Traffic.{Each}
+use Rattle.replay.specs.Replay.{State, next, noted, replay}
 use Rattle.replay.specs.Moments.{AtEach, AtItsMoment}
 
 -- Records joined ------------------------------------------------------------------------------
@@ -25,30 +27,39 @@ each-append x (r ∷ a) b h k = (h .0, each-append (next r x) a b (h .1) k)
 
 -- Effects -------------------------------------------------------------------------------------
 
-pub record Tells (v : Venue) (e : Effect) : Type 0 where
-  pub replays : (ms : List (List ℕ)) → replay (upon v ms) (e .reports) ≡ upon (e .venue) ms
-  pub moments : (ms : List (List ℕ)) → AtEach (upon v ms) (e .reports)
+pub record TellsFrom (x : State) (v : Venue) (e : Effect) : Type 0 where
+  pub replays : replay (noted x v) (e .reports) ≡ noted x (e .venue)
+  pub moments : AtEach (noted x v) (e .reports)
+
+abbrev pub Tells : Venue → Effect → Type 0
+Tells v e = (x : State) → TellsFrom x v e
 
 pub tells-nothing : (v : Venue) → Tells v (nothing v)
 unfolding nothing replay
-tells-nothing v = record { replays = λ ms. refl; moments = λ ms. tt }
+tells-nothing v x = record { replays = refl; moments = tt }
 
 -- one record, which leads from v to w
-pub tells-report : (r : Report) (v w : Venue) → ((ms : List (List ℕ)) → next r (upon v ms) ≡ upon w ms) → AtItsMoment v r → Tells v (report r w)
-unfolding report replay upon
-tells-report r v w is at = record { replays = is; moments = λ ms. (at, tt) }
+pub from-report : (x : State) (r : Report) (v w : Venue) → next r (noted x v) ≡ noted x w → AtItsMoment v r → TellsFrom x v (report r w)
+unfolding report replay noted
+from-report x r v w is at = record { replays = is; moments = (at, tt) }
+
+pub tells-report : (r : Report) (v w : Venue) → ((x : State) → next r (noted x v) ≡ noted x w) → AtItsMoment v r → Tells v (report r w)
+tells-report r v w is at x = from-report x r v w (is x) at
+
+pub from-then : (x : State) (v : Venue) (e : Effect) (f : Venue → Effect) → TellsFrom x v e → TellsFrom x (e .venue) (f (e .venue)) → TellsFrom x v (e ⟫ f)
+unfolding _⟫_
+from-then x v e f a b = record {
+  replays =
+      replay-append (noted x v) (e .reports) (f (e .venue) .reports)
+      ∙ ap (λ (y : State). replay y (f (e .venue) .reports)) (a .replays)
+      ∙ b .replays;
+  moments =
+      each-append (noted x v) (e .reports) (f (e .venue) .reports) (a .moments)
+      (subst (λ (y : State). AtEach y (f (e .venue) .reports)) (sym (a .replays)) (b .moments));
+}
 
 pub tells-then : (v : Venue) (e : Effect) (f : Venue → Effect) → Tells v e → Tells (e .venue) (f (e .venue)) → Tells v (e ⟫ f)
-unfolding _⟫_
-tells-then v e f a b = record {
-  replays = λ ms.
-      replay-append (upon v ms) (e .reports) (f (e .venue) .reports)
-      ∙ ap (λ (x : State). replay x (f (e .venue) .reports)) (a .replays ms)
-      ∙ b .replays ms;
-  moments = λ ms.
-      each-append (upon v ms) (e .reports) (f (e .venue) .reports) (a .moments ms)
-      (subst (λ (x : State). AtEach x (f (e .venue) .reports)) (sym (a .replays ms)) (b .moments ms));
-}
+tells-then v e f a b x = from-then x v e f (a x) (b x)
 
 -- Turns and sweeps ----------------------------------------------------------------------------
 
@@ -75,3 +86,11 @@ tells-each P f ok zero id v h = unfold each in (tells-nothing v)
 tells-each P f ok (suc fuel) id v h =
     each-by (Tells v) fuel f id v (λ _. tells-nothing v)
     (λ i c _ a. let k = ok i v (a .fits) h in tells-then v (f i v) _ (k .0) (tells-each P f ok fuel (c .id) _ (k .1)))
+
+-- and for the order at each of these places
+pub tells-eachOf : (P : Venue → Type 0) (f : ℕ → Venue → Effect) →
+    ((i : ℕ) (v : Venue) → i < 32 → P v → Tells v (f i v) × P (f i v .venue)) →
+    (places : List ℕ) → Each (λ i. i < 32) places → (v : Venue) → P v → Tells v (eachOf f places v)
+unfolding eachOf
+tells-eachOf P f ok [] low v h = tells-nothing v
+tells-eachOf P f ok (i ∷ places) low v h = let k = ok i v (low .0) h in tells-then v (f i v) _ (k .0) (tells-eachOf P f ok places (low .1) _ (k .1))

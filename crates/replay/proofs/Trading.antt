@@ -21,7 +21,7 @@ use Rattle.rules.proofs.Filling.{Lesser, cx, fill-complex, fill-fewer, filled-o
 use Rattle.rules.proofs.Sizes.{fill-shown, rests-series, shows-held, shows-rests}
 use Rattle.rules.proofs.Taking.{Chain, no-more, take-chain, traded}
 use Rattle.rules.proofs.Tests.{and-l, and-r, held-pos, pos-held}
-use Rattle.replay.specs.Replay.{lessenComplex, lessenOrder, next, noted, upon}
+use Rattle.replay.specs.Replay.{State, lessenComplex, lessenOrder, next, noted}
 use Rattle.replay.specs.Moments.{NonePassedOver}
 use Rattle.replay.proofs.Telling.{Tells, tells-nothing, tells-report, tells-then}
 use Rattle.replay.proofs.Placing.{tells-remove}
@@ -30,13 +30,13 @@ use Rattle.replay.proofs.Passing.{Best, taking-passes-none}
 
 -- Records -------------------------------------------------------------------------------------
 
-pub next-trade : (s d p q x y : ℕ) (v w : Venue) → lessenOrder y q (lessenOrder x q v) ≡ w → (ms : List (List ℕ)) → next (trade s d p q x y) (upon v ms) ≡ upon w ms
-unfolding next noted upon
-next-trade s d p q x y v w e ms = ap (λ (u : Venue). upon u ms) e
+pub next-trade : (s d p q x y : ℕ) (v w : Venue) → lessenOrder y q (lessenOrder x q v) ≡ w → (a : State) → next (trade s d p q x y) (noted a v) ≡ noted a w
+unfolding next noted
+next-trade s d p q x y v w e a = ap (noted a) e
 
-next-pair : (id : ℕ) (n : ℤ) (q : ℕ) (v w : Venue) → lessenComplex id q v ≡ w → (ms : List (List ℕ)) → next (pair id n q) (upon v ms) ≡ upon w ms
-unfolding next noted upon
-next-pair id n q v w e ms = ap (λ (u : Venue). upon u ms) e
+next-pair : (id : ℕ) (n : ℤ) (q : ℕ) (v w : Venue) → lessenComplex id q v ≡ w → (a : State) → next (pair id n q) (noted a v) ≡ noted a w
+unfolding next noted
+next-pair id n q v w e a = ap (noted a) e
 
 -- Taking at a price ---------------------------------------------------------------------------
 

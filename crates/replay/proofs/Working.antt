@@ -19,7 +19,7 @@ use Rattle.rules.specs.Effects.{Effect, Turn, _⟫_, ended, nothing, repeat, re
 use Rattle.rules.specs.Prices.{bestRegular, better, net, ownPrice, showsAt}
 use Rattle.rules.specs.Removal.{remove, removeOf}
 use Rattle.rules.specs.Trading.{fillComplex, lessComplex, pairOff, take}
-use Rattle.rules.specs.Complex.{anyClosed, crossTurn, each, legIn, legInTurn, legsIn, touch, touches, unitsIn, work}
+use Rattle.rules.specs.Complex.{anyClosed, crossTurn, each, eachOf, legIn, legInTurn, legsIn, touch, touches, unitsIn, work}
 use Rattle.rules.proofs.Cases.{if-by}
 use Rattle.rules.proofs.Ending.{legs-facts}
 use Rattle.rules.proofs.Filling.{Fewer, cx, lg, reg}
@@ -29,9 +29,10 @@ use Rattle.rules.proofs.Settling.{Kept, stayers-kept}
 use Rattle.rules.proofs.Sizes.{ShowsAt, best-is}
 use Rattle.rules.proofs.Taking.{Chain, chain-elsewhere, no-more, take-chain, traded}
 use Rattle.rules.proofs.Tests.{and-l, and-r, free-none}
+use Rattle.rules.proofs.Traffic.{Each}
 use Rattle.demands.proofs.Carrying.{TurnOk, crossTurn-ok, fine-after, legInTurn-ok, repeat-carries, touch-carries, work-carries}
 use Rattle.demands.proofs.Homes.{Fine}
-use Rattle.replay.proofs.Telling.{Any, Tells, TellsTurn, tells-each, tells-nothing, tells-repeat, tells-then}
+use Rattle.replay.proofs.Telling.{Any, Tells, TellsTurn, tells-each, tells-eachOf, tells-nothing, tells-repeat, tells-then}
 use Rattle.replay.proofs.Placing.{tells-remove}
 use Rattle.replay.proofs.Lessening.{Apart, apart-lasts, good-apart}
 use Rattle.replay.proofs.Passing.{Best, Positive, best-price, none-better, positive-kept}
@@ -220,11 +221,13 @@ record Swept (v : Venue) : Type 0 where
   fine : Fine v
   priced : Positive v
 
+one-order : (i : ℕ) (w : Venue) → i < 32 → Swept w → Tells w (work i w) × Swept (work i w .venue)
+one-order i w i32 s =
+    let k = work-carries i i32 w (s .fine) in
+    (tells-work i i32 w (s .fine) (s .priced), record { fine = fine-after (s .fine) k; priced = positive-kept w (work i w .venue) (k .moves .regular) (s .priced) })
+
 pub tells-sweep : (fuel id : ℕ) (v : Venue) → Fine v → Positive v → Tells v (each fuel work id v)
-tells-sweep fuel id v f some = tells-each Swept work next-order fuel id v (record { fine = f; priced = some })
-  where
-    next-order : (i : ℕ) (w : Venue) → i < length (w .complex) → Swept w → Tells w (work i w) × Swept (work i w .venue)
-    next-order i w fits s =
-        let i32 : i < 32 = (let l = s .fine .good .len2 in omega arith) in
-        let k = work-carries i i32 w (s .fine) in
-        (tells-work i i32 w (s .fine) (s .priced), record { fine = fine-after (s .fine) k; priced = positive-kept w (work i w .venue) (k .moves .regular) (s .priced) })
+tells-sweep fuel id v f some = tells-each Swept work (λ i w fits s. one-order i w (let l = s .fine .good .len2 in omega arith) s) fuel id v (record { fine = f; priced = some })
+
+pub tells-limited : (places : List ℕ) → Each (λ i. i < 32) places → (v : Venue) → Fine v → Positive v → Tells v (eachOf work places v)
+tells-limited places low v f some = tells-eachOf Swept work one-order places low v (record { fine = f; priced = some })

@@ -9,7 +9,7 @@ use Prim.Native.Nat.{ℕ}
 use lib.IntN.{ℤ, negℤ}
 use Rattle.rules.specs.declared.Venue.{Venue}
 use Rattle.rules.specs.Words.{complexAt, freshVenue, isComplexOf, isRegularOf, leggingAt, opposite, regularAt}
-use Rattle.rules.specs.Records.{Report, answer, cancelled, crossed, generated, pair, removed, trade}
+use Rattle.rules.specs.Records.{Report, answer, cancelled, crossed, generated, looked, pair, removed, trade}
 use Rattle.rules.specs.Prices.{better, ownPrice, restsAt, showsAt}
 use Rattle.rules.specs.Step.{step}
 use Rattle.demands.specs.Crosses.{Respects}
@@ -51,6 +51,7 @@ AtItsMoment v (generated id series side price shown quantity) = Unit {0}
 AtItsMoment v (removed id series side cause) = Unit {0}
 AtItsMoment v (crossed taker maker n quantity) = BothRespected v taker maker n
 AtItsMoment v (cancelled id quantity) = Unit {0}
+AtItsMoment v (looked count) = Unit {0}
 
 -- of each record in turn
 abbrev pub AtEach : State → List Report → Type 0

@@ -1,15 +1,17 @@
--- The claims are not empty: a session with a legging order hit while a regular order rests behind it, a reserve taken while a worse price shows, and a cross
--- whose parties have prices at both legs. Given by computation, each with the books at its moment.
+-- The claims are not empty: a session with a legging order hit while a regular order rests behind it, a reserve taken while a worse price shows, a cross whose
+-- parties have prices at both legs, and a limited sweep that goes round and generates. Given by computation, each with the books at its moment.
 use mathlib.Core.Path.{_≡_}
-use mathlib.Core.List.{List, [], _∷_, map}
+use mathlib.Core.List.{List, [], _++_, _∷_, map}
 use Prim.Native.Nat.{ℕ}
 use lib.IntN.{negsuc, pos}
-use lib.ListN.{getD, take}
+use lib.ListN.{getD, replicate, take}
 use Rattle.rules.specs.declared.Message.{Message}
+use Rattle.rules.specs.declared.Message.the-variants.{Cancel, LimitedSweep}
 use Rattle.rules.specs.declared.Venue.{Venue}
 use Rattle.rules.specs.Words.{buy, complexAt, freshVenue, leggingAt, regularAt, sell}
-use Rattle.rules.specs.Records.{Report, cancelled, crossed, trade}
+use Rattle.rules.specs.Records.{Report, cancelled, crossed, generated, looked, trade}
 use Rattle.rules.specs.Prices.{bestRegular}
+use Rattle.rules.specs.Generation.{generationsOf}
 use Rattle.demands.specs.Demand.{Seen, byRun, calls, opening}
 use Rattle.demands.specs.Witness.{both, bytesOf, order, reserved}
 use Rattle.replay.specs.Replay.{replay, upon}
@@ -24,6 +26,8 @@ session =
     ∷ reserved 6 7 1 100 10 3 ∷ order 7 7 1 110 1 ∷ order 8 7 0 110 8
     -- bids in both series, and two complex orders that cross between them and the offers
     ∷ order 9 0 0 100 1 ∷ order 10 1 0 50 1 ∷ both 11 0 1 (pos 190) 2 ∷ both 12 1 1 (negsuc 189) 2
+    -- the first looks at orders 13 and 14; the second goes round to 13, whose legging orders those of 14 had replaced
+    ∷ both 13 0 1 (pos 205) 1 ∷ both 14 0 1 (pos 206) 1 ∷ LimitedSweep 2 ∷ Cancel 14 ∷ LimitedSweep 2
     ∷ []
 
 unfoldable pub seen : Seen
@@ -55,3 +59,11 @@ pub record Witness : Type 0 where
   pub cross : recordAt 24 ≡ crossed 12 11 (negsuc 189) 2
   pub crossBids : map (λ s. bestRegular (before 24) s buy) (0 ∷ 1 ∷ []) ≡ 100 ∷ 50 ∷ []
   pub crossOffers : map (λ s. bestRegular (before 24) s sell) (0 ∷ 1 ∷ []) ≡ 130 ∷ 90 ∷ []
+  -- a limited sweep: the lesser of 2 and the one that rests, from the id reached before to the one that is reached now
+  pub looks : recordAt 42 ≡ looked 1
+  pub looksFrom : before 42 .reached ≡ 14
+  pub looksAt : before 43 .reached ≡ 13
+  -- its first 67, of message 17; before it four of series 0 counted, of messages 3, 11, 13 and 14
+  pub makes : recordAt 43 ≡ generated 13 0 0 115 115 1
+  pub madeBefore : generationsOf (before 43) 0 ≡ replicate 16 0 ++ (3 ∷ 11 ∷ 13 ∷ 14 ∷ [])
+  pub madeAfter : generationsOf (before 44) 0 ≡ replicate 15 0 ++ (3 ∷ 11 ∷ 13 ∷ 14 ∷ 17 ∷ [])
