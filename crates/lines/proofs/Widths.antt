@@ -10,7 +10,7 @@ use lib.IntN.{ℤ, pos, negsuc}
 use lib.ListN.{length, length-append}
 use borrow.Author.Tests.{ltb-true, ltb-false}
 use Rattle.rules.specs.Lengths.{recordLength}
-use Rattle.rules.specs.Records.{Fits, FourSigned, Report, answer, trade, pair, generated, removed, crossed, cancelled, causeNumber, encode, encodeAll}
+use Rattle.rules.specs.Records.{Fits, FourSigned, Report, answer, trade, pair, generated, removed, crossed, cancelled, looked, causeNumber, encode, encodeAll}
 use Rattle.rules.proofs.Reading.{cause-small}
 use Rattle.rules.proofs.Worth.{lengths}
 use Rattle.lines.specs.Lines.{decimal, line, lineOf, signed, signedWord, textOf, word, words}
@@ -102,6 +102,10 @@ line-most (cancelled id quantity) f =
     let k = decimal-length 1 71 (omega arith) in
     let a = number-length id (f .0) in
     let b = number-length quantity (f .1) in
+    simp length-append (omega arith)
+line-most (looked count) f =
+    let k = decimal-length 1 72 (omega arith) in
+    let a = byte-length count f in
     simp length-append (omega arith)
 
 pub text-at-most : TextAtMost

@@ -6,7 +6,7 @@ use mathlib.Core.List.{List, [], _∷_, _++_}
 use Prim.Native.Nat.{ℕ, zero, suc, _+_, _/_, _%_}
 use lib.Dec.{ltb}
 use lib.IntN.{ℤ, pos, negsuc}
-use Rattle.rules.specs.Records.{Report, answer, trade, pair, generated, removed, crossed, cancelled, causeNumber}
+use Rattle.rules.specs.Records.{Report, answer, trade, pair, generated, removed, crossed, cancelled, looked, causeNumber}
 
 -- Numbers -------------------------------------------------------------------------------------
 
@@ -59,6 +59,8 @@ lineOf (removed id series side cause) = line 68 (id ∷ series ∷ side ∷ caus
 lineOf (crossed taker maker n quantity) = decimal 70 ++ word taker ++ word maker ++ signedWord n ++ word quantity ++ ending
 -- 71 cancelled: id, quantity
 lineOf (cancelled id quantity) = line 71 (id ∷ quantity ∷ [])
+-- 02 (m), 72: orders looked at
+lineOf (looked count) = line 72 (count ∷ [])
 
 -- "prints a line per record"
 unfoldable pub textOf : List Report → List ℕ

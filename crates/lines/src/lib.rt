@@ -4,7 +4,7 @@ ghost use mathlib.Core.Path.{_≡_};
 ghost use mathlib.Core.List.{[], _∷_};
 ghost use Prim.Native.Nat.{_+_, _<_};
 ghost use Rattle.rules.specs.Bytes.{u8At, u16At, u32At, asSigned};
-ghost use Rattle.rules.specs.Records.{answer, trade, pair, generated, removed, crossed, cancelled, causeNumber, causeOf, recordOf, records};
+ghost use Rattle.rules.specs.Records.{answer, trade, pair, generated, removed, crossed, cancelled, looked, causeNumber, causeOf, recordOf, records};
 ghost use Rattle.wire.specs.Seen.{seen};
 ghost use Rattle.lines.specs.Lines.{decimal, signed, word, words, signedWord, line, lineOf, textOf};
 ghost use Rattle.lines.specs.Typing.{_types_};
@@ -205,6 +205,14 @@ fn put_cancelled(out: &mut [u8], at: usize, s: &[u8]) -> usize
     put_fields(out, at, 71, &fields)
 }
 
+// 72: orders looked at.
+fn put_looked(out: &mut [u8], at: usize, s: &[u8]) -> usize
+    ensures { λ r. ⌜ seen (now (out .exit)) r ≡ seen (now (out .entry)) at types lineOf (looked (u8At (now (s .entry)) 4)) ⌝ }
+{
+    let fields = [byte_at(s, 4)];
+    put_fields(out, at, 72, &fields)
+}
+
 // The line of the record at the front of `s`, by its kind.
 pub fn put_line(out: &mut [u8], at: usize, s: &[u8]) -> usize
     ensures { λ r. ⌜ seen (now (out .exit)) r ≡ seen (now (out .entry)) at types lineOf (recordOf (now (s .entry))) ⌝ }
@@ -228,7 +236,10 @@ pub fn put_line(out: &mut [u8], at: usize, s: &[u8]) -> usize
     if kind == 70 {
         return put_crossed(out, at, s);
     }
-    put_cancelled(out, at, s)
+    if kind == 71 {
+        return put_cancelled(out, at, s);
+    }
+    put_looked(out, at, s)
 }
 
 // The lines of all records of a report memory, one after another.

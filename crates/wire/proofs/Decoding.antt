@@ -12,7 +12,7 @@ use borrow.Author.Tests.{le-leb, lt-leb, lt-ltb, le-ltb, eq-eqb, ne-eqb, leb-tru
 use Rattle.rules.specs.declared.Regular.{Regular}
 use Rattle.rules.specs.declared.Complex.{Complex}
 use Rattle.rules.specs.declared.Message.{Message}
-use Rattle.rules.specs.declared.Message.the-variants.{Order, TwoLeg, Cancel, Away, Status, Sweep, Increment, Percent}
+use Rattle.rules.specs.declared.Message.the-variants.{Order, TwoLeg, Cancel, Away, Status, Sweep, Increment, Percent, LimitedSweep}
 use Rattle.rules.specs.declared.Decoded.the-variants.{Taken, Refused}
 use Rattle.rules.specs.Words.{within, isId, isSeries, isSide, isClass, isQuantity, isPrice, isLimit, isRatio}
 use Rattle.rules.specs.Settings.{isEdition}
@@ -137,6 +137,10 @@ module _ (s : List ℕ) where
   pub message-ratios : u16At s 2 ≡ 10 → messageOf s ≡ TwoLeg (twoLegAt s (u8At s 21) (u8At s 22))
   unfolding messageOf kindField
   message-ratios e = rw e
+
+  pub message-limited : u16At s 2 ≡ 11 → messageOf s ≡ LimitedSweep (u8At s 4)
+  unfolding messageOf kindField
+  message-limited e = rw e
 
 -- Refusals ------------------------------------------------------------------------------------
 

@@ -11,7 +11,7 @@ use borrow.Author.Tests.{leb-true, eqb-true}
 use Rattle.rules.specs.declared.Regular.{Regular}
 use Rattle.rules.specs.declared.Complex.{Complex}
 use Rattle.rules.specs.declared.Message.{Message}
-use Rattle.rules.specs.declared.Message.the-variants.{Order, TwoLeg, Cancel, Away, Status, Sweep, Increment, Percent}
+use Rattle.rules.specs.declared.Message.the-variants.{Order, TwoLeg, Cancel, Away, Status, Sweep, Increment, Percent, LimitedSweep}
 use Rattle.rules.specs.declared.Decoded.the-variants.{Taken}
 use Rattle.rules.specs.Base.{if_then_else_}
 use Rattle.rules.specs.Words.{within, isId, isSeries, isSide, isClass, isStatus, isQuantity, isAway, isPrice, oneToOne}
@@ -214,6 +214,7 @@ message-back (Increment s i e) h f rest =
     )
 message-back (Percent x e) h f rest =
     rw (byte x (percent-fits x (and-l (isPercent x) (isEdition e) h)), word e (edition-fits e (and-r (isPercent x) (isEdition e) h)))
+message-back (LimitedSweep n) h f rest = let k = at-most 1 32 n h in rw (byte n (omega arith))
 
 -- what stands at the front of a message's bytes: its length, which is its kind's, and its kind, of which its fields are in range and its ratios differ
 pub record Front (m : Message) (s : List ℕ) (n : ℕ) : Type 0 where
@@ -253,6 +254,7 @@ front (Status s x) rest h = record { size = refl; kind = refl; kinds-size = refl
 front Sweep rest h = record { size = refl; kind = refl; kinds-size = refl; least = omega arith; range = h; uneven = refl }
 front (Increment s i e) rest h = record { size = refl; kind = refl; kinds-size = refl; least = omega arith; range = h; uneven = refl }
 front (Percent x e) rest h = record { size = refl; kind = refl; kinds-size = refl; least = omega arith; range = h; uneven = refl }
+front (LimitedSweep n) rest h = record { size = refl; kind = refl; kinds-size = refl; least = omega arith; range = h; uneven = refl }
 
 -- decoding gives the message back, whatever follows
 pub decodes-back : (m : Message) → wellFormed m ≡ true → Shows m → (rest : List ℕ) → decoded (encodeMessage m ++ rest) ≡ Taken m

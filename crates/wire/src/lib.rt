@@ -10,12 +10,12 @@ ghost use mathlib.Core.List.{List, [], _∷_, _++_};
 ghost use Prim.Native.Nat.{ℕ, _+_, _-_, _*_, _≤_, _<_};
 ghost use lib.Dec.{eqb};
 ghost use lib.ListN.{length, take, drop, replicate};
-ghost use Rattle.rules.specs.Words.{isSeries, isSide, isStatus, isAway, isPrice, isQuantity, isLimit, isRatio, oneToOne};
+ghost use Rattle.rules.specs.Words.{within, isSeries, isSide, isStatus, isAway, isPrice, isQuantity, isLimit, isRatio, oneToOne};
 ghost use Rattle.rules.specs.Settings.{isIncrement};
 ghost use Rattle.rules.specs.Bytes.{u8At, u16At, u32At, asSigned, bytes, i32};
 ghost use Rattle.rules.specs.Messages.{lengthOf, messageForm, orderAt, twoLegAt, messageOf};
 ghost use Rattle.rules.specs.Refusals.{regularInRange, twoLegInRange, farOf, inRange, decoded, complexInRange};
-ghost use Rattle.rules.specs.Records.{answer, trade, pair, generated, removed, crossed, cancelled, causeNumber};
+ghost use Rattle.rules.specs.Records.{answer, trade, pair, generated, removed, crossed, cancelled, looked, causeNumber};
 ghost use Rattle.wire.specs.Seen.{seen, pasted, wordBytes, _plus_, _writes_};
 ghost use Rattle.wire.specs.Next.{nextRecord};
 
@@ -274,14 +274,25 @@ fn increment_in_range(series: u8, increment: u8) -> bool
     is_increment(increment)
 }
 
-// A new setting's fields are in their ranges; any u32 is an edition.
-fn setting_in_range(m: Message) -> bool
+// A limited sweep looks at 1 to 32 orders.
+fn sweep_in_range(n: u8) -> bool
+    ensures { λ r. ⌜ r ≡ within 1 32 n ⌝ }
+{
+    if n == 0 {
+        return false;
+    }
+    n <= 32
+}
+
+// The fields of a new setting or of a limited sweep are in their ranges; any u32 is an edition.
+fn later_in_range(m: Message) -> bool
     requires { ⌜ 6 < messageForm m ⌝ }
     ensures { λ r. ⌜ ((kind : ℕ) → r ≡ inRange kind m) ⌝ }
 {
     match m {
         Message::Increment(series, increment, _) => increment_in_range(series, increment),
         Message::Percent(percent, _) => percent <= 50,
+        Message::LimitedSweep(n) => sweep_in_range(n),
         _ => false,
     }
 }
@@ -302,7 +313,7 @@ fn in_range(kind: u16, m: Message) -> bool
 {
     let form = rules::message_form(m);
     if 6 < form {
-        return setting_in_range(m);
+        return later_in_range(m);
     }
     if form <= 3 {
         return match m {
@@ -367,7 +378,7 @@ fn two_leg_at(s: &[u8], ratio1: u8, ratio2: u8) -> Complex
 
 // The message at the front of `s`, of its kind's length, compared in order as in `length_of`.
 fn message_of(s: &[u8]) -> Message
-    requires { ⌜ (4 ≤ length (now s)) × (0 < u16At (now s) 2) × (u16At (now s) 2 ≤ 10) × (lengthOf (u16At (now s) 2) ≤ length (now s)) ⌝ }
+    requires { ⌜ (4 ≤ length (now s)) × (0 < u16At (now s) 2) × (u16At (now s) 2 ≤ 11) × (lengthOf (u16At (now s) 2) ≤ length (now s)) ⌝ }
     ensures { λ r. ⌜ r ≡ messageOf (now (s .entry)) ⌝ }
 {
     let kind = half_at(s, 2);
@@ -398,7 +409,10 @@ fn message_of(s: &[u8]) -> Message
     if kind <= 9 {
         return Message::Order(order_at(s, word_at(s, 18)));
     }
-    Message::TwoLeg(two_leg_at(s, byte_at(s, 21), byte_at(s, 22)))
+    if kind <= 10 {
+        return Message::TwoLeg(two_leg_at(s, byte_at(s, 21), byte_at(s, 22)));
+    }
+    Message::LimitedSweep(byte_at(s, 4))
 }
 
 // Kind 10 has equal ratio bytes.
@@ -429,7 +443,7 @@ pub fn decode(s: &[u8]) -> Decoded
     if kind == 0 {
         return Decoded::Refused(2);
     }
-    if 10 < kind {
+    if 11 < kind {
         return Decoded::Refused(2);
     }
     if size != rules::length_of(kind) {
@@ -655,6 +669,14 @@ pub fn emit_cancelled(out: &mut [u8], at: usize, id: u32, quantity: u32) -> usiz
     let head = [12u8, 0, 71, 0];
     let words = [id, quantity];
     put_words(out, at, &head, &words)
+}
+
+// 72: how many orders a limited sweep looked at.
+pub fn emit_looked(out: &mut [u8], at: usize, count: u8) -> usize
+    ensures { λ r. ⌜ seen (now (out .exit)) r ≡ seen (now (out .entry)) at writes (looked count ∷ []) ⌝ }
+{
+    let record = [5u8, 0, 72, 0, count];
+    put(out, at, &record)
 }
 
 // Zeros from `at` on.

@@ -32,11 +32,11 @@ u16-at-requires-2 c κs = search needs
 
 returns-4 : tie.Need-returns-4
 unfolding isKind
-returns-4 c = let s = c .before .before .before .before .before .before .before .args .s .now in no-kind s (whole s (omega arith) (omega arith) (omega arith)) (below 1 10 (u16At s 2) (omega arith))
+returns-4 c = let s = c .before .before .before .before .before .before .before .args .s .now in no-kind s (whole s (omega arith) (omega arith) (omega arith)) (below 1 11 (u16At s 2) (omega arith))
 
 returns-5 : tie.Need-returns-5
 unfolding isKind
-returns-5 c = let s = c .before .before .before .before .before .before .before .before .args .s .now in no-kind s (whole s (omega arith) (omega arith) (omega arith)) (above 1 10 (u16At s 2) (omega arith))
+returns-5 c = let s = c .before .before .before .before .before .before .before .before .args .s .now in no-kind s (whole s (omega arith) (omega arith) (omega arith)) (above 1 11 (u16At s 2) (omega arith))
 
 length-of-requires : tie.Need-length-of-requires
 length-of-requires c κs = search needs
@@ -46,7 +46,7 @@ unfolding isKind
 returns-6 c =
     let s = c .before .before .before .before .before .before .before .before .before .before .args .s .now in
     let n = c .before .length-of .ensures ∙ ap lengthOf (c .before .before .before .before .u16-at2 .ensures) in
-    no-length s (whole s (omega arith) (omega arith) (omega arith)) (inside 1 10 (u16At s 2) (omega arith) (omega arith)) (λ e. omega arith)
+    no-length s (whole s (omega arith) (omega arith) (omega arith)) (inside 1 11 (u16At s 2) (omega arith) (omega arith)) (λ e. omega arith)
 
 message-of-requires : tie.Need-message-of-requires
 message-of-requires c κs =
@@ -64,7 +64,7 @@ read c =
     let s = c .before .before .before .before .before .before .before .before .before .before .before .before .args .s .now in
     let k = c .before .before .before .before .before .before .u16-at2 .ensures in
     let n = c .before .before .before .length-of .ensures ∙ ap lengthOf k in
-    (whole s (omega arith) (omega arith) (omega arith), inside 1 10 (u16At s 2) (omega arith) (omega arith), omega arith, c .in-range .ensures ∙ ap (λ (x : ℕ). inRange x (c .before .message-of .result)) k)
+    (whole s (omega arith) (omega arith) (omega arith), inside 1 11 (u16At s 2) (omega arith) (omega arith), omega arith, c .in-range .ensures ∙ ap (λ (x : ℕ). inRange x (c .before .message-of .result)) k)
 
 returns-7 : tie.Need-returns-7
 returns-7 c =

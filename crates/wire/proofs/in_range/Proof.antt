@@ -11,11 +11,11 @@ use Rattle.wire.proofs.in_range.Tie as tie
 message-form-requires : tie.Need-message-form-requires
 message-form-requires c κs = search needs
 
-setting-in-range-requires : tie.Need-setting-in-range-requires
-setting-in-range-requires c κs = search needs
+later-in-range-requires : tie.Need-later-in-range-requires
+later-in-range-requires c κs = search needs
 
 returns : tie.Need-returns
-returns c = c .setting-in-range .ensures (c .before .before .before .args .kind)
+returns c = c .later-in-range .ensures (c .before .before .before .args .kind)
 
 enum-known-m : tie.Need-enum-known-m
 enum-known-m c = search needs
@@ -84,7 +84,7 @@ in-range-spec =
     tie.close
     (tie.spec
     message-form-requires
-    setting-in-range-requires
+    later-in-range-requires
     returns
     enum-known-m
     regular-in-range-requires

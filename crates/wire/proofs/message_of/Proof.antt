@@ -4,7 +4,7 @@ use native.Mathlib.Omega.{arith}
 use Rattle.rules.specs.declared.Message.the-variants.{Order, TwoLeg, Cancel}
 use Rattle.rules.specs.Bytes.{u16At}
 use Rattle.rules.specs.Messages.{lengthOf, orderAt, twoLegAt}
-use Rattle.wire.proofs.Decoding.{of-length, message-order, message-two-leg, message-cancel, message-away, message-status, message-sweep, message-increment, message-percent, message-reserve, message-ratios}
+use Rattle.wire.proofs.Decoding.{of-length, message-order, message-two-leg, message-cancel, message-away, message-status, message-sweep, message-increment, message-percent, message-reserve, message-ratios, message-limited}
 use borrow.Author.Needs.{needs}
 use Rattle.wire.proofs.message_of.Statement.{statement}
 use Rattle.wire.proofs.message_of.Tie as tie
@@ -111,21 +111,28 @@ returns-9 c =
 
 byte-at-requires-7 : tie.Need-byte-at-requires-7
 unfolding lengthOf
-byte-at-requires-7 c κs = let s = c .before .before .before .before .before .before .before .before .before .before .before .args .s .now in let e : u16At s 2 ≡ 10 = omega arith in let n = of-length s 10 e (c .before .before .before .before .before .before .before .before .before .before .before .pre .3) in omega arith
+byte-at-requires-7 c κs = let s = c .before .before .before .before .before .before .before .before .before .before .before .before .args .s .now in let e : u16At s 2 ≡ 10 = omega arith in let n = of-length s 10 e (c .before .before .before .before .before .before .before .before .before .before .before .before .pre .3) in omega arith
 
 byte-at-requires-8 : tie.Need-byte-at-requires-8
 unfolding lengthOf
-byte-at-requires-8 c κs = let s = c .before .before .before .before .before .before .before .before .before .before .before .before .args .s .now in let e : u16At s 2 ≡ 10 = omega arith in let n = of-length s 10 e (c .before .before .before .before .before .before .before .before .before .before .before .before .pre .3) in omega arith
+byte-at-requires-8 c κs = let s = c .before .before .before .before .before .before .before .before .before .before .before .before .before .args .s .now in let e : u16At s 2 ≡ 10 = omega arith in let n = of-length s 10 e (c .before .before .before .before .before .before .before .before .before .before .before .before .before .pre .3) in omega arith
 
 two-leg-at-requires-2 : tie.Need-two-leg-at-requires-2
 unfolding lengthOf
-two-leg-at-requires-2 c κs = let s = c .before .before .before .before .before .before .before .before .before .before .before .before .before .args .s .now in let e : u16At s 2 ≡ 10 = omega arith in let n = of-length s 10 e (c .before .before .before .before .before .before .before .before .before .before .before .before .before .pre .3) in omega arith
+two-leg-at-requires-2 c κs = let s = c .before .before .before .before .before .before .before .before .before .before .before .before .before .before .args .s .now in let e : u16At s 2 ≡ 10 = omega arith in let n = of-length s 10 e (c .before .before .before .before .before .before .before .before .before .before .before .before .before .before .pre .3) in omega arith
 
 returns-10 : tie.Need-returns-10
 returns-10 c =
-    let s = c .before .before .before .before .before .before .before .before .before .before .before .before .before .before .args .s .now in
+    let s = c .before .before .before .before .before .before .before .before .before .before .before .before .before .before .before .args .s .now in
     let e : u16At s 2 ≡ 10 = omega arith in
     ap TwoLeg (c .two-leg-at2 .ensures ∙ ap₂ (twoLegAt s) (c .before .before .byte-at7 .ensures) (c .before .byte-at8 .ensures)) ∙ sym (message-ratios s e)
+
+byte-at-requires-9 : tie.Need-byte-at-requires-9
+unfolding lengthOf
+byte-at-requires-9 c κs = let s = c .before .before .before .before .before .before .before .before .before .before .before .before .args .s .now in let e : u16At s 2 ≡ 11 = omega arith in let n = of-length s 11 e (c .before .before .before .before .before .before .before .before .before .before .before .before .pre .3) in omega arith
+
+returns-11 : tie.Need-returns-11
+returns-11 c = let s = c .before .before .before .before .before .before .before .before .before .before .before .before .before .args .s .now in let e : u16At s 2 ≡ 11 = omega arith in rw (c .byte-at9 .ensures) (sym (message-limited s e))
 
 pub message-of-spec : {M : Type 1} → statement M
 message-of-spec =
@@ -160,4 +167,6 @@ message-of-spec =
     byte-at-requires-7
     byte-at-requires-8
     two-leg-at-requires-2
-    returns-10)
+    returns-10
+    byte-at-requires-9
+    returns-11)

@@ -5,8 +5,8 @@ use Rattle.rules.specs.Refusals.{inRange}
 use Rattle.rules.proofs.ByKind.{lower-left}
 use Rattle.wire.proofs.Decoding.{within-top, any-edition}
 use borrow.Author.Needs.{needs}
-use Rattle.wire.proofs.setting_in_range.Statement.{statement}
-use Rattle.wire.proofs.setting_in_range.Tie as tie
+use Rattle.wire.proofs.later_in_range.Statement.{statement}
+use Rattle.wire.proofs.later_in_range.Tie as tie
 
 enum-known-m : tie.Need-enum-known-m
 enum-known-m c = search needs
@@ -16,6 +16,12 @@ increment-in-range-requires c κs = search needs
 
 enum-known-m-2 : tie.Need-enum-known-m-2
 enum-known-m-2 c = search needs
+
+enum-known-m-3 : tie.Need-enum-known-m-3
+enum-known-m-3 c = search needs
+
+sweep-in-range-requires : tie.Need-sweep-in-range-requires
+sweep-in-range-requires c κs = search needs
 
 returns : tie.Need-returns
 unfolding inRange
@@ -30,15 +36,22 @@ returns-2 c k =
     within-top 0 50 (m .0 .0) (omega arith) ∙ sym (ap (inRange k) (m .1) ∙ any-edition _ (m .0 .1 .0) (omega arith))
 
 returns-3 : tie.Need-returns-3
-returns-3 c k = let l = lower-left (c .before .args .m) (c .match .keys3) in absurd (omega arith)
+unfolding inRange
+returns-3 c k = c .sweep-in-range .ensures ∙ sym (ap (inRange k) (c .before .before .m3 .given .1))
 
-pub setting-in-range-spec : {M : Type 1} → statement M
-setting-in-range-spec =
+returns-4 : tie.Need-returns-4
+returns-4 c k = let l = lower-left (c .before .args .m) (c .match .keys4) in absurd (omega arith)
+
+pub later-in-range-spec : {M : Type 1} → statement M
+later-in-range-spec =
     tie.close
     (tie.spec
     enum-known-m
     increment-in-range-requires
     enum-known-m-2
+    enum-known-m-3
+    sweep-in-range-requires
     returns
     returns-2
-    returns-3)
+    returns-3
+    returns-4)
