@@ -14,7 +14,7 @@ use Rattle.rules.specs.Standing.{showsAgain, showAgain}
 use Rattle.rules.proofs.Again.{again-at, again-fewer}
 use Rattle.rules.proofs.Showing.{Showing, again-showing}
 use Rattle.places.specs.Layout.{size, regularsUsed, regularIn, venueOf, Fully, SameBeside}
-use Rattle.places.proofs.Parts.{Outside, stored, wider, joined, unmoved, regulars-few, regulars-many, regular-at, regular-past, regular-kept, count-kept, count-kept2, complexes-kept, leggings-kept, series-kept, editions-kept, last-kept, venue-is}
+use Rattle.places.proofs.Parts.{Outside, stored, wider, joined, unmoved, regulars-few, regulars-many, regular-at, regular-past, regular-kept, count-kept, count-kept2, complexes-kept, leggings-kept, series-kept, editions-kept, generations-kept, last-kept, reached-kept, venue-is}
 use Rattle.places.proofs.Beside.{levels-kept, regulars-marked, complexes-marked, legging-marked, figures-marked, beside-venue}
 
 -- the orders at the first i places show again
@@ -87,7 +87,7 @@ module _ (a b : List ℕ) (n i : ℕ) (m : ShowingAgain a b i) (used : n ≡ reg
   again-venue =
       let o = m .outside in
       venue-is (venueOf b) (showAgain (venueOf a)) orders (complexes-kept o (inr (omega arith)) (inl (omega arith))) (leggings-kept o (inr (omega arith)))
-      (series-kept o (inr (omega arith))) (editions-kept o (inr (omega arith))) (last-kept o (inl (omega arith)))
+      (series-kept o (inr (omega arith))) (editions-kept o (inr (omega arith))) (generations-kept o (inl (omega arith))) (last-kept o (inl (omega arith))) (reached-kept o (inr (omega arith)))
 
   pub again-end : (venueOf (set b 1231 0) ≡ showAgain (venueOf a)) × SameBeside a (set b 1231 0)
   again-end = (
@@ -113,4 +113,4 @@ module _ (a b : List ℕ) (n i : ℕ) (m : ShowingAgain a b i) (used : n ≡ reg
       p = stored b 1231 0
 
       venue : venueOf (set b 1231 0) ≡ showAgain (venueOf a)
-      venue = beside-venue p (omega arith) (inr (omega arith)) (inl (omega arith)) ∙ again-venue
+      venue = beside-venue p (omega arith) (inr (omega arith)) (inl (omega arith)) (omega arith) ∙ again-venue

@@ -14,7 +14,7 @@ use Rattle.rules.specs.Step.{mask}
 use Rattle.rules.specs.Settings.{figureNow}
 use Rattle.rules.proofs.Showing.{Showing}
 use Rattle.places.specs.Layout.{regularsUsed, complexesUsed, regularIn, complexIn, venueOf, Filled, levelOf, levelIn, isUnmarked, Fully, Marked, figureIn, Figured, Orderly, Right, SameCounts}
-use Rattle.places.proofs.Parts.{Outside, regulars-few, complexes-few, complex-kept, holds-kept, count-kept, count-kept2, regulars-kept, complexes-kept, leggings-kept, series-kept, editions-kept, last-kept, venue-is}
+use Rattle.places.proofs.Parts.{Outside, regulars-few, complexes-few, complex-kept, holds-kept, count-kept, count-kept2, regulars-kept, complexes-kept, leggings-kept, series-kept, editions-kept, generations-kept, last-kept, reached-kept, venue-is}
 
 -- the places known to be held are
 abbrev pub RegularsMarked : List ℕ → Type 0
@@ -123,15 +123,17 @@ module _ {low high : ℕ} {a b : List ℕ} (o : Outside low high a b) where
   shows-marked h r p = shows-as a b (o .same 1231 (inr (omega arith))) (regulars-kept o h (inr r) p)
 
   -- what is kept beside the venue is no part of it
-  pub beside-venue : 779 ≤ low → (high ≤ 830) ⊎ (958 ≤ low) → (1231 ≤ low) ⊎ (high ≤ 975) → venueOf b ≡ venueOf a
-  beside-venue h k r =
+  pub beside-venue : 779 ≤ low → (high ≤ 830) ⊎ (958 ≤ low) → (1231 ≤ low) ⊎ (high ≤ 975) → high ≤ 1232 → venueOf b ≡ venueOf a
+  beside-venue h k r m =
       venue-is (venueOf b) (venueOf a)
       (regulars-kept o (omega arith) r (inl (omega arith)))
       (complexes-kept o (inr (omega arith)) (inl (omega arith)))
       (leggings-kept o (inr (omega arith)))
       (series-kept o (inr (omega arith)))
       (editions-kept o k)
+      (generations-kept o (inl m))
       (last-kept o (inl (omega arith)))
+      (reached-kept o (inr (omega arith)))
 
 -- A mark that is lowered ----------------------------------------------------------------------
 

@@ -18,7 +18,7 @@ use Rattle.rules.specs.Base.{keep}
 use Rattle.rules.specs.Places.{holdsRegular, holdsComplex, closeGaps}
 use Rattle.rules.proofs.Closing.{best-closed, size-closed}
 use Rattle.places.specs.Layout.{size, inUse, regularsUsed, complexesUsed, regularIn, complexIn, venueOf, regularPut, complexRow, limitNumber, Kept, levelOf, levelIn, Fully, Figured, Orderly, Right, SameCounts, Filled, Dense, closeRegulars, closeComplexes, regularsHeld, complexesHeld, RegularsClosed, ComplexesClosed, GapsClosed}
-use Rattle.places.proofs.Parts.{Outside, OutsideRows, Halves, halves, stored, wider, regulars-few, complexes-few, regular-at, complex-at, rows-agree, holds-kept, complex-kept, count-kept, count-kept2, regulars-kept, complexes-kept, leggings-kept, series-kept, editions-kept, last-kept, venue-is, regulars-counted, complexes-counted}
+use Rattle.places.proofs.Parts.{Outside, OutsideRows, Halves, halves, stored, wider, regulars-few, complexes-few, regular-at, complex-at, rows-agree, holds-kept, complex-kept, count-kept, count-kept2, regulars-kept, complexes-kept, leggings-kept, series-kept, editions-kept, generations-kept, last-kept, reached-kept, venue-is, regulars-counted, complexes-counted}
 use Rattle.places.proofs.Beside.{RegularsMarked, ComplexesMarked, LeggingMarked, ShowsMarked, unmarked-as, levels-kept, regulars-marked, complexes-marked, legging-marked, figures-marked, shows-marked, beside-venue, right-on, right-kept}
 use Rattle.places.proofs.Orderly.{orderly-packed}
 use Rattle.places.proofs.Fully.{fully-packed}
@@ -130,13 +130,16 @@ others-regular a b l o =
     (leggings-kept (o .second) (inr (omega arith)) ∙ leggings-kept (o .first) (inl (omega arith)))
     (series-kept (o .second) (inr (omega arith)) ∙ series-kept (o .first) (inl (omega arith)))
     (editions-kept (o .second) (inr (omega arith)) ∙ editions-kept (o .first) (inl (omega arith)))
+    (generations-kept (o .second) (inl (omega arith)) ∙ generations-kept (o .first) (inl (omega arith)))
     (last-kept (o .second) (inl (omega arith)) ∙ last-kept (o .first) (inr (omega arith)))
+    (reached-kept (o .second) (inr (omega arith)) ∙ reached-kept (o .first) (inr (omega arith)))
 
 others-complex : (a b : List ℕ) (l : List Complex) → Outside 512 704 a b → withComplex (venueOf b) l ≡ withComplex (venueOf a) l
 unfolding withComplex
 others-complex a b l o =
     venue-is (withComplex (venueOf b) l) (withComplex (venueOf a) l) (regulars-kept o (omega arith) (inr (omega arith)) (inr (omega arith))) refl
-    (leggings-kept o (inl (omega arith))) (series-kept o (inl (omega arith))) (editions-kept o (inl (omega arith))) (last-kept o (inr (omega arith)))
+    (leggings-kept o (inl (omega arith))) (series-kept o (inl (omega arith))) (editions-kept o (inl (omega arith)))
+    (generations-kept o (inl (omega arith))) (last-kept o (inr (omega arith))) (reached-kept o (inr (omega arith)))
 
 -- closing gaps leaves the levels of the orders as they are
 level-is : (s d : ℕ) (v : Venue) → levelOf s d (v .regular) ≡ record { price = bestRegular v s d; size = bestSize v s d }
@@ -177,7 +180,7 @@ regulars-known a b j same used others full levels marks legs figs mark = record 
     o = stored b 827 j
 
     venue : venueOf (set b 827 j) ≡ closeRegulars (venueOf a)
-    venue = beside-venue o (omega arith) (inl (omega arith)) (inr (omega arith)) ∙ same
+    venue = beside-venue o (omega arith) (inl (omega arith)) (inr (omega arith)) (omega arith) ∙ same
 
     shows : ShowsMarked a → ShowsMarked (set b 827 j)
     shows m z = subst (λ (v : Venue). Fully (v .regular)) (sym venue)
@@ -214,7 +217,7 @@ complexes-known a b j same used others full levels marks legs figs shows = recor
     o = stored b 828 j
 
     venue : venueOf (set b 828 j) ≡ closeComplexes (venueOf a)
-    venue = beside-venue o (omega arith) (inl (omega arith)) (inr (omega arith)) ∙ same
+    venue = beside-venue o (omega arith) (inl (omega arith)) (inr (omega arith)) (omega arith) ∙ same
 
     filled : Filled holdsComplex (complexIn (set b 828 j)) (complexesUsed (set b 828 j))
     filled k w =
@@ -229,7 +232,7 @@ regulars-same a j full =
     let n = regularsUsed a in
     let p = closing-start holdsRegular n (regularIn a) n (omega arith) full in
     regulars-known a a j
-    (venue-is (venueOf a) (closeRegulars (venueOf a)) (closed-part holdsRegular noRegular refl n 128 (regularIn a) (regularIn a) n p (regulars-few a)) refl refl refl refl refl)
+    (venue-is (venueOf a) (closeRegulars (venueOf a)) (closed-part holdsRegular noRegular refl n 128 (regularIn a) (regularIn a) n p (regulars-few a)) refl refl refl refl refl refl refl)
     (sym (closed-count holdsRegular noRegular refl n 128 (regularIn a) (regularIn a) n p (regulars-few a))) refl full (λ k w. refl) (λ m. m) (λ m. m) (λ m. m) refl
 
 complexes-same : (a : List ℕ) (j : ℕ) → Filled holdsComplex (complexIn a) (complexesUsed a) → ComplexesClosed a (set a 828 j)
@@ -238,7 +241,7 @@ complexes-same a j full =
     let n = complexesUsed a in
     let p = closing-start holdsComplex n (complexIn a) n (omega arith) full in
     complexes-known a a j
-    (venue-is (venueOf a) (closeComplexes (venueOf a)) refl (closed-part holdsComplex noComplex refl n 32 (complexIn a) (complexIn a) n p (complexes-few a)) refl refl refl refl)
+    (venue-is (venueOf a) (closeComplexes (venueOf a)) refl (closed-part holdsComplex noComplex refl n 32 (complexIn a) (complexIn a) n p (complexes-few a)) refl refl refl refl refl refl)
     (sym (closed-count holdsComplex noComplex refl n 32 (complexIn a) (complexIn a) n p (complexes-few a))) refl full (λ k w. refl) (λ m. m) (λ m. m) (λ m. m) (λ m. m)
 
 -- the book becomes l, of which j places are in use

@@ -155,7 +155,7 @@ unfolding figureNow
 counting-last first a b i base m h = record {
   others = λ k w. m .aside .others k w ∙ base .others k w;
   figures = λ f w. m .so f w ∙ ap (lastValue f (baseFigure f)) (take-all i (venueOf a .editions) (omega (arith, editions-many a)))
-      ∙ ap (λ (v : Venue). lastValue f (baseFigure f) (v .editions)) (sym (beside-venue (aside-outside a b (m .aside)) (omega arith) (inr (omega arith)) (inr (omega arith))));
+      ∙ ap (λ (v : Venue). lastValue f (baseFigure f) (v .editions)) (sym (beside-venue (aside-outside a b (m .aside)) (omega arith) (inr (omega arith)) (inr (omega arith)) (omega arith)));
 }
 
 -- An edition at a place -----------------------------------------------------------------------
@@ -219,7 +219,7 @@ put-edition a b c i e n h w x free val is k = (
     p = counted-outside b c k
 
     venue : venueOf c ≡ withEditions (venueOf a) (set (venueOf a .editions) i e)
-    venue = beside-venue p (omega arith) (inr (omega arith)) (inr (omega arith)) ∙ edition-set o h
+    venue = beside-venue p (omega arith) (inr (omega arith)) (inr (omega arith)) (omega arith) ∙ edition-set o h
         ∙ ap (λ (y : Edition). withEditions (venueOf a) (set (venueOf a .editions) i y)) (ap (λ (m : List ℕ). editionIn m i) is ∙ edition-back a i e n h w x)
 
     unset : (s : ℕ) → sets s (getD (venueOf a .editions) i noEdition) ≡ false

@@ -10,5 +10,6 @@ pub mod Gaps
 pub mod Closed
 pub mod Figures
 pub mod Loaded
+pub mod Generations
 pub mod Starting
 pub mod Again

@@ -17,7 +17,7 @@ use Rattle.rules.specs.declared.Legging.{Legging}
 use Rattle.rules.specs.declared.Listed.{Listed}
 use Rattle.rules.specs.declared.Edition.{Edition}
 use Rattle.rules.specs.declared.Venue.{Venue}
-use Rattle.rules.specs.Words.{noRegular, noComplex, noLegging, notListed, noEdition, withRegular, withComplex, withLegging, withSeries, withEditions, withLast, isSeries, isSide, within}
+use Rattle.rules.specs.Words.{noRegular, noComplex, noLegging, notListed, noEdition, withRegular, withComplex, withLegging, withSeries, withEditions, withGenerations, withLast, withReached, isSeries, isSide, within}
 use Rattle.rules.specs.Places.{holdsRegular, holdsComplex, holdsEdition, blankRegular, blankComplex, blankEdition, packed, closeGaps}
 use Rattle.rules.specs.Step.{mask}
 use Rattle.rules.specs.Settings.{figureNow, increment}
@@ -30,9 +30,9 @@ use Rattle.rules.proofs.Closing.{packed-free}
 use Rattle.rules.proofs.Arranging.{arranged-out, blank-free, blank-freeC, closed-same}
 use Rattle.places.proofs.Orderly.{sound-orderly}
 use Rattle.places.proofs.Fully.{range-bounded, sound-fully}
-use Rattle.places.specs.Layout.{size, inUse, regularIn, complexIn, listedIn, editionIn, venueOf, regularPut, Bounded, editionRow, Fully, Figured, FiguresCounted, Kept, SameCounts, Filled, Placed, OnSide, RegularsPlaced, ComplexesPlaced, Loadable, RegularsLoaded, ComplexesLoaded, EditionsLoaded, Laid}
+use Rattle.places.specs.Layout.{size, inUse, regularIn, complexIn, listedIn, editionIn, venueOf, regularPut, Bounded, editionRow, Fully, Figured, FiguresCounted, Kept, SameCounts, Filled, Placed, OnSide, RegularsPlaced, ComplexesPlaced, Loadable, RegularsLoaded, ComplexesLoaded, EditionsLoaded, BesideCounted, Laid}
 use Rattle.places.proofs.Tables.{upto-length, used-length, used-at, used-free, whole}
-use Rattle.places.proofs.Parts.{Outside, OutsideRows, halves, stored, wider, edition-kept, count-kept, count-kept2, regulars-kept, complexes-kept, leggings-kept, series-kept, last-kept, venue-is}
+use Rattle.places.proofs.Parts.{Outside, OutsideRows, halves, stored, wider, edition-kept, count-kept, count-kept2, regulars-kept, complexes-kept, leggings-kept, series-kept, generations-kept, last-kept, reached-kept, venue-is}
 use Rattle.places.proofs.Masks.{legging-many}
 use Rattle.places.proofs.Beside.{figures-marked, beside-venue}
 use Rattle.places.proofs.Figures.{counted-outside}
@@ -265,7 +265,7 @@ pub editions-last : (a b : List ℕ) (l : List Edition) (i : ℕ) → LayingEdit
 unfolding withEditions
 editions-last a b l i m n e = record {
   venue = venue-is (venueOf b) (withEditions (venueOf a) l) (regulars-kept o (omega arith) (inr (omega arith)) (inl (omega arith))) (complexes-kept o (inr (omega arith)) (inl (omega arith)))
-      (leggings-kept o (inr (omega arith))) (series-kept o (inr (omega arith))) part (last-kept o (inl (omega arith)));
+      (leggings-kept o (inr (omega arith))) (series-kept o (inr (omega arith))) part (generations-kept o (inl (omega arith))) (last-kept o (inl (omega arith))) (reached-kept o (inr (omega arith)));
   regulars = count-kept o (inl (omega arith));
   complexes = count-kept2 o (inl (omega arith));
 }
@@ -284,46 +284,72 @@ figures-some : (v : Venue) (s : ℕ) → 0 < increment v s → 0 < figureNow v s
 unfolding increment
 figures-some v s h = h
 
-pub loaded : (v : Venue) (a b c d e g h f : List ℕ) (x : ℕ) → RegularsLoaded a (v .regular) b → ComplexesLoaded b (v .complex) c →
-    venueOf d ≡ withLegging (venueOf c) (v .legging) → SameCounts c d → venueOf e ≡ withSeries (venueOf d) (v .series) → SameCounts d e →
-    EditionsLoaded e (v .editions) g → venueOf h ≡ withLast (venueOf g) (v .last) → SameCounts g h → length h ≡ size → x ≡ mask (venueOf h .legging) →
-    length f ≡ length h → FiguresCounted h f → ((s : ℕ) → s < 8 → 0 < increment v s) → Fully (v .regular) → Laid v (set (set (set (set f 827 0) 828 0) 829 x) 1231 0)
-unfolding withRegular withComplex withLegging withSeries withEditions withLast
-loaded v a b c d e g h f x rs cs ls n ss o es lt p wide count even figs steps shown =
-    let aside = counted-outside h f figs in
-    let long : length f ≡ size = even ∙ wide in
-    let beside : venueOf f ≡ venueOf h = beside-venue aside (omega arith) (inr (omega arith)) (inr (omega arith)) in
-    let is : venueOf h ≡ v = lt ∙ ap (λ (w : Venue). withLast w (v .last)) (es .venue ∙ ap (λ (w : Venue). withEditions w (v .editions)) (ss ∙ ap (λ (w : Venue). withSeries w (v .series)) (ls ∙ ap (λ (w : Venue). withLegging w (v .legging)) (cs .venue ∙ ap (λ (w : Venue). withComplex w (v .complex)) (rs .venue))))) in
-    let figured : Figured f = record { so = figs .figures; some = λ s w. rw (figs .figures s (omega arith), beside, is) (figures-some v s (steps s w)) } in
-    let one = stored f 827 0 in
-    let two = stored (set f 827 0) 828 0 in
-    let three = stored (set (set f 827 0) 828 0) 829 x in
-    let y = set (set (set f 827 0) 828 0) 829 x in
-    let four = stored y 1231 0 in
-    let same : venueOf (set y 1231 0) ≡ venueOf f = beside-venue four (omega arith) (inr (omega arith)) (inl (omega arith)) ∙ beside-venue three (omega arith) (inl (omega arith)) (inr (omega arith)) ∙ beside-venue two (omega arith) (inl (omega arith)) (inr (omega arith)) ∙ beside-venue one (omega arith) (inl (omega arith)) (inr (omega arith)) in
+pub beside-counted : (h f : List ℕ) (x : ℕ) → length h ≡ size → x ≡ mask (venueOf h .legging) → length f ≡ length h → FiguresCounted h f → BesideCounted h (set (set (set (set f 827 0) 828 0) 829 x) 1231 0)
+beside-counted h f x wide count even figs = record {
+  venue = same;
+  regulars = count-kept four (inl (omega arith)) ∙ count-kept three (inl (omega arith)) ∙ count-kept two (inl (omega arith)) ∙ count-kept one (inl (omega arith)) ∙ count-kept aside (inl (omega arith));
+  complexes = count-kept2 four (inl (omega arith)) ∙ count-kept2 three (inl (omega arith)) ∙ count-kept2 two (inl (omega arith)) ∙ count-kept2 one (inl (omega arith)) ∙ count-kept2 aside (inl (omega arith));
+  marked = λ steps shown. record {
+    regulars = λ k w. absurd (omega (arith, four .same 827 (inl (omega arith)), three .same 827 (inl (omega arith)), two .same 827 (inl (omega arith)), getD-set-same f 827 0 0 (omega (arith, long))));
+    complexes = λ k w. absurd (omega (arith, four .same 828 (inl (omega arith)), three .same 828 (inl (omega arith)), getD-set-same (set f 827 0) 828 0 0 (omega (arith, long, length-set f 827 0))));
+    legging = four .same 829 (inl (omega arith)) ∙ getD-set-same (set (set f 827 0) 828 0) 829 x 0 (omega (arith, long, length-set (set f 827 0) 828 0, length-set f 827 0))
+        ∙ count ∙ ap (λ (w : Venue). mask (w .legging)) (sym same);
+    figures = figures-marked four (inr (omega arith)) (figures-marked three (inl (omega arith)) (figures-marked two (inl (omega arith)) (figures-marked one (inl (omega arith)) (figured steps))));
+    shows = λ _. subst (λ (w : Venue). Fully (w .regular)) (sym same) shown;
+  };
+}
+  where
+    y : List ℕ
+    y = set (set (set f 827 0) 828 0) 829 x
+
+    aside : Outside 958 975 h f
+    aside = counted-outside h f figs
+
+    one : Outside 827 828 f (set f 827 0)
+    one = stored f 827 0
+
+    two : Outside 828 829 (set f 827 0) (set (set f 827 0) 828 0)
+    two = stored (set f 827 0) 828 0
+
+    three : Outside 829 830 (set (set f 827 0) 828 0) y
+    three = stored (set (set f 827 0) 828 0) 829 x
+
+    four : Outside 1231 1232 y (set y 1231 0)
+    four = stored y 1231 0
+
+    long : length f ≡ size
+    long = even ∙ wide
+
+    beside : venueOf f ≡ venueOf h
+    beside = beside-venue aside (omega arith) (inr (omega arith)) (inr (omega arith)) (omega arith)
+
+    same : venueOf (set y 1231 0) ≡ venueOf h
+    same = beside-venue four (omega arith) (inr (omega arith)) (inl (omega arith)) (omega arith) ∙ beside-venue three (omega arith) (inl (omega arith)) (inr (omega arith)) (omega arith) ∙ beside-venue two (omega arith) (inl (omega arith)) (inr (omega arith)) (omega arith) ∙ beside-venue one (omega arith) (inl (omega arith)) (inr (omega arith)) (omega arith) ∙ beside
+
+    figured : ((s : ℕ) → s < 8 → 0 < increment (venueOf h) s) → Figured f
+    figured steps = record { so = figs .figures; some = λ s w. rw (figs .figures s (omega arith), beside) (figures-some (venueOf h) s (steps s w)) }
+
+pub loaded : (v : Venue) (k a b c d e g h y : List ℕ) → venueOf a ≡ withReached (withGenerations (venueOf k) (v .generations)) (v .reached) →
+    RegularsLoaded a (v .regular) b → ComplexesLoaded b (v .complex) c → venueOf d ≡ withLegging (venueOf c) (v .legging) → SameCounts c d →
+    venueOf e ≡ withSeries (venueOf d) (v .series) → SameCounts d e → EditionsLoaded e (v .editions) g → venueOf h ≡ withLast (venueOf g) (v .last) → SameCounts g h →
+    BesideCounted h y → ((s : ℕ) → s < 8 → 0 < increment v s) → Fully (v .regular) → Laid v y
+unfolding withRegular withComplex withLegging withSeries withEditions withGenerations withLast withReached
+loaded v k a b c d e g h y t rs cs ls n ss o es lt p beside steps shown =
+    let is : venueOf h ≡ v = lt ∙ ap (λ (w : Venue). withLast w (v .last)) (es .venue ∙ ap (λ (w : Venue). withEditions w (v .editions)) (ss ∙ ap (λ (w : Venue). withSeries w (v .series)) (ls ∙ ap (λ (w : Venue). withLegging w (v .legging)) (cs .venue ∙ ap (λ (w : Venue). withComplex w (v .complex)) (rs .venue ∙ ap (λ (w : Venue). withRegular w (v .regular)) t))))) in
     record {
-      venue = same ∙ beside ∙ is;
-      regulars = regulars-filled f (set y 1231 0) (ap (λ (w : Venue). w .regular) same) (count-kept four (inl (omega arith)) ∙ count-kept three (inl (omega arith)) ∙ count-kept two (inl (omega arith)) ∙ count-kept one (inl (omega arith)))
-          (regulars-filled h f (ap (λ (w : Venue). w .regular) beside) (count-kept aside (inl (omega arith)))
+      venue = beside .venue ∙ is;
+      regulars = regulars-filled h y (ap (λ (w : Venue). w .regular) (beside .venue)) (beside .regulars)
           (regulars-filled g h (ap (λ (w : Venue). w .regular) lt) (p .regulars)
           (regulars-filled e g (ap (λ (w : Venue). w .regular) (es .venue)) (es .regulars)
           (regulars-filled d e (ap (λ (w : Venue). w .regular) ss) (o .regulars)
           (regulars-filled c d (ap (λ (w : Venue). w .regular) ls) (n .regulars)
-          (regulars-filled b c (ap (λ (w : Venue). w .regular) (cs .venue)) (cs .regulars) (rs .filled)))))));
-      complexes = complexes-filled f (set y 1231 0) (ap (λ (w : Venue). w .complex) same) (count-kept2 four (inl (omega arith)) ∙ count-kept2 three (inl (omega arith)) ∙ count-kept2 two (inl (omega arith)) ∙ count-kept2 one (inl (omega arith)))
-          (complexes-filled h f (ap (λ (w : Venue). w .complex) beside) (count-kept2 aside (inl (omega arith)))
+          (regulars-filled b c (ap (λ (w : Venue). w .regular) (cs .venue)) (cs .regulars) (rs .filled))))));
+      complexes = complexes-filled h y (ap (λ (w : Venue). w .complex) (beside .venue)) (beside .complexes)
           (complexes-filled g h (ap (λ (w : Venue). w .complex) lt) (p .complexes)
           (complexes-filled e g (ap (λ (w : Venue). w .complex) (es .venue)) (es .complexes)
           (complexes-filled d e (ap (λ (w : Venue). w .complex) ss) (o .complexes)
-          (complexes-filled c d (ap (λ (w : Venue). w .complex) ls) (n .complexes) (cs .filled))))));
-      marked = record {
-        regulars = λ k w. absurd (omega (arith, four .same 827 (inl (omega arith)), three .same 827 (inl (omega arith)), two .same 827 (inl (omega arith)), getD-set-same f 827 0 0 (omega arith)));
-        complexes = λ k w. absurd (omega (arith, four .same 828 (inl (omega arith)), three .same 828 (inl (omega arith)), getD-set-same (set f 827 0) 828 0 0 (omega (arith, length-set f 827 0))));
-        legging = four .same 829 (inl (omega arith)) ∙ getD-set-same (set (set f 827 0) 828 0) 829 x 0 (omega (arith, length-set (set f 827 0) 828 0, length-set f 827 0))
-            ∙ count ∙ ap (λ (w : Venue). mask (w .legging)) (sym (same ∙ beside));
-        figures = figures-marked four (inr (omega arith)) (figures-marked three (inl (omega arith)) (figures-marked two (inl (omega arith)) (figures-marked one (inl (omega arith)) figured)));
-        shows = λ _. subst (λ (w : Venue). Fully (w .regular)) (sym (same ∙ beside ∙ is)) shown;
-      };
+          (complexes-filled c d (ap (λ (w : Venue). w .complex) ls) (n .complexes) (cs .filled)))));
+      marked = beside .marked (λ s w. rw is (steps s w)) (rw is shown);
     }
 
 -- A sound venue can be loaded -----------------------------------------------------------------

@@ -15,7 +15,7 @@ use Rattle.rules.specs.declared.Regular.{Regular}
 use Rattle.rules.specs.declared.Venue.{Venue}
 use Rattle.rules.specs.Words.{noRegular, noComplex, noLegging, notListed, noEdition, regularAt, complexAt, withRegular, withComplex, withLegging, withSeries, withEditions, withLast}
 use Rattle.rules.specs.Places.{holdsRegular}
-use Rattle.places.specs.Layout.{size, upto, inUse, regularsUsed, complexesUsed, regularIn, complexIn, leggingIn, listedIn, editionIn, venueOf}
+use Rattle.places.specs.Layout.{size, upto, inUse, regularsUsed, complexesUsed, regularIn, complexIn, leggingIn, listedIn, editionIn, generationsIn, venueOf}
 use Rattle.places.proofs.Tables.{upto-length, upto-at, upto-same, upto-set, used-same, used-set, used-at, used-free, used-length}
 
 -- a and b have the same numbers but for those from low to below high
@@ -78,6 +78,10 @@ edition-fields : (a b : List ℕ) (i : ℕ) → getD b (4 * i + 830) 0 ≡ getD 
 unfolding editionIn
 edition-fields a b i p q r s = rw (p, q, r, s)
 
+generations-fields : (a b : List ℕ) (s : ℕ) → ((k : ℕ) → 20 * s + 1232 ≤ k → k < 20 * s + 1252 → getD b k 0 ≡ getD a k 0) → generationsIn a s ≡ generationsIn b s
+unfolding generationsIn
+generations-fields a b s h = rw (upto-same (λ k. getD a k 0) (λ k. getD b k 0) (20 * s + 1232) 20 (λ k p q. sym (h k p (omega arith)))) refl
+
 -- Places that the store does not reach --------------------------------------------------------
 
 module _ {low high : ℕ} {a b : List ℕ} (o : Outside low high a b) where
@@ -113,6 +117,9 @@ module _ {low high : ℕ} {a b : List ℕ} (o : Outside low high a b) where
       (o .same (4 * i + 832) (inl (omega arith))) (o .same (4 * i + 833) (inl (omega arith)))
   edition-kept i (inr h) = edition-fields a b i (o .same (4 * i + 830) (inr (omega arith))) (o .same (4 * i + 831) (inr (omega arith)))
       (o .same (4 * i + 832) (inr (omega arith))) (o .same (4 * i + 833) (inr (omega arith)))
+
+  pub generation-kept : (s : ℕ) → (20 * s + 1252 ≤ low) ⊎ (high ≤ 20 * s + 1232) → generationsIn a s ≡ generationsIn b s
+  generation-kept s h = generations-fields a b s (span-kept (20 * s + 1232) (20 * s + 1252) h)
 
 -- The counts and whole parts ------------------------------------------------------------------
 
@@ -197,15 +204,28 @@ module _ {low high : ℕ} {a b : List ℕ} (o : Outside low high a b) where
       go j q (inl x) = inr (omega arith)
       go j q (inr x) = inl (omega arith)
 
+  pub generations-kept : (high ≤ 1232) ⊎ (1392 ≤ low) → venueOf b .generations ≡ venueOf a .generations
+  unfolding venueOf
+  generations-kept h = upto-same (generationsIn b) (generationsIn a) 0 8 (λ s p q. sym (generation-kept o s (go s (omega arith) h)))
+    where
+      go : (s : ℕ) → s < 8 → (high ≤ 1232) ⊎ (1392 ≤ low) → (20 * s + 1252 ≤ low) ⊎ (high ≤ 20 * s + 1232)
+      go s q (inl x) = inr (omega arith)
+      go s q (inr x) = inl (omega arith)
+
   pub last-kept : (778 < low) ⊎ (high ≤ 778) → venueOf b .last ≡ venueOf a .last
   unfolding venueOf
   last-kept h = o .same 778 h
 
+  pub reached-kept : (1392 < low) ⊎ (high ≤ 1392) → venueOf b .reached ≡ venueOf a .reached
+  unfolding venueOf
+  reached-kept h = o .same 1392 h
+
 -- One place anew ------------------------------------------------------------------------------
 
 -- venues with the same parts are the same
-pub venue-is : (v w : Venue) → v .regular ≡ w .regular → v .complex ≡ w .complex → v .legging ≡ w .legging → v .series ≡ w .series → v .editions ≡ w .editions → v .last ≡ w .last → v ≡ w
-venue-is v w p q r s e t = rw (p, q, r, s, e, t)
+pub venue-is : (v w : Venue) → v .regular ≡ w .regular → v .complex ≡ w .complex → v .legging ≡ w .legging → v .series ≡ w .series → v .editions ≡ w .editions → v .generations ≡ w .generations → v .last ≡ w .last →
+    v .reached ≡ w .reached → v ≡ w
+venue-is v w p q r s e g t k = rw (p, q, r, s, e, g, t, k)
 
 -- a row of a regular place, and the row of what it shows
 module _ {i : ℕ} {a m b : List ℕ} (o : Outside (4 * i) (4 * i + 4) a m) (p : Outside (2 * i + 975) (2 * i + 977) m b) where
@@ -227,7 +247,9 @@ module _ {i : ℕ} {a m b : List ℕ} (o : Outside (4 * i) (4 * i + 4) a m) (p :
       (leggings-kept p (inr (omega arith)) ∙ leggings-kept o (inl (omega arith)))
       (series-kept p (inr (omega arith)) ∙ series-kept o (inl (omega arith)))
       (editions-kept p (inr (omega arith)) ∙ editions-kept o (inl (omega arith)))
+      (generations-kept p (inl (omega arith)) ∙ generations-kept o (inl (omega arith)))
       (last-kept p (inl (omega arith)) ∙ last-kept o (inr (omega arith)))
+      (reached-kept p (inr (omega arith)) ∙ reached-kept o (inr (omega arith)))
 
   as-many : i < 128 → regularsUsed b ≡ regularsUsed a
   as-many h = count-kept p (inl (omega arith)) ∙ count-kept o (inr (omega arith))
@@ -257,7 +279,9 @@ module _ {i : ℕ} {a b : List ℕ} where
       (leggings-kept o (inl (omega arith)))
       (series-kept o (inl (omega arith)))
       (editions-kept o (inl (omega arith)))
+      (generations-kept o (inl (omega arith)))
       (last-kept o (inr (omega arith)))
+      (reached-kept o (inr (omega arith)))
     where
       near : (j : ℕ) → j ≢ i → (6 * j + 518 ≤ 6 * i + 512) ⊎ (6 * i + 518 ≤ 6 * j + 512)
       near j n = elim (decLt j i) [ yes q ↦ inl (omega arith) | no q ↦ inr (omega arith) ]
@@ -274,7 +298,9 @@ module _ {i : ℕ} {a b : List ℕ} where
       part
       (series-kept o (inl (omega arith)))
       (editions-kept o (inl (omega arith)))
+      (generations-kept o (inl (omega arith)))
       (last-kept o (inr (omega arith)))
+      (reached-kept o (inr (omega arith)))
     where
       near : (j : ℕ) → j ≢ i → (3 * j + 707 ≤ 3 * i + 704) ⊎ (3 * i + 707 ≤ 3 * j + 704)
       near j n = elim (decLt j i) [ yes q ↦ inl (omega arith) | no q ↦ inr (omega arith) ]
@@ -291,7 +317,9 @@ module _ {i : ℕ} {a b : List ℕ} where
       (leggings-kept o (inr (omega arith)))
       part
       (editions-kept o (inl (omega arith)))
+      (generations-kept o (inl (omega arith)))
       (last-kept o (inr (omega arith)))
+      (reached-kept o (inr (omega arith)))
     where
       near : (j : ℕ) → j ≢ i → (3 * j + 755 ≤ 3 * i + 752) ⊎ (3 * i + 755 ≤ 3 * j + 752)
       near j n = elim (decLt j i) [ yes q ↦ inl (omega arith) | no q ↦ inr (omega arith) ]
@@ -308,7 +336,9 @@ module _ {i : ℕ} {a b : List ℕ} where
       (leggings-kept o (inr (omega arith)))
       (series-kept o (inr (omega arith)))
       part
+      (generations-kept o (inl (omega arith)))
       (last-kept o (inl (omega arith)))
+      (reached-kept o (inr (omega arith)))
     where
       near : (j : ℕ) → j ≢ i → (4 * j + 834 ≤ 4 * i + 830) ⊎ (4 * i + 834 ≤ 4 * j + 830)
       near j n = elim (decLt j i) [ yes q ↦ inl (omega arith) | no q ↦ inr (omega arith) ]
@@ -326,7 +356,9 @@ module _ {a b : List ℕ} where
       (leggings-kept o (inr (omega arith)))
       (series-kept o (inr (omega arith)))
       (editions-kept o (inl (omega arith)))
+      (generations-kept o (inl (omega arith)))
       (unfold venueOf in refl)
+      (reached-kept o (inr (omega arith)))
 
   -- a store into a place that is not in use changes nothing
   pub complex-unused : (i : ℕ) → Outside (6 * i + 512) (6 * i + 518) a b → i < 32 → complexesUsed a ≤ i → venueOf b ≡ venueOf a
@@ -337,7 +369,9 @@ module _ {a b : List ℕ} where
       (leggings-kept o (inl (omega arith)))
       (series-kept o (inl (omega arith)))
       (editions-kept o (inl (omega arith)))
+      (generations-kept o (inl (omega arith)))
       (last-kept o (inr (omega arith)))
+      (reached-kept o (inr (omega arith)))
     where
       part : complexesUsed b ≡ complexesUsed a → venueOf b .complex ≡ venueOf a .complex
       part e = unfold venueOf in rw e (used-same (complexIn b) (complexIn a) noComplex (complexesUsed a) 32 (λ j q. sym (complex-kept o j (inl (omega arith)))))
@@ -352,7 +386,9 @@ module _ {a b : List ℕ} where
       (leggings-kept o (inr (omega arith)))
       (series-kept o (inr (omega arith)))
       (editions-kept o (inl (omega arith)))
+      (generations-kept o (inl (omega arith)))
       (last-kept o (inr (omega arith)))
+      (reached-kept o (inr (omega arith)))
     where
       part : venueOf b .regular ≡ inUse (regularIn a) noRegular (regularsUsed b) 128
       part = unfold venueOf in (used-same (regularIn b) (regularIn a) noRegular (regularsUsed b) 128 (λ j q. let z = regulars-few b in sym (regular-kept o j (inl (omega arith)) (inr (omega arith)))))
@@ -366,7 +402,9 @@ module _ {a b : List ℕ} where
       (leggings-kept o (inr (omega arith)))
       (series-kept o (inr (omega arith)))
       (editions-kept o (inl (omega arith)))
+      (generations-kept o (inl (omega arith)))
       (last-kept o (inr (omega arith)))
+      (reached-kept o (inr (omega arith)))
     where
       part : venueOf b .complex ≡ inUse (complexIn a) noComplex (complexesUsed b) 32
       part = unfold venueOf in (used-same (complexIn b) (complexIn a) noComplex (complexesUsed b) 32 (λ j q. let z = complexes-few b in sym (complex-kept o j (inl (omega arith)))))

@@ -11,14 +11,14 @@ use lib.Seq.{getD-set-other}
 use Rattle.rules.specs.declared.Regular.{Regular}
 use Rattle.rules.specs.declared.Venue.{Venue}
 use Rattle.rules.specs.Base.{held}
-use Rattle.rules.specs.Words.{placeOf, noRegular, freshVenue}
+use Rattle.rules.specs.Words.{placeOf, noRegular, noGenerations, freshVenue}
 use Rattle.rules.specs.Prices.{shown, showsAt, showsFor, bestIn, sizeIn}
 use Rattle.rules.specs.Settings.{baseFigure, sets, lastValue, figureNow}
 use Rattle.rules.specs.Sound.{showsFully}
 use Rattle.rules.specs.Step.{mask}
-use Rattle.places.specs.Layout.{size, upto, inUse, regularsUsed, complexesUsed, leggingIn, listedIn, editionIn, venueOf, levelOf, levelIn, Fully, Orderly, Right, Loaded, FiguresBase}
-use Rattle.places.proofs.Tables.{free-getD}
-use Rattle.places.proofs.Parts.{Outside, count-kept, count-kept2}
+use Rattle.places.specs.Layout.{size, upto, inUse, regularsUsed, complexesUsed, leggingIn, listedIn, editionIn, generationsIn, venueOf, levelOf, levelIn, Fully, Orderly, Right, Loaded, FiguresBase}
+use Rattle.places.proofs.Tables.{free-getD, upto-same}
+use Rattle.places.proofs.Parts.{Outside, count-kept, count-kept2, venue-is}
 use Rattle.places.proofs.Beside.{place-few, levels-kept, beside-venue}
 use Rattle.rules.proofs.Editions.{base-some}
 
@@ -32,7 +32,7 @@ unfolding openTo
 open-length zero = refl
 open-length (suc s) = length-set (openTo s) (3 * s + 752) 1 ∙ open-length s
 
-pub open-first : replicate 1232 0 ≡ openTo 0
+pub open-first : replicate 1393 0 ≡ openTo 0
 unfolding openTo
 open-first = refl
 
@@ -46,9 +46,15 @@ unfolding openTo
 zero-after zero k h = free-getD 0 size k
 zero-after (suc s) k h = getD-set-other (openTo s) (3 * s + 752) k 1 0 (λ e. omega arith) ∙ zero-after s k (omega arith)
 
+-- no generations: nothing is past the mark
+zeros-generations : (s : ℕ) → generationsIn (openTo 8) s ≡ noGenerations
+unfolding generationsIn upto
+zeros-generations s = rw (upto-same (λ k. getD (openTo 8) k 0) (λ _. 0) (20 * s + 1232) 20 (λ k p q. zero-after 8 k (omega arith))) refl
+
 fresh-venue : venueOf (openTo 8) ≡ freshVenue
 unfolding openTo venueOf freshVenue inUse upto regularsUsed complexesUsed leggingIn listedIn editionIn
-fresh-venue = refl
+fresh-venue = venue-is (venueOf (openTo 8)) freshVenue refl refl refl refl refl (upto-same (generationsIn (openTo 8)) (λ _. noGenerations) 0 8 (λ s p q. zeros-generations s)) refl
+    (zero-after 8 1392 (omega arith))
 
 -- the levels of no orders are zeros, no place is known to be held, and no legging order stands
 zeros-level : (n : ℕ) → levelIn (openTo 8) n ≡ record { price = 0; size = 0 }
@@ -90,7 +96,7 @@ module _ (b : List ℕ) (base : FiguresBase (openTo 8) b) where
   o = record { same = base .others }
 
   venue : venueOf b ≡ freshVenue
-  venue = beside-venue o (omega arith) (inr (omega arith)) (inr (omega arith)) ∙ fresh-venue
+  venue = beside-venue o (omega arith) (inr (omega arith)) (inr (omega arith)) (omega arith) ∙ fresh-venue
 
   no-regular : regularsUsed b ≡ 0
   no-regular = count-kept o (inl (omega arith)) ∙ none-used .0

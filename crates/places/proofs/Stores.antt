@@ -129,7 +129,7 @@ module _ (a : List ℕ) (i k r : ℕ) (n : length a ≡ size) (h : i < regularsU
   -- with reserve it is marked
   pub regular-hides : k < getD a (4 * i + 3) 0 → (venueOf (set (set a (4 * i + 3) r) 1231 1) ≡ fillRegular i k (venueOf a)) × SameBeside a (set (set a (4 * i + 3) r) 1231 1)
   regular-hides lt = rw e (
-    beside-venue p (omega arith) (inr (omega arith)) (inl (omega arith)) ∙ left-venue,
+    beside-venue p (omega arith) (inr (omega arith)) (inl (omega arith)) (omega arith) ∙ left-venue,
     record {
       regulars = count-kept p (inl (omega arith)) ∙ count-kept o (inr (omega (arith, few)));
       complexes = count-kept2 p (inl (omega arith)) ∙ count-kept2 o (inr (omega (arith, few)));
@@ -150,7 +150,7 @@ module _ (a : List ℕ) (i k r : ℕ) (n : length a ≡ size) (h : i < regularsU
 
   pub regular-leaves : getD a (4 * i + 3) 0 ≤ k → (c : List ℕ) → c ≡ lowered (set a (4 * i + 3) r) 827 i → (venueOf c ≡ fillRegular i k (venueOf a)) × SameBeside a c
   regular-leaves le c f = rw (f, e) (
-    beside-venue p (omega arith) (inl (omega arith)) (inr (omega arith)) ∙ left-venue,
+    beside-venue p (omega arith) (inl (omega arith)) (inr (omega arith)) (omega arith) ∙ left-venue,
     record {
       regulars = count-kept p (inl (omega arith)) ∙ count-kept o (inr (omega (arith, few)));
       complexes = count-kept2 p (inl (omega arith)) ∙ count-kept2 o (inr (omega (arith, few)));
@@ -224,7 +224,7 @@ module _ (a : List ℕ) (i k r : ℕ) (n : length a ≡ size) (h : i < complexes
       let o = stored a (6 * i + 517) (getD a (6 * i + 517) 0 - k) in
       let p = stored b 828 (min (getD b 828 0) i) in
       rw (f, e) (
-        beside-venue p (omega arith) (inl (omega arith)) (inr (omega arith)) ∙ filled-venue2 a i k n h,
+        beside-venue p (omega arith) (inl (omega arith)) (inr (omega arith)) (omega arith) ∙ filled-venue2 a i k n h,
         record {
           regulars = count-kept p (inl (omega arith)) ∙ count-kept o (inr (omega arith));
           complexes = count-kept2 p (inl (omega arith)) ∙ count-kept2 o (inr (omega arith));
@@ -366,7 +366,7 @@ pub added-regular : (a b c : List ℕ) (n : ℕ) (o : Regular) → length a ≡ 
     n ≡ regularsUsed a → b ≡ regularPut a n o → c ≡ lowered (set b 776 (n + 1)) 827 n →
     (venueOf c ≡ putRegular (regularsUsed a) o (venueOf a)) × Beside (suc (regularsUsed a)) (complexesUsed a) a c
 added-regular a b c n o m h s d w z p q r = rw (r, q, p) (
-  beside-venue mark (omega arith) (inl (omega arith)) (inr (omega arith)) ∙ venue,
+  beside-venue mark (omega arith) (inl (omega arith)) (inr (omega arith)) (omega arith) ∙ venue,
   record {
     regulars = count-kept mark (inl (omega arith)) ∙ more-used a o m h;
     complexes = count-kept2 mark (inl (omega arith)) ∙ count-kept2 count (inr (omega arith)) ∙ count-kept2 reserve (inl (omega arith)) ∙ count-kept2 row (inr (omega arith));
@@ -493,7 +493,7 @@ pub added-complex : (a b c : List ℕ) (n : ℕ) (o : Complex) → length a ≡ 
     n ≡ complexesUsed a → b ≡ sets a (6 * n + 512) (complexRow o) → c ≡ lowered (set b 777 (n + 1)) 828 n →
     (venueOf c ≡ putComplex (complexesUsed a) o (venueOf a)) × Counts (regularsUsed a) (suc (complexesUsed a)) a c
 added-complex a b c n o m h s1 d1 s2 d2 k p q r = rw (r, q, p) (
-  beside-venue mark (omega arith) (inl (omega arith)) (inr (omega arith)) ∙ added-venue2 a o m h s1 d1 s2 d2 k,
+  beside-venue mark (omega arith) (inl (omega arith)) (inr (omega arith)) (omega arith) ∙ added-venue2 a o m h s1 d1 s2 d2 k,
   record {
     regulars = count-kept mark (inl (omega arith)) ∙ count-kept count (inl (omega arith)) ∙ count-kept row (inr (omega arith));
     complexes = count-kept2 mark (inl (omega arith)) ∙ count-is2 a wrote m long h;
@@ -594,7 +594,7 @@ put-legging a n rest u w old l m h e r p q = (
     row = wider (omega arith) (omega arith) (sets-outside b (3 * n + 704) (l .parent ∷ l .price ∷ l .quantity ∷ []))
 
     venue : venueOf c ≡ placed n l (venueOf a)
-    venue = legging-put b n l (length-set a 829 (rest + w) ∙ m) h ∙ ap (placed n l) (beside-venue one (omega arith) (inl (omega arith)) (inr (omega arith)))
+    venue = legging-put b n l (length-set a 829 (rest + w) ∙ m) h ∙ ap (placed n l) (beside-venue one (omega arith) (inl (omega arith)) (inr (omega arith)) (omega arith))
 
 listed-back : (a : List ℕ) (s : ℕ) (x : Listed) → length a ≡ size → s < 8 → x .status < 256 → listedIn (sets a (3 * s + 752) (x .status ∷ x .bid ∷ x .offer ∷ [])) s ≡ x
 unfolding listedIn
@@ -643,7 +643,7 @@ level-back a n l m h =
 pub put-level : (a : List ℕ) (n : ℕ) (l : Level) → length a ≡ size → n < 16 →
     LevelPut n l a (sets a (3 * n + 779) (l .price ∷ l .size % 4294967296 ∷ l .size / 4294967296 ∷ []))
 put-level a n l m h = record {
-  venue = beside-venue o (omega arith) (inl (omega arith)) (inr (omega arith));
+  venue = beside-venue o (omega arith) (inl (omega arith)) (inr (omega arith)) (omega arith);
   regulars = count-kept o (inl (omega arith));
   complexes = count-kept2 o (inl (omega arith));
   here = level-back a n l m h;

@@ -30,8 +30,17 @@ module _ {A : Type 0} where
   upto-same f g i zero h = refl
   upto-same f g i (suc k) h = ap₂ (λ (x : A) (l : List A). x ∷ l) (h i (omega arith) (omega arith)) (upto-same f g (suc i) k (λ j p q. h j (omega arith) (omega arith)))
 
+  -- wherever they start
+  pub upto-along : (f g : ℕ → A) (i j k : ℕ) → ((x : ℕ) → x < k → f (i + x) ≡ g (j + x)) → upto f i k ≡ upto g j k
+  unfolding upto
+  upto-along f g i j zero h = refl
+  upto-along f g i j (suc k) h =
+      ap₂ (λ (x : A) (l : List A). x ∷ l)
+      (ap f (omega arith) ∙ h 0 (omega arith) ∙ ap g (omega arith))
+      (upto-along f g (suc i) (suc j) k (λ x w. ap f (omega arith) ∙ h (suc x) (omega arith) ∙ ap g (omega arith)))
+
   -- one more
-  upto-from : (f : ℕ → A) (i k : ℕ) → upto f i (suc k) ≡ upto f i k ++ (f (i + k) ∷ [])
+  pub upto-from : (f : ℕ → A) (i k : ℕ) → upto f i (suc k) ≡ upto f i k ++ (f (i + k) ∷ [])
   unfolding upto
   upto-from f i zero = let e : i ≡ i + 0 = omega arith in ap (λ (j : ℕ). f j ∷ []) e
   upto-from f i (suc k) =

@@ -13,6 +13,8 @@
 --    958   figures in force: the increments of series 0 to 7, the percentage, in every second number
 --    975   reserve and shown quantity of an order, as last written               128 regular, by their place
 --   1231   the mark: 0 where every order shows what it should
+--   1232   messages of the last 20 generations, oldest first                   8 series
+--   1392   the last id that a limited sweep looked at
 --
 -- Legs is 16 * the legging place of the first leg + that of the second; ratios is 256 * the ratio of the first leg + that of the second.
 -- What stands in regular and complex places that are not in use means nothing. The numbers from 779 to 829, from 958 to 974 and the mark are kept
@@ -32,6 +34,7 @@ use Rattle.rules.specs.declared.Complex.{Complex}
 use Rattle.rules.specs.declared.Legging.{Legging}
 use Rattle.rules.specs.declared.Listed.{Listed}
 use Rattle.rules.specs.declared.Edition.{Edition}
+use Rattle.rules.specs.declared.Generations.{Generations}
 use Rattle.rules.specs.declared.Venue.{Venue}
 use Rattle.places.specs.declared.Level.{Level}
 use Rattle.rules.specs.Words.{placeOf, noRegular, noComplex, withRegular, withComplex, withEditions}
@@ -44,7 +47,7 @@ use Rattle.rules.specs.Step.{mask}
 
 -- the slice's length
 abbrev pub size : ℕ
-size = 1232
+size = 1393
 
 -- f of each number from i on, k of them
 unfoldable pub upto : {A : Type 0} → (ℕ → A) → (i k : ℕ) → List A
@@ -102,6 +105,9 @@ editionIn b i = record {
   value = getD b (4 * i + 833) 0 % 256;
 }
 
+unfoldable pub generationsIn : List ℕ → (series : ℕ) → Generations
+generationsIn b s = record { messages = upto (λ k. getD b k 0) (20 * s + 1232) 20 }
+
 -- an order's series and side as one number, by which a scan passes over the others, and so the legs of a complex order
 unfoldable pub regularKey : Regular → ℕ
 regularKey o = placeOf (o .series) (o .side)
@@ -117,7 +123,9 @@ venueOf b = record {
   legging = upto (leggingIn b) 0 16;
   series = upto (listedIn b) 0 8;
   editions = upto (editionIn b) 0 32;
+  generations = upto (generationsIn b) 0 8;
   last = getD b 778 0;
+  reached = getD b 1392 0;
 }
 
 -- The numbers of a place ----------------------------------------------------------------------
@@ -349,6 +357,14 @@ pub record EditionsLoaded (a : List ℕ) (l : List Edition) (b : List ℕ) : Typ
   pub venue : venueOf b ≡ withEditions (venueOf a) l
   pub regulars : regularsUsed b ≡ regularsUsed a
   pub complexes : complexesUsed b ≡ complexesUsed a
+
+-- from a to b mask and figures are counted, no place is known to be held, and the mark is 0; so what is known is right where no increment is 0
+-- and every order shows what it should
+pub record BesideCounted (a b : List ℕ) : Type 0 where
+  pub venue : venueOf b ≡ venueOf a
+  pub regulars : regularsUsed b ≡ regularsUsed a
+  pub complexes : complexesUsed b ≡ complexesUsed a
+  pub marked : ((s : ℕ) → s < 8 → 0 < increment (venueOf a) s) → Fully (venueOf a .regular) → Marked b
 
 -- b stands for v, all places in use are held, none is known to be, and mask, figures and mark are right
 pub record Laid (v : Venue) (b : List ℕ) : Type 0 where

@@ -7,28 +7,29 @@ ghost use Prim.Native.Nat.{ℕ, suc, min, _+_, _-_, _*_, _^_, _≤_, _<_};
 ghost use lib.IntN.{pos, _-ℤ_};
 ghost use lib.ListN.{length, getD, set};
 ghost use lib.Seq.{sets};
-ghost use Rattle.rules.specs.Words.{placeOf, freshVenue, withLegging, withSeries, withEditions, withLast};
+ghost use Rattle.rules.specs.Words.{placeOf, freshVenue, withLegging, withSeries, withEditions, withGenerations, withLast, withReached};
 ghost use Rattle.rules.specs.Settings.{figureNow, freeEdition};
 ghost use Rattle.rules.specs.Trading.{fillRegular, fillComplex, putRegular, putComplex};
-ghost use Rattle.rules.specs.Generation.{placed};
+ghost use Rattle.rules.specs.Generation.{placed, generationsOf, counted};
 ghost use Rattle.rules.specs.Places.{holdsRegular, holdsComplex, holdsEdition};
 ghost use Rattle.rules.specs.Standing.{showAgain};
 ghost use Rattle.rules.specs.Sound.{showsFully};
 ghost use Rattle.rules.specs.Step.{mask};
-ghost use Rattle.places.specs.Layout.{size, regularsUsed, complexesUsed, regularIn, complexIn, leggingIn, listedIn, editionIn, levelIn, regularKey, legsKey, venueOf, regularPut, limitNumber, complexRow, editionRow, Kept, bitOf};
+ghost use Rattle.places.specs.Layout.{size, regularsUsed, complexesUsed, regularIn, complexIn, leggingIn, listedIn, editionIn, generationsIn, levelIn, regularKey, legsKey, venueOf, regularPut, limitNumber, complexRow, editionRow, Kept, bitOf};
 ghost use Rattle.places.specs.Layout.{Figured, FiguresBase, FigureSet, FiguresCounted};
 ghost use Rattle.places.specs.Layout.{isUnmarked, Marked, Right, Beside, SameBeside, LevelPut, Counts, SameCounts};
 ghost use Rattle.places.specs.Layout.{Filled, RegularsClosed, ComplexesClosed, GapsClosed};
-ghost use Rattle.places.specs.Layout.{RegularsPlaced, ComplexesPlaced, Loadable, RegularsLoaded, ComplexesLoaded, EditionsLoaded, Laid, Loaded};
+ghost use Rattle.places.specs.Layout.{RegularsPlaced, ComplexesPlaced, Loadable, RegularsLoaded, ComplexesLoaded, EditionsLoaded, BesideCounted, Laid, Loaded};
 use rules::Complex;
 use rules::Edition;
+use rules::Generations;
 use rules::Legging;
 use rules::Listed;
 use rules::Regular;
 use rules::Venue;
 
 // The slice's length.
-pub const SIZE: usize = 1232;
+pub const SIZE: usize = 1393;
 
 // The best price of a side, and its total size; both 0 where there is none.
 pub struct Level {
@@ -227,6 +228,30 @@ pub fn last_id(b: &[u32]) -> u32
     ensures { λ r. ⌜ r ≡ venueOf (now (b .entry)) .last ⌝ }
 {
     b[778]
+}
+
+// The message of one of a series' last 20 generations, oldest first; 0 where there were fewer.
+pub fn generation_at(b: &[u32], s: usize, k: usize) -> u32
+    requires { ⌜ (length (now b) ≡ size) × (s < 8) × (k < 20) ⌝ }
+    ensures { λ r. ⌜ r ≡ getD (generationsOf (venueOf (now (b .entry))) s) k 0 ⌝ }
+{
+    b[20 * s + k + 1232]
+}
+
+// The message of the oldest of them.
+pub fn oldest_at(b: &[u32], s: usize) -> u32
+    requires { ⌜ (length (now b) ≡ size) × (s < 8) ⌝ }
+    ensures { λ r. ⌜ r ≡ getD (generationsOf (venueOf (now (b .entry))) s) 0 0 ⌝ }
+{
+    generation_at(b, s, 0)
+}
+
+// The last id that a limited sweep looked at.
+pub fn reached_id(b: &[u32]) -> u32
+    requires { ⌜ length (now b) ≡ size ⌝ }
+    ensures { λ r. ⌜ r ≡ venueOf (now (b .entry)) .reached ⌝ }
+{
+    b[1392]
 }
 
 // The level kept for a series and side: n is their legging place.
@@ -497,6 +522,45 @@ pub fn put_last(b: &mut [u32], id: u32)
     b[778] = id;
 }
 
+// A series' generations anew.
+fn put_generations(b: &mut [u32], s: usize, g: Generations)
+    requires { ⌜ (length (now b) ≡ size) × (s < 8) ⌝ }
+    ensures { λ _. ⌜ venueOf (now (b .exit)) ≡ withGenerations (venueOf (now (b .entry))) (set (venueOf (now (b .entry)) .generations) s g) ⌝ }
+    ensures counts { λ _. ⌜ SameCounts (now (b .entry)) (now (b .exit)) ⌝ }
+{
+    let messages = g.messages;
+    let mut k: usize = 0;
+    while k < 20 {
+        b[20 * s + k + 1232] = messages[k];
+        k += 1;
+    }
+}
+
+// One generation more of a series, by the message of this number; the oldest is forgotten.
+pub fn count_generation(b: &mut [u32], s: usize, number: u32)
+    requires { ⌜ (length (now b) ≡ size) × (s < 8) ⌝ }
+    ensures { λ _. ⌜ venueOf (now (b .exit)) ≡ counted number s (venueOf (now (b .entry))) ⌝ }
+    ensures counts { λ _. ⌜ SameCounts (now (b .entry)) (now (b .exit)) ⌝ }
+{
+    let first = 20 * s + 1232;
+    let last = first + 19;
+    let mut k = first;
+    while k < last {
+        b[k] = b[k + 1];
+        k += 1;
+    }
+    b[last] = number;
+}
+
+// The last id that a limited sweep looked at.
+pub fn put_reached(b: &mut [u32], id: u32)
+    requires { ⌜ length (now b) ≡ size ⌝ }
+    ensures { λ _. ⌜ venueOf (now (b .exit)) ≡ withReached (venueOf (now (b .entry))) id ⌝ }
+    ensures counts { λ _. ⌜ SameCounts (now (b .entry)) (now (b .exit)) ⌝ }
+{
+    b[1392] = id;
+}
+
 // The regular places before the first free one of n; those that are known to be held are not looked at.
 fn held_regulars(b: &[u32], n: usize) -> usize
     requires { ⌜ (length (now b) ≡ size) × (n ≡ regularsUsed (now b)) × (Marked (now b)) ⌝ }
@@ -713,6 +777,34 @@ fn editions_of(b: &[u32]) -> [Edition; 32]
     r
 }
 
+fn generations_at(b: &[u32], s: usize) -> Generations
+    requires { ⌜ (length (now b) ≡ size) × (s < 8) ⌝ }
+    ensures { λ r. ⌜ r ≡ generationsIn (now (b .entry)) s ⌝ }
+{
+    let mut messages = [0u32; 20];
+    let mut k: usize = 0;
+    while k < 20 {
+        messages[k] = b[20 * s + k + 1232];
+        k += 1;
+    }
+    Generations { messages }
+}
+
+fn generations_of(b: &[u32]) -> [Generations; 8]
+    requires { ⌜ length (now b) ≡ size ⌝ }
+    ensures { λ r. ⌜ r ≡ venueOf (now (b .entry)) .generations ⌝ }
+{
+    let none = Generations { messages: [0; 20] };
+    let mut r = [none; 8];
+    let mut i: usize = 0;
+    while i < 8 {
+        let x = generations_at(b, i);
+        r[i] = x;
+        i += 1;
+    }
+    r
+}
+
 // The venue that the numbers stand for.
 pub fn venue_of(b: &[u32]) -> Venue
     requires { ⌜ length (now b) ≡ size ⌝ }
@@ -723,14 +815,18 @@ pub fn venue_of(b: &[u32]) -> Venue
     let legging = leggings_of(b);
     let series = series_of(b);
     let editions = editions_of(b);
+    let generations = generations_of(b);
     let last = last_id(b);
+    let reached = reached_id(b);
     Venue {
         regular,
         complex,
         legging,
         series,
         editions,
+        generations,
         last,
+        reached,
     }
 }
 
@@ -810,6 +906,20 @@ fn load_editions(b: &mut [u32], l: [Edition; 32])
     }
 }
 
+// The generations of each series, and the last id that a limited sweep looked at.
+fn load_traffic(b: &mut [u32], l: [Generations; 8], reached: u32)
+    requires { ⌜ length (now b) ≡ size ⌝ }
+    ensures { λ _. ⌜ venueOf (now (b .exit)) ≡ withReached (withGenerations (venueOf (now (b .entry))) l) reached ⌝ }
+{
+    let mut i: usize = 0;
+    while i < 8 {
+        let x = l[i];
+        put_generations(b, i, x);
+        i += 1;
+    }
+    put_reached(b, reached);
+}
+
 fn bit(l: Legging) -> u16
     ensures { λ r. ⌜ r ≡ bitOf l ⌝ }
 {
@@ -834,11 +944,26 @@ fn count_mask(b: &[u32]) -> u16
     m
 }
 
-// A venue's numbers. No place is known to be held, mask and figures are counted, there is no mark, and the levels stay as they are.
+// What is kept beside the venue, but for the levels: no place is known to be held, mask and figures are counted, and there is no mark.
+fn count_beside(b: &mut [u32])
+    requires { ⌜ length (now b) ≡ size ⌝ }
+    ensures { λ _. ⌜ BesideCounted (now (b .entry)) (now (b .exit)) ⌝ }
+{
+    let mask = count_mask(b);
+    count_figures(b);
+    b[827] = 0;
+    b[828] = 0;
+    b[829] = mask as u32;
+    b[1231] = 0;
+}
+
+// A venue's numbers, and what is kept beside them; the levels stay as they are.
 pub fn load(b: &mut [u32], v: Venue)
     requires { ⌜ (length (now b) ≡ size) × Loadable v ⌝ }
     ensures { λ _. ⌜ Laid v (now (b .exit)) ⌝ }
 {
+    let generations = v.generations;
+    load_traffic(b, generations, v.reached);
     let regular = v.regular;
     load_regulars(b, regular);
     let complex = v.complex;
@@ -850,10 +975,5 @@ pub fn load(b: &mut [u32], v: Venue)
     let editions = v.editions;
     load_editions(b, editions);
     put_last(b, v.last);
-    let mask = count_mask(b);
-    count_figures(b);
-    b[827] = 0;
-    b[828] = 0;
-    b[829] = mask as u32;
-    b[1231] = 0;
+    count_beside(b);
 }

@@ -39,7 +39,7 @@ loop-again : tie.Need-loop-again Inv-loop μ-loop
 loop-again c = (omega arith, open-next _ _ (c .before .loop .inv .1))
 
 slice-aggregate-base-figures : tie.Need-slice-aggregate-base-figures Inv-loop μ-loop
-slice-aggregate-base-figures c = let e : length (c .before .before .loop .b) ≡ 1232 = ap length (c .before .before .loop .inv .1) ∙ open-length _ in search needs
+slice-aggregate-base-figures c = let e : length (c .before .before .loop .b) ≡ 1393 = ap length (c .before .before .loop .inv .1) ∙ open-length _ in search needs
 
 base-figures-requires : tie.Need-base-figures-requires Inv-loop μ-loop
 base-figures-requires c κs = let e = ap length (c .before .before .loop .inv .1) ∙ open-length _ in search needs
