@@ -8,7 +8,7 @@ use native.Mathlib.Nat.{div-add-mod', mod-lt}
 use borrow.Author.Tests.{eq-eqb, ne-eqb, le-leb, lt-leb, leb-true}
 use lib.Dec.{eqb, ltb, leb}
 use lib.IntN.{ℤ, pos, natAbs, negℤ, _-ℤ_, +ℤ-idl}
-use lib.ListN.{set}
+use lib.ListN.{getD, set}
 use lib.Seq.{set-getD, set-set}
 use mir.Syntax.{w64}
 use mir.Val.{SFits, toZ, ofZ}
@@ -19,14 +19,14 @@ use Rattle.rules.specs.declared.Leg.{Leg}
 use Rattle.rules.specs.declared.Venue.{Venue}
 use Rattle.rules.specs.declared.Cause.the-variants.{Replaced}
 use Rattle.rules.specs.Base.{if_then_else_, held}
-use Rattle.rules.specs.Words.{buy, within, opposite, signed, noComplex, noLegging, oneToOne, placeOf, leggingAt, complexAt, statusOf, withLegging}
+use Rattle.rules.specs.Words.{buy, within, opposite, signed, noComplex, noLegging, oneToOne, placeOf, leggingAt, complexAt, statusOf, withGenerations, withLegging}
 use Rattle.rules.specs.Settings.{figureNow, increment, percent}
 use Rattle.rules.specs.Prices.{better, bestRegular, ownPrice, bestOwn, displayed, away, marketBest, taken1, taken2, inBand}
 use Rattle.rules.specs.Records.{generated}
 use Rattle.rules.specs.Effects.{Effect, nothing, report, _⟫_}
 use Rattle.rules.specs.Removal.{remove, failIf}
 use Rattle.rules.specs.Standing.{otherLeg, otherClear, otherSize, parentOf, bothOpen, shownWell}
-use Rattle.rules.specs.Generation.{asPrice, legPrice, newLegging, placed, reachesAny, givesWay, othersStand, makes, make, generateLeg, generate}
+use Rattle.rules.specs.Generation.{asPrice, legPrice, newLegging, placed, generationsOf, underCeiling, counted, reachesAny, givesWay, othersStand, makes, make, generateLeg, generate}
 use Rattle.rules.proofs.Tests.{and-l, and-r, held-pos, pos-held}
 use Rattle.rules.proofs.Better.{is-false}
 use Rattle.rules.proofs.Integers.{abs-neg, abs-add}
@@ -144,10 +144,21 @@ module _ (v : Venue) (c : Complex) (d p own : ℕ) (l : Legging) (ew : own ≡ o
     unfolding givesWay
     way-class k n m em = rw (← ew, h, eq-eqb p own k, eq-eqb (c .class) 0 n, ← em)
 
--- no legging order has a part in whether an order may generate
-generates-beside : (n : ℕ) (l : Legging) (v : Venue) (c : Complex) → mayGenerate (placed n l v) c ≡ mayGenerate v c
-unfolding mayGenerate bothOpen statusOf inBand percent figureNow taken1 taken2 marketBest away bestRegular placed withLegging
-generates-beside n l v c = refl
+-- no legging order has a part in whether an order may generate, nor has the count of those made
+generates-beside : (number s n : ℕ) (l : Legging) (v : Venue) (c : Complex) → mayGenerate (counted number s (placed n l v)) c ≡ mayGenerate v c
+unfolding mayGenerate bothOpen statusOf inBand percent figureNow taken1 taken2 marketBest away bestRegular counted withGenerations placed withLegging
+generates-beside number s n l v c = refl
+
+-- The ceiling ---------------------------------------------------------------------------------
+
+module _ (number x : ℕ) (gs : List ℕ) (e : x ≡ getD gs 0 0) where
+  pub under-none : x ≡ 0 → true ≡ underCeiling number gs
+  unfolding underCeiling
+  under-none h = rw (← e, h)
+
+  pub under-old : (x ≡ 0 → ⊥) → leb (x + 256) number ≡ underCeiling number gs
+  unfolding underCeiling
+  under-old h = rw (← e, ne-eqb x 0 h)
 
 -- the increments in force
 pub steps-some : (b : List ℕ) (s : ℕ) → Figured b → s < 8 → 0 < increment (venueOf b) s
@@ -202,50 +213,59 @@ module _ (v : Venue) (c : Complex) (s d : ℕ) where
 
   -- Made or not -----------------------------------------------------------------------------
 
-  generates-made : Makes v c s d → mayGenerate v c ≡ true
+  generates-made : {number : ℕ} → Makes number v c s d → mayGenerate v c ≡ true
   unfolding mayGenerate
   generates-made m = rw (m .even, m .opens, m .band)
 
-  may-made : Makes v c s d → mayStand v c s d (legPrice v c s d) ≡ true
+  may-made : {number : ℕ} → Makes number v c s d → mayStand v c s d (legPrice v c s d) ≡ true
   unfolding mayStand standsClear
   may-made m = rw (generates-made m, m .shown, m .inside, m .outside, m .way)
 
-  planned-made : 0 < increment v s → held (c .quantity) ≡ true → Makes v c s d → plannedLeg v c s d ≡ newLegging v c s d
+  planned-made : {number : ℕ} → 0 < increment v s → held (c .quantity) ≡ true → Makes number v c s d → plannedLeg v c s d ≡ newLegging v c s d
   unfolding asked
   planned-made k h m =
       let e = priced-leg (m .clear) (m .range) in
       planned-if true (rw (h, e, zero-out (increment v s) d (legPrice v c s d) k (m .range), may-made m))
 
-  not-made : (held (c .quantity) && makes v c s d) ≡ false → nothing v ≡ generateLeg c s d v
+  not-made : (number : ℕ) → (held (c .quantity) && makes number v c s d) ≡ false → nothing v ≡ generateLeg number c s d v
   unfolding generateLeg
-  not-made h = rw h
+  not-made number h = rw h
 
   -- nothing is made for an order that is gone, nor for one that may not generate
-  gone-none : c .quantity ≡ 0 → nothing v ≡ generateLeg c s d v
-  gone-none h = not-made (rw (eq-eqb (c .quantity) 0 h))
+  gone-none : (number : ℕ) → c .quantity ≡ 0 → nothing v ≡ generateLeg number c s d v
+  gone-none number h = not-made number (rw (eq-eqb (c .quantity) 0 h))
 
-  shut-none : mayGenerate v c ≡ false → nothing v ≡ generateLeg c s d v
-  shut-none h =
-      not-made (is-false (held (c .quantity) && makes v c s d) (λ t. true≢false (sym (generates-made (made (and-r (held (c .quantity)) (makes v c s d) t))) ∙ h)))
+  -- where some condition does not hold
+  unmade : (number : ℕ) → (held (c .quantity) ≡ true → Makes number v c s d → ⊥) → nothing v ≡ generateLeg number c s d v
+  unmade number f =
+      not-made number (is-false (held (c .quantity) && makes number v c s d)
+      (λ t. f (and-l (held (c .quantity)) (makes number v c s d) t) (made (and-r (held (c .quantity)) (makes number v c s d) t))))
+
+  shut-none : (number : ℕ) → mayGenerate v c ≡ false → nothing v ≡ generateLeg number c s d v
+  shut-none number h = unmade number (λ q m. true≢false (sym (generates-made m) ∙ h))
 
   -- what is made leaves that as it was
-  pub generates-kept : (w : Venue) → w ≡ generateLeg c s d v .venue → mayGenerate w c ≡ mayGenerate v c
+  pub generates-kept : (number : ℕ) (w : Venue) → w ≡ generateLeg number c s d v .venue → mayGenerate w c ≡ mayGenerate v c
   unfolding generateLeg nothing
-  generates-kept w e = ap (λ (x : Venue). mayGenerate x c) e ∙ go (held (c .quantity) && makes v c s d)
+  generates-kept number w e = ap (λ (x : Venue). mayGenerate x c) e ∙ go (held (c .quantity) && makes number v c s d)
     where
-      go : (t : Bool) → mayGenerate ((if t then make c s d v else nothing v) .venue) c ≡ mayGenerate v c
-      go true = ap (λ (x : Venue). mayGenerate x c) (make-venue v c s d) ∙ generates-beside (placeOf s d) (newLegging v c s d) v c
+      go : (t : Bool) → mayGenerate ((if t then make number c s d v else nothing v) .venue) c ≡ mayGenerate v c
+      go true = ap (λ (x : Venue). mayGenerate x c) (make-venue number v c s d) ∙ generates-beside number s (placeOf s d) (newLegging v c s d) v c
       go false = refl
 
-  pub made-none : 0 < increment v s → (l : Legging) → l ≡ plannedLeg v c s d → l .price ≡ 0 → nothing v ≡ generateLeg c s d v
+  pub made-none : (number : ℕ) → 0 < increment v s → (l : Legging) → l ≡ plannedLeg v c s d → l .price ≡ 0 → nothing v ≡ generateLeg number c s d v
   unfolding newLegging
-  made-none k l el h = not-made (is-false (held (c .quantity) && makes v c s d) (λ t. go (and-l (held (c .quantity)) (makes v c s d) t) (made (and-r (held (c .quantity)) (makes v c s d) t))))
+  made-none number k l el h = unmade number go
     where
-      go : held (c .quantity) ≡ true → Makes v c s d → ⊥
+      go : held (c .quantity) ≡ true → Makes number v c s d → ⊥
       go q m =
           let z = held-pos (legPrice v c s d) (zero-out (increment v s) d (legPrice v c s d) k (m .range)) in
           let e : l .price ≡ legPrice v c s d = ap (λ (x : Legging). x .price) (el ∙ planned-made k q m) in
           omega arith
+
+  -- nor at the ceiling
+  pub made-over : (number : ℕ) → underCeiling number (generationsOf v s) ≡ false → nothing v ≡ generateLeg number c s d v
+  made-over number h = unmade number (λ q m. true≢false (sym (m .ceiling) ∙ h))
 
   module _ (l : Legging) (el : l ≡ plannedLeg v c s d) (n : l .price ≡ 0 → ⊥) where
     asked-all : asked ≡ true
@@ -281,9 +301,9 @@ module _ (v : Venue) (c : Complex) (s d : ℕ) where
       others-is : othersStand (placed k l v) k 0 (placed k l v .legging) ≡ othersStand (placed (placeOf s d) (newLegging v c s d) v) (placeOf s d) 0 (placed (placeOf s d) (newLegging v c s d) v .legging)
       others-is = rw (ek, planned-is) refl
 
-      pub made-alone : othersStand (placed k l v) k 0 (placed k l v .legging) ≡ false → nothing v ≡ generateLeg c s d v
+      pub made-alone : (number : ℕ) → othersStand (placed k l v) k 0 (placed k l v .legging) ≡ false → nothing v ≡ generateLeg number c s d v
       unfolding placed withLegging
-      made-alone h = not-made (is-false (held (c .quantity) && makes v c s d) (λ t. true≢false (sym (made (and-r (held (c .quantity)) (makes v c s d) t) .others) ∙ sym others-is ∙ h)))
+      made-alone number h = unmade number (λ q m. true≢false (sym (m .others) ∙ sym others-is ∙ h))
 
       may-generate : mayGenerate v c ≡ true
       unfolding mayStand
@@ -297,9 +317,9 @@ module _ (v : Venue) (c : Complex) (s d : ℕ) where
       unfolding mayStand
       may-way = and-r (mayGenerate v c && standsClear v s d (legPrice v c s d)) _ asked-may
 
-      makes-all : othersStand (placed k l v) k 0 (placed k l v .legging) ≡ true → makes v c s d ≡ true
+      makes-all : (number : ℕ) → othersStand (placed k l v) k 0 (placed k l v .legging) ≡ true → underCeiling number (generationsOf v s) ≡ true → makes number v c s d ≡ true
       unfolding makes mayGenerate standsClear
-      makes-all h =
+      makes-all number h u =
           let o = sym others-is ∙ h in
           let market : (oneToOne c && bothOpen v c) ≡ true = and-l _ (inBand v c (c .limit)) may-generate in
           let shown : shownWell v s d (legPrice v c s d) ≡ true = and-l _ _ (and-l _ _ may-clear) in
@@ -307,11 +327,12 @@ module _ (v : Venue) (c : Complex) (s d : ℕ) where
           let inside : not (reachesAny d (legPrice v c s d) (bestOwn v s (opposite d))) ≡ true = and-r (shownWell v s d (legPrice v c s d)) _ (and-l _ _ may-clear) in
           let outside : not (reachesAny d (legPrice v c s d) (away v s (opposite d))) ≡ true =
           and-r (shownWell v s d (legPrice v c s d) && not (reachesAny d (legPrice v c s d) (bestOwn v s (opposite d)))) _ may-clear in
-          rw (and-l (oneToOne c) (bothOpen v c) market, and-r (oneToOne c) (bothOpen v c) market, band, priced-clear asked-priced, priced-range asked-priced, shown, inside, outside, may-way, o)
+          rw (and-l (oneToOne c) (bothOpen v c) market, and-r (oneToOne c) (bothOpen v c) market, band, priced-clear asked-priced, priced-range asked-priced, shown, inside, outside, may-way, o, u)
 
-      pub made-is : othersStand (placed k l v) k 0 (placed k l v .legging) ≡ true → madeBy (c .id) s d l v ≡ generateLeg c s d v
+      pub made-is : (number : ℕ) → othersStand (placed k l v) k 0 (placed k l v .legging) ≡ true → underCeiling number (generationsOf v s) ≡ true →
+          madeBy number (c .id) s d l v ≡ generateLeg number c s d v
       unfolding generateLeg make madeBy
-      made-is h = rw (asked-held, makes-all h, planned-is) refl
+      made-is number h u = rw (asked-held, makes-all number h u, planned-is) refl
 
 -- One place for another -----------------------------------------------------------------------
 
@@ -340,44 +361,44 @@ same-place n k v e =
     one true = refl
     one false = refl
 
-pub made-law : (id s d n shown : ℕ) (l : Legging) (v v₁ v₂ : Venue) (o₀ o₁ o₂ : List ℕ) (at mid r : ℕ) → n ≡ placeOf s d → shown ≡ displayed (increment v s) d (l .price) →
+pub made-law : (number id s d n shown : ℕ) (l : Legging) (v v₁ v₂ v₃ : Venue) (o₀ o₁ o₂ : List ℕ) (at mid r : ℕ) → n ≡ placeOf s d → shown ≡ displayed (increment v s) d (l .price) →
     stage v₁ o₁ mid ≡ seen o₀ at does remove (λ m _. failIf (eqb m n || eqb m n) Replaced) v →
-    v₂ ≡ placed n l v₁ →
+    v₂ ≡ placed n l v₁ → v₃ ≡ counted number s v₂ →
     seen o₂ r ≡ seen o₁ mid writes (generated id s d (l .price) shown (l .quantity) ∷ []) →
-    stage v₂ o₂ r ≡ seen o₀ at does madeBy id s d l v
+    stage v₃ o₂ r ≡ seen o₀ at does madeBy number id s d l v
 unfolding madeBy
-made-law id s d n shown l v v₁ v₂ o₀ o₁ o₂ at mid r en es p q w =
+made-law number id s d n shown l v v₁ v₂ v₃ o₀ o₁ o₂ at mid r en es p q t w =
     follow (seen o₀ at) (remove (λ m _. failIf (eqb m (placeOf s d)) Replaced) v)
-    (λ u. report (generated id s d (l .price) (displayed (increment v s) d (l .price)) (l .quantity)) (placed (placeOf s d) l u)) v₁ v₂ o₁ o₂ mid r
+    (λ u. report (generated id s d (l .price) (displayed (increment v s) d (l .price)) (l .quantity)) (counted number s (placed (placeOf s d) l u))) v₁ v₃ o₁ o₂ mid r
     (p ∙ ap (λ (e : Effect). seen o₀ at does e) (same-place n (placeOf s d) v en))
-    (does-report v₂ o₂ o₁ r mid (generated id s d (l .price) shown (l .quantity)) w
+    (does-report v₃ o₂ o₁ r mid (generated id s d (l .price) shown (l .quantity)) w
     ∙ ap (λ (e : Effect). seen o₁ mid does e)
-    (ap₂ (λ (k : ℕ) (u : Venue). report (generated id s d (l .price) k (l .quantity)) u) es (q ∙ ap (λ (k : ℕ). placed k l v₁) en)))
+    (ap₂ (λ (k : ℕ) (u : Venue). report (generated id s d (l .price) k (l .quantity)) u) es (t ∙ ap (counted number s) (q ∙ ap (λ (k : ℕ). placed k l v₁) en))))
 
 -- The order at a place ------------------------------------------------------------------------
 
 -- where neither leg makes anything
-neither : (v : Venue) (i : ℕ) → ((s d : ℕ) → nothing v ≡ generateLeg (complexAt v i) s d v) → nothing v ≡ generate i v
+neither : (number : ℕ) (v : Venue) (i : ℕ) → ((s d : ℕ) → nothing v ≡ generateLeg number (complexAt v i) s d v) → nothing v ≡ generate number i v
 unfolding generate _⟫_ nothing
-neither v i q =
+neither number v i q =
     let c = complexAt v i in
-    q (c .series2) (c .side2) ∙ ap (λ (e : Effect). e ⟫ generateLeg c (c .series2) (c .side2)) (q (c .series1) (c .side1))
+    q (c .series2) (c .side2) ∙ ap (λ (e : Effect). e ⟫ generateLeg number c (c .series2) (c .side2)) (q (c .series1) (c .side1))
 
 -- a place that is not in use has nothing to generate
-pub generate-past : (b : List ℕ) (i : ℕ) → complexesUsed b ≤ i → nothing (venueOf b) ≡ generate i (venueOf b)
-generate-past b i h = neither (venueOf b) i (λ s d. rw (complex-past b i h) (gone-none (venueOf b) noComplex s d refl))
+pub generate-past : (number : ℕ) (b : List ℕ) (i : ℕ) → complexesUsed b ≤ i → nothing (venueOf b) ≡ generate number i (venueOf b)
+generate-past number b i h = neither number (venueOf b) i (λ s d. rw (complex-past b i h) (gone-none (venueOf b) noComplex s d number refl))
 
 module _ (b : List ℕ) (i : ℕ) (c : Complex) (ec : c ≡ complexIn b i) where
   pub complex-in : LegsIn c
   complex-in = rw ec (legs-in b i)
 
-  module _ (h : i < complexesUsed b) where
-    pub generate-gone : c .quantity ≡ 0 → nothing (venueOf b) ≡ generate i (venueOf b)
-    generate-gone k = neither (venueOf b) i (λ s d. rw (complex-at b i h, ← ec) (gone-none (venueOf b) c s d k))
+  module _ (number : ℕ) (h : i < complexesUsed b) where
+    pub generate-gone : c .quantity ≡ 0 → nothing (venueOf b) ≡ generate number i (venueOf b)
+    generate-gone k = neither number (venueOf b) i (λ s d. rw (complex-at b i h, ← ec) (gone-none (venueOf b) c s d number k))
 
-    pub generate-shut : mayGenerate (venueOf b) c ≡ false → nothing (venueOf b) ≡ generate i (venueOf b)
-    generate-shut k = neither (venueOf b) i (λ s d. rw (complex-at b i h, ← ec) (shut-none (venueOf b) c s d k))
+    pub generate-shut : mayGenerate (venueOf b) c ≡ false → nothing (venueOf b) ≡ generate number i (venueOf b)
+    generate-shut k = neither number (venueOf b) i (λ s d. rw (complex-at b i h, ← ec) (shut-none (venueOf b) c s d number k))
 
-    pub generate-is : generateLeg c (c .series1) (c .side1) (venueOf b) ⟫ generateLeg c (c .series2) (c .side2) ≡ generate i (venueOf b)
+    pub generate-is : generateLeg number c (c .series1) (c .side1) (venueOf b) ⟫ generateLeg number c (c .series2) (c .side2) ≡ generate number i (venueOf b)
     unfolding generate
-    generate-is = ap (λ (x : Complex). generateLeg x (x .series1) (x .side1) (venueOf b) ⟫ generateLeg x (x .series2) (x .side2)) (ec ∙ sym (complex-at b i h))
+    generate-is = ap (λ (x : Complex). generateLeg number x (x .series1) (x .side1) (venueOf b) ⟫ generateLeg number x (x .series2) (x .side2)) (ec ∙ sym (complex-at b i h))

@@ -14,7 +14,7 @@ use Rattle.rules.specs.Standing.{otherClear, bothOpen, shownWell}
 use Rattle.rules.specs.Records.{generated}
 use Rattle.rules.specs.Effects.{Effect, report, _⟫_}
 use Rattle.rules.specs.Removal.{remove, failIf}
-use Rattle.rules.specs.Generation.{legPrice, newLegging, placed, reachesAny, givesWay}
+use Rattle.rules.specs.Generation.{legPrice, newLegging, placed, counted, reachesAny, givesWay}
 use Rattle.places.specs.declared.Level.{Level}
 use Rattle.levels.specs.declared.Taken.{Taken}
 
@@ -41,7 +41,7 @@ standsClear v s d p =
     && not (reachesAny d p (bestOwn v s (opposite d)))
     && not (reachesAny d p (away v s (opposite d)))
 
--- all that is asked of the leg's legging order at price p but that the others stand
+-- all that is asked of the leg's legging order at price p but that the others stand, and the ceiling
 unfoldable pub mayStand : Venue → Complex → (series side p : ℕ) → Bool
 mayStand v c s d p = mayGenerate v c && standsClear v s d p && givesWay v c d p (leggingAt v s d)
 
@@ -50,8 +50,8 @@ unfoldable pub plannedLeg : Venue → Complex → (series side : ℕ) → Leggin
 plannedLeg v c s d =
     if held (c .quantity) && held (pricedLeg v c s d) && mayStand v c s d (pricedLeg v c s d) then newLegging v c s d else noLegging
 
--- what stands at its place goes, and the legging order l of the complex order of this id is put there
-unfoldable pub madeBy : (id series side : ℕ) → Legging → Venue → Effect
-madeBy id s d l v =
+-- what stands at its place goes, and the legging order l of the complex order of this id is put there and counted
+unfoldable pub madeBy : (number id series side : ℕ) → Legging → Venue → Effect
+madeBy number id s d l v =
     remove (λ n _. failIf (eqb n (placeOf s d)) Replaced) v
-    ⟫ (λ w. report (generated id s d (l .price) (displayed (increment v s) d (l .price)) (l .quantity)) (placed (placeOf s d) l w))
+    ⟫ (λ w. report (generated id s d (l .price) (displayed (increment v s) d (l .price)) (l .quantity)) (counted number s (placed (placeOf s d) l w)))

@@ -19,7 +19,7 @@ ghost use Rattle.rules.specs.Settings.{increment};
 ghost use Rattle.rules.specs.Prices.{better, bestRegular, displayed};
 ghost use Rattle.rules.specs.Removal.{remove};
 ghost use Rattle.rules.specs.Standing.{otherClear, pairs, verdictOf, verdict, verdictNumber, settle};
-ghost use Rattle.rules.specs.Generation.{asPrice, givesWay, placed, othersStand, generateLeg, generate};
+ghost use Rattle.rules.specs.Generation.{asPrice, generationsOf, givesWay, placed, othersStand, underCeiling, generateLeg, generate};
 ghost use Rattle.wire.specs.Seen.{seen};
 ghost use Rattle.wire.specs.Stage.{stage, _does_};
 ghost use Rattle.places.specs.Layout.{size, leggingIn, venueOf, Figured, Right, SameCounts};
@@ -300,7 +300,7 @@ pub fn gives_way(b: &[u32], c: Complex, s: u8, d: u8, p: u32) -> bool
     holder.class == 1
 }
 
-// All that is asked of a legging order of c at price p but that the others stand; c may generate.
+// All that is asked of a legging order of c at price p but that the others stand, and the ceiling; c may generate.
 fn may_stand(b: &[u32], sides: LegSides, c: Complex, s: u8, d: u8, p: u32) -> bool
     requires { ⌜ (length (now b) ≡ size) × (SidesOf sides c s d (venueOf (now b) .regular)) × (LegsIn c) × (s < 8) × (d < 2) × (mayGenerate (venueOf (now b)) c ≡ true) × (Figured (now b)) ⌝ }
     ensures { λ r. ⌜ r ≡ mayStand (venueOf (now (b .entry))) c s d p ⌝ }
@@ -365,23 +365,53 @@ fn plan_leg(b: &[u32], c: Complex, s: u8, d: u8) -> Legging
     }
 }
 
-// The holder of the place goes, and then l is put there.
-fn make_leg(b: &mut [u32], id: u32, s: u8, d: u8, l: Legging, out: &mut [u8], at: usize) -> usize
+// The ceiling allows one more in series s to the message of this number: the oldest of the last 20 is none, or it was 256 messages before or more.
+fn is_under_ceiling(b: &[u32], number: u32, s: u8) -> bool
+    requires { ⌜ (length (now b) ≡ size) × (s < 8) ⌝ }
+    ensures { λ r. ⌜ r ≡ underCeiling number (generationsOf (venueOf (now (b .entry))) s) ⌝ }
+{
+    let oldest = places::oldest_at(b, s as usize);
+    if oldest == 0 {
+        return true;
+    }
+    (oldest as u64) + 256 <= (number as u64)
+}
+
+// The holder of the place goes, and then l is put there and counted in its series.
+fn make_leg(
+    b: &mut [u32],
+    number: u32,
+    id: u32,
+    s: u8,
+    d: u8,
+    l: Legging,
+    out: &mut [u8],
+    at: usize,
+) -> usize
     requires { ⌜ (length (now b) ≡ size) × (s < 8) × (d < 2) × (displayed (increment (venueOf (now b)) s) d (l .price) ≤ 100000) × (Figured (now b)) ⌝ }
-    ensures { λ r. ⌜ stage (venueOf (now (b .exit))) (now (out .exit)) r ≡ seen (now (out .entry)) at does madeBy id s d l (venueOf (now (b .entry))) ⌝ }
+    ensures { λ r. ⌜ stage (venueOf (now (b .exit))) (now (out .exit)) r ≡ seen (now (out .entry)) at does madeBy number id s d l (venueOf (now (b .entry))) ⌝ }
     ensures counts { λ r. ⌜ SameCounts (now (b .entry)) (now (b .exit)) ⌝ }
 {
     let shown = shown_price(b, s, d, l.price) as u32;
     let place = rules::place_of(s, d);
     let pos = removal::remove_at(b, place, place, Cause::Replaced, out, at);
     places::put_legging(b, place, l);
+    places::count_generation(b, s as usize, number);
     wire::emit_generated(out, pos, id, s, d, l.price, shown, l.quantity)
 }
 
 // The legging order of a leg of c, made where every condition holds. Those that no leg changes are tested before.
-pub fn generate_leg(b: &mut [u32], c: Complex, s: u8, d: u8, out: &mut [u8], at: usize) -> usize
+pub fn generate_leg(
+    b: &mut [u32],
+    number: u32,
+    c: Complex,
+    s: u8,
+    d: u8,
+    out: &mut [u8],
+    at: usize,
+) -> usize
     requires { ⌜ (length (now b) ≡ size) × (Right (now b)) × (LegsIn c) × (s < 8) × (d < 2) × (0 < c .quantity) × (mayGenerate (venueOf (now b)) c ≡ true) ⌝ }
-    ensures { λ r. ⌜ stage (venueOf (now (b .exit))) (now (out .exit)) r ≡ seen (now (out .entry)) at does generateLeg c s d (venueOf (now (b .entry))) ⌝ }
+    ensures { λ r. ⌜ stage (venueOf (now (b .exit))) (now (out .exit)) r ≡ seen (now (out .entry)) at does generateLeg number c s d (venueOf (now (b .entry))) ⌝ }
     ensures counts { λ r. ⌜ SameCounts (now (b .entry)) (now (b .exit)) ⌝ }
 {
     let l = plan_leg(b, c, s, d);
@@ -391,13 +421,16 @@ pub fn generate_leg(b: &mut [u32], c: Complex, s: u8, d: u8, out: &mut [u8], at:
     if !others_stand_with(b, rules::place_of(s, d), l) {
         return at;
     }
-    make_leg(b, c.id, s, d, l, out, at)
+    if !is_under_ceiling(b, number, s) {
+        return at;
+    }
+    make_leg(b, number, c.id, s, d, l, out, at)
 }
 
 // Generation for the first leg and then the second of the order at place i. No legging order changes whether it may.
-pub fn generate_order(b: &mut [u32], i: usize, out: &mut [u8], at: usize) -> usize
+pub fn generate_order(b: &mut [u32], number: u32, i: usize, out: &mut [u8], at: usize) -> usize
     requires { ⌜ (length (now b) ≡ size) × (Right (now b)) ⌝ }
-    ensures { λ r. ⌜ stage (venueOf (now (b .exit))) (now (out .exit)) r ≡ seen (now (out .entry)) at does generate i (venueOf (now (b .entry))) ⌝ }
+    ensures { λ r. ⌜ stage (venueOf (now (b .exit))) (now (out .exit)) r ≡ seen (now (out .entry)) at does generate number i (venueOf (now (b .entry))) ⌝ }
     ensures counts { λ r. ⌜ SameCounts (now (b .entry)) (now (b .exit)) ⌝ }
 {
     if places::complexes_used(b) <= i {
@@ -410,6 +443,6 @@ pub fn generate_order(b: &mut [u32], i: usize, out: &mut [u8], at: usize) -> usi
     if !may_generate(b, levels::taken_at(b, c), c) {
         return at;
     }
-    let pos = generate_leg(b, c, c.series1, c.side1, out, at);
-    generate_leg(b, c, c.series2, c.side2, out, pos)
+    let pos = generate_leg(b, number, c, c.series1, c.side1, out, at);
+    generate_leg(b, number, c, c.series2, c.side2, out, pos)
 }

@@ -25,7 +25,7 @@ returns : tie.Need-returns
 returns c =
     let a = c .before .before .before .before .before .args in (
       does-nothing (venueOf (a .b .now)) (a .out .now) (a .at)
-          ∙ ap (λ (e : Effect). seen (a .out .now) (a .at) does e) (generate-past (a .b .now) (a .i) (omega (arith, c .before .complexes-used .ensures .0, c .if1 .taken))),
+          ∙ ap (λ (e : Effect). seen (a .out .now) (a .at) does e) (generate-past (a .number) (a .b .now) (a .i) (omega (arith, c .before .complexes-used .ensures .0, c .if1 .taken))),
       record { regulars = refl; complexes = refl; right = λ h. h },
     )
 
@@ -49,7 +49,7 @@ returns-2 c =
     let x = p2 .complex-at in
     let a = p2 .before .before .before .before .before .before .before .args in (
       does-nothing (venueOf (a .b .now)) (a .out .now) (a .at)
-          ∙ ap (λ (e : Effect). seen (a .out .now) (a .at) does e) (generate-gone (a .b .now) (a .i) (x .result) (x .ensures) (used p2) (c .if2 .taken)),
+          ∙ ap (λ (e : Effect). seen (a .out .now) (a .at) does e) (generate-gone (a .b .now) (a .i) (x .result) (x .ensures) (a .number) (used p2) (c .if2 .taken)),
       record { regulars = refl; complexes = refl; right = λ h. h },
     )
 
@@ -77,7 +77,7 @@ returns-3 c =
     let a = p6 .before .before .before .before .before .before .before .args in (
       does-nothing (venueOf (a .b .now)) (a .out .now) (a .at)
           ∙ ap (λ (e : Effect). seen (a .out .now) (a .at) does e)
-          (generate-shut (a .b .now) (a .i) (x .result) (x .ensures) (used p6) (off _ _ (c .before .may-generate .ensures) (c .if3 .taken))),
+          (generate-shut (a .b .now) (a .i) (x .result) (x .ensures) (a .number) (used p6) (off _ _ (c .before .may-generate .ensures) (c .if3 .taken))),
       record { regulars = refl; complexes = refl; right = λ h. h },
     )
 
@@ -107,7 +107,7 @@ generate-leg-requires-2 c κs =
       h .second,
       h .side2,
       omega (arith, p13 .if2 .left),
-      generates-kept (venueOf (s .args .b .now)) (x .result) (x .result .series1) (x .result .side1) _ (stage-venue _ _ _ _ _ _ (w .0))
+      generates-kept (venueOf (s .args .b .now)) (x .result) (x .result .series1) (x .result .side1) (s .args .number) _ (stage-venue _ _ _ _ _ _ (w .0))
           ∙ on _ _ (p9 .before .may-generate .ensures) (p9 .if3 .left),
     )
 
@@ -126,8 +126,8 @@ returns-4 c =
     let a = p20 .before .before .before .before .before .before .before .args in
     let first = p11 .generate-leg .ensures in
     let second = p4 .generate-leg2 .ensures in (
-      follow _ (generateLeg (x .result) (x .result .series1) (x .result .side1) (venueOf (a .b .now))) (generateLeg (x .result) (x .result .series2) (x .result .side2)) _ _ _ _ _ _ (first .0) (second .0)
-          ∙ ap (λ (e : Effect). seen (a .out .now) (a .at) does e) (generate-is (a .b .now) (a .i) (x .result) (x .ensures) (used p20)),
+      follow _ (generateLeg (a .number) (x .result) (x .result .series1) (x .result .side1) (venueOf (a .b .now))) (generateLeg (a .number) (x .result) (x .result .series2) (x .result .side2)) _ _ _ _ _ _ (first .0) (second .0)
+          ∙ ap (λ (e : Effect). seen (a .out .now) (a .at) does e) (generate-is (a .b .now) (a .i) (x .result) (x .ensures) (a .number) (used p20)),
       counts-on _ _ _ (first .1) (second .1),
     )
 
