@@ -3,3 +3,4 @@ pub mod Working
 pub mod Walking
 pub mod Sweeping
 pub mod Finding
+pub mod Rounds

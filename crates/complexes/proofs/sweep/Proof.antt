@@ -31,7 +31,7 @@ returns c =
     let g = c .before .before .before .before .generate-each in
     let x = c .before .before .before .before .before .before .before .before .before .before .before .settle-all in
     let w = c .before .before .before .before .before .before .before .before .before .before .before .before .before .before .before .before .before .before .work-each in
-    (sweep-law _ _ _ _ _ _ _ _ _ _ _ _ (w .ensures .0) (x .ensures .0) (g .ensures .0), counts-on _ _ _ (counts-on _ _ _ (w .ensures .1) (x .ensures .1)) (g .ensures .1))
+    (sweep-law _ _ _ _ _ _ _ _ _ _ _ _ _ (w .ensures .0) (x .ensures .0) (g .ensures .0), counts-on _ _ _ (counts-on _ _ _ (w .ensures .1) (x .ensures .1)) (g .ensures .1))
 
 pub sweep-spec : {M : Type 1} → statement M
 sweep-spec =

@@ -1,0 +1,58 @@
+-- `complexes::last_looked` meets its contract.
+use mathlib.Core.Path.{_∙_}
+use native.Mathlib.Omega.{arith}
+use Prim.Native.Nat.{_-_}
+use Rattle.places.proofs.Parts.{complexes-few}
+use Rattle.complexes.proofs.Rounds.{last-other, last-above, last-none}
+use borrow.Author.Needs.{needs}
+use Rattle.complexes.proofs.last_looked.Statement.{statement}
+use Rattle.complexes.proofs.last_looked.Tie as tie
+
+sub-complex-at : tie.Need-sub-complex-at
+sub-complex-at c = search needs
+
+complex-at-requires : tie.Need-complex-at-requires
+complex-at-requires c κs = let s = c .before .before .before .before in (s .pre .0, omega (arith, c .before .if1 .taken, s .pre .2, complexes-few (s .args .b .now)))
+
+returns : tie.Need-returns
+returns c =
+    let s = c .before .before .before .before .before in
+    let x = c .complex-at in
+    last-other _ (s .args .r) _ (x .result) (x .ensures) (omega (arith, c .before .before .if1 .taken, s .pre .2)) (omega (arith, c .before .before .if1 .taken))
+
+add-complex-at : tie.Need-add-complex-at
+add-complex-at c = let s = c .before .before .before .before .before .before in omega (arith, s .pre .1, complexes-few (s .args .b .now))
+
+sub-complex-at-2 : tie.Need-sub-complex-at-2
+sub-complex-at-2 c = search needs
+
+complex-at-requires-2 : tie.Need-complex-at-requires-2
+complex-at-requires-2 c κs = let s = c .before .before .before .before .before .before in (s .pre .0, omega (arith, c .before .if2 .taken, s .pre .1, complexes-few (s .args .b .now)))
+
+returns-2 : tie.Need-returns-2
+returns-2 c =
+    let s = c .before .before .before .before .before .before .before in
+    let r = s .args .r in
+    let x = c .complex-at2 in
+    let t = c .before .before .if2 .taken in
+    last-above _ r _ (x .result) (x .ensures) (omega (arith, t, s .pre .1)) (r .above - 1) (omega (arith, t)) (omega (arith, t)) (omega (arith, c .before .before .before .before .if1 .left))
+
+reached-id-requires : tie.Need-reached-id-requires
+reached-id-requires c κs = search needs
+
+returns-3 : tie.Need-returns-3
+returns-3 c = c .reached-id .ensures ∙ last-none _ (c .before .before .before .before .before .before .args .r) (omega (arith, c .before .if2 .left)) (omega (arith, c .before .before .before .if1 .left))
+
+pub last-looked-spec : {M : Type 1} → statement M
+last-looked-spec =
+    tie.close
+    (tie.spec
+    sub-complex-at
+    complex-at-requires
+    returns
+    add-complex-at
+    sub-complex-at-2
+    complex-at-requires-2
+    returns-2
+    reached-id-requires
+    returns-3)

@@ -1,0 +1,87 @@
+-- `complexes::limited_sweep` meets its contract.
+use mathlib.Core.Path.{_∙_}
+use native.Mathlib.Omega.{arith}
+use Rattle.places.proofs.Parts.{complexes-few}
+use Rattle.removal.proofs.Removing.{counts-on}
+use Rattle.complexes.specs.Round.{roundPlaces}
+use Rattle.complexes.proofs.Rounds.{round-examined, limited-law}
+use borrow.Author.Needs.{needs}
+use Rattle.complexes.proofs.limited_sweep.Statement.{statement}
+use Rattle.complexes.proofs.limited_sweep.Tie as tie
+
+round-of-requires : tie.Need-round-of-requires
+round-of-requires c κs = search needs
+
+add-looked : tie.Need-add-looked
+add-looked c = let r = c .before .round-of .ensures .1 in omega (arith, r .0, r .1, complexes-few (c .before .before .before .before .before .args .b .now))
+
+cast-looked : tie.Need-cast-looked
+cast-looked c = let r = c .before .round-of .ensures .1 in omega (arith, r .0, r .1, complexes-few (c .before .before .before .before .before .args .b .now))
+
+last-looked-requires : tie.Need-last-looked-requires
+last-looked-requires c κs = search needs
+
+put-reached-requires : tie.Need-put-reached-requires
+put-reached-requires c κs = search needs
+
+emit-looked-requires : tie.Need-emit-looked-requires
+emit-looked-requires c κs = search needs
+
+work-round-requires : tie.Need-work-round-requires
+work-round-requires c κs =
+    let p = c .before .before .before .before .before .before .before .before .put-reached in
+    let r = c .before .before .before .before .before .before .before .before .before .before .before .before .before .round-of .ensures .1 in
+    let s = c .before .before .before .before .before .before .before .before .before .before .before .before .before .before .before .before .before in
+    (p .kept .0 ∙ s .pre .0, p .ensures .1 .right (s .pre .1 .right), omega (arith, r .0, p .ensures .1 .complexes), omega (arith, r .1, p .ensures .1 .complexes))
+
+settle-all-requires : tie.Need-settle-all-requires
+settle-all-requires c κs =
+    let w = c .before .before .before .before .before .before .work-round in
+    let p = c .before .before .before .before .before .before .before .before .before .before .before .before .before .before .before .put-reached in
+    let s = c .before .before .before .before .before .before .before .before .before .before .before .before .before .before .before .before .before .before .before .before .before .before .before .before in
+    (w .kept .0 ∙ p .kept .0 ∙ s .pre .0, w .ensures .1 .right (p .ensures .1 .right (s .pre .1 .right)))
+
+generate-round-requires : tie.Need-generate-round-requires
+generate-round-requires c κs =
+    let x = c .before .before .before .before .before .before .settle-all in
+    let w = c .before .before .before .before .before .before .before .before .before .before .before .before .before .work-round in
+    let p = c .before .before .before .before .before .before .before .before .before .before .before .before .before .before .before .before .before .before .before .before .before .before .put-reached in
+    let r = c .before .before .before .before .before .before .before .before .before .before .before .before .before .before .before .before .before .before .before .before .before .before .before .before .before .before .before .round-of .ensures .1 in
+    let s = c .before .before .before .before .before .before .before .before .before .before .before .before .before .before .before .before .before .before .before .before .before .before .before .before .before .before .before .before .before .before .before in
+    let n = x .ensures .1 .complexes ∙ w .ensures .1 .complexes ∙ p .ensures .1 .complexes in
+    (x .kept .0 ∙ w .kept .0 ∙ p .kept .0 ∙ s .pre .0, x .ensures .1 .right (w .ensures .1 .right (p .ensures .1 .right (s .pre .1 .right))), omega (arith, r .0, n), omega (arith, r .1, n))
+
+same-length : tie.Need-same-length
+same-length c = search needs
+
+same-length-2 : tie.Need-same-length-2
+same-length-2 c = search needs
+
+returns : tie.Need-returns
+returns c =
+    let g = c .before .before .before .before .generate-round .ensures in
+    let x = c .before .before .before .before .before .before .before .before .before .before .before .settle-all .ensures in
+    let w = c .before .before .before .before .before .before .before .before .before .before .before .before .before .before .before .before .before .before .work-round .ensures in
+    let p = c .before .before .before .before .before .before .before .before .before .before .before .before .before .before .before .before .before .before .before .before .before .before .before .before .before .before .before .put-reached .ensures in
+    let r = c .before .before .before .before .before .before .before .before .before .before .before .before .before .before .before .before .before .before .before .before .before .before .before .before .before .before .before .before .before .before .before .before .round-of in
+    let n = round-examined _ _ (r .result) (r .ensures .0) in (
+      limited-law _ _ _ _ (roundPlaces (r .result)) _ _ _ _ _ _ _ _ _ _ _ _ _ _ _ (r .ensures .0) n (c .before .before .before .before .before .before .before .before .before .before .before .before .before .before .before .before .before .before .before .before .before .before .before .before .before .before .before .before .before .last-looked .ensures) (p .0) (c .before .before .before .before .before .before .before .before .before .before .before .before .before .before .before .before .before .before .before .before .before .before .before .emit-looked .ensures) (w .0) (x .0) (g .0),
+      (counts-on _ _ _ (counts-on _ _ _ (counts-on _ _ _ (p .1) (w .1)) (x .1)) (g .1), n),
+    )
+
+pub limited-sweep-spec : {M : Type 1} → statement M
+limited-sweep-spec =
+    tie.close
+    (tie.spec
+    round-of-requires
+    add-looked
+    cast-looked
+    last-looked-requires
+    put-reached-requires
+    emit-looked-requires
+    work-round-requires
+    settle-all-requires
+    generate-round-requires
+    same-length
+    same-length-2
+    returns)

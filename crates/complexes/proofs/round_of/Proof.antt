@@ -1,0 +1,61 @@
+-- `complexes::round_of` meets its contract.
+use mathlib.Core.Path.{ap, _∙_}
+use mathlib.Core.List.{_++_}
+use Prim.Native.Nat.{ℕ, _-_}
+use native.Mathlib.Omega.{arith}
+use lib.ListN.{take as firsts}
+use Rattle.complexes.specs.Round.{placesFrom, roundPlaces}
+use Rattle.complexes.proofs.Rounds.{round-within, round-on, round-whole}
+use borrow.Author.Needs.{needs}
+use Rattle.complexes.proofs.round_of.Statement.{statement}
+use Rattle.complexes.proofs.round_of.Tie as tie
+
+complexes-used-requires : tie.Need-complexes-used-requires
+complexes-used-requires c κs = search needs
+
+round-start-requires : tie.Need-round-start-requires
+round-start-requires c κs = search needs
+
+sub-above : tie.Need-sub-above
+sub-above c = search needs
+
+returns : tie.Need-returns
+unfolding roundPlaces
+returns c =
+    let f = c .before .round-start .ensures in
+    let u = c .before .before .complexes-used .ensures .0 in
+    let t = c .if1 .taken in (
+      round-within (c .before .before .before .before .args .n) _ _ _ (omega (arith, t, u)) ∙ ap (firsts (c .before .before .before .before .args .n)) (f .0),
+      (omega (arith, t, u, f .1), omega arith),
+    )
+
+sub-if2 : tie.Need-sub-if2
+sub-if2 c = search needs
+
+sub-t9 : tie.Need-sub-t9
+sub-t9 c = search needs
+
+returns-2 : tie.Need-returns-2
+unfolding roundPlaces
+returns-2 c =
+    let f = c .before .before .round-start in
+    let u = c .before .before .before .complexes-used in
+    let n = c .before .before .before .before .before .args .n in (
+      round-on n _ _ _ (f .result) (omega (arith, c .before .if1 .left)) (c .if2 .taken)
+          ∙ ap (λ (x : ℕ). firsts n (placesFrom (f .result) (x - f .result) ++ placesFrom 0 (f .result))) (u .ensures .0) ∙ ap (firsts n) (f .ensures .0),
+      (omega (arith, u .ensures .0, f .ensures .1), omega (arith, c .if2 .taken, f .ensures .1)),
+    )
+
+returns-3 : tie.Need-returns-3
+unfolding roundPlaces
+returns-3 c =
+    let f = c .before .before .round-start in
+    let u = c .before .before .before .complexes-used in
+    let n = c .before .before .before .before .before .args .n in (
+      round-whole n (n - (u .result - f .result)) _ _ _ (omega (arith, c .before .if1 .left)) (omega (arith, c .if2 .left))
+          ∙ ap (λ (x : ℕ). firsts n (placesFrom (f .result) (x - f .result) ++ placesFrom 0 (f .result))) (u .ensures .0) ∙ ap (firsts n) (f .ensures .0),
+      (omega (arith, u .ensures .0, f .ensures .1), f .ensures .1),
+    )
+
+pub round-of-spec : {M : Type 1} → statement M
+round-of-spec = tie.close (tie.spec complexes-used-requires round-start-requires sub-above returns sub-if2 sub-t9 returns-2 returns-3)
