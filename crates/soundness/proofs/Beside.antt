@@ -11,6 +11,7 @@ use lib.ListN.{replicate}
 use Rattle.rules.specs.declared.Regular.{Regular}
 use Rattle.rules.specs.declared.Complex.{Complex}
 use Rattle.rules.specs.declared.Legging.{Legging}
+use Rattle.rules.specs.declared.Edition.{Edition}
 use Rattle.rules.specs.declared.Venue.{Venue}
 use Rattle.rules.specs.Base.{if_then_else_, held, all}
 use Rattle.rules.specs.Words.{noRegular, isId, isPrice, isQuantity, oneToOne}
@@ -28,7 +29,7 @@ use Rattle.book.specs.declared.Found.{Found}
 use Rattle.book.specs.declared.Found.the-variants.{At, Nothing}
 use Rattle.book.specs.Picks.{complexFound}
 use Rattle.soundness.specs.Checked.{pricedOn, onIncrements, isAlone, eight, leggingInRange, hasHome}
-use Rattle.soundness.proofs.Passes.{all-past, all-stop, all-none}
+use Rattle.soundness.proofs.Passes.{all-past, all-stop, all-none, and-assoc}
 
 -- A pass over numbered places -----------------------------------------------------------------
 
@@ -130,11 +131,20 @@ pub series-scan : (f : ℕ → Bool) → all f (upto (λ (n : ℕ). n) 0 (8 - 0)
 unfolding upto
 series-scan f = refl
 
--- Editions ------------------------------------------------------------------------------------
+-- Editions and generations --------------------------------------------------------------------
 
-pub follows-scan : (b : List ℕ) (number : ℕ) → all (λ e. ltb (e .message) number) (upto (editionIn b) 0 (32 - 0)) ≡ follows number (venueOf b)
-unfolding follows venueOf
-follows-scan b number = refl
+pub editions-scan : (b : List ℕ) (f : Edition → Bool) → all f (upto (editionIn b) 0 (32 - 0)) ≡ all f (venueOf b .editions)
+unfolding venueOf
+editions-scan b f = refl
+
+module _ (number : ℕ) (v : Venue) where
+  pub follows-not : all (λ e. ltb (e .message) number) (v .editions) ≡ false → false ≡ follows number v
+  unfolding follows
+  follows-not h = rw h
+
+  pub follows-rest : all (λ e. ltb (e .message) number) (v .editions) ≡ true → all (λ g. all (λ n. ltb n number) (g .messages)) (v .generations) ≡ follows number v
+  unfolding follows
+  follows-rest h = rw h
 
 -- Legging orders ------------------------------------------------------------------------------
 
@@ -161,10 +171,6 @@ module _ (v : Venue) (l : Legging) (s d : ℕ) (c : Complex) (e : c ≡ parentOf
 
     pub home-open : oneToOne c ≡ true → leb (l .quantity) (c .quantity) ≡ hasHome v l s d
     home-open u = rw (h, u) at home-is
-
-and-assoc : (a b c d : Bool) → (a && b && c && d) ≡ (a && (b && c && d))
-and-assoc true b c d = refl
-and-assoc false b c d = refl
 
 pub sound-free : (v : Venue) (n : ℕ) (l : Legging) → l .quantity ≡ 0 → blankLegging l ≡ leggingSound v n l
 unfolding leggingSound

@@ -19,10 +19,10 @@ use Rattle.rules.specs.Words.{noEdition, within}
 use Rattle.rules.specs.Settings.{isIncrement, isPercent, isEdition}
 use Rattle.rules.specs.Places.{holdsEdition, blankRegular, blankComplex, blankEdition, arranged}
 use Rattle.rules.specs.Refusals.{regularInRange}
-use Rattle.rules.specs.Sound.{showsFully, figureInRange, editionInRange}
+use Rattle.rules.specs.Sound.{showsFully, figureInRange, editionInRange, unfallen}
 use Rattle.rules.proofs.Tests.{and-l, and-r, and-in, and-true, and-false}
 use Rattle.wire.proofs.Decoding.{inside, within-top}
-use Rattle.soundness.specs.Checked.{editionsFrom}
+use Rattle.soundness.specs.Checked.{editionsFrom, numbersFrom}
 
 drop-on : {A : Type 0} (l : List A) (d : A) (i : ℕ) → i < length l → drop i l ≡ getD l i d ∷ drop (i + 1) l
 drop-on l d i h = drop-cons l i d h ∙ ap (λ (k : ℕ). getD l i d ∷ drop k l) (sym (add-one i))
@@ -199,6 +199,30 @@ pub edition-range : (e : Edition) → e .edition ≤ 4294967295 → e .message �
 unfolding editionInRange isEdition
 edition-range e a b = rw (inside 0 4294967295 (e .edition) (omega arith) a, le-leb (e .message) 4294967295 b) (sym (and-true _ ∙ and-true _))
 
+-- Generations: numbers that do not fall -------------------------------------------------------
+
+swapped : (a b c d : Bool) → ((a && b) && (c && d)) ≡ ((a && c) && (b && d))
+swapped true b true d = refl
+swapped true true false d = refl
+swapped true false false d = refl
+swapped false b c d = refl
+
+module _ (l : List ℕ) (low i : ℕ) where
+  pub numbers-none : length l ≤ i → true ≡ numbersFrom low (drop i l)
+  unfolding numbersFrom unfallen all
+  numbers-none le = sym (ap (numbersFrom low) (drop-of-length-le l {i = i} le))
+
+  module _ (lt : i < length l) where
+    numbers-on : numbersFrom low (drop i l) ≡ ((leb low (getD l i 0) && leb (getD l i 0) 4294967295) && numbersFrom (getD l i 0) (drop (i + 1) l))
+    unfolding numbersFrom unfallen all
+    numbers-on = ap (numbersFrom low) (drop-on l 0 i lt) ∙ swapped (leb low (getD l i 0)) (unfallen (getD l i 0) (drop (i + 1) l)) (leb (getD l i 0) 4294967295) (all (λ n. leb n 4294967295) (drop (i + 1) l))
+
+    pub numbers-fall : (leb low (getD l i 0) && leb (getD l i 0) 4294967295) ≡ false → false ≡ numbersFrom low (drop i l)
+    numbers-fall h = sym (numbers-on ∙ rw h)
+
+    pub numbers-past : (leb low (getD l i 0) && leb (getD l i 0) 4294967295) ≡ true → numbersFrom (getD l i 0) (drop (i + 1) l) ≡ numbersFrom low (drop i l)
+    numbers-past h = sym (numbers-on ∙ rw h)
+
 -- A limit of zero -----------------------------------------------------------------------------
 
 pub some-below : (z : ℤ) → ltZ z (pos 0) ≡ true → eqb (natAbs z) 0 ≡ false
@@ -239,6 +263,10 @@ complex-zero x a b c d e f g q r =
       eq-eqb (x .quantity) 0 q,
       eq-eqb (x .ratio1) 0 r,
     )
+
+pub and-assoc : (a b c d : Bool) → (a && b && c && d) ≡ (a && (b && c && d))
+and-assoc true b c d = refl
+and-assoc false b c d = refl
 
 -- Three tests, one after another --------------------------------------------------------------
 

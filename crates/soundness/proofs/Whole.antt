@@ -13,7 +13,7 @@ use Rattle.rules.specs.Base.{held, all}
 use Rattle.rules.specs.Words.{noRegular, noComplex, withRegular, withComplex}
 use Rattle.rules.specs.Places.{holdsRegular, holdsComplex, blankRegular, blankComplex, arranged, packed, closeGaps}
 use Rattle.rules.specs.Refusals.{regularInRange, onIncrement}
-use Rattle.rules.specs.Sound.{apart, listedInRange, leggingsSound, showsFully, regularsSound, complexesSound, idsDistinct, editionsSound, sound}
+use Rattle.rules.specs.Sound.{apart, listedInRange, leggingsSound, showsFully, regularsSound, complexesSound, idsDistinct, editionsSound, generationsSound, sound}
 use Rattle.rules.proofs.Tests.{and-l, and-r}
 use Rattle.rules.proofs.Closing.{packed-free}
 use Rattle.rules.proofs.Arranging.{arranged-out, blank-is, blank-free, blank-freeC, closed-same}
@@ -22,8 +22,8 @@ use Rattle.places.proofs.Orderly.{range-priced, range-displayed}
 use Rattle.places.proofs.Fully.{range-bounded}
 use Rattle.places.proofs.Loaded.{regular-side, complex-sides, editions-dated}
 use Rattle.places.specs.Layout.{Fully, Loadable, Loaded, venueOf}
-use Rattle.soundness.specs.Checked.{askedRegular, regularsFrom, placesSound, pricedOn, onIncrements, eight, ordersSound, Checked}
-use Rattle.soundness.proofs.Passes.{arranged-split}
+use Rattle.soundness.specs.Checked.{askedRegular, regularsFrom, keptSound, placesSound, pricedOn, onIncrements, eight, ordersSound, Checked}
+use Rattle.soundness.proofs.Passes.{arranged-split, and-assoc}
 
 -- Loading -------------------------------------------------------------------------------------
 
@@ -70,7 +70,8 @@ unfolding placesSound
 places-load v h =
     let r : regularsFrom (v .last) 0 (v .regular) ≡ true = search (and-l, and-r, h) in
     let c : complexesSound v ≡ true = search (and-l, and-r, h) in
-    let e : editionsSound v ≡ true = search (and-l, and-r, h) in
+    let k : keptSound v ≡ true = search (and-l, and-r, h) in
+    let e : editionsSound v ≡ true = unfold keptSound in (search (and-l, and-r, k)) in
     books-load v r c (dated-steps v (editions-dated v e))
 
 -- The whole -----------------------------------------------------------------------------------
@@ -105,26 +106,29 @@ regulars-are v =
     arranged-split holdsRegular (askedRegular (v .last)) (onIncrement v) (λ o. regularInRange o && onIncrement v o && showsFully o && leb (o .id) (v .last)) blankRegular (λ o. o .id) blank-free
     (λ o. second-last (regularInRange o) (onIncrement v o) (showsFully o) (leb (o .id) (v .last))) 0 (v .regular)
 
-regroup : (r i c s e l d a g : Bool) → ((r && i) && c && s && e && l && d && a && g) ≡ ((r && c && s && e) && (l && i && d && a && g))
-regroup true true c s e l d a g = with-prices (c && s && e) l
+regroup : (r i c s k l d a g : Bool) → ((r && i) && c && s && k && l && d && a && g) ≡ ((r && c && s && k) && (l && i && d && a && g))
+regroup true true c s k l d a g = with-prices (c && s && k) l
   where
     with-prices : (p l : Bool) → (p && l && d && a && g) ≡ (p && (l && true && d && a && g))
     with-prices true true = refl
     with-prices true false = refl
     with-prices false l = refl
-regroup true false c s e l d a g = without (c && s && e) l
+regroup true false c s k l d a g = without (c && s && k) l
   where
     without : (p l : Bool) → false ≡ (p && (l && false && d && a && g))
     without true true = refl
     without true false = refl
     without false l = refl
-regroup false i c s e l d a g = refl
+regroup false i c s k l d a g = refl
 
 sound-is : (v : Venue) → sound v ≡ (placesSound v && ordersSound v)
-unfolding sound placesSound ordersSound
+unfolding sound placesSound keptSound ordersSound
 sound-is v =
-    ap (λ (t : Bool). t && complexesSound v && all listedInRange (v .series) && editionsSound v && leb (v .last) 4294967295 && idsDistinct v && all (apart v) eight && leggingsSound v 0 (v .legging)) (regulars-are v)
-    ∙ regroup (regularsFrom (v .last) 0 (v .regular)) (onIncrements v) (complexesSound v) (all listedInRange (v .series)) (editionsSound v) (leb (v .last) 4294967295) (idsDistinct v) (all (apart v) eight) (leggingsSound v 0 (v .legging))
+    let r = regularsFrom (v .last) 0 (v .regular) && onIncrements v in
+    ap (λ (t : Bool). t && complexesSound v && all listedInRange (v .series) && editionsSound v && generationsSound v && leb (v .reached) (v .last) && leb (v .last) 4294967295 && idsDistinct v && all (apart v) eight && leggingsSound v 0 (v .legging)) (regulars-are v)
+    ∙ ap (λ (t : Bool). t && leb (v .last) 4294967295 && idsDistinct v && all (apart v) eight && leggingsSound v 0 (v .legging))
+    (and-assoc (r && complexesSound v && all listedInRange (v .series)) (editionsSound v) (generationsSound v) (leb (v .reached) (v .last)))
+    ∙ regroup (regularsFrom (v .last) 0 (v .regular)) (onIncrements v) (complexesSound v) (all listedInRange (v .series)) (keptSound v) (leb (v .last) 4294967295) (idsDistinct v) (all (apart v) eight) (leggingsSound v 0 (v .legging))
 
 pub checked-not : (v : Venue) (b : List ℕ) → placesSound v ≡ false → Checked v false b
 checked-not v b h = record { answer = sym (sound-is v ∙ rw h); loaded = λ e. absurd (true≢false (sym e)) }

@@ -8,6 +8,7 @@ use Rattle.rules.specs.declared.Regular.{Regular}
 use Rattle.rules.specs.declared.Complex.{Complex}
 use Rattle.rules.specs.declared.Legging.{Legging}
 use Rattle.rules.specs.declared.Edition.{Edition}
+use Rattle.rules.specs.declared.Generations.{Generations}
 use Rattle.rules.specs.declared.Venue.{Venue}
 use Rattle.rules.specs.Base.{held, all}
 use Rattle.rules.specs.Words.{isId, isPrice, isQuantity, oneToOne}
@@ -15,7 +16,7 @@ use Rattle.rules.specs.Standing.{hasLeg, parentOf}
 use Rattle.rules.specs.Places.{holdsRegular, holdsComplex, holdsEdition, blankRegular, blankComplex, blankEdition, arranged}
 use Rattle.rules.specs.Refusals.{regularInRange, onIncrement, complexInRange}
 use Rattle.rules.specs.Complex.{restsComplex}
-use Rattle.rules.specs.Sound.{apart, listedInRange, leggingsSound, showsFully, complexesSound, idsDistinct, editionInRange, editionsSound, sound}
+use Rattle.rules.specs.Sound.{apart, listedInRange, leggingsSound, showsFully, complexesSound, idsDistinct, editionInRange, editionsSound, unfallen, generationsSound, sound}
 use Rattle.places.specs.Layout.{Loaded}
 
 -- in range, showing what it should, with an id of at most `last`
@@ -39,9 +40,20 @@ editionsFrom low past l =
     arranged holdsEdition editionInRange blankEdition (λ e. e .edition) low l
     && arranged holdsEdition (λ _. true) blankEdition (λ e. e .message) past l
 
+-- a series' generations: numbers in range that do not fall, from `low` on
+unfoldable pub numbersFrom : (low : ℕ) → List ℕ → Bool
+numbersFrom low l = unfallen low l && all (λ n. leb n 4294967295) l
+
+unfoldable pub numbersSound : Generations → Bool
+numbersSound g = numbersFrom 0 (g .messages)
+
+-- what is kept beside the orders and the series: editions, generations, and the id that limited sweeps have reached
+unfoldable pub keptSound : Venue → Bool
+keptSound v = editionsSound v && generationsSound v && leb (v .reached) (v .last)
+
 -- what is asked of each place by itself, but for the increments: it makes a venue loadable
 unfoldable pub placesSound : Venue → Bool
-placesSound v = regularsFrom (v .last) 0 (v .regular) && complexesSound v && all listedInRange (v .series) && editionsSound v
+placesSound v = regularsFrom (v .last) 0 (v .regular) && complexesSound v && all listedInRange (v .series) && keptSound v
 
 -- a regular order, where it rests, has a price on the increment in force
 unfoldable pub pricedOn : Venue → Regular → Bool

@@ -3,6 +3,7 @@ use book::Found;
 use places::Level;
 use rules::Complex;
 use rules::Edition;
+use rules::Generations;
 use rules::Legging;
 use rules::Listed;
 use rules::Regular;
@@ -11,15 +12,16 @@ use rules::Verdict;
 ghost use mathlib.Core.Path.{_≡_};
 ghost use Prim.Native.Nat.{_<_};
 ghost use mathlib.Core.Bool.{_&&_};
-ghost use lib.Dec.{eqb};
+ghost use lib.Dec.{leb, ltb, eqb};
 ghost use lib.ListN.{length, drop};
 ghost use Rattle.rules.specs.Base.{all};
 ghost use Rattle.rules.specs.Places.{blankRegular, blankComplex, blankEdition, blankLegging};
+ghost use Rattle.rules.specs.Generation.{generationsOf};
 ghost use Rattle.rules.specs.Standing.{hasLeg};
 ghost use Rattle.rules.specs.Sound.{apart, listedInRange, leggingSound, leggingsSound, idsDistinct, editionInRange, follows};
 ghost use Rattle.places.specs.Layout.{size, leggingIn, venueOf, Figured, Right};
 ghost use Rattle.levels.specs.Grid.{GridOf};
-ghost use Rattle.soundness.specs.Checked.{askedRegular, regularsFrom, complexesFrom, editionsFrom, placesSound, pricedOn, onIncrements, isAlone, eight, leggingInRange, hasHome, ordersSound, Checked};
+ghost use Rattle.soundness.specs.Checked.{askedRegular, regularsFrom, complexesFrom, editionsFrom, numbersFrom, numbersSound, keptSound, placesSound, pricedOn, onIncrements, isAlone, eight, leggingInRange, hasHome, ordersSound, Checked};
 
 // Places by themselves ------------------------------------------------------------------------
 
@@ -274,7 +276,61 @@ fn editions_sound(l: [Edition; 32]) -> bool
     true
 }
 
-// Every place by itself is sound but for the increments, and books and editions are arranged.
+// A generation's number is not below the one before it; any u32 is a message's number.
+fn is_unfallen(low: u32, n: u32) -> bool
+    ensures { λ r. ⌜ r ≡ (leb low n && leb n 4294967295) ⌝ }
+{
+    low <= n
+}
+
+// A series' generations do not fall in number.
+fn numbers_sound(l: [u32; 20]) -> bool
+    ensures { λ r. ⌜ r ≡ numbersFrom 0 l ⌝ }
+{
+    let mut low: u32 = 0;
+    let mut i: usize = 0;
+    while i < 20 {
+        let n = l[i];
+        if !is_unfallen(low, n) {
+            return false;
+        }
+        low = n;
+        i += 1;
+    }
+    true
+}
+
+fn generations_sound(l: [Generations; 8]) -> bool
+    ensures { λ r. ⌜ r ≡ all numbersSound l ⌝ }
+{
+    let mut i: usize = 0;
+    while i < 8 {
+        let g = l[i];
+        let messages = g.messages;
+        if !numbers_sound(messages) {
+            return false;
+        }
+        i += 1;
+    }
+    true
+}
+
+// What is kept beside the orders and the series: editions, generations, and the id that limited sweeps have reached.
+fn kept_sound(v: Venue) -> bool
+    ensures { λ r. ⌜ r ≡ keptSound v ⌝ }
+{
+    let editions = v.editions;
+    if !editions_sound(editions) {
+        return false;
+    }
+    let generations = v.generations;
+    if !generations_sound(generations) {
+        return false;
+    }
+    v.reached <= v.last
+}
+
+// Every place by itself is sound but for the increments, and books, editions and generations are arranged.
 fn places_sound(v: Venue) -> bool
     ensures { λ r. ⌜ r ≡ placesSound v ⌝ }
 {
@@ -290,8 +346,7 @@ fn places_sound(v: Venue) -> bool
     if !series_sound(series) {
         return false;
     }
-    let editions = v.editions;
-    editions_sound(editions)
+    kept_sound(v)
 }
 
 // Orders beside one another -------------------------------------------------------------------
@@ -518,9 +573,9 @@ pub fn load_sound(b: &mut [u32], v: Venue) -> bool
 }
 
 // A message's number is above that of each edition kept.
-pub fn follows_editions(b: &[u32], number: u32) -> bool
+fn follows_editions(b: &[u32], number: u32) -> bool
     requires { ⌜ length (now b) ≡ size ⌝ }
-    ensures { λ r. ⌜ r ≡ follows number (venueOf (now (b .entry))) ⌝ }
+    ensures { λ r. ⌜ r ≡ all (λ e. ltb (e .message) number) (venueOf (now (b .entry)) .editions) ⌝ }
 {
     let mut i: usize = 0;
     while i < 32 {
@@ -531,4 +586,44 @@ pub fn follows_editions(b: &[u32], number: u32) -> bool
         i += 1;
     }
     true
+}
+
+// It is above that of each of a series' generations.
+fn follows_series(b: &[u32], s: usize, number: u32) -> bool
+    requires { ⌜ (length (now b) ≡ size) × (s < 8) ⌝ }
+    ensures { λ r. ⌜ r ≡ all (λ n. ltb n number) (generationsOf (venueOf (now (b .entry))) s) ⌝ }
+{
+    let mut k: usize = 0;
+    while k < 20 {
+        if number <= places::generation_at(b, s, k) {
+            return false;
+        }
+        k += 1;
+    }
+    true
+}
+
+fn follows_generations(b: &[u32], number: u32) -> bool
+    requires { ⌜ length (now b) ≡ size ⌝ }
+    ensures { λ r. ⌜ r ≡ all (λ g. all (λ n. ltb n number) (g .messages)) (venueOf (now (b .entry)) .generations) ⌝ }
+{
+    let mut s: usize = 0;
+    while s < 8 {
+        if !follows_series(b, s, number) {
+            return false;
+        }
+        s += 1;
+    }
+    true
+}
+
+// A message's number is above that of each edition and of each generation kept.
+pub fn follows_kept(b: &[u32], number: u32) -> bool
+    requires { ⌜ length (now b) ≡ size ⌝ }
+    ensures { λ r. ⌜ r ≡ follows number (venueOf (now (b .entry))) ⌝ }
+{
+    if !follows_editions(b, number) {
+        return false;
+    }
+    follows_generations(b, number)
 }

@@ -10,7 +10,8 @@ use Rattle.rules.specs.declared.Complex.{Complex}
 use Rattle.rules.specs.declared.Legging.{Legging}
 use Rattle.rules.specs.declared.Listed.{Listed}
 use Rattle.rules.specs.declared.Edition.{Edition}
-use Rattle.rules.specs.Words.{noRegular, noComplex, noLegging, notListed, noEdition}
+use Rattle.rules.specs.declared.Generations.{Generations}
+use Rattle.rules.specs.Words.{noRegular, noComplex, noLegging, notListed, noEdition, noGenerations}
 use Rattle.rules.specs.Bytes.{u8At, u16At, u32At, asUnsigned, bytes, u32}
 use Rattle.rules.specs.Records.{FourBytes}
 use Rattle.rules.specs.Opened.{opened-rules}
@@ -19,12 +20,12 @@ use Rattle.wire.proofs.Numbers.{u32-here}
 use Rattle.places.specs.Layout.{upto}
 use Rattle.places.proofs.Tables.{upto-length, upto-at}
 use Rattle.places.proofs.Parts.{venue-is}
-use Rattle.state.specs.Held.{editionsAt, reservesAt, ratiosAt, regularBytes, complexBytes, leggingBytes, listedBytes, editionBytes, reserveBytes, ratioBytes, rows, venueBytes}
-use Rattle.state.specs.Held.{rowAt, rowsAt, venueFrom, regularFrom, complexFrom, leggingFrom, listedFrom, editionFrom}
-use Rattle.state.specs.Held.{RegularFits, ComplexFits, LeggingFits, ListedFits, EditionFits, HeldWhole, zerosVenue, ZerosHeld, closings, ClosedFirst}
+use Rattle.state.specs.Held.{editionsAt, reservesAt, ratiosAt, generationsAt, reachedAt, regularBytes, complexBytes, leggingBytes, listedBytes, editionBytes, reserveBytes, ratioBytes, messagesOf, generationsBytes, rows, venueBytes}
+use Rattle.state.specs.Held.{rowAt, rowsAt, venueFrom, regularFrom, complexFrom, leggingFrom, listedFrom, editionFrom, generationsFrom}
+use Rattle.state.specs.Held.{RegularFits, ComplexFits, LeggingFits, ListedFits, EditionFits, GenerationsFits, HeldWhole, zerosVenue, ZerosHeld, closings, ClosedFirst}
 use Rattle.state.proofs.Rows.{rows-append, rows-length}
-use Rattle.state.proofs.Widths.{regular-width, complex-width, legging-width, listed-width, edition-width, reserve-width, ratio-width}
-use Rattle.state.proofs.Whole.{regular-part, complex-part, legging-part, series-part, last-part, editions-part, reserves-part}
+use Rattle.state.proofs.Widths.{regular-width, complex-width, legging-width, listed-width, edition-width, reserve-width, ratio-width, number-width, messages-many, message-at, generations-width}
+use Rattle.state.proofs.Whole.{regular-part, complex-part, legging-part, series-part, last-part, editions-part, reserves-part, ratios-part, generations-part}
 
 -- A row ---------------------------------------------------------------------------------------
 
@@ -113,6 +114,25 @@ module _ {A : Type 0} (row : A → List ℕ) (width : ℕ) (even : (x : A) → l
   table-back read from n bs front rest l e f k back =
       all-back (rowAt read from width bs) none l n k (λ i h. row-at read from bs front rest l i e f h ∙ back i _)
 
+-- a series' generations are a table of their own
+module _ (g : Generations) (f : GenerationsFits g) where
+  generations-back : (rest : List ℕ) → generationsFrom (generationsBytes g ++ rest) ≡ g
+  unfolding generationsFrom generationsBytes
+  generations-back rest =
+      ap (λ (l : List ℕ). record { messages = l })
+      (all-back (λ (k : ℕ). u32At bs (4 * k)) 0 (messagesOf g) 20 (messages-many g) here ∙ all-back (λ (k : ℕ). getD (g .messages) k 0) 0 (g .messages) 20 (f .many) (λ k h. refl))
+    where
+      bs : List ℕ
+      bs = rows u32 (messagesOf g) ++ rest
+
+      here : (k : ℕ) → k < length (messagesOf g) → u32At bs (4 * k) ≡ getD (messagesOf g) k 0
+      here k h =
+          let z : 4 * k ≡ 4 * k + 0 = omega arith in
+          let e = message-at g k (omega (arith, messages-many g)) in
+          let w = f .messages k in
+          u32-here (4 * k) bs ∙ ap (λ (x : List ℕ). u32At x 0) (ap (λ (n : ℕ). drop n bs) z ∙ row-here u32 4 number-width 0 [] rest (messagesOf g) k h)
+          ∙ last-back (getD (messagesOf g) k 0) (omega arith) _
+
 -- a list in two tables
 module _ {A : Type 0} (row more : A → List ℕ) (width short : ℕ) (even : (x : A) → length (row x) ≡ width) (flat : (x : A) → length (more x) ≡ short) (none : A) where
   tables-back : (read : List ℕ → List ℕ → A) (from later n : ℕ) (bs front rest before after : List ℕ) (l : List A) → bs ≡ front ++ rows row l ++ rest → length front ≡ from →
@@ -138,26 +158,33 @@ held-whole v d =
     let E : List ℕ = rows editionBytes (v .editions) in
     let H : List ℕ = rows reserveBytes (v .regular) in
     let Q : List ℕ = rows ratioBytes (v .complex) in
+    let N : List ℕ = rows generationsBytes (v .generations) in
+    let P : List ℕ = u32 (v .reached) in
     let s = d .sized in
-    let split : venueBytes v ≡ R ++ C ++ L ++ S ++ (Z ++ (E ++ H ++ Q)) = simp append-assoc in
+    let split : venueBytes v ≡ R ++ C ++ L ++ S ++ (Z ++ (E ++ H ++ Q ++ N ++ P)) = simp append-assoc in
     venue-is _ _
-    (tables-back regularBytes reserveBytes 14 8 regular-width reserve-width noRegular regularFrom 0 reservesAt 128 (venueBytes v) [] (C ++ L ++ S ++ Z ++ E ++ H ++ Q) (R ++ C ++ L ++ S ++ Z ++ E) Q (v .regular)
-    (simp append-assoc) refl refl (editions-part v s) (s .regular) (λ i r t. regular-back _ (d .regular i) r t))
-    (tables-back complexBytes ratioBytes 17 2 complex-width ratio-width noComplex complexFrom 1792 ratiosAt 32 (venueBytes v) R (L ++ S ++ Z ++ E ++ H ++ Q) (R ++ C ++ L ++ S ++ Z ++ E ++ H) [] (v .complex)
-    (simp append-assoc) (regular-part v s) (simp append-nil) (reserves-part v s) (s .complex) (λ i r t. complex-back _ (d .complex i) r t))
-    (table-back leggingBytes 12 legging-width noLegging leggingFrom 2336 16 (venueBytes v) (R ++ C) (S ++ Z ++ E ++ H ++ Q) (v .legging) (simp append-assoc) (complex-part v s) (s .legging)
+    (tables-back regularBytes reserveBytes 14 8 regular-width reserve-width noRegular regularFrom 0 reservesAt 128 (venueBytes v) [] (C ++ L ++ S ++ Z ++ E ++ H ++ Q ++ N ++ P) (R ++ C ++ L ++ S ++ Z ++ E) (Q ++ N ++ P) (v .regular)
+    (simp append-assoc) refl (simp append-assoc) (editions-part v s) (s .regular) (λ i r t. regular-back _ (d .regular i) r t))
+    (tables-back complexBytes ratioBytes 17 2 complex-width ratio-width noComplex complexFrom 1792 ratiosAt 32 (venueBytes v) R (L ++ S ++ Z ++ E ++ H ++ Q ++ N ++ P) (R ++ C ++ L ++ S ++ Z ++ E ++ H) (N ++ P) (v .complex)
+    (simp append-assoc) (regular-part v s) (simp append-assoc) (reserves-part v s) (s .complex) (λ i r t. complex-back _ (d .complex i) r t))
+    (table-back leggingBytes 12 legging-width noLegging leggingFrom 2336 16 (venueBytes v) (R ++ C) (S ++ Z ++ E ++ H ++ Q ++ N ++ P) (v .legging) (simp append-assoc) (complex-part v s) (s .legging)
     (λ i r. legging-back _ (d .legging i) r))
-    (table-back listedBytes 9 listed-width notListed listedFrom 2528 8 (venueBytes v) (R ++ C ++ L) (Z ++ E ++ H ++ Q) (v .series) (simp append-assoc) (legging-part v s) (s .series)
+    (table-back listedBytes 9 listed-width notListed listedFrom 2528 8 (venueBytes v) (R ++ C ++ L) (Z ++ E ++ H ++ Q ++ N ++ P) (v .series) (simp append-assoc) (legging-part v s) (s .series)
     (λ i r. listed-back _ (d .series i) r))
-    (table-back editionBytes 10 edition-width noEdition editionFrom editionsAt 32 (venueBytes v) (R ++ C ++ L ++ S ++ Z) (H ++ Q) (v .editions) (simp append-assoc) (last-part v s) (s .editions)
+    (table-back editionBytes 10 edition-width noEdition editionFrom editionsAt 32 (venueBytes v) (R ++ C ++ L ++ S ++ Z) (H ++ Q ++ N ++ P) (v .editions) (simp append-assoc) (last-part v s) (s .editions)
     (λ i r. edition-back _ (d .editions i) r))
+    (table-back generationsBytes 80 generations-width noGenerations generationsFrom generationsAt 8 (venueBytes v) (R ++ C ++ L ++ S ++ Z ++ E ++ H ++ Q) P (v .generations) refl (ratios-part v s) (s .generations)
+    (λ i r. generations-back _ (d .generations i) r))
     (u32-here 2600 (venueBytes v)
     ∙ ap (λ (x : List ℕ). u32At (drop 2600 x) 0) split
-    ∙ ap (λ (x : List ℕ). u32At x 0) (drop-at (R ++ C ++ L ++ S) (Z ++ (E ++ H ++ Q)) 2600 (series-part v s))
-    ∙ last-back (v .last) (d .last) (E ++ H ++ Q))
+    ∙ ap (λ (x : List ℕ). u32At x 0) (drop-at (R ++ C ++ L ++ S) (Z ++ (E ++ H ++ Q ++ N ++ P)) 2600 (series-part v s))
+    ∙ last-back (v .last) (d .last) (E ++ H ++ Q ++ N ++ P))
+    (u32-here reachedAt (venueBytes v)
+    ∙ ap (λ (x : List ℕ). u32At x 0) (drop-at (R ++ C ++ L ++ S ++ Z ++ E ++ H ++ Q ++ N) P reachedAt (generations-part v s) ∙ sym (append-nil P))
+    ∙ last-back (v .reached) (d .reached) [])
 
 pub zeros-held : ZerosHeld
-unfolding opened-rules venueFrom rowAt rowsAt upto regularFrom complexFrom leggingFrom listedFrom editionFrom zerosVenue
+unfolding opened-rules venueFrom rowAt rowsAt upto regularFrom complexFrom leggingFrom listedFrom editionFrom generationsFrom zerosVenue
 zeros-held = (refl, refl)
 
 pub closed-first : ClosedFirst

@@ -1,5 +1,5 @@
--- A venue as bytes, which a host holds between calls: 4,012 of them, each number as in a message, little-endian. What a request adds to a venue
--- stands after what there was before, so that what (e) adds to a regular order and (g) to a complex order are rows of their own.
+-- A venue as bytes, which a host holds between calls: 4,656 of them, each number as in a message, little-endian. What a request adds to a venue
+-- stands after what there was before, so that what (e) adds to a regular order, (g) to a complex order and (m) to a series are rows of their own.
 --
 --   from   a row                                                                                      bytes   rows
 --      0   id u32, series u8, side u8, price u32, quantity u32                                           14   128 regular
@@ -10,6 +10,8 @@
 --   2604   edition u32, message number u32, figure u8, value u8                                          10   32 editions
 --   2924   reserve u32, display u32                                                                       8   128 regular
 --   3948   ratio1 u8, ratio2 u8                                                                           2   32 complex
+--   4012   message numbers u32 of the last 20 generations, oldest first                                  80   8 series
+--   4652   last id that a limited sweep looked at u32                                                     4
 --
 -- An edition's figure is 0 to 7, the increment of that series, or 8, the percent.
 use mathlib.Core.Path.{_≡_}
@@ -22,9 +24,10 @@ use Rattle.rules.specs.declared.Complex.{Complex}
 use Rattle.rules.specs.declared.Legging.{Legging}
 use Rattle.rules.specs.declared.Listed.{Listed}
 use Rattle.rules.specs.declared.Edition.{Edition}
+use Rattle.rules.specs.declared.Generations.{Generations}
 use Rattle.rules.specs.declared.Venue.{Venue}
 use Rattle.rules.specs.declared.Message.the-variants.{Status}
-use Rattle.rules.specs.Words.{noRegular, noComplex, noLegging, notListed, noEdition, closed, freshVenue, withSeries}
+use Rattle.rules.specs.Words.{noRegular, noComplex, noLegging, notListed, noEdition, noGenerations, closed, freshVenue, withSeries}
 use Rattle.rules.specs.Bytes.{u8At, u32At, asSigned, u8, u32, i32}
 use Rattle.rules.specs.Messages.{encodeMessage}
 use Rattle.rules.specs.Records.{OneByte, FourBytes, FourSigned}
@@ -44,8 +47,16 @@ reservesAt = 2924
 abbrev pub ratiosAt : ℕ
 ratiosAt = 3948
 
+-- where the series' generations begin
+abbrev pub generationsAt : ℕ
+generationsAt = 4012
+
+-- where the last id that a limited sweep looked at stands
+abbrev pub reachedAt : ℕ
+reachedAt = 4652
+
 abbrev pub venueSize : ℕ
-venueSize = 4012
+venueSize = 4656
 
 -- Writing -------------------------------------------------------------------------------------
 
@@ -79,10 +90,18 @@ unfoldable pub rows : {A : Type 0} → (A → List ℕ) → List A → List ℕ
 rows row [] = []
 rows row (x ∷ xs) = row x ++ rows row xs
 
+-- what (m) adds to a series: the numbers of 20 messages
+abbrev pub messagesOf : Generations → List ℕ
+messagesOf g = upto (λ k. getD (g .messages) k 0) 0 20
+
+unfoldable pub generationsBytes : Generations → List ℕ
+generationsBytes g = rows u32 (messagesOf g)
+
 unfoldable pub venueBytes : Venue → List ℕ
 venueBytes v =
     rows regularBytes (v .regular) ++ rows complexBytes (v .complex) ++ rows leggingBytes (v .legging) ++ rows listedBytes (v .series) ++ u32 (v .last)
-    ++ rows editionBytes (v .editions) ++ rows reserveBytes (v .regular) ++ rows ratioBytes (v .complex)
+    ++ rows editionBytes (v .editions) ++ rows reserveBytes (v .regular) ++ rows ratioBytes (v .complex) ++ rows generationsBytes (v .generations)
+    ++ u32 (v .reached)
 
 -- Reading -------------------------------------------------------------------------------------
 
@@ -121,6 +140,9 @@ listedFrom bs = record { status = u8At bs 0; bid = u32At bs 1; offer = u32At bs 
 unfoldable pub editionFrom : List ℕ → Edition
 editionFrom bs = record { edition = u32At bs 0; message = u32At bs 4; figure = u8At bs 8; value = u8At bs 9 }
 
+unfoldable pub generationsFrom : List ℕ → Generations
+generationsFrom bs = record { messages = upto (λ k. u32At bs (4 * k)) 0 20 }
+
 -- row i of a table whose rows are `width` bytes each, from a position on
 unfoldable pub rowAt : {A : Type 0} → (List ℕ → A) → (from width : ℕ) → List ℕ → (i : ℕ) → A
 rowAt row from width bs i = row (drop (width * i + from) bs)
@@ -136,7 +158,9 @@ venueFrom bs = record {
   legging = upto (rowAt leggingFrom 2336 12 bs) 0 16;
   series = upto (rowAt listedFrom 2528 9 bs) 0 8;
   editions = upto (rowAt editionFrom editionsAt 10 bs) 0 32;
+  generations = upto (rowAt generationsFrom generationsAt 80 bs) 0 8;
   last = u32At bs 2600;
+  reached = u32At bs reachedAt;
 }
 
 -- What is held is read back -------------------------------------------------------------------
@@ -179,6 +203,10 @@ pub record EditionFits (e : Edition) : Type 0 where
   pub figure : OneByte (e .figure)
   pub value : OneByte (e .value)
 
+pub record GenerationsFits (g : Generations) : Type 0 where
+  pub many : length (g .messages) ≡ 20
+  pub messages : (k : ℕ) → FourBytes (getD (g .messages) k 0)
+
 -- each array has its length
 pub record Sized (v : Venue) : Type 0 where
   pub regular : length (v .regular) ≡ 128
@@ -186,6 +214,7 @@ pub record Sized (v : Venue) : Type 0 where
   pub legging : length (v .legging) ≡ 16
   pub series : length (v .series) ≡ 8
   pub editions : length (v .editions) ≡ 32
+  pub generations : length (v .generations) ≡ 8
 
 -- a venue of the declared type
 pub record Declared (v : Venue) : Type 0 where
@@ -195,7 +224,9 @@ pub record Declared (v : Venue) : Type 0 where
   pub legging : (i : ℕ) → LeggingFits (getD (v .legging) i noLegging)
   pub series : (i : ℕ) → ListedFits (getD (v .series) i notListed)
   pub editions : (i : ℕ) → EditionFits (getD (v .editions) i noEdition)
+  pub generations : (i : ℕ) → GenerationsFits (getD (v .generations) i noGenerations)
   pub last : FourBytes (v .last)
+  pub reached : FourBytes (v .reached)
 
 abbrev pub HeldWhole : Type 0
 HeldWhole = (v : Venue) → Declared v → venueFrom (venueBytes v) ≡ v

@@ -1,17 +1,18 @@
 // A venue as bytes (specs/Held.antt), for a host that holds it between calls: read, and written anew.
 use rules::Complex;
 use rules::Edition;
+use rules::Generations;
 use rules::Legging;
 use rules::Listed;
 use rules::Regular;
 use rules::Venue;
 ghost use mathlib.Core.Path.{_≡_};
-ghost use Prim.Native.Nat.{_≤_};
+ghost use Prim.Native.Nat.{_+_, _≤_};
 ghost use lib.ListN.{length};
 ghost use Rattle.wire.specs.Seen.{seen, pasted, _plus_};
-ghost use Rattle.state.specs.Held.{editionsAt, reservesAt, ratiosAt, venueSize};
-ghost use Rattle.state.specs.Held.{regularBytes, complexBytes, leggingBytes, listedBytes, editionBytes, reserveBytes, ratioBytes, rows, venueBytes};
-ghost use Rattle.state.specs.Held.{regularFrom, complexFrom, leggingFrom, listedFrom, editionFrom, venueFrom};
+ghost use Rattle.state.specs.Held.{editionsAt, reservesAt, ratiosAt, generationsAt, venueSize};
+ghost use Rattle.state.specs.Held.{regularBytes, complexBytes, leggingBytes, listedBytes, editionBytes, reserveBytes, ratioBytes, generationsBytes, rows, venueBytes};
+ghost use Rattle.state.specs.Held.{regularFrom, complexFrom, leggingFrom, listedFrom, editionFrom, generationsFrom, venueFrom};
 
 // Where the editions begin.
 const EDITIONS_AT: usize = 2604;
@@ -22,8 +23,14 @@ const RESERVES_AT: usize = EDITIONS_AT + 10 * 32;
 // Where the complex orders' ratios begin.
 const RATIOS_AT: usize = RESERVES_AT + 8 * 128;
 
+// Where the series' generations begin.
+const GENERATIONS_AT: usize = RATIOS_AT + 2 * 32;
+
+// Where the last id that a limited sweep looked at stands.
+const REACHED_AT: usize = GENERATIONS_AT + 80 * 8;
+
 // How many bytes a venue has.
-pub const VENUE_SIZE: usize = RATIOS_AT + 2 * 32;
+pub const VENUE_SIZE: usize = REACHED_AT + 4;
 
 // A row read ----------------------------------------------------------------------------------
 
@@ -92,6 +99,20 @@ fn edition_from(row: &[u8]) -> Edition
         figure: wire::byte_at(row, 8),
         value: wire::byte_at(row, 9),
     }
+}
+
+fn generations_from(row: &[u8]) -> Generations
+    requires { ⌜ 80 ≤ length (now row) ⌝ }
+    ensures { λ r. ⌜ r ≡ generationsFrom (now (row .entry)) ⌝ }
+{
+    let mut messages = [0u32; 20];
+    let mut k: usize = 0;
+    while k < 20 {
+        let x = wire::word_at(row, 4 * k);
+        messages[k] = x;
+        k += 1;
+    }
+    Generations { messages }
 }
 
 // The venue read, table by table --------------------------------------------------------------
@@ -210,6 +231,22 @@ fn editions_from(bytes: &[u8]) -> [Edition; 32]
     r
 }
 
+fn all_generations_from(bytes: &[u8]) -> [Generations; 8]
+    requires { ⌜ length (now bytes) ≡ venueSize ⌝ }
+    ensures { λ r. ⌜ r ≡ venueFrom (now (bytes .entry)) .generations ⌝ }
+{
+    let none = Generations { messages: [0; 20] };
+    let mut r = [none; 8];
+    let mut i: usize = 0;
+    while i < 8 {
+        let at = 80 * i + GENERATIONS_AT;
+        let x = generations_from(&bytes[at..]);
+        r[i] = x;
+        i += 1;
+    }
+    r
+}
+
 // The venue that the bytes hold.
 pub fn venue_from(bytes: &[u8]) -> Venue
     requires { ⌜ length (now bytes) ≡ venueSize ⌝ }
@@ -221,13 +258,17 @@ pub fn venue_from(bytes: &[u8]) -> Venue
     let series = series_from(bytes);
     let last = wire::word_at(bytes, 2600);
     let editions = editions_from(bytes);
+    let generations = all_generations_from(bytes);
+    let reached = wire::word_at(bytes, REACHED_AT);
     Venue {
         regular,
         complex,
         legging,
         series,
         editions,
+        generations,
         last,
+        reached,
     }
 }
 
@@ -310,6 +351,19 @@ fn put_edition(out: &mut [u8], at: usize, x: Edition)
         x.value,
     ];
     wire::put(out, at, &row);
+}
+
+fn put_generations(out: &mut [u8], at: usize, g: Generations)
+    requires { ⌜ at + 80 ≤ length (now out) ⌝ }
+    ensures { λ _. ⌜ now (out .exit) ≡ (seen (now (out .entry)) at plus generationsBytes g) .memory ⌝ }
+{
+    let messages = g.messages;
+    let mut k: usize = 0;
+    while k < 20 {
+        let number = wire::bytes4(messages[k]);
+        wire::put(out, 4 * k + at, &number);
+        k += 1;
+    }
 }
 
 // The venue written, table by table -----------------------------------------------------------
@@ -398,6 +452,18 @@ fn put_ratios(out: &mut [u8], l: [Complex; 32])
     }
 }
 
+fn put_all_generations(out: &mut [u8], l: [Generations; 8])
+    requires { ⌜ length (now out) ≡ venueSize ⌝ }
+    ensures { λ _. ⌜ now (out .exit) ≡ pasted (now (out .entry)) generationsAt (rows generationsBytes l) ⌝ }
+{
+    let mut i: usize = 0;
+    while i < 8 {
+        let g = l[i];
+        put_generations(out, 80 * i + GENERATIONS_AT, g);
+        i += 1;
+    }
+}
+
 // The venue's bytes in the place of what stood there.
 pub fn put_venue(out: &mut [u8], v: Venue)
     requires { ⌜ length (now out) ≡ venueSize ⌝ }
@@ -415,6 +481,12 @@ pub fn put_venue(out: &mut [u8], v: Venue)
     wire::put(out, 2600, &last);
     let editions = v.editions;
     put_editions(out, editions);
-    put_reserves(out, regular);
-    put_ratios(out, complex);
+    let reserves = v.regular;
+    put_reserves(out, reserves);
+    let ratios = v.complex;
+    put_ratios(out, ratios);
+    let generations = v.generations;
+    put_all_generations(out, generations);
+    let reached = wire::bytes4(v.reached);
+    wire::put(out, REACHED_AT, &reached);
 }

@@ -7,9 +7,8 @@ use lib.Dec.{ltb}
 use borrow.Author.Tests.{lt-ltb, le-ltb}
 use Rattle.rules.specs.declared.Edition.{Edition}
 use Rattle.rules.specs.Base.{all}
-use Rattle.rules.specs.Sound.{follows}
 use Rattle.places.specs.Layout.{upto, editionIn, venueOf}
-use Rattle.soundness.proofs.Beside.{scan-past, scan-stop, scan-none, follows-scan}
+use Rattle.soundness.proofs.Beside.{scan-past, scan-stop, scan-none, editions-scan}
 use borrow.Author.Needs.{needs}
 use Rattle.soundness.proofs.follows_editions.Statement.{statement}
 use Rattle.soundness.proofs.follows_editions.Tie as tie
@@ -18,13 +17,13 @@ abbrev earlier : (number : ℕ) → Edition → Bool
 earlier number e = ltb (e .message) number
 
 abbrev Inv-loop : tie.InvT-loop
-Inv-loop b number i₀ i = (i ≤ 32) × (all (earlier number) (upto (editionIn b) i (32 - i)) ≡ follows number (venueOf b))
+Inv-loop b number i₀ i = (i ≤ 32) × (all (earlier number) (upto (editionIn b) i (32 - i)) ≡ all (earlier number) (venueOf b .editions))
 
 abbrev μ-loop : tie.MeasureT-loop
 μ-loop b number i₀ i = 32 - i
 
 loop-holds : tie.Need-loop-holds Inv-loop μ-loop
-loop-holds c = (search needs, follows-scan (c .before .args .b .now) (c .before .args .number))
+loop-holds c = (search needs, editions-scan (c .before .args .b .now) (earlier (c .before .args .number)))
 
 edition-at-requires : tie.Need-edition-at-requires Inv-loop μ-loop
 edition-at-requires c κs = search needs

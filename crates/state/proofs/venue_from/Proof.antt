@@ -23,11 +23,18 @@ word-at-requires c κs = search needs
 editions-from-requires : tie.Need-editions-from-requires
 editions-from-requires c κs = search needs
 
+all-generations-from-requires : tie.Need-all-generations-from-requires
+all-generations-from-requires c κs = search needs
+
+word-at-requires-2 : tie.Need-word-at-requires-2
+word-at-requires-2 c κs = search needs
+
 returns : tie.Need-returns
 unfolding venueFrom
 returns c =
-    venue-is _ _ (c .before .before .before .before .before .regulars-from .ensures) (c .before .before .before .before .complexes-from .ensures) (c .before .before .before .leggings-from .ensures)
-    (c .before .before .series-from .ensures) (c .editions-from .ensures) (c .before .word-at .ensures)
+    let d = c .before .before in
+    venue-is _ _ (d .before .before .before .before .before .regulars-from .ensures) (d .before .before .before .before .complexes-from .ensures) (d .before .before .before .leggings-from .ensures)
+    (d .before .before .series-from .ensures) (d .editions-from .ensures) (c .before .all-generations-from .ensures) (d .before .word-at .ensures) (c .word-at2 .ensures)
 
 pub venue-from-spec : {M : Type 1} → statement M
 venue-from-spec =
@@ -39,4 +46,6 @@ venue-from-spec =
     series-from-requires
     word-at-requires
     editions-from-requires
+    all-generations-from-requires
+    word-at-requires-2
     returns)
