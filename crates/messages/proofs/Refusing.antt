@@ -10,7 +10,7 @@ use Rattle.rules.specs.declared.Complex.{Complex}
 use Rattle.rules.specs.declared.Listed.{Listed}
 use Rattle.rules.specs.declared.Venue.{Venue}
 use Rattle.rules.specs.declared.Message.{Message}
-use Rattle.rules.specs.declared.Message.the-variants.{Order, TwoLeg, Cancel, Away, Status, Sweep, Increment, Percent}
+use Rattle.rules.specs.declared.Message.the-variants.{Order, TwoLeg, Cancel, Away, Status, Sweep, Increment, Percent, LimitedSweep}
 use Rattle.rules.specs.Base.{if_then_else_, held, all}
 use Rattle.rules.specs.Words.{closed, within, isSeries, statusOf, listedAt, withSeries}
 use Rattle.rules.specs.Messages.{messageForm}
@@ -64,6 +64,12 @@ never-refused v (Status s x) h l = refl
 never-refused v Sweep h l = refl
 never-refused v (Increment s x e) h l = absurd (omega arith)
 never-refused v (Percent x e) h l = absurd (omega arith)
+never-refused v (LimitedSweep n) h l = absurd (omega arith)
+
+-- nor does a limited sweep
+pub limited-taken : (v : Venue) (n : ℕ) → 0 ≡ refusalOf v (LimitedSweep n)
+unfolding refusalOf offIncrement editionTooLow inUse noEditionLeft idTooLow onClosed full unknown
+limited-taken v n = refl
 
 module _ (v : Venue) (m : Message) where
   pub refuses-off : offIncrement v m ≡ true → 4 ≡ refusalOf v m

@@ -107,7 +107,7 @@ module _ (v : Venue) (o : Regular) (e : refusalOf v (Order o) ≡ 0) where
 
   pub order-below : sound v ≡ true → Below (o .id) (v .regular)
   unfolding sound
-  order-below h = regulars-below (search (and-l, and-r, h) depth 10)
+  order-below h = regulars-below (search (and-l, and-r, h) depth 12)
 
 -- Its effects, and then the gaps closed -------------------------------------------------------
 

@@ -218,8 +218,8 @@ fn edition_refusal(b: &[u32], edition: u32, used: bool) -> u8
     0
 }
 
-// The first of 11 to 13 that a new setting meets.
-fn setting_refusal(b: &[u32], m: Message) -> u8
+// The first of 11 to 13 that a new setting meets; a limited sweep meets no refusal.
+fn later_refusal(b: &[u32], m: Message) -> u8
     requires { ⌜ (length (now b) ≡ size) × (6 < messageForm m) × (wellFormed m ≡ true) ⌝ }
     ensures { λ r. ⌜ r ≡ refusalOf (venueOf (now (b .entry))) m ⌝ }
 {
@@ -229,6 +229,7 @@ fn setting_refusal(b: &[u32], m: Message) -> u8
             edition_refusal(b, edition, used)
         }
         Message::Percent(_, edition) => edition_refusal(b, edition, false),
+        Message::LimitedSweep(_) => 0,
         _ => 0,
     }
 }
@@ -240,7 +241,7 @@ fn refusal_of(b: &[u32], m: Message) -> u8
 {
     let form = rules::message_form(m);
     if 6 < form {
-        return setting_refusal(b, m);
+        return later_refusal(b, m);
     }
     if 3 < form {
         return 0;
@@ -318,19 +319,19 @@ fn enter_order(b: &mut [u32], o: Regular, out: &mut [u8], at: usize) -> usize
     complexes::order(b, o, out, at)
 }
 
-// A complex order arrives, and its id is the last accepted.
-fn enter_complex(b: &mut [u32], c: Complex, out: &mut [u8], at: usize) -> usize
+// A complex order arrives by the message of this number, and its id is the last accepted.
+fn enter_complex(b: &mut [u32], number: u32, c: Complex, out: &mut [u8], at: usize) -> usize
     requires { ⌜ (length (now b) ≡ size) × (Dense (now b)) × (complexesUsed (now b) < 32) × (LegsIn c) ⌝ }
-    ensures { λ r. ⌜ stage (venueOf (now (b .exit))) (now (out .exit)) r ≡ seen (now (out .entry)) at does complex c (withLast (venueOf (now (b .entry))) (c .id)) ⌝ }
+    ensures { λ r. ⌜ stage (venueOf (now (b .exit))) (now (out .exit)) r ≡ seen (now (out .entry)) at does complex number c (withLast (venueOf (now (b .entry))) (c .id)) ⌝ }
     ensures right { λ _. ⌜ Right (now (b .exit)) ⌝ }
 {
     places::put_last(b, c.id);
-    complexes::complex_order(b, c, out, at)
+    complexes::complex_order(b, number, c, out, at)
 }
 
-// What a new setting that is not refused does.
-fn perform_setting(b: &mut [u32], number: u32, m: Message, out: &mut [u8], at: usize) -> usize
-    requires { ⌜ (length (now b) ≡ size) × (6 < messageForm m) × (wellFormed m ≡ true) × (refusalOf (venueOf (now b)) m ≡ 0) × (Right (now b)) ⌝ }
+// What a new setting that is not refused does, and a limited sweep.
+fn perform_later(b: &mut [u32], number: u32, m: Message, out: &mut [u8], at: usize) -> usize
+    requires { ⌜ (length (now b) ≡ size) × (6 < messageForm m) × (wellFormed m ≡ true) × (refusalOf (venueOf (now b)) m ≡ 0) × (Dense (now b)) × (SoundVenue (venueOf (now b))) ⌝ }
     ensures { λ r. ⌜ stage (venueOf (now (b .exit))) (now (out .exit)) r ≡ seen (now (out .entry)) at does step.perform number m (venueOf (now (b .entry))) ⌝ }
     ensures counts { λ _. ⌜ SameCounts (now (b .entry)) (now (b .exit)) ⌝ }
 {
@@ -339,6 +340,10 @@ fn perform_setting(b: &mut [u32], number: u32, m: Message, out: &mut [u8], at: u
             set_figure(b, number, series, x, edition, out, at)
         }
         Message::Percent(x, edition) => set_figure(b, number, 8, x, edition, out, at),
+        Message::LimitedSweep(n) => {
+            let swept = complexes::limited_sweep(b, number, n, out, at);
+            swept.at
+        }
         _ => at,
     }
 }
@@ -351,12 +356,12 @@ fn perform(b: &mut [u32], number: u32, m: Message, out: &mut [u8], at: usize) ->
 {
     let form = rules::message_form(m);
     if 6 < form {
-        return perform_setting(b, number, m, out, at);
+        return perform_later(b, number, m, out, at);
     }
     if form <= 3 {
         return match m {
             Message::Order(o) => enter_order(b, o, out, at),
-            Message::TwoLeg(c) => enter_complex(b, c, out, at),
+            Message::TwoLeg(c) => enter_complex(b, number, c, out, at),
             Message::Cancel(id) => complexes::cancel(b, id, out, at),
             _ => at,
         };
@@ -364,7 +369,7 @@ fn perform(b: &mut [u32], number: u32, m: Message, out: &mut [u8], at: usize) ->
     match m {
         Message::Away(series, bid, offer) => set_away(b, series, bid, offer, out, at),
         Message::Status(series, status) => set_status(b, series, status, out, at),
-        _ => complexes::sweep(b, out, at),
+        _ => complexes::sweep(b, number, out, at),
     }
 }
 
@@ -472,7 +477,7 @@ pub fn try_step(b: &mut [u32], number: u32, message: &[u8], out: &mut [u8]) -> S
     requires { ⌜ (length (now b) ≡ size) × (Dense (now b)) × (SoundVenue (venueOf (now b))) ⌝ }
     ensures { λ r. ⌜ Tries (step.step (venueOf (now (b .entry))) number (now (message .entry))) (now (b .entry)) (now (out .entry)) r (now (b .exit)) (now (out .exit)) ⌝ }
 {
-    if out.len() < 10428 {
+    if out.len() < 10433 {
         return step_or_leave(b, number, message, out);
     }
     step(b, number, message, out)

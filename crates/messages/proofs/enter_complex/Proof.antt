@@ -28,7 +28,7 @@ returns c =
     let k = c .before .before .before .before .complex-order .ensures in
     let p9 = c .before .before .before .before .before .before .before .before .before in
     let s = p9 .before .before .before .before in (
-      k .0 ∙ ap (λ (w : Venue). seen (s .args .out .now) (s .args .at) does complex (s .args .c) w) (p9 .put-last .ensures .0),
+      k .0 ∙ ap (λ (w : Venue). seen (s .args .out .now) (s .args .at) does complex (s .args .number) (s .args .c) w) (p9 .put-last .ensures .0),
       k .1 .right (p9 .put-last .ensures .1 .right (s .pre .1 .right)),
     )
 

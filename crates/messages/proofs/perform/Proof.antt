@@ -20,8 +20,8 @@ use Rattle.messages.proofs.perform.Tie as tie
 message-form-requires : tie.Need-message-form-requires
 message-form-requires c κs = search needs
 
-perform-setting-requires : tie.Need-perform-setting-requires
-perform-setting-requires c κs = let s = c .before .before .before .before .before .before in let e = c .before .before .before .message-form .ensures in (s .pre .0, omega arith, s .pre .2, s .pre .3, s .pre .1 .right)
+perform-later-requires : tie.Need-perform-later-requires
+perform-later-requires c κs = let s = c .before .before .before .before .before .before in let e = c .before .before .before .message-form .ensures in (s .pre .0, omega arith, s .pre .2, s .pre .3, s .pre .1, s .pre .4)
 
 same-length : tie.Need-same-length
 same-length c = search needs
@@ -30,7 +30,7 @@ same-length-2 : tie.Need-same-length-2
 same-length-2 c = search needs
 
 returns : tie.Need-returns
-returns c = let s = c .before .before .before .before .before .before .before .before .before .before .before in let k = c .before .before .before .before .perform-setting .ensures in (k .0, k .1 .right (s .pre .1 .right))
+returns c = let s = c .before .before .before .before .before .before .before .before .before .before .before in let k = c .before .before .before .before .perform-later .ensures in (k .0, k .1 .right (s .pre .1 .right))
 
 enum-known-m : tie.Need-enum-known-m
 enum-known-m c = search needs
@@ -139,7 +139,7 @@ perform-spec =
     tie.close
     (tie.spec
     message-form-requires
-    perform-setting-requires
+    perform-later-requires
     same-length
     same-length-2
     returns

@@ -13,11 +13,11 @@ use Rattle.messages.proofs.refusal_of.Tie as tie
 message-form-requires : tie.Need-message-form-requires
 message-form-requires c κs = search needs
 
-setting-refusal-requires : tie.Need-setting-refusal-requires
-setting-refusal-requires c κs = let s = c .before .before .before in let e = c .before .message-form .ensures in (s .pre .0, omega arith, s .pre .2)
+later-refusal-requires : tie.Need-later-refusal-requires
+later-refusal-requires c κs = let s = c .before .before .before in let e = c .before .message-form .ensures in (s .pre .0, omega arith, s .pre .2)
 
 returns : tie.Need-returns
-returns c = c .setting-refusal .ensures
+returns c = c .later-refusal .ensures
 
 returns-2 : tie.Need-returns-2
 returns-2 c = let s = c .before .before .before .before in let e = c .before .before .message-form .ensures in never-refused (venueOf (s .args .b .now)) (s .args .m) (omega arith) (omega arith)
@@ -59,7 +59,7 @@ refusal-of-spec =
     tie.close
     (tie.spec
     message-form-requires
-    setting-refusal-requires
+    later-refusal-requires
     returns
     returns-2
     enum-known-m
