@@ -16,6 +16,7 @@ use Rattle.wire.proofs.Stages.{stage-venue, stage-written}
 use Rattle.wire.specs.Seen.{seen, _writes_}
 use Rattle.wire.proofs.Writes.{wrote, overflowed, seen-room, sheet-left}
 use Rattle.places.specs.Layout.{venueOf}
+use Rattle.places.proofs.Generations.{generations-twenty}
 use Rattle.places.proofs.Parts.{regulars-few, complexes-few}
 use Rattle.places.proofs.Tables.{upto-length, used-length}
 use Rattle.demands.specs.Kept.{Shaped, SoundVenue}
@@ -33,6 +34,8 @@ shaped b =
       legging = upto-length _ 0 16;
       series = upto-length _ 0 8;
       editions = upto-length _ 0 32;
+      generations = upto-length _ 0 8;
+      twenty = generations-twenty b;
     }
 
 -- the numbers of a venue that is sound

@@ -4,19 +4,22 @@ use mathlib.Core.Bool.{Bool, true, false, _&&_}
 use mathlib.Core.List.{List, _++_}
 use Prim.Native.Nat.{ℕ, suc, _-_, _≤_}
 use native.Mathlib.Omega.{arith}
+use native.Mathlib.Decide.{decLt}
 use lib.IntN.{ℤ, pos, negsuc}
-use lib.ListN.{length, getD, take, replicate}
+use lib.ListN.{length, getD, take, replicate, List·getD-eq-default}
 use lib.Dec.{ltb, eqb}
 use borrow.Author.Tests.{leb-true, ltb-false, eqb-true, eqb-false, eq-eqb, ne-eqb}
 use Rattle.rules.specs.declared.Regular.{Regular}
 use Rattle.rules.specs.declared.Complex.{Complex}
 use Rattle.rules.specs.declared.Listed.{Listed}
+use Rattle.rules.specs.declared.Generations.{Generations}
 use Rattle.rules.specs.declared.Venue.{Venue}
 use Rattle.rules.specs.declared.Returned.{Returned}
 use Rattle.rules.specs.Base.{held}
-use Rattle.rules.specs.Words.{within, isClass, isStatus, isAway, notListed, freshVenue}
+use Rattle.rules.specs.Words.{within, isClass, isStatus, isAway, notListed, noGenerations, freshVenue}
 use Rattle.rules.specs.Records.{OneByte, FourBytes, FourSigned, encodeAll, sheet}
 use Rattle.rules.specs.Effects.{Effect}
+use Rattle.rules.specs.Generation.{generationsOf}
 use Rattle.rules.specs.Places.{blankRegular, blankComplex}
 use Rattle.rules.specs.Refusals.{regularInRange, twoLegInRange, complexInRange, refusal}
 use Rattle.rules.specs.Step.{StepOutcome, answered, step}
@@ -31,12 +34,13 @@ use Rattle.demands.specs.Truth.{venueAfter}
 use Rattle.demands.proofs.Calls.{kept, fresh-sound}
 use Rattle.demands.proofs.Soundness.{sound-out}
 use Rattle.demands.proofs.Truth.{one-message}
-use Rattle.places.proofs.Tables.{upto-length}
-use Rattle.state.specs.Held.{venueSize, venueBytes, venueFrom, ListedFits, Declared}
+use Rattle.places.specs.Layout.{upto}
+use Rattle.places.proofs.Tables.{upto-length, upto-at}
+use Rattle.state.specs.Held.{generationsAt, venueSize, venueBytes, generationsFrom, rowAt, venueFrom, ListedFits, Declared}
 use Rattle.state.proofs.Back.{held-whole}
 use Rattle.engine.specs.Runs.{callOf}
 use Rattle.engine.specs.Hosts.{begun, freshHosted, HeldFirst, hosted, leaves, oneHosted, HeldNext}
-use Rattle.engine.proofs.Following.{editions-fit}
+use Rattle.engine.proofs.Following.{editions-fit, generations-fit}
 use Rattle.engine.proofs.Calling.{one-unready, one-ends, one-does}
 
 -- The first venue -----------------------------------------------------------------------------
@@ -102,7 +106,7 @@ declared v s =
     let k = sound-out v s in
     let g = k .ranged in
     record {
-      sized = record { regular = s .shaped .regular; complex = s .shaped .complex; legging = s .shaped .legging; series = s .shaped .series; editions = s .shaped .editions };
+      sized = record { regular = s .shaped .regular; complex = s .shaped .complex; legging = s .shaped .legging; series = s .shaped .series; editions = s .shaped .editions; generations = s .shaped .generations };
       regular = λ i. let f = g .regular i in record {
         id = f .id;
         series = omega arith;
@@ -127,7 +131,9 @@ declared v s =
       legging = λ i. let f = g .legging i in record { parent = f .parent; price = omega arith; quantity = omega arith };
       series = λ i. listed-fits (getD (v .series) i notListed) (g .listed i);
       editions = editions-fit v (k .edited .rise);
+      generations = generations-fit v (s .shaped .twenty) (k .busy .rise);
       last = omega arith;
+      reached = (let r = k .reached in omega arith);
     }
   where
     listed-fits : (x : Listed) → listedInRange x ≡ true → ListedFits x
@@ -142,10 +148,19 @@ pub held-first : HeldFirst
 unfolding freshHosted
 held-first memory size = rw (eq-eqb (length memory) venueSize size) (held-whole freshVenue (declared freshVenue (fresh-sound .venue)))
 
+held-twenty : (memory : List ℕ) (s : ℕ) → length (generationsOf (venueFrom memory) s) ≡ 20
+unfolding venueFrom generationsOf
+held-twenty memory s =
+    let rows = rowAt generationsFrom generationsAt 80 memory in
+    elim (decLt s 8) [
+      | yes h ↦ ap (λ (g : Generations). length (g .messages)) (upto-at rows noGenerations 0 8 s h) ∙ (unfold rowAt generationsFrom in upto-length _ 0 20)
+      | no h ↦ ap (λ (g : Generations). length (g .messages)) (List·getD-eq-default (upto rows 0 8) noGenerations {n = s} (omega (arith, upto-length rows 0 8)))
+    ]
+
 -- what is held has the arrays of its type
 pub held-shaped : (memory : List ℕ) → Shaped (venueFrom memory)
 unfolding venueFrom
-held-shaped memory = record { regular = upto-length _ 0 128; complex = upto-length _ 0 32; legging = upto-length _ 0 16; series = upto-length _ 0 8; editions = upto-length _ 0 32 }
+held-shaped memory = record { regular = upto-length _ 0 128; complex = upto-length _ 0 32; legging = upto-length _ 0 16; series = upto-length _ 0 8; editions = upto-length _ 0 32; generations = upto-length _ 0 8; twenty = held-twenty memory }
 
 module _ (memory : List ℕ) (room : ℕ) where
   -- what a call leaves in the memory is the venue that it returned

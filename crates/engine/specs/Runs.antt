@@ -41,7 +41,7 @@ pub record Turns (m : List ℕ) (t : Turn) (b₀ l₀ : List ℕ) (r : Turn) (b 
   pub dense : Dense b
   pub sound : SoundAt (suc (r .done)) (venueOf b)
 
--- r tells whether v is sound and the number after n above every kept edition's; where so, b stands for v
+-- r tells whether v is sound and the number after n above every edition's and generation's kept; where so, b stands for v
 pub record Ready (v : Venue) (n : ℕ) (r : Bool) (b : List ℕ) : Type 0 where
   pub answer : r ≡ (sound v && follows (suc n) v)
   pub loaded : r ≡ true → Loaded v b

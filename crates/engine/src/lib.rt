@@ -99,8 +99,8 @@ pub fn run(messages: &[u8], report: &mut [u8]) -> Returned
 
 // One message upon a venue -----------------------------------------------------------------------
 
-// Whether a venue is sound and the number of its next message, one more than `before`, above every kept edition's; one for which this holds stands in
-// the slice afterwards. No edition kept has a number above the last that there is.
+// Whether a venue is sound and the number of its next message, one more than `before`, above every edition's and generation's kept; one for which this
+// holds stands in the slice afterwards. Nothing kept has a number above the last that there is.
 pub fn load_ready(b: &mut [u32], venue: Venue, before: u32) -> bool
     requires { ⌜ length (now b) ≡ size ⌝ }
     ensures { λ r. ⌜ Ready venue before r (now (b .exit)) ⌝ }
@@ -111,7 +111,7 @@ pub fn load_ready(b: &mut [u32], venue: Venue, before: u32) -> bool
     if before == 4294967295 {
         return true;
     }
-    soundness::follows_editions(b, before + 1)
+    soundness::follows_kept(b, before + 1)
 }
 
 // A call that ends before its message: the venue as it was given, and a report of zeros.

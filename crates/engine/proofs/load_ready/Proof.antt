@@ -21,17 +21,17 @@ same-length-2 c = search needs
 returns-2 : tie.Need-returns-2
 returns-2 c = let s = c .before .before .before .before .before .before .before in let k = c .before .before .before .before .load-sound .ensures in let t = not-false _ (c .before .if1 .left) in ready-last (s .args .venue) (s .args .before) _ (sym (k .answer) ∙ t) (k .loaded t) (c .if2 .taken)
 
-add-follows-editions : tie.Need-add-follows-editions
-add-follows-editions c = search needs
+add-follows-kept : tie.Need-add-follows-kept
+add-follows-kept c = search needs
 
-follows-editions-requires : tie.Need-follows-editions-requires
-follows-editions-requires c κs = search needs
+follows-kept-requires : tie.Need-follows-kept-requires
+follows-kept-requires c κs = search needs
 
 same-length-3 : tie.Need-same-length-3
 same-length-3 c = search needs
 
 returns-3 : tie.Need-returns-3
-returns-3 c = let s = c .before .before .before .before .before .before .before .before .before in let k = c .before .before .before .before .before .before .load-sound .ensures in let t = not-false _ (c .before .before .before .if1 .left) in ready-next (s .args .venue) (s .args .before) _ (sym (k .answer) ∙ t) (k .loaded t) _ (c .follows-editions .ensures)
+returns-3 c = let s = c .before .before .before .before .before .before .before .before .before in let k = c .before .before .before .before .before .before .load-sound .ensures in let t = not-false _ (c .before .before .before .if1 .left) in ready-next (s .args .venue) (s .args .before) _ (sym (k .answer) ∙ t) (k .loaded t) _ (c .follows-kept .ensures)
 
 pub load-ready-spec : {M : Type 1} → statement M
 load-ready-spec =
@@ -42,7 +42,7 @@ load-ready-spec =
     returns
     same-length-2
     returns-2
-    add-follows-editions
-    follows-editions-requires
+    add-follows-kept
+    follows-kept-requires
     same-length-3
     returns-3)

@@ -11,7 +11,7 @@ use borrow.Author.Needs.{needs}
 use Rattle.engine.proofs.one_message.Statement.{statement}
 use Rattle.engine.proofs.one_message.Tie as tie
 
--- the venue is sound, and its editions are followed
+-- the venue is sound, and its editions and generations are followed
 passed : (c : tie.Else1) → let a = c .before .before .before .before .before .before .args in (sound (a .venue) && follows (suc (a .before)) (a .venue)) ≡ true
 passed c = sym (c .before .before .load-ready .ensures .answer) ∙ not-false _ (c .if1 .left)
 
