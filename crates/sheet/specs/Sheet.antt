@@ -22,7 +22,7 @@ mostInput = 65536
 
 -- the most bytes of text of one message
 abbrev pub mostText : ℕ
-mostText = 26070
+mostText = 26083
 
 -- The sheet of a message list. The run is lent so much that it is not ended by 10: `NeverFills` of the demands.
 unfoldable pub sheetText : (messages : List ℕ) → List ℕ

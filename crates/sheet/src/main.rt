@@ -78,8 +78,8 @@ fn complain(done: u32, number: u8) {
 fn print_list(messages: &[u8]) -> bool
     requires { ⌜ length (now messages) ≤ mostInput ⌝ }
 {
-    let mut report = [0u8; 10428];
-    let mut text = [0u8; 26070];
+    let mut report = [0u8; 10433];
+    let mut text = [0u8; 26083];
     let mut p = start();
     while p.at < messages.len() {
         let done = p.done;

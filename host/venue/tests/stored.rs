@@ -54,6 +54,25 @@ fn editions() -> Session {
     from_text("editions", &text)
 }
 
+/// The ceiling: 20 generations of each of two series by messages 3 to 41, none by message 43
+/// nor 258, some by 259, and those of a better order by 261, when the next oldest is of
+/// message 5.
+fn traffic() -> Session {
+    let complex = |id: usize, limit: usize| {
+        format!("complex {id} buy 0 buy 1 class 1 net {limit} quantity 8\n")
+    };
+    let mut text =
+        String::from("order 1 sell 15 series 0 at 130\norder 2 sell 12 series 1 at 90\n");
+    for id in 3..23 {
+        text += &complex(id, 205);
+        text += &format!("cancel {id}\n");
+    }
+    text += &complex(23, 205);
+    text += &"raw 04 00 63 00\n".repeat(214);
+    text += &format!("sweep\nlimited 1\n{}limited 2\n", complex(24, 206));
+    from_text("traffic", &text)
+}
+
 /// A message up to the last byte but one of those that are read, and a sweep: its first byte is
 /// read, and its other three are not.
 fn beyond() -> Session {
@@ -80,6 +99,8 @@ fn all() -> Vec<Session> {
         editions(),
         from_text("shown", include_str!("sessions/shown.txt")),
         from_text("units", include_str!("sessions/units.txt")),
+        from_text("limited", include_str!("sessions/limited.txt")),
+        traffic(),
         from_text("empty", ""),
         full(),
         beyond(),
