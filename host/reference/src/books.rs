@@ -5,7 +5,7 @@ use crate::price::{
     better, bit, by_place, displayed, in_band, is_open, place, series_of, side_of, Legs, Place,
 };
 use crate::types::{Complex, Edition, Legging, Listed, Regular, Settings, Venue};
-use crate::types::{BUY, COMPLEX_PLACES, LEGGING_PLACES, SERIES};
+use crate::types::{BUY, CEILING, COMPLEX_PLACES, LEGGING_PLACES, SERIES};
 
 #[derive(Clone, Copy, Debug)]
 pub struct ComplexOrder {
@@ -73,6 +73,10 @@ pub struct Books {
     pub editions: Vec<Edition>,
     /// In force: of each figure the last of the editions.
     pub settings: Settings,
+    /// Of each series the numbers of the messages that generated last, oldest first.
+    pub generations: [[u32; CEILING]; SERIES],
+    /// The last id that a limited sweep looked at.
+    pub reached: u32,
 }
 
 impl Books {
@@ -86,6 +90,8 @@ impl Books {
             last: 0,
             editions: Vec::new(),
             settings: Settings::FIRST,
+            generations: [[0; CEILING]; SERIES],
+            reached: 0,
         }
     }
 
@@ -174,6 +180,13 @@ impl Books {
         displayed(place, price, self.increment(place))
     }
 
+    /// The highest number of a message that is kept: an edition's or a generation's.
+    pub fn highest_kept(&self) -> u32 {
+        let edition = self.editions.last().map_or(0, |entry| entry.number);
+        let generations = self.generations.iter().flatten().copied();
+        generations.fold(edition, u32::max)
+    }
+
     pub fn complex_index(&self, id: u32) -> Option<usize> {
         self.complex
             .binary_search_by_key(&id, |order| order.id)
@@ -235,6 +248,8 @@ impl Books {
         venue.series = self.series;
         venue.last = self.last;
         venue.editions[..self.editions.len()].copy_from_slice(&self.editions);
+        venue.generations = self.generations;
+        venue.reached = self.reached;
         venue
     }
 }

@@ -4,7 +4,7 @@
 use crate::books::Books;
 use crate::sound::lay_out;
 use crate::types::{Returned, Settings, Venue};
-use crate::wire::{decode, first_message, Message, Refusal, Report, ANSWER_BYTES};
+use crate::wire::{decode, first_message, Message, Refusal, Report, ANSWER_BYTES, LOOKED_BYTES};
 
 const UNSOUND: u8 = 9;
 const ENDED_EARLY: u8 = 10;
@@ -59,8 +59,7 @@ pub fn one_message(venue: &Venue, before: u32, message: &[u8], report: &mut [u8]
     let Some(next) = before.checked_add(1) else {
         return ended(ENDED_EARLY, venue, report);
     };
-    let kept = books.editions.last().map_or(0, |last| last.number);
-    if next <= kept {
+    if next <= books.highest_kept() {
         return ended(UNSOUND, venue, report);
     }
     match take(&mut books, next, first_message(message), &mut report) {
@@ -143,8 +142,9 @@ fn accept(books: &mut Books, number: u32, message: Message, report: &mut Report)
 /// reserve, which arriving orders alone take, or is the last of an order, a hit or a
 /// leg of a round. A cross fills one of the complex orders. A round of legging in
 /// is the last of an order worked, filled or with less than a unit left at a price, or
-/// uses up the size shown at a price, of which there are no more than regular orders. Each leg of an order worked makes one legging order and
-/// removes one.
+/// uses up the size shown at a price, of which there are no more than regular orders.
+/// Each leg of an order worked makes one legging order and removes one. A limited sweep
+/// tells how many it works.
 fn most_bytes(books: &Books, message: &Message) -> usize {
     const TRADE: usize = 22;
     let regular = books.regular.count();
@@ -155,9 +155,10 @@ fn most_bytes(books: &Books, message: &Message) -> usize {
         Message::Order(_) => return quiet + TRADE * (2 * regular + 3) + 16,
         Message::Complex(_) => 1,
         Message::Sweep => books.complex.len(),
+        Message::LimitedSweep { most } => books.complex.len().min(*most),
     };
     let crosses = books.complex.len() + 1;
     let rounds = worked + regular;
     let trades = regular + 2 * rounds;
-    quiet + 20 * crosses + 16 * rounds + TRADE * trades + 2 * worked * (22 + 11)
+    quiet + LOOKED_BYTES + 20 * crosses + 16 * rounds + TRADE * trades + 2 * worked * (22 + 11)
 }

@@ -2,9 +2,9 @@
 
 use crate::books::{Books, ComplexOrder, Standing};
 use crate::price::{
-    better, bit, facing, places, reaches, sign, signed, Legs, Place, HIGHEST_PRICE,
+    better, bit, facing, places, reaches, series_of, sign, signed, Legs, Place, HIGHEST_PRICE,
 };
-use crate::types::{CUSTOMER, LEGGING_PLACES, OTHER};
+use crate::types::{CEILING_MESSAGES, CUSTOMER, LEGGING_PLACES, OTHER};
 use crate::wire::Report;
 
 /// Why a legging order was removed.
@@ -115,28 +115,31 @@ impl Books {
     /// Makes legging orders for the first leg, then the second; none of an order of
     /// unequal ratios. Neither leg changes what both need: open series and a limit
     /// in band.
-    pub fn generate(&mut self, order: ComplexOrder, report: &mut Report) {
+    pub fn generate(&mut self, number: u32, order: ComplexOrder, report: &mut Report) {
         if !order.legs.is_even() {
             return;
         }
         let [first, second] = order.legs.places;
         let both_open = self.is_series_open(first) && self.is_series_open(second);
         if both_open && self.is_in_band(order.limit, &order.legs) {
-            self.generate_leg(&order, first, second, report);
-            self.generate_leg(&order, second, first, report);
+            self.generate_leg(number, &order, [first, second], report);
+            self.generate_leg(number, &order, [second, first], report);
         }
     }
 
     fn generate_leg(
         &mut self,
+        number: u32,
         order: &ComplexOrder,
-        leg: Place,
-        other: Place,
+        [leg, other]: [Place; 2],
         report: &mut Report,
     ) {
         let Some(made) = self.legging_for(order, leg, other) else {
             return;
         };
+        if self.is_at_ceiling(number, leg) {
+            return;
+        }
         if self.is_filled(leg) {
             self.remove(leg, Cause::Replaced, report);
         }
@@ -144,6 +147,21 @@ impl Books {
         report.generated(order.id, leg, made.price, shown, made.quantity);
         self.standing[leg] = made;
         self.filled |= bit(leg);
+        self.count_generation(number, leg);
+    }
+
+    /// Whether so many of the series are generated already in the messages that end with
+    /// this one: the oldest of the last is one of theirs.
+    fn is_at_ceiling(&self, number: u32, leg: Place) -> bool {
+        let [oldest, ..] = self.generations[series_of(leg)];
+        oldest > 0 && number - oldest < CEILING_MESSAGES
+    }
+
+    /// The oldest of the last generations gives way to this one.
+    fn count_generation(&mut self, number: u32, leg: Place) {
+        let last = &mut self.generations[series_of(leg)];
+        last.rotate_left(1);
+        last[last.len() - 1] = number;
     }
 
     /// The legging order to make for a leg, if every other condition holds.

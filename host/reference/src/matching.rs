@@ -87,7 +87,7 @@ impl Books {
     pub fn perform(&mut self, number: u32, message: Message, report: &mut Report) {
         match message {
             Message::Order(order) => self.order(order, report),
-            Message::Complex(order) => self.complex(order, report),
+            Message::Complex(order) => self.complex(number, order, report),
             Message::Cancel { id } => self.cancel(id, report),
             Message::Away { series, bid, offer } => {
                 self.series[series].bid = bid;
@@ -98,7 +98,8 @@ impl Books {
                 self.series[series].status = status;
                 self.settle(report);
             }
-            Message::Sweep => self.sweep(report),
+            Message::Sweep => self.sweep(number, report),
+            Message::LimitedSweep { most } => self.limited_sweep(number, most, report),
             Message::Setting(setting) => self.set(number, setting, report),
         }
     }
@@ -199,7 +200,7 @@ impl Books {
         quantity
     }
 
-    fn complex(&mut self, order: NewComplex, report: &mut Report) {
+    fn complex(&mut self, number: u32, order: NewComplex, report: &mut Report) {
         self.last = order.id;
         let NewComplex {
             id,
@@ -216,23 +217,52 @@ impl Books {
         self.drop_filled();
         self.settle(report);
         if worked.quantity > 0 {
-            self.generate(worked, report);
+            self.generate(number, worked, report);
         }
     }
 
-    fn sweep(&mut self, report: &mut Report) {
-        for index in 0..self.complex.len() {
+    fn sweep(&mut self, number: u32, report: &mut Report) {
+        self.work_all(number, 0..self.complex.len(), report);
+    }
+
+    /// Looks at the resting orders after the id reached, going round, and tells at how
+    /// many.
+    fn limited_sweep(&mut self, number: u32, most: usize, report: &mut Report) {
+        let resting = self.complex.len();
+        let looked = most.min(resting);
+        report.looked(looked as u8);
+        let reached = self.reached;
+        let first = self.complex.partition_point(|order| order.id <= reached);
+        let round = (first..first + looked).map(|at| at % resting);
+        if let Some(last) = round.clone().next_back() {
+            self.reached = self.complex[last].id;
+        }
+        self.work_all(number, round, report);
+    }
+
+    /// Works the orders at these places that are not gone by their turn, settles once, and
+    /// generates for those that still rest.
+    fn work_all(
+        &mut self,
+        number: u32,
+        all: impl Iterator<Item = usize> + Clone,
+        report: &mut Report,
+    ) {
+        for index in all.clone() {
             let order = &self.complex[index];
             let closed = order.legs.places.iter().any(|leg| self.is_closed(*leg));
             if order.quantity > 0 && !closed {
                 self.work(index, report);
             }
         }
-        self.drop_filled();
         self.settle(report);
-        for index in 0..self.complex.len() {
-            self.generate(self.complex[index], report);
+        for index in all {
+            let order = self.complex[index];
+            if order.quantity > 0 {
+                self.generate(number, order, report);
+            }
         }
+        self.drop_filled();
     }
 
     fn drop_filled(&mut self) {

@@ -22,6 +22,8 @@ pub fn lay_out(venue: &Venue) -> Option<Books> {
     books.last = venue.last;
     books.editions = held_editions(&venue.editions)?.to_vec();
     books.settings = Settings::at(&books.editions, u32::MAX);
+    books.generations = venue.generations;
+    books.reached = venue.reached;
     let settings = &books.settings;
     let regular = held(&venue.regular, venue.last, settings)?;
     let complex = held(&venue.complex, venue.last, settings)?;
@@ -29,7 +31,9 @@ pub fn lay_out(venue: &Venue) -> Option<Books> {
     complex.iter().for_each(|order| books.add_complex(order));
     lay_out_series(&mut books, &venue.series)?;
     lay_out_legging(&mut books, &venue.legging)?;
-    let sound = ids_are_distinct(venue)
+    let sound = venue.reached <= venue.last
+        && venue.generations.iter().all(|last| last.is_sorted())
+        && ids_are_distinct(venue)
         && !is_locked_or_crossed(&books)
         && places(books.filled).all(|place| books.verdict(place) == Verdict::Stands);
     sound.then_some(books)

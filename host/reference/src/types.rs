@@ -1,13 +1,19 @@
 //! The venue as callers hold it: one value for one state.
 //!
 //! Held places come first, in rising id; a free place is all zero. A legging
-//! place is `2 * series + side`. Editions too are held first, and rise.
+//! place is `2 * series + side`. Editions too are held first, and rise. Of the
+//! generations of a series the last are held, with zeros before them.
 
 pub const SERIES: usize = 8;
 pub const REGULAR_PLACES: usize = 128;
 pub const COMPLEX_PLACES: usize = 32;
 pub const LEGGING_PLACES: usize = 2 * SERIES;
 pub const EDITION_PLACES: usize = 32;
+
+/// The most legging orders of a series that are generated in any so many consecutive
+/// messages.
+pub const CEILING: usize = 20;
+pub const CEILING_MESSAGES: u32 = 256;
 
 pub const BUY: u8 = 0;
 pub const SELL: u8 = 1;
@@ -95,6 +101,10 @@ pub struct Venue {
     pub series: [Listed; SERIES],
     pub last: u32,
     pub editions: [Edition; EDITION_PLACES],
+    /// Of each series the numbers of the messages that generated last, oldest first.
+    pub generations: [[u32; CEILING]; SERIES],
+    /// The last id that a limited sweep looked at.
+    pub reached: u32,
 }
 
 impl Listed {
@@ -115,7 +125,8 @@ impl Settings {
 }
 
 impl Venue {
-    /// No orders, all series open, no away prices, last id 0, no edition.
+    /// No orders, all series open, no away prices, last id 0, no edition, none
+    /// generated and no id looked at.
     pub fn fresh() -> Self {
         Venue {
             regular: [Regular::default(); REGULAR_PLACES],
@@ -124,6 +135,8 @@ impl Venue {
             series: [Listed::FRESH; SERIES],
             last: 0,
             editions: [Edition::default(); EDITION_PLACES],
+            generations: [[0; CEILING]; SERIES],
+            reached: 0,
         }
     }
 }

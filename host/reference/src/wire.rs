@@ -5,7 +5,7 @@ use crate::price::{
     valid_quantity, valid_ratio, valid_regular_price, valid_shown, valid_unequal_limit, Legs,
     Place,
 };
-use crate::types::{AUCTION, OTHER, PERCENT, SELL, SERIES};
+use crate::types::{AUCTION, COMPLEX_PLACES, OTHER, PERCENT, SELL, SERIES};
 
 /// Why a message was refused, by the numbers of the document.
 #[derive(Clone, Copy, Debug, PartialEq, Eq)]
@@ -79,6 +79,7 @@ pub enum Message {
     Away { series: usize, bid: u32, offer: u32 },
     Status { series: usize, status: u8 },
     Sweep,
+    LimitedSweep { most: usize },
     Setting(NewSetting),
 }
 
@@ -112,7 +113,8 @@ pub fn decode(bytes: &[u8], increments: &[u8; SERIES]) -> Result<Message, Refusa
         7 => decode_increment(bytes),
         8 => decode_percent(bytes),
         9 => decode_order(bytes, u32_at(bytes, SHOWN_AT), increments),
-        _ => decode_complex(bytes, Some(ratio_bytes(bytes))),
+        10 => decode_complex(bytes, Some(ratio_bytes(bytes))),
+        _ => decode_limited_sweep(bytes),
     };
     let message = message.ok_or(Refusal::OutOfRange)?;
     if kind == 10 && has_equal(ratio_bytes(bytes)) {
@@ -141,6 +143,7 @@ fn length_of(kind: u16) -> Option<usize> {
         8 => Some(9),
         9 => Some(22),
         10 => Some(23),
+        11 => Some(5),
         _ => None,
     }
 }
@@ -230,6 +233,13 @@ fn decode_status(bytes: &[u8]) -> Option<Message> {
     })
 }
 
+fn decode_limited_sweep(bytes: &[u8]) -> Option<Message> {
+    let most = usize::from(bytes[4]);
+    (1..=COMPLEX_PLACES)
+        .contains(&most)
+        .then_some(Message::LimitedSweep { most })
+}
+
 fn decode_increment(bytes: &[u8]) -> Option<Message> {
     let (series, increment) = (bytes[4], bytes[5]);
     let valid = valid_series(series) && valid_increment(increment);
@@ -282,6 +292,7 @@ fn u32_at(bytes: &[u8], at: usize) -> u32 {
 }
 
 pub const ANSWER_BYTES: usize = 12;
+pub const LOOKED_BYTES: usize = 5;
 
 /// The lent report memory, with the position of the next record.
 ///
@@ -385,6 +396,12 @@ impl<'a> Report<'a> {
     #[inline]
     pub fn cancelled(&mut self, id: u32, quantity: u32) {
         let record = Record::<12>::new(71).u32(id).u32(quantity);
+        self.put(&record.bytes);
+    }
+
+    /// The number of orders that a limited sweep looks at.
+    pub fn looked(&mut self, count: u8) {
+        let record = Record::<LOOKED_BYTES>::new(72).u8(count);
         self.put(&record.bytes);
     }
 
