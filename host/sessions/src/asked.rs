@@ -11,7 +11,7 @@ use crate::text::{bodies, parse_line, LineError, Words};
 use std::fmt::{self, Display};
 
 /// Report memory that holds the records of any message.
-pub const ENOUGH: u32 = 10_428;
+pub const ENOUGH: u32 = 10_433;
 
 #[derive(Clone, Debug, PartialEq, Eq)]
 pub enum Asked {
@@ -96,7 +96,7 @@ mod tests {
 
     #[test]
     fn turns_are_so_many_and_lines_are_counted() {
-        let script = parse_script("# a script\nturns 2\n\nturn 10428 # enough\n").unwrap();
+        let script = parse_script("# a script\nturns 2\n\nturn 10433 # enough\n").unwrap();
         let turn = Asked::Turn { room: ENOUGH };
         assert_eq!(script, [(2, turn.clone()), (2, turn.clone()), (4, turn)]);
         assert_eq!(parse_script("turns 0"), Ok(Vec::new()));
@@ -109,7 +109,7 @@ mod tests {
             ("arrive x sweep", "line 1: expected a venue, a number from 0 to 4294967295, found \"x\""),
             ("arrive 1 nothing more", "line 1: expected the end of the line, found \"more\""),
             ("arrive 1 sweep now", "line 1: expected the end of the line, found \"now\""),
-            ("arrive 1", "line 1: expected a message (order, complex, cancel, away, status, open, close, auction, sweep, increment, percent or raw), found the end of the line"),
+            ("arrive 1", "line 1: expected a message (order, complex, cancel, away, status, open, close, auction, sweep, limited, increment, percent or raw), found the end of the line"),
             ("turn x", "line 1: expected a length of report memory, a number from 0 to 4294967295, found \"x\""),
             ("turn 1 2", "line 1: expected the end of the line, found \"2\""),
             ("turns", "line 1: expected a count of turns, a number from 0 to 255, found the end of the line"),

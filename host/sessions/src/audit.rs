@@ -1,6 +1,6 @@
 //! The audit of a sheet: every complex order's sums in units, and its contracts, from
 //! the session and the sheet, against what the reference leaves open; every trade and
-//! cross at its moment; and every line against the reference's.
+//! cross at its moment; the ceiling; and every line against the reference's.
 
 use crate::ledger::{Account, Ledger};
 use crate::message::{split, Message};
@@ -8,6 +8,7 @@ use crate::moments::{replay_sheet, Moment, Parties};
 use crate::record::{read_report, Record};
 use crate::settings::{figure_name, held_editions};
 use crate::sheet::run_whole;
+use crate::traffic::{Traffic, CEILING};
 use crate::view::{find_regular, held_complex, held_regular, shown};
 use reference::{Edition, Venue};
 use std::fmt::{self, Display};
@@ -38,10 +39,19 @@ pub struct Audit {
     pub reserve: Vec<Reserve>,
     /// The settings entered by the messages that the sheet answers.
     pub editions: Vec<Edition>,
+    pub generations: Generations,
     /// The trades and crosses, as they were looked at by replay of the sheet.
     pub moments: Vec<Moment>,
     /// What does not agree: order by order, then record by record, then the first line.
     pub faults: Vec<String>,
+}
+
+/// The legging orders of each series, and the most of them in 256 messages.
+#[derive(Default)]
+pub struct Generations {
+    counts: [usize; 8],
+    most: [usize; 8],
+    faults: Vec<String>,
 }
 
 /// Sums a sheet over the messages that it answers. An error means that the
@@ -72,6 +82,8 @@ pub fn audit(list: &[u8], records: &[Record]) -> Result<Audit, String> {
         }
     }
     faults.extend(unknown_orders(&returned.venue, &complex));
+    let mut generations = generations(records);
+    faults.append(&mut generations.faults);
     let replayed = replay_sheet(&pieces, records);
     faults.extend(replayed.faults);
     faults.extend(first_difference(records, &read_report(&report)?));
@@ -80,9 +92,36 @@ pub fn audit(list: &[u8], records: &[Record]) -> Result<Audit, String> {
         complex,
         reserve,
         editions: held_editions(&returned.venue).copied().collect(),
+        generations,
         moments: replayed.moments,
         faults,
     })
+}
+
+/// The generations of a sheet, by its records alone.
+fn generations(records: &[Record]) -> Generations {
+    let mut told = Generations::default();
+    let mut traffic = Traffic::default();
+    let mut answered = 0;
+    for (line, record) in (1..).zip(records) {
+        match *record {
+            Record::Answer { number, .. } => answered = number,
+            Record::Generated { series, .. } => {
+                let recent = traffic.note(answered, record).unwrap_or(0);
+                if recent > CEILING {
+                    told.faults.push(format!(
+                        "line {line}: number {recent} of series {series} in 256 messages"
+                    ));
+                }
+                if let Some(most) = told.most.get_mut(usize::from(series)) {
+                    *most = recent.max(*most);
+                }
+            }
+            _ => {}
+        }
+    }
+    told.counts = traffic.counts();
+    told
 }
 
 /// The first line that is not the reference's. A run's sheet follows from its
@@ -178,9 +217,25 @@ impl Display for Audit {
         for entry in &self.editions {
             writeln!(f, "{}", edition_in_words(entry))?;
         }
+        write!(f, "{}", self.generations)?;
         writeln!(f, "{}", moments_in_words(&self.moments))?;
         for fault in &self.faults {
             writeln!(f, "disagreement: {fault}")?;
+        }
+        Ok(())
+    }
+}
+
+/// A line for each series that had a legging order.
+impl Display for Generations {
+    fn fmt(&self, f: &mut fmt::Formatter) -> fmt::Result {
+        for (series, (count, most)) in self.counts.iter().zip(self.most).enumerate() {
+            if *count > 0 {
+                writeln!(
+                    f,
+                    "series {series}: {count} legging orders made, at most {most} in 256 messages"
+                )?;
+            }
         }
         Ok(())
     }

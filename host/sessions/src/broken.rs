@@ -1,4 +1,5 @@
-//! Rows of editions, orders and ratios that are not sound, one of each kind, and some that are.
+//! Rows of editions and generations, orders and ratios that are not sound, one of each
+//! kind, and some that are.
 
 use crate::settings::{held_editions, InForce, PERCENT};
 use crate::sound::fault;
@@ -326,6 +327,62 @@ fn parent_of_ratios(venue: &Venue, at: usize) -> Option<(&'static str, Venue)> {
     Some(("unequal ratios above a legging order", changed))
 }
 
+/// The venue with generations drawn by `at` in each series, up to a message number: from 4
+/// to 20 of them, two of each message.
+pub fn with_generations(venue: &Venue, at: usize, last: u32) -> Venue {
+    let mut changed = venue.clone();
+    for (series, row) in changed.generations.iter_mut().enumerate() {
+        let held = 20 - (at + 3 * series) % 17;
+        *row = std::array::from_fn(|place| match (19 - place) as u32 {
+            age if age < held as u32 => last - age / 2,
+            _ => 0,
+        });
+    }
+    changed
+}
+
+type RowChange = (&'static str, fn(&mut [u32; 20]));
+
+/// Changes to a row of at least 4 generations, none of messages 0 to 9.
+const ROW: [RowChange; 9] = [
+    ("the last generation 0", |row| row[19] = 0),
+    ("the last falls by one", |row| row[19] = row[18] - 1),
+    ("the last 1", |row| row[19] = 1),
+    ("two of different messages exchanged", |row| {
+        row.swap(17, 18)
+    }),
+    ("a gap", |row| row[18] = 0),
+    ("the first of all but the last 0", |row| {
+        row[..19].fill(0);
+        (row[18], row[19]) = (7, 0);
+    }),
+    ("one at the end of its width", |row| row[18] = u32::MAX),
+    ("zeros after the first", |row| row[0] = row[19] + 1),
+    ("the last alone, oldest", |row| {
+        row[1..].fill(0);
+        row[0] = 1;
+    }),
+];
+
+/// The venue with a row of generations broken in every way, and with an id reached above
+/// the last, each by its name. The series that is changed is drawn by `at`.
+pub fn broken_generations(venue: &Venue, at: usize) -> Vec<(&'static str, Venue)> {
+    let venue = with_generations(venue, at, 1_000_000);
+    let mut broken = Vec::new();
+    for (name, change) in ROW {
+        let mut changed = venue.clone();
+        change(&mut changed.generations[at % 8]);
+        broken.push((name, changed));
+    }
+    let above = [venue.last.checked_add(1), Some(u32::MAX)];
+    for reached in above.into_iter().flatten().filter(|id| *id > venue.last) {
+        let mut changed = venue.clone();
+        changed.reached = reached;
+        broken.push(("an id reached above the last", changed));
+    }
+    broken
+}
+
 #[cfg(test)]
 mod tests {
     use super::*;
@@ -392,6 +449,25 @@ mod tests {
         }
         let names = |text| broken_ratios(&venue_after(text), 0).len();
         assert_eq!((names("sweep\n"), names(text)), (3, 21));
+    }
+
+    #[test]
+    fn each_broken_row_of_generations_is_unsound_by_both_tests() {
+        let text = "order 1 sell 15 series 0 at 130\norder 2 sell 12 series 1 at 90\n\
+            complex 3 buy 0 buy 1 class 1 net 205 quantity 8\nlimited 1\n";
+        for venue in [Venue::fresh(), venue_after(text)] {
+            for at in 0..40 {
+                for last in [10, 1_000, u32::MAX] {
+                    let drawn = with_generations(&venue, at, last);
+                    assert!(is_sound(&drawn) && fault(&drawn).is_none(), "{at}");
+                }
+                for (name, broken) in broken_generations(&venue, at) {
+                    assert!(fault(&broken).is_some(), "{name} at {at}");
+                    assert!(!is_sound(&broken), "{name} at {at}");
+                }
+            }
+        }
+        assert_eq!(broken_generations(&venue_after(text), 0).len(), 11);
     }
 
     #[test]

@@ -11,6 +11,7 @@ use crate::record::Record;
 use crate::settings::{InForce, PERCENT};
 use crate::sound::fault;
 use crate::takings::check_takings;
+use crate::traffic::Traffic;
 use crate::view::{beats, find_complex, held_regular, leg_at, legs_of, opposite, sign};
 use crate::view::{parts_of, shown, View};
 use reference::{settings, Complex, Edition, Legging, Returned, Venue};
@@ -46,9 +47,19 @@ pub struct Checker {
     pub done: u32,
     /// The settings accepted, from their messages.
     entered: Vec<Edition>,
+    traffic: Traffic,
 }
 
 impl Checker {
+    /// Follows the same orders upon a venue with other generations, so many messages done.
+    pub fn upon(&self, venue: &Venue, done: u32) -> Self {
+        Checker {
+            done,
+            traffic: Traffic::of(venue),
+            ..self.clone()
+        }
+    }
+
     /// What held at a message number, by the messages alone.
     pub fn in_force(&self, number: u32) -> InForce {
         let mut in_force = InForce::first();
@@ -119,6 +130,7 @@ impl Checker {
             return Err(format!("unsound: {fault}"));
         }
         check_standing(after)?;
+        self.traffic.check(self.done, step)?;
         let disagreement = self.ledger.disagreement(after);
         match disagreement.or_else(|| self.ledger.shows_otherwise(after)) {
             Some(fault) => Err(fault),
@@ -148,20 +160,9 @@ impl Checker {
                 phases.settled
             ));
         }
-        let mut view = phases.settled_view.clone();
-        let (attempts, records) = expected_generation(&mut view, step.message, after);
-        if records != phases.generation {
-            return Err(format!(
-                "generation wrote {:?}, expected {records:?}",
-                phases.generation
-            ));
-        }
-        if view.legging != after.legging {
-            return Err("the records do not lead to the legging orders left".to_string());
-        }
         Ok(Seen {
+            attempts: check_generation(step, self.done, &phases)?,
             phases,
-            attempts,
             above: work.above,
             out_of_band: work.out_of_band,
             short: work.short,
@@ -185,11 +186,34 @@ fn check_work(step: &Step, number: u32, phases: &Phases) -> Result<Work, String>
         && expected.venue.series == after.series
         && expected.venue.last == after.last
         && expected.venue.editions == after.editions
+        && expected.venue.reached == after.reached
         && expected.venue.legging == phases.at_settling.legging;
     if !same {
         return Err("the work left other books".to_string());
     }
     Ok(expected)
+}
+
+/// The generation's records, and the legging orders and generations left, are those of
+/// the plain rules; tells each try.
+fn check_generation(step: &Step, number: u32, phases: &Phases) -> Result<Vec<Attempt>, String> {
+    let after = &step.returned.venue;
+    let mut view = phases.settled_view.clone();
+    let numbered = (number, step.message);
+    let (attempts, records) = expected_generation(&mut view, numbered, step.before, after);
+    if records != phases.generation {
+        return Err(format!(
+            "generation wrote {:?}, expected {records:?}",
+            phases.generation
+        ));
+    }
+    if view.legging != after.legging {
+        return Err("the records do not lead to the legging orders left".to_string());
+    }
+    if view.generations != after.generations {
+        return Err("the records do not lead to the generations left".to_string());
+    }
+    Ok(attempts)
 }
 
 /// The first record is the message's 64, and there is no other.
@@ -445,7 +469,7 @@ mod tests {
 
     #[test]
     fn every_changed_part_of_the_venue_left_is_found() {
-        let changes: [fn(&mut Venue); 13] = [
+        let changes: [fn(&mut Venue); 16] = [
             |venue| venue.regular[0].quantity = 14,
             |venue| venue.regular[0].reserve = 1,
             |venue| venue.regular[0].display = 14,
@@ -457,6 +481,9 @@ mod tests {
             |venue| venue.complex[0].ratio2 = 3,
             |venue| venue.series[5].status = 0,
             |venue| venue.last = 5,
+            |venue| venue.reached = 3,
+            |venue| venue.generations[0][19] = 6,
+            |venue| venue.generations[7][19] = 1,
             |venue| {
                 venue.editions[0] = Edition {
                     edition: 1,

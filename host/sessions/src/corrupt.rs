@@ -7,12 +7,13 @@ use reference::{Complex, Legging, Regular, Venue};
 /// A copy of a venue with one thing changed at random.
 pub fn corrupt(venue: &Venue, random: &mut Random) -> Venue {
     let mut changed = venue.clone();
-    match random.below(6) {
+    match random.below(7) {
         0 => corrupt_regular(&mut changed, random),
         1 => corrupt_complex(&mut changed, random),
         2 => corrupt_legging(&mut changed, random),
         3 => corrupt_series(&mut changed, random),
         4 => corrupt_editions(&mut changed, random),
+        5 => corrupt_generations(&mut changed, random),
         _ => corrupt_order(&mut changed, random),
     }
     changed
@@ -125,6 +126,19 @@ fn corrupt_editions(venue: &mut Venue, random: &mut Random) {
         3 => entry.value = random.pick(&[0, 1, 2, 5, 10, 11, 50, 51, 255]),
         4 => entry.edition = entry.edition.wrapping_add(random.between(-1, 2) as u32),
         _ => entry.number = entry.number.wrapping_add(random.between(-1, 2) as u32),
+    }
+}
+
+/// Another number in a row of generations, near those there, or another id reached.
+fn corrupt_generations(venue: &mut Venue, random: &mut Random) {
+    let row = &mut venue.generations[random.below(8) as usize];
+    let at = random.pick(&[0, 1, 10, 17, 18, 19]);
+    match random.below(6) {
+        0 => row[at] = odd_number(random),
+        1 | 2 => row[at] = row[at].wrapping_add(random.between(-1, 2) as u32),
+        3 => row.swap(18, at),
+        4 => venue.reached = odd_number(random),
+        _ => venue.reached = venue.last.wrapping_add(random.between(-1, 1) as u32),
     }
 }
 

@@ -2,6 +2,7 @@
 
 mod ratios;
 mod reserve;
+mod traffic;
 
 use crate::check::{Seen, Step};
 use crate::feed_check::FeedCoverage;
@@ -83,6 +84,22 @@ pub enum Rare {
     UnitsAboveLegs,
     TouchOfUnits,
     TouchShortThenPair,
+    LimitedRefused,
+    LimitedNone,
+    LimitedAll,
+    LimitedPart,
+    GoesRound,
+    ReachedGone,
+    GoneByTurn,
+    LookedClosed,
+    PairInLimited,
+    CrossInLimited,
+    GeneratedByLimited,
+    GeneratedInRound,
+    HolderStays,
+    JustAllowed,
+    SeveralInOne,
+    NumberNotAboveMade,
 }
 
 impl Rare {
@@ -264,10 +281,50 @@ impl Rare {
             Rare::TouchShortThenPair,
             "touch with cause 10 that a pair follows",
         ),
+        (
+            Rare::LimitedRefused,
+            "refusal 4 for the number of a limited sweep",
+        ),
+        (Rare::LimitedNone, "limited sweep: no order rests"),
+        (Rare::LimitedAll, "limited sweep: every order looked at"),
+        (Rare::LimitedPart, "limited sweep: some orders looked at"),
+        (Rare::GoesRound, "limited sweep: on from the lowest id"),
+        (
+            Rare::ReachedGone,
+            "limited sweep: the last order looked at is gone",
+        ),
+        (Rare::GoneByTurn, "limited sweep: an order gone by its turn"),
+        (
+            Rare::LookedClosed,
+            "limited sweep: an order with a closed series",
+        ),
+        (Rare::PairInLimited, "limited sweep: pair"),
+        (Rare::CrossInLimited, "limited sweep: cross"),
+        (Rare::GeneratedByLimited, "limited sweep: generation"),
+        (
+            Rare::GeneratedInRound,
+            "  of these, for a lower id after a higher one",
+        ),
+        (
+            Rare::HolderStays,
+            "the ceiling: the holder of a place stays",
+        ),
+        (
+            Rare::JustAllowed,
+            "generation 256 messages after the oldest of 20",
+        ),
+        (
+            Rare::SeveralInOne,
+            "generation of a series twice in one message",
+        ),
+        (
+            Rare::NumberNotAboveMade,
+            "refusal 9 for a number not above a generation's",
+        ),
     ];
 }
 
-const RARE: usize = 63;
+const RARE: usize = 79;
 
 /// Numbers of a run or a one-message call: 0 to 14.
 const NUMBERS: usize = 15;
@@ -275,7 +332,7 @@ const NUMBERS: usize = 15;
 /// Causes of a removal.
 const CAUSES: [u8; 9] = [1, 2, 3, 4, 5, 6, 7, 8, 10];
 
-const DECLINED: [&str; 10] = [
+const DECLINED: [&str; 11] = [
     "a series not open",
     "limit out of band",
     "no clear price",
@@ -286,6 +343,7 @@ const DECLINED: [&str; 10] = [
     "place held",
     "another order would fail",
     "unequal ratios",
+    "the ceiling",
 ];
 
 fn declined_index(declined: &Declined) -> usize {
@@ -300,16 +358,17 @@ fn declined_index(declined: &Declined) -> usize {
         Declined::PlaceHeld { .. } => 7,
         Declined::OtherWouldFail { .. } => 8,
         Declined::HasRatios { .. } => 9,
+        Declined::AtCeiling { .. } => 10,
     }
 }
 
-const RECORD_KINDS: [u16; 7] = [64, 65, 66, 67, 68, 70, 71];
+const RECORD_KINDS: [u16; 8] = [64, 65, 66, 67, 68, 70, 71, 72];
 
 #[derive(Clone, Debug)]
 pub struct Coverage {
     pub sessions: u64,
     pub messages: u64,
-    records: [u64; 7],
+    records: [u64; RECORD_KINDS.len()],
     causes: [u64; CAUSES.len()],
     answers: [u64; NUMBERS],
     declined: [u64; DECLINED.len()],
@@ -325,7 +384,7 @@ impl Default for Coverage {
         Coverage {
             sessions: 0,
             messages: 0,
-            records: [0; 7],
+            records: [0; RECORD_KINDS.len()],
             causes: [0; CAUSES.len()],
             answers: [0; NUMBERS],
             declined: [0; DECLINED.len()],
@@ -366,12 +425,14 @@ impl Coverage {
         self.observe_settings(step);
         self.observe_shown(step);
         self.observe_ratios(step);
+        self.observe_limited(step);
         let Some(seen) = seen else {
             return;
         };
         self.observe_takings(step);
         self.observe_sizes(step, &seen.phases);
         self.observe_units(step, seen);
+        self.observe_ceiling(step, seen);
         for attempt in &seen.attempts {
             if let Err(declined) = &attempt.outcome {
                 self.declined[declined_index(declined)] += 1;
@@ -514,7 +575,7 @@ impl Coverage {
 
     fn observe_replacement(&mut self, step: &Step, leg: Leg, holder: Legging, made: Legging) {
         let better = beats(leg, i64::from(made.price), i64::from(holder.price));
-        let swept = *step.message == Message::Sweep;
+        let swept = step.message.is_sweep();
         self.add(Rare::ReplacedByPrice, better);
         self.add(Rare::ReplacedByClass, made.price == holder.price);
         let own = made.parent == holder.parent;
@@ -550,7 +611,7 @@ impl Coverage {
                 Record::Cross { taker, maker, .. } => {
                     let after = &step.records[index + 1..];
                     let both = removals_after(after, taker) && removals_after(after, maker);
-                    self.add(Rare::CrossInSweep, *step.message == Message::Sweep);
+                    self.add(Rare::CrossInSweep, step.message.is_sweep());
                     self.add(Rare::CrossOfTwoWithLegging, both);
                 }
                 Record::Removed { cause: 8 | 10, .. } => touched = true,
@@ -566,7 +627,7 @@ impl Coverage {
         for passed in above {
             self.add(Rare::TakerAboveLegs, passed.party == passed.taker);
             self.add(Rare::MakerAboveLegs, passed.party == passed.maker);
-            self.add(Rare::AboveLegsInSweep, *step.message == Message::Sweep);
+            self.add(Rare::AboveLegsInSweep, step.message.is_sweep());
         }
     }
 

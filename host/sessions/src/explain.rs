@@ -5,7 +5,7 @@
 use crate::check::{Checker, Seen, Step};
 use crate::message::{split, Leg, Message};
 use crate::model::{fields_in_range, off_increment, only_ratios_are_out, only_shown_is_out};
-use crate::model::{AboveLegs, OutOfBand, ShortOfUnit, Turn};
+use crate::model::{looked_at, AboveLegs, OutOfBand, ShortOfUnit, Turn};
 use crate::phases::Attempt;
 use crate::record::{read_report, Record};
 use crate::settings::{figure_name, InForce, PERCENT};
@@ -171,6 +171,20 @@ impl Told<'_> {
                 let (units, reserve) = (self.units_of(id, quantity), self.reserve_of(id));
                 format!("cancelled: {id}, {quantity}{units} were open{reserve}")
             }
+            Record::Looked { count } => self.looked_in_words(count),
+        }
+    }
+
+    /// The orders that a limited sweep looks at, in their turn.
+    fn looked_in_words(&self, count: u8) -> String {
+        let Message::LimitedSweep { most } = *self.step.message else {
+            return format!("looks at {count}");
+        };
+        let looked = looked_at(self.step.before, most).into_iter();
+        let ids: Vec<String> = looked.map(|id| id.to_string()).collect();
+        match ids.is_empty() {
+            true => format!("looks at {count}"),
+            false => format!("looks at {count}: {}", ids.join(", ")),
         }
     }
 
@@ -413,7 +427,7 @@ fn places(mask: u16) -> String {
 pub fn refusal_name(refusal: u8) -> &'static str {
     match refusal {
         1 => "the message is torn",
-        2 => "the kind is not 1 to 10",
+        2 => "the kind is not 1 to 11",
         3 => "the length is not its kind's",
         4 => "a field is outside its range",
         5 => "the id is not above the last accepted",

@@ -1,5 +1,6 @@
 //! Random sessions that follow the state of the venue, from a profile and a seed.
 
+mod limited;
 mod ratios;
 mod reserve;
 mod settings;
@@ -27,6 +28,8 @@ pub struct Generator {
     shown: Random,
     /// Draws ratios, apart from all else too.
     ratios: Random,
+    /// Draws limited sweeps, apart from all else too.
+    limited: Random,
 }
 
 impl Generator {
@@ -41,6 +44,7 @@ impl Generator {
             apart: Random::new(!mixed),
             shown: Random::new(mixed.rotate_left(32)),
             ratios: Random::new(mixed.rotate_left(16)),
+            limited: Random::new(mixed.rotate_left(48)),
         };
         if generator.shape.script_every == 0 {
             generator.plan_opening();
@@ -115,7 +119,7 @@ impl Generator {
         if bytes.len() >= 4 && self.random.chance(80) {
             bytes[0] = self.random.below(24) as u8;
             bytes[1] = 0;
-            bytes[2] = self.random.below(11) as u8;
+            bytes[2] = self.random.below(12) as u8;
             bytes[3] = 0;
         }
         bytes
@@ -179,7 +183,7 @@ impl Generator {
                 self.away(series, &view)
             }
             4 => self.status(venue),
-            5 => Message::Sweep,
+            5 => self.sweep(),
             _ => self.refused(venue, &view),
         }
     }
@@ -497,7 +501,7 @@ impl Generator {
         let length = 4 + self.random.below(30);
         let kind = self
             .random
-            .pick(&[0, 14, 11, 12, 13, 63, 64, 65, 80, 99, 255, 256, 65_535]);
+            .pick(&[0, 14, 15, 12, 13, 63, 64, 65, 80, 99, 255, 256, 65_535]);
         let mut bytes = vec![length as u8, 0];
         bytes.extend_from_slice(&u16::to_le_bytes(kind));
         bytes.extend((4..length).map(|_| self.random.below(256) as u8));

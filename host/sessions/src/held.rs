@@ -1,10 +1,10 @@
 //! A venue as hosts hold it, without padding, in the order of the venue's fields; but
-//! reserve and display of the regular orders come after all these, and then the ratios
-//! of the complex orders. Any value goes to bytes and back, sound or not.
+//! reserve and display of the regular orders come after all these, then the ratios of the
+//! complex orders, and then the last generations and the id reached. Any value goes to bytes and back, sound or not.
 
 use reference::{Complex, Edition, Legging, Listed, Regular, Venue};
 
-pub const VENUE_BYTES: usize = 4_012;
+pub const VENUE_BYTES: usize = 4_656;
 
 /// The bytes of a venue.
 pub fn to_bytes(venue: &Venue) -> [u8; VENUE_BYTES] {
@@ -63,6 +63,7 @@ pub fn from_bytes(bytes: &[u8; VENUE_BYTES]) -> Venue {
             figure: reader.u8(),
             value: reader.u8(),
         }),
+        ..Venue::fresh()
     };
     for order in &mut venue.regular {
         order.reserve = reader.u32();
@@ -72,6 +73,8 @@ pub fn from_bytes(bytes: &[u8; VENUE_BYTES]) -> Venue {
         order.ratio1 = reader.u8();
         order.ratio2 = reader.u8();
     }
+    venue.generations = std::array::from_fn(|_| std::array::from_fn(|_| reader.u32()));
+    venue.reached = reader.u32();
     venue
 }
 
@@ -90,7 +93,7 @@ impl Writer {
         self.all(&number.to_le_bytes());
     }
 
-    /// The rows that came with request (d), (e) and (g).
+    /// The rows that came with requests (d), (e), (g) and (m).
     fn later_rows(&mut self, venue: &Venue) {
         for entry in &venue.editions {
             self.u32(entry.edition);
@@ -104,6 +107,10 @@ impl Writer {
         for order in &venue.complex {
             self.all(&[order.ratio1, order.ratio2]);
         }
+        for number in venue.generations.iter().flatten() {
+            self.u32(*number);
+        }
+        self.u32(venue.reached);
     }
 }
 
@@ -186,6 +193,9 @@ mod tests {
         venue.complex[0].ratio1 = 3;
         venue.complex[31].ratio1 = 1;
         venue.complex[31].ratio2 = 2;
+        venue.generations[0][1] = 0x0403_0201;
+        venue.generations[7][19] = 9;
+        venue.reached = 0x0807_0605;
         let bytes = to_bytes(&venue);
         assert_eq!(bytes[14 + 6..14 + 10], [1, 2, 3, 4]);
         assert_eq!(bytes[1_792 + 31 * 17 + 9..][..4], [0xFE, 0xFF, 0xFF, 0xFF]);
@@ -196,6 +206,9 @@ mod tests {
         assert_eq!(bytes[2_924..2_932], [5, 6, 7, 8, 0, 0, 0, 0]);
         assert_eq!(bytes[2_924 + 127 * 8..3_948], [0, 0, 0, 0, 1, 2, 3, 4]);
         assert_eq!(bytes[3_948..3_950], [3, 0]);
-        assert_eq!(bytes[3_948 + 31 * 2..], [1, 2]);
+        assert_eq!(bytes[3_948 + 31 * 2..4_012], [1, 2]);
+        assert_eq!(bytes[4_012 + 4..4_012 + 8], [1, 2, 3, 4]);
+        assert_eq!(bytes[4_012 + 7 * 80 + 19 * 4..4_652], [9, 0, 0, 0]);
+        assert_eq!(bytes[4_652..], [5, 6, 7, 8]);
     }
 }

@@ -6,7 +6,7 @@ use crate::held_layer::{from_bytes, to_bytes, write_arrival, write_turn, LAYER_B
 use crate::layer_generator::{corrupt_layer, LayerGenerator};
 use crate::lent::Lent;
 use crate::profile::Profile;
-use crate::sound::{fault, number_fault};
+use crate::sound::{edition_number_fault, fault, generation_number_fault};
 use reference::{arrive, one_message, turn, Layer, Turned, Venue, VENUES};
 use std::collections::{BTreeMap, VecDeque};
 
@@ -14,7 +14,7 @@ use std::collections::{BTreeMap, VecDeque};
 const CALLS: usize = 120;
 
 /// The ways that random calls must show.
-const WAYS: [&str; 38] = [
+const WAYS: [&str; 39] = [
     "arrival 0: the first of a wait",
     "arrival 0: the eighth of a wait",
     "arrival 0: a message of 32 bytes",
@@ -52,6 +52,7 @@ const WAYS: [&str; 38] = [
     "9: a length above 32",
     "9: a venue",
     "9: a number not above an edition's",
+    "9: a number not above a generation's",
     "no 9: a free place is changed",
 ];
 
@@ -389,8 +390,13 @@ fn faults_of(layer: &Layer) -> Vec<&'static str> {
         }
         if fault(&lane.venue).is_some() {
             faults.push("9: a venue");
-        } else if number_fault(&lane.venue, lane.done).is_some() {
+            continue;
+        }
+        if edition_number_fault(&lane.venue, lane.done).is_some() {
             faults.push("9: a number not above an edition's");
+        }
+        if generation_number_fault(&lane.venue, lane.done).is_some() {
+            faults.push("9: a number not above a generation's");
         }
     }
     faults

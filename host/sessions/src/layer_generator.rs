@@ -130,7 +130,7 @@ impl LayerGenerator {
         if message.len() >= 4 && self.random.chance(60) {
             let length = message.len() as u16;
             message[..2].copy_from_slice(&length.to_le_bytes());
-            message[2..4].copy_from_slice(&[self.random.below(11) as u8, 0]);
+            message[2..4].copy_from_slice(&[self.random.below(12) as u8, 0]);
         }
         Asked::Arrive { venue, message }
     }
@@ -154,7 +154,8 @@ pub fn corrupt_layer(bytes: &[u8; LAYER_BYTES], random: &mut Random) -> [u8; LAY
             bytes[lane..lane + DONE_AT].copy_from_slice(&changed);
         }
         5 => {
-            // At the count's end, or below the number of an edition's message.
+            // At the count's end, or below the number of an edition's or a generation's
+            // message.
             let done = random.pick(&[u32::MAX, u32::MAX - 1, 0, 1]);
             bytes[lane + DONE_AT..lane + COUNT_AT].copy_from_slice(&done.to_le_bytes());
         }

@@ -172,7 +172,8 @@ impl Ledger {
             Record::Cancelled { id, quantity } => {
                 self.account(id, record)?.cancelled += u64::from(quantity);
             }
-            Record::Answer { .. } | Record::Generated { .. } | Record::Removed { .. } => {}
+            Record::Answer { .. } | Record::Looked { .. } => {}
+            Record::Generated { .. } | Record::Removed { .. } => {}
         }
         Ok(())
     }

@@ -37,4 +37,5 @@ pub mod soak;
 pub mod sound;
 pub mod takings;
 pub mod text;
+pub mod traffic;
 pub mod view;

@@ -48,7 +48,11 @@ pub enum Message {
         percent: u8,
         edition: u32,
     },
-    /// Bytes that are no message of kinds 1 to 10 at its length.
+    /// A sweep limited to so many resting orders.
+    LimitedSweep {
+        most: u8,
+    },
+    /// Bytes that are no message of kinds 1 to 11 at its length.
     Raw(Vec<u8>),
 }
 
@@ -98,11 +102,12 @@ impl Message {
             Message::Percent { percent, edition } => {
                 framed(8, &[&[*percent], &edition.to_le_bytes()])
             }
+            Message::LimitedSweep { most } => framed(11, &[&[*most]]),
             Message::Raw(bytes) => bytes.clone(),
         }
     }
 
-    /// Reads one message cut from a list; what is none of kinds 1 to 10 at its
+    /// Reads one message cut from a list; what is none of kinds 1 to 11 at its
     /// length stays raw.
     pub fn decode(bytes: &[u8]) -> Message {
         let mut fields = Fields { bytes, at: 4 };
@@ -133,8 +138,16 @@ impl Message {
             },
             (9, 22) => fields.order(true),
             (10, 23) => fields.complex(true),
+            (11, 5) => Message::LimitedSweep { most: fields.u8() },
             _ => Message::Raw(bytes.to_vec()),
         }
+    }
+}
+
+impl Message {
+    /// Whether it works resting orders: all of them, or so many.
+    pub fn is_sweep(&self) -> bool {
+        matches!(self, Message::Sweep | Message::LimitedSweep { .. })
     }
 }
 

@@ -17,7 +17,7 @@ pub fn refusal(venue: &Venue, left: &[u8]) -> u8 {
     }
     let message = split(left)[0];
     let kind = u16::from_le_bytes([message[2], message[3]]);
-    if !(1..=10).contains(&kind) {
+    if !(1..=11).contains(&kind) {
         return 2;
     }
     match Message::decode(message) {
@@ -101,6 +101,7 @@ pub fn fields_in_range(message: &Message) -> bool {
         }
         Message::Status { series, status } => *series <= 7 && *status <= 2,
         Message::Sweep => true,
+        Message::LimitedSweep { most } => (1..=32).contains(most),
         _ => setting_in_range(message),
     }
 }
@@ -265,6 +266,7 @@ pub fn work(before: &Venue, message: &Message, number: u32) -> Work {
             let ids: Vec<u32> = held_complex(before).map(|order| order.id).collect();
             ids.into_iter().for_each(|id| work.complex(id));
         }
+        Message::LimitedSweep { most } => work.limited_sweep(before, most),
         Message::Increment {
             series,
             increment,
@@ -275,6 +277,15 @@ pub fn work(before: &Venue, message: &Message, number: u32) -> Work {
     }
     work.show_again();
     work
+}
+
+/// The ids that a limited sweep looks at when it starts upon a venue: those above the id
+/// reached, rising, then round to the others.
+pub fn looked_at(venue: &Venue, most: u8) -> Vec<u32> {
+    let ids = || held_complex(venue).map(|order| order.id);
+    let above = ids().filter(|id| *id > venue.reached);
+    let others = ids().filter(|id| *id <= venue.reached);
+    above.chain(others).take(usize::from(most)).collect()
 }
 
 /// The most units, one after another, that what is open and what is shown allow.
@@ -308,6 +319,15 @@ impl Work {
             figure,
             value,
         };
+    }
+
+    /// The list is fixed when it starts: who is gone by his turn was looked at too.
+    fn limited_sweep(&mut self, before: &Venue, most: u8) {
+        let ids = looked_at(before, most);
+        let count = ids.len() as u8;
+        self.records.push(Record::Looked { count });
+        self.venue.reached = ids.last().copied().unwrap_or(before.reached);
+        ids.into_iter().for_each(|id| self.complex(id));
     }
 
     /// Puts an arriving complex order in the first free place.

@@ -2,6 +2,7 @@
 
 use crate::message::Leg;
 use crate::message::Message;
+use crate::model::looked_at;
 use crate::record::Record;
 use crate::view::{find_complex, held_complex, leg_at, legs_of, place_of, Declined, View};
 use reference::{Complex, Legging, Venue};
@@ -54,6 +55,7 @@ pub fn phases<'a>(
     }
     let mut at_settling = View::of(after);
     at_settling.legging = before.legging;
+    at_settling.generations = before.generations;
     for record in work {
         take_away(&mut at_settling, record)?;
     }
@@ -119,28 +121,35 @@ pub struct Attempt {
 }
 
 /// The orders that a message generates for: those resting afterwards.
-fn generates_for<'a>(message: &Message, after: &'a Venue) -> Vec<&'a Complex> {
+fn generates_for<'a>(message: &Message, before: &Venue, after: &'a Venue) -> Vec<&'a Complex> {
     match message {
         Message::Complex { id, .. } => find_complex(after, *id).into_iter().collect(),
         Message::Sweep => held_complex(after).collect(),
+        Message::LimitedSweep { most } => {
+            let looked = looked_at(before, *most).into_iter();
+            looked.filter_map(|id| find_complex(after, id)).collect()
+        }
         _ => Vec::new(),
     }
 }
 
-/// Works out the generation after a settling: each try, and the records.
+/// Works out the generation after a settling: each try, and the records. The message has
+/// this number.
 pub fn expected_generation(
     view: &mut View,
-    message: &Message,
+    (number, message): (u32, &Message),
+    before: &Venue,
     after: &Venue,
 ) -> (Vec<Attempt>, Vec<Record>) {
     let mut attempts = Vec::new();
     let mut records = Vec::new();
-    for order in generates_for(message, after) {
+    for order in generates_for(message, before, after) {
         for which in 0..2 {
             let leg = legs_of(order)[which];
-            let outcome = view.generation(after, order, which);
+            let outcome = view.generation(number, after, order, which);
             if let Ok(made) = &outcome {
                 records.extend(view.make(leg, *made));
+                view.count_generation(number, leg.series);
             }
             attempts.push(Attempt {
                 id: order.id,

@@ -18,10 +18,11 @@ pub enum Profile {
     Settings,
     Reserve,
     Ratios,
+    Ceiling,
 }
 
 impl Profile {
-    pub const ALL: [Profile; 16] = [
+    pub const ALL: [Profile; 17] = [
         Profile::Mixed,
         Profile::FewSeries,
         Profile::Credit,
@@ -38,6 +39,7 @@ impl Profile {
         Profile::Settings,
         Profile::Reserve,
         Profile::Ratios,
+        Profile::Ceiling,
     ];
 
     pub fn name(self) -> &'static str {
@@ -58,6 +60,7 @@ impl Profile {
             Profile::Settings => "settings",
             Profile::Reserve => "reserve",
             Profile::Ratios => "ratios",
+            Profile::Ceiling => "ceiling",
         }
     }
 
@@ -125,6 +128,11 @@ impl Profile {
                 .at(100, 3)
                 .sized(7)
                 .weighing(50),
+            Profile::Ceiling => base
+                .over(THREE)
+                .weighted([30, 30, 8, 9, 1, 30, 1])
+                .at(100, 3)
+                .limiting(60),
         }
     }
 }
@@ -152,6 +160,8 @@ pub(crate) struct Shape {
     /// Percent of complex orders, but of those made after a resting one, that have unequal
     /// ratios; scripts have none.
     pub ratios: u64,
+    /// Percent of sweeps that are limited; scripts have none.
+    pub limited: u64,
 }
 
 impl Shape {
@@ -169,6 +179,7 @@ impl Shape {
             settings: 0,
             reserve: 8,
             ratios: 8,
+            limited: 30,
         }
     }
 
@@ -229,6 +240,10 @@ impl Shape {
         Shape { ratios, ..self }
     }
 
+    fn limiting(self, limited: u64) -> Self {
+        Shape { limited, ..self }
+    }
+
     /// Without what brings kinds above `last`.
     pub fn up_to(self, last: u16) -> Self {
         let drawn = |kind, percent| if last < kind { 0 } else { percent };
@@ -236,6 +251,7 @@ impl Shape {
             settings: drawn(8, self.settings),
             reserve: drawn(9, self.reserve),
             ratios: drawn(10, self.ratios),
+            limited: drawn(11, self.limited),
             ..self
         }
     }

@@ -47,6 +47,9 @@ pub enum Record {
         id: u32,
         quantity: u32,
     },
+    Looked {
+        count: u8,
+    },
 }
 
 /// The width of a field, by its smallest and largest value and its bytes.
@@ -96,6 +99,7 @@ fn layout(kind: u16) -> Option<&'static [Width]> {
         68 => Some(&[U32, U8, U8, U8]),
         70 => Some(&[U32, U32, I32, U32]),
         71 => Some(&[U32, U32]),
+        72 => Some(&[U8]),
         _ => None,
     }
 }
@@ -152,6 +156,7 @@ fn from_short_values(kind: u16, v: &[i64]) -> Option<Record> {
             id: id as u32,
             quantity: quantity as u32,
         }),
+        (72, &[count]) => Some(Record::Looked { count: count as u8 }),
         _ => None,
     }
 }
@@ -166,6 +171,7 @@ impl Record {
             Record::Removed { .. } => 68,
             Record::Cross { .. } => 70,
             Record::Cancelled { .. } => 71,
+            Record::Looked { .. } => 72,
         }
     }
 
@@ -216,6 +222,7 @@ impl Display for Record {
                 quantity,
             } => write!(f, "70 {taker} {maker} {net} {quantity}"),
             Record::Cancelled { id, quantity } => write!(f, "71 {id} {quantity}"),
+            Record::Looked { count } => write!(f, "72 {count}"),
         }
     }
 }
@@ -255,7 +262,7 @@ fn read_record(bytes: &[u8]) -> Result<(Record, usize), String> {
     let kind = u16::from_le_bytes([bytes[2], bytes[3]]);
     let Some(widths) = layout(kind) else {
         return Err(format!(
-            "expected a record kind 64 to 68, 70 or 71, found {kind}"
+            "expected a record kind 64 to 68 or 70 to 72, found {kind}"
         ));
     };
     let expected = 4 + widths.iter().map(|width| width.bytes()).sum::<usize>();
@@ -293,7 +300,7 @@ fn parse_sheet_line(line: &str) -> Result<Record, String> {
     let kind: u16 = first.parse().unwrap_or(0);
     let Some(widths) = layout(kind) else {
         return Err(format!(
-            "expected a record kind 64 to 68, 70 or 71, found {first:?}"
+            "expected a record kind 64 to 68 or 70 to 72, found {first:?}"
         ));
     };
     let words: Vec<&str> = words.collect();

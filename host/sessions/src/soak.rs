@@ -1,8 +1,8 @@
 //! Random sessions with every check after every message.
 
 use crate::asked::ENOUGH;
-use crate::broken::{broken_orders, broken_ratios, broken_rows};
-use crate::broken::{with_editions, with_ratios, with_reserve};
+use crate::broken::{broken_generations, broken_orders, broken_ratios, broken_rows};
+use crate::broken::{with_editions, with_generations, with_ratios, with_reserve};
 use crate::check::{Checker, Step};
 use crate::corrupt::corrupt;
 use crate::coverage::{Coverage, Rare};
@@ -14,7 +14,7 @@ use crate::message::{split, Message};
 use crate::profile::Profile;
 use crate::record::{read_report_into, Record};
 use crate::settings::last_edition;
-use crate::sound::{call_fault, fault, number_fault};
+use crate::sound::{call_fault, edition_number_fault, fault, generation_number_fault};
 use reference::{is_sound, one_message, run, settings, Returned, Venue};
 use std::fmt::{self, Display};
 
@@ -61,7 +61,7 @@ struct Session<'a> {
 pub fn session_length(profile: Profile, seed: u64) -> usize {
     let spread = (seed.wrapping_mul(0x9E37_79B9_7F4A_7C15) >> 32) as usize;
     match profile {
-        Profile::FullBooks => 400 + spread % 500,
+        Profile::FullBooks | Profile::Ceiling => 400 + spread % 500,
         _ => 60 + spread % 500,
     }
 }
@@ -173,13 +173,14 @@ impl<'a> Session<'a> {
 
     /// Calls beside the list, which leave it as it is.
     fn probe(&mut self, probes: &mut Generator) -> Result<(), String> {
-        match probes.random().below(7) {
+        match probes.random().below(8) {
             0 => self.probe_memory(probes),
             1 => self.probe_number(probes),
             2 => self.probe_unsound(probes),
             3 => self.probe_editions(probes),
             4 => self.probe_reserve(probes),
             5 => self.probe_ratios(probes),
+            6 => self.probe_generations(probes),
             _ => self.probe_noise(probes),
         }
     }
@@ -289,6 +290,46 @@ impl<'a> Session<'a> {
         self.expect_taken(&with_ratios(&self.venue, at), before)
     }
 
+    /// Rows of generations that fall; numbers about those of the last; and sweeps at the
+    /// last message of a ceiling and at the first after it.
+    fn probe_generations(&mut self, probes: &mut Generator) -> Result<(), String> {
+        let at = probes.random().below(8 * 17) as usize;
+        for (name, broken) in broken_generations(&self.venue, at) {
+            if fault(&broken).is_none() {
+                return Err(format!("{name} is not found in {broken:?}"));
+            }
+            self.expect_taken(&broken, u32::MAX - 1)?;
+        }
+        let last = self.pieces.len() as u32 + 300;
+        let busy = with_generations(&self.venue, at, last);
+        for number in last - 2..=last + 2 {
+            self.expect_taken(&busy, number - 1)?;
+        }
+        self.expect_taken(&busy, u32::MAX)?;
+        let most = 1 + at as u8 % 32;
+        for message in [Message::Sweep, Message::LimitedSweep { most }] {
+            for before in [last + 245, last + 246, last + 254, last + 255] {
+                self.check_upon(&busy, before, &message)?;
+            }
+        }
+        Ok(())
+    }
+
+    /// Every check of a message upon this list's orders, after other generations.
+    fn check_upon(&mut self, venue: &Venue, before: u32, message: &Message) -> Result<(), String> {
+        let bytes = message.encode();
+        let returned = one_message(venue, before, &bytes, self.lent.lend(ROOM));
+        read_report_into(self.lent.written(returned.written)?, &mut self.records)?;
+        let step = Step {
+            message,
+            bytes: &bytes,
+            before: venue,
+            returned: &returned,
+            records: &self.records,
+        };
+        self.checker.upon(venue, before).check(&step).map(|_| ())
+    }
+
     /// A call upon a venue gets 9 just where both tests of it say so, and its
     /// settings are told just where it is sound.
     fn expect_taken(&mut self, venue: &Venue, before: u32) -> Result<(), String> {
@@ -303,8 +344,11 @@ impl<'a> Session<'a> {
             return Err(format!("settings told differ: {unsound:?} for {venue:?}"));
         }
         if refused.is_some() {
-            let by_number = unsound.is_none() && number_fault(venue, before).is_some();
-            self.coverage.add(Rare::NumberNotAbove, by_number);
+            let sound = unsound.is_none();
+            let edition = edition_number_fault(venue, before).is_some();
+            let made = generation_number_fault(venue, before).is_some();
+            self.coverage.add(Rare::NumberNotAbove, sound && edition);
+            self.coverage.add(Rare::NumberNotAboveMade, sound && made);
             self.expect_ended(&returned, venue, 9)?;
         }
         Ok(())

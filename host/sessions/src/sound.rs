@@ -10,12 +10,25 @@ pub fn call_fault(venue: &Venue, before: u32) -> Option<String> {
     fault(venue).or_else(|| number_fault(venue, before))
 }
 
-/// The message's number is above that of every edition kept.
+/// The message's number is above that of every edition kept, and of every generation.
 pub fn number_fault(venue: &Venue, before: u32) -> Option<String> {
+    edition_number_fault(venue, before).or_else(|| generation_number_fault(venue, before))
+}
+
+pub fn edition_number_fault(venue: &Venue, before: u32) -> Option<String> {
     let (edition, kept) = last_edition(venue);
     let number = u64::from(before) + 1;
     (number <= u64::from(kept))
         .then(|| format!("message {number} is not above message {kept} of edition {edition}"))
+}
+
+pub fn generation_number_fault(venue: &Venue, before: u32) -> Option<String> {
+    let number = u64::from(before) + 1;
+    let mut kept = venue.generations.iter().flatten();
+    let kept = kept.find(|kept| number <= u64::from(**kept))?;
+    Some(format!(
+        "message {number} is not above message {kept} of a generation"
+    ))
 }
 
 /// What is unsound about a venue, if anything.
@@ -31,6 +44,7 @@ pub fn fault(venue: &Venue) -> Option<String> {
         complex_fault(venue),
         series_fault(venue),
         id_fault(venue),
+        traffic_fault(venue),
     ];
     if let Some(fault) = faults.into_iter().flatten().next() {
         return Some(fault);
@@ -157,6 +171,16 @@ fn id_fault(venue: &Venue) -> Option<String> {
     }
     let above = ids.last().is_some_and(|id| *id > venue.last);
     above.then(|| "an id is above the last id".to_string())
+}
+
+/// The generations of a series do not fall, zeros before the first; the id reached is one
+/// that was accepted.
+fn traffic_fault(venue: &Venue) -> Option<String> {
+    let falls = |last: &[u32; 20]| last.windows(2).any(|pair| pair[1] < pair[0]);
+    if let Some(series) = venue.generations.iter().position(falls) {
+        return Some(format!("the generations of series {series} fall"));
+    }
+    (venue.reached > venue.last).then(|| "the id reached is above the last id".to_string())
 }
 
 fn legging_fault(venue: &Venue) -> Option<String> {

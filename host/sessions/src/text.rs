@@ -8,6 +8,7 @@
 //! away SERIES bid PRICE offer PRICE
 //! status SERIES STATUS          (also: open SERIES, close SERIES, auction SERIES)
 //! sweep
+//! limited MOST
 //! increment SERIES INCREMENT EDITION
 //! percent PERCENT EDITION
 //! raw HEX HEX ...
@@ -111,7 +112,7 @@ pub(crate) fn parse_line(mut words: Words) -> Result<Message, LineError> {
 }
 
 const KINDS: &str = "a message (order, complex, cancel, away, status, open, close, auction, \
-    sweep, increment, percent or raw)";
+    sweep, limited, increment, percent or raw)";
 
 fn parse_message(words: &mut Words) -> Result<Message, LineError> {
     match words.next() {
@@ -129,6 +130,9 @@ fn parse_message(words: &mut Words) -> Result<Message, LineError> {
         Some("close") => words.status_of_series(0),
         Some("auction") => words.status_of_series(2),
         Some("sweep") => Ok(Message::Sweep),
+        Some("limited") => Ok(Message::LimitedSweep {
+            most: words.number("a number of orders")?,
+        }),
         Some("increment") => Ok(Message::Increment {
             series: words.number("a series")?,
             increment: words.number("an increment")?,
@@ -386,6 +390,7 @@ impl Display for Message {
                 write!(f, "status {series} {}", Status(*status))
             }
             Message::Sweep => write!(f, "sweep"),
+            Message::LimitedSweep { most } => write!(f, "limited {most}"),
             Message::Increment {
                 series,
                 increment,
@@ -416,7 +421,8 @@ mod tests {
             complex 5 buy 9 side=3 1 class 1 net 2147483647 quantity 8 ratio 0 255\n\
             cancel 3\naway 0 bid 0 offer 60\nstatus 0 open\nstatus 1 closed\n\
             status 2 auction\nstatus 9 status=3\nsweep\nincrement 7 10 4294967295\n\
-            increment 255 0 0\npercent 50 2\npercent 255 0\nraw 09 00 06\n";
+            increment 255 0 0\npercent 50 2\npercent 255 0\nlimited 32\nlimited 0\nlimited 255\n\
+            raw 09 00 06\n";
         let bytes = encode_session(text).unwrap();
         assert_eq!(decode_session(&bytes), text);
     }
@@ -452,7 +458,7 @@ mod tests {
     fn errors_of_a_feeds_line_name_what_was_expected() {
         let cases = [
             ("sweep", "line 1: expected the message's number, a number from 0 to 4294967295, found \"sweep\""),
-            ("1 sweep\n2", "line 2: expected a message (order, complex, cancel, away, status, open, close, auction, sweep, increment, percent or raw), found the end of the line"),
+            ("1 sweep\n2", "line 2: expected a message (order, complex, cancel, away, status, open, close, auction, sweep, limited, increment, percent or raw), found the end of the line"),
             ("1 sweep now", "line 1: expected the end of the line, found \"now\""),
         ];
         for (text, expected) in cases {
@@ -464,7 +470,7 @@ mod tests {
     #[test]
     fn errors_name_the_line_and_what_was_expected() {
         let cases = [
-            ("sweep\nordr 1", "line 2: expected a message (order, complex, cancel, away, status, open, close, auction, sweep, increment, percent or raw), found \"ordr\""),
+            ("sweep\nordr 1", "line 2: expected a message (order, complex, cancel, away, status, open, close, auction, sweep, limited, increment, percent or raw), found \"ordr\""),
             ("order 4 bye 5 series 0 at 115", "line 1: expected a side (buy, sell or side=0 to side=255), found \"bye\""),
             ("order 4 buy 5 series 0 at", "line 1: expected a price, a number from 0 to 4294967295, found the end of the line"),
             ("order 4 buy 5 serie 0 at 5", "line 1: expected \"series\", found \"serie\""),
@@ -483,6 +489,8 @@ mod tests {
             ("increment 0 256 1", "line 1: expected an increment, a number from 0 to 255, found \"256\""),
             ("percent half 1", "line 1: expected a percentage, a number from 0 to 255, found \"half\""),
             ("sweep now", "line 1: expected the end of the line, found \"now\""),
+            ("limited", "line 1: expected a number of orders, a number from 0 to 255, found the end of the line"),
+            ("limited 256", "line 1: expected a number of orders, a number from 0 to 255, found \"256\""),
             ("raw", "line 1: expected bytes of two hexadecimal digits, found the end of the line"),
             ("raw 9", "line 1: expected bytes of two hexadecimal digits, found \"9\""),
             ("raw +9", "line 1: expected bytes of two hexadecimal digits, found \"+9\""),

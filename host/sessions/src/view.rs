@@ -19,6 +19,8 @@ pub struct View {
     pub legging: [Legging; 16],
     series: [Listed; 8],
     pub in_force: InForce,
+    /// Of each series the messages of its last 20 generations, zeros before the first.
+    pub generations: [[u32; 20]; 8],
 }
 
 pub fn place_of(leg: Leg) -> usize {
@@ -142,6 +144,7 @@ impl View {
             legging: venue.legging,
             series: venue.series,
             in_force: InForce::of(venue),
+            generations: venue.generations,
         };
         for order in held_regular(venue) {
             view.count(order);
@@ -320,6 +323,11 @@ pub enum Declined {
         price: i64,
         parent: u32,
     },
+    /// The ceiling: the first of 20 messages, each of which generated in the series.
+    AtCeiling {
+        series: u8,
+        first: u32,
+    },
 }
 
 impl Display for Declined {
@@ -364,15 +372,20 @@ impl Display for Declined {
                 f,
                 "at {price} it would make the legging order of {parent} fail its test"
             ),
+            Declined::AtCeiling { series, first } => write!(
+                f,
+                "the ceiling: 20 were generated in series {series} since message {first}"
+            ),
         }
     }
 }
 
 impl View {
-    /// The legging order that generation makes for a leg, or the first
-    /// condition that fails, in the document's order.
+    /// The legging order that generation of the message with this number makes for a leg,
+    /// or the first condition that fails, in the document's order.
     pub fn generation(
         &self,
+        number: u32,
         venue: &Venue,
         order: &Complex,
         which: usize,
@@ -396,7 +409,27 @@ impl View {
             quantity: order.quantity.min(clear.size as u32),
         };
         self.place_allowed(venue, leg, order.class, made)?;
+        self.traffic_allowed(number, leg.series)?;
         Ok(made)
+    }
+
+    /// Fewer than 20 of the series in the 256 messages that end with this one.
+    fn traffic_allowed(&self, number: u32, series: u8) -> Result<(), Declined> {
+        let recent = |made: &&u32| **made > 0 && u64::from(**made) + 256 > u64::from(number);
+        let last = &self.generations[usize::from(series)];
+        match last.iter().filter(recent).count() {
+            ..20 => Ok(()),
+            _ => Err(Declined::AtCeiling {
+                series,
+                first: last[0],
+            }),
+        }
+    }
+
+    /// One more generation of a series; of those kept the oldest goes.
+    pub fn count_generation(&mut self, number: u32, series: u8) {
+        let last = &mut self.generations[usize::from(series)];
+        *last = std::array::from_fn(|at| last.get(at + 1).copied().unwrap_or(number));
     }
 
     /// What both legs need of their order.

@@ -39,6 +39,7 @@ The text form, one message a line:
   away SERIES bid PRICE offer PRICE
   status SERIES STATUS      also: open SERIES, close SERIES, auction SERIES
   sweep
+  limited MOST              a sweep of so many resting orders
   increment SERIES INCREMENT EDITION
   percent PERCENT EDITION
   raw HEX HEX ...           any bytes, two hexadecimal digits each
@@ -117,7 +118,8 @@ the first line that is not the reference's; then the exit status is 1. Each line
 read by the settings of its message; those that the session entered are listed. Sums of
 an order of unequal ratios are in units, and its contracts in each series are listed
 beside ratio x paired units. Orders that were to show a part of them are listed with
-what is left and what that shows.
+what is left and what that shows. Of each series the legging orders are counted, and the
+most of them in 256 consecutive messages; the lines that bring more than 20 are named.
 
 The sheet is also replayed: from a fresh venue, its messages and its records alone, the
 books are kept record by record. Each trade and cross is looked at upon the books just
@@ -143,7 +145,8 @@ or refusal 4 depends on a setting, its edition is told with the message that ent
 it; edition 0 are the figures of document 01. Of an order with reserve it is told
 whether a trade took what it shows or its reserve, and what it shows after the trades.
 Quantities of an order of unequal ratios are units, told with their contracts, and so is
-which side could not fill a further unit.
+which side could not fill a further unit. Of a limited sweep the orders that it looks at
+are named.
 Every check is made meanwhile; a violation ends it with an error.
 ";
 
@@ -162,7 +165,7 @@ Writes a random session: bytes, or text with --text. Equal arguments give equal
 sessions. The profiles:
 
   mixed few-series credit band-edges refusals full-books sweeps status-flips
-  classes hits cross-parties price-edges odd-bytes settings reserve ratios
+  classes hits cross-parties price-edges odd-bytes settings reserve ratios ceiling
 ";
 
 const CHECK: &str = "\
@@ -189,7 +192,7 @@ pub fn of(command: &str) -> Option<String> {
         ),
         "decode" => format!(
             "venue decode [--line] [FILE]\n\nWrites one message a line; bytes that are no \
-             message of kinds 1 to 10\nat its length become raw. With --line the bytes are a \
+             message of kinds 1 to 11\nat its length become raw. With --line the bytes are a \
              line of a feed.\n\n{TEXT_FORM}"
         ),
         "print" => PRINT.to_string(),

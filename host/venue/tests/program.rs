@@ -208,7 +208,7 @@ fn print_tells_where_report_bytes_are_no_record() {
         ),
         (
             &[4, 0, 69, 0],
-            "byte 0: expected a record kind 64 to 68, 70 or 71, found 69",
+            "byte 0: expected a record kind 64 to 68 or 70 to 72, found 69",
         ),
         (
             &[12, 0],
@@ -528,7 +528,7 @@ fn audit_refuses_a_sheet_of_another_session() {
         ),
         (
             "64 1 0 0 0\n\n",
-            "line 2: expected a record kind 64 to 68, 70 or 71, found \"\"",
+            "line 2: expected a record kind 64 to 68 or 70 to 72, found \"\"",
         ),
         (
             "64 1 256 0 0\n",
@@ -689,7 +689,7 @@ fn audit_reads_a_sheet_by_the_settings_of_its_day() {
         from message 3: increment of series 0 is 1 (edition 1)\n\
         from message 13: percent is 2 (edition 2)\n\
         from message 19: increment of series 0 is 5 (edition 3)\n\
-        by replay: ";
+        series 0: 1 legging orders made, ";
     assert!(table.contains(editions), "{table}");
     // Shown by the increment of edition 0 it would be another sheet.
     let other = sheet.replace("67 4 0 0 113 113 8", "67 4 0 0 113 110 8");
@@ -793,6 +793,101 @@ fn audit_names_an_order_whose_contracts_are_not_ratio_times_units() {
     let line = "disagreement: order 4: 11 contracts in series 0, expected 12\n";
     assert!(told.contains(line), "{told}");
     assert_eq!(output.status.code(), Some(1));
+}
+
+const LIMITED_TEXT: &str = include_str!("sessions/limited.txt");
+
+#[test]
+fn explain_tells_the_orders_that_a_limited_sweep_looks_at() {
+    let told = good(&["explain", "--text"], LIMITED_TEXT.as_bytes());
+    let told = String::from_utf8(told).unwrap();
+    for expected in [
+        "\n13: limited 2\n    accepted; legging orders standing after it: 2 (places 0, 2)\n    \
+         looks at 2: 3, 1\n",
+        "\n    looks at 4: 6, 7, 2, 3\n    cross: 6 with 7, 5 at the taker's net 150,",
+        "\n30: limited 32\n    accepted; legging orders standing after it: 0\n    looks at 0\n",
+    ] {
+        assert!(told.contains(expected), "{expected}\n{told}");
+    }
+}
+
+/// An order that generates in series 0 and 1 and is cancelled, so often, and one more.
+fn traffic_text(times: usize) -> String {
+    let complex = |id| format!("complex {id} buy 0 buy 1 class 1 net 205 quantity 8\n");
+    let offers = "order 1 sell 15 series 0 at 130\norder 2 sell 12 series 1 at 90\n";
+    let made = (3..3 + times).map(|id| format!("{}cancel {id}\n", complex(id)));
+    format!("{offers}{}{}", made.collect::<String>(), complex(3 + times))
+}
+
+#[test]
+fn explain_tells_the_ceiling() {
+    let told = good(&["explain", "--text"], traffic_text(20).as_bytes());
+    let told = String::from_utf8(told).unwrap();
+    let last = "43: complex 23 buy 0 buy 1 class 1 net 205 quantity 8\n    \
+        accepted; legging orders standing after it: 0\n    \
+        no legging order of 23, buy series 0: the ceiling: 20 were generated in series 0 since \
+        message 3\n    \
+        no legging order of 23, buy series 1: the ceiling: 20 were generated in series 1 since \
+        message 3\n";
+    assert!(told.ends_with(last), "{told}");
+}
+
+#[test]
+fn audit_counts_legging_orders_and_names_those_above_the_ceiling() {
+    let text = traffic_text(20);
+    let told = good(&["audit", "--text", "-"], text.as_bytes());
+    let told = String::from_utf8(told).unwrap();
+    let line = "series 1: 20 legging orders made, at most 20 in 256 messages\n";
+    assert!(told.contains(line), "{told}");
+    let sheet = String::from_utf8(good(&["sheet", "--text"], text.as_bytes())).unwrap();
+    let wrong = sheet.replace("64 43 0 0 0\n", "64 43 0 4 1\n67 23 1 0 75 75 8\n");
+    assert_ne!(sheet, wrong);
+    let session = Kept::new("traffic.txt", text.as_bytes());
+    let sheet = Kept::new("traffic.sheet", wrong.as_bytes());
+    let output = venue(&["audit", "--text", session.path(), sheet.path()], b"");
+    let told = String::from_utf8(output.stdout).unwrap();
+    let line = format!(
+        "disagreement: line {}: number 21 of series 1 in 256 messages\n",
+        wrong.lines().count()
+    );
+    assert!(told.contains(&line), "{told}");
+    assert_eq!(output.status.code(), Some(1));
+}
+
+#[test]
+fn audit_names_a_72_that_is_not_the_books() {
+    let sheet = String::from_utf8(good(&["sheet", "--text"], LIMITED_TEXT.as_bytes())).unwrap();
+    let session = Kept::new("limited.txt", LIMITED_TEXT.as_bytes());
+    for (from, to, expected) in [
+        (
+            "64 13 0 5 2\n72 2\n",
+            "64 13 0 5 2\n72 4\n",
+            "record \"72 4\": 3 complex orders rest",
+        ),
+        (
+            "64 13 0 5 2\n72 2\n",
+            "64 13 0 5 2\n72 1\n",
+            "\"last id looked at 3\"",
+        ),
+        (
+            "64 13 0 5 2\n72 2\n",
+            "64 13 0 5 2\n",
+            "\"last id looked at 2\"",
+        ),
+        (
+            "64 9 0 0 0\n",
+            "64 9 0 0 0\n72 1\n",
+            "record \"72 1\": no limited sweep is to tell it",
+        ),
+    ] {
+        let wrong = sheet.replace(from, to);
+        assert_ne!(sheet, wrong);
+        let kept = Kept::new("limited.sheet", wrong.as_bytes());
+        let output = venue(&["audit", "--text", session.path(), kept.path()], b"");
+        let told = String::from_utf8(output.stdout).unwrap();
+        assert!(told.contains(expected), "{expected}\n{told}");
+        assert_eq!(output.status.code(), Some(1));
+    }
 }
 
 #[test]

@@ -41,7 +41,7 @@ impl Coverage {
 
     /// What an accepted message did with orders of unequal ratios.
     pub(super) fn observe_units(&mut self, step: &Step, seen: &Seen) {
-        let swept = *step.message == Message::Sweep;
+        let swept = step.message.is_sweep();
         for record in step.records {
             match *record {
                 Record::Pair { id, .. } if of_ratios(step, id) => {

@@ -134,7 +134,7 @@ impl Coverage {
         let by_another = |held: &Record| matches!(held, Record::Trade { taker: by, maker: of, .. } if *by != taker && *of == maker);
         let shared = earlier.iter().any(|(_, held)| by_another(held));
         let reserve = find_regular(step.before, maker).is_some_and(|order| order.reserve > 0);
-        let swept = *step.message == Message::Sweep;
+        let swept = step.message.is_sweep();
         self.add(Rare::SharedInSweep, swept && shared && reserve);
     }
 

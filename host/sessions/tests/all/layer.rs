@@ -243,6 +243,14 @@ fn unsound() -> Vec<Layer> {
         played(&mut layer, &format!("arrive {venue} {order}\nturn\n"));
         layer.lanes[venue].venue.complex[0].ratio2 = 2;
         layers.push(layer);
+        // A generation of message 1, and no message done.
+        let mut layer = Layer::fresh();
+        layer.lanes[venue].venue.generations[7][19] = 1;
+        layers.push(layer);
+        // An id looked at, and none accepted.
+        let mut layer = Layer::fresh();
+        layer.lanes[venue].venue.reached = 1;
+        layers.push(layer);
         // An edition of message 1, and no message done.
         let mut layer = Layer::fresh();
         played(&mut layer, &format!("arrive {venue} percent 9 1\nturn\n"));

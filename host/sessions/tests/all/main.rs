@@ -1,5 +1,6 @@
 //! The tests of the reference, in one program so that they build quickly.
 
+mod ceiling;
 mod common;
 mod feed;
 mod layer;

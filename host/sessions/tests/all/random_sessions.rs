@@ -32,7 +32,7 @@ fn check_profiles(profiles: &[Profile]) -> Coverage {
 #[test]
 fn all_profiles_hold_every_check_and_show_every_case() {
     let coverage = check_profiles(&Profile::ALL);
-    assert_eq!(coverage.sessions, SESSIONS * 16);
+    assert_eq!(coverage.sessions, SESSIONS * 17);
     assert_eq!(coverage.missing(), Vec::<String>::new());
 }
 
@@ -50,10 +50,10 @@ fn sessions_up_to_a_kind_have_none_above_it() {
     let kind = |message: &[u8]| u16::from_le_bytes([message[2], message[3]]);
     for profile in Profile::ALL {
         let session = |last| drawn(Generator::new(profile, 5).up_to(last), 300);
-        assert_eq!(session(10), generate(profile, 5, 300));
-        for last in [6, 8, 9] {
+        assert_eq!(session(11), generate(profile, 5, 300));
+        for last in [6, 8, 9, 10] {
             let messages = session(last);
-            let above = |message: &&Vec<u8>| (last + 1..=10).contains(&kind(message));
+            let above = |message: &&Vec<u8>| (last + 1..=11).contains(&kind(message));
             assert_eq!(messages.iter().find(above), None, "{}", profile.name());
         }
     }

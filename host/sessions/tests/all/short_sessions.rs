@@ -156,6 +156,17 @@ fn every_session_of_up_to_5_messages_from_10_with_ratios() {
 }
 
 #[test]
+fn every_session_of_up_to_5_messages_from_10_with_limited_sweeps() {
+    let first = "order 1 sell 15 series 0 at 130\norder 2 sell 12 series 1 at 90\n\
+        away 0 bid 100 offer 0\naway 1 bid 80 offer 0\n";
+    let choices = "complex 3 buy 0 buy 1 class 1 net 205 quantity 8\n\
+        complex 4 sell 1 sell 0 class 0 net -204 quantity 5\n\
+        complex 5 buy 0 buy 1 class 0 net 206 quantity 20\norder 6 sell 9 series 1 at 85\n\
+        limited 1\nlimited 2\nlimited 32\ncancel 3\naway 0 bid 100 offer 110\nsweep\n";
+    assert_eq!(search(first, choices, 5), sessions_of(10, 5));
+}
+
+#[test]
 fn every_session_of_up_to_5_messages_from_10_with_settings() {
     let first = "away 0 bid 0 offer 100\norder 1 sell 15 series 0 at 130\n\
         order 2 sell 12 series 1 at 90\nclose 7\n";

@@ -1,7 +1,7 @@
 //! Each kind of unsoundness is found, by the reference and by the check
 //! written apart from it; and what is sound stays sound.
 
-use crate::common::{one, venue_after, with_legging};
+use crate::common::{one_after, venue_after, with_legging};
 use reference::{is_sound, Edition, Legging, Venue};
 use sessions::sound::fault;
 
@@ -235,6 +235,27 @@ const RATIOS: &[Change] = &[
     }),
 ];
 
+/// Generations of series 0 and 1 by messages 5 and 6, the last of 5 looked at.
+fn with_traffic() -> Venue {
+    let higher = "complex 5 buy 0 buy 1 class 1 net 206 quantity 8\nlimited 2\n";
+    venue_after(&with_legging(higher))
+}
+
+const TRAFFIC: &[Change] = &[
+    ("the last generation 0", |v| v.generations[0][19] = 0),
+    ("a generation that falls", |v| v.generations[0][19] = 4),
+    ("an earlier generation above", |v| v.generations[1][18] = 7),
+    ("a generation before none", |v| v.generations[0][17] = 6),
+    ("two exchanged", |v| v.generations[1].swap(18, 19)),
+    ("the oldest alone", |v| v.generations[7][0] = 1),
+    ("a gap", |v| v.generations[0][16] = 1),
+    ("one before the last of none", |v| v.generations[5][18] = 9),
+    ("an id reached above the last", |v| v.reached = 6),
+    ("an id reached at the end of its width", |v| {
+        v.reached = u32::MAX
+    }),
+];
+
 fn expect_unsound(changes: &[Change]) {
     expect_unsound_upon(opened(), changes);
 }
@@ -246,7 +267,7 @@ fn expect_unsound_upon(sound: Venue, changes: &[Change]) {
         change(&mut venue);
         assert!(!is_sound(&venue), "the reference takes {name}");
         assert!(fault(&venue).is_some(), "the check takes {name}");
-        let (returned, lines) = one(&venue, &[4, 0, 6, 0]);
+        let (returned, lines) = one_after(&venue, u32::MAX - 1, &[4, 0, 6, 0]);
         assert_eq!((returned.number, returned.done), (9, 0), "{name}");
         assert_eq!((returned.venue, lines), (venue, String::new()), "{name}");
     }
@@ -285,6 +306,29 @@ fn each_fault_of_what_an_order_shows_is_unsound() {
 #[test]
 fn each_fault_of_ratios_is_unsound() {
     expect_unsound_upon(with_ratios(), RATIOS);
+}
+
+#[test]
+fn each_fault_of_generations_or_of_the_id_reached_is_unsound() {
+    expect_unsound_upon(with_traffic(), TRAFFIC);
+}
+
+#[test]
+fn equal_generations_any_distance_and_an_id_that_left_are_sound() {
+    let changes: [fn(&mut Venue); 6] = [
+        |v| v.generations[0] = [1; 20],
+        |v| v.generations[0] = [u32::MAX; 20],
+        |v| v.generations[7][19] = u32::MAX,
+        |v| (v.generations[0][18], v.generations[0][19]) = (6, 6),
+        |v| v.reached = 4,
+        |v| v.reached = 0,
+    ];
+    for change in changes {
+        let mut venue = with_traffic();
+        change(&mut venue);
+        assert!(is_sound(&venue));
+        assert_eq!(fault(&venue), None);
+    }
 }
 
 #[test]
