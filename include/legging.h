@@ -51,6 +51,7 @@
  *                9 reserve    as 1, and after it shown quantity u32 (1 to the quantity)     22
  *               10 ratio      as 2, and after it two ratios u8 (1 to 3, not the same), of
  *                             the first leg and of the second                               23
+ *               11 limited    the most orders to look at u8 (1 to 32)                        5
  *     records   64 answer     message number u32, refusal u8, place mask u16, count u8      12
  *               65 trade      series u8, taker's side u8, price u32, quantity u32,
  *                             taker id u32, maker id u32                                    22
@@ -60,6 +61,7 @@
  *               68 removed    complex id u32, series u8, side u8, cause u8                  11
  *               70 cross      taker id u32, maker id u32, taker's net i32, quantity u32     20
  *               71 cancelled  id u32, quantity u32                                          12
+ *               72 looked     count u8                                                       5
  *
  *   The records end at the first zero length, or at the end of the report memory.
  *   Each message done has one answer, and after it what it did.
@@ -100,6 +102,17 @@
  *   band, 6 a series is not open, 7 another took its place, 8 a complex order reached it,
  *   10 one of kind 10 did where the sizes that it reached cannot fill a unit.
  *
+ * CEILING
+ *   Of each series at most 20 legging orders are generated in any 256 consecutive
+ *   messages, refused ones counted. One that takes another's place counts; at the ceiling
+ *   the other stays. The venue keeps the message numbers of each series' last 20.
+ *
+ * LIMITED SWEEPS
+ *   Kind 11 is a sweep of so many resting complex orders: of those after the last id that
+ *   a kind 11 looked at, round by id. It generates for these, in the same order. Record
+ *   72, right after its 64, tells how many: the lesser of the number asked for and of the
+ *   orders resting when it starts. One that is gone by its turn was looked at too.
+ *
  * NUMBERS
  *   Each call returns one of these, and fails in no other way.
  */
@@ -111,14 +124,14 @@
 
 #define LEGGING_DONE          0u /* accepted; of a run: the whole list was done */
 #define LEGGING_TORN          1u /* 1 to 3 bytes left (of one message: 0 to 3), or a length below 4 or above what is left */
-#define LEGGING_UNKNOWN_KIND  2u /* kind not 1 to 10 */
+#define LEGGING_UNKNOWN_KIND  2u /* kind not 1 to 11 */
 #define LEGGING_WRONG_LENGTH  3u /* length not its kind's */
 #define LEGGING_OUT_OF_RANGE  4u /* a field outside its range, a shown quantity above the quantity, both legs in one series, or a price off the increment in force */
 #define LEGGING_ID_NOT_ABOVE  5u /* id not above the last accepted */
 #define LEGGING_CLOSED        6u /* a series of the order is closed */
 #define LEGGING_BOOK_FULL     7u /* 128 regular or 32 complex orders rest already */
 #define LEGGING_NO_SUCH_ORDER 8u /* no resting order has the id */
-#define LEGGING_UNSOUND       9u /* the venue or the layer given is not sound, or the message's number is not above that of every edition kept */
+#define LEGGING_UNSOUND       9u /* the venue or the layer given is not sound, or the message's number is not above that of every edition and generation kept */
 #define LEGGING_NO_ROOM      10u /* the next message's records do not fit, or its number would pass 4,294,967,295 */
 #define LEGGING_EDITION_NOT_ABOVE 11u /* the edition is not above the last, of either kind */
 #define LEGGING_SERIES_IN_USE     12u /* an increment of a series that is not closed, or has a resting order or leg */
@@ -130,10 +143,12 @@
 #define LEGGING_LOST         20u /* neither line has the next number, though a later one stands on either */
 #define LEGGING_BAD_LINE     21u /* a line is torn, does not rise, or has a length below 4 or number 0 */
 
-#define LEGGING_VENUE_BYTES 4012u /* a venue held by a host */
+#define LEGGING_VENUE_BYTES 4656u /* a venue held by a host */
 #define LEGGING_SHOWN_AT    2924u /* where in it the rows of reserve and display begin */
 #define LEGGING_RATIOS_AT   3948u /* where in it the rows of ratios begin */
-#define LEGGING_MOST_BYTES 10428u /* no message upon a sound venue writes more */
+#define LEGGING_GENERATIONS_AT 4012u /* where in it the rows of generations begin */
+#define LEGGING_REACHED_AT  4652u /* where in it the last id stands that a kind 11 looked at */
+#define LEGGING_MOST_BYTES 10433u /* no message upon a sound venue writes more */
 #define LEGGING_SETTINGS_BYTES 9u /* eight increments and the percentage */
 
 #define LEGGING_VENUES       4u /* behind one line */
@@ -222,6 +237,9 @@ uint8_t legging_fresh(uint8_t *venue, size_t venue_len);
  *                          is left where that is less. Of kind 1 the reserve is 0 and the
  *                          display the quantity
  *      32 complex orders   once more, in the same places: two ratios u8, of kind 2 both 1
+ *       8 series           once more: the message numbers u32 of the last 20 legging orders
+ *                          generated in it, oldest first, with zeros before the first
+ *         last id looked at by a kind 11 u32
  *
  * Held places come first, in rising id or edition; free places are zero. Equal states
  * are equal bytes, so a venue may be copied, kept and compared as bytes.
@@ -232,8 +250,8 @@ uint8_t legging_fresh(uint8_t *venue, size_t venue_len);
  *   1 to 8, 11 to 14 refused: `venue` as it was, `report` the answer;
  *   LEGGING_UNSOUND  `venue_len` is not LEGGING_VENUE_BYTES, the bytes are no sound
  *                    venue, or the message's number is not above that of every
- *                    edition kept: `venue` as it was, `report` all zeros. A venue
- *                    that a call left is always sound;
+ *                    edition and generation kept: `venue` as it was, `report` all
+ *                    zeros. A venue that a call left is always sound;
  *   LEGGING_NO_ROOM  the records do not fit, or `before` is 4,294,967,295: `venue` as
  *                    it was, `report` all zeros. LEGGING_MOST_BYTES are always enough.
  */
@@ -293,8 +311,8 @@ uint8_t legging_layer_fresh(uint8_t *layer, size_t layer_len);
  *   LEGGING_DONE      the message waits;
  *   LEGGING_UNSOUND   `layer_len` is not LEGGING_LAYER_BYTES, or the layer is not sound: a
  *                     venue is not, the number of its next message is not above that of
- *                     every edition it keeps, more than 8 messages wait, one that waits is
- *                     over 32 bytes, or the venue served last is above 3;
+ *                     every edition and generation it keeps, more than 8 messages wait, one
+ *                     that waits is over 32 bytes, or the venue served last is above 3;
  *   LEGGING_NO_VENUE  `venue` is above 3;
  *   LEGGING_NO_PLACE  8 messages wait for it already, or `message_len` is above 32.
  * Unless LEGGING_DONE is returned, `layer` is as it was.

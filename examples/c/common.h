@@ -101,6 +101,8 @@ static const char *fields_of(unsigned kind)
         return "wwiw";
     case 71:
         return "ww";
+    case 72:
+        return "b";
     default:
         return "";
     }

@@ -114,9 +114,9 @@ pub fn fresh_in(venue: &mut [u8]) -> Number {
 ///
 /// An accepted message leaves the venue that follows from it. A refused one (1 to 8,
 /// 11 to 14) leaves the venue as it was. Both are answered in `report`. With
-/// [`Number::UNSOUND`], also where its number is not above that of every edition kept,
-/// and with [`Number::NO_ROOM`] nothing was done: the venue is as given and `report`
-/// all zeros.
+/// [`Number::UNSOUND`], also where its number is not above that of every edition and
+/// generation kept, and with [`Number::NO_ROOM`] nothing was done: the venue is as given
+/// and `report` all zeros.
 pub fn one_message(
     venue: &mut VenueBytes,
     before: u32,

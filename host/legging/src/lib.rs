@@ -73,4 +73,4 @@ pub use settings::{settings, Settings, SETTINGS_BYTES};
 pub use venue::{ComplexOrder, RegularOrder, VenueBytes, VENUE_BYTES};
 
 /// No message upon a sound venue writes more bytes.
-pub const MOST_BYTES: usize = 10_428;
+pub const MOST_BYTES: usize = 10_433;

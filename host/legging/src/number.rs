@@ -12,7 +12,7 @@ impl Number {
     /// 1 to 3 bytes left (of one message: 0 to 3), or a length below 4 or above
     /// what is left.
     pub const TORN: Number = Number(1);
-    /// The kind is not 1 to 10.
+    /// The kind is not 1 to 11.
     pub const UNKNOWN_KIND: Number = Number(2);
     /// The length is not its kind's.
     pub const WRONG_LENGTH: Number = Number(3);
@@ -27,7 +27,7 @@ impl Number {
     /// No resting order has the id.
     pub const NO_SUCH_ORDER: Number = Number(8);
     /// The venue or the layer given is not sound, or the message's number is not above
-    /// that of every edition kept.
+    /// that of every edition and generation kept.
     pub const UNSOUND: Number = Number(9);
     /// The next message's records do not fit, or its number would pass
     /// 4,294,967,295.

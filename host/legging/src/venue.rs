@@ -5,7 +5,7 @@ use crate::number::Number;
 use std::fmt;
 
 /// The length of a venue.
-pub const VENUE_BYTES: usize = 4_012;
+pub const VENUE_BYTES: usize = 4_656;
 
 /// Where the last id stands: after the orders and the series.
 const LAST_ID_AT: usize = 2_600;
@@ -19,12 +19,20 @@ const COMPLEX_AT: usize = 1_792;
 /// Where the complex orders' ratios begin: after reserve and display.
 const RATIOS_AT: usize = 3_948;
 
+/// Where the generations of the series begin: after the ratios.
+const GENERATIONS_AT: usize = 4_012;
+
+/// Where the last id stands that a limited sweep looked at.
+const REACHED_AT: usize = 4_652;
+
 const REGULAR_PLACES: usize = 128;
 const REGULAR_BYTES: usize = 14;
 const SHOWN_BYTES: usize = 8;
 const COMPLEX_PLACES: usize = 32;
 const COMPLEX_BYTES: usize = 17;
 const RATIO_BYTES: usize = 2;
+const SERIES: usize = 8;
+const GENERATIONS_KEPT: usize = 20;
 
 /// A regular order that rests.
 #[derive(Clone, Copy, Debug, PartialEq, Eq)]
@@ -66,14 +74,16 @@ pub struct ComplexOrder {
 /// u8, bid u32, offer u32), the last id u32, 32 editions (edition u32, message
 /// number u32, figure u8, value u8; figure 0 to 7 is the increment of that series, 8
 /// the percentage of the band), of the 128 regular orders once more reserve u32 and
-/// display u32, the part of the quantity that is not shown and the part that is, and of
-/// the 32 complex orders once more two ratios u8, 1 and 1 of kind 2. Held places come
-/// first, in rising id or edition; free places are zero.
+/// display u32, the part of the quantity that is not shown and the part that is, of the
+/// 32 complex orders once more two ratios u8, 1 and 1 of kind 2, of the 8 series once more
+/// the message numbers u32 of the last 20 legging orders generated, oldest first, and the
+/// last id u32 that a limited sweep looked at. Held places come first, in rising id or
+/// edition; free places are zero, and so are generations before the first.
 #[derive(Clone, PartialEq, Eq)]
 pub struct VenueBytes([u8; VENUE_BYTES]);
 
 impl VenueBytes {
-    /// No orders, all series open, no away prices, last id 0, no edition.
+    /// No orders, all series open, no away prices, last id 0, no edition, none generated.
     ///
     /// Bytes that are all zero are a sound venue too, with all series closed.
     pub fn fresh() -> Self {
@@ -139,6 +149,21 @@ impl VenueBytes {
             }
         });
         orders.take_while(|order| order.quantity > 0)
+    }
+
+    /// The numbers of the messages that generated the last legging orders of each series,
+    /// at most 20 of them, oldest first.
+    pub fn generations(&self) -> [Vec<u32>; SERIES] {
+        std::array::from_fn(|series| {
+            let row = GENERATIONS_AT + series * GENERATIONS_KEPT * 4;
+            let numbers = (0..GENERATIONS_KEPT).map(|place| self.u32_at(row + place * 4));
+            numbers.filter(|number| *number > 0).collect()
+        })
+    }
+
+    /// The last id that a limited sweep looked at; 0 where none did.
+    pub fn reached(&self) -> u32 {
+        self.u32_at(REACHED_AT)
     }
 }
 

@@ -294,7 +294,7 @@ fn orders_that_rest_are_told_with_what_they_show() {
     let bytes = venue.as_bytes();
     assert_eq!(bytes[2_924..2_932], [1, 0, 0, 0, 4, 0, 0, 0]);
     assert_eq!(bytes[2_940..2_948], [5, 0, 0, 0, 3, 0, 0, 0]);
-    assert_eq!(bytes[2_948..], [0; 1_064]);
+    assert_eq!(bytes[2_948..], [0; 1_708]);
 }
 
 #[test]
@@ -303,23 +303,33 @@ fn an_order_that_shows_otherwise_is_unsound() {
     for (at, byte) in [(2_924, 0), (2_924, 2), (2_928, 0), (2_928, 6), (2_948, 1)] {
         let mut bytes = *venue.as_bytes();
         bytes[at] = byte;
-        let mut given = VenueBytes::from_bytes(bytes);
-        let mut report = [0xC3; 20];
-        let number = one_message(&mut given, 9, &[4, 0, 6, 0], &mut report);
-        assert_eq!((number, report), (Number::UNSOUND, [0; 20]), "byte {at}");
-        assert_eq!(*given.as_bytes(), bytes);
+        expect_unsound(bytes, at);
     }
 }
 
+/// A sweep upon a venue of which this byte was changed.
+fn expect_unsound(bytes: [u8; VENUE_BYTES], at: usize) {
+    let mut given = VenueBytes::from_bytes(bytes);
+    let mut report = [0xC3; 20];
+    let number = one_message(&mut given, 9, &[4, 0, 6, 0], &mut report);
+    assert_eq!((number, report), (Number::UNSOUND, [0; 20]), "byte {at}");
+    assert_eq!(*given.as_bytes(), bytes);
+}
+
 #[test]
-fn the_stored_session_of_reserve() {
-    let text = include_str!("../../venue/tests/sessions/shown.txt");
-    let messages = encode_session(text).expect("the stored session is good");
-    let mut report = [0xC3; 4_096];
-    assert_eq!(run(&messages, &mut report), Number::DONE);
-    let mut wanted = [0; 4_096];
-    reference::run(&messages, &mut wanted);
-    assert_eq!(sheet(&report), sheet(&wanted));
+fn the_stored_sessions_of_reserve_ratios_and_limited_sweeps() {
+    for text in [
+        include_str!("../../venue/tests/sessions/shown.txt"),
+        include_str!("../../venue/tests/sessions/units.txt"),
+        include_str!("../../venue/tests/sessions/limited.txt"),
+    ] {
+        let messages = encode_session(text).expect("the stored session is good");
+        let mut report = [0xC3; 4_096];
+        assert_eq!(run(&messages, &mut report), Number::DONE);
+        let mut wanted = [0; 4_096];
+        reference::run(&messages, &mut wanted);
+        assert_eq!(sheet(&report), sheet(&wanted));
+    }
 }
 
 /// Two contracts of series 0 against one of series 1, of which a unit is paired; then an
@@ -348,7 +358,7 @@ fn complex_orders_that_rest_are_told_with_their_ratios() {
     assert_eq!(VenueBytes::fresh().complex_orders().count(), 0);
     let bytes = venue.as_bytes();
     assert_eq!(bytes[3_948..3_952], [2, 1, 1, 1]);
-    assert_eq!(bytes[3_952..], [0; 60]);
+    assert_eq!(bytes[3_952..], [0; 704]);
 }
 
 #[test]
@@ -370,11 +380,7 @@ fn ratios_that_no_order_has_are_unsound() {
         bytes[at] = byte;
         // With ratios 1 and 1 it would be an order of kind 2, but not with this limit.
         bytes[1_792 + 9..1_792 + 13].copy_from_slice(&200_001i32.to_le_bytes());
-        let mut given = VenueBytes::from_bytes(bytes);
-        let mut report = [0xC3; 20];
-        let number = one_message(&mut given, 9, &[4, 0, 6, 0], &mut report);
-        assert_eq!((number, report), (Number::UNSOUND, [0; 20]), "byte {at}");
-        assert_eq!(*given.as_bytes(), bytes);
+        expect_unsound(bytes, at);
     }
 }
 
@@ -392,15 +398,42 @@ fn equal_ratios_are_answered_with_14() {
     assert_eq!(venue, VenueBytes::fresh());
 }
 
+/// Two orders, a limited sweep that generates for the first of them, one that generates for
+/// the second in its places.
+const LIMITED: &str = "complex 1 buy 0 buy 1 class 1 net 205 quantity 8\n\
+    complex 2 buy 0 buy 1 class 1 net 206 quantity 8\norder 3 sell 15 series 0 at 130\n\
+    order 4 sell 12 series 1 at 90\nlimited 1\nlimited 1\n";
+
 #[test]
-fn the_stored_session_of_unequal_ratios() {
-    let text = include_str!("../../venue/tests/sessions/units.txt");
-    let messages = encode_session(text).expect("the stored session is good");
-    let mut report = [0xC3; 4_096];
-    assert_eq!(run(&messages, &mut report), Number::DONE);
-    let mut wanted = [0; 4_096];
-    reference::run(&messages, &mut wanted);
-    assert_eq!(sheet(&report), sheet(&wanted));
+fn generations_and_the_id_reached_are_told() {
+    let venue = venue_after(LIMITED);
+    let [first, second, others @ ..] = venue.generations();
+    assert_eq!((first, second), (vec![5, 6], vec![5, 6]));
+    assert_eq!((others, venue.reached()), (Default::default(), 2));
+    assert_eq!(VenueBytes::fresh().reached(), 0);
+    let bytes = venue.as_bytes();
+    assert_eq!(bytes[4_012 + 18 * 4..4_012 + 80], [5, 0, 0, 0, 6, 0, 0, 0]);
+    assert_eq!(bytes[4_092 + 18 * 4..4_092 + 80], [5, 0, 0, 0, 6, 0, 0, 0]);
+    assert_eq!(bytes[4_172..], [&[0; 480][..], &[2, 0, 0, 0]].concat());
+}
+
+#[test]
+fn generations_that_fall_and_an_id_reached_above_the_last_are_unsound() {
+    let venue = venue_after(LIMITED);
+    // The last 0 and 4, the one before it 7, the first of all, one alone; id 5.
+    for (at, byte) in [
+        (4_088, 0),
+        (4_088, 4),
+        (4_084, 7),
+        (4_012, 1),
+        (4_172, 1),
+        (4_652, 5),
+        (4_655, 1),
+    ] {
+        let mut bytes = *venue.as_bytes();
+        bytes[at] = byte;
+        expect_unsound(bytes, at);
+    }
 }
 
 /// Series 6 by 1 from message 3, the percentage 50 from 5 and 0 from 6.
@@ -448,7 +481,7 @@ fn settings_memory_of_every_length_is_written_whole() {
 #[test]
 fn settings_of_what_is_no_sound_venue_are_zeros() {
     let mut bytes = *dated().as_bytes();
-    bytes[VENUE_BYTES - 1] = 1; // a value in the last edition's free place
+    bytes[VENUE_BYTES - 1] = 1; // an id looked at, above the last
     assert_eq!(settings(&VenueBytes::from_bytes(bytes), 6), None);
     for length in [0, 1, VENUE_BYTES - 1, VENUE_BYTES + 1] {
         let mut told = [0xC3; 12];
@@ -458,15 +491,17 @@ fn settings_of_what_is_no_sound_venue_are_zeros() {
 }
 
 #[test]
-fn number_of_a_message_is_above_every_editions() {
-    let kept = dated();
-    for (before, number) in [(0, 9), (5, 9), (6, 0), (u32::MAX - 1, 0), (u32::MAX, 10)] {
-        let mut venue = kept.clone();
-        let mut report = [0xC3; 20];
-        let told = one_message(&mut venue, before, &[4, 0, 6, 0], &mut report);
-        assert_eq!(told.get(), number, "{before} messages before");
-        assert_eq!(venue, kept);
-        assert_eq!(report == [0; 20], number != 0);
+fn number_of_a_message_is_above_every_editions_and_generations() {
+    // The last of both is of message 6.
+    for kept in [dated(), venue_after(LIMITED)] {
+        for (before, number) in [(0, 9), (5, 9), (6, 0), (u32::MAX - 1, 0), (u32::MAX, 10)] {
+            let mut venue = kept.clone();
+            let mut report = [0xC3; 20];
+            let told = one_message(&mut venue, before, &[4, 0, 6, 0], &mut report);
+            assert_eq!(told.get(), number, "{before} messages before");
+            assert_eq!(venue, kept);
+            assert_eq!(report == [0; 20], number != 0);
+        }
     }
 }
 
@@ -789,7 +824,16 @@ fn in_header(name: &str) -> usize {
 fn hosts_in_c_and_rust_and_scripts_lend_the_same_memory() {
     assert_eq!(in_header("LEGGING_VENUE_BYTES"), VENUE_BYTES);
     assert_eq!(in_header("LEGGING_MOST_BYTES"), MOST_BYTES);
-    assert_eq!(in_header("LEGGING_RATIOS_AT") + 2 * 32, VENUE_BYTES);
+    assert_eq!(
+        in_header("LEGGING_RATIOS_AT") + 2 * 32,
+        in_header("LEGGING_GENERATIONS_AT")
+    );
+    assert_eq!(
+        in_header("LEGGING_GENERATIONS_AT") + 8 * 20 * 4,
+        in_header("LEGGING_REACHED_AT")
+    );
+    assert_eq!(in_header("LEGGING_REACHED_AT") + 4, VENUE_BYTES);
+    assert_eq!((LAYER_BYTES, MOST_BYTES), (19_701, 10_433));
     assert_eq!(sessions::asked::ENOUGH as usize, MOST_BYTES);
     assert_eq!(sessions::held::VENUE_BYTES, VENUE_BYTES);
     assert_eq!(held_layer::LAYER_BYTES, LAYER_BYTES);
