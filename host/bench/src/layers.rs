@@ -1,5 +1,6 @@
 //! One piece of work at a time: a prefix of messages makes the state, then a unit
-//! of a few messages that leave the state as it was is repeated.
+//! of a few messages that leave the state as it was is repeated. Between units that
+//! generate, refused messages keep the series below their ceiling.
 
 use sessions::message::{Leg, Message};
 
@@ -16,11 +17,13 @@ pub enum Layer {
     CrossWithLegging,
     SweepIdle,
     SweepWorking,
+    /// A sweep limited to so many.
+    Limited(u8),
     Settles,
 }
 
 impl Layer {
-    pub const ALL: [Layer; 11] = [
+    pub const ALL: [Layer; 14] = [
         Layer::Rests,
         Layer::TakesTwo,
         Layer::TakesReserve,
@@ -31,6 +34,9 @@ impl Layer {
         Layer::CrossWithLegging,
         Layer::SweepIdle,
         Layer::SweepWorking,
+        Layer::Limited(1),
+        Layer::Limited(8),
+        Layer::Limited(32),
         Layer::Settles,
     ];
 
@@ -47,6 +53,9 @@ impl Layer {
             Layer::CrossWithLegging => "cross-legging",
             Layer::SweepIdle => "sweep-32",
             Layer::SweepWorking => "sweep-32-working",
+            Layer::Limited(1) => "limited-1",
+            Layer::Limited(8) => "limited-8",
+            Layer::Limited(_) => "limited-32",
             Layer::Settles => "settles",
         }
     }
@@ -61,7 +70,26 @@ impl Layer {
             Layer::Rests | Layer::TakesTwo | Layer::TakesReserve | Layer::Hit => true,
             Layer::Generates | Layer::LegsInUnits => false,
             Layer::Cross | Layer::CrossWithLegging => false,
-            Layer::SweepIdle | Layer::SweepWorking | Layer::Settles => false,
+            Layer::SweepIdle | Layer::SweepWorking => false,
+            Layer::Limited(_) | Layer::Settles => false,
+        }
+    }
+
+    /// Whether 32 complex orders rest, eight with a legging order.
+    fn has_complex_book(self) -> bool {
+        match self {
+            Layer::SweepIdle | Layer::SweepWorking => true,
+            Layer::Limited(_) | Layer::Settles => true,
+            _ => false,
+        }
+    }
+
+    /// The most legging orders that a unit generates in a series.
+    fn generates(self) -> usize {
+        match self {
+            Layer::Generates | Layer::Hit | Layer::CrossWithLegging => 1,
+            Layer::SweepWorking => 2,
+            _ => 0,
         }
     }
 
@@ -80,6 +108,9 @@ impl Layer {
             Layer::CrossWithLegging => "the same, its two legging orders removed",
             Layer::SweepIdle => "a sweep of 32, eight legging orders standing, none made",
             Layer::SweepWorking => "two sweeps of 32 that generate, an away price before each",
+            Layer::Limited(1) => "a limited sweep of 1 of the 32, none made",
+            Layer::Limited(8) => "a limited sweep of 8 of the 32, none made",
+            Layer::Limited(_) => "a limited sweep of all 32, none made",
             Layer::Settles => "an away price, eight legging orders tested",
         }
     }
@@ -88,6 +119,8 @@ impl Layer {
 /// A layer upon a book of some regular orders.
 pub struct Case {
     pub prefix: Vec<u8>,
+    /// The prefix and then what is between the units.
+    pub without_units: Vec<u8>,
     /// The prefix and then the units.
     pub list: Vec<u8>,
     pub messages_in_unit: usize,
@@ -98,6 +131,13 @@ const OFFERS: [u32; 2] = [130, 90];
 const BIDS: [u32; 2] = [110, 70];
 const MOST: u32 = 10_000;
 
+/// At most so many legging orders of a series in so many messages.
+const CEILING: usize = 20;
+const CEILING_MESSAGES: usize = 256;
+
+/// A message of no kind.
+const REFUSED: [u8; 4] = [4, 0, 99, 0];
+
 impl Case {
     /// Upon `book` regular orders, an arriving one counted among them.
     pub fn new(layer: Layer, book: usize, units: usize) -> Self {
@@ -106,14 +146,20 @@ impl Case {
         script.quote(layer);
         script.fill(book.saturating_sub(script.resting + usize::from(layer.brings_an_order())));
         script.complex_book(layer);
+        // What the prefix generated is not counted with what the units do.
+        script.refused(CEILING_MESSAGES);
         let prefix = script.bytes.clone();
         let before = script.messages;
         script.unit(layer);
         let messages_in_unit = script.messages - before;
+        let between = (layer.generates() * CEILING_MESSAGES).div_ceil(CEILING);
+        let between = between.saturating_sub(messages_in_unit);
         for _ in 1..units {
+            script.refused(between);
             script.unit(layer);
         }
         Case {
+            without_units: [&prefix[..], &REFUSED.repeat(between * (units - 1))].concat(),
             prefix,
             list: script.bytes,
             messages_in_unit,
@@ -134,6 +180,12 @@ impl Script {
     fn send(&mut self, message: Message) {
         self.bytes.extend(message.encode());
         self.messages += 1;
+    }
+
+    /// Messages that do nothing but count.
+    fn refused(&mut self, count: usize) {
+        self.bytes.extend(REFUSED.repeat(count));
+        self.messages += count;
     }
 
     fn order(&mut self, series: u8, side: u8, price: u32, quantity: u32) {
@@ -228,7 +280,7 @@ impl Script {
                 self.rest(0, 0, BIDS[0], MOST);
                 self.rest(1, 0, BIDS[1], MOST);
             }
-            Layer::SweepIdle | Layer::SweepWorking | Layer::Settles => {
+            Layer::SweepIdle | Layer::SweepWorking | Layer::Limited(_) | Layer::Settles => {
                 (0..8).for_each(|series| self.rest(series, 1, OFFERS[0], MOST));
             }
         }
@@ -258,8 +310,7 @@ impl Script {
     /// 32 complex orders over all pairs of series next to each other; the first
     /// eight get the legging places.
     fn complex_book(&mut self, layer: Layer) {
-        let sweeps = [Layer::SweepIdle, Layer::SweepWorking, Layer::Settles];
-        if !sweeps.contains(&layer) {
+        if !layer.has_complex_book() {
             return;
         }
         for index in 0..32u8 {
@@ -307,6 +358,7 @@ impl Script {
                     self.send(Message::Sweep);
                 }
             }
+            Layer::Limited(most) => self.send(Message::LimitedSweep { most }),
             Layer::Settles => self.away_offer(0, 50_000),
         }
     }
@@ -320,7 +372,12 @@ mod tests {
 
     /// The kinds of the records of the last unit.
     fn kinds(layer: Layer, book: usize) -> Vec<u16> {
-        let case = Case::new(layer, book, 3);
+        kinds_of_last(layer, book, 3)
+    }
+
+    /// The same of the last of so many.
+    fn kinds_of_last(layer: Layer, book: usize, units: usize) -> Vec<u16> {
+        let case = Case::new(layer, book, units);
         let mut track = Track::new();
         track.list(case.list).expect("both agree");
         let records = read_report(track.memory()).expect("whole records");
@@ -360,11 +417,22 @@ mod tests {
             assert_eq!(kinds(Layer::CrossWithLegging, book), crossed);
             assert_eq!(kinds(Layer::SweepIdle, book), [64]);
             assert_eq!(kinds(Layer::Settles, book), [64]);
+            for most in [1, 8, 32] {
+                assert_eq!(kinds(Layer::Limited(most), book), [64, 72]);
+            }
             let working = kinds(Layer::SweepWorking, book);
             assert!(
                 working.contains(&67) && working.contains(&68),
                 "{working:?}"
             );
+        }
+    }
+
+    #[test]
+    fn no_unit_is_at_the_ceiling() {
+        for layer in Layer::ALL {
+            let last = kinds_of_last(layer, 32, 400);
+            assert_eq!(last, kinds(layer, 32), "{}", layer.name());
         }
     }
 

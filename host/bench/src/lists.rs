@@ -8,7 +8,7 @@ use sessions::soak::{drawn, session_length};
 use sessions::view::{held_complex, held_regular};
 
 /// The last kind of message that there is.
-pub const LAST_KIND: u16 = 10;
+pub const LAST_KIND: u16 = 11;
 
 /// The messages of the generator's own session, of kinds up to `kinds`.
 pub fn session(profile: Profile, seed: u64, kinds: u16) -> Vec<Vec<u8>> {
@@ -39,7 +39,8 @@ fn closed(pieces: Vec<Vec<u8>>) -> Option<Closed> {
     Some(Closed(messages.chain(taken_back(&left.venue)).collect()))
 }
 
-/// Cancels every order, takes back the away prices and closes the series.
+/// Cancels every order, takes back the away prices and closes the series; then refused
+/// messages, after which no ceiling has to do with what was generated.
 fn taken_back(venue: &Venue) -> Vec<Message> {
     let complex = held_complex(venue).map(|order| order.id);
     let regular = held_regular(venue).map(|order| order.id);
@@ -51,7 +52,8 @@ fn taken_back(venue: &Venue) -> Vec<Message> {
             Message::Status { series, status },
         ]
     });
-    cancels.chain(series).collect()
+    let refused = std::iter::repeat_n(Message::Raw(vec![4, 0, 99, 0]), 256);
+    cancels.chain(series).chain(refused).collect()
 }
 
 /// One list of closed sessions, the ids of each above those before.

@@ -35,7 +35,7 @@ reference / engine of the least: above 1 the engine is faster.
   growing    the same mixed sessions (default 2500) in lists of 1, 10, 100 and all
   books      an order that rests and its cancel, on books from 1 to 128 orders
   layers     one piece of work at a time on books of 8, 32 and 128 orders: the run of
-             a prefix and 1,000 units, less the run of the prefix, by 1,000
+             a prefix and 1,000 units, less the run without the units, by 1,000
   feeds      the sessions of `profiles` over two whole lines, each one feed, beside the
              engine's own run of the list
   calls      each message of the generator's sessions as a one-message call upon the
@@ -45,8 +45,8 @@ reference / engine of the least: above 1 the engine is faster.
   turns      the messages of `calls` that can wait, each as an arrival and as a turn upon
              four copies of its venue behind one line, beside the engine's own call
 
---only keeps the profiles and layers of that name. With --kinds 9 sessions have none of
-the kinds above 9: they are those drawn before these came, for an engine of that time.
+--only keeps the profiles and layers of that name. With --kinds 10 sessions have none of
+the kinds above 10: they are those drawn before these came, for an engine of that time.
 --quick is 5 rounds, 10 seeds and 200 sessions. Times are processor times of the thread. Both contenders run in turn,
 each first in every other round, upon report memory with 16,384 bytes more than the
 records; before anything is timed, their reports must be equal.

@@ -134,13 +134,13 @@ pub fn growing(options: &Options) -> Table {
 /// Units of a layer's list.
 pub const UNITS: usize = 1_000;
 
-/// The times for one unit of each case: the list's time less the least of its
-/// prefix, by its units.
+/// The times for one unit of each case: the list's time less the least without its
+/// units, by these.
 fn unit_times(cases: Vec<Case>, rounds: usize) -> Result<Vec<Both<Times>>, String> {
     let mut track = Track::new();
     let mut groups = Vec::new();
     for case in cases {
-        groups.push(vec![track.list(case.prefix)?]);
+        groups.push(vec![track.list(case.without_units)?]);
         groups.push(vec![track.list(case.list)?]);
     }
     let times = track.race_groups(&groups, rounds);

@@ -19,15 +19,15 @@ fn bench(arguments: &[&str]) -> (bool, String, String) {
 fn every_table_has_its_rows() {
     let sizes = ["--rounds", "1", "--seeds", "1", "--sessions", "2"];
     for (table, rows) in [
-        ("profiles", 16),
-        ("blocks", 16),
+        ("profiles", 17),
+        ("blocks", 17),
         ("growing", 4),
         ("books", 8),
-        ("layers", 33),
-        ("feeds", 16),
-        ("calls", 16),
-        ("call-layers", 33),
-        ("turns", 16),
+        ("layers", 42),
+        ("feeds", 17),
+        ("calls", 17),
+        ("call-layers", 42),
+        ("turns", 17),
     ] {
         let (succeeded, told, error) = bench(&[&[table], &sizes[..]].concat());
         assert!(succeeded, "{error}");
@@ -39,9 +39,12 @@ fn every_table_has_its_rows() {
 
 #[test]
 fn sessions_may_be_those_of_an_earlier_engine() {
-    let sizes = ["--rounds", "1", "--seeds", "1", "--only", "ratios"];
-    let (succeeded, told, error) = bench(&[&["profiles", "--kinds", "9"], &sizes[..]].concat());
-    assert!(succeeded && told.contains("| ratios |"), "{error}");
+    let sizes = ["--rounds", "1", "--seeds", "1", "--only", "ceiling"];
+    for kinds in ["9", "10"] {
+        let profiles = ["profiles", "--kinds", kinds];
+        let (succeeded, told, error) = bench(&[&profiles, &sizes[..]].concat());
+        assert!(succeeded && told.contains("| ceiling |"), "{error}");
+    }
 }
 
 #[test]

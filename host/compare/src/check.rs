@@ -23,6 +23,7 @@ pub enum Check {
     CallEditions,
     CallReserve,
     CallRatios,
+    CallGenerations,
     Settings,
     LayerFresh,
     Arrive,
@@ -35,7 +36,7 @@ pub enum Check {
 }
 
 impl Check {
-    pub const ALL: [Check; 29] = [
+    pub const ALL: [Check; 30] = [
         Check::RunWhole,
         Check::RunShort,
         Check::RunEveryLength,
@@ -56,6 +57,7 @@ impl Check {
         Check::CallEditions,
         Check::CallReserve,
         Check::CallRatios,
+        Check::CallGenerations,
         Check::Settings,
         Check::LayerFresh,
         Check::Arrive,
@@ -89,6 +91,7 @@ impl Check {
             Check::CallEditions => "call-editions",
             Check::CallReserve => "call-reserve",
             Check::CallRatios => "call-ratios",
+            Check::CallGenerations => "call-generations",
             Check::Settings => "settings",
             Check::LayerFresh => "layer-fresh",
             Check::Arrive => "arrive",
@@ -129,6 +132,9 @@ impl Check {
             }
             Check::CallRatios => {
                 "a one-message call upon complex orders of broken ratios, or of others"
+            }
+            Check::CallGenerations => {
+                "a one-message call upon a broken row of generations, or about a ceiling's end"
             }
             Check::Settings => "the settings of a venue at a message number",
             Check::LayerFresh => "a fresh layer, in layer memory of any length",

@@ -26,10 +26,11 @@ the last one left, with calls beside them upon short memory, the last message nu
 torn bytes, changed venues and venue memory of other lengths, upon rows of editions
 broken in every way, with numbers about the last edition's, upon orders that show
 otherwise in every way or another part of them, upon complex orders of ratios broken in
-every way or of others, a legging order of unequal ratios among them; and the settings
-about each edition. The engine's records of each message are replayed upon the venue
-before it: no trade or cross passes a better price over, and they lead to the venue that
-the engine left. Four sessions arrive at four venues behind one line and are done by
+every way or of others, a legging order of unequal ratios among them, upon rows of
+generations broken in every way and where a ceiling ends; and the settings about each
+edition. The engine's records of each message are replayed upon the venue before it: no
+trade or cross passes a better price over, and they lead to the venue that the engine
+left. Four sessions arrive at four venues behind one line and are done by
 turns, with calls beside them upon short memory, changed layers and layer memory of
 other lengths. Compared are the number, every byte of the report or settings memory
 (lent full of junk), of the venue, the layer and the lines, and the bytes around them.

@@ -3,8 +3,8 @@
 use crate::calls::{Comparer, Expected};
 use crate::check::Check;
 use crate::layers::compare_layer;
-use sessions::broken::{broken_orders, broken_ratios, broken_rows};
-use sessions::broken::{with_editions, with_ratios, with_reserve};
+use sessions::broken::{broken_generations, broken_orders, broken_ratios, broken_rows};
+use sessions::broken::{with_editions, with_generations, with_ratios, with_reserve};
 use sessions::corrupt::corrupt;
 use sessions::feed_generator::draw_feed;
 use sessions::generator::Generator;
@@ -22,6 +22,9 @@ const ROOM: usize = 16_384;
 const SETTINGS_BYTES: usize = 9;
 
 const SWEEP: [u8; 4] = [4, 0, 6, 0];
+
+/// Before the last message number: above all that is kept.
+const LATE: u32 = u32::MAX - 1;
 
 /// A difference, with what repeats it.
 #[derive(Clone, Debug)]
@@ -297,7 +300,7 @@ impl Session<'_, '_> {
 
     /// Calls that leave the session as it is.
     fn beside(&mut self, venue: &[u8], before: u32, message: &[u8]) -> Checked {
-        match self.random().below(9) {
+        match self.random().below(10) {
             0 => self.short_calls(venue, before, message),
             1 => self.last_numbers(venue, message),
             2 => self.odd_bytes(venue, before, message),
@@ -306,6 +309,7 @@ impl Session<'_, '_> {
             5 => self.settings_about(venue, before),
             6 => self.reserve(venue, before, message),
             7 => self.ratios(venue, before, message),
+            8 => self.generations(venue, before, message),
             _ => self.changed_venues(venue, before, message),
         }
     }
@@ -356,7 +360,6 @@ impl Session<'_, '_> {
 
     /// Every kind of broken row of editions, and numbers about that of the last one.
     fn editions(&mut self, venue: &[u8], message: &[u8]) -> Checked {
-        const LATE: u32 = u32::MAX - 1;
         let Ok(held) = <&[u8; VENUE_BYTES]>::try_from(venue) else {
             return Ok(());
         };
@@ -424,6 +427,31 @@ impl Session<'_, '_> {
             let done = self.call(Check::CallRatios, &venue, before, message, ROOM)?;
             let next = before.saturating_add(done.done);
             self.call(Check::CallRatios, &done.venue, next, &SWEEP, ROOM)?;
+        }
+        Ok(())
+    }
+
+    /// Every kind of broken row of generations; numbers about that of the last one; and
+    /// the message, a sweep and a limited one where a ceiling holds and has ended.
+    fn generations(&mut self, venue: &[u8], before: u32, message: &[u8]) -> Checked {
+        let Ok(held) = <&[u8; VENUE_BYTES]>::try_from(venue) else {
+            return Ok(());
+        };
+        let held = from_bytes(held);
+        let at = self.random().below(8 * 17) as usize;
+        for (name, broken) in broken_generations(&held, at) {
+            let broken = to_bytes(&broken);
+            self.call(Check::CallGenerations, &broken, LATE, message, ROOM)
+                .map_err(|(check, what)| (check, format!("{name}: {what}")))?;
+        }
+        let last = before + 300;
+        let busy = to_bytes(&with_generations(&held, at, last));
+        let limited = [5, 0, 11, 0, 1 + at as u8 % 32];
+        let at_ceiling = last + 245..=last + 255;
+        for before in (last - 3..=last + 1).chain(at_ceiling).chain([u32::MAX]) {
+            for message in [message, &SWEEP, &limited] {
+                self.call(Check::CallGenerations, &busy, before, message, ROOM)?;
+            }
         }
         Ok(())
     }
