@@ -9,7 +9,7 @@ changed, a conjunct or a step dropped, two steps or two arguments exchanged. Def
 order drawn by the seed, one edit of each in a round. With --skip the list and the first M draws are left out, for a
 run in parts. Each edit is made in a copy of the crate `rules` that has its types, its definitions and its trials
 alone: no law and no function. There `trials-hold` must fail, over one part of the trials (the cheap lists first, then
-list by list), or `seasons-hold` or `units-hold`: that is a failure of the whole. An edit that passes all parts is
+list by list), or the statement of a request's trials: that is a failure of the whole. An edit that passes all parts is
 checked against the whole from nothing. One that does not compile is not counted, and another is drawn.
 Left out: Trials itself, Opened (a list of names), Lengths (bounds of what is written, for the proofs alone), and
 what only states a type. So are edits that tell nothing: the order of a table's rows (`if eqb k 1 .. else if eqb k 2
@@ -371,7 +371,7 @@ class Copy:
         if done.returncode == 0 and any(l.startswith("logic=proved") for l in said):
             return "survives", ""
         errors = [line[line.find("specs/"):] for line in said if ": error" in line]
-        if errors and all(re.search(r"Trials\.antt:\d+:\d+: error: `(?:trials|seasons|units)-[\w-]+`: expected type", e) for e in errors):
+        if errors and all(re.search(r"Trials\.antt:\d+:\d+: error: `(?:trials|reserves|units|seasons|traffic)-[\w-]+`: expected type", e) for e in errors):
             return "refused", errors[0]
         if errors and all("Trials.antt" in e and "steps" in e for e in errors):
             return "refused", errors[0]
