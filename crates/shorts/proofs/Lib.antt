@@ -1,0 +1,4 @@
+pub mod Listing
+pub mod Following
+pub mod Ending
+pub mod Holding
