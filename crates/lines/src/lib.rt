@@ -84,7 +84,7 @@ fn put_words(out: &mut [u8], at: usize, fields: &[u32]) -> usize
 // A record's line -----------------------------------------------------------------------------
 
 // A line of a record that has no negative number.
-fn put_fields(out: &mut [u8], at: usize, kind: u32, fields: &[u32]) -> usize
+pub fn put_fields(out: &mut [u8], at: usize, kind: u32, fields: &[u32]) -> usize
     ensures { λ r. ⌜ seen (now (out .exit)) r ≡ seen (now (out .entry)) at types line kind (now (fields .entry)) ⌝ }
 {
     let mut pos = put_number(out, at, kind);

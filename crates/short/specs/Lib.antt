@@ -1,0 +1,2 @@
+-- The fixed list, the sessions from it, and what is printed.
+pub mod Short
