@@ -33,6 +33,7 @@ pub mod replay;
 pub mod scripts;
 pub mod settings;
 pub mod sheet;
+pub mod short;
 pub mod soak;
 pub mod sound;
 pub mod takings;

@@ -2,6 +2,7 @@
 
 use crate::arguments::Arguments;
 use crate::help;
+use crate::short::print_list;
 use crate::Failure;
 use sessions::asked::parse_script;
 use sessions::audit::audit;
@@ -14,6 +15,7 @@ use sessions::profile::Profile;
 use sessions::record::{parse_sheet, print_sheet, read_report};
 use sessions::settings::InForce;
 use sessions::sheet::{feed_whole, run_whole, sheet_of, MOST_INPUT};
+use sessions::short::FIXED;
 use sessions::soak::{check_session, generate};
 use sessions::text::{decode_line, decode_session, encode_line, encode_session, LineError};
 use std::io::Read;
@@ -33,6 +35,7 @@ pub fn perform(arguments: Vec<String>) -> Output {
         "print" => print(rest),
         "feed" => feed(rest),
         "four" => four(rest),
+        "short" => short(rest),
         "audit" => audit_sheet(rest),
         "explain" => explain_session(rest),
         "settings" => settings(rest),
@@ -182,6 +185,16 @@ fn four(rest: &[String]) -> Output {
         }
     }
     Ok(output.into_bytes())
+}
+
+/// Every short session from a list, which is the fixed one where none is named.
+fn short(rest: &[String]) -> Output {
+    let arguments = Arguments::parse(rest, &[], &[], 1)?;
+    let Some(file) = arguments.word(0) else {
+        return print_list(FIXED);
+    };
+    let input = read(Some(file))?;
+    print_list(as_text(&input).map_err(Failure::Input)?)
 }
 
 fn print(rest: &[String]) -> Output {

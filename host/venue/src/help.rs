@@ -11,6 +11,7 @@ venue: session tools for the legging order engine
   venue print [FILE]                    report bytes to sheet lines
   venue feed [--text] MAIN SPARE        print the sheet of two lines of one feed
   venue four [SCRIPT]                   print the sheets of four venues behind one line
+  venue short [LIST]                    every session of 0 to 3 messages from a list
   venue audit [--text] SESSION [SHEET]  sums of every complex order, and whether a better
                                         price was passed over
   venue explain [--text] [FILE]         what happened, message by message
@@ -198,6 +199,7 @@ pub fn of(command: &str) -> Option<String> {
         "print" => PRINT.to_string(),
         "feed" => FEED.to_string(),
         "four" => four(),
+        "short" => crate::short::HELP.to_string(),
         "audit" => AUDIT.to_string(),
         "explain" => EXPLAIN.to_string(),
         "settings" => SETTINGS.to_string(),

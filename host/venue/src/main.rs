@@ -5,6 +5,7 @@
 mod arguments;
 mod commands;
 mod help;
+mod short;
 
 use std::io::{ErrorKind, Write};
 use std::process::ExitCode;

@@ -166,8 +166,8 @@ fn missing_file_is_told_by_name() {
 fn help_names_every_command() {
     let text = String::from_utf8(good(&["help"], b"")).unwrap();
     for command in [
-        "sheet", "encode", "decode", "print", "feed", "four", "audit", "explain", "settings",
-        "generate", "check",
+        "sheet", "encode", "decode", "print", "feed", "four", "short", "audit", "explain",
+        "settings", "generate", "check",
     ] {
         assert!(text.contains(&format!("venue {command}")), "{command}");
         let more = String::from_utf8(good(&["help", command], b"")).unwrap();
