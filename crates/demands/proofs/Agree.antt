@@ -49,21 +49,21 @@ stops n room b number v p d w c e [] h = record { done = omega arith; venue = w;
 stops n room b number v p d w c e (r ∷ rs) h = absurd (omega arith)
 
 module _ (v : Venue) (n room : ℕ) (bs : List ℕ) (s : SoundAt (suc n) v) (x : ℕ) (b : List ℕ) where
-  abbrev reports : List Report
+  abbrev pub reports : List Report
   reports = step v (suc n) bs .effect .reports
 
-  abbrev size : ℕ
+  abbrev pub size : ℕ
   size = length (encodeAll reports)
 
   -- the message is done: its number and its records fit
-  abbrev Done : Type 0
+  abbrev pub Done : Type 0
   Done = (suc n < 4294967296) × (size ≤ room)
 
-  abbrev here : Progress
+  abbrev pub here : Progress
   here = record { number = x; done = n; venue = v; bytes = b; left = bs }
 
   -- after one call more
-  abbrev there : Progress
+  abbrev pub there : Progress
   there = record {
     number = step v (suc n) bs .refused;
     done = suc n;
@@ -77,7 +77,7 @@ module _ (v : Venue) (n room : ℕ) (bs : List ℕ) (s : SoundAt (suc n) v) (x :
   unfolding onward called after ends
   called-on r y f = rw (wrote-is r (after f (ends y (f .venue))), append-nil (f .reports), add-one n)
 
-  moved : (r : ℕ) → most ≤ r → Done → onward here (one v n r bs) ≡ there
+  pub moved : (r : ℕ) → most ≤ r → Done → onward here (one v n r bs) ≡ there
   unfolding one
   moved r enough e =
       let w = writes-at-most v (s .venue) (suc n) bs in
@@ -130,7 +130,7 @@ module _ (v : Venue) (n room : ℕ) (bs : List ℕ) (s : SoundAt (suc n) v) (x :
   done-follows d o rest (r ∷ rs) enough h = joins v n room bs s x b r (enough .0) d o rs (rest rs (enough .1) (omega arith))
 
 -- what is left is shorter
-shorter : (fuel : ℕ) (bs : List ℕ) → length bs ≤ suc fuel → torn bs ≡ false → length (drop (lengthField bs) bs) ≤ fuel
+pub shorter : (fuel : ℕ) (bs : List ℕ) → length bs ≤ suc fuel → torn bs ≡ false → length (drop (lengthField bs) bs) ≤ fuel
 shorter fuel bs le t = let w = whole bs t in rw (length-drop (lengthField bs) bs) (omega arith)
 
 followed : (fuel : ℕ) → Followed fuel

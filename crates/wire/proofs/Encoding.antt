@@ -41,11 +41,11 @@ unfolding plus minus
 limit-fits (pos n) h k = omega arith
 limit-fits (negsuc n) h k = omega arith
 
-id-fits : (x : ℕ) → isId x ≡ true → FourBytes x
+pub id-fits : (x : ℕ) → isId x ≡ true → FourBytes x
 unfolding isId
 id-fits x h = let k = at-most 1 4294967295 x h in omega arith
 
-series-fits : (x : ℕ) → isSeries x ≡ true → OneByte x
+pub series-fits : (x : ℕ) → isSeries x ≡ true → OneByte x
 unfolding isSeries
 series-fits x h = let k = at-most 0 7 x h in omega arith
 
@@ -57,31 +57,31 @@ class-fits : (x : ℕ) → isClass x ≡ true → OneByte x
 unfolding isClass
 class-fits x h = let k = at-most 0 1 x h in omega arith
 
-status-fits : (x : ℕ) → isStatus x ≡ true → OneByte x
+pub status-fits : (x : ℕ) → isStatus x ≡ true → OneByte x
 unfolding isStatus
 status-fits x h = let k = at-most 0 2 x h in omega arith
 
-quantity-fits : (x : ℕ) → isQuantity x ≡ true → FourBytes x
+pub quantity-fits : (x : ℕ) → isQuantity x ≡ true → FourBytes x
 unfolding isQuantity
 quantity-fits x h = let k = at-most 1 10000 x h in omega arith
 
-away-fits : (x : ℕ) → isAway x ≡ true → FourBytes x
+pub away-fits : (x : ℕ) → isAway x ≡ true → FourBytes x
 unfolding isAway
 away-fits x h = let k = at-most 0 100000 x h in omega arith
 
-price-fits : (x : ℕ) → isPrice x ≡ true → FourBytes x
+pub price-fits : (x : ℕ) → isPrice x ≡ true → FourBytes x
 unfolding isPrice
 price-fits x h = let k = at-most 1 100000 x h in omega arith
 
 -- a shown quantity is at most the quantity
-display-fits : (o : Regular) → regularInRange o ≡ true → FourBytes (o .display)
+pub display-fits : (o : Regular) → regularInRange o ≡ true → FourBytes (o .display)
 unfolding regularInRange isQuantity
 display-fits o h =
     let q = at-most 1 10000 (o .quantity) (search (and-l, and-r, h) depth 10) in
     let x = at-most 1 (o .quantity) (o .display) (search (and-l, and-r, h) depth 10) in
     omega arith
 
-increment-fits : (x : ℕ) → isIncrement x ≡ true → OneByte x
+pub increment-fits : (x : ℕ) → isIncrement x ≡ true → OneByte x
 unfolding isIncrement
 increment-fits x h = go (eqb x 1) refl (eqb x 5) refl
   where
@@ -90,11 +90,11 @@ increment-fits x h = go (eqb x 1) refl (eqb x 5) refl
     go false e true f = let k = eqb-true x 5 f in omega arith
     go false e false f = let k = eqb-true x 10 (rw (e, f) at h) in omega arith
 
-percent-fits : (x : ℕ) → isPercent x ≡ true → OneByte x
+pub percent-fits : (x : ℕ) → isPercent x ≡ true → OneByte x
 unfolding isPercent
 percent-fits x h = let k = at-most 0 50 x h in omega arith
 
-edition-fits : (x : ℕ) → isEdition x ≡ true → FourBytes x
+pub edition-fits : (x : ℕ) → isEdition x ≡ true → FourBytes x
 unfolding isEdition
 edition-fits x h = let k = at-most 0 4294967295 x h in omega arith
 
@@ -116,7 +116,7 @@ fields-back o h a b c d rest x =
     )
 
 -- of one that shows what it should
-order-back : (o : Regular) → regularInRange o ≡ true → showsFully o ≡ true → (a b c d : ℕ) (rest : List ℕ) (x : ℕ) → x ≡ o .display →
+pub order-back : (o : Regular) → regularInRange o ≡ true → showsFully o ≡ true → (a b c d : ℕ) (rest : List ℕ) (x : ℕ) → x ≡ o .display →
     orderAt x (a ∷ b ∷ c ∷ d ∷ (orderFields o ++ rest)) ≡ o
 unfolding showsFully
 order-back o h f a b c d rest x e =
@@ -125,7 +125,7 @@ order-back o h f a b c d rest x e =
 -- A complex order's bytes ----------------------------------------------------------------------
 
 -- its fields, after a length and a kind, are read back, with its ratios
-two-leg-back : (o : Complex) → complexInRange o ≡ true → (a b c d : ℕ) (rest : List ℕ) (r s : ℕ) → r ≡ o .ratio1 → s ≡ o .ratio2 →
+pub two-leg-back : (o : Complex) → complexInRange o ≡ true → (a b c d : ℕ) (rest : List ℕ) (r s : ℕ) → r ≡ o .ratio1 → s ≡ o .ratio2 →
     twoLegAt (a ∷ b ∷ c ∷ d ∷ (twoLegFields o ++ rest)) r s ≡ o
 unfolding twoLegAt twoLegFields bytes u8At u16At u32At complexInRange twoLegInRange
 two-leg-back o h a b c d rest r s e q =
@@ -152,10 +152,10 @@ two-leg-back o h a b c d rest r s e q =
     )
 
 -- a ratio is one byte
-first-fits : (c : Complex) → complexInRange c ≡ true → OneByte (c .ratio1)
+pub first-fits : (c : Complex) → complexInRange c ≡ true → OneByte (c .ratio1)
 first-fits c h = let r = complex-fits c h .ratio1 in omega arith
 
-second-fits : (c : Complex) → complexInRange c ≡ true → OneByte (c .ratio2)
+pub second-fits : (c : Complex) → complexInRange c ≡ true → OneByte (c .ratio2)
 second-fits c h = let r = complex-fits c h .ratio2 in omega arith
 
 -- A message's bytes ---------------------------------------------------------------------------

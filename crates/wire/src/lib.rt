@@ -341,7 +341,7 @@ fn reserve_of(quantity: u32, display: u32) -> u32
 }
 
 // The order at the front of `s`, which shows `display` of its quantity.
-fn order_at(s: &[u8], display: u32) -> Regular
+pub fn order_at(s: &[u8], display: u32) -> Regular
     requires { ⌜ 18 ≤ length (now s) ⌝ }
     ensures { λ r. ⌜ r ≡ orderAt display (now (s .entry)) ⌝ }
 {
@@ -358,7 +358,7 @@ fn order_at(s: &[u8], display: u32) -> Regular
 }
 
 // The complex order at the front of `s`, of these ratios.
-fn two_leg_at(s: &[u8], ratio1: u8, ratio2: u8) -> Complex
+pub fn two_leg_at(s: &[u8], ratio1: u8, ratio2: u8) -> Complex
     requires { ⌜ 21 ≤ length (now s) ⌝ }
     ensures { λ r. ⌜ r ≡ twoLegAt (now (s .entry)) ratio1 ratio2 ⌝ }
 {
