@@ -77,7 +77,7 @@ fn lane_sound(lane: &[u8], v: usize, but: usize) -> bool
     let venue = state::venue_from(&lane[..end]);
     let before = wire::u32_at(lane, DONE);
     let mut b = [0u32; NUMBERS];
-    engine::load_ready(&mut b, venue, before)
+    soundness::load_ready(&mut b, venue, before)
 }
 
 // No figure of the layer is out of range, and no venue but one gets 9; with 4, none.

@@ -1,6 +1,5 @@
 pub mod Proceeding
 pub mod Running
-pub mod Following
 pub mod Calling
 pub mod Hosting
 pub mod Telling

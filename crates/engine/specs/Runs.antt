@@ -1,6 +1,5 @@
 -- Where a call stands that goes on in turns, and what a turn of a run and the call leave.
 use mathlib.Core.Path.{_≡_}
-use mathlib.Core.Bool.{Bool, true, _&&_}
 use mathlib.Core.List.{List, _++_}
 use Prim.Native.Nat.{ℕ, suc, _+_, _-_, _≤_, _<_}
 use lib.Dec.{eqb}
@@ -9,10 +8,9 @@ use Rattle.rules.specs.declared.Venue.{Venue}
 use Rattle.rules.specs.Base.{if_then_else_}
 use Rattle.rules.specs.Records.{Report, encodeAll}
 use Rattle.rules.specs.declared.Returned.{Returned}
-use Rattle.rules.specs.Sound.{sound, follows}
 use Rattle.rules.specs.Calls.{Outcome, Call, ends, runFrom}
 use Rattle.demands.specs.Kept.{SoundAt}
-use Rattle.places.specs.Layout.{venueOf, Dense, Loaded}
+use Rattle.places.specs.Layout.{venueOf, Dense}
 use Rattle.engine.specs.declared.Turn.{Turn}
 
 -- an outcome after k messages and their records
@@ -40,11 +38,6 @@ pub record Turns (m : List ℕ) (t : Turn) (b₀ l₀ : List ℕ) (r : Turn) (b 
   pub moved : r .number ≡ 0 → (t .at < r .at) × (r .at ≤ length m) × (r .done ≡ suc (t .done))
   pub dense : Dense b
   pub sound : SoundAt (suc (r .done)) (venueOf b)
-
--- r tells whether v is sound and the number after n above every edition's and generation's kept; where so, b stands for v
-pub record Ready (v : Venue) (n : ℕ) (r : Bool) (b : List ℕ) : Type 0 where
-  pub answer : r ≡ (sound v && follows (suc n) v)
-  pub loaded : r ≡ true → Loaded v b
 
 -- what a call returned and the report memory that it left
 abbrev pub callOf : Returned → List ℕ → Call

@@ -16,7 +16,7 @@ ghost use Rattle.wire.specs.Seen.{pasted};
 ghost use Rattle.places.specs.Layout.{size, venueOf, Dense};
 ghost use Rattle.feed.specs.Cursors.{ready};
 ghost use Rattle.feed.specs.Feed as feeding;
-ghost use Rattle.engine.specs.Runs.{Turns, Ready, callOf};
+ghost use Rattle.engine.specs.Runs.{Turns, callOf};
 ghost use Rattle.engine.specs.Hosts.{begun, freshHosted, hosted, oneHosted, settingsBytes, told, settingsHosted};
 ghost use Rattle.engine.specs.Feeds.{stopsAt, Feeds};
 
@@ -99,21 +99,6 @@ pub fn run(messages: &[u8], report: &mut [u8]) -> Returned
 
 // One message upon a venue -----------------------------------------------------------------------
 
-// Whether a venue is sound and the number of its next message, one more than `before`, above every edition's and generation's kept; one for which this
-// holds stands in the slice afterwards. Nothing kept has a number above the last that there is.
-pub fn load_ready(b: &mut [u32], venue: Venue, before: u32) -> bool
-    requires { ⌜ length (now b) ≡ size ⌝ }
-    ensures { λ r. ⌜ Ready venue before r (now (b .exit)) ⌝ }
-{
-    if !soundness::load_sound(b, venue) {
-        return false;
-    }
-    if before == 4294967295 {
-        return true;
-    }
-    soundness::follows_kept(b, before + 1)
-}
-
 // A call that ends before its message: the venue as it was given, and a report of zeros.
 fn end_call(number: u8, venue: Venue, report: &mut [u8]) -> Returned
     ensures { λ r. ⌜ callOf r (now (report .exit)) ≡ called (length (now (report .entry))) (ends number venue) ⌝ }
@@ -132,11 +117,14 @@ pub fn one_message(venue: Venue, before: u32, message: &[u8], report: &mut [u8])
     ensures { λ r. ⌜ callOf r (now (report .exit)) ≡ calls.one venue before (length (now (report .entry))) (now (message .entry)) ⌝ }
 {
     let mut b = [0u32; places::SIZE];
-    if !load_ready(&mut b, venue, before) {
+    if !soundness::load_sound(&mut b, venue) {
         return end_call(9, venue, report);
     }
     if before == 4294967295 {
         return end_call(10, venue, report);
+    }
+    if !soundness::follows_kept(&b, before + 1) {
+        return end_call(9, venue, report);
     }
     let r = messages::step(&mut b, before + 1, message, report);
     let written = r.written;

@@ -1,3 +1,4 @@
 pub mod Passes
 pub mod Beside
 pub mod Whole
+pub mod Following

@@ -2,7 +2,7 @@
 use mathlib.Core.Path.{_≡_}
 use mathlib.Core.Bool.{Bool, true, not, _&&_, _||_}
 use mathlib.Core.List.{List, [], _∷_}
-use Prim.Native.Nat.{ℕ}
+use Prim.Native.Nat.{ℕ, suc}
 use lib.Dec.{leb}
 use Rattle.rules.specs.declared.Regular.{Regular}
 use Rattle.rules.specs.declared.Complex.{Complex}
@@ -16,7 +16,7 @@ use Rattle.rules.specs.Standing.{hasLeg, parentOf}
 use Rattle.rules.specs.Places.{holdsRegular, holdsComplex, holdsEdition, blankRegular, blankComplex, blankEdition, arranged}
 use Rattle.rules.specs.Refusals.{regularInRange, onIncrement, complexInRange}
 use Rattle.rules.specs.Complex.{restsComplex}
-use Rattle.rules.specs.Sound.{apart, listedInRange, leggingsSound, showsFully, complexesSound, idsDistinct, editionInRange, editionsSound, unfallen, generationsSound, sound}
+use Rattle.rules.specs.Sound.{apart, listedInRange, leggingsSound, showsFully, complexesSound, idsDistinct, editionInRange, editionsSound, unfallen, generationsSound, follows, sound}
 use Rattle.places.specs.Layout.{Loaded}
 
 -- in range, showing what it should, with an id of at most `last`
@@ -85,4 +85,9 @@ ordersSound v = leb (v .last) 4294967295 && onIncrements v && idsDistinct v && a
 -- r tells whether v is sound; where it is, b stands for it
 pub record Checked (v : Venue) (r : Bool) (b : List ℕ) : Type 0 where
   pub answer : r ≡ sound v
+  pub loaded : r ≡ true → Loaded v b
+
+-- r tells whether v is sound and the number after n above every edition's and generation's kept; where so, b stands for v
+pub record Ready (v : Venue) (n : ℕ) (r : Bool) (b : List ℕ) : Type 0 where
+  pub answer : r ≡ (sound v && follows (suc n) v)
   pub loaded : r ≡ true → Loaded v b

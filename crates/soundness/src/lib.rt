@@ -21,7 +21,7 @@ ghost use Rattle.rules.specs.Standing.{hasLeg};
 ghost use Rattle.rules.specs.Sound.{apart, listedInRange, leggingSound, leggingsSound, idsDistinct, editionInRange, follows};
 ghost use Rattle.places.specs.Layout.{size, leggingIn, venueOf, Figured, Right};
 ghost use Rattle.levels.specs.Grid.{GridOf};
-ghost use Rattle.soundness.specs.Checked.{askedRegular, regularsFrom, complexesFrom, editionsFrom, numbersFrom, numbersSound, keptSound, placesSound, pricedOn, onIncrements, isAlone, eight, leggingInRange, hasHome, ordersSound, Checked};
+ghost use Rattle.soundness.specs.Checked.{askedRegular, regularsFrom, complexesFrom, editionsFrom, numbersFrom, numbersSound, keptSound, placesSound, pricedOn, onIncrements, isAlone, eight, leggingInRange, hasHome, ordersSound, Checked, Ready};
 
 // Places by themselves ------------------------------------------------------------------------
 
@@ -626,4 +626,19 @@ pub fn follows_kept(b: &[u32], number: u32) -> bool
         return false;
     }
     follows_generations(b, number)
+}
+
+// Whether a venue is sound and the number of its next message, one more than `before`, above every edition's and generation's kept; one for which this
+// holds stands in the slice afterwards. Nothing kept has a number above the last that there is.
+pub fn load_ready(b: &mut [u32], venue: Venue, before: u32) -> bool
+    requires { ⌜ length (now b) ≡ size ⌝ }
+    ensures { λ r. ⌜ Ready venue before r (now (b .exit)) ⌝ }
+{
+    if !load_sound(b, venue) {
+        return false;
+    }
+    if before == 4294967295 {
+        return true;
+    }
+    follows_kept(b, before + 1)
 }

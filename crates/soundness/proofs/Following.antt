@@ -24,7 +24,7 @@ use Rattle.rules.proofs.Dating.{edition-free}
 use Rattle.rules.proofs.Tests.{and-l, and-r}
 use Rattle.places.specs.Layout.{venueOf, Loaded}
 use Rattle.state.specs.Held.{EditionFits, GenerationsFits}
-use Rattle.engine.specs.Runs.{Ready}
+use Rattle.soundness.specs.Checked.{Ready}
 
 -- The editions kept ---------------------------------------------------------------------------
 

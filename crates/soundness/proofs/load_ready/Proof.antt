@@ -1,10 +1,10 @@
--- `engine::load_ready` meets its contract.
+-- `soundness::load_ready` meets its contract.
 use mathlib.Core.Path.{sym, _∙_}
 use borrow.Author.Tests.{not-true, not-false}
-use Rattle.engine.proofs.Following.{unready, ready-last, ready-next}
+use Rattle.soundness.proofs.Following.{unready, ready-last, ready-next}
 use borrow.Author.Needs.{needs}
-use Rattle.engine.proofs.load_ready.Statement.{statement}
-use Rattle.engine.proofs.load_ready.Tie as tie
+use Rattle.soundness.proofs.load_ready.Statement.{statement}
+use Rattle.soundness.proofs.load_ready.Tie as tie
 
 load-sound-requires : tie.Need-load-sound-requires
 load-sound-requires c κs = search needs
