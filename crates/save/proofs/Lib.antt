@@ -1,0 +1,3 @@
+pub mod Begin
+pub mod Steps
+pub mod Whole
