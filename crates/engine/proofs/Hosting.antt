@@ -40,7 +40,7 @@ use Rattle.state.specs.Held.{generationsAt, venueSize, venueBytes, generationsF
 use Rattle.state.proofs.Back.{held-whole}
 use Rattle.engine.specs.Runs.{callOf}
 use Rattle.engine.specs.Hosts.{begun, freshHosted, HeldFirst, hosted, leaves, oneHosted, HeldNext}
-use Rattle.engine.proofs.Following.{editions-fit, generations-fit}
+use Rattle.soundness.proofs.Following.{editions-fit, generations-fit}
 use Rattle.engine.proofs.Calling.{one-unready, one-ends, one-does}
 
 -- The first venue -----------------------------------------------------------------------------
@@ -101,7 +101,7 @@ unfolding showsFully
 reserve-fits o q h = let k = eqb-true (o .reserve) (o .quantity - o .display) h in omega arith
 
 -- the fields of a sound venue have their widths
-declared : (v : Venue) → SoundVenue v → Declared v
+pub declared : (v : Venue) → SoundVenue v → Declared v
 declared v s =
     let k = sound-out v s in
     let g = k .ranged in

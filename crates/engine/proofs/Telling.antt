@@ -47,24 +47,26 @@ bytes-long : (v : Venue) (n : ℕ) → length (settingsBytes (settings v n)) ≡
 unfolding settingsBytes
 bytes-long v n = length-append (settings v n .increments) (settings v n .percent ∷ []) ∙ ap (λ (k : ℕ). k + 1) (settings-long v n)
 
--- the memory for them was zeroed from its start
-module _ (memory : List ℕ) (n : ℕ) (l z : List ℕ) (zeroed : z ≡ take 0 l ++ replicate (length l - 0) 0) where
-  zeros : z ≡ replicate (length l) 0
+-- a memory zeroed from its start
+module _ (l z : List ℕ) (zeroed : z ≡ take 0 l ++ replicate (length l - 0) 0) where
+  pub zeros : z ≡ replicate (length l) 0
   zeros = zeroed ∙ ap (λ (k : ℕ). replicate k 0) (sub-zero (length l))
 
-  long : length z ≡ length l
+  pub long : length z ≡ length l
   long = ap length zeros ∙ length-replicate (length l) 0
 
+-- the memory for them was
+module _ (memory : List ℕ) (n : ℕ) (l z : List ℕ) (zeroed : z ≡ take 0 l ++ replicate (length l - 0) 0) where
   -- the venue's memory is of another length
   pub told-none : (length memory ≡ venueSize → ⊥) → told 9 z ≡ settingsHosted memory n (length l)
   unfolding settingsHosted
-  told-none h = ap (told 9) zeros ∙ rw (ne-eqb (length memory) venueSize h)
+  told-none h = ap (told 9) (zeros l z zeroed) ∙ rw (ne-eqb (length memory) venueSize h)
 
   module _ (size : length memory ≡ venueSize) where
     -- theirs is too short
     pub told-short : length z < 9 → told 9 z ≡ settingsHosted memory n (length l)
     unfolding settingsHosted
-    told-short h = ap (told 9) zeros ∙ rw (eq-eqb (length memory) venueSize size, lt-leb 9 (length l) (let e = long in omega arith))
+    told-short h = ap (told 9) (zeros l z zeroed) ∙ rw (eq-eqb (length memory) venueSize size, lt-leb 9 (length l) (let e = long l z zeroed in omega arith))
 
     -- it holds them
     pub told-all : 9 ≤ length z → (v : Venue) → v ≡ venueFrom memory → (s : Settings) → s ≡ settings v n → (o : List ℕ) → o ≡ pasted z 0 (settingsBytes s) →
@@ -75,7 +77,7 @@ module _ (memory : List ℕ) (n : ℕ) (l z : List ℕ) (zeroed : z ≡ take 0 l
         let k = bytes-long (venueFrom memory) n in
         let j : 0 + length (settingsBytes (settings (venueFrom memory) n)) ≡ 9 = omega arith in
         ap₂ told (ap (λ (x : Settings). x .number) g)
-        (p ∙ ap₂ (λ (x : List ℕ) (y : Settings). settingsBytes y ++ drop (0 + length (settingsBytes y)) x) zeros g
+        (p ∙ ap₂ (λ (x : List ℕ) (y : Settings). settingsBytes y ++ drop (0 + length (settingsBytes y)) x) (zeros l z zeroed) g
         ∙ ap (λ (i : ℕ). settingsBytes (settings (venueFrom memory) n) ++ drop i (replicate (length l) 0)) j
         ∙ ap (λ (x : List ℕ). settingsBytes (settings (venueFrom memory) n) ++ x) (zeros-left 9 (length l)))
-        ∙ rw (eq-eqb (length memory) venueSize size, le-leb 9 (length l) (let q = long in omega arith))
+        ∙ rw (eq-eqb (length memory) venueSize size, le-leb 9 (length l) (let q = long l z zeroed in omega arith))

@@ -1,4 +1,4 @@
--- What a host sees of its first venue, of one message upon the venue in its memory, and of that venue's settings.
+-- What a host sees of its first venue, of one message upon the venue in its memory, of that venue's settings, and of a set of records that carries it over.
 use mathlib.Core.Path.{_≡_}
 use mathlib.Core.Bool.{_&&_}
 use mathlib.Core.List.{List, [], _∷_, _++_}
@@ -8,9 +8,11 @@ use lib.ListN.{length, replicate}
 use Rattle.rules.specs.declared.Settings.{Settings}
 use Rattle.rules.specs.Base.{if_then_else_}
 use Rattle.rules.specs.Words.{freshVenue}
-use Rattle.rules.specs.Records.{sheet}
+use Rattle.rules.specs.Bytes.{u32}
+use Rattle.rules.specs.Records.{FourBytes, sheet}
 use Rattle.rules.specs.Calls.{Call, one, settings}
 use Rattle.state.specs.Held.{venueSize, venueBytes, venueFrom}
+use Rattle.sets.specs.Set.{ReadSet, writeSet, notRead, readSet}
 
 -- The first venue -----------------------------------------------------------------------------
 
@@ -75,3 +77,58 @@ settingsHosted memory n room =
     if eqb (length memory) venueSize && leb 9 room
     then (let s = settings (venueFrom memory) n in told (s .number) (settingsBytes s ++ replicate (room - 9) 0))
     else told 9 (replicate room 0)
+
+-- A set written -------------------------------------------------------------------------------
+
+-- the number, what the set's memory holds, and the four bytes that tell how many the set has
+pub record Saves : Type 0 where
+  pub number : ℕ
+  pub set : List ℕ
+  pub written : List ℕ
+
+abbrev pub savesAs : (number : ℕ) (set written : List ℕ) → Saves
+savesAs n m w = record { number = n; set = m; written = w }
+
+-- The venue that the memory holds, written with a message number as a set. A memory of another length holds no venue, and one of other than four bytes
+-- tells no count: 9, and zeros.
+unfoldable pub saveHosted : (memory : List ℕ) (number room told : ℕ) → Saves
+saveHosted memory n room told =
+    if eqb (length memory) venueSize && eqb told 4
+    then (let w = writeSet n (venueFrom memory) room in savesAs (w .number) (w .memory) (u32 (w .written)))
+    else savesAs 9 (replicate room 0) (replicate told 0)
+
+-- A set read ----------------------------------------------------------------------------------
+
+-- the number, what the venue's memory holds, and the four bytes of the message number
+pub record Resumes : Type 0 where
+  pub number : ℕ
+  pub venue : List ℕ
+  pub message : List ℕ
+
+abbrev pub resumesAs : (number : ℕ) (venue message : List ℕ) → Resumes
+resumesAs n v m = record { number = n; venue = v; message = m }
+
+-- The venue and the message number of a set. "Refused, reading returns a fresh venue and message number 0": so too where the message number's memory is of
+-- other than four bytes, which is 9. A memory of another length can hold no venue: 9, and it is as it was.
+unfoldable pub readFor : (room : ℕ) (set : List ℕ) → ReadSet
+readFor room set = if eqb room 4 then readSet set else notRead 9
+
+unfoldable pub resumeHosted : (set venue message : List ℕ) → Resumes
+resumeHosted set venue message =
+    let r = readFor (length message) set in
+    if eqb (length venue) venueSize
+    then resumesAs (r .number) (venueBytes (r .venue)) (if eqb (length message) 4 then u32 (r .message) else replicate (length message) 0)
+    else resumesAs 9 venue (replicate (length message) 0)
+
+-- What a set was written from is held again when it is read, with its message number; so the next call upon it does what it would have done without.
+pub record Again (memory : List ℕ) (number : ℕ) (r : Resumes) : Type 0 where
+  pub read : r .number ≡ 0
+  pub venue : venueFrom (r .venue) ≡ venueFrom memory
+  pub message : r .message ≡ u32 number
+  pub next : (n room : ℕ) (bs : List ℕ) → (oneHosted (r .venue) n room bs .number ≡ oneHosted memory n room bs .number)
+      × (venueFrom (oneHosted (r .venue) n room bs .venue) ≡ venueFrom (oneHosted memory n room bs .venue))
+      × (oneHosted (r .venue) n room bs .report ≡ oneHosted memory n room bs .report)
+
+abbrev pub HeldAgain : Type 0
+HeldAgain = (memory venue message : List ℕ) (number room : ℕ) → FourBytes number → length memory ≡ venueSize → length venue ≡ venueSize → length message ≡ 4 →
+    saveHosted memory number room 4 .number ≡ 0 → Again memory number (resumeHosted (saveHosted memory number room 4 .set) venue message)
