@@ -12,6 +12,7 @@ use crate::model::{in_use, AboveLegs};
 use crate::moments::Parties;
 use crate::phases::Phases;
 use crate::record::Record;
+use crate::set_check::SetCoverage;
 use crate::settings::{held_editions, InForce};
 use crate::view::{beats, find_complex, held_complex, held_regular, leg_at, legs_of};
 use crate::view::{opposite, parts_of, place_of, rounded, within, Declined, View};
@@ -377,6 +378,7 @@ pub struct Coverage {
     moments: [[u64; 2]; Parties::ALL.len()],
     pub feeds: FeedCoverage,
     pub layers: LayerCoverage,
+    pub sets: SetCoverage,
 }
 
 impl Default for Coverage {
@@ -392,6 +394,7 @@ impl Default for Coverage {
             moments: [[0; 2]; Parties::ALL.len()],
             feeds: FeedCoverage::default(),
             layers: LayerCoverage::default(),
+            sets: SetCoverage::default(),
         }
     }
 }
@@ -693,6 +696,9 @@ impl Coverage {
         for (way, count) in self.layers.counts() {
             missing.extend((count == 0).then(|| format!("layer {way}")));
         }
+        for (way, count) in self.sets.counts() {
+            missing.extend((count == 0).then(|| format!("set {way}")));
+        }
         missing
     }
 }
@@ -735,6 +741,9 @@ impl Display for Coverage {
         }
         for (way, count) in self.layers.counts() {
             writeln!(f, "{count:>10}  layer {way}")?;
+        }
+        for (way, count) in self.sets.counts() {
+            writeln!(f, "{count:>10}  set {way}")?;
         }
         Ok(())
     }

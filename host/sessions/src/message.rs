@@ -152,7 +152,7 @@ impl Message {
 }
 
 impl Leg {
-    fn bytes(self) -> [u8; 2] {
+    pub(crate) fn bytes(self) -> [u8; 2] {
         [self.series, self.side]
     }
 }
@@ -180,7 +180,8 @@ pub fn first_whole(bytes: &[u8]) -> Option<&[u8]> {
     }
 }
 
-fn framed(kind: u16, fields: &[&[u8]]) -> Vec<u8> {
+/// The bytes of a message or record: its length, its kind, its fields.
+pub(crate) fn framed(kind: u16, fields: &[&[u8]]) -> Vec<u8> {
     let length = 4 + fields.iter().map(|field| field.len()).sum::<usize>();
     let mut bytes = Vec::with_capacity(length);
     bytes.extend_from_slice(&(length as u16).to_le_bytes());

@@ -13,6 +13,7 @@ use crate::lent::Lent;
 use crate::message::{split, Message};
 use crate::profile::Profile;
 use crate::record::{read_report_into, Record};
+use crate::set_check::check_set;
 use crate::settings::last_edition;
 use crate::sound::{call_fault, edition_number_fault, fault, generation_number_fault};
 use reference::{is_sound, one_message, run, settings, Returned, Venue};
@@ -173,7 +174,7 @@ impl<'a> Session<'a> {
 
     /// Calls beside the list, which leave it as it is.
     fn probe(&mut self, probes: &mut Generator) -> Result<(), String> {
-        match probes.random().below(8) {
+        match probes.random().below(9) {
             0 => self.probe_memory(probes),
             1 => self.probe_number(probes),
             2 => self.probe_unsound(probes),
@@ -181,6 +182,10 @@ impl<'a> Session<'a> {
             4 => self.probe_reserve(probes),
             5 => self.probe_ratios(probes),
             6 => self.probe_generations(probes),
+            7 => {
+                let (number, sets) = (self.pieces.len() as u32, &mut self.coverage.sets);
+                check_set(&self.venue, number, probes.random(), sets)
+            }
             _ => self.probe_noise(probes),
         }
     }

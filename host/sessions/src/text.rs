@@ -114,7 +114,7 @@ pub(crate) fn parse_line(mut words: Words) -> Result<Message, LineError> {
 const KINDS: &str = "a message (order, complex, cancel, away, status, open, close, auction, \
     sweep, limited, increment, percent or raw)";
 
-fn parse_message(words: &mut Words) -> Result<Message, LineError> {
+pub(crate) fn parse_message(words: &mut Words) -> Result<Message, LineError> {
     match words.next() {
         Some("order") => parse_order(words),
         Some("complex") => parse_complex(words),
@@ -250,7 +250,7 @@ impl<'a> Words<'a> {
         }
     }
 
-    fn literal(&mut self, word: &str) -> Result<(), LineError> {
+    pub fn literal(&mut self, word: &str) -> Result<(), LineError> {
         match self.next() {
             Some(found) if found == word => Ok(()),
             found => Err(self.error(&format!("{word:?}"), found)),
@@ -266,7 +266,7 @@ impl<'a> Words<'a> {
         }
     }
 
-    fn side(&mut self) -> Result<u8, LineError> {
+    pub fn side(&mut self) -> Result<u8, LineError> {
         let found = self.next();
         match found {
             Some("buy") => return Ok(0),
@@ -327,7 +327,7 @@ fn numbered(word: Option<&str>, prefix: &str) -> Option<u8> {
     digits.parse().ok().filter(|_| !digits.starts_with('+'))
 }
 
-struct Side(u8);
+pub(crate) struct Side(pub u8);
 
 impl Display for Side {
     fn fmt(&self, f: &mut fmt::Formatter) -> fmt::Result {

@@ -4,17 +4,21 @@ use crate::arguments::Arguments;
 use crate::help;
 use crate::short::print_list;
 use crate::Failure;
+use reference::Venue;
 use sessions::asked::parse_script;
 use sessions::audit::audit;
 use sessions::coverage::Coverage;
 use sessions::explain::explain;
 use sessions::feed::{hand_out, Line, Stop};
-use sessions::message::Message;
+use sessions::message::{split, Message};
 use sessions::play::play;
 use sessions::profile::Profile;
 use sessions::record::{parse_sheet, print_sheet, read_report};
+use sessions::set::{decode_set, encode_set};
+use sessions::set_generator::set_of;
+use sessions::set_reader::look_at;
 use sessions::settings::InForce;
-use sessions::sheet::{feed_whole, run_whole, sheet_of, MOST_INPUT};
+use sessions::sheet::{feed_whole, go_on, run_whole, sheet_of, MOST_INPUT};
 use sessions::short::FIXED;
 use sessions::soak::{check_session, generate};
 use sessions::text::{decode_line, decode_session, encode_line, encode_session, LineError};
@@ -39,6 +43,8 @@ pub fn perform(arguments: Vec<String>) -> Output {
         "audit" => audit_sheet(rest),
         "explain" => explain_session(rest),
         "settings" => settings(rest),
+        "set" => set(rest),
+        "resume" => resume(rest),
         "generate" => generate_session(rest),
         "check" => check(rest),
         other => Err(Failure::Usage(format!("command {other:?} is not known"))),
@@ -105,33 +111,48 @@ fn sheet(rest: &[String]) -> Output {
 }
 
 fn encode(rest: &[String]) -> Output {
-    let arguments = Arguments::parse(rest, &["--line"], &[], 1)?;
-    let encode = match arguments.has("--line") {
-        true => encode_line,
-        false => encode_session,
+    let arguments = Arguments::parse(rest, &["--line", "--set"], &[], 1)?;
+    let encode = match line_or_set(&arguments)? {
+        (true, _) => encode_line,
+        (_, true) => encode_set,
+        _ => encode_session,
     };
     bytes_of(read(arguments.word(0))?, true, encode).map_err(Failure::Input)
 }
 
 fn decode(rest: &[String]) -> Output {
-    let arguments = Arguments::parse(rest, &["--line"], &[], 1)?;
-    let bytes = read(arguments.word(0))?;
-    let text = match arguments.has("--line") {
-        true => decode_line(&bytes),
-        false => decode_session(&bytes),
+    let arguments = Arguments::parse(rest, &["--line", "--set"], &[], 1)?;
+    let decode = match line_or_set(&arguments)? {
+        (true, _) => decode_line,
+        (_, true) => decode_set,
+        _ => decode_session,
     };
-    Ok(text.into_bytes())
+    let bytes = read(arguments.word(0))?;
+    Ok(decode(&bytes).into_bytes())
+}
+
+/// Whether a line of a feed, or a set, is asked for.
+fn line_or_set(arguments: &Arguments) -> Result<(bool, bool), Failure> {
+    match (arguments.has("--line"), arguments.has("--set")) {
+        (true, true) => Err(Failure::Usage(
+            "only one of --line and --set can be asked for".to_string(),
+        )),
+        asked => Ok(asked),
+    }
+}
+
+/// Two files that are read, of which only one can be standard input.
+fn two_files<'a>(arguments: &'a Arguments, names: &str) -> Result<[&'a str; 2], Failure> {
+    match (arguments.word(0), arguments.word(1)) {
+        (Some("-"), Some("-")) => Err(Failure::Usage("only one of both can be -".to_string())),
+        (Some(first), Some(second)) => Ok([first, second]),
+        _ => Err(Failure::Usage(format!("expected {names}"))),
+    }
 }
 
 /// The two lines of a feed.
 fn two_lines(arguments: &Arguments) -> Result<[Vec<u8>; 2], Failure> {
-    let files = match (arguments.word(0), arguments.word(1)) {
-        (Some("-"), Some("-")) => {
-            return Err(Failure::Usage("only one of both can be -".to_string()));
-        }
-        (Some(main), Some(spare)) => [main, spare],
-        _ => return Err(Failure::Usage("expected MAIN and SPARE".to_string())),
-    };
+    let files = two_files(arguments, "MAIN and SPARE")?;
     let [main, spare] = files.map(|file| {
         let line = bytes_of(read(Some(file))?, arguments.has("--text"), encode_line);
         line.map_err(|what| Failure::Input(format!("{file}: {what}")))
@@ -256,6 +277,78 @@ fn settings(rest: &[String]) -> Output {
     }
     let in_force = InForce::at(&returned.venue, asked);
     Ok(format!("message {asked}\n{in_force}").into_bytes())
+}
+
+/// The set of the venue that a session leaves, or its first messages.
+fn set(rest: &[String]) -> Output {
+    let arguments = Arguments::parse(rest, &["--text"], &["--after"], 1)?;
+    let mut list = session_bytes(read(arguments.word(0))?, arguments.has("--text"))?;
+    let pieces = split(&list);
+    let after = arguments.number("--after", Some(pieces.len() as u64))?;
+    let Some(first) = usize::try_from(after).ok().and_then(|n| pieces.get(..n)) else {
+        let what = format!("the session has {} messages, not {after}", pieces.len());
+        return Err(Failure::Input(what));
+    };
+    list.truncate(first.iter().map(|piece| piece.len()).sum());
+    let (returned, _) = run_whole(&list);
+    let Some(set) = set_of(&returned.venue, returned.done) else {
+        let what = "the venue that the session leaves was not written";
+        return Err(Failure::Input(what.to_string()));
+    };
+    if returned.number == 1 {
+        let done = returned.done;
+        eprintln!("venue set: message {done} is torn, and the last");
+    }
+    match arguments.has("--text") {
+        true => Ok(decode_set(&set).into_bytes()),
+        false => Ok(set),
+    }
+}
+
+/// The venue of a set and the number of its last message; the reference must read the same.
+fn carried_by(set: &[u8]) -> Result<(Venue, u32), String> {
+    let read = reference::read_set(set);
+    let looked = look_at(set);
+    let agrees = match &looked {
+        Ok((venue, number)) => (read.number, &read.venue, read.message) == (0, venue, *number),
+        Err(refused) => read.number == refused.number,
+    };
+    match agrees {
+        true => looked.map_err(|refused| refused.to_string()),
+        false => Err("the reference and the reading of its records do not agree".to_string()),
+    }
+}
+
+/// Whether bytes begin as the text of a set does.
+fn tells_text(set: &[u8]) -> bool {
+    [&b"set "[..], b"short ", b"#"]
+        .iter()
+        .any(|word| set.starts_with(word))
+}
+
+/// The sheet of a session that goes on where a set was written.
+fn resume(rest: &[String]) -> Output {
+    let arguments = Arguments::parse(rest, &["--text"], &[], 2)?;
+    let [set_file, session_file] = two_files(&arguments, "SET and SESSION")?;
+    let is_text = arguments.has("--text");
+    let of = |file: &str, what: String| Failure::Input(format!("{file}: {what}"));
+    let set = bytes_of(read(Some(set_file))?, is_text, encode_set);
+    let set = set.map_err(|what| of(set_file, what))?;
+    let list = bytes_of(read(Some(session_file))?, is_text, encode_session);
+    let list = list.map_err(|what| of(session_file, what))?;
+    let (venue, number) = carried_by(&set).map_err(|what| match is_text || !tells_text(&set) {
+        true => of(set_file, what),
+        false => of(set_file, format!("{what}; text needs --text")),
+    })?;
+    let (records, whole) = go_on(venue, number, &list);
+    let output = print_sheet(&read_report(&records).map_err(Failure::Input)?).into_bytes();
+    match whole {
+        true => Ok(output),
+        false => Err(Failure::Disagreement(
+            output,
+            "the message numbers are used up".to_string(),
+        )),
+    }
 }
 
 fn profile(name: &str) -> Result<Profile, Failure> {

@@ -6,8 +6,8 @@ pub const OVERVIEW: &str = "\
 venue: session tools for the legging order engine
 
   venue sheet [--text] [FILE]           print the sheet of a run
-  venue encode [--line] [FILE]          text to message bytes
-  venue decode [--line] [FILE]          message bytes to text
+  venue encode [--line | --set] [FILE]  text to message bytes
+  venue decode [--line | --set] [FILE]  message bytes to text
   venue print [FILE]                    report bytes to sheet lines
   venue feed [--text] MAIN SPARE        print the sheet of two lines of one feed
   venue four [SCRIPT]                   print the sheets of four venues behind one line
@@ -17,6 +17,9 @@ venue: session tools for the legging order engine
   venue explain [--text] [FILE]         what happened, message by message
   venue settings [--text] SESSION NUMBER
                                         increments and percent at a message number
+  venue set [--text] [--after N] [SESSION]
+                                        the set that carries a session over an upgrade
+  venue resume [--text] SET SESSION     print the sheet of a session that goes on there
   venue generate --profile P --seed N --messages M [--text]
                                         a random session
   venue check [--seed N] [--messages M] [--profile P] [--sessions K] [--complete]
@@ -159,6 +162,57 @@ the percentage of the band, each with its edition and the message that entered i
 A setting holds from its own message on; before the first, edition 0 holds.
 ";
 
+const SET: &str = "\
+venue set [--text] [--after N] [SESSION]
+
+Runs the session from a fresh venue, or its first N messages, and writes the set of the
+venue left and of the number of its last message: the records that legging_write_set
+writes. SESSION is message bytes and the set is bytes; with --text both are text.
+
+At the upgrade the host stops between two messages, writes its set to a file, and the
+new engine reads it. To see what it carries, and that it is what the morning came to:
+
+  venue decode --set noon.set
+  venue set morning.bin | cmp - noon.set
+
+";
+
+const RESUME: &str = "\
+venue resume [--text] SET SESSION
+
+Goes on with the session's messages upon the venue of a set, and prints the sheet: the
+records that a session not cut would have from there on, its message numbers too. SET
+and SESSION are bytes, or text with --text; one of them may be -. The set may be a short
+one. With an empty session it says whether the set is read. It is refused with
+
+  16  where a record is torn, missing, out of order, one too many, or of a kind or
+      length that the set has not
+  9   where its venue is unsound, or a message number in it is above its own
+
+and it is told which record is no set's, or what is unsound. Then the exit status is 1.
+";
+
+const SET_FORM: &str = "\
+A set in text, one record a line, in this order:
+
+  set MESSAGE last ID       the number of the last message, the last id accepted;
+                            also: short MESSAGE last ID, which begins a short set
+  status SERIES STATUS      and then
+  away SERIES bid PRICE offer PRICE, for each series in turn
+  increment SERIES INCREMENT EDITION message NUMBER
+  percent PERCENT EDITION message NUMBER
+                            editions, rising; NUMBER is of the message that entered it
+  order ...                 resting orders of both books by rising id, as in a session,
+  complex ...               with what is left of them; an order shows QUANTITY
+  legging ID SIDE QUANTITY series SERIES at PRICE
+                            by rising place, 2 x SERIES and 1 more to sell
+  generated SERIES message NUMBER
+                            the last 20 of each series, oldest first
+  reached ID                the last id that a limited sweep looked at
+
+A short set has no editions, no generated and no reached, and its orders show all.
+";
+
 const GENERATE: &str = "\
 venue generate --profile P --seed N --messages M [--text]
 
@@ -188,13 +242,13 @@ pub fn of(command: &str) -> Option<String> {
     let text = match command {
         "sheet" => SHEET.to_string(),
         "encode" => format!(
-            "venue encode [--line] [FILE]\n\nWrites message bytes; with --line those of a line \
-             of a feed.\n\n{TEXT_FORM}"
+            "venue encode [--line | --set] [FILE]\n\nWrites message bytes; with --line those of a \
+             line of a feed, with --set those\nof a set.\n\n{TEXT_FORM}\n{SET_FORM}"
         ),
         "decode" => format!(
-            "venue decode [--line] [FILE]\n\nWrites one message a line; bytes that are no \
+            "venue decode [--line | --set] [FILE]\n\nWrites one message a line; bytes that are no \
              message of kinds 1 to 11\nat its length become raw. With --line the bytes are a \
-             line of a feed.\n\n{TEXT_FORM}"
+             line of a feed, with --set\na set, up to its end.\n\n{TEXT_FORM}\n{SET_FORM}"
         ),
         "print" => PRINT.to_string(),
         "feed" => FEED.to_string(),
@@ -203,6 +257,8 @@ pub fn of(command: &str) -> Option<String> {
         "audit" => AUDIT.to_string(),
         "explain" => EXPLAIN.to_string(),
         "settings" => SETTINGS.to_string(),
+        "set" => format!("{SET}{SET_FORM}"),
+        "resume" => format!("{RESUME}\n{SET_FORM}"),
         "generate" => GENERATE.to_string(),
         "check" => CHECK.to_string(),
         _ => return None,

@@ -167,7 +167,7 @@ fn help_names_every_command() {
     let text = String::from_utf8(good(&["help"], b"")).unwrap();
     for command in [
         "sheet", "encode", "decode", "print", "feed", "four", "short", "audit", "explain",
-        "settings", "generate", "check",
+        "settings", "set", "resume", "generate", "check",
     ] {
         assert!(text.contains(&format!("venue {command}")), "{command}");
         let more = String::from_utf8(good(&["help", command], b"")).unwrap();
@@ -966,4 +966,134 @@ fn reader_that_leaves_causes_no_panic() {
     let output = child.wait_with_output().unwrap();
     assert_eq!(output.status.code(), Some(1));
     assert!(output.stderr.is_empty());
+}
+
+const LIMITED: &str = include_str!("sessions/limited.txt");
+
+/// The messages of a session's text, a line each.
+fn plain_lines(text: &str) -> Vec<String> {
+    let bytes = good(&["encode"], text.as_bytes());
+    let plain = String::from_utf8(good(&["decode"], &bytes)).unwrap();
+    plain.lines().map(|line| format!("{line}\n")).collect()
+}
+
+#[test]
+fn a_session_cut_by_a_set_goes_on_with_the_same_lines() {
+    let lines = plain_lines(LIMITED);
+    let whole = String::from_utf8(good(&["sheet", "--text"], LIMITED.as_bytes())).unwrap();
+    for cut in [0, 1, 12, 13, lines.len()] {
+        let after = cut.to_string();
+        let set = good(&["set", "--text", "--after", &after], LIMITED.as_bytes());
+        let morning = lines[..cut].concat();
+        assert_eq!(set, good(&["set", "--text", "-"], morning.as_bytes()));
+        let first = String::from_utf8(good(&["sheet", "--text"], morning.as_bytes())).unwrap();
+        let set = Kept::new(&format!("cut-{cut}"), &set);
+        let rest = lines[cut..].concat();
+        let rest = good(&["resume", "--text", set.path(), "-"], rest.as_bytes());
+        let told = format!("{first}{}", String::from_utf8(rest).unwrap());
+        assert_eq!(told, whole, "{cut}");
+    }
+}
+
+#[test]
+fn sets_go_to_text_and_back() {
+    let session = good(&["encode"], LIMITED.as_bytes());
+    let set = good(&["set"], &session);
+    let text = good(&["decode", "--set"], &set);
+    assert_eq!(text, good(&["set", "--text"], LIMITED.as_bytes()));
+    assert_eq!(good(&["encode", "--set"], &text), set);
+    let with_zeros = [&set[..], &[0; 9]].concat();
+    assert_eq!(good(&["decode", "--set"], &with_zeros), text);
+    let kept = Kept::new("set", &with_zeros);
+    let sweep = good(&["resume", kept.path(), "-"], &[4, 0, 6, 0]);
+    let sweep = String::from_utf8(sweep).unwrap();
+    assert!(sweep.starts_with("64 31 0 "), "{sweep}");
+    assert_eq!(good(&["resume", kept.path(), "-"], b""), b"");
+}
+
+#[test]
+fn a_refused_set_is_told_with_its_record() {
+    let set = good(&["set", "--text"], LIMITED.as_bytes());
+    let set = String::from_utf8(set).unwrap();
+    for (from, to, told) in [
+        (
+            "reached 2",
+            "reached 0",
+            "refused with 9: record 32 at byte 316: id 0 reached",
+        ),
+        ("reached 2", "reached 9", "refused with 9: "),
+        ("set 30", "set 26", "message 27 is above the set's own, 26"),
+        (
+            "status 3",
+            "status 4",
+            "refused with 16: record 8 at byte 69: expected status of series 3",
+        ),
+        ("set 30", "short 30", "a short set has no "),
+        ("order 5", "order 4", "expected an id above 4, found 4"),
+        ("order 5", "cancel 5 #", "expected a record of a set"),
+    ] {
+        let changed = Kept::new("refused", set.replace(from, to).as_bytes());
+        let error = bad(&["resume", "--text", changed.path(), "-"], b"", 1);
+        let start = format!("venue resume: {}: ", changed.path());
+        assert!(error.starts_with(&start) && error.contains(told), "{error}");
+    }
+    let text = Kept::new("text", set.as_bytes());
+    let error = bad(&["resume", text.path(), "-"], b"", 1);
+    assert!(error.ends_with("; text needs --text\n"), "{error}");
+    let torn = Kept::new("torn", &[12, 0, 80]);
+    let error = bad(&["resume", torn.path(), "-"], b"", 1);
+    let told = "refused with 16: record 1 at byte 0: expected a record's length and kind, found 3";
+    assert!(error.contains(told), "{error}");
+}
+
+#[test]
+fn sets_used_wrongly_are_told() {
+    for (arguments, status, told) in [
+        (
+            &["resume", "--text", "x"][..],
+            2,
+            "expected SET and SESSION",
+        ),
+        (&["resume", "-", "-"], 2, "only one of both can be -"),
+        (
+            &["encode", "--set", "--line"],
+            2,
+            "only one of --line and --set",
+        ),
+        (
+            &["set", "--after", "x"],
+            2,
+            "expected a number after --after",
+        ),
+        (
+            &["set", "--after", "1"],
+            1,
+            "the session has 0 messages, not 1",
+        ),
+        (&["set", "no-such-file"], 1, "venue set: no-such-file: "),
+        (
+            &["resume", "no-such-file", "-"],
+            1,
+            "venue resume: no-such-file: ",
+        ),
+    ] {
+        let error = bad(arguments, b"", status);
+        assert!(error.contains(told), "{arguments:?}: {error}");
+    }
+    let torn = venue(&["set"], &[9, 0, 6]);
+    let told = String::from_utf8(torn.stderr).unwrap();
+    assert_eq!((torn.status.code(), torn.stdout[4]), (Some(0), 1));
+    assert_eq!(told, "venue set: message 1 is torn, and the last\n");
+}
+
+#[test]
+fn message_numbers_that_are_used_up_end_a_session_that_goes_on() {
+    let fresh = String::from_utf8(good(&["set", "--text"], b"")).unwrap();
+    let last = fresh.replace("set 0 ", "set 4294967294 ");
+    let set = Kept::new("last", last.as_bytes());
+    let output = venue(&["resume", "--text", set.path(), "-"], b"sweep\nsweep\n");
+    assert_eq!(output.status.code(), Some(1));
+    assert_eq!(output.stdout, b"64 4294967295 0 0 0\n");
+    let told = String::from_utf8(output.stderr).unwrap();
+    assert_eq!(told, "venue resume: the message numbers are used up\n");
 }

@@ -11,6 +11,7 @@ mod refusals;
 mod report_memory;
 mod reserve;
 mod rules;
+mod sets;
 mod settings;
 mod short_sessions;
 mod soundness;
