@@ -12,17 +12,19 @@
  *
  * MEMORY
  *   All memory is the host's. A call keeps no pointer after it returns, allocates
- *   nothing, reads and writes no file, and needs less than 32 KiB of stack, a call
- *   upon four venues less than 48 KiB.
+ *   nothing, reads and writes no file, and needs less than 32 KiB of stack;
+ *   legging_read_set and a call upon four venues need less than 48 KiB.
  *   - `messages` (or `message`) and the lines `main` and `spare` are only read. Bytes
  *     past their lengths are not.
- *   - `venue` is read and written; legging_fresh only writes it, legging_settings only
- *     reads it. Unless the message was accepted, it holds after the call what it held
- *     before.
+ *   - `venue` is read and written; legging_fresh and legging_read_set only write it,
+ *     legging_settings and legging_write_set only read it. Unless the message was
+ *     accepted, it holds after the call what it held before.
  *   - `layer` is read and written; legging_layer_fresh only writes it.
  *   - `report` is written from its first byte to its last, whatever the call
  *     ends with: the records done, then zeros. What it held before is not read.
- *   - `settings` is written so too: what is told, then zeros.
+ *   - `settings`, the set that legging_write_set writes, `written` and `number` are
+ *     written so too: what is told, then zeros. The set that legging_read_set reads is
+ *     only read.
  *   - A pointer with the length 0 may be NULL; otherwise it points to as many
  *     bytes as its length says, no more than PTRDIFF_MAX of them, at any alignment.
  *   - Memory that a call writes overlaps no other memory of the same call, and
@@ -62,6 +64,12 @@
  *               70 cross      taker id u32, maker id u32, taker's net i32, quantity u32     20
  *               71 cancelled  id u32, quantity u32                                          12
  *               72 looked     count u8                                                       5
+ *     of a set  80 first      message number u32, last id u32                               12
+ *               81 first      of a short set, the same                                      12
+ *                7, 8         as the message, and after it message number u32           14, 13
+ *               82 legging    parent's id u32, series u8, side u8, price u32, quantity u32  18
+ *               83 generated  series u8, message number u32                                  9
+ *               84 reached    id u32                                                         8
  *
  *   The records end at the first zero length, or at the end of the report memory.
  *   Each message done has one answer, and after it what it did.
@@ -113,6 +121,22 @@
  *   72, right after its 64, tells how many: the lesser of the number asked for and of the
  *   orders resting when it starts. One that is gone by its turn was looked at too.
  *
+ * SETS
+ *   A set carries a venue and its message number over an upgrade: legging_write_set of
+ *   the old engine writes it, legging_read_set of the new one reads it, and the calls
+ *   that follow write the records that they would have written without. Its records:
+ *     - 80, with the number of the last message done and the last id accepted;
+ *     - of each series in turn 5 and 4, status and away prices;
+ *     - the editions by rising edition, as 7 or 8;
+ *     - the resting orders of both books by rising id, as 9, 2 or 10, with what is left of
+ *       them, and in 9 what shows of it;
+ *     - the legging orders by rising place, as 82;
+ *     - of each series in turn its last 20 generations, oldest first, as 83;
+ *     - the last id that a kind 11 looked at, if there is one, as 84.
+ *   Zeros follow it. For the reader a zero length, one last zero byte or the end of the
+ *   memory ends it. It also reads a short set: begun by 81, with 1 for 9, and without 7, 8,
+ *   83 and 84. That means edition 0, all size shown, none generated and no id looked at.
+ *
  * NUMBERS
  *   Each call returns one of these, and fails in no other way.
  */
@@ -131,12 +155,14 @@
 #define LEGGING_CLOSED        6u /* a series of the order is closed */
 #define LEGGING_BOOK_FULL     7u /* 128 regular or 32 complex orders rest already */
 #define LEGGING_NO_SUCH_ORDER 8u /* no resting order has the id */
-#define LEGGING_UNSOUND       9u /* the venue or the layer given is not sound, or the message's number is not above that of every edition and generation kept */
+#define LEGGING_UNSOUND       9u /* the venue or the layer given or the venue of a set is not sound, or the message's number is not above that of every edition and generation kept */
 #define LEGGING_NO_ROOM      10u /* the next message's records do not fit, or its number would pass 4,294,967,295 */
 #define LEGGING_EDITION_NOT_ABOVE 11u /* the edition is not above the last, of either kind */
 #define LEGGING_SERIES_IN_USE     12u /* an increment of a series that is not closed, or has a resting order or leg */
 #define LEGGING_EDITIONS_FULL     13u /* 32 editions are held already */
 #define LEGGING_EQUAL_RATIOS      14u /* the two ratios are equal */
+#define LEGGING_SHORT_MEMORY 15u /* the memory lent for a set is shorter than it */
+#define LEGGING_BAD_SET      16u /* a record of a set is torn, missing, out of order, one too many, or of a kind or length that the set has not */
 #define LEGGING_NO_PLACE     17u /* the venue's wait holds 8 messages, or the message is over 32 bytes */
 #define LEGGING_NO_VENUE     18u /* venue number above 3 */
 #define LEGGING_DIFFERS      19u /* both lines have the next number, but their bytes differ */
@@ -150,6 +176,8 @@
 #define LEGGING_REACHED_AT  4652u /* where in it the last id stands that a kind 11 looked at */
 #define LEGGING_MOST_BYTES 10433u /* no message upon a sound venue writes more */
 #define LEGGING_SETTINGS_BYTES 9u /* eight increments and the percentage */
+#define LEGGING_SET_BYTES   5900u /* no set has more */
+#define LEGGING_NUMBER_BYTES   4u /* a u32 that a call upon a set tells */
 
 #define LEGGING_VENUES       4u /* behind one line */
 #define LEGGING_MOST_WAITING 8u /* messages that wait for a venue */
@@ -272,6 +300,43 @@ uint8_t legging_message(uint8_t *venue, size_t venue_len, uint32_t before,
  */
 uint8_t legging_settings(const uint8_t *venue, size_t venue_len, uint32_t number,
                          uint8_t *settings, size_t settings_len);
+
+/*
+ * Writes the set of a venue; `number` messages were done upon it, so the last one's number
+ * is that. 9 comes before 15.
+ *
+ * `written` is LEGGING_NUMBER_BYTES bytes. Returns
+ *   LEGGING_DONE          `set` is the set, and zeros after it; `written` is its length,
+ *                         little-endian;
+ *   LEGGING_UNSOUND       `venue_length` is not LEGGING_VENUE_BYTES or `written_length` not
+ *                         LEGGING_NUMBER_BYTES, the bytes are no sound venue, or the number
+ *                         of an edition's or a generation's message is above `number`;
+ *   LEGGING_SHORT_MEMORY  `set_length` is less than the set's length. LEGGING_SET_BYTES are
+ *                         always enough.
+ * Unless LEGGING_DONE is returned, `set` and `written` are all zeros.
+ */
+uint8_t legging_write_set(const uint8_t *venue, size_t venue_length, uint32_t number,
+                          uint8_t *set, size_t set_length,
+                          uint8_t *written, size_t written_length);
+
+/*
+ * Reads a set, whole or short. The next message upon its venue is one of legging_message
+ * with the number told as `before`. 16 comes before 9, but for the lengths of `venue` and
+ * `number`, which are looked at first.
+ *
+ * `number` is LEGGING_NUMBER_BYTES bytes. Returns
+ *   LEGGING_DONE      `venue` is the venue of the set, `number` that of its last message,
+ *                     little-endian;
+ *   LEGGING_UNSOUND   `venue_length` is not LEGGING_VENUE_BYTES (then `venue` is as it was),
+ *                     `number_length` is not LEGGING_NUMBER_BYTES, the venue of the set is
+ *                     not sound, or a message number in it is above its own;
+ *   LEGGING_BAD_SET   a record is torn, missing, out of order, one too many, or of a kind or
+ *                     length that the set has not.
+ * Unless LEGGING_DONE is returned, `venue` is the fresh venue, and `number` all zeros.
+ */
+uint8_t legging_read_set(const uint8_t *set, size_t set_length,
+                         uint8_t *venue, size_t venue_length,
+                         uint8_t *number, size_t number_length);
 
 /*
  * FOUR VENUES BEHIND ONE LINE

@@ -41,6 +41,25 @@ extern "C" {
         settings_len: usize,
     ) -> u8;
 
+    fn legging_write_set(
+        venue: *const u8,
+        venue_length: usize,
+        number: u32,
+        set: *mut u8,
+        set_length: usize,
+        written: *mut u8,
+        written_length: usize,
+    ) -> u8;
+
+    fn legging_read_set(
+        set: *const u8,
+        set_length: usize,
+        venue: *mut u8,
+        venue_length: usize,
+        number: *mut u8,
+        number_length: usize,
+    ) -> u8;
+
     fn legging_layer_fresh(layer: *mut u8, layer_len: usize) -> u8;
 
     fn legging_arrive(
@@ -160,6 +179,50 @@ pub fn settings_in(venue: &[u8], number: u32, settings: &mut [u8]) -> Number {
             number,
             settings.as_mut_ptr(),
             settings.len(),
+        )
+    };
+    Number::new(number)
+}
+
+/// Writes the set of a venue upon which `number` messages were done, then zeros to the end
+/// of the memory, and its length, a little-endian u32, into `written`: [`Number::DONE`].
+/// Otherwise both are all zeros: with [`Number::UNSOUND`] the venue is unsound, has a
+/// message number above `number` or another length than
+/// [`VENUE_BYTES`](crate::VENUE_BYTES), or `written` is not of 4 bytes; with
+/// [`Number::SHORT_MEMORY`] the set is longer than its memory.
+pub fn write_set_in(venue: &[u8], number: u32, set: &mut [u8], written: &mut [u8]) -> Number {
+    // SAFETY: the three slices are whole for their lengths and cannot overlap; the call
+    // reads `venue`, writes the other two, and keeps none.
+    let number = unsafe {
+        legging_write_set(
+            venue.as_ptr(),
+            venue.len(),
+            number,
+            set.as_mut_ptr(),
+            set.len(),
+            written.as_mut_ptr(),
+            written.len(),
+        )
+    };
+    Number::new(number)
+}
+
+/// Reads a set into venue memory, and the number of its last message, a little-endian u32,
+/// into `number`: [`Number::DONE`]. Otherwise these are a fresh venue and all zeros: with
+/// [`Number::BAD_SET`] the records are no set; with [`Number::UNSOUND`] its venue is
+/// unsound or has a message number above its own, `number` is not of 4 bytes, or `venue`
+/// not of [`VENUE_BYTES`](crate::VENUE_BYTES) and then as it was.
+pub fn read_set_in(set: &[u8], venue: &mut [u8], number: &mut [u8]) -> Number {
+    // SAFETY: the three slices are whole for their lengths and cannot overlap; the call
+    // reads `set`, writes the other two, and keeps none.
+    let number = unsafe {
+        legging_read_set(
+            set.as_ptr(),
+            set.len(),
+            venue.as_mut_ptr(),
+            venue.len(),
+            number.as_mut_ptr(),
+            number.len(),
         )
     };
     Number::new(number)

@@ -6,9 +6,10 @@
 //! over two lines. [`one_message`] takes one message upon a venue that the host holds
 //! as [`VenueBytes`], and [`settings`] tells what held there at a message number.
 //! [`arrive`] and [`turn`] are the calls of four venues behind one line, held as
-//! [`LayerBytes`]. After a call the report memory is the records done, then zeros to its
-//! end; what it held before is not read. A call keeps nothing, allocates nothing and
-//! shares no state with another, so calls may run on any number of threads at once.
+//! [`LayerBytes`]. [`write_set`] and [`read_set`] carry a venue over an upgrade. After a
+//! call the report memory is the records done, then zeros to its end; what it held before
+//! is not read. A call keeps nothing, allocates nothing and shares no state with another,
+//! so calls may run on any number of threads at once.
 //!
 //! The bytes of messages and records are told in `include/legging.h`.
 //!
@@ -48,6 +49,18 @@
 //! ```
 //!
 //! ```
+//! use legging::{read_set, write_set, VenueBytes, SET_BYTES};
+//!
+//! // A venue upon which 7 messages were done, carried over: the next one has `before` 7.
+//! let venue = VenueBytes::fresh();
+//! let mut set = [0xFF; SET_BYTES];
+//! let length = write_set(&venue, 7, &mut set)?;
+//! assert_eq!(set[..5], [12, 0, 80, 0, 7]);
+//! assert_eq!(read_set(&set[..length])?, (venue, 7));
+//! # Ok::<(), legging::Number>(())
+//! ```
+//!
+//! ```
 //! use legging::{arrive, turn, LayerBytes, Number, MOST_BYTES};
 //!
 //! // A sweep for venue 2: the next turn does it, and then nothing waits.
@@ -62,13 +75,16 @@
 mod archive;
 mod layer;
 mod number;
+mod set;
 mod settings;
 mod venue;
 
 pub use archive::{arrive, arrive_in, layer_fresh_in, turn, turn_in};
 pub use archive::{feed, fresh_in, one_message, one_message_in, run, settings_in};
+pub use archive::{read_set_in, write_set_in};
 pub use layer::{LayerBytes, Turned, LAYER_BYTES, MOST_MESSAGE, MOST_WAITING, VENUES};
 pub use number::Number;
+pub use set::{read_set, write_set, SET_BYTES};
 pub use settings::{settings, Settings, SETTINGS_BYTES};
 pub use venue::{ComplexOrder, RegularOrder, VenueBytes, VENUE_BYTES};
 

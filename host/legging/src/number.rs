@@ -2,7 +2,8 @@
 
 use std::fmt::{self, Display};
 
-/// What a call returned: 0 to 14, 17 and 18 of an arrival, 19 to 21 of a feed.
+/// What a call returned: 0 to 14, 15 and 16 of a set, 17 and 18 of an arrival, 19 to 21 of a
+/// feed.
 #[derive(Clone, Copy, Debug, PartialEq, Eq, PartialOrd, Ord, Hash)]
 pub struct Number(u8);
 
@@ -26,8 +27,8 @@ impl Number {
     pub const BOOK_FULL: Number = Number(7);
     /// No resting order has the id.
     pub const NO_SUCH_ORDER: Number = Number(8);
-    /// The venue or the layer given is not sound, or the message's number is not above
-    /// that of every edition and generation kept.
+    /// The venue or the layer given or the venue of a set is not sound, or the message's
+    /// number is not above that of every edition and generation kept.
     pub const UNSOUND: Number = Number(9);
     /// The next message's records do not fit, or its number would pass
     /// 4,294,967,295.
@@ -40,6 +41,11 @@ impl Number {
     pub const EDITIONS_FULL: Number = Number(13);
     /// The two ratios are equal.
     pub const EQUAL_RATIOS: Number = Number(14);
+    /// The memory lent for a set is shorter than it.
+    pub const SHORT_MEMORY: Number = Number(15);
+    /// A record of a set is torn, missing, out of order, one too many, or of a kind or
+    /// length that the set has not.
+    pub const BAD_SET: Number = Number(16);
     /// The venue's wait holds 8 messages, or the message is over 32 bytes.
     pub const NO_PLACE: Number = Number(17);
     /// The venue's number is above 3.
@@ -86,6 +92,8 @@ impl Number {
             12 => "the series is not closed, or is in use",
             13 => "32 editions are held",
             14 => "the two ratios are equal",
+            15 => "the memory is shorter than the set",
+            16 => "the records are no set",
             17 => "the wait is full, or the message is too long to wait",
             18 => "there is no such venue",
             19 => "the lines differ in a message",

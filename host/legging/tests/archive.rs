@@ -2,9 +2,10 @@
 
 use legging::{arrive, arrive_in, layer_fresh_in, turn, turn_in};
 use legging::{feed, fresh_in, one_message, one_message_in, run, settings, settings_in};
+use legging::{read_set_in, write_set, write_set_in};
 use legging::{ComplexOrder, LayerBytes, Number, RegularOrder, Settings, VenueBytes};
-use legging::{LAYER_BYTES, MOST_BYTES, SETTINGS_BYTES, VENUE_BYTES};
-use reference::{Layer, Venue};
+use legging::{LAYER_BYTES, MOST_BYTES, SETTINGS_BYTES, SET_BYTES, VENUE_BYTES};
+use reference::{Layer, Venue, MOST_SET};
 use sessions::held::to_bytes;
 use sessions::held_layer;
 use sessions::line::{line_bytes, numbered};
@@ -788,6 +789,29 @@ fn a_turn_takes_less_than_48_kibibytes_of_stack() {
 }
 
 #[test]
+fn a_stack_of_32_kibibytes_is_enough_to_write_a_set_and_one_of_48_to_read_it() {
+    let (venue, done) = (venue_after(LIMITED), 6);
+    let mut set = vec![0; SET_BYTES];
+    write_set(&venue, done, &mut set).expect("a set");
+    let mut torn = set.clone();
+    torn[0] = 3;
+    let mut read = vec![0xC3; VENUE_BYTES];
+    let venue = Box::new(venue);
+    // The thread and the test take 6 KiB for themselves.
+    upon_stack(38 << 10, move || {
+        let mut written = vec![0xC3; SET_BYTES];
+        let number = write_set_in(venue.as_bytes(), done, &mut written, &mut [0; 4]);
+        assert_eq!(number, Number::DONE);
+    });
+    upon_stack(54 << 10, move || {
+        let number = read_set_in(&set, &mut read, &mut [0; 4]);
+        assert_eq!(number, Number::DONE);
+        let number = read_set_in(&torn, &mut read, &mut [0; 4]);
+        assert_eq!(number, Number::BAD_SET);
+    });
+}
+
+#[test]
 fn numbers_have_words() {
     assert_eq!(Number::DONE.to_string(), "0: done");
     assert_eq!(
@@ -837,4 +861,9 @@ fn hosts_in_c_and_rust_and_scripts_lend_the_same_memory() {
     assert_eq!(sessions::asked::ENOUGH as usize, MOST_BYTES);
     assert_eq!(sessions::held::VENUE_BYTES, VENUE_BYTES);
     assert_eq!(held_layer::LAYER_BYTES, LAYER_BYTES);
+    assert_eq!(in_header("LEGGING_SET_BYTES"), SET_BYTES);
+    assert_eq!(
+        (in_header("LEGGING_NUMBER_BYTES"), MOST_SET),
+        (4, SET_BYTES)
+    );
 }

@@ -45,6 +45,11 @@ fn four(arguments: &[&str], input: &[u8]) -> (i32, String, String) {
     run(PROGRAM.get_or_init(|| built("four")), arguments, input)
 }
 
+fn upgrade(arguments: &[&str], input: &[u8]) -> (i32, String, String) {
+    static PROGRAM: OnceLock<PathBuf> = OnceLock::new();
+    run(PROGRAM.get_or_init(|| built("upgrade")), arguments, input)
+}
+
 /// The status, output and errors of a program.
 fn run(program: &Path, arguments: &[&str], input: &[u8]) -> (i32, String, String) {
     let mut child = Command::new(program)
@@ -313,6 +318,50 @@ fn refused_messages_a_negative_net_and_a_torn_end() {
 fn no_input_and_no_memory() {
     let (status, told, _) = host(&["--room", "0"], &[]);
     assert_eq!((status, told.lines().count()), (0, 1));
+}
+
+#[test]
+fn an_upgrade_at_noon_writes_the_lines_of_a_whole_day() {
+    let list = generate(Profile::Mixed, 3, 200);
+    let whole = print_sheet(&read_report(&run_whole(&list.concat()).1).expect("records"));
+    for cut in [0, 1, 100, list.len()] {
+        let noon = file(&format!("noon-{cut}"), &[]);
+        let (status, morning, _) = upgrade(&["--write", &noon], &list[..cut].concat());
+        assert_eq!(status, 0);
+        let (status, rest, _) = upgrade(&["--read", &noon, "-"], &list[cut..].concat());
+        assert_eq!(status, 0);
+        assert_eq!(format!("{morning}{rest}"), whole, "{cut}");
+        let set = std::fs::read(&noon).expect("a set");
+        let (venue, done) = sessions::set_reader::look_at(&set).expect("it reads back");
+        assert_eq!(done as usize, cut);
+        assert!(reference::is_sound(&venue));
+        // Carried once more without a message it is the same.
+        let again = file(&format!("again-{cut}"), &[]);
+        let (status, told, _) = upgrade(&["--read", &noon, "--write", &again], &[]);
+        assert_eq!((status, told.as_str()), (0, ""));
+        assert_eq!(std::fs::read(&again).expect("a set"), set);
+    }
+}
+
+#[test]
+fn an_upgrade_with_what_is_no_set_is_told() {
+    let torn = file("torn", &[12, 0, 80]);
+    for (arguments, status, word) in [
+        (&["--read", &torn][..], 3, "the set was not read: number 16"),
+        (&["--read", "no-such-file"], 1, "no-such-file"),
+        (&["--read", "-"], 2, "one file only: -"),
+        (&["--read"], 2, "after: --read"),
+        (&["--what"], 2, "--what"),
+        (&["a", "b"], 2, "too many: b"),
+        (&["--write", "/no/such/folder"], 1, "was not written"),
+    ] {
+        let (found, told, error) = upgrade(arguments, &[]);
+        assert_eq!((found, told.as_str()), (status, ""), "{error}");
+        assert!(error.contains(word), "{error}");
+    }
+    let (status, told, _) = upgrade(&["--help"], &[]);
+    assert_eq!(status, 0);
+    assert!(told.starts_with("usage: upgrade "));
 }
 
 #[test]
