@@ -9,6 +9,7 @@ mod lists;
 mod machine;
 mod race;
 mod runs;
+mod sets;
 mod spin;
 mod table;
 mod turns;
@@ -24,8 +25,8 @@ bench: the engine timed beside the reference, in ns
   bench [TABLE ...] [--rounds N] [--seeds N] [--sessions N] [--only NAME] [--kinds N] [--quick]
   bench spin NAME [--book N] [--times N] [--who engine|reference]
 
-Tables: profiles, blocks, growing, books, layers, feeds, calls, call-layers, turns; all of
-them where none is named.
+Tables: profiles, blocks, growing, books, layers, feeds, calls, call-layers, turns, sets;
+all of them where none is named.
 Each cell is the least and the median of the rounds (default 15), the ratio is
 reference / engine of the least: above 1 the engine is faster.
 
@@ -44,6 +45,10 @@ reference / engine of the least: above 1 the engine is faster.
   call-layers  the messages of a unit as such calls
   turns      the messages of `calls` that can wait, each as an arrival and as a turn upon
              four copies of its venue behind one line, beside the engine's own call
+  sets       the set of a venue written into memory for the longest, and read: of a fresh
+             venue, books of 8, 32 and 128 orders and a full venue; eight calls are timed
+             together, in four times as many rounds. The last columns: the engine's reading
+             by the set's bytes, and what is beyond the fresh one by the bytes beyond it
 
 --only keeps the profiles and layers of that name. With --kinds 10 sessions have none of
 the kinds above 10: they are those drawn before these came, for an engine of that time.
@@ -177,6 +182,11 @@ const TABLES: &[(&str, &str, Make)] = &[
         "turns",
         "Arrival and turn beside the one-message call, ns: means of the least times",
         turns::profiles,
+    ),
+    (
+        "sets",
+        "A venue's set written and read, ns: venues from fresh to full",
+        sets::venues,
     ),
 ];
 

@@ -28,6 +28,7 @@ fn every_table_has_its_rows() {
         ("calls", 17),
         ("call-layers", 42),
         ("turns", 17),
+        ("sets", 5),
     ] {
         let (succeeded, told, error) = bench(&[&[table], &sizes[..]].concat());
         assert!(succeeded, "{error}");

@@ -21,6 +21,7 @@ pub struct Counts {
     /// Trades and crosses that were looked at at their moment.
     pub moments: u64,
     pub settings: u64,
+    pub sets: u64,
     pub arrivals: u64,
     pub turns: u64,
     pub bytes: u64,
@@ -96,8 +97,11 @@ pub struct Comparer<'a> {
     fault: Option<Fault>,
     /// The engine's report memory, venue memory and layer memory.
     pub(crate) report: Lent,
-    venue: Lent,
+    pub(crate) venue: Lent,
     pub(crate) layer: Lent,
+    /// A set, and what a call upon one tells.
+    pub(crate) set: Lent,
+    pub(crate) told: Lent,
     /// The engine's two lines, main first.
     lines: [Lent; 2],
     /// The reference's report memory.
@@ -114,6 +118,8 @@ impl<'a> Comparer<'a> {
             report: Lent::new(),
             venue: Lent::new(),
             layer: Lent::new(),
+            set: Lent::new(),
+            told: Lent::new(),
             lines: [Lent::new(), Lent::new()],
             wanted: Lent::new(),
             records: Vec::new(),
@@ -269,6 +275,8 @@ impl<'a> Comparer<'a> {
         let report = self.report.memory().len() as isize;
         let venue = self.venue.memory().len() as isize;
         let layer = self.layer.memory().len() as isize;
+        let set = self.set.memory().len() as isize;
+        let told = self.told.memory().len() as isize;
         match part {
             Part::Number => return turned ^ 1,
             Part::Served => return turned ^ 256,
@@ -283,6 +291,12 @@ impl<'a> Comparer<'a> {
             Part::Layer => self.layer.spoil((layer - 1).max(0)),
             Part::BeforeLayer => self.layer.spoil(-1),
             Part::AfterLayer => self.layer.spoil(layer),
+            Part::Set => self.set.spoil((set - 1).max(0)),
+            Part::BeforeSet => self.set.spoil(-1),
+            Part::AfterSet => self.set.spoil(set),
+            Part::Told => self.told.spoil((told - 1).max(0)),
+            Part::BeforeTold => self.told.spoil(-1),
+            Part::AfterTold => self.told.spoil(told),
         }
         turned
     }
@@ -335,7 +349,23 @@ impl<'a> Comparer<'a> {
         same_bytes("settings", self.report.memory(), wanted)
     }
 
-    fn same_venue(&mut self, wanted: &[u8]) -> Result<(), String> {
+    pub(crate) fn same_set(&mut self, wanted: &[u8]) -> Result<(), String> {
+        if !self.set.is_guarded() {
+            return Err("bytes outside the set memory were written".to_string());
+        }
+        self.counts.bytes += wanted.len() as u64;
+        same_bytes("set", self.set.memory(), wanted)
+    }
+
+    /// The bytes written, or the message number.
+    pub(crate) fn same_told(&mut self, wanted: &[u8]) -> Result<(), String> {
+        if !self.told.is_guarded() {
+            return Err("bytes outside the memory of the number told were written".to_string());
+        }
+        same_bytes("number told", self.told.memory(), wanted)
+    }
+
+    pub(crate) fn same_venue(&mut self, wanted: &[u8]) -> Result<(), String> {
         if !self.venue.is_guarded() {
             return Err("bytes outside the venue memory were written".to_string());
         }

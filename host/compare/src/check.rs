@@ -25,6 +25,13 @@ pub enum Check {
     CallRatios,
     CallGenerations,
     Settings,
+    WriteSet,
+    WriteSetShort,
+    WriteSetLength,
+    WriteSetRefused,
+    ReadSet,
+    ReadSetLength,
+    ReadSetSpoiled,
     LayerFresh,
     Arrive,
     ArriveChanged,
@@ -36,7 +43,7 @@ pub enum Check {
 }
 
 impl Check {
-    pub const ALL: [Check; 30] = [
+    pub const ALL: [Check; 37] = [
         Check::RunWhole,
         Check::RunShort,
         Check::RunEveryLength,
@@ -59,6 +66,13 @@ impl Check {
         Check::CallRatios,
         Check::CallGenerations,
         Check::Settings,
+        Check::WriteSet,
+        Check::WriteSetShort,
+        Check::WriteSetLength,
+        Check::WriteSetRefused,
+        Check::ReadSet,
+        Check::ReadSetLength,
+        Check::ReadSetSpoiled,
         Check::LayerFresh,
         Check::Arrive,
         Check::ArriveChanged,
@@ -93,6 +107,13 @@ impl Check {
             Check::CallRatios => "call-ratios",
             Check::CallGenerations => "call-generations",
             Check::Settings => "settings",
+            Check::WriteSet => "write-set",
+            Check::WriteSetShort => "write-set-short",
+            Check::WriteSetLength => "write-set-length",
+            Check::WriteSetRefused => "write-set-refused",
+            Check::ReadSet => "read-set",
+            Check::ReadSetLength => "read-set-length",
+            Check::ReadSetSpoiled => "read-set-spoiled",
             Check::LayerFresh => "layer-fresh",
             Check::Arrive => "arrive",
             Check::ArriveChanged => "arrive-changed",
@@ -137,6 +158,15 @@ impl Check {
                 "a one-message call upon a broken row of generations, or about a ceiling's end"
             }
             Check::Settings => "the settings of a venue at a message number",
+            Check::WriteSet => "the set of a venue",
+            Check::WriteSetShort => "the set of a venue in memory of every length about it",
+            Check::WriteSetLength => "the set of a venue, with other memory of another length",
+            Check::WriteSetRefused => {
+                "the set of a changed venue, or with a number about the last one kept"
+            }
+            Check::ReadSet => "a set read back, cut at every byte",
+            Check::ReadSetLength => "a set read into memory of another length",
+            Check::ReadSetSpoiled => "a set read that is short or spoiled",
             Check::LayerFresh => "a fresh layer, in layer memory of any length",
             Check::Arrive => "an arrival",
             Check::ArriveChanged => "an arrival at a changed layer",
@@ -156,7 +186,8 @@ impl Check {
     pub fn has(self, part: Part) -> bool {
         let is = |kind: &str| self.name().starts_with(kind);
         let replay = self == Check::Replay;
-        let venue = is("call") || is("settings") || self == Check::Fresh;
+        let set = is("write-set") || is("read-set");
+        let venue = is("call") || is("settings") || set || self == Check::Fresh;
         let layer = is("arrive") || is("turn") || self == Check::LayerFresh;
         match part {
             Part::Number => !replay,
@@ -169,11 +200,14 @@ impl Check {
             Part::Main | Part::Spare => is("feed"),
             Part::Layer | Part::BeforeLayer | Part::AfterLayer => layer,
             Part::Served => is("turn"),
+            Part::Set | Part::BeforeSet | Part::AfterSet => set,
+            Part::Told | Part::BeforeTold | Part::AfterTold => set,
         }
     }
 }
 
-/// A part of an answer; settings memory goes by the name of report memory.
+/// A part of an answer; settings memory goes by the name of report memory. What calls upon
+/// sets tell is the bytes written, or the message number.
 #[derive(Clone, Copy, Debug, PartialEq, Eq)]
 pub enum Part {
     Number,
@@ -189,10 +223,16 @@ pub enum Part {
     BeforeLayer,
     AfterLayer,
     Served,
+    Set,
+    BeforeSet,
+    AfterSet,
+    Told,
+    BeforeTold,
+    AfterTold,
 }
 
 impl Part {
-    pub const ALL: [Part; 13] = [
+    pub const ALL: [Part; 19] = [
         Part::Number,
         Part::Report,
         Part::BeforeReport,
@@ -206,6 +246,12 @@ impl Part {
         Part::BeforeLayer,
         Part::AfterLayer,
         Part::Served,
+        Part::Set,
+        Part::BeforeSet,
+        Part::AfterSet,
+        Part::Told,
+        Part::BeforeTold,
+        Part::AfterTold,
     ];
 
     pub fn name(self) -> &'static str {
@@ -223,6 +269,12 @@ impl Part {
             Part::BeforeLayer => "before-layer",
             Part::AfterLayer => "after-layer",
             Part::Served => "served",
+            Part::Set => "set",
+            Part::BeforeSet => "before-set",
+            Part::AfterSet => "after-set",
+            Part::Told => "told",
+            Part::BeforeTold => "before-told",
+            Part::AfterTold => "after-told",
         }
     }
 

@@ -17,6 +17,12 @@ pub trait Engine {
     /// of any length.
     fn settings(&self, venue: &[u8], number: u32, settings: &mut [u8]) -> u8;
 
+    /// The set of venue memory of any length, into memory of any lengths.
+    fn write_set(&self, venue: &[u8], number: u32, set: &mut [u8], written: &mut [u8]) -> u8;
+
+    /// A set read into memory of any lengths.
+    fn read_set(&self, set: &[u8], venue: &mut [u8], number: &mut [u8]) -> u8;
+
     /// A fresh layer, in layer memory of any length.
     fn layer_fresh(&self, layer: &mut [u8]) -> u8;
 
@@ -49,6 +55,14 @@ impl Engine for Archive {
 
     fn settings(&self, venue: &[u8], number: u32, settings: &mut [u8]) -> u8 {
         legging::settings_in(venue, number, settings).get()
+    }
+
+    fn write_set(&self, venue: &[u8], number: u32, set: &mut [u8], written: &mut [u8]) -> u8 {
+        legging::write_set_in(venue, number, set, written).get()
+    }
+
+    fn read_set(&self, set: &[u8], venue: &mut [u8], number: &mut [u8]) -> u8 {
+        legging::read_set_in(set, venue, number).get()
     }
 
     fn layer_fresh(&self, layer: &mut [u8]) -> u8 {
@@ -91,6 +105,21 @@ impl Engine for Reference {
     fn settings(&self, venue: &[u8], number: u32, settings: &mut [u8]) -> u8 {
         let (answer, told) = crate::calls::expected_settings(venue, number, settings.len());
         settings.copy_from_slice(&told);
+        answer
+    }
+
+    fn write_set(&self, venue: &[u8], number: u32, set: &mut [u8], written: &mut [u8]) -> u8 {
+        let (length, told) = (set.len(), written.len());
+        let (answer, left, bytes) = crate::sets::expected_written(venue, number, length, told);
+        set.copy_from_slice(&left);
+        written.copy_from_slice(&bytes);
+        answer
+    }
+
+    fn read_set(&self, set: &[u8], venue: &mut [u8], number: &mut [u8]) -> u8 {
+        let (answer, left, told) = crate::sets::expected_read(set, venue, number.len());
+        venue.copy_from_slice(&left);
+        number.copy_from_slice(&told);
         answer
     }
 

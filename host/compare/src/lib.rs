@@ -12,3 +12,4 @@ pub mod check;
 pub mod engine;
 pub mod layers;
 pub mod session;
+pub mod sets;

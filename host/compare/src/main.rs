@@ -32,8 +32,11 @@ edition. The engine's records of each message are replayed upon the venue before
 trade or cross passes a better price over, and they lead to the venue that the engine
 left. Four sessions arrive at four venues behind one line and are done by
 turns, with calls beside them upon short memory, changed layers and layer memory of
-other lengths. Compared are the number, every byte of the report or settings memory
-(lent full of junk), of the venue, the layer and the lines, and the bytes around them.
+other lengths. Sets of venues on the way are written into memory of every length and
+read back, cut at every byte; spoiled in every way, one too many of each part among them;
+short; and written of changed venues and with numbers about the last one kept.
+Compared are the number, every byte of the report, settings or set memory (lent full of
+junk), of the venue, the layer and the lines, and the bytes around them.
 The first difference ends it with exit status 1, and names what repeats it. A soak tries
 report memory that ends near one in ten messages' records; the others try all of them.
 ";
@@ -208,14 +211,15 @@ fn told(counts: &Counts) -> String {
         (counts.calls, "one-message calls"),
         (counts.moments, "trades and crosses replayed"),
         (counts.settings, "settings told"),
+        (counts.sets, "sets written and read"),
         (counts.arrivals, "arrivals"),
         (counts.turns, "turns"),
-        (counts.bytes, "bytes of reports, venues and layers"),
+        (counts.bytes, "bytes of reports, venues, layers and sets"),
     ];
     for (count, name) in lines {
         text += &format!("{count:>14}  {name}\n");
     }
-    for number in (0..=14).chain(17..=21) {
+    for number in 0..=21 {
         let count = counts.numbers[number];
         text += &format!("{count:>14}  number {number}\n");
     }

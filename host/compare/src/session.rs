@@ -3,6 +3,7 @@
 use crate::calls::{Comparer, Expected};
 use crate::check::Check;
 use crate::layers::compare_layer;
+use crate::sets::Sets;
 use sessions::broken::{broken_generations, broken_orders, broken_ratios, broken_rows};
 use sessions::broken::{with_editions, with_generations, with_ratios, with_reserve};
 use sessions::corrupt::corrupt;
@@ -61,6 +62,8 @@ struct Session<'a, 'b> {
     chosen: Random,
     /// Draws the lines over which the list comes; apart from the other draws too.
     fed: Random,
+    /// Draws the sets that are spoiled; apart from the other draws too.
+    sets: Random,
     one_in: u64,
 }
 
@@ -83,6 +86,7 @@ pub fn compare_session(
         generator: Generator::new(profile, !seed),
         chosen: Random::new(seed),
         fed: Random::new(seed ^ (profile as u64 + 1).rotate_left(32)),
+        sets: Random::new(!seed ^ (profile as u64 + 1).rotate_left(48)),
         one_in,
         pieces,
     };
@@ -293,9 +297,24 @@ impl Session<'_, '_> {
             if matches!(message.get(2), Some(7 | 8)) {
                 self.settings_about(&venue, before)?;
             }
+            let is_last = before as usize + 1 == pieces.len();
+            if is_last || self.sets.chance(1) {
+                let every_length = is_last && self.sets.chance(30);
+                self.carried(&venue, before + 1, every_length)?;
+            }
         }
         self.pieces = pieces;
         Ok(())
+    }
+
+    /// Sets of a venue upon which so many messages were done.
+    fn carried(&mut self, venue: &[u8], number: u32, every_length: bool) -> Checked {
+        let mut sets = Sets {
+            comparer: self.comparer,
+            random: &mut self.sets,
+            every_length,
+        };
+        sets.compare(venue, number)
     }
 
     /// Calls that leave the session as it is.

@@ -35,13 +35,13 @@ fn the_reference_does_not_differ_from_itself() {
 }
 
 #[test]
-fn arrivals_and_lines_get_every_number() {
+fn sets_arrivals_and_lines_get_every_number() {
     let mut comparer = Comparer::new(&Reference, None);
     for seed in 0..10 {
         let compared = compare_session(&mut comparer, Profile::Hits, seed, 50);
         assert!(compared.is_ok());
     }
-    let numbers = &comparer.counts.numbers[17..];
+    let numbers = &comparer.counts.numbers[15..];
     assert!(numbers.iter().all(|count| *count > 0), "{numbers:?}");
 }
 
@@ -73,6 +73,10 @@ fn each_spoiled_part_is_found_where_it_was_spoiled() {
             Part::Layer => "layer",
             Part::BeforeLayer | Part::AfterLayer => "layer memory",
             Part::Served => "served",
+            Part::Set => "set byte",
+            Part::BeforeSet | Part::AfterSet => "set memory",
+            Part::Told => "number told byte",
+            Part::BeforeTold | Part::AfterTold => "memory of the number told",
         };
         assert!(told.contains(word), "{told}");
     }
