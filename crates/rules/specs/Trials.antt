@@ -1,11 +1,11 @@
 -- Document 01, "Trials": the starred ones, the printed session, the wrongs named there, sessions for what these and the theorems leave open, the bytes
 -- of each kind of message and record, the ends of each range, the refusals by the examples of their table, then section by section what a wrong definition
 -- would do otherwise (tests/wrong_definitions.py tries such), and soundness clause by clause: all in one statement over a list. The sessions of requests (d),
--- (e), (g) and (m) are a statement each, for the checker's limit on steps.
+-- (e), (g) and (m) are a statement each.
 -- A session's messages go in as bytes and its records are read from the report memory's bytes.
 use mathlib.Core.Bool.{Bool, true, false, not, _&&_}
-use mathlib.Core.Path.{_≡_, refl}
-use mathlib.Core.List.{List, [], _∷_, _++_, map}
+use mathlib.Core.Path.{_≡_, refl, sym, ap₂, _∙_}
+use mathlib.Core.List.{List, [], _∷_, _++_, map, map-append}
 use Prim.Native.Nat.{ℕ, zero, suc, _-_}
 use lib.IntN.{ℤ, pos, negℤ}
 use lib.ListN.{set, drop, length, replicate}
@@ -1301,25 +1301,96 @@ traffic =
     ∷ upon (three 6) 9 100 sweeps 9 0 [] (three 6)
     ∷ []
 
+-- `unfolding tried` opens every trial, as `opened-rules` does every definition
+unfoldable tried : Unit {0}
+unfolding outcome expected spread open1 legsUp single rest both byRatios leg resting numbering busy leggedVenue minus opens closes enters reserves pairUp buysBoth cancels sweeps opening accepted awayAdded starred together wrongs twoLeg legged leggedSheet quoted relying inAuction restingBefore keptApart choices quotes bidding asked dearer respecting pairs gone layouts whole double edges offers twice refused met settled threeOpen farApart worked awayAlone nearTop made standing base atTop isSound unsound weighed misweighed locked stale staleComplex staleLegging listing market spreading faults lone quoting idle allHeld lefts named numbers withOne half allShown tooShort reserved weighing ratioed oneEach oneEachSheet tenth unequal increments bands dating dated many full inAll seasons limited three outbid meeting sellsBoth traffic
+tried = tt
+
+-- every trial of a list comes out as it should; asked list by list, which takes the checker less than all at once
+record Holds (l : List Trial) : Type 0 where
+  pub out : map outcome l ≡ map expected l
+
+infixl 20 _and_
+_and_ : {a b : List Trial} → Holds a → Holds b → Holds (a ++ b)
+_and_ {a} {b} h k = record { out = map-append outcome a b ∙ ap₂ _++_ (h .out) (k .out) ∙ sym (map-append expected a b) }
+
+starred-hold : Holds starred
+unfolding opened-rules tried
+starred-hold = record { out = refl }
+
+wrongs-hold : Holds wrongs
+unfolding opened-rules tried
+wrongs-hold = record { out = refl }
+
+choices-hold : Holds choices
+unfolding opened-rules tried
+choices-hold = record { out = refl }
+
+respecting-hold : Holds respecting
+unfolding opened-rules tried
+respecting-hold = record { out = refl }
+
+layouts-hold : Holds layouts
+unfolding opened-rules tried
+layouts-hold = record { out = refl }
+
+edges-hold : Holds edges
+unfolding opened-rules tried
+edges-hold = record { out = refl }
+
+refused-hold : Holds refused
+unfolding opened-rules tried
+refused-hold = record { out = refl }
+
+met-hold : Holds met
+unfolding opened-rules tried
+met-hold = record { out = refl }
+
+settled-hold : Holds settled
+unfolding opened-rules tried
+settled-hold = record { out = refl }
+
+worked-hold : Holds worked
+unfolding opened-rules tried
+worked-hold = record { out = refl }
+
+made-hold : Holds made
+unfolding opened-rules tried
+made-hold = record { out = refl }
+
+faults-hold : Holds faults
+unfolding opened-rules tried
+faults-hold = record { out = refl }
+
+lefts-hold : Holds lefts
+unfolding opened-rules tried
+lefts-hold = record { out = refl }
+
+numbers-hold : Holds numbers
+unfolding opened-rules tried
+numbers-hold = record { out = refl }
+
 pub trials : List Trial
 trials = starred ++ wrongs ++ choices ++ respecting ++ layouts ++ edges ++ refused ++ met ++ settled ++ worked ++ made ++ faults ++ lefts ++ numbers
 
 pub trials-hold : map outcome trials ≡ map expected trials
-unfolding opened-rules outcome expected spread open1 legsUp single rest both byRatios leg resting numbering busy leggedVenue minus opens closes enters reserves pairUp buysBoth cancels sweeps opening accepted awayAdded starred together wrongs twoLeg legged leggedSheet quoted relying inAuction restingBefore keptApart choices quotes bidding asked dearer respecting pairs gone layouts whole double edges offers twice refused met settled threeOpen farApart worked awayAlone nearTop made standing base atTop isSound unsound weighed misweighed locked stale staleComplex staleLegging listing market spreading faults lone quoting idle allHeld lefts named numbers trials
-trials-hold = refl
+unfolding trials
+trials-hold =
+    (starred-hold and wrongs-hold and choices-hold and respecting-hold and layouts-hold and edges-hold and refused-hold and met-hold and settled-hold
+    and worked-hold and made-hold and faults-hold and lefts-hold and numbers-hold) .out
 
 pub reserves-hold : map outcome reserved ≡ map expected reserved
-unfolding opened-rules outcome expected open1 legsUp single rest both leg resting minus opens closes enters reserves pairUp buysBoth cancels sweeps opening accepted twoLeg legged leggedSheet quoted quotes withOne half allShown tooShort reserved
+unfolding opened-rules tried
 reserves-hold = refl
 
 pub units-hold : map outcome unequal ≡ map expected unequal
-unfolding opened-rules outcome expected single rest minus opens closes enters reserves pairUp buysBoth cancels sweeps opening accepted weighing ratioed legged leggedSheet quoted quotes pairs oneEach oneEachSheet tenth unequal
+unfolding opened-rules tried
 units-hold = refl
 
 pub seasons-hold : map outcome seasons ≡ map expected seasons
-unfolding opened-rules outcome expected single rest opens closes enters pairUp buysBoth cancels sweeps opening accepted awayAdded twice increments bands dating dated many full inAll seasons
+unfolding opened-rules tried
 seasons-hold = refl
 
 pub traffic-holds : map outcome traffic ≡ map expected traffic
-unfolding opened-rules outcome expected open1 legsUp single rest both leg resting numbering busy minus opens enters reserves pairUp twoLeg weighing ratioed buysBoth sweeps accepted keptApart limited three outbid meeting sellsBoth traffic
+unfolding opened-rules tried
 traffic-holds = refl
