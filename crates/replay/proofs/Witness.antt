@@ -2,7 +2,7 @@
 use mathlib.Core.Path.{refl}
 use Rattle.rules.specs.Opened.{opened-rules}
 use Rattle.demands.specs.Demand.{calls, extend, opening, parts, start}
-use Rattle.demands.specs.Witness.{bytesOf}
+use Rattle.witness.specs.Witness.{bytesOf}
 use Rattle.replay.specs.Replay.{begun, entered, finished, lessenComplex, lessenOrder, lookedAt, next, noted, replay, upon}
 use Rattle.replay.specs.Witness.{Witness, before, recordAt, seen, session}
 

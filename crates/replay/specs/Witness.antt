@@ -13,7 +13,7 @@ use Rattle.rules.specs.Records.{Report, cancelled, crossed, generated, looked, 
 use Rattle.rules.specs.Prices.{bestRegular}
 use Rattle.rules.specs.Generation.{generationsOf}
 use Rattle.demands.specs.Demand.{Seen, byRun, calls, opening}
-use Rattle.demands.specs.Witness.{both, bytesOf, order, reserved}
+use Rattle.witness.specs.Witness.{both, bytesOf, order, reserved}
 use Rattle.replay.specs.Replay.{replay, upon}
 
 unfoldable pub session : List Message

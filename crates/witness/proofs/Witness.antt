@@ -7,8 +7,8 @@ use lib.ListN.{getD, length}
 use borrow.Author.Tests.{ltb-true}
 use Rattle.rules.specs.Records.{Report, answer, cancelled}
 use Rattle.rules.specs.Opened.{opened-rules}
 use Rattle.demands.specs.Demand.{calls, extend, opening, parts, start}
-use Rattle.demands.specs.Witness.{Witness, arriving, atEnd, bytesOf, causes, kindOf, later, ofKind, regularSums, session, sums, unitSums}
+use Rattle.witness.specs.Witness.{Witness, arriving, atEnd, bytesOf, causes, kindOf, later, ofKind, regularSums, session, sums, unitSums}
 
 -- what stands at a place of a list is one of it
 at-mem : (l : List Report) (n : ℕ) (d r : Report) → n < length l → getD l n d ≡ r → List·Memᴰ r l

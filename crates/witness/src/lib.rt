@@ -1,0 +1,1 @@
+// The claims of demands are not empty: a list of calls, by computation.
