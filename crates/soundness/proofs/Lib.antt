@@ -1,4 +1,3 @@
-pub mod Passes
 pub mod Beside
 pub mod Whole
 pub mod Following

@@ -22,8 +22,9 @@ use Rattle.places.proofs.Orderly.{range-priced, range-displayed}
 use Rattle.places.proofs.Fully.{range-bounded}
 use Rattle.places.proofs.Loaded.{regular-side, complex-sides, editions-dated}
 use Rattle.places.specs.Layout.{Fully, Loadable, Loaded, venueOf}
-use Rattle.soundness.specs.Checked.{askedRegular, regularsFrom, keptSound, placesSound, pricedOn, onIncrements, eight, ordersSound, Checked}
-use Rattle.soundness.proofs.Passes.{arranged-split, and-assoc}
+use Rattle.alone.specs.Checked.{askedRegular, regularsFrom, keptSound, placesSound}
+use Rattle.soundness.specs.Checked.{pricedOn, onIncrements, eight, ordersSound, Checked}
+use Rattle.alone.proofs.Passes.{arranged-split, and-assoc}
 
 -- Loading -------------------------------------------------------------------------------------
 
