@@ -142,7 +142,7 @@ pub fn complex_order(b: &mut [u32], number: u32, c: Complex, out: &mut [u8], at:
     let i = places::complexes_used(b);
     places::add_complex(b, c);
     let worked = work(b, i, out, at);
-    let settled = legging::settle_all(b, out, worked);
+    let settled = standing::settle_all(b, out, worked);
     legging::generate_order(b, number, i, out, settled)
 }
 
@@ -195,7 +195,7 @@ pub fn sweep(b: &mut [u32], number: u32, out: &mut [u8], at: usize) -> usize
     ensures counts { λ _. ⌜ SameCounts (now (b .entry)) (now (b .exit)) ⌝ }
 {
     let worked = work_each(b, out, at);
-    let settled = legging::settle_all(b, out, worked);
+    let settled = standing::settle_all(b, out, worked);
     generate_each(b, number, out, settled)
 }
 
@@ -349,7 +349,7 @@ pub fn limited_sweep(b: &mut [u32], number: u32, n: u8, out: &mut [u8], at: usiz
     places::put_reached(b, id);
     let told = wire::emit_looked(out, at, looked);
     let worked = work_round(b, round, out, told);
-    let settled = legging::settle_all(b, out, worked);
+    let settled = standing::settle_all(b, out, worked);
     let end = generate_round(b, number, round, out, settled);
     Swept { at: end, looked }
 }
@@ -387,7 +387,7 @@ pub fn cancel(b: &mut [u32], id: u32, out: &mut [u8], at: usize) -> usize
     ensures counts { λ _. ⌜ SameCounts (now (b .entry)) (now (b .exit)) ⌝ }
 {
     let pos = withdraw(b, id, out, at);
-    legging::settle_all(b, out, pos)
+    standing::settle_all(b, out, pos)
 }
 
 // An order arrives and meets the other side; then settling.
@@ -397,5 +397,5 @@ pub fn order(b: &mut [u32], o: Regular, out: &mut [u8], at: usize) -> usize
     ensures counts { λ _. ⌜ Counts (suc (regularsUsed (now (b .entry)))) (complexesUsed (now (b .entry))) (now (b .entry)) (now (b .exit)) ⌝ }
 {
     let pos = matching::enter_regular(b, o, out, at);
-    legging::settle_all(b, out, pos)
+    standing::settle_all(b, out, pos)
 }

@@ -1,3 +1,1 @@
-pub mod Testing
-pub mod Marking
 pub mod Making

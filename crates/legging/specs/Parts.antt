@@ -1,4 +1,4 @@
--- Parts of the test and of generation that a function of their own decides.
+-- Parts of generation that a function of their own decides.
 use mathlib.Core.Bool.{Bool, not, _&&_}
 use Prim.Native.Nat.{ℕ}
 use lib.Dec.{eqb}
@@ -15,12 +15,6 @@ use Rattle.rules.specs.Records.{generated}
 use Rattle.rules.specs.Effects.{Effect, report, _⟫_}
 use Rattle.rules.specs.Removal.{remove, failIf}
 use Rattle.rules.specs.Generation.{legPrice, newLegging, placed, counted, reachesAny, givesWay}
-use Rattle.places.specs.declared.Level.{Level}
-use Rattle.levels.specs.declared.Taken.{Taken}
-
--- of the levels that the legs of c take, that of the leg that is not in series s
-unfoldable pub otherTaken : Taken → Complex → (series : ℕ) → Level
-otherTaken t c s = if eqb (c .series1) s then t .second else t .first
 
 -- a price p of side d in series s whose displayed price is from the increment to 100,000; else none
 unfoldable pub rangedPrice : Venue → (series side p : ℕ) → ℕ

@@ -265,7 +265,7 @@ fn set_away(b: &mut [u32], s: u8, bid: u32, offer: u32, out: &mut [u8], at: usiz
     let status = levels::status_of(b, s);
     let x = Listed { status, bid, offer };
     places::put_listed(b, s as usize, x);
-    legging::settle_all(b, out, at)
+    standing::settle_all(b, out, at)
 }
 
 // A series' status anew; then settling.
@@ -281,7 +281,7 @@ fn set_status(b: &mut [u32], s: u8, status: u8, out: &mut [u8], at: usize) -> us
         offer: old.offer,
     };
     places::put_listed(b, s as usize, x);
-    legging::settle_all(b, out, at)
+    standing::settle_all(b, out, at)
 }
 
 // A figure's edition, entered by the message of this number at the first free place; then settling.
@@ -306,7 +306,7 @@ fn set_figure(
         value: x,
     };
     places::put_edition(b, i, e);
-    legging::settle_all(b, out, at)
+    standing::settle_all(b, out, at)
 }
 
 // An order arrives, and its id is the last accepted.

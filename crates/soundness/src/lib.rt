@@ -193,7 +193,7 @@ fn legging_sound(b: &[u32], g: [[Level; 2]; 8], n: usize) -> bool
     if !has_home(b, l, (n / 2) as u8, (n % 2) as u8) {
         return false;
     }
-    let Verdict::Stands = legging::judge(b, g, n) else {
+    let Verdict::Stands = standing::judge(b, g, n) else {
         return false;
     };
     true

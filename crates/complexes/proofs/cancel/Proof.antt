@@ -12,7 +12,7 @@ use Rattle.complexes.proofs.cancel.Tie as tie
 use Rattle.complexes.proofs.cancel.Reads as reads
 use Rattle.complexes.proofs.cancel.Lts as lts
 use Rattle.complexes.proofs.withdraw.Reads as withdraw-reads
-use Rattle.legging.proofs.settle_all.Reads as settle-all-reads
+use Rattle.standing.proofs.settle_all.Reads as settle-all-reads
 
 withdraw-requires : tie.Need-withdraw-requires
 withdraw-requires c κs = search needs

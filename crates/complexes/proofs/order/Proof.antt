@@ -10,7 +10,7 @@ use Rattle.complexes.proofs.order.Statement.{statement}
 use Rattle.complexes.proofs.order.Tie as tie
 use Rattle.complexes.proofs.order.Reads as reads
 use Rattle.complexes.proofs.order.Lts as lts
-use Rattle.legging.proofs.settle_all.Reads as settle-all-reads
+use Rattle.standing.proofs.settle_all.Reads as settle-all-reads
 use Rattle.matching.proofs.enter_regular.Reads as enter-regular-reads
 
 enter-regular-requires : tie.Need-enter-regular-requires

@@ -1,6 +1,6 @@
 -- `legging::generate_leg` meets its contract.
 use Rattle.legging.proofs.Making.{steps-some, made-none, made-alone, made-over, made-is, planned-shown}
-use Rattle.legging.proofs.Testing.{off, on}
+use Rattle.standing.proofs.Testing.{off, on}
 use Rattle.legging.specs.Parts.{madeBy}
 use Rattle.removal.proofs.Removing.{counts-on}
 use Rattle.places.specs.Layout.{venueOf}

@@ -1,6 +1,6 @@
 -- `legging::generate_order` meets its contract.
 use Rattle.legging.proofs.Making.{generates-kept, generate-past, generate-gone, generate-shut, generate-is, complex-in}
-use Rattle.legging.proofs.Testing.{off, on}
+use Rattle.standing.proofs.Testing.{off, on}
 use Rattle.removal.proofs.Removing.{counts-on}
 use Rattle.places.specs.Layout.{venueOf, complexesUsed}
 use Rattle.wire.proofs.Stages.{does-nothing, follow, stage-venue}

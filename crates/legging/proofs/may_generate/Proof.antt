@@ -1,5 +1,5 @@
 -- `legging::may_generate` meets its contract.
-use Rattle.legging.proofs.Testing.{off, on}
+use Rattle.standing.proofs.Testing.{off, on}
 use Rattle.legging.specs.Parts.{mayGenerate}
 use Rattle.places.specs.Layout.{venueOf}
 use Rattle.rules.proofs.Machine.{back}

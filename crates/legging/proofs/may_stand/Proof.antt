@@ -1,5 +1,5 @@
 -- `legging::may_stand` meets its contract.
-use Rattle.legging.proofs.Testing.{off, on}
+use Rattle.standing.proofs.Testing.{off, on}
 use Rattle.legging.specs.Parts.{mayStand}
 use Rattle.levels.proofs.Sides.{own-is, facing-is}
 use Rattle.places.specs.Layout.{venueOf}

@@ -1,5 +1,5 @@
 -- `legging::plan_leg` meets its contract.
-use Rattle.legging.proofs.Testing.{off, on, size-is}
+use Rattle.standing.proofs.Testing.{off, on, size-is}
 use Rattle.legging.proofs.Making.{planned-free, planned-not, planned-new}
 use Rattle.places.specs.Layout.{venueOf}
 use Prim.Native.Nat.{min}

@@ -1,5 +1,5 @@
 -- `legging::stands_clear` meets its contract.
-use Rattle.legging.proofs.Testing.{off, on, shown-is}
+use Rattle.standing.proofs.Testing.{off, on, shown-is}
 use Rattle.legging.proofs.Making.{clear-own, clear-away}
 use Rattle.legging.specs.Parts.{standsClear}
 use Rattle.places.specs.Layout.{venueOf}

@@ -1,13 +1,13 @@
--- `legging::judge` meets its contract.
-use Rattle.legging.proofs.Testing.{verdict-free, verdict-held}
+-- `standing::judge` meets its contract.
+use Rattle.standing.proofs.Testing.{verdict-free, verdict-held}
 use Rattle.levels.specs.Grid.{LegsIn}
 use Rattle.levels.proofs.Sides.{parent-legs, sides-right}
 use Rattle.removal.proofs.Removing.{legging-at}
 use native.Mathlib.Omega.{arith}
 use mathlib.Core.Path.{sym, _∙_}
 use borrow.Author.Needs.{needs}
-use Rattle.legging.proofs.judge.Statement.{statement}
-use Rattle.legging.proofs.judge.Tie as tie
+use Rattle.standing.proofs.judge.Statement.{statement}
+use Rattle.standing.proofs.judge.Tie as tie
 
 legging-at-requires : tie.Need-legging-at-requires
 legging-at-requires c κs = search needs

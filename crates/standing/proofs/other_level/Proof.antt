@@ -1,8 +1,8 @@
--- `legging::other_level` meets its contract.
-use Rattle.legging.specs.Parts.{otherTaken}
+-- `standing::other_level` meets its contract.
+use Rattle.standing.specs.Parts.{otherTaken}
 use borrow.Author.Tests.{eq-eqb, ne-eqb}
-use Rattle.legging.proofs.other_level.Statement.{statement}
-use Rattle.legging.proofs.other_level.Tie as tie
+use Rattle.standing.proofs.other_level.Statement.{statement}
+use Rattle.standing.proofs.other_level.Tie as tie
 
 returns : tie.Need-returns
 unfolding otherTaken

@@ -1,10 +1,10 @@
--- `legging::none_stands` meets its contract.
+-- `standing::none_stands` meets its contract.
 use mathlib.Core.Path.{ap}
 use Prim.Native.Nat.{ℕ}
 use lib.Dec.{eqb}
 use borrow.Author.Needs.{needs}
-use Rattle.legging.proofs.none_stands.Statement.{statement}
-use Rattle.legging.proofs.none_stands.Tie as tie
+use Rattle.standing.proofs.none_stands.Statement.{statement}
+use Rattle.standing.proofs.none_stands.Tie as tie
 
 mask-of-requires : tie.Need-mask-of-requires
 mask-of-requires c κs = search needs

@@ -1,4 +1,4 @@
--- `legging::remove_failing` meets its contract.
+-- `standing::remove_failing` meets its contract.
 use Rattle.removal.proofs.Removing.{remove-none, unmarked, marked-is}
 use Rattle.places.specs.Layout.{venueOf}
 use Rattle.wire.proofs.Stages.{does-nothing}
@@ -9,8 +9,8 @@ use Rattle.rules.specs.Effects.{Effect}
 use borrow.Author.Tests.{eqb-true}
 use mathlib.Core.Path.{refl, sym, ap, _∙_}
 use borrow.Author.Needs.{needs}
-use Rattle.legging.proofs.remove_failing.Statement.{statement}
-use Rattle.legging.proofs.remove_failing.Tie as tie
+use Rattle.standing.proofs.remove_failing.Statement.{statement}
+use Rattle.standing.proofs.remove_failing.Tie as tie
 
 none-stands-requires : tie.Need-none-stands-requires
 none-stands-requires c κs = search needs

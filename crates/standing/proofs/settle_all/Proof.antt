@@ -1,4 +1,4 @@
--- `legging::settle_all` meets its contract.
+-- `standing::settle_all` meets its contract.
 use mathlib.Core.Path.{ap, _∙_}
 use Rattle.rules.specs.declared.Venue.{Venue}
 use Rattle.rules.specs.Removal.{remove}
@@ -7,8 +7,8 @@ use Rattle.wire.specs.Seen.{seen}
 use Rattle.wire.specs.Stage.{_does_}
 use Rattle.removal.proofs.Removing.{counts-on}
 use borrow.Author.Needs.{needs}
-use Rattle.legging.proofs.settle_all.Statement.{statement}
-use Rattle.legging.proofs.settle_all.Tie as tie
+use Rattle.standing.proofs.settle_all.Statement.{statement}
+use Rattle.standing.proofs.settle_all.Tie as tie
 
 show-again-requires : tie.Need-show-again-requires
 show-again-requires c κs = search needs

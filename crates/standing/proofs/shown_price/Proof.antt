@@ -1,10 +1,10 @@
--- `legging::shown_price` meets its contract.
+-- `standing::shown_price` meets its contract.
 use Prim.Native.Nat.{ℕ}
 use mathlib.Core.Path.{ap, _∙_}
 use Rattle.rules.specs.Prices.{displayed}
 use borrow.Author.Needs.{needs}
-use Rattle.legging.proofs.shown_price.Statement.{statement}
-use Rattle.legging.proofs.shown_price.Tie as tie
+use Rattle.standing.proofs.shown_price.Statement.{statement}
+use Rattle.standing.proofs.shown_price.Tie as tie
 
 increment-of-requires : tie.Need-increment-of-requires
 increment-of-requires c κs = search needs

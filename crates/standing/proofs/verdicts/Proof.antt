@@ -1,9 +1,9 @@
--- `legging::verdicts` meets its contract.
-use Rattle.legging.proofs.Marking.{Marked, number-small, marked-none, marked-room, marked-free, marked-on, marked-all}
+-- `standing::verdicts` meets its contract.
+use Rattle.standing.proofs.Marking.{Marked, number-small, marked-none, marked-room, marked-free, marked-on, marked-all}
 use native.Mathlib.Omega.{arith}
 use borrow.Author.Needs.{needs}
-use Rattle.legging.proofs.verdicts.Statement.{statement}
-use Rattle.legging.proofs.verdicts.Tie as tie
+use Rattle.standing.proofs.verdicts.Statement.{statement}
+use Rattle.standing.proofs.verdicts.Tie as tie
 
 abbrev Inv-loop : tie.InvT-loop
 Inv-loop b g marks₀ n₀ marks n = Marked b marks n

@@ -1,12 +1,12 @@
--- `legging::others_stand` meets its contract.
-use Rattle.legging.proofs.Marking.{standFrom, stand-own, stand-free, stand-past, stand-fails, stand-end, stand-all}
+-- `standing::others_stand` meets its contract.
+use Rattle.standing.proofs.Marking.{standFrom, stand-own, stand-free, stand-past, stand-fails, stand-end, stand-all}
 use Rattle.places.specs.Layout.{venueOf}
 use Rattle.rules.specs.Generation.{othersStand}
 use mathlib.Core.Path.{_≡_, _∙_}
 use Prim.Native.Nat.{_-_, _≤_}
 use borrow.Author.Needs.{needs}
-use Rattle.legging.proofs.others_stand.Statement.{statement}
-use Rattle.legging.proofs.others_stand.Tie as tie
+use Rattle.standing.proofs.others_stand.Statement.{statement}
+use Rattle.standing.proofs.others_stand.Tie as tie
 
 abbrev Inv-loop : tie.InvT-loop
 Inv-loop b g m n₀ n = (n ≤ 16) × (standFrom b m n ≡ othersStand (venueOf b) m 0 (venueOf b .legging))

@@ -23,7 +23,7 @@ use Rattle.places.specs.Layout.{levelOf}
 use Rattle.levels.specs.declared.Taken.{Taken}
 use Rattle.levels.specs.Grid.{LegsIn, TakenOf}
 use Rattle.levels.proofs.Sides.{level-price, level-size}
-use Rattle.legging.specs.Parts.{otherTaken}
+use Rattle.standing.specs.Parts.{otherTaken}
 
 -- A flag and its negation ---------------------------------------------------------------------
 

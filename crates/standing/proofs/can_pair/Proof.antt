@@ -1,11 +1,11 @@
--- `legging::can_pair` meets its contract.
-use Rattle.legging.proofs.Testing.{pair-none, pair-dear, pair-size, size-is}
+-- `standing::can_pair` meets its contract.
+use Rattle.standing.proofs.Testing.{pair-none, pair-dear, pair-size, size-is}
 use Rattle.places.specs.Layout.{venueOf}
 use Rattle.rules.proofs.Machine.{back}
 use mathlib.Core.Path.{_∙_}
 use borrow.Author.Needs.{needs}
-use Rattle.legging.proofs.can_pair.Statement.{statement}
-use Rattle.legging.proofs.can_pair.Tie as tie
+use Rattle.standing.proofs.can_pair.Statement.{statement}
+use Rattle.standing.proofs.can_pair.Tie as tie
 
 other-clear-requires : tie.Need-other-clear-requires
 other-clear-requires c κs = search needs

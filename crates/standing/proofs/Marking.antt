@@ -21,7 +21,7 @@ use Rattle.places.specs.Layout.{upto, leggingIn, venueOf}
 use Rattle.levels.proofs.Scans.{upto-on, upto-end}
 use Rattle.removal.specs.Marks.{markAt}
 use Rattle.removal.proofs.Removing.{legging-at}
-use Rattle.legging.proofs.Testing.{verdict-free}
+use Rattle.standing.proofs.Testing.{verdict-free}
 
 -- Marks ---------------------------------------------------------------------------------------
 

@@ -1,5 +1,5 @@
--- `legging::test_order` meets its contract.
-use Rattle.legging.proofs.Testing.{off, on, shown-is}
+-- `standing::test_order` meets its contract.
+use Rattle.standing.proofs.Testing.{off, on, shown-is}
 use Rattle.levels.proofs.Sides.{own-is}
 use Rattle.places.specs.Layout.{venueOf}
 use Rattle.rules.proofs.Machine.{back}
@@ -9,8 +9,8 @@ use lib.IntN.{natAbs}
 use native.Mathlib.Omega.{arith}
 use mathlib.Core.Path.{ap, _∙_}
 use borrow.Author.Needs.{needs}
-use Rattle.legging.proofs.test_order.Statement.{statement}
-use Rattle.legging.proofs.test_order.Tie as tie
+use Rattle.standing.proofs.test_order.Statement.{statement}
+use Rattle.standing.proofs.test_order.Tie as tie
 
 shown-well-requires : tie.Need-shown-well-requires
 shown-well-requires c κs = search needs

@@ -1,10 +1,10 @@
--- `legging::other_clear` meets its contract.
-use Rattle.legging.proofs.Testing.{other-in, other-price, clear-is}
+-- `standing::other_clear` meets its contract.
+use Rattle.standing.proofs.Testing.{other-in, other-price, clear-is}
 use Rattle.levels.proofs.Sides.{opposite-in}
 use Rattle.places.specs.Layout.{venueOf}
 use borrow.Author.Needs.{needs}
-use Rattle.legging.proofs.other_clear.Statement.{statement}
-use Rattle.legging.proofs.other_clear.Tie as tie
+use Rattle.standing.proofs.other_clear.Statement.{statement}
+use Rattle.standing.proofs.other_clear.Tie as tie
 
 other-leg-requires : tie.Need-other-leg-requires
 other-leg-requires c κs = search needs

@@ -1,10 +1,10 @@
--- `legging::shown_well` meets its contract.
+-- `standing::shown_well` meets its contract.
 use Rattle.rules.specs.Prices.{better}
 use mathlib.Core.Bool.{not}
 use mathlib.Core.Path.{ap, _∙_}
 use borrow.Author.Needs.{needs}
-use Rattle.legging.proofs.shown_well.Statement.{statement}
-use Rattle.legging.proofs.shown_well.Tie as tie
+use Rattle.standing.proofs.shown_well.Statement.{statement}
+use Rattle.standing.proofs.shown_well.Tie as tie
 
 shown-price-requires : tie.Need-shown-price-requires
 shown-price-requires c κs = search needs
