@@ -39,8 +39,8 @@ fn can_leg_in(b: &[u32], taken: Taken, c: Complex, a: u32, p: u32) -> bool
     if p == 0 {
         return false;
     }
-    let net = rules::net_of(c.ratio1, c.side1, a, c.ratio2, c.side2, p);
-    let limit = rules::limit_of(c);
+    let net = figures::net_of(c.ratio1, c.side1, a, c.ratio2, c.side2, p);
+    let limit = figures::limit_of(c);
     if limit < net {
         return false;
     }
@@ -61,7 +61,7 @@ pub fn leg_in(b: &mut [u32], i: usize, a: u32, p: u32, k: u32, out: &mut [u8], a
     ensures counts { λ _. ⌜ SameCounts (now (b .entry)) (now (b .exit)) ⌝ }
 {
     let c = places::complex_at(b, i);
-    let net = rules::net_of(c.ratio1, c.side1, a, c.ratio2, c.side2, p);
+    let net = figures::net_of(c.ratio1, c.side1, a, c.ratio2, c.side2, p);
     let one = contracts(c.ratio1, k);
     let two = contracts(c.ratio2, k);
     let first = matching::take(b, c.id, c.series1, c.side1, a, one, out, at);

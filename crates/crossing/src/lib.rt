@@ -1,9 +1,9 @@
 // Complex orders with one another: who crosses with whom, the cross, and the touch of legging orders.
+use figures::lesser;
+use figures::limit_of;
 use levels::Taken;
 use rules::Cause;
 use rules::Complex;
-use rules::lesser;
-use rules::limit_of;
 ghost use mathlib.Core.Path.{_≡_};
 ghost use mathlib.Core.Bool.{_&&_, _||_};
 ghost use Prim.Native.Nat.{ℕ, _≤_, _<_};
@@ -44,7 +44,7 @@ fn legs_face(c: Complex, s: u8, d: u8, q: u8, t: u8, e: u8, r: u8) -> bool
     if c.series1 != s {
         return false;
     }
-    if c.side1 != rules::opposite_of(d) {
+    if c.side1 != figures::opposite_of(d) {
         return false;
     }
     if c.ratio1 != q {
@@ -53,7 +53,7 @@ fn legs_face(c: Complex, s: u8, d: u8, q: u8, t: u8, e: u8, r: u8) -> bool
     if c.series2 != t {
         return false;
     }
-    if c.side2 != rules::opposite_of(e) {
+    if c.side2 != figures::opposite_of(e) {
         return false;
     }
     c.ratio2 == r
@@ -106,7 +106,7 @@ fn respects_legs(taken: Taken, c: Complex, net: i64) -> bool
     if two.price == 0 {
         return true;
     }
-    net <= rules::net_of(c.ratio1, c.side1, one.price, c.ratio2, c.side2, two.price)
+    net <= figures::net_of(c.ratio1, c.side1, one.price, c.ratio2, c.side2, two.price)
 }
 
 // The resting order m is a candidate for c.
@@ -173,8 +173,8 @@ fn better_pick(best: Pick, n: usize, m: Complex) -> Pick
 fn facing_key(s: u8, d: u8, t: u8, e: u8) -> usize
     ensures { λ r. ⌜ r ≡ facingKey s d t e ⌝ }
 {
-    let one = rules::place_of(s, rules::opposite_of(d));
-    let two = rules::place_of(t, rules::opposite_of(e));
+    let one = figures::place_of(s, figures::opposite_of(d));
+    let two = figures::place_of(t, figures::opposite_of(e));
     16 * one + two
 }
 
@@ -258,16 +258,16 @@ fn can_touch(b: &[u32], taken: Taken, c: Complex) -> bool
         return false;
     }
     let one = taken.first;
-    let first = levels::best_own(b, one.price, c.series1, rules::opposite_of(c.side1));
+    let first = levels::best_own(b, one.price, c.series1, figures::opposite_of(c.side1));
     if first == 0 {
         return false;
     }
     let two = taken.second;
-    let second = levels::best_own(b, two.price, c.series2, rules::opposite_of(c.side2));
+    let second = levels::best_own(b, two.price, c.series2, figures::opposite_of(c.side2));
     if second == 0 {
         return false;
     }
-    let net = rules::net_of(c.ratio1, c.side1, first, c.ratio2, c.side2, second);
+    let net = figures::net_of(c.ratio1, c.side1, first, c.ratio2, c.side2, second);
     net <= limit_of(c)
 }
 
@@ -277,12 +277,12 @@ fn fills_unit(b: &[u32], taken: Taken, c: Complex) -> bool
     ensures { λ r. ⌜ r ≡ fillsUnit (venueOf (now (b .entry))) c ⌝ }
 {
     let one = taken.first;
-    let first = levels::own_size(b, one, c.series1, rules::opposite_of(c.side1));
+    let first = levels::own_size(b, one, c.series1, figures::opposite_of(c.side1));
     if first < (c.ratio1 as u64) {
         return false;
     }
     let two = taken.second;
-    let second = levels::own_size(b, two, c.series2, rules::opposite_of(c.side2));
+    let second = levels::own_size(b, two, c.series2, figures::opposite_of(c.side2));
     (c.ratio2 as u64) <= second
 }
 
@@ -309,7 +309,7 @@ pub fn touch(b: &mut [u32], i: usize, out: &mut [u8], at: usize) -> usize
         return at;
     }
     let cause = touch_cause(b, taken, c);
-    let one = rules::place_of(c.series1, rules::opposite_of(c.side1));
-    let two = rules::place_of(c.series2, rules::opposite_of(c.side2));
+    let one = figures::place_of(c.series1, figures::opposite_of(c.side1));
+    let two = figures::place_of(c.series2, figures::opposite_of(c.side2));
     removal::remove_at(b, one, two, cause, out, at)
 }

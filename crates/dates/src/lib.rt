@@ -27,7 +27,7 @@ fn value_after(e: Edition, number: u32, f: u8, x: u8) -> u8
 fn value_at(editions: [Edition; 32], number: u32, f: u8) -> u8
     ensures { λ r. ⌜ r ≡ valueAt editions number f ⌝ }
 {
-    let mut x = rules::base_figure(f);
+    let mut x = figures::base_figure(f);
     let mut i: usize = 0;
     while i < 32 {
         let e = editions[i];

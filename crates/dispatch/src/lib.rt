@@ -106,7 +106,7 @@ fn fresh_lane(lane: &mut [u8])
     requires { ⌜ length (now lane) ≡ laneSize ⌝ }
     ensures { λ _. ⌜ now (lane .exit) ≡ laneBytes freshLane ⌝ }
 {
-    let fresh = rules::fresh();
+    let fresh = figures::fresh();
     let end = VENUE;
     state::put_venue(&mut lane[..end], fresh);
     wire::zero_from(lane, VENUE);

@@ -237,10 +237,10 @@ pub fn feed<'a>(main: &'a [u8], spare: &'a [u8], report: &mut [u8]) -> Returned
     ensures { λ r. ⌜ callOf r (now (report .exit)) ≡ feeding.feed (length (now (report .entry))) (now (main .entry)) (now (spare .entry)) ⌝ }
 {
     if !feed::is_faultless(main) {
-        return end_call(21, rules::fresh(), report);
+        return end_call(21, figures::fresh(), report);
     }
     if !feed::is_faultless(spare) {
-        return end_call(21, rules::fresh(), report);
+        return end_call(21, figures::fresh(), report);
     }
     feed_lines(main, spare, report)
 }
@@ -264,7 +264,7 @@ pub extern "C" fn legging_fresh(venue: &mut [u8]) -> u8
     if venue.len() != state::VENUE_SIZE {
         return 9;
     }
-    let fresh = rules::fresh();
+    let fresh = figures::fresh();
     state::put_venue(venue, fresh);
     0
 }

@@ -1,10 +1,10 @@
 // Generation of legging orders.
+use figures::limit_of;
 use levels::LegSides;
 use levels::Taken;
 use rules::Cause;
 use rules::Complex;
 use rules::Legging;
-use rules::limit_of;
 ghost use mathlib.Core.Path.{_≡_};
 ghost use mathlib.Core.Bool.{true};
 ghost use Prim.Native.Nat.{_≤_, _<_, min};
@@ -52,7 +52,7 @@ fn ranged(b: &[u32], s: u8, d: u8, p: u64) -> u32
         return 0;
     }
     let price = p as u32;
-    let shown = rules::displayed_price(increment, d, price);
+    let shown = figures::displayed_price(increment, d, price);
     if shown < (increment as u64) {
         return 0;
     }
@@ -73,7 +73,7 @@ pub fn leg_price(b: &[u32], taken: Taken, c: Complex, s: u8, d: u8) -> u32
     }
     let other = levels::other_leg(c, s);
     let limit = limit_of(c);
-    let price = rules::signed_price(other.side, clear);
+    let price = figures::signed_price(other.side, clear);
     ranged(b, s, d, as_price(signed_of(d, limit - price)))
 }
 
@@ -99,7 +99,7 @@ fn stands_clear(b: &[u32], own: u32, facing: u32, s: u8, d: u8, p: u32) -> bool
     if !standing::shown_well(b, own, s, d, p) {
         return false;
     }
-    let f = rules::opposite_of(d);
+    let f = figures::opposite_of(d);
     if levels::reaches_any(d, p, levels::best_own(b, facing, s, f)) {
         return false;
     }
@@ -121,7 +121,7 @@ pub fn gives_way(b: &[u32], c: Complex, s: u8, d: u8, p: u32) -> bool
     if c.class != 0 {
         return false;
     }
-    let holder = levels::parent_of(b, places::legging_at(b, rules::place_of(s, d)));
+    let holder = levels::parent_of(b, places::legging_at(b, figures::place_of(s, d)));
     holder.class == 1
 }
 
@@ -218,7 +218,7 @@ fn make_leg(
     ensures counts { λ r. ⌜ SameCounts (now (b .entry)) (now (b .exit)) ⌝ }
 {
     let shown = standing::shown_price(b, s, d, l.price) as u32;
-    let place = rules::place_of(s, d);
+    let place = figures::place_of(s, d);
     let pos = removal::remove_at(b, place, place, Cause::Replaced, out, at);
     places::put_legging(b, place, l);
     places::count_generation(b, s as usize, number);
@@ -243,7 +243,7 @@ pub fn generate_leg(
     if l.price == 0 {
         return at;
     }
-    if !others_stand_with(b, rules::place_of(s, d), l) {
+    if !others_stand_with(b, figures::place_of(s, d), l) {
         return at;
     }
     if !is_under_ceiling(b, number, s) {

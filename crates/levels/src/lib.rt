@@ -90,7 +90,7 @@ fn with_order(l: Level, o: Regular) -> Level
     requires { ⌜ l .size ≤ 549755813760 ⌝ }
     ensures { λ r. ⌜ r ≡ withOrder o l ⌝ }
 {
-    let shown = rules::shown_of(o);
+    let shown = figures::shown_of(o);
     if shown == 0 {
         return l;
     }
@@ -115,7 +115,7 @@ fn level_of(b: &[u32], s: u8, d: u8) -> Level
     requires { ⌜ (length (now b) ≡ size) × (s < 8) × (d < 2) ⌝ }
     ensures { λ r. ⌜ r ≡ levelOf s d (venueOf (now (b .entry)) .regular) ⌝ }
 {
-    let key = rules::place_of(s, d);
+    let key = figures::place_of(s, d);
     let mut l = Level { price: 0, size: 0 };
     let mut i = places::regulars_used(b);
     while 0 < i {
@@ -173,7 +173,7 @@ pub fn add_order(b: &mut [u32], o: Regular)
     ensures { λ _. ⌜ venueOf (now (b .exit)) ≡ putRegular (regularsUsed (now (b .entry))) o (venueOf (now (b .entry))) ⌝ }
     ensures counts { λ _. ⌜ Counts (suc (regularsUsed (now (b .entry)))) (complexesUsed (now (b .entry))) (now (b .entry)) (now (b .exit)) ⌝ }
 {
-    let n = rules::place_of(o.series, o.side);
+    let n = figures::place_of(o.series, o.side);
     let l = places::level_at(b, n);
     places::add_regular(b, o);
     places::put_level(b, n, with_order(l, o));
@@ -192,8 +192,8 @@ pub fn fill_order(b: &mut [u32], i: usize, k: u32)
     if o.price != l.price {
         return;
     }
-    let shown = rules::shown_of(o);
-    let gone = rules::lesser(k, shown) as u64;
+    let shown = figures::shown_of(o);
+    let gone = figures::lesser(k, shown) as u64;
     if gone < l.size {
         let rest = Level {
             price: l.price,
@@ -226,7 +226,7 @@ pub fn best_regular(b: &[u32], s: u8, d: u8) -> u32
     requires { ⌜ (length (now b) ≡ size) × (Right (now b)) × (s < 8) × (d < 2) ⌝ }
     ensures { λ r. ⌜ r ≡ bestRegular (venueOf (now (b .entry))) s d ⌝ }
 {
-    let l = places::level_at(b, rules::place_of(s, d));
+    let l = places::level_at(b, figures::place_of(s, d));
     l.price
 }
 
@@ -266,8 +266,14 @@ pub fn taken_at(b: &[u32], c: Complex) -> Taken
     requires { ⌜ (length (now b) ≡ size) × (Right (now b)) × (LegsIn c) ⌝ }
     ensures { λ r. ⌜ TakenOf r c (venueOf (now (b .entry)) .regular) ⌝ }
 {
-    let first = places::level_at(b, rules::place_of(c.series1, rules::opposite_of(c.side1)));
-    let second = places::level_at(b, rules::place_of(c.series2, rules::opposite_of(c.side2)));
+    let first = places::level_at(
+        b,
+        figures::place_of(c.series1, figures::opposite_of(c.side1)),
+    );
+    let second = places::level_at(
+        b,
+        figures::place_of(c.series2, figures::opposite_of(c.side2)),
+    );
     Taken { first, second }
 }
 
@@ -277,7 +283,7 @@ pub fn sides_at(b: &[u32], c: Complex, s: u8, d: u8) -> LegSides
     ensures { λ r. ⌜ SidesOf r c s d (venueOf (now (b .entry)) .regular) ⌝ }
 {
     let own = best_regular(b, s, d);
-    let facing = best_regular(b, s, rules::opposite_of(d));
+    let facing = best_regular(b, s, figures::opposite_of(d));
     let taken = taken_at(b, c);
     LegSides { own, facing, taken }
 }
@@ -288,14 +294,14 @@ pub fn sides_of(g: [[Level; 2]; 8], c: Complex, s: u8, d: u8) -> LegSides
     ensures { λ r. ⌜ r ≡ sidesIn g c s d ⌝ }
 {
     let s1 = c.series1 as usize;
-    let d1 = rules::opposite_of(c.side1) as usize;
+    let d1 = figures::opposite_of(c.side1) as usize;
     let s2 = c.series2 as usize;
-    let d2 = rules::opposite_of(c.side2) as usize;
+    let d2 = figures::opposite_of(c.side2) as usize;
     let first = g[s1][d1];
     let second = g[s2][d2];
     let i = s as usize;
     let j = d as usize;
-    let k = rules::opposite_of(d) as usize;
+    let k = figures::opposite_of(d) as usize;
     let own = g[i][j];
     let facing = g[i][k];
     let taken = Taken { first, second };
@@ -311,7 +317,7 @@ pub fn own_price(b: &[u32], s: u8, d: u8) -> u32
     requires { ⌜ (length (now b) ≡ size) × (s < 8) × (d < 2) ⌝ }
     ensures { λ r. ⌜ r ≡ ownPrice (leggingAt (venueOf (now (b .entry))) s d) ⌝ }
 {
-    let l = places::legging_at(b, rules::place_of(s, d));
+    let l = places::legging_at(b, figures::place_of(s, d));
     if l.quantity == 0 {
         return 0;
     }
@@ -332,7 +338,7 @@ pub fn own_size(b: &[u32], level: Level, s: u8, d: u8) -> u64
     requires { ⌜ (length (now b) ≡ size) × (level ≡ levelOf s d (venueOf (now b) .regular)) × (s < 8) × (d < 2) ⌝ }
     ensures { λ r. ⌜ r ≡ ownSize (venueOf (now (b .entry))) s d ⌝ }
 {
-    let l = places::legging_at(b, rules::place_of(s, d));
+    let l = places::legging_at(b, figures::place_of(s, d));
     if l.quantity == 0 {
         return level.size;
     }
@@ -385,17 +391,17 @@ pub fn in_band(b: &[u32], taken: Taken, c: Complex, t: i64) -> bool
     ensures { λ r. ⌜ r ≡ inBand (venueOf (now (b .entry))) c t ⌝ }
 {
     let one = taken.first;
-    let first = market_best(b, one.price, c.series1, rules::opposite_of(c.side1));
+    let first = market_best(b, one.price, c.series1, figures::opposite_of(c.side1));
     if first == 0 {
         return false;
     }
     let two = taken.second;
-    let second = market_best(b, two.price, c.series2, rules::opposite_of(c.side2));
+    let second = market_best(b, two.price, c.series2, figures::opposite_of(c.side2));
     if second == 0 {
         return false;
     }
-    let o = rules::net_of(c.ratio1, c.side1, first, c.ratio2, c.side2, second);
-    rules::near_net(places::figure_at(b, 8), o, t)
+    let o = figures::net_of(c.ratio1, c.side1, first, c.ratio2, c.side2, second);
+    figures::near_net(places::figure_at(b, 8), o, t)
 }
 
 // A series' increment in force. It is not 0.

@@ -21,10 +21,10 @@ ghost use Rattle.places.specs.Layout.{size, regularsUsed, complexesUsed, venueO
 ghost use Rattle.matching.specs.Turns.{pairingOf, turnOf, InUse};
 use book::Found;
 use book::Pick;
+use figures::lesser;
 use rules::Cause;
 use rules::Legging;
 use rules::Regular;
-use rules::lesser;
 
 // A taker of a side trades k contracts with the regular order at place j.
 fn trade_with(
@@ -70,7 +70,7 @@ pub fn take(
     ensures { λ r. ⌜ stage (venueOf (now (b .exit))) (now (out .exit)) r ≡ seen (now (out .entry)) at does trading.take quantity taker series side price quantity (venueOf (now (b .entry))) ⌝ }
     ensures counts { λ _. ⌜ SameCounts (now (b .entry)) (now (b .exit)) ⌝ }
 {
-    let other = rules::opposite_of(side);
+    let other = figures::opposite_of(side);
     let mut pos = at;
     let mut left = quantity;
     while 0 < left {
@@ -78,7 +78,7 @@ pub fn take(
         let Pick::At(j, m) = found else {
             return pos;
         };
-        let k = at_most(rules::shown_of(m), left);
+        let k = at_most(figures::shown_of(m), left);
         pos = trade_with(b, taker, side, j, k, out, pos);
         left -= k as u64;
     }
@@ -132,10 +132,10 @@ fn pairing_of(b: &[u32], l: Legging, series: u8, side: u8) -> Pairing
 {
     let c = levels::parent_of(b, l);
     let leg = levels::other_leg(c, series);
-    let other = rules::opposite_of(leg.side);
+    let other = figures::opposite_of(leg.side);
     let best = levels::best_regular(b, leg.series, other);
     let clear = levels::clear_price(b, best, leg.series, other);
-    let net = rules::net_of(1, rules::opposite_of(side), l.price, 1, leg.side, clear);
+    let net = figures::net_of(1, figures::opposite_of(side), l.price, 1, leg.side, clear);
     Pairing {
         id: c.id,
         series: leg.series,
@@ -210,7 +210,7 @@ fn legging_first(o: Regular, l: Legging, p: u32) -> bool
     if !levels::reaches_price(o.side, o.price, own) {
         return false;
     }
-    levels::is_better(rules::opposite_of(o.side), own, p)
+    levels::is_better(figures::opposite_of(o.side), own, p)
 }
 
 // The legging order that one of a side in a series faces.
@@ -218,7 +218,7 @@ fn facing(b: &[u32], series: u8, side: u8) -> Legging
     requires { ⌜ (length (now b) ≡ size) × (series < 8) ⌝ }
     ensures { λ r. ⌜ r ≡ leggingAt (venueOf (now (b .entry))) series (opposite side) ⌝ }
 {
-    let n = rules::place_of(series, rules::opposite_of(side));
+    let n = figures::place_of(series, figures::opposite_of(side));
     places::legging_at(b, n)
 }
 
@@ -226,7 +226,7 @@ fn facing(b: &[u32], series: u8, side: u8) -> Legging
 fn at_once(m: Regular) -> u32
     ensures { λ r. ⌜ r ≡ atOnce m ⌝ }
 {
-    let size = rules::shown_of(m);
+    let size = figures::shown_of(m);
     if size == 0 {
         return m.quantity;
     }

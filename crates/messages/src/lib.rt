@@ -239,7 +239,7 @@ fn refusal_of(b: &[u32], m: Message) -> u8
     requires { ⌜ (length (now b) ≡ size) × (Dense (now b)) × (wellFormed m ≡ true) ⌝ }
     ensures { λ r. ⌜ r ≡ refusalOf (venueOf (now (b .entry))) m ⌝ }
 {
-    let form = rules::message_form(m);
+    let form = figures::message_form(m);
     if 6 < form {
         return later_refusal(b, m);
     }
@@ -354,7 +354,7 @@ fn perform(b: &mut [u32], number: u32, m: Message, out: &mut [u8], at: usize) ->
     ensures { λ r. ⌜ stage (venueOf (now (b .exit))) (now (out .exit)) r ≡ seen (now (out .entry)) at does step.perform number m (venueOf (now (b .entry))) ⌝ }
     ensures right { λ _. ⌜ Right (now (b .exit)) ⌝ }
 {
-    let form = rules::message_form(m);
+    let form = figures::message_form(m);
     if 6 < form {
         return perform_later(b, number, m, out, at);
     }

@@ -76,8 +76,8 @@ pub fn regular_at(b: &[u32], i: usize) -> Regular
 {
     let place = b[4 * i + 1];
     let quantity = b[4 * i + 3];
-    let display = rules::lesser(b[2 * i + 976], quantity);
-    let reserve = rules::lesser(b[2 * i + 975], quantity);
+    let display = figures::lesser(b[2 * i + 976], quantity);
+    let reserve = figures::lesser(b[2 * i + 975], quantity);
     Regular {
         id: b[4 * i],
         series: (place % 16 / 2) as u8,
@@ -468,7 +468,7 @@ fn base_figures(b: &mut [u32])
 {
     let mut f: u8 = 0;
     while f < 9 {
-        let x = rules::base_figure(f);
+        let x = figures::base_figure(f);
         b[2 * (f as usize) + 958] = x as u32;
         f += 1;
     }

@@ -44,13 +44,13 @@ fn early_length(kind: u16) -> u16
     ensures { λ r. ⌜ r ≡ setLength kind ⌝ }
 {
     if kind <= 2 {
-        return rules::length_of(kind);
+        return figures::length_of(kind);
     }
     if kind <= 3 {
         return 0;
     }
     if kind <= 5 {
-        return rules::length_of(kind);
+        return figures::length_of(kind);
     }
     if kind <= 6 {
         return 0;
@@ -61,7 +61,7 @@ fn early_length(kind: u16) -> u16
     if kind <= 8 {
         return 13;
     }
-    rules::length_of(kind)
+    figures::length_of(kind)
 }
 
 // The length of each kind of record; 0 for what is none.
@@ -877,7 +877,7 @@ pub fn refused(number: u8) -> Resumed
 {
     Resumed {
         number,
-        venue: rules::fresh(),
+        venue: figures::fresh(),
         message: 0,
     }
 }

@@ -20,7 +20,7 @@ struct Progress {
 fn start() -> Progress
     ensures { λ r. ⌜ r ≡ started ⌝ }
 {
-    let venue = rules::fresh();
+    let venue = figures::fresh();
     Progress {
         number: 0,
         done: 0,

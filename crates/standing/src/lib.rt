@@ -1,4 +1,5 @@
 // The test by which legging orders stand, and settling.
+use figures::limit_of;
 use levels::LegSides;
 use levels::Taken;
 use places::Level;
@@ -6,7 +7,6 @@ use rules::Cause;
 use rules::Complex;
 use rules::Legging;
 use rules::Verdict;
-use rules::limit_of;
 ghost use mathlib.Core.Path.{_≡_};
 ghost use mathlib.Core.Bool.{true, not};
 ghost use Prim.Native.Nat.{ℕ, _<_};
@@ -31,7 +31,7 @@ pub fn shown_price(b: &[u32], s: u8, d: u8, p: u32) -> u64
     requires { ⌜ (length (now b) ≡ size) × (s < 8) × (Figured (now b)) ⌝ }
     ensures { λ r. ⌜ r ≡ displayed (increment (venueOf (now (b .entry))) s) d p ⌝ }
 {
-    rules::displayed_price(levels::increment_of(b, s), d, p)
+    figures::displayed_price(levels::increment_of(b, s), d, p)
 }
 
 // A price p at side d of series s, displayed, is no worse than best, the best regular of its side.
@@ -59,7 +59,12 @@ pub fn other_clear(b: &[u32], taken: Taken, c: Complex, s: u8) -> u32
 {
     let other = levels::other_leg(c, s);
     let best = other_level(taken, c, s);
-    levels::clear_price(b, best.price, other.series, rules::opposite_of(other.side))
+    levels::clear_price(
+        b,
+        best.price,
+        other.series,
+        figures::opposite_of(other.side),
+    )
 }
 
 // The other leg of c has a clear price, its net with the legging order's is no more than N, and its size is enough.
@@ -72,7 +77,7 @@ pub fn can_pair(b: &[u32], taken: Taken, c: Complex, s: u8, d: u8, l: Legging) -
         return false;
     }
     let other = levels::other_leg(c, s);
-    let net = rules::net_of(1, d, l.price, 1, other.side, clear);
+    let net = figures::net_of(1, d, l.price, 1, other.side, clear);
     let limit = limit_of(c);
     if net <= limit {
         let best = other_level(taken, c, s);
@@ -132,7 +137,7 @@ fn verdicts(b: &[u32], g: [[Level; 2]; 8]) -> u64
         if l.quantity == 0 {
             continue;
         }
-        marks += rules::verdict_number(judge(b, g, n)) as u64;
+        marks += figures::verdict_number(judge(b, g, n)) as u64;
     }
     marks
 }

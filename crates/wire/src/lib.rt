@@ -311,7 +311,7 @@ fn far_of(kind: u16) -> u32
 fn in_range(kind: u16, m: Message) -> bool
     ensures { λ r. ⌜ r ≡ inRange kind m ⌝ }
 {
-    let form = rules::message_form(m);
+    let form = figures::message_form(m);
     if 6 < form {
         return later_in_range(m);
     }
@@ -446,7 +446,7 @@ pub fn decode(s: &[u8]) -> Decoded
     if 11 < kind {
         return Decoded::Refused(2);
     }
-    if size != rules::length_of(kind) {
+    if size != figures::length_of(kind) {
         return Decoded::Refused(3);
     }
     let m = message_of(s);
@@ -641,7 +641,7 @@ pub fn emit_removed(out: &mut [u8], at: usize, id: u32, series: u8, side: u8, ca
     ensures { λ r. ⌜ seen (now (out .exit)) r ≡ seen (now (out .entry)) at writes (removed id series side cause ∷ []) ⌝ }
 {
     let i = bytes4(id);
-    let why = rules::cause_number(cause);
+    let why = figures::cause_number(cause);
     let record = [11u8, 0, 68, 0, i[0], i[1], i[2], i[3], series, side, why];
     put(out, at, &record)
 }

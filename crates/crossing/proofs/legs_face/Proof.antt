@@ -6,7 +6,7 @@ use Rattle.crossing.proofs.legs_face.Statement.{statement}
 use Rattle.crossing.proofs.legs_face.Tie as tie
 use Rattle.crossing.proofs.legs_face.Reads as reads
 use Rattle.crossing.proofs.legs_face.Lts as lts
-use Rattle.rules.proofs.opposite_of.Reads as opposite-of-reads
+use Rattle.figures.proofs.opposite_of.Reads as opposite-of-reads
 
 returns : tie.Need-returns
 returns c = simp (ne-eqb _ _ (c .if1 .taken))

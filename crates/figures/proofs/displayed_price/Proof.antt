@@ -1,14 +1,14 @@
--- `rules::displayed_price` meets its contract.
+-- `figures::displayed_price` meets its contract.
 use mathlib.Core.Path.{sym}
 use Prim.Native.Nat.{_+_, _-_}
 use borrow.Author.Needs.{needs}
 use borrow.Author.Tests.{eq-eqb, ne-eqb}
 use native.Mathlib.Omega.{arith}
 use native.Mathlib.Nat.{div-add-mod'}
 use Rattle.rules.specs.Prices.{displayed}
 use Rattle.rules.proofs.Machine.{shown-none}
-use Rattle.rules.proofs.displayed_price.Statement.{statement}
-use Rattle.rules.proofs.displayed_price.Tie as tie
+use Rattle.figures.proofs.displayed_price.Statement.{statement}
+use Rattle.figures.proofs.displayed_price.Tie as tie
 
 returns : tie.Need-returns
 returns c = let z = c .if1 .taken in rw z (sym (shown-none _ _))

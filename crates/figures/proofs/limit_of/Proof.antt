@@ -1,7 +1,7 @@
--- `rules::limit_of` meets its contract.
+-- `figures::limit_of` meets its contract.
 use Rattle.rules.proofs.Machine.{wide-fits, wide-is}
-use Rattle.rules.proofs.limit_of.Statement.{statement}
-use Rattle.rules.proofs.limit_of.Tie as tie
+use Rattle.figures.proofs.limit_of.Statement.{statement}
+use Rattle.figures.proofs.limit_of.Tie as tie
 
 cast-result : tie.Need-cast-result
 cast-result c = wide-fits (c .before .args .c .limit) (record { sfits = c .struct-told .given .1 .1 .1 .1 .1 .1 .0 .1 })

@@ -1,8 +1,8 @@
--- `rules::base_figure` meets its contract.
+-- `figures::base_figure` meets its contract.
 use borrow.Author.Tests.{lt-ltb, le-ltb}
 use Rattle.rules.specs.Settings.{baseFigure}
-use Rattle.rules.proofs.base_figure.Statement.{statement}
-use Rattle.rules.proofs.base_figure.Tie as tie
+use Rattle.figures.proofs.base_figure.Statement.{statement}
+use Rattle.figures.proofs.base_figure.Tie as tie
 
 returns : tie.Need-returns
 unfolding baseFigure

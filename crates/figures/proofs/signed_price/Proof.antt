@@ -1,14 +1,14 @@
--- `rules::signed_price` meets its contract.
+-- `figures::signed_price` meets its contract.
 use mathlib.Core.Path.{ap, _∙_}
 use borrow.Author.Tests.{eq-eqb, ne-eqb}
 use native.Mathlib.Omega.{arith}
 use lib.IntN.{natAbs, pos}
 use Rattle.rules.specs.Words.{signed}
 use Rattle.rules.proofs.Integers.{abs-neg}
 use Rattle.rules.proofs.Machine.{neg-fits, neg-ok, cast-of}
 use borrow.Author.Needs.{needs}
-use Rattle.rules.proofs.signed_price.Statement.{statement}
-use Rattle.rules.proofs.signed_price.Tie as tie
+use Rattle.figures.proofs.signed_price.Statement.{statement}
+use Rattle.figures.proofs.signed_price.Tie as tie
 
 cast-result : tie.Need-cast-result
 cast-result c = search needs

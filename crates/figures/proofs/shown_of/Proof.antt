@@ -1,8 +1,8 @@
--- `rules::shown_of` meets its contract.
+-- `figures::shown_of` meets its contract.
 use native.Mathlib.Omega.{arith}
 use Rattle.rules.specs.Prices.{shown}
-use Rattle.rules.proofs.shown_of.Statement.{statement}
-use Rattle.rules.proofs.shown_of.Tie as tie
+use Rattle.figures.proofs.shown_of.Statement.{statement}
+use Rattle.figures.proofs.shown_of.Tie as tie
 
 returns : tie.Need-returns
 unfolding shown

@@ -1,9 +1,9 @@
--- `rules::cause_number` meets its contract.
+-- `figures::cause_number` meets its contract.
 use mathlib.Core.Path.{_∙_}
 use borrow.Author.Needs.{needs}
 use borrow.Author.Tests.{eq-eqb, ne-eqb}
-use Rattle.rules.proofs.cause_number.Statement.{statement}
-use Rattle.rules.proofs.cause_number.Tie as tie
+use Rattle.figures.proofs.cause_number.Statement.{statement}
+use Rattle.figures.proofs.cause_number.Tie as tie
 
 cause-order-requires : tie.Need-cause-order-requires
 cause-order-requires c κs = search needs

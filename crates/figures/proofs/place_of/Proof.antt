@@ -1,9 +1,9 @@
--- `rules::place_of` meets its contract.
+-- `figures::place_of` meets its contract.
 use native.Mathlib.Omega.{arith}
 use Rattle.rules.specs.Words.{placeOf}
 use borrow.Author.Needs.{needs}
-use Rattle.rules.proofs.place_of.Statement.{statement}
-use Rattle.rules.proofs.place_of.Tie as tie
+use Rattle.figures.proofs.place_of.Statement.{statement}
+use Rattle.figures.proofs.place_of.Tie as tie
 
 mul-result : tie.Need-mul-result
 mul-result c = search needs

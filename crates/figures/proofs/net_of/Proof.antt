@@ -1,12 +1,12 @@
--- `rules::net_of` meets its contract.
+-- `figures::net_of` meets its contract.
 use mathlib.Core.Path.{refl, ap, _∙_}
 use native.Mathlib.Omega.{arith}
 use lib.IntN.{natAbs}
 use Rattle.rules.proofs.Integers.{abs-add}
 use Rattle.rules.proofs.Machine.{sum-fits, sum-ok}
 use borrow.Author.Needs.{needs}
-use Rattle.rules.proofs.net_of.Statement.{statement}
-use Rattle.rules.proofs.net_of.Tie as tie
+use Rattle.figures.proofs.net_of.Statement.{statement}
+use Rattle.figures.proofs.net_of.Tie as tie
 
 weighed-price-requires : tie.Need-weighed-price-requires
 weighed-price-requires c κs = search needs

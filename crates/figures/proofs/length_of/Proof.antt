@@ -1,11 +1,11 @@
--- `rules::length_of` meets its contract.
+-- `figures::length_of` meets its contract.
 use mathlib.Core.Path.{_≡_, sym, ap}
 use Prim.Native.Nat.{ℕ, suc, _≤_, _<_}
 use native.Mathlib.Omega.{arith}
 use borrow.Author.Tests.{ne-eqb}
 use Rattle.rules.specs.Messages.{lengthOf}
-use Rattle.rules.proofs.length_of.Statement.{statement}
-use Rattle.rules.proofs.length_of.Tie as tie
+use Rattle.figures.proofs.length_of.Statement.{statement}
+use Rattle.figures.proofs.length_of.Tie as tie
 
 returns : tie.Need-returns
 unfolding lengthOf

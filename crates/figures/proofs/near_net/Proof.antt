@@ -1,10 +1,10 @@
--- `rules::near_net` meets its contract.
+-- `figures::near_net` meets its contract.
 use borrow.Author.Needs.{needs}
 use native.Mathlib.Omega.{arith}
 use Rattle.rules.proofs.Integers.{negative, positive}
 use Rattle.rules.proofs.Machine.{back, credit-fits, credit-ok, debit-fits, debit-ok, hundred-o, hundred-t, part-fits}
-use Rattle.rules.proofs.near_net.Statement.{statement}
-use Rattle.rules.proofs.near_net.Tie as tie
+use Rattle.figures.proofs.near_net.Statement.{statement}
+use Rattle.figures.proofs.near_net.Tie as tie
 
 cast-x : tie.Need-cast-x
 cast-x c = search needs

@@ -1,17 +1,17 @@
--- `rules::weighed_price` meets its contract.
+-- `figures::weighed_price` meets its contract.
 use mathlib.Core.Path.{ap, _∙_}
 use Prim.Native.Nat.{ℕ, _*_, _≤_, _<_}
 use native.Mathlib.Nat.{mul-le-mul}
 use borrow.Author.Tests.{eq-eqb, ne-eqb}
 use native.Mathlib.Omega.{arith}
 use lib.IntN.{natAbs, pos}
 use Rattle.rules.specs.Words.{signed}
 use Rattle.rules.specs.Prices.{weighed}
 use Rattle.rules.proofs.Integers.{abs-neg}
 use Rattle.rules.proofs.Machine.{neg-fits, neg-ok, cast-of}
 use borrow.Author.Needs.{needs}
-use Rattle.rules.proofs.weighed_price.Statement.{statement}
-use Rattle.rules.proofs.weighed_price.Tie as tie
+use Rattle.figures.proofs.weighed_price.Statement.{statement}
+use Rattle.figures.proofs.weighed_price.Tie as tie
 
 -- the product fits
 module _ (r p : ℕ) (r8 : r < 256) (p32 : p < 4294967296) where

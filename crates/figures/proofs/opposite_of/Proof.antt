@@ -1,8 +1,8 @@
--- `rules::opposite_of` meets its contract.
+-- `figures::opposite_of` meets its contract.
 use native.Mathlib.Omega.{arith}
 use Rattle.rules.specs.Words.{opposite}
-use Rattle.rules.proofs.opposite_of.Statement.{statement}
-use Rattle.rules.proofs.opposite_of.Tie as tie
+use Rattle.figures.proofs.opposite_of.Statement.{statement}
+use Rattle.figures.proofs.opposite_of.Tie as tie
 
 returns : tie.Need-returns
 unfolding opposite
