@@ -14,7 +14,6 @@ use Rattle.rules.specs.declared.Generations.{Generations}
 use Rattle.rules.specs.Words.{noRegular, noComplex, noLegging, notListed, noEdition, noGenerations}
 use Rattle.rules.specs.Bytes.{u8At, u16At, u32At, asUnsigned, bytes, u32}
 use Rattle.rules.specs.Records.{FourBytes}
-use Rattle.rules.specs.Opened.{opened-rules}
 use Rattle.rules.proofs.Reading.{byte, word, signed-back, signed-small}
 use Rattle.wire.proofs.Numbers.{u32-here}
 use Rattle.places.specs.Layout.{upto}
@@ -22,7 +21,7 @@ use Rattle.places.proofs.Tables.{upto-length, upto-at}
 use Rattle.places.proofs.Parts.{venue-is}
 use Rattle.state.specs.Held.{editionsAt, reservesAt, ratiosAt, generationsAt, reachedAt, regularBytes, complexBytes, leggingBytes, listedBytes, editionBytes, reserveBytes, ratioBytes, messagesOf, generationsBytes, rows, venueBytes}
 use Rattle.state.specs.Held.{rowAt, rowsAt, venueFrom, regularFrom, complexFrom, leggingFrom, listedFrom, editionFrom, generationsFrom}
-use Rattle.state.specs.Held.{RegularFits, ComplexFits, LeggingFits, ListedFits, EditionFits, GenerationsFits, HeldWhole, zerosVenue, ZerosHeld, closings, ClosedFirst}
+use Rattle.state.specs.Held.{RegularFits, ComplexFits, LeggingFits, ListedFits, EditionFits, GenerationsFits, HeldWhole}
 use Rattle.state.proofs.Rows.{rows-append, rows-length}
 use Rattle.state.proofs.Widths.{regular-width, complex-width, legging-width, listed-width, edition-width, reserve-width, ratio-width, number-width, messages-many, message-at, generations-width}
 use Rattle.state.proofs.Whole.{regular-part, complex-part, legging-part, series-part, last-part, editions-part, reserves-part, ratios-part, generations-part}
@@ -182,11 +181,3 @@ held-whole v d =
     (u32-here reachedAt (venueBytes v)
     ∙ ap (λ (x : List ℕ). u32At x 0) (drop-at (R ++ C ++ L ++ S ++ Z ++ E ++ H ++ Q ++ N) P reachedAt (generations-part v s) ∙ sym (append-nil P))
     ∙ last-back (v .reached) (d .reached) [])
-
-pub zeros-held : ZerosHeld
-unfolding opened-rules venueFrom rowAt rowsAt upto regularFrom complexFrom leggingFrom listedFrom editionFrom generationsFrom zerosVenue
-zeros-held = (refl, refl)
-
-pub closed-first : ClosedFirst
-unfolding opened-rules rows upto closings zerosVenue
-closed-first = refl
