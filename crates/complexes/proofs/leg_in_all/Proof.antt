@@ -7,7 +7,7 @@ use Rattle.places.specs.Layout.{venueOf}
 use Rattle.places.proofs.Parts.{complexes-few, complex-at}
 use Rattle.levels.specs.Grid.{LegsIn}
 use Rattle.levels.proofs.Sides.{legs-in}
-use Rattle.crossing.proofs.Candidates.{off, on}
+use Rattle.candidates.proofs.Candidates.{off, on}
 use Rattle.crossing.proofs.Loops.{Doing, doing-start, doing-turn, doing-end, doing-room, repeat-zero, repeat-stop, repeat-turn}
 use Rattle.complexes.proofs.Pairing.{leg-stop, leg-short, leg-turn}
 use borrow.Author.Needs.{needs}

@@ -10,7 +10,7 @@ use Rattle.crossing.proofs.cross.Statement.{statement}
 use Rattle.crossing.proofs.cross.Tie as tie
 use Rattle.crossing.proofs.cross.Reads as reads
 use Rattle.crossing.proofs.cross.Lts as lts
-use Rattle.crossing.proofs.net_against.Reads as net-against-reads
+use Rattle.candidates.proofs.net_against.Reads as net-against-reads
 use Rattle.places.proofs.complex_at.Reads as complex-at-reads
 use Rattle.places.proofs.fill_complex.Reads as fill-complex-reads
 use Rattle.removal.proofs.remove_of.Reads as remove-of-reads

@@ -4,7 +4,7 @@ use native.Mathlib.Omega.{arith}
 use Rattle.places.proofs.Parts.{complexes-few, complex-at}
 use Rattle.levels.specs.Grid.{LegsIn}
 use Rattle.levels.proofs.Sides.{legs-in}
-use Rattle.crossing.proofs.Candidates.{off, on}
+use Rattle.candidates.proofs.Candidates.{off, on}
 use Rattle.crossing.proofs.Touches.{touch-not, touch-both}
 use borrow.Author.Needs.{needs}
 use Rattle.crossing.proofs.touch.Statement.{statement}

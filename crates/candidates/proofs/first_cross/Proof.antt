@@ -1,4 +1,4 @@
--- `crossing::first_cross` meets its contract.
+-- `candidates::first_cross` meets its contract.
 use borrow.Author.Needs.{needs}
 use mathlib.Core.Path.{_≡_, sym, ap, subst, _∙_}
 use Prim.Native.Nat.{ℕ, _-_, _≤_}
@@ -10,12 +10,12 @@ use Rattle.places.specs.Layout.{upto, complexesUsed, complexIn, venueOf}
 use Rattle.places.proofs.Parts.{complexes-few}
 use Rattle.levels.specs.Grid.{LegsIn}
 use Rattle.levels.proofs.Sides.{legs-in}
-use Rattle.crossing.specs.Picks.{pickedOf}
+use Rattle.candidates.specs.Picks.{pickedOf}
 use Rattle.levels.proofs.Scanning.{scan-start, scan-past, scan-join}
-use Rattle.crossing.proofs.Candidates.{off, on, first-crossed}
-use Rattle.crossing.proofs.Keys.{cross-key}
-use Rattle.crossing.proofs.first_cross.Statement.{statement}
-use Rattle.crossing.proofs.first_cross.Tie as tie
+use Rattle.candidates.proofs.Candidates.{off, on, first-crossed}
+use Rattle.candidates.proofs.Keys.{cross-key}
+use Rattle.candidates.proofs.first_cross.Statement.{statement}
+use Rattle.candidates.proofs.first_cross.Tie as tie
 
 abbrev Inv-loop : tie.InvT-loop
 Inv-loop b c straight turned best₀ i₀ best i = (i ≤ complexesUsed b) × (pickedOf best ≡ firstFrom (crosses (venueOf b) c) limitThenId i (upto (complexIn b) i (complexesUsed b - i)))

@@ -1,10 +1,10 @@
--- `crossing::ranks_before` meets its contract.
-use Rattle.crossing.proofs.Limits.{test-is}
-use Rattle.crossing.proofs.Candidates.{rank-higher, rank-lower, rank-equal}
-use Rattle.crossing.proofs.ranks_before.Statement.{statement}
-use Rattle.crossing.proofs.ranks_before.Tie as tie
-use Rattle.crossing.proofs.ranks_before.Reads as reads
-use Rattle.crossing.proofs.ranks_before.Lts as lts
+-- `candidates::ranks_before` meets its contract.
+use Rattle.candidates.proofs.Limits.{test-is}
+use Rattle.candidates.proofs.Candidates.{rank-higher, rank-lower, rank-equal}
+use Rattle.candidates.proofs.ranks_before.Statement.{statement}
+use Rattle.candidates.proofs.ranks_before.Tie as tie
+use Rattle.candidates.proofs.ranks_before.Reads as reads
+use Rattle.candidates.proofs.ranks_before.Lts as lts
 
 returns : tie.Need-returns
 returns c = rank-higher (c .before .before .before .args .a) (c .before .before .before .args .m) (test-is (c .before .before .before .args .m .limit) (c .before .before .before .args .a .limit) (record { sfits = c .before .struct-told2 .given .1 .1 .1 .1 .1 .1 .0 .1 }) (record { sfits = c .before .before .struct-told .given .1 .1 .1 .1 .1 .1 .0 .1 }) _ (c .if1 .taken))

@@ -1,11 +1,11 @@
--- `crossing::respects_legs` meets its contract.
+-- `candidates::respects_legs` meets its contract.
 use mathlib.Core.Path.{refl, _∙_}
 use Rattle.rules.proofs.Machine.{back}
 use Rattle.levels.proofs.Sides.{first-best, second-best}
-use Rattle.crossing.proofs.Candidates.{legs-none1, legs-none2, legs-net}
+use Rattle.candidates.proofs.Candidates.{legs-none1, legs-none2, legs-net}
 use borrow.Author.Needs.{needs}
-use Rattle.crossing.proofs.respects_legs.Statement.{statement}
-use Rattle.crossing.proofs.respects_legs.Tie as tie
+use Rattle.candidates.proofs.respects_legs.Statement.{statement}
+use Rattle.candidates.proofs.respects_legs.Tie as tie
 
 returns : tie.Need-returns
 returns c v h =

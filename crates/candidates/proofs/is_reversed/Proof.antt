@@ -1,12 +1,12 @@
--- `crossing::is_reversed` meets its contract.
+-- `candidates::is_reversed` meets its contract.
 use mathlib.Core.Path.{sym, _∙_}
 use Rattle.rules.specs.Complex.{reversed}
 use borrow.Author.Needs.{needs}
-use Rattle.crossing.proofs.is_reversed.Statement.{statement}
-use Rattle.crossing.proofs.is_reversed.Tie as tie
-use Rattle.crossing.proofs.is_reversed.Reads as reads
-use Rattle.crossing.proofs.is_reversed.Lts as lts
-use Rattle.crossing.proofs.legs_face.Reads as legs-face-reads
+use Rattle.candidates.proofs.is_reversed.Statement.{statement}
+use Rattle.candidates.proofs.is_reversed.Tie as tie
+use Rattle.candidates.proofs.is_reversed.Reads as reads
+use Rattle.candidates.proofs.is_reversed.Lts as lts
+use Rattle.candidates.proofs.legs_face.Reads as legs-face-reads
 
 legs-face-requires : tie.Need-legs-face-requires
 legs-face-requires c κs = search needs

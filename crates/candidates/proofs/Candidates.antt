@@ -16,9 +16,9 @@ use Rattle.rules.specs.Prices.{bestRegular, weighed, net, inBand}
 use Rattle.rules.specs.Complex.{reversed, respectsLegs, crosses, limitThenId}
 use Rattle.rules.proofs.Tests.{not-out}
 use Rattle.places.specs.Layout.{upto, complexesUsed, complexIn, venueOf}
-use Rattle.crossing.specs.declared.Pick.{Pick}
-use Rattle.crossing.specs.declared.Pick.the-variants.{Nobody, At}
-use Rattle.crossing.specs.Picks.{pickedOf}
+use Rattle.candidates.specs.declared.Pick.{Pick}
+use Rattle.candidates.specs.declared.Pick.the-variants.{Nobody, At}
+use Rattle.candidates.specs.Picks.{pickedOf}
 use Rattle.levels.proofs.Scanning.{first-used}
 
 -- what a negated test says of the definition's

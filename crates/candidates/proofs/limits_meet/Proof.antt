@@ -1,14 +1,14 @@
--- `crossing::limits_meet` meets its contract.
+-- `candidates::limits_meet` meets its contract.
 use mathlib.Core.Path.{ap, ap₂, _∙_}
 use native.Mathlib.Omega.{arith}
 use lib.IntN.{ℤ, pos, _+ℤ_}
 use lib.Signed.{leZ}
 use Rattle.rules.proofs.Machine.{sum-fits, sum-ok}
 use borrow.Author.Needs.{needs}
-use Rattle.crossing.proofs.limits_meet.Statement.{statement}
-use Rattle.crossing.proofs.limits_meet.Tie as tie
-use Rattle.crossing.proofs.limits_meet.Reads as reads
-use Rattle.crossing.proofs.limits_meet.Lts as lts
+use Rattle.candidates.proofs.limits_meet.Statement.{statement}
+use Rattle.candidates.proofs.limits_meet.Tie as tie
+use Rattle.candidates.proofs.limits_meet.Reads as reads
+use Rattle.candidates.proofs.limits_meet.Lts as lts
 
 limit-of-requires : tie.Need-limit-of-requires
 limit-of-requires c κs = search needs

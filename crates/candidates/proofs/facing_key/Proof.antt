@@ -1,10 +1,10 @@
--- `crossing::facing_key` meets its contract.
+-- `candidates::facing_key` meets its contract.
 use native.Mathlib.Omega.{arith}
 use Rattle.rules.specs.Words.{placeOf}
-use Rattle.crossing.specs.Picks.{facingKey}
+use Rattle.candidates.specs.Picks.{facingKey}
 use borrow.Author.Needs.{needs}
-use Rattle.crossing.proofs.facing_key.Statement.{statement}
-use Rattle.crossing.proofs.facing_key.Tie as tie
+use Rattle.candidates.proofs.facing_key.Statement.{statement}
+use Rattle.candidates.proofs.facing_key.Tie as tie
 
 opposite-of-requires : tie.Need-opposite-of-requires
 opposite-of-requires c κs = search needs

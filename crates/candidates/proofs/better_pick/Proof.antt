@@ -1,12 +1,12 @@
--- `crossing::better_pick` meets its contract.
+-- `candidates::better_pick` meets its contract.
 use mathlib.Core.Path.{sym, _∙_}
-use Rattle.crossing.proofs.Candidates.{pick-kept, pick-none, pick-new}
+use Rattle.candidates.proofs.Candidates.{pick-kept, pick-none, pick-new}
 use borrow.Author.Needs.{needs}
-use Rattle.crossing.proofs.better_pick.Statement.{statement}
-use Rattle.crossing.proofs.better_pick.Tie as tie
-use Rattle.crossing.proofs.better_pick.Reads as reads
-use Rattle.crossing.proofs.better_pick.Lts as lts
-use Rattle.crossing.proofs.ranks_before.Reads as ranks-before-reads
+use Rattle.candidates.proofs.better_pick.Statement.{statement}
+use Rattle.candidates.proofs.better_pick.Tie as tie
+use Rattle.candidates.proofs.better_pick.Reads as reads
+use Rattle.candidates.proofs.better_pick.Lts as lts
+use Rattle.candidates.proofs.ranks_before.Reads as ranks-before-reads
 
 enum-told : tie.Need-enum-told
 enum-told c = search needs

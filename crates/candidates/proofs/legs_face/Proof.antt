@@ -1,11 +1,11 @@
--- `crossing::legs_face` meets its contract.
+-- `candidates::legs_face` meets its contract.
 use borrow.Author.Tests.{eq-eqb, ne-eqb}
-use Rattle.crossing.proofs.Candidates.{last-faces}
+use Rattle.candidates.proofs.Candidates.{last-faces}
 use borrow.Author.Needs.{needs}
-use Rattle.crossing.proofs.legs_face.Statement.{statement}
-use Rattle.crossing.proofs.legs_face.Tie as tie
-use Rattle.crossing.proofs.legs_face.Reads as reads
-use Rattle.crossing.proofs.legs_face.Lts as lts
+use Rattle.candidates.proofs.legs_face.Statement.{statement}
+use Rattle.candidates.proofs.legs_face.Tie as tie
+use Rattle.candidates.proofs.legs_face.Reads as reads
+use Rattle.candidates.proofs.legs_face.Lts as lts
 use Rattle.figures.proofs.opposite_of.Reads as opposite-of-reads
 
 returns : tie.Need-returns

@@ -1,14 +1,14 @@
--- `crossing::can_cross` meets its contract.
+-- `candidates::can_cross` meets its contract.
 use mathlib.Core.Path.{ap, _∙_}
 use native.Mathlib.Omega.{arith}
 use lib.IntN.{natAbs}
 use Rattle.rules.specs.Prices.{inBand}
 use Rattle.rules.specs.Complex.{respectsLegs}
 use Rattle.rules.proofs.Machine.{back}
-use Rattle.crossing.proofs.Candidates.{off, on, cross-free, cross-aside, cross-apart, cross-out, cross-far, cross-above, cross-last}
+use Rattle.candidates.proofs.Candidates.{off, on, cross-free, cross-aside, cross-apart, cross-out, cross-far, cross-above, cross-last}
 use borrow.Author.Needs.{needs}
-use Rattle.crossing.proofs.can_cross.Statement.{statement}
-use Rattle.crossing.proofs.can_cross.Tie as tie
+use Rattle.candidates.proofs.can_cross.Statement.{statement}
+use Rattle.candidates.proofs.can_cross.Tie as tie
 
 returns : tie.Need-returns
 returns c = cross-free _ (c .before .before .before .args .c) (c .before .before .before .args .m) (c .if1 .taken)

@@ -3,8 +3,8 @@ use Prim.Native.Nat.{ℕ, _+_, _*_}
 use Rattle.rules.specs.declared.Complex.{Complex}
 use Rattle.rules.specs.Base.{Choice, nobody, picked}
 use Rattle.rules.specs.Words.{opposite, placeOf}
-use Rattle.crossing.specs.declared.Pick.{Pick}
-use Rattle.crossing.specs.declared.Pick.the-variants.{Nobody, At}
+use Rattle.candidates.specs.declared.Pick.{Pick}
+use Rattle.candidates.specs.declared.Pick.the-variants.{Nobody, At}
 
 unfoldable pub pickedOf : Pick → Choice Complex
 pickedOf Nobody = nobody

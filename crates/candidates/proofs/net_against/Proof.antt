@@ -1,14 +1,14 @@
--- `crossing::net_against` meets its contract.
+-- `candidates::net_against` meets its contract.
 use mathlib.Core.Path.{ap, _∙_}
 use native.Mathlib.Omega.{arith}
 use lib.IntN.{natAbs, negℤ}
 use Rattle.rules.proofs.Integers.{abs-neg}
-use Rattle.crossing.proofs.Limits.{minus-fits, minus-is}
+use Rattle.candidates.proofs.Limits.{minus-fits, minus-is}
 use borrow.Author.Needs.{needs}
-use Rattle.crossing.proofs.net_against.Statement.{statement}
-use Rattle.crossing.proofs.net_against.Tie as tie
-use Rattle.crossing.proofs.net_against.Reads as reads
-use Rattle.crossing.proofs.net_against.Lts as lts
+use Rattle.candidates.proofs.net_against.Statement.{statement}
+use Rattle.candidates.proofs.net_against.Tie as tie
+use Rattle.candidates.proofs.net_against.Reads as reads
+use Rattle.candidates.proofs.net_against.Lts as lts
 
 limit-of-requires : tie.Need-limit-of-requires
 limit-of-requires c κs = search needs

@@ -1,7 +1,7 @@
--- `crossing::is_either` meets its contract.
+-- `candidates::is_either` meets its contract.
 use borrow.Author.Tests.{eq-eqb, ne-eqb}
-use Rattle.crossing.proofs.is_either.Statement.{statement}
-use Rattle.crossing.proofs.is_either.Tie as tie
+use Rattle.candidates.proofs.is_either.Statement.{statement}
+use Rattle.candidates.proofs.is_either.Tie as tie
 
 returns : tie.Need-returns
 returns c = simp (eq-eqb _ _ (c .if1 .taken))
