@@ -1,10 +1,10 @@
 /*
  * The legging order engine, for hosts in C and C++.
  *
- * Link with the archive that `rt staticlib engine` writes, and for the calls of four
+ * Link with the archive that `rt staticlib c_api` writes, and for the calls of four
  * venues behind one line with the one that `rt staticlib dispatch` writes:
  *
- *     cc -Iinclude host.c target/staticlib/libengine.a
+ *     cc -Iinclude host.c target/staticlib/libc_api.a
  *     cc -Iinclude four.c target/staticlib/libdispatch.a
  *
  * Both are for x86-64 Linux, and may be linked together. They call memcpy, memmove and

@@ -1,4 +1,4 @@
-//! Finds the archives that `rt staticlib engine` and `rt staticlib dispatch` write, links
+//! Finds the archives that `rt staticlib c_api` and `rt staticlib dispatch` write, links
 //! them, and tells the tests their paths.
 
 use std::env;
@@ -9,7 +9,7 @@ use std::process::exit;
 const VARIABLE: &str = "LEGGING_ARCHIVE";
 
 /// What they are without it, in target/staticlib.
-const ARCHIVES: [&str; 2] = ["libengine.a", "libdispatch.a"];
+const ARCHIVES: [&str; 2] = ["libc_api.a", "libdispatch.a"];
 
 fn main() {
     println!("cargo:rerun-if-env-changed={VARIABLE}");
@@ -37,7 +37,7 @@ fn link(archive: &Path) {
     if !archive.is_file() {
         eprintln!(
             "the archive is not there: {}\n\
-             write it with `rt staticlib engine` or `rt staticlib dispatch` at the top of the\n\
+             write it with `rt staticlib c_api` or `rt staticlib dispatch` at the top of the\n\
              repository, or name others by the variable {VARIABLE}",
             archive.display()
         );

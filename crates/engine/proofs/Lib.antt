@@ -2,8 +2,6 @@ pub mod Proceeding
 pub mod Running
 pub mod Calling
 pub mod Hosting
-pub mod Telling
-pub mod Carrying
 pub mod Sheets
 pub mod Feeding
 pub mod Lists

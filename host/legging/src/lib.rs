@@ -1,5 +1,5 @@
 //! The legging order engine for Rust hosts: a safe wrapper over the archives that
-//! `rt staticlib engine` and, for four venues behind one line, `rt staticlib dispatch`
+//! `rt staticlib c_api` and, for four venues behind one line, `rt staticlib dispatch`
 //! write.
 //!
 //! [`run`] takes a whole message list from a fresh venue, and [`feed`] one that comes

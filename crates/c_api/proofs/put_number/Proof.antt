@@ -1,8 +1,8 @@
--- `engine::put_number` meets its contract.
-use Rattle.engine.proofs.Carrying.{number-put}
+-- `c_api::put_number` meets its contract.
+use Rattle.c_api.proofs.Carrying.{number-put}
 use borrow.Author.Needs.{needs}
-use Rattle.engine.proofs.put_number.Statement.{statement}
-use Rattle.engine.proofs.put_number.Tie as tie
+use Rattle.c_api.proofs.put_number.Statement.{statement}
+use Rattle.c_api.proofs.put_number.Tie as tie
 
 bytes4-requires : tie.Need-bytes4-requires
 bytes4-requires c κs = search needs

@@ -1,9 +1,9 @@
--- `engine::legging_message` meets its contract.
+-- `c_api::legging_message` meets its contract.
 use native.Mathlib.Omega.{arith}
 use Rattle.engine.proofs.Hosting.{none-held, left-held, accepted-held}
 use borrow.Author.Needs.{needs}
-use Rattle.engine.proofs.legging_message.Statement.{statement}
-use Rattle.engine.proofs.legging_message.Tie as tie
+use Rattle.c_api.proofs.legging_message.Statement.{statement}
+use Rattle.c_api.proofs.legging_message.Tie as tie
 
 zero-from-requires : tie.Need-zero-from-requires
 zero-from-requires c κs = search needs

@@ -1,9 +1,9 @@
--- `engine::legging_write_set` meets its contract.
+-- `c_api::legging_write_set` meets its contract.
 use native.Mathlib.Omega.{arith}
-use Rattle.engine.proofs.Carrying.{saved-few, saves-none, saves-short, saves-all}
+use Rattle.c_api.proofs.Carrying.{saved-few, saves-none, saves-short, saves-all}
 use borrow.Author.Needs.{needs}
-use Rattle.engine.proofs.legging_write_set.Statement.{statement}
-use Rattle.engine.proofs.legging_write_set.Tie as tie
+use Rattle.c_api.proofs.legging_write_set.Statement.{statement}
+use Rattle.c_api.proofs.legging_write_set.Tie as tie
 
 zero-from-requires : tie.Need-zero-from-requires
 zero-from-requires c κs = search needs

@@ -1,9 +1,9 @@
--- `engine::legging_run` meets its contract.
+-- `c_api::legging_run` meets its contract.
 use mathlib.Core.Path.{ap}
 use Rattle.rules.specs.Calls.{Call}
 use borrow.Author.Needs.{needs}
-use Rattle.engine.proofs.legging_run.Statement.{statement}
-use Rattle.engine.proofs.legging_run.Tie as tie
+use Rattle.c_api.proofs.legging_run.Statement.{statement}
+use Rattle.c_api.proofs.legging_run.Tie as tie
 
 run-requires : tie.Need-run-requires
 run-requires c κs = search needs

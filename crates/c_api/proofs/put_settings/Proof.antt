@@ -1,12 +1,12 @@
--- `engine::put_settings` meets its contract.
+-- `c_api::put_settings` meets its contract.
 use mathlib.Core.Path.{_≡_}
 use native.Mathlib.Omega.{arith}
 use lib.ListN.{length}
 use Rattle.engine.specs.Hosts.{settingsBytes}
-use Rattle.engine.proofs.Telling.{put-both}
+use Rattle.c_api.proofs.Telling.{put-both}
 use borrow.Author.Needs.{needs}
-use Rattle.engine.proofs.put_settings.Statement.{statement}
-use Rattle.engine.proofs.put_settings.Tie as tie
+use Rattle.c_api.proofs.put_settings.Statement.{statement}
+use Rattle.c_api.proofs.put_settings.Tie as tie
 
 slice-aggregate-put : tie.Need-slice-aggregate-put
 slice-aggregate-put c = search needs

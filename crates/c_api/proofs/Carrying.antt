@@ -28,9 +28,9 @@ use Rattle.save.specs.declared.Saved.{Saved}
 use Rattle.save.specs.Begun.{savedOf}
 use Rattle.resume.specs.declared.Resumed.{Resumed}
 use Rattle.resume.specs.Told.{setRead}
 use Rattle.engine.specs.Hosts.{Hosted, leaves, oneHosted, savesAs, saveHosted, readFor, resumesAs, resumeHosted, Again, HeldAgain}
 use Rattle.engine.proofs.Hosting.{declared, held-shaped, held-next}
-use Rattle.engine.proofs.Telling.{zeros, long}
+use Rattle.c_api.proofs.Telling.{zeros, long}
 
 -- A number's four bytes -----------------------------------------------------------------------
 

@@ -1,8 +1,8 @@
--- `engine::legging_read_set` meets its contract.
-use Rattle.engine.proofs.Carrying.{reads-none, reads-short, reads-all}
+-- `c_api::legging_read_set` meets its contract.
+use Rattle.c_api.proofs.Carrying.{reads-none, reads-short, reads-all}
 use borrow.Author.Needs.{needs}
-use Rattle.engine.proofs.legging_read_set.Statement.{statement}
-use Rattle.engine.proofs.legging_read_set.Tie as tie
+use Rattle.c_api.proofs.legging_read_set.Statement.{statement}
+use Rattle.c_api.proofs.legging_read_set.Tie as tie
 
 zero-from-requires : tie.Need-zero-from-requires
 zero-from-requires c κs = search needs

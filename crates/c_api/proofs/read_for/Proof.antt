@@ -1,8 +1,8 @@
--- `engine::read_for` meets its contract.
-use Rattle.engine.proofs.Carrying.{read-short, read-four}
+-- `c_api::read_for` meets its contract.
+use Rattle.c_api.proofs.Carrying.{read-short, read-four}
 use borrow.Author.Needs.{needs}
-use Rattle.engine.proofs.read_for.Statement.{statement}
-use Rattle.engine.proofs.read_for.Tie as tie
+use Rattle.c_api.proofs.read_for.Statement.{statement}
+use Rattle.c_api.proofs.read_for.Tie as tie
 
 refused-requires : tie.Need-refused-requires
 refused-requires c κs = search needs

@@ -1,9 +1,9 @@
--- `engine::legging_feed` meets its contract.
+-- `c_api::legging_feed` meets its contract.
 use mathlib.Core.Path.{ap}
 use Rattle.rules.specs.Calls.{Call}
 use borrow.Author.Needs.{needs}
-use Rattle.engine.proofs.legging_feed.Statement.{statement}
-use Rattle.engine.proofs.legging_feed.Tie as tie
+use Rattle.c_api.proofs.legging_feed.Statement.{statement}
+use Rattle.c_api.proofs.legging_feed.Tie as tie
 
 feed-requires : tie.Need-feed-requires
 feed-requires c κs = search needs

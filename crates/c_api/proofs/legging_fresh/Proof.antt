@@ -1,8 +1,8 @@
--- `engine::legging_fresh` meets its contract.
+-- `c_api::legging_fresh` meets its contract.
 use Rattle.engine.proofs.Hosting.{none-begun, fresh-begun}
 use borrow.Author.Needs.{needs}
-use Rattle.engine.proofs.legging_fresh.Statement.{statement}
-use Rattle.engine.proofs.legging_fresh.Tie as tie
+use Rattle.c_api.proofs.legging_fresh.Statement.{statement}
+use Rattle.c_api.proofs.legging_fresh.Tie as tie
 
 returns : tie.Need-returns
 returns c = none-begun _ (c .if1 .taken)

@@ -1,9 +1,9 @@
--- `engine::legging_settings` meets its contract.
+-- `c_api::legging_settings` meets its contract.
 use native.Mathlib.Omega.{arith}
-use Rattle.engine.proofs.Telling.{told-none, told-short, told-all}
+use Rattle.c_api.proofs.Telling.{told-none, told-short, told-all}
 use borrow.Author.Needs.{needs}
-use Rattle.engine.proofs.legging_settings.Statement.{statement}
-use Rattle.engine.proofs.legging_settings.Tie as tie
+use Rattle.c_api.proofs.legging_settings.Statement.{statement}
+use Rattle.c_api.proofs.legging_settings.Tie as tie
 
 zero-from-requires : tie.Need-zero-from-requires
 zero-from-requires c κs = search needs
