@@ -140,7 +140,7 @@ pub fn complex_order(b: &mut [u32], number: u32, c: Complex, out: &mut [u8], at:
     ensures counts { λ _. ⌜ Counts (regularsUsed (now (b .entry))) (suc (complexesUsed (now (b .entry)))) (now (b .entry)) (now (b .exit)) ⌝ }
 {
     let i = places::complexes_used(b);
-    places::add_complex(b, c);
+    storing::add_complex(b, c);
     let worked = work(b, i, out, at);
     let settled = standing::settle_all(b, out, worked);
     legging::generate_order(b, number, i, out, settled)
@@ -346,7 +346,7 @@ pub fn limited_sweep(b: &mut [u32], number: u32, n: u8, out: &mut [u8], at: usiz
     let round = round_of(b, n);
     let looked = (round.above + round.others) as u8;
     let id = last_looked(b, round);
-    places::put_reached(b, id);
+    storing::put_reached(b, id);
     let told = wire::emit_looked(out, at, looked);
     let worked = work_round(b, round, out, told);
     let settled = standing::settle_all(b, out, worked);

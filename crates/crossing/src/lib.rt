@@ -27,8 +27,8 @@ pub fn cross(b: &mut [u32], i: usize, j: usize, k: u32, out: &mut [u8], at: usiz
 {
     let c = places::complex_at(b, i);
     let m = places::complex_at(b, j);
-    places::fill_complex(b, i, k);
-    places::fill_complex(b, j, k);
+    storing::fill_complex(b, i, k);
+    storing::fill_complex(b, j, k);
     let told = wire::emit_crossed(out, at, c.id, m.id, candidates::net_against(m), k);
     let gone = removal::remove_of(b, c.id, Cause::Executed, out, told);
     removal::remove_of(b, m.id, Cause::Executed, out, gone)

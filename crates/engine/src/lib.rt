@@ -66,7 +66,7 @@ fn advance(t: Turn, head: Head, b: &mut [u32], messages: &[u8], report: &mut [u8
 pub fn run(messages: &[u8], report: &mut [u8]) -> Returned
     ensures { λ r. ⌜ callOf r (now (report .exit)) ≡ calls.run (length (now (report .entry))) (now (messages .entry)) ⌝ }
 {
-    let mut b = places::fresh_numbers();
+    let mut b = loading::fresh_numbers();
     let mut t = Turn {
         number: 0,
         done: 0,
@@ -197,7 +197,7 @@ fn feed_lines<'a>(main: &'a [u8], spare: &'a [u8], report: &mut [u8]) -> Returne
     requires { ⌜ (feeding.faultless (now main) ≡ true) × (feeding.faultless (now spare) ≡ true) ⌝ }
     ensures { λ r. ⌜ callOf r (now (report .exit)) ≡ feeding.feed (length (now (report .entry))) (now (main .entry)) (now (spare .entry)) ⌝ }
 {
-    let mut numbers = places::fresh_numbers();
+    let mut numbers = loading::fresh_numbers();
     let mut t = Fed {
         number: 0,
         done: 0,

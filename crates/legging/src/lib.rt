@@ -157,9 +157,9 @@ fn others_stand_with(b: &mut [u32], n: usize, l: Legging) -> bool
 {
     let g = levels::levels(b);
     let old = places::legging_at(b, n);
-    places::put_legging(b, n, l);
+    storing::put_legging(b, n, l);
     let stand = standing::others_stand(b, g, n);
-    places::put_legging(b, n, old);
+    storing::put_legging(b, n, old);
     stand
 }
 
@@ -220,8 +220,8 @@ fn make_leg(
     let shown = standing::shown_price(b, s, d, l.price) as u32;
     let place = figures::place_of(s, d);
     let pos = removal::remove_at(b, place, place, Cause::Replaced, out, at);
-    places::put_legging(b, place, l);
-    places::count_generation(b, s as usize, number);
+    storing::put_legging(b, place, l);
+    storing::count_generation(b, s as usize, number);
     wire::emit_generated(out, pos, id, s, d, l.price, shown, l.quantity)
 }
 

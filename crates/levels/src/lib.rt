@@ -137,7 +137,7 @@ fn clear_levels(b: &mut [u32])
     let none = Level { price: 0, size: 0 };
     let mut n: usize = 0;
     while n < 16 {
-        places::put_level(b, n, none);
+        storing::put_level(b, n, none);
         n += 1;
     }
 }
@@ -154,7 +154,7 @@ fn make_levels(b: &mut [u32])
         let o = places::regular_at(b, i);
         let n = places::key_at(b, i);
         let l = places::level_at(b, n);
-        places::put_level(b, n, with_order(l, o));
+        storing::put_level(b, n, with_order(l, o));
     }
 }
 
@@ -163,7 +163,7 @@ pub fn load(b: &mut [u32], v: Venue)
     requires { ⌜ (length (now b) ≡ size) × Loadable v ⌝ }
     ensures { λ _. ⌜ Loaded v (now (b .exit)) ⌝ }
 {
-    places::load(b, v);
+    loading::load(b, v);
     make_levels(b);
 }
 
@@ -175,8 +175,8 @@ pub fn add_order(b: &mut [u32], o: Regular)
 {
     let n = figures::place_of(o.series, o.side);
     let l = places::level_at(b, n);
-    places::add_regular(b, o);
-    places::put_level(b, n, with_order(l, o));
+    storing::add_regular(b, o);
+    storing::put_level(b, n, with_order(l, o));
 }
 
 // The order at place i is filled for k contracts, what it shows first.
@@ -188,7 +188,7 @@ pub fn fill_order(b: &mut [u32], i: usize, k: u32)
     let o = places::regular_at(b, i);
     let n = places::key_at(b, i);
     let l = places::level_at(b, n);
-    places::fill_regular(b, i, k);
+    storing::fill_regular(b, i, k);
     if o.price != l.price {
         return;
     }
@@ -199,11 +199,11 @@ pub fn fill_order(b: &mut [u32], i: usize, k: u32)
             price: l.price,
             size: l.size - gone,
         };
-        places::put_level(b, n, rest);
+        storing::put_level(b, n, rest);
         return;
     }
     let anew = level_of(b, o.series, o.side);
-    places::put_level(b, n, anew);
+    storing::put_level(b, n, anew);
 }
 
 // Each order shows again. Without the mark each already shows what it should.
@@ -215,7 +215,7 @@ pub fn show_again(b: &mut [u32])
     if places::is_unmarked(b) {
         return;
     }
-    places::show_again(b);
+    storing::show_again(b);
     make_levels(b);
 }
 

@@ -94,7 +94,7 @@ fn fill_pair(b: &mut [u32], i: usize, k: u32)
     if places::complexes_used(b) <= i {
         return;
     }
-    places::fill_complex(b, i, k);
+    storing::fill_complex(b, i, k);
 }
 
 // The complex order of this id, at place i, pairs k units at a net; its legging orders go.
@@ -317,7 +317,7 @@ pub fn cancel_complex(b: &mut [u32], i: usize, out: &mut [u8], at: usize) -> usi
     ensures counts { λ _. ⌜ SameCounts (now (b .entry)) (now (b .exit)) ⌝ }
 {
     let c = places::complex_at(b, i);
-    places::fill_complex(b, i, c.quantity);
+    storing::fill_complex(b, i, c.quantity);
     let pos = wire::emit_cancelled(out, at, c.id, c.quantity);
     removal::remove_of(b, c.id, Cause::Withdrawn, out, pos)
 }

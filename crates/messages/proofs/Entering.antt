@@ -17,7 +17,7 @@ use Rattle.rules.specs.Step.{setFigure}
 use Rattle.rules.proofs.Finding.{where-passes}
 use Rattle.places.specs.Layout.{inUse, editionIn, venueOf}
 use Rattle.places.proofs.Tables.{upto-at, used-at, used-free, used-length, whole}
-use Rattle.places.proofs.Figures.{editions-many}
+use Rattle.storing.proofs.Figures.{editions-many}
 
 -- A test of every place -----------------------------------------------------------------------
 

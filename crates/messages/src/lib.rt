@@ -264,7 +264,7 @@ fn set_away(b: &mut [u32], s: u8, bid: u32, offer: u32, out: &mut [u8], at: usiz
 {
     let status = levels::status_of(b, s);
     let x = Listed { status, bid, offer };
-    places::put_listed(b, s as usize, x);
+    storing::put_listed(b, s as usize, x);
     standing::settle_all(b, out, at)
 }
 
@@ -280,7 +280,7 @@ fn set_status(b: &mut [u32], s: u8, status: u8, out: &mut [u8], at: usize) -> us
         bid: old.bid,
         offer: old.offer,
     };
-    places::put_listed(b, s as usize, x);
+    storing::put_listed(b, s as usize, x);
     standing::settle_all(b, out, at)
 }
 
@@ -305,7 +305,7 @@ fn set_figure(
         figure: f,
         value: x,
     };
-    places::put_edition(b, i, e);
+    storing::put_edition(b, i, e);
     standing::settle_all(b, out, at)
 }
 
@@ -315,7 +315,7 @@ fn enter_order(b: &mut [u32], o: Regular, out: &mut [u8], at: usize) -> usize
     ensures { λ r. ⌜ stage (venueOf (now (b .exit))) (now (out .exit)) r ≡ seen (now (out .entry)) at does order o (withLast (venueOf (now (b .entry))) (o .id)) ⌝ }
     ensures right { λ _. ⌜ Right (now (b .exit)) ⌝ }
 {
-    places::put_last(b, o.id);
+    storing::put_last(b, o.id);
     complexes::order(b, o, out, at)
 }
 
@@ -325,7 +325,7 @@ fn enter_complex(b: &mut [u32], number: u32, c: Complex, out: &mut [u8], at: usi
     ensures { λ r. ⌜ stage (venueOf (now (b .exit))) (now (out .exit)) r ≡ seen (now (out .entry)) at does complex number c (withLast (venueOf (now (b .entry))) (c .id)) ⌝ }
     ensures right { λ _. ⌜ Right (now (b .exit)) ⌝ }
 {
-    places::put_last(b, c.id);
+    storing::put_last(b, c.id);
     complexes::complex_order(b, number, c, out, at)
 }
 
@@ -380,7 +380,7 @@ fn accept(b: &mut [u32], number: u32, m: Message, out: &mut [u8], at: usize) -> 
     ensures dense { λ _. ⌜ Dense (now (b .exit)) ⌝ }
 {
     let end = perform(b, number, m, out, at);
-    places::close_gaps(b);
+    storing::close_gaps(b);
     end
 }
 

@@ -5,11 +5,5 @@ pub mod Orderly
 pub mod Fully
 pub mod Beside
 pub mod Limits
-pub mod Stores
-pub mod Gaps
-pub mod Closed
-pub mod Figures
-pub mod Loaded
+pub mod Free
 pub mod Generations
-pub mod Starting
-pub mod Again

@@ -20,7 +20,7 @@ use Rattle.rules.proofs.Arranging.{arranged-out, blank-is, blank-free, blank-fr
 use Rattle.rules.proofs.Editions.{Stepped, dated-steps}
 use Rattle.places.proofs.Orderly.{range-priced, range-displayed}
 use Rattle.places.proofs.Fully.{range-bounded}
-use Rattle.places.proofs.Loaded.{regular-side, complex-sides, editions-dated}
+use Rattle.loading.proofs.Loaded.{regular-side, complex-sides, editions-dated}
 use Rattle.places.specs.Layout.{Fully, Loadable, Loaded, venueOf}
 use Rattle.alone.specs.Checked.{askedRegular, regularsFrom, keptSound, placesSound}
 use Rattle.soundness.specs.Checked.{pricedOn, onIncrements, eight, ordersSound, Checked}

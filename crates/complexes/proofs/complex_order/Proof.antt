@@ -4,7 +4,7 @@ use Prim.Native.Nat.{ℕ}
 use native.Mathlib.Omega.{arith}
 use Rattle.rules.specs.Trading.{putComplex}
 use Rattle.places.specs.Layout.{venueOf}
-use Rattle.places.proofs.Closed.{dense-complex}
+use Rattle.storing.proofs.Closed.{dense-complex}
 use Rattle.removal.proofs.Removing.{counts-on}
 use Rattle.complexes.proofs.Working.{complex-law, counts-more}
 use borrow.Author.Needs.{needs}

@@ -12,7 +12,7 @@ use Rattle.crossing.proofs.cross.Reads as reads
 use Rattle.crossing.proofs.cross.Lts as lts
 use Rattle.candidates.proofs.net_against.Reads as net-against-reads
 use Rattle.places.proofs.complex_at.Reads as complex-at-reads
-use Rattle.places.proofs.fill_complex.Reads as fill-complex-reads
+use Rattle.storing.proofs.fill_complex.Reads as fill-complex-reads
 use Rattle.removal.proofs.remove_of.Reads as remove-of-reads
 use Rattle.wire.proofs.emit_crossed.Reads as emit-crossed-reads
 

@@ -8,7 +8,7 @@ use Rattle.wire.specs.Seen.{seen}
 use Rattle.wire.specs.Stage.{_does_}
 use Rattle.places.specs.Layout.{venueOf}
 use Rattle.matching.proofs.Turns.{enter-law}
-use Rattle.places.proofs.Closed.{dense-regular}
+use Rattle.storing.proofs.Closed.{dense-regular}
 use borrow.Author.Needs.{needs}
 use Rattle.matching.proofs.enter_regular.Statement.{statement}
 use Rattle.matching.proofs.enter_regular.Tie as tie

@@ -6,7 +6,7 @@ use Rattle.rules.specs.Order.{order}
 use Rattle.wire.specs.Seen.{seen}
 use Rattle.wire.specs.Stage.{_does_}
 use Rattle.places.specs.Layout.{venueOf}
-use Rattle.places.proofs.Loaded.{regular-side}
+use Rattle.loading.proofs.Loaded.{regular-side}
 use Rattle.places.proofs.Orderly.{range-priced, range-displayed}
 use Rattle.places.proofs.Fully.{range-bounded}
 use Rattle.messages.proofs.Stepping.{last-dense, last-below}

@@ -7,8 +7,8 @@ use native.Mathlib.Omega.{arith}
 use borrow.Author.Tests.{eq-eqb, ne-eqb}
 use Rattle.rules.specs.Places.{holdsEdition}
 use Rattle.places.specs.Layout.{editionIn, Filled}
-use Rattle.places.proofs.Gaps.{filled-more}
-use Rattle.places.proofs.Figures.{free-edition-is}
+use Rattle.places.proofs.Free.{filled-more}
+use Rattle.places.proofs.Free.{free-edition-is}
 use borrow.Author.Needs.{needs}
 use Rattle.places.proofs.free_edition.Statement.{statement}
 use Rattle.places.proofs.free_edition.Tie as tie
