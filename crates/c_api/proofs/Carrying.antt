@@ -15,8 +15,8 @@ use Rattle.rules.specs.Calls.{one}
 use Rattle.rules.proofs.Cases.{if-by}
 use Rattle.rules.proofs.Tests.{and-l}
 use Rattle.demands.specs.Kept.{Shaped}
-use Rattle.wire.specs.Seen.{Seen, seen, pasted, _plus_}
-use Rattle.wire.proofs.Writes.{plus-in}
+use Rattle.records.specs.Seen.{Seen, seen, pasted, _plus_}
+use Rattle.records.proofs.Writes.{plus-in}
 use Rattle.state.specs.Held.{venueSize, venueBytes, venueFrom, Declared}
 use Rattle.state.proofs.Whole.{venue-length}
 use Rattle.state.proofs.Back.{held-whole}

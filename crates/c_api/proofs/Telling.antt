@@ -11,8 +11,8 @@ use Rattle.rules.specs.declared.Settings.{Settings}
 use Rattle.rules.specs.Sound.{sound}
 use Rattle.rules.specs.Calls.{settings}
 use Rattle.rules.proofs.Cases.{if-by}
-use Rattle.wire.specs.Seen.{Seen, seen, pasted, _plus_}
-use Rattle.wire.proofs.Writes.{plus-in, pasted-length, pasted-pasted}
+use Rattle.records.specs.Seen.{Seen, seen, pasted, _plus_}
+use Rattle.records.proofs.Writes.{plus-in, pasted-length, pasted-pasted}
 use Rattle.state.specs.Held.{venueSize, venueFrom}
 use Rattle.engine.specs.Hosts.{settingsBytes, told, settingsHosted}
 

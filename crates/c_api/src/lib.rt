@@ -6,7 +6,7 @@ ghost use Prim.Native.Nat.{_≤_};
 ghost use lib.ListN.{length};
 ghost use Rattle.rules.specs.Calls as calls;
 ghost use Rattle.rules.specs.Bytes.{u32};
-ghost use Rattle.wire.specs.Seen.{pasted};
+ghost use Rattle.records.specs.Seen.{pasted};
 ghost use Rattle.feed.specs.Feed as feeding;
 ghost use Rattle.resume.specs.Told.{setRead};
 ghost use Rattle.engine.specs.Hosts.{begun, freshHosted, hosted, oneHosted, settingsBytes, told, settingsHosted};
@@ -46,7 +46,7 @@ pub extern "C" fn legging_message(
     ensures { λ r. ⌜ hosted r (now (venue .exit)) (now (report .exit)) ≡ oneHosted (now (venue .entry)) before (length (now (report .entry))) (now (message .entry)) ⌝ }
 {
     if venue.len() != state::VENUE_SIZE {
-        wire::zero_from(report, 0);
+        records::zero_from(report, 0);
         return 9;
     }
     let given = state::venue_from(venue);
@@ -74,9 +74,9 @@ fn put_settings(out: &mut [u8], s: Settings)
     ensures { λ _. ⌜ now (out .exit) ≡ pasted (now (out .entry)) 0 (settingsBytes s) ⌝ }
 {
     let increments = s.increments;
-    let at = wire::put(out, 0, &increments);
+    let at = records::put(out, 0, &increments);
     let percent = [s.percent];
-    wire::put(out, at, &percent);
+    records::put(out, at, &percent);
 }
 
 // The settings of the venue in a host's memory at a message number: the eight increments, then the percent, in the first nine bytes of the memory for
@@ -85,7 +85,7 @@ fn put_settings(out: &mut [u8], s: Settings)
 pub extern "C" fn legging_settings(venue: &[u8], number: u32, settings: &mut [u8]) -> u8
     ensures { λ r. ⌜ told r (now (settings .exit)) ≡ settingsHosted (now (venue .entry)) number (length (now (settings .entry))) ⌝ }
 {
-    wire::zero_from(settings, 0);
+    records::zero_from(settings, 0);
     if venue.len() != state::VENUE_SIZE {
         return 9;
     }
@@ -103,8 +103,8 @@ fn put_number(out: &mut [u8], x: u32)
     requires { ⌜ length (now out) ≡ 4 ⌝ }
     ensures { λ _. ⌜ now (out .exit) ≡ u32 x ⌝ }
 {
-    let bytes = wire::bytes4(x);
-    wire::put(out, 0, &bytes);
+    let bytes = records::bytes4(x);
+    records::put(out, 0, &bytes);
 }
 
 // The venue in a host's memory and the number of its last message, written as a set from the front of the set's memory on; zero in each byte after, and how
@@ -118,8 +118,8 @@ pub extern "C" fn legging_write_set(
 ) -> u8
     ensures { λ r. ⌜ savesAs r (now (set .exit)) (now (written .exit)) ≡ saveHosted (now (venue .entry)) number (length (now (set .entry))) (length (now (written .entry))) ⌝ }
 {
-    wire::zero_from(set, 0);
-    wire::zero_from(written, 0);
+    records::zero_from(set, 0);
+    records::zero_from(written, 0);
     if venue.len() != state::VENUE_SIZE {
         return 9;
     }
@@ -148,7 +148,7 @@ fn read_for(set: &[u8], room: usize) -> Resumed
 pub extern "C" fn legging_read_set(set: &[u8], venue: &mut [u8], number: &mut [u8]) -> u8
     ensures { λ r. ⌜ resumesAs r (now (venue .exit)) (now (number .exit)) ≡ resumeHosted (now (set .entry)) (now (venue .entry)) (now (number .entry)) ⌝ }
 {
-    wire::zero_from(number, 0);
+    records::zero_from(number, 0);
     if venue.len() != state::VENUE_SIZE {
         return 9;
     }

@@ -15,9 +15,9 @@ use Rattle.rules.specs.Prices.{bestRegular, weighed, net, inBand}
 use Rattle.rules.specs.Effects.{Effect, _⟫_, Turn, ended, turned}
 use Rattle.rules.specs.Trading.{take, pairOff}
 use Rattle.rules.specs.Complex.{legsIn, legIn, unitsIn, legInTurn}
-use Rattle.wire.specs.Seen.{seen}
-use Rattle.wire.specs.Stage.{stage, _does_}
-use Rattle.wire.proofs.Stages.{follow}
+use Rattle.records.specs.Seen.{seen}
+use Rattle.records.specs.Stage.{stage, _does_}
+use Rattle.records.proofs.Stages.{follow}
 use Rattle.wire.proofs.Decoding.{leZ-not}
 use Rattle.levels.specs.declared.Taken.{Taken}
 use Rattle.levels.specs.Grid.{TakenOf}

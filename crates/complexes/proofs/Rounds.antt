@@ -20,9 +20,9 @@ use Rattle.rules.specs.Generation.{generate}
 use Rattle.rules.specs.Complex.{work, placesOf, goingRound, examined, idReached, eachOf, limitedSweep}
 use Rattle.rules.proofs.Sweeping.{then-same}
 use Rattle.rules.proofs.Traffic.{looked-count}
-use Rattle.wire.specs.Seen.{seen, _writes_}
-use Rattle.wire.specs.Stage.{stage, _does_}
-use Rattle.wire.proofs.Stages.{follow, does-report}
+use Rattle.records.specs.Seen.{seen, _writes_}
+use Rattle.records.specs.Stage.{stage, _does_}
+use Rattle.records.proofs.Stages.{follow, does-report}
 use Rattle.places.specs.Layout.{complexesUsed, complexIn, venueOf, Dense}
 use Rattle.places.proofs.Parts.{complex-at, complex-past}
 use Rattle.complexes.specs.declared.Round.{Round}

@@ -25,9 +25,9 @@ use Rattle.rules.proofs.Filling.{FewerC, fewerC-refl, fewerC-trans, still-heldC
 use Rattle.rules.proofs.Keeping.{keeps-each}
 use Rattle.rules.proofs.Sweeping.{then-same, work-fewer}
 use Rattle.rules.proofs.Arranging.{arranged-out, blank-freeC}
-use Rattle.wire.specs.Seen.{seen}
-use Rattle.wire.specs.Stage.{stage, _does_}
-use Rattle.wire.proofs.Stages.{stage-venue}
+use Rattle.records.specs.Seen.{seen}
+use Rattle.records.specs.Stage.{stage, _does_}
+use Rattle.records.proofs.Stages.{stage-venue}
 use Rattle.places.specs.Layout.{complexesUsed, venueOf}
 use Rattle.places.proofs.Parts.{complexes-few, complex-past}
 use Rattle.crossing.proofs.Loops.{Doing}

@@ -11,9 +11,9 @@ use Rattle.rules.specs.Standing.{settle}
 use Rattle.rules.specs.Trading.{freeComplex, putComplex}
 use Rattle.rules.specs.Generation.{generate}
 use Rattle.rules.specs.Complex.{anyClosed, crossTurn, touch, legInTurn, work, complex}
-use Rattle.wire.specs.Seen.{seen}
-use Rattle.wire.specs.Stage.{stage, _does_}
-use Rattle.wire.proofs.Stages.{follow, does-nothing}
+use Rattle.records.specs.Seen.{seen}
+use Rattle.records.specs.Stage.{stage, _does_}
+use Rattle.records.proofs.Stages.{follow, does-nothing}
 use Rattle.places.specs.Layout.{Counts, SameCounts}
 
 -- The steps -----------------------------------------------------------------------------------

@@ -5,9 +5,9 @@ use Prim.Native.Nat.{ℕ, zero, suc}
 use lib.ListN.{length}
 use Rattle.rules.specs.declared.Venue.{Venue}
 use Rattle.rules.specs.Effects.{Effect, nothing, _⟫_, Turn, ended, turned, repeat}
-use Rattle.wire.specs.Seen.{seen}
-use Rattle.wire.specs.Stage.{stage, _does_}
-use Rattle.wire.proofs.Stages.{onward, does-nothing, does-room}
+use Rattle.records.specs.Seen.{seen}
+use Rattle.records.specs.Stage.{stage, _does_}
+use Rattle.records.proofs.Stages.{onward, does-nothing, does-room}
 use Rattle.places.specs.Layout.{size, venueOf, SameCounts}
 use Rattle.removal.proofs.Removing.{counts-on}
 

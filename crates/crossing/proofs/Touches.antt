@@ -16,9 +16,9 @@ use Rattle.rules.specs.Words.{opposite, placeOf, complexAt}
 use Rattle.rules.specs.Prices.{bestOwn, ownSize, weighed, net}
 use Rattle.rules.specs.Removal.{remove, failIf}
 use Rattle.rules.specs.Complex.{touches, takenSide, fillsUnit, touch}
-use Rattle.wire.specs.Seen.{seen}
-use Rattle.wire.specs.Stage.{stage, _does_}
-use Rattle.wire.proofs.Stages.{does-nothing}
+use Rattle.records.specs.Seen.{seen}
+use Rattle.records.specs.Stage.{stage, _does_}
+use Rattle.records.proofs.Stages.{does-nothing}
 
 module _ (v : Venue) (c : Complex) where
   pub touch-free : c .quantity ≡ 0 → false ≡ touches v c

@@ -18,9 +18,9 @@ use Rattle.rules.specs.Removal.{removeOf}
 use Rattle.rules.specs.Trading.{fillComplex}
 use Rattle.rules.specs.Complex.{crosses, limitThenId, cross, crossTurn}
 use Rattle.rules.proofs.Picking.{At, first-chosen}
-use Rattle.wire.specs.Seen.{seen, _writes_}
-use Rattle.wire.specs.Stage.{stage, _does_}
-use Rattle.wire.proofs.Stages.{follow, does-report}
+use Rattle.records.specs.Seen.{seen, _writes_}
+use Rattle.records.specs.Stage.{stage, _does_}
+use Rattle.records.proofs.Stages.{follow, does-report}
 use Rattle.places.specs.Layout.{complexesUsed, venueOf}
 use Rattle.places.proofs.Parts.{complex-past}
 use Rattle.candidates.proofs.Candidates.{cross-free}

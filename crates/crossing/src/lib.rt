@@ -14,8 +14,8 @@ ghost use Rattle.rules.specs.Base.{if_then_else_, first};
 ghost use Rattle.rules.specs.Words.{complexAt};
 ghost use Rattle.rules.specs.Effects.{repeat};
 ghost use Rattle.rules.specs.Complex.{crosses, cross, crossTurn, touches, fillsUnit, touch};
-ghost use Rattle.wire.specs.Seen.{seen};
-ghost use Rattle.wire.specs.Stage.{stage, _does_};
+ghost use Rattle.records.specs.Seen.{seen};
+ghost use Rattle.records.specs.Stage.{stage, _does_};
 ghost use Rattle.places.specs.Layout.{size, complexesUsed, venueOf, Right, SameCounts};
 ghost use Rattle.levels.specs.Grid.{LegsIn, TakenOf};
 
@@ -29,7 +29,7 @@ pub fn cross(b: &mut [u32], i: usize, j: usize, k: u32, out: &mut [u8], at: usiz
     let m = places::complex_at(b, j);
     storing::fill_complex(b, i, k);
     storing::fill_complex(b, j, k);
-    let told = wire::emit_crossed(out, at, c.id, m.id, candidates::net_against(m), k);
+    let told = records::emit_crossed(out, at, c.id, m.id, candidates::net_against(m), k);
     let gone = removal::remove_of(b, c.id, Cause::Executed, out, told);
     removal::remove_of(b, m.id, Cause::Executed, out, gone)
 }

@@ -9,9 +9,9 @@ use native.Mathlib.Numerals.{add-one}
 use lib.ListN.{length, getD, take, drop, length-set}
 use lib.Seq.{getD-set-same, getD-set-other}
 use Rattle.rules.specs.Bytes.{u8At, u16At, u32At}
-use Rattle.wire.specs.Seen.{pasted}
+use Rattle.records.specs.Seen.{pasted}
 use Rattle.wire.proofs.Numbers.{u8-drop}
-use Rattle.wire.proofs.Writes.{pasted-length}
+use Rattle.records.proofs.Writes.{pasted-length}
 use Rattle.places.specs.Layout.{upto}
 use Rattle.places.proofs.Tables.{upto-more, upto-same}
 use Rattle.state.specs.Held.{venueSize, venueFrom}

@@ -15,9 +15,9 @@ use Rattle.rules.specs.Words.{freshVenue}
 use Rattle.rules.specs.Bytes.{u8At, u32At, u8, u32, bytes}
 use Rattle.rules.specs.Calls.{one}
 use Rattle.rules.proofs.Reading.{byte}
-use Rattle.wire.specs.Seen.{Seen, seen, pasted, _plus_}
+use Rattle.records.specs.Seen.{Seen, seen, pasted, _plus_}
 use Rattle.wire.proofs.Numbers.{u8-drop, u32-here}
-use Rattle.wire.proofs.Writes.{plus-in, pasted-length, pasted-to, pasted-above}
+use Rattle.records.proofs.Writes.{plus-in, pasted-length, pasted-to, pasted-above}
 use Rattle.state.specs.Held.{venueSize, venueBytes, venueFrom, rows}
 use Rattle.state.proofs.Rows.{Written, written-all, written-room, written-next}
 use Rattle.engine.specs.Runs.{callOf}

@@ -15,7 +15,7 @@ use Rattle.rules.specs.declared.Venue.{Venue}
 use Rattle.rules.specs.Base.{if_then_else_}
 use Rattle.rules.specs.Bytes.{u8At, u32At, u8, u32}
 use Rattle.rules.specs.Calls.{Call, one}
-use Rattle.wire.specs.Seen.{pasted}
+use Rattle.records.specs.Seen.{pasted}
 use Rattle.places.specs.Layout.{upto}
 use Rattle.state.specs.Held.{venueSize, venueBytes, venueFrom, rows}
 use Rattle.layer.specs.Layer.{Lane, Layer}

@@ -7,7 +7,7 @@ ghost use Prim.Native.Nat.{_+_, _-_, _≤_, _<_};
 ghost use lib.ListN.{length, take, drop, replicate};
 ghost use Rattle.rules.specs.Bytes.{u8At, u32At, u8, u32};
 ghost use Rattle.rules.specs.Records.{sheet};
-ghost use Rattle.wire.specs.Seen.{pasted};
+ghost use Rattle.records.specs.Seen.{pasted};
 ghost use Rattle.state.specs.Held.{venueSize};
 ghost use Rattle.engine.specs.Runs.{callOf};
 ghost use Rattle.layer.specs.Layer.{freshLane, waitSound, next};
@@ -109,7 +109,7 @@ fn fresh_lane(lane: &mut [u8])
     let fresh = figures::fresh();
     let end = VENUE;
     state::put_venue(&mut lane[..end], fresh);
-    wire::zero_from(lane, VENUE);
+    records::zero_from(lane, VENUE);
 }
 
 // The first layer of a host's memory. A memory of another length can hold none.
@@ -139,8 +139,8 @@ fn put_place(place: &mut [u8], message: &[u8])
     ensures { λ _. ⌜ now (place .exit) ≡ placeBytes (now (message .entry)) ⌝ }
 {
     place[0] = message.len() as u8;
-    let end = wire::put(place, 1, message);
-    wire::zero_from(place, end);
+    let end = records::put(place, 1, message);
+    records::zero_from(place, end);
 }
 
 // A message at the end of a lane's wait.
@@ -230,8 +230,8 @@ fn count_done(lane: &mut [u8])
     ensures { λ _. ⌜ now (lane .exit) ≡ pasted (now (lane .entry)) doneAt (u32 (u32At (now (lane .entry)) doneAt + 1)) ⌝ }
 {
     let before = wire::u32_at(lane, DONE);
-    let done = wire::bytes4(before + 1);
-    wire::put(lane, DONE, &done);
+    let done = records::bytes4(before + 1);
+    records::put(lane, DONE, &done);
 }
 
 // The wait without its head: each place one place down, and the last one free.
@@ -245,7 +245,7 @@ fn drop_head(lane: &mut [u8])
         lane[PLACES + i] = lane[SECOND + i];
         i += 1;
     }
-    wire::zero_from(lane, EIGHTH);
+    records::zero_from(lane, EIGHTH);
     lane[COUNT] = count - 1;
 }
 
@@ -271,7 +271,7 @@ pub struct TurnReturned {
 fn idle(number: u8, report: &mut [u8]) -> TurnReturned
     ensures { λ r. ⌜ (r ≡ idleReturned number) × (now (report .exit) ≡ sheet (length (now (report .entry))) []) ⌝ }
 {
-    wire::zero_from(report, 0);
+    records::zero_from(report, 0);
     TurnReturned {
         number,
         done: 0,

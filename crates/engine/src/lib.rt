@@ -83,7 +83,7 @@ pub fn run(messages: &[u8], report: &mut [u8]) -> Returned
             break;
         }
     }
-    wire::zero_from(report, t.written);
+    records::zero_from(report, t.written);
     let venue = places::venue_of(&b);
     Returned {
         number: t.number,
@@ -99,7 +99,7 @@ pub fn run(messages: &[u8], report: &mut [u8]) -> Returned
 fn end_call(number: u8, venue: Venue, report: &mut [u8]) -> Returned
     ensures { λ r. ⌜ callOf r (now (report .exit)) ≡ called (length (now (report .entry))) (ends number venue) ⌝ }
 {
-    wire::zero_from(report, 0);
+    records::zero_from(report, 0);
     Returned {
         number,
         done: 0,
@@ -127,7 +127,7 @@ pub fn one_message(venue: Venue, before: u32, message: &[u8], report: &mut [u8])
     if report.len() < written {
         return end_call(10, venue, report);
     }
-    wire::zero_from(report, written);
+    records::zero_from(report, written);
     let after = places::venue_of(&b);
     Returned {
         number: r.refused,
@@ -214,7 +214,7 @@ fn feed_lines<'a>(main: &'a [u8], spare: &'a [u8], report: &mut [u8]) -> Returne
             break;
         }
     }
-    wire::zero_from(report, t.written);
+    records::zero_from(report, t.written);
     let venue = places::venue_of(&numbers);
     Returned {
         number: t.number,

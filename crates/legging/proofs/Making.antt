@@ -32,9 +32,9 @@ use Rattle.rules.proofs.Better.{is-false}
 use Rattle.rules.proofs.Integers.{abs-neg, abs-add}
 use Rattle.rules.proofs.Machine.{fits-of, back}
 use Rattle.rules.proofs.Generating.{Makes, made, zero-out, make-venue}
-use Rattle.wire.specs.Seen.{seen, _writes_}
-use Rattle.wire.specs.Stage.{stage, _does_}
-use Rattle.wire.proofs.Stages.{follow, does-report}
+use Rattle.records.specs.Seen.{seen, _writes_}
+use Rattle.records.specs.Stage.{stage, _does_}
+use Rattle.records.proofs.Stages.{follow, does-report}
 use Rattle.places.specs.Layout.{leggingIn, complexIn, venueOf, complexesUsed, levelOf, Figured}
 use Rattle.places.proofs.Parts.{complex-at, complex-past}
 use Rattle.places.specs.declared.Level.{Level}

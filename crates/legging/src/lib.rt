@@ -14,8 +14,8 @@ ghost use Rattle.rules.specs.Words.{opposite, signed, leggingAt};
 ghost use Rattle.rules.specs.Settings.{increment};
 ghost use Rattle.rules.specs.Prices.{bestRegular, displayed};
 ghost use Rattle.rules.specs.Generation.{asPrice, generationsOf, givesWay, placed, othersStand, underCeiling, generateLeg, generate};
-ghost use Rattle.wire.specs.Seen.{seen};
-ghost use Rattle.wire.specs.Stage.{stage, _does_};
+ghost use Rattle.records.specs.Seen.{seen};
+ghost use Rattle.records.specs.Stage.{stage, _does_};
 ghost use Rattle.places.specs.Layout.{size, venueOf, Figured, Right, SameCounts};
 ghost use Rattle.levels.specs.Grid.{LegsIn, TakenOf, SidesOf};
 ghost use Rattle.standing.specs.Parts.{otherTaken};
@@ -222,7 +222,7 @@ fn make_leg(
     let pos = removal::remove_at(b, place, place, Cause::Replaced, out, at);
     storing::put_legging(b, place, l);
     storing::count_generation(b, s as usize, number);
-    wire::emit_generated(out, pos, id, s, d, l.price, shown, l.quantity)
+    records::emit_generated(out, pos, id, s, d, l.price, shown, l.quantity)
 }
 
 // The legging order of a leg of c, made where every condition holds. Those that no leg changes are tested before.

@@ -5,11 +5,11 @@ use Prim.Native.Nat.{ℕ, zero, suc, _+_, _-_, _≤_}
 use native.Mathlib.Omega.{arith}
 use lib.ListN.{length, take, drop}
 use Rattle.rules.specs.Records.{Report, recordOf, recordsFrom, records}
-use Rattle.wire.specs.declared.Next.the-variants.{Found, End}
-use Rattle.wire.specs.Next.{nextRecord}
-use Rattle.wire.specs.Seen.{Seen}
-use Rattle.wire.proofs.Reading.{Follows, next-follows, next-ends}
-use Rattle.wire.proofs.Writes.{part-all}
+use Rattle.records.specs.declared.Next.the-variants.{Found, End}
+use Rattle.records.specs.Next.{nextRecord}
+use Rattle.records.specs.Seen.{Seen}
+use Rattle.records.proofs.Reading.{Follows, next-follows, next-ends}
+use Rattle.records.proofs.Writes.{part-all}
 use Rattle.lines.specs.Lines.{lineOf, textOf}
 use Rattle.lines.specs.Typing.{_types_}
 use Rattle.lines.proofs.Typing.{types-append}

@@ -11,8 +11,8 @@ use lib.Seq.{set-split, append-snoc, drop-cons}
 use borrow.Author.Tests.{lt-ltb, le-ltb, ltb-false, ne-eqb}
 use Rattle.rules.specs.Bytes.{asSigned}
 use Rattle.rules.specs.Records.{causeNumber, causeOf}
-use Rattle.wire.specs.Seen.{Seen, seen, pasted, _plus_}
-use Rattle.wire.proofs.Writes.{plus-in, plus-out, pasted-nil, pasted-pasted, pasted-length}
+use Rattle.records.specs.Seen.{Seen, seen, pasted, _plus_}
+use Rattle.records.proofs.Writes.{plus-in, plus-out, pasted-nil, pasted-pasted, pasted-length}
 use Rattle.lines.specs.Lines.{decimal, digits, signed, word, words}
 use Rattle.lines.specs.Typing.{_types_}
 

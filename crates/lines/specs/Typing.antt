@@ -1,7 +1,7 @@
 -- Text typed into a lent slice, byte by byte.
 use mathlib.Core.List.{List, [], _∷_}
 use Prim.Native.Nat.{ℕ}
-use Rattle.wire.specs.Seen.{Seen, _plus_}
+use Rattle.records.specs.Seen.{Seen, _plus_}
 
 -- Each byte is written where it fits. Once one did not, the position is past the end, for good, and no further byte is written.
 infixl 6 _types_

@@ -1,11 +1,11 @@
 // The sheet as text: a line for each record of a report memory, typed into a lent slice.
-use wire::Next;
+use records::Next;
 ghost use mathlib.Core.Path.{_≡_};
 ghost use mathlib.Core.List.{[], _∷_};
 ghost use Prim.Native.Nat.{_+_, _<_};
 ghost use Rattle.rules.specs.Bytes.{u8At, u16At, u32At, asSigned};
 ghost use Rattle.rules.specs.Records.{answer, trade, pair, generated, removed, crossed, cancelled, looked, causeNumber, causeOf, recordOf, records};
-ghost use Rattle.wire.specs.Seen.{seen};
+ghost use Rattle.records.specs.Seen.{seen};
 ghost use Rattle.lines.specs.Lines.{decimal, signed, word, words, signedWord, line, lineOf, textOf};
 ghost use Rattle.lines.specs.Typing.{_types_};
 
@@ -249,7 +249,7 @@ pub fn put_sheet(out: &mut [u8], at: usize, report: &[u8]) -> usize
     let mut from = 0;
     let mut pos = at;
     loop {
-        let next = wire::next_record(report, from);
+        let next = records::next_record(report, from);
         let Next::Found(_kind, to) = next else {
             return pos;
         };

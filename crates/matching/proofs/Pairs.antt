@@ -24,9 +24,9 @@ use Rattle.rules.specs.Standing.{otherLeg, otherClear, parentOf}
 use Rattle.rules.specs.Trading.{lessComplex, fillRegular, fillComplex, tradeWith, take, pairOff}
 use Rattle.rules.specs.Order.{meet, hit}
 use Rattle.rules.specs.Complex.{complexPlace, restsComplex, cancelRegular, cancelComplex}
-use Rattle.wire.specs.Seen.{seen, _writes_}
-use Rattle.wire.specs.Stage.{stage, _does_}
-use Rattle.wire.proofs.Stages.{follow, does-report}
+use Rattle.records.specs.Seen.{seen, _writes_}
+use Rattle.records.specs.Stage.{stage, _does_}
+use Rattle.records.proofs.Stages.{follow, does-report}
 use Rattle.places.specs.Layout.{complexesUsed, complexIn, venueOf}
 use Rattle.places.proofs.Parts.{complex-past, complexes-few}
 use Rattle.places.proofs.Tables.{used-length}

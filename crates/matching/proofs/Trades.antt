@@ -17,9 +17,9 @@ use Rattle.rules.specs.Effects.{Effect, nothing, report, _⟫_}
 use Rattle.rules.specs.Trading.{fillRegular, tradeWith, take}
 use Rattle.rules.proofs.Tests.{and-l, held-pos}
 use Rattle.rules.proofs.Picking.{first-chosen}
-use Rattle.wire.specs.Seen.{seen, _writes_}
-use Rattle.wire.specs.Stage.{stage, _does_}
-use Rattle.wire.proofs.Stages.{onward, does-nothing, does-report, does-room}
+use Rattle.records.specs.Seen.{seen, _writes_}
+use Rattle.records.specs.Stage.{stage, _does_}
+use Rattle.records.proofs.Stages.{onward, does-nothing, does-report, does-room}
 use Rattle.places.specs.Layout.{size, regularsUsed, venueOf, SameCounts}
 use Rattle.book.specs.declared.Pick.the-variants as pick
 use Rattle.book.specs.Picks.{pickOf}

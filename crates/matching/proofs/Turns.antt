@@ -15,9 +15,9 @@ use Rattle.rules.specs.Prices.{ownPrice, better, reaches, shown}
 use Rattle.rules.specs.Effects.{Effect, nothing, _⟫_, Turn, ended, turned, repeat}
 use Rattle.rules.specs.Trading.{freeRegular, putRegular}
 use Rattle.rules.specs.Order.{isMet, priceThenId, atOnce, firstMet, leggingFirst, meet, hit, meetTurn, enterRegular}
-use Rattle.wire.specs.Seen.{seen}
-use Rattle.wire.specs.Stage.{stage, _does_}
-use Rattle.wire.proofs.Stages.{onward, does-nothing, does-room}
+use Rattle.records.specs.Seen.{seen}
+use Rattle.records.specs.Stage.{stage, _does_}
+use Rattle.records.proofs.Stages.{onward, does-nothing, does-room}
 use Rattle.places.specs.Layout.{size, regularsUsed, venueOf, SameCounts}
 use Rattle.book.specs.declared.Pick.{Pick}
 use Rattle.book.specs.declared.Pick.the-variants as pick

@@ -15,8 +15,8 @@ ghost use Rattle.rules.specs.Order.{atOnce, leggingFirst, meetTurn, enterRegula
 ghost use Rattle.rules.specs.Order as order;
 ghost use Rattle.rules.specs.Complex.{complexPlace, cancelRegular, cancelComplex};
 ghost use Rattle.rules.specs.Sound.{showsFully};
-ghost use Rattle.wire.specs.Seen.{seen};
-ghost use Rattle.wire.specs.Stage.{stage, _does_};
+ghost use Rattle.records.specs.Seen.{seen};
+ghost use Rattle.records.specs.Stage.{stage, _does_};
 ghost use Rattle.places.specs.Layout.{size, regularsUsed, complexesUsed, venueOf, Right, Below, Counts, SameCounts, Dense};
 ghost use Rattle.matching.specs.Turns.{pairingOf, turnOf, InUse};
 use book::Found;
@@ -42,7 +42,7 @@ fn trade_with(
 {
     let m = places::regular_at(b, j);
     levels::fill_order(b, j, k);
-    wire::emit_trade(out, at, m.series, side, m.price, k, taker, m.id)
+    records::emit_trade(out, at, m.series, side, m.price, k, taker, m.id)
 }
 
 // q, but at most n.
@@ -112,7 +112,7 @@ pub fn pair_off(
     ensures counts { λ _. ⌜ SameCounts (now (b .entry)) (now (b .exit)) ⌝ }
 {
     fill_pair(b, i, k);
-    let pos = wire::emit_pair(out, at, id, net, k);
+    let pos = records::emit_pair(out, at, id, net, k);
     removal::remove_of(b, id, Cause::Executed, out, pos)
 }
 
@@ -166,7 +166,7 @@ fn hit(b: &mut [u32], i: usize, l: Legging, k: u32, out: &mut [u8], at: usize) -
     let o = places::regular_at(b, i);
     let p = pairing_of(b, l, o.series, o.side);
     levels::fill_order(b, i, k);
-    let traded = wire::emit_trade(out, at, o.series, o.side, l.price, k, o.id, p.id);
+    let traded = records::emit_trade(out, at, o.series, o.side, l.price, k, o.id, p.id);
     let taken = take(b, p.id, p.series, p.side, p.clear, k as u64, out, traded);
     let j = place_or_end(b, p.id);
     pair_off(b, j, p.id, p.net, k, out, taken)
@@ -307,7 +307,7 @@ pub fn cancel_regular(b: &mut [u32], i: usize, out: &mut [u8], at: usize) -> usi
 {
     let o = places::regular_at(b, i);
     levels::fill_order(b, i, o.quantity);
-    wire::emit_cancelled(out, at, o.id, o.quantity)
+    records::emit_cancelled(out, at, o.id, o.quantity)
 }
 
 // The complex order at place i is cancelled, and its legging orders go.
@@ -318,6 +318,6 @@ pub fn cancel_complex(b: &mut [u32], i: usize, out: &mut [u8], at: usize) -> usi
 {
     let c = places::complex_at(b, i);
     storing::fill_complex(b, i, c.quantity);
-    let pos = wire::emit_cancelled(out, at, c.id, c.quantity);
+    let pos = records::emit_cancelled(out, at, c.id, c.quantity);
     removal::remove_of(b, c.id, Cause::Withdrawn, out, pos)
 }

@@ -31,11 +31,11 @@ use Rattle.rules.proofs.Tests.{and-l, and-r}
 use Rattle.rules.proofs.Arranging.{arranged-out, blank-free}
 use Rattle.rules.proofs.Refusing.{wellFormed, decoded-by, refusalOf-by}
 use Rattle.rules.proofs.Showing.{message-fully}
-use Rattle.wire.specs.Seen.{Seen, seen, _writes_}
-use Rattle.wire.specs.Stage.{stage, _does_}
+use Rattle.records.specs.Seen.{Seen, seen, _writes_}
+use Rattle.records.specs.Stage.{stage, _does_}
 use Rattle.wire.specs.Brought.{Shows}
-use Rattle.wire.proofs.Writes.{answer-last}
-use Rattle.wire.proofs.Stages.{does-nothing, follow, stage-venue, stage-written}
+use Rattle.records.proofs.Writes.{answer-last}
+use Rattle.records.proofs.Stages.{does-nothing, follow, stage-venue, stage-written}
 use Rattle.places.specs.Layout.{regularsUsed, complexesUsed, venueOf, Below, SameCounts, Dense}
 use Rattle.storing.proofs.Closed.{dense-regular, dense-complex, dense-kept}
 use Rattle.book.proofs.Masks.{ones-mask}

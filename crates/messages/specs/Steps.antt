@@ -12,8 +12,8 @@ use Rattle.rules.specs.Settings.{freeEdition}
 use Rattle.rules.specs.Effects.{nothing}
 use Rattle.rules.specs.Refusals.{refusalOf}
 use Rattle.rules.specs.Step.{StepOutcome, answered, accept}
-use Rattle.wire.specs.Seen.{seen, _writes_}
-use Rattle.wire.specs.Stage.{stage, _does_}
+use Rattle.records.specs.Seen.{seen, _writes_}
+use Rattle.records.specs.Stage.{stage, _does_}
 use Rattle.places.specs.Layout.{venueOf, Dense}
 use Rattle.messages.specs.declared.Stepped.{Stepped}
 

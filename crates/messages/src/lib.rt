@@ -27,8 +27,8 @@ ghost use Rattle.rules.specs.Step as step;
 ghost use Rattle.demands.specs.Kept.{SoundVenue};
 ghost use Rattle.rules.specs.Standing.{settle};
 ghost use Rattle.rules.proofs.Refusing.{wellFormed};
-ghost use Rattle.wire.specs.Seen.{seen};
-ghost use Rattle.wire.specs.Stage.{stage, _does_};
+ghost use Rattle.records.specs.Seen.{seen};
+ghost use Rattle.records.specs.Stage.{stage, _does_};
 ghost use Rattle.wire.specs.Brought.{Shows};
 ghost use Rattle.places.specs.Layout.{size, regularsUsed, complexesUsed, venueOf, Figured, Right, Below, SameCounts, Dense};
 ghost use Rattle.levels.specs.Grid.{LegsIn};
@@ -399,7 +399,7 @@ fn refuse(b: &[u32], number: u32, refused: u8, out: &mut [u8]) -> Stepped
 {
     let mask = places::mask_of(b);
     let count = book::count_of(mask);
-    let written = wire::emit_answer(out, 0, number, refused, mask, count);
+    let written = records::emit_answer(out, 0, number, refused, mask, count);
     Stepped { refused, written }
 }
 
@@ -408,11 +408,11 @@ fn answer_accepted(b: &mut [u32], number: u32, m: Message, out: &mut [u8]) -> St
     requires { ⌜ (length (now b) ≡ size) × (Dense (now b)) × (wellFormed m ≡ true) × (refusalOf (venueOf (now b)) m ≡ 0) × (SoundVenue (venueOf (now b))) × (Shows m) ⌝ }
     ensures { λ r. ⌜ Steps (answered number 0 (step.accept number m (venueOf (now (b .entry))))) (now (out .entry)) r (now (b .exit)) (now (out .exit)) ⌝ }
 {
-    let at = wire::emit_answer(out, 0, number, 0, 0, 0);
+    let at = records::emit_answer(out, 0, number, 0, 0, 0);
     let written = accept(b, number, m, out, at);
     let mask = places::mask_of(b);
     let count = book::count_of(mask);
-    wire::set_answer(out, 0, number, 0, mask, count);
+    records::set_answer(out, 0, number, 0, mask, count);
     Stepped {
         refused: 0,
         written,

@@ -24,9 +24,9 @@ use Rattle.rules.specs.Removal.{stay, goes, stayers, leavers, remove, failIf}
 use Rattle.rules.specs.Standing.{verdictNumber}
 use Rattle.rules.specs.Generation.{placed}
 use Rattle.rules.specs.Step.{mask}
-use Rattle.wire.specs.Seen.{Seen, seen}
-use Rattle.wire.specs.Stage.{stage, _does_}
-use Rattle.wire.proofs.Stages.{onward, does-nothing, does-room}
+use Rattle.records.specs.Seen.{Seen, seen}
+use Rattle.records.specs.Stage.{stage, _does_}
+use Rattle.records.proofs.Stages.{onward, does-nothing, does-room}
 use Rattle.places.specs.Layout.{size, leggingIn, venueOf, SameCounts}
 use Rattle.places.proofs.Tables.{upto-at, upto-length}
 use Rattle.removal.specs.Marks.{clearAt, verdictBy, markAt, markedBy}

@@ -6,8 +6,8 @@ ghost use lib.Dec.{eqb};
 ghost use lib.ListN.{length};
 ghost use Rattle.rules.specs.declared.Verdict.the-variants.{Fails};
 ghost use Rattle.rules.specs.Removal.{remove, removeOf, failIf};
-ghost use Rattle.wire.specs.Seen.{seen};
-ghost use Rattle.wire.specs.Stage.{stage, _does_};
+ghost use Rattle.records.specs.Seen.{seen};
+ghost use Rattle.records.specs.Stage.{stage, _does_};
 ghost use Rattle.places.specs.Layout.{size, venueOf, SameCounts};
 ghost use Rattle.removal.specs.Marks.{clearAt, verdictBy, markedBy};
 use rules::Cause;
@@ -30,7 +30,7 @@ fn clear(b: &mut [u32], n: usize, cause: Cause, out: &mut [u8], at: usize) -> us
         quantity: 0,
     };
     storing::put_legging(b, n, none);
-    wire::emit_removed(out, at, l.parent, (n / 2) as u8, (n % 2) as u8, cause)
+    records::emit_removed(out, at, l.parent, (n / 2) as u8, (n % 2) as u8, cause)
 }
 
 // The legging orders of one parent go.

@@ -8,8 +8,8 @@ use lib.Dec.{leb}
 use lib.ListN.{length, take, length-append}
 use borrow.Author.Tests.{le-leb, lt-leb, leb-true, leb-false}
 use Rattle.rules.specs.Base.{if_then_else_}
-use Rattle.wire.specs.Seen.{Seen, seen, pasted, _plus_}
-use Rattle.wire.proofs.Writes.{plus-in, plus-out, pasted-to, pasted-length}
+use Rattle.records.specs.Seen.{Seen, seen, pasted, _plus_}
+use Rattle.records.proofs.Writes.{plus-in, plus-out, pasted-to, pasted-length}
 use Rattle.save.specs.Begun.{Begun, over, begun, _adds_}
 use Rattle.save.specs.Parts.{recordIf}
 

@@ -41,7 +41,7 @@ fn put_first(out: &mut [u8], at: usize, number: u32, last: u32) -> usize
 {
     let head = [12u8, 0, 80, 0];
     let words = [number, last];
-    wire::put_words(out, at, &head, &words)
+    records::put_words(out, at, &head, &words)
 }
 
 // 5: a series' status.
@@ -49,7 +49,7 @@ fn put_status(out: &mut [u8], at: usize, s: u8, status: u8) -> usize
     ensures { λ r. ⌜ begun (now (out .exit)) r ≡ begun (now (out .entry)) at adds encodeMessage (Status s status) ⌝ }
 {
     let record = [6u8, 0, 5, 0, s, status];
-    wire::put(out, at, &record)
+    records::put(out, at, &record)
 }
 
 // 4: its away prices.
@@ -58,7 +58,7 @@ fn put_away(out: &mut [u8], at: usize, s: u8, bid: u32, offer: u32) -> usize
 {
     let head = [13u8, 0, 4, 0, s];
     let words = [bid, offer];
-    wire::put_words(out, at, &head, &words)
+    records::put_words(out, at, &head, &words)
 }
 
 // 5 and 4 of a series.
@@ -79,27 +79,27 @@ fn put_edition(out: &mut [u8], at: usize, e: Edition) -> usize
     let words = [e.edition, e.message];
     if e.figure == 8 {
         let head = [13u8, 0, 8, 0, e.value];
-        return wire::put_words(out, at, &head, &words);
+        return records::put_words(out, at, &head, &words);
     }
     let head = [14u8, 0, 7, 0, e.figure, e.value];
-    wire::put_words(out, at, &head, &words)
+    records::put_words(out, at, &head, &words)
 }
 
 // 9: a regular order, with what is left and what shows.
 fn put_regular(out: &mut [u8], at: usize, o: Regular) -> usize
     ensures { λ r. ⌜ begun (now (out .exit)) r ≡ begun (now (out .entry)) at adds regularRecord o ⌝ }
 {
-    let i = wire::bytes4(o.id);
+    let i = records::bytes4(o.id);
     let head = [22u8, 0, 9, 0, i[0], i[1], i[2], i[3], o.series, o.side];
     let words = [o.price, o.quantity, o.display];
-    wire::put_words(out, at, &head, &words)
+    records::put_words(out, at, &head, &words)
 }
 
 // The fields of kind 2, which kind 10 begins with, after a length and a kind.
 fn put_two_leg(out: &mut [u8], at: usize, length: u8, kind: u8, c: Complex) -> usize
     ensures { λ r. ⌜ begun (now (out .exit)) r ≡ begun (now (out .entry)) at adds (length ∷ 0 ∷ kind ∷ 0 ∷ twoLegFields c) ⌝ }
 {
-    let i = wire::bytes4(c.id);
+    let i = records::bytes4(c.id);
     let head = [
         length,
         0,
@@ -115,15 +115,15 @@ fn put_two_leg(out: &mut [u8], at: usize, length: u8, kind: u8, c: Complex) -> u
         c.side2,
         c.class,
     ];
-    let words = [wire::bits(c.limit as i64), c.quantity];
-    wire::put_words(out, at, &head, &words)
+    let words = [records::bits(c.limit as i64), c.quantity];
+    records::put_words(out, at, &head, &words)
 }
 
 fn put_ratios(out: &mut [u8], at: usize, c: Complex) -> usize
     ensures { λ r. ⌜ begun (now (out .exit)) r ≡ begun (now (out .entry)) at adds (u8 (c .ratio1) ++ u8 (c .ratio2)) ⌝ }
 {
     let ratios = [c.ratio1, c.ratio2];
-    wire::put(out, at, &ratios)
+    records::put(out, at, &ratios)
 }
 
 // 2 or 10: a complex order, with what is left.
@@ -144,10 +144,10 @@ fn put_legging(out: &mut [u8], at: usize, s: u8, d: u8, l: Legging) -> usize
     if l.quantity == 0 {
         return at;
     }
-    let i = wire::bytes4(l.parent);
+    let i = records::bytes4(l.parent);
     let head = [18u8, 0, 82, 0, i[0], i[1], i[2], i[3], s, d];
     let words = [l.price, l.quantity];
-    wire::put_words(out, at, &head, &words)
+    records::put_words(out, at, &head, &words)
 }
 
 // 83: a generation of a series, where there is one.
@@ -159,7 +159,7 @@ fn put_generation(out: &mut [u8], at: usize, s: u8, number: u32) -> usize
     }
     let head = [9u8, 0, 83, 0, s];
     let words = [number];
-    wire::put_words(out, at, &head, &words)
+    records::put_words(out, at, &head, &words)
 }
 
 // 84: the id reached, if any.
@@ -171,7 +171,7 @@ fn put_reached(out: &mut [u8], at: usize, id: u32) -> usize
     }
     let head = [8u8, 0, 84, 0];
     let words = [id];
-    wire::put_words(out, at, &head, &words)
+    records::put_words(out, at, &head, &words)
 }
 
 // Parts ---------------------------------------------------------------------------------------
@@ -339,7 +339,7 @@ fn put_set(b: &[u32], number: u32, out: &mut [u8]) -> usize
 fn refuse(number: u8, memory: &mut [u8]) -> Saved
     ensures { λ r. ⌜ savedOf r (now (memory .exit)) ≡ notWritten number (length (now (memory .entry))) ⌝ }
 {
-    wire::zero_from(memory, 0);
+    records::zero_from(memory, 0);
     Saved { number, written: 0 }
 }
 
@@ -355,6 +355,6 @@ pub fn write_set(venue: Venue, number: u32, memory: &mut [u8]) -> Saved
     if memory.len() < written {
         return refuse(15, memory);
     }
-    wire::zero_from(memory, written);
+    records::zero_from(memory, written);
     Saved { number: 0, written }
 }

@@ -23,8 +23,8 @@ use Rattle.demands.specs.Most.{most}
 use Rattle.demands.proofs.Calls.{fresh-sound, kept, step-fits}
 use Rattle.demands.proofs.Most.{writes-at-most}
 use Rattle.engine.specs.Runs.{callOf}
-use Rattle.wire.specs.Seen.{Seen, seen, pasted}
-use Rattle.wire.proofs.Writes.{part-all, pasted-length, pasted-to}
+use Rattle.records.specs.Seen.{Seen, seen, pasted}
+use Rattle.records.proofs.Writes.{part-all, pasted-length, pasted-to}
 use Rattle.lines.specs.Lines.{textOf}
 use Rattle.lines.specs.Typing.{_types_}
 use Rattle.lines.proofs.Typing.{types-fits}

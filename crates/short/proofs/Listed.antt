@@ -10,7 +10,7 @@ use borrow.Author.Tests.{eqb-true, eqb-false, leb-true}
 use Rattle.rules.specs.Bytes.{lengthField, u16At, u8At}
 use Rattle.rules.specs.Opened.{opened-rules}
 use Rattle.rules.proofs.Tests.{and-l, and-r}
-use Rattle.wire.specs.Seen.{Seen, _plus_}
+use Rattle.records.specs.Seen.{Seen, _plus_}
 use Rattle.lines.specs.Lines.{decimal, digits}
 use Rattle.short.specs.Short.{list, messageAt, messagesOf}
 

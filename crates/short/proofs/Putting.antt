@@ -4,8 +4,8 @@ use mathlib.Core.List.{List, [], _∷_, _++_, append-assoc, append-nil}
 use Prim.Native.Nat.{ℕ, suc, _+_, _*_, _≤_, _<_}
 use native.Mathlib.Omega.{arith}
 use lib.ListN.{length, take}
-use Rattle.wire.specs.Seen.{Seen, _plus_, pasted, seen}
-use Rattle.wire.proofs.Writes.{pasted-length, pasted-to, plus-in}
+use Rattle.records.specs.Seen.{Seen, _plus_, pasted, seen}
+use Rattle.records.proofs.Writes.{pasted-length, pasted-to, plus-in}
 use Rattle.shorts.specs.Sessions.{Within}
 use Rattle.shorts.specs.declared.Session.{Session}
 use Rattle.shorts.specs.Values.{placesOf}

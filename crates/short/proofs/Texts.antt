@@ -9,7 +9,7 @@ use Rattle.rules.specs.Records.{Report, records}
 use Rattle.rules.specs.Calls.{called, run, runFrom}
 use Rattle.rules.proofs.Calling.{run-room}
 use Rattle.rules.proofs.Reading.{reads-back}
-use Rattle.wire.specs.Seen.{Seen, seen}
+use Rattle.records.specs.Seen.{Seen, seen}
 use Rattle.lines.specs.Lines.{decimal, line, textOf, word, words}
 use Rattle.lines.specs.Typing.{_types_}
 use Rattle.lines.proofs.Typing.{types-append, types-fits}

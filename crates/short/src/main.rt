@@ -5,7 +5,7 @@ ghost use mathlib.Core.Path.{_≡_};
 ghost use Prim.Native.Nat.{suc, _-_, _≤_, _<_};
 ghost use lib.ListN.{length, take, drop};
 ghost use Rattle.rules.specs.Calls.{run};
-ghost use Rattle.wire.specs.Seen.{seen, _plus_};
+ghost use Rattle.records.specs.Seen.{seen, _plus_};
 ghost use Rattle.lines.specs.Typing.{_types_};
 ghost use Rattle.shorts.specs.Sessions.{Within};
 ghost use Rattle.shorts.specs.Values.{placesOf};
@@ -18,7 +18,7 @@ fn put_part(out: &mut [u8], at: usize, list: &[u8], from: usize, end: usize) -> 
     requires { ⌜ (from ≤ end) × (end ≤ length (now list)) ⌝ }
     ensures { λ r. ⌜ seen (now (out .exit)) r ≡ seen (now (out .entry)) at plus take (end - from) (drop from (now (list .entry))) ⌝ }
 {
-    wire::put(out, at, &list[from..end])
+    records::put(out, at, &list[from..end])
 }
 
 // The message at a place of the list, which is a line here.
@@ -79,7 +79,7 @@ fn put_places(out: &mut [u8], s: Session) -> usize
     ensures { λ r. ⌜ seen (now (out .exit)) r ≡ seen (now (out .entry)) 0 types placesLine (placesOf s) ⌝ }
 {
     match s {
-        Session::Empty => wire::put(out, 0, b"\n"),
+        Session::Empty => records::put(out, 0, b"\n"),
         Session::One(a) => {
             let none = [0u32; 0];
             lines::put_fields(out, 0, printed(a), &none)

@@ -6,8 +6,8 @@ use native.Mathlib.Omega.{arith}
 use lib.ListN.{length, length-append, drop-of-length-le}
 use Rattle.rules.specs.declared.Venue.{Venue}
 use Rattle.rules.specs.Bytes.{u32, bytes}
-use Rattle.wire.specs.Seen.{Seen, seen, pasted, _plus_}
-use Rattle.wire.proofs.Writes.{plus-in, pasted-length, pasted-pasted}
+use Rattle.records.specs.Seen.{Seen, seen, pasted, _plus_}
+use Rattle.records.proofs.Writes.{plus-in, pasted-length, pasted-pasted}
 use Rattle.state.specs.Held.{editionsAt, reservesAt, ratiosAt, generationsAt, reachedAt, venueSize, rows, venueBytes, Sized}
 use Rattle.state.specs.Held.{regularBytes, complexBytes, leggingBytes, listedBytes, editionBytes, reserveBytes, ratioBytes, generationsBytes}
 use Rattle.state.proofs.Rows.{rows-length}

@@ -9,7 +9,7 @@ use rules::Venue;
 ghost use mathlib.Core.Path.{_≡_};
 ghost use Prim.Native.Nat.{_+_, _≤_};
 ghost use lib.ListN.{length};
-ghost use Rattle.wire.specs.Seen.{seen, pasted, _plus_};
+ghost use Rattle.records.specs.Seen.{seen, pasted, _plus_};
 ghost use Rattle.state.specs.Held.{editionsAt, reservesAt, ratiosAt, generationsAt, venueSize};
 ghost use Rattle.state.specs.Held.{regularBytes, complexBytes, leggingBytes, listedBytes, editionBytes, reserveBytes, ratioBytes, generationsBytes, rows, venueBytes};
 ghost use Rattle.state.specs.Held.{regularFrom, complexFrom, leggingFrom, listedFrom, editionFrom, generationsFrom, venueFrom};
@@ -277,24 +277,24 @@ pub fn venue_from(bytes: &[u8]) -> Venue
 fn put_regular(out: &mut [u8], at: usize, o: Regular)
     ensures { λ _. ⌜ now (out .exit) ≡ (seen (now (out .entry)) at plus regularBytes o) .memory ⌝ }
 {
-    let i = wire::bytes4(o.id);
+    let i = records::bytes4(o.id);
     let head = [i[0], i[1], i[2], i[3], o.series, o.side];
     let words = [o.price, o.quantity];
-    wire::put_words(out, at, &head, &words);
+    records::put_words(out, at, &head, &words);
 }
 
 fn put_reserve(out: &mut [u8], at: usize, o: Regular)
     ensures { λ _. ⌜ now (out .exit) ≡ (seen (now (out .entry)) at plus reserveBytes o) .memory ⌝ }
 {
-    let head = wire::bytes4(o.reserve);
+    let head = records::bytes4(o.reserve);
     let words = [o.display];
-    wire::put_words(out, at, &head, &words);
+    records::put_words(out, at, &head, &words);
 }
 
 fn put_complex(out: &mut [u8], at: usize, c: Complex)
     ensures { λ _. ⌜ now (out .exit) ≡ (seen (now (out .entry)) at plus complexBytes c) .memory ⌝ }
 {
-    let i = wire::bytes4(c.id);
+    let i = records::bytes4(c.id);
     let head = [
         i[0],
         i[1],
@@ -306,23 +306,23 @@ fn put_complex(out: &mut [u8], at: usize, c: Complex)
         c.side2,
         c.class,
     ];
-    let words = [wire::bits(c.limit as i64), c.quantity];
-    wire::put_words(out, at, &head, &words);
+    let words = [records::bits(c.limit as i64), c.quantity];
+    records::put_words(out, at, &head, &words);
 }
 
 fn put_ratio(out: &mut [u8], at: usize, c: Complex)
     ensures { λ _. ⌜ now (out .exit) ≡ (seen (now (out .entry)) at plus ratioBytes c) .memory ⌝ }
 {
     let row = [c.ratio1, c.ratio2];
-    wire::put(out, at, &row);
+    records::put(out, at, &row);
 }
 
 fn put_legging(out: &mut [u8], at: usize, l: Legging)
     ensures { λ _. ⌜ now (out .exit) ≡ (seen (now (out .entry)) at plus leggingBytes l) .memory ⌝ }
 {
-    let head = wire::bytes4(l.parent);
+    let head = records::bytes4(l.parent);
     let words = [l.price, l.quantity];
-    wire::put_words(out, at, &head, &words);
+    records::put_words(out, at, &head, &words);
 }
 
 fn put_listed(out: &mut [u8], at: usize, x: Listed)
@@ -330,14 +330,14 @@ fn put_listed(out: &mut [u8], at: usize, x: Listed)
 {
     let head = [x.status];
     let words = [x.bid, x.offer];
-    wire::put_words(out, at, &head, &words);
+    records::put_words(out, at, &head, &words);
 }
 
 fn put_edition(out: &mut [u8], at: usize, x: Edition)
     ensures { λ _. ⌜ now (out .exit) ≡ (seen (now (out .entry)) at plus editionBytes x) .memory ⌝ }
 {
-    let e = wire::bytes4(x.edition);
-    let m = wire::bytes4(x.message);
+    let e = records::bytes4(x.edition);
+    let m = records::bytes4(x.message);
     let row = [
         e[0],
         e[1],
@@ -350,7 +350,7 @@ fn put_edition(out: &mut [u8], at: usize, x: Edition)
         x.figure,
         x.value,
     ];
-    wire::put(out, at, &row);
+    records::put(out, at, &row);
 }
 
 fn put_generations(out: &mut [u8], at: usize, g: Generations)
@@ -360,8 +360,8 @@ fn put_generations(out: &mut [u8], at: usize, g: Generations)
     let messages = g.messages;
     let mut k: usize = 0;
     while k < 20 {
-        let number = wire::bytes4(messages[k]);
-        wire::put(out, 4 * k + at, &number);
+        let number = records::bytes4(messages[k]);
+        records::put(out, 4 * k + at, &number);
         k += 1;
     }
 }
@@ -477,8 +477,8 @@ pub fn put_venue(out: &mut [u8], v: Venue)
     put_leggings(out, legging);
     let series = v.series;
     put_series(out, series);
-    let last = wire::bytes4(v.last);
-    wire::put(out, 2600, &last);
+    let last = records::bytes4(v.last);
+    records::put(out, 2600, &last);
     let editions = v.editions;
     put_editions(out, editions);
     let reserves = v.regular;
@@ -487,6 +487,6 @@ pub fn put_venue(out: &mut [u8], v: Venue)
     put_ratios(out, ratios);
     let generations = v.generations;
     put_all_generations(out, generations);
-    let reached = wire::bytes4(v.reached);
-    wire::put(out, REACHED_AT, &reached);
+    let reached = records::bytes4(v.reached);
+    records::put(out, REACHED_AT, &reached);
 }

@@ -1,5 +1,2 @@
--- What the bytes of a lent slice come to: what is written of it, a venue beside it, and a record found in it; and what those of a message bring.
-pub mod Seen
-pub mod Stage
-pub mod Next
+-- What the bytes of a message bring.
 pub mod Brought

@@ -4,9 +4,9 @@ use native.Mathlib.Omega.{arith}
 use Rattle.rules.specs.Generation.{generate}
 use Rattle.rules.specs.Complex.{eachOf}
 use Rattle.rules.specs.Effects.{Effect}
-use Rattle.wire.specs.Seen.{seen}
-use Rattle.wire.specs.Stage.{_does_}
-use Rattle.wire.proofs.Stages.{follow}
+use Rattle.records.specs.Seen.{seen}
+use Rattle.records.specs.Stage.{_does_}
+use Rattle.records.proofs.Stages.{follow}
 use Rattle.places.specs.Layout.{venueOf}
 use Rattle.removal.proofs.Removing.{counts-on}
 use Rattle.complexes.specs.Round.{placesFrom, roundPlaces}

@@ -2,7 +2,7 @@
 use mathlib.Core.Path.{_∙_}
 use Rattle.rules.specs.Standing.{settle}
 use Rattle.rules.specs.Order.{enterRegular, order}
-use Rattle.wire.proofs.Stages.{follow}
+use Rattle.records.proofs.Stages.{follow}
 use Rattle.places.specs.Layout.{venueOf}
 use Rattle.complexes.proofs.Working.{counts-more}
 use borrow.Author.Needs.{needs}

@@ -3,8 +3,8 @@ use mathlib.Core.Path.{sym, ap, _∙_}
 use Rattle.rules.specs.Effects.{Effect}
 use Rattle.rules.specs.Complex.{restsRegular, restsComplex}
 use Rattle.rules.proofs.Tests.{or-r}
-use Rattle.wire.specs.Seen.{seen}
-use Rattle.wire.specs.Stage.{_does_}
+use Rattle.records.specs.Seen.{seen}
+use Rattle.records.specs.Stage.{_does_}
 use Rattle.places.specs.Layout.{venueOf}
 use Rattle.complexes.proofs.Finding.{regular-found, regular-used, regular-not, withdraw-regular, withdraw-other}
 use borrow.Author.Needs.{needs}

@@ -3,9 +3,9 @@ use mathlib.Core.Path.{ap, _∙_}
 use native.Mathlib.Omega.{arith}
 use Rattle.rules.specs.Complex.{work, eachOf}
 use Rattle.rules.specs.Effects.{Effect}
-use Rattle.wire.specs.Seen.{seen}
-use Rattle.wire.specs.Stage.{_does_}
-use Rattle.wire.proofs.Stages.{follow}
+use Rattle.records.specs.Seen.{seen}
+use Rattle.records.specs.Stage.{_does_}
+use Rattle.records.proofs.Stages.{follow}
 use Rattle.places.specs.Layout.{venueOf}
 use Rattle.removal.proofs.Removing.{counts-on}
 use Rattle.complexes.specs.Round.{placesFrom, roundPlaces}

@@ -14,7 +14,7 @@ use Rattle.candidates.proofs.net_against.Reads as net-against-reads
 use Rattle.places.proofs.complex_at.Reads as complex-at-reads
 use Rattle.storing.proofs.fill_complex.Reads as fill-complex-reads
 use Rattle.removal.proofs.remove_of.Reads as remove-of-reads
-use Rattle.wire.proofs.emit_crossed.Reads as emit-crossed-reads
+use Rattle.records.proofs.emit_crossed.Reads as emit-crossed-reads
 
 complex-at-requires : tie.Need-complex-at-requires
 complex-at-requires c κs = let z = complexes-few (c .before .before .before .args .b .now) in (c .before .before .before .pre .0, omega (arith, c .before .before .before .pre .1))

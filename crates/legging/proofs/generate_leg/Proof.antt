@@ -4,9 +4,9 @@ use Rattle.standing.proofs.Testing.{off, on}
 use Rattle.legging.specs.Parts.{madeBy}
 use Rattle.removal.proofs.Removing.{counts-on}
 use Rattle.places.specs.Layout.{venueOf}
-use Rattle.wire.proofs.Stages.{does-nothing}
-use Rattle.wire.specs.Stage.{_does_}
-use Rattle.wire.specs.Seen.{seen}
+use Rattle.records.proofs.Stages.{does-nothing}
+use Rattle.records.specs.Stage.{_does_}
+use Rattle.records.specs.Seen.{seen}
 use Rattle.rules.specs.Effects.{Effect, nothing}
 use Rattle.rules.specs.Generation.{generationsOf, underCeiling}
 use Rattle.rules.specs.Words.{placeOf}

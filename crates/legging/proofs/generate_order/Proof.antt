@@ -3,9 +3,9 @@ use Rattle.legging.proofs.Making.{generates-kept, generate-past, genera
 use Rattle.standing.proofs.Testing.{off, on}
 use Rattle.removal.proofs.Removing.{counts-on}
 use Rattle.places.specs.Layout.{venueOf, complexesUsed}
-use Rattle.wire.proofs.Stages.{does-nothing, follow, stage-venue}
-use Rattle.wire.specs.Stage.{_does_}
-use Rattle.wire.specs.Seen.{seen}
+use Rattle.records.proofs.Stages.{does-nothing, follow, stage-venue}
+use Rattle.records.specs.Stage.{_does_}
+use Rattle.records.specs.Seen.{seen}
 use Rattle.rules.specs.Generation.{generateLeg}
 use Rattle.rules.specs.Effects.{Effect}
 use mathlib.Core.Path.{refl, ap, _∙_}

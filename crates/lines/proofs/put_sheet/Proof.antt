@@ -4,11 +4,11 @@ use mathlib.Core.Path.{_≡_, refl, sym, _∙_}
 use native.Mathlib.Omega.{arith}
 use lib.ListN.{length}
 use Rattle.rules.specs.Records.{records}
-use Rattle.wire.specs.Seen.{seen}
+use Rattle.records.specs.Seen.{seen}
 use Rattle.lines.specs.Lines.{textOf}
 use Rattle.lines.specs.Typing.{_types_}
 use Rattle.lines.proofs.Sheets.{Left, left-start, left-more, left-end}
-use Rattle.wire.proofs.Reading.{next-follows}
+use Rattle.records.proofs.Reading.{next-follows}
 use Rattle.lines.proofs.put_sheet.Statement.{statement}
 use Rattle.lines.proofs.put_sheet.Tie as tie
 

@@ -3,7 +3,7 @@ use Prim.Native.Nat.{_-_, _≤_, zero-le}
 use mathlib.Core.Path.{_≡_, refl, _∙_}
 use native.Mathlib.Omega.{arith}
 use lib.ListN.{length, drop}
-use Rattle.wire.specs.Seen.{seen}
+use Rattle.records.specs.Seen.{seen}
 use Rattle.lines.specs.Lines.{words}
 use Rattle.lines.specs.Typing.{_types_}
 use Rattle.lines.proofs.Typing.{words-more, words-end}

@@ -3,8 +3,8 @@ use mathlib.Core.Path.{_≡_, refl, sym, ap, _∙_}
 use Rattle.rules.specs.declared.Venue.{Venue}
 use native.Mathlib.Omega.{arith}
 use Rattle.rules.specs.Order.{order}
-use Rattle.wire.specs.Seen.{seen}
-use Rattle.wire.specs.Stage.{_does_}
+use Rattle.records.specs.Seen.{seen}
+use Rattle.records.specs.Stage.{_does_}
 use Rattle.places.specs.Layout.{venueOf}
 use Rattle.loading.proofs.Loaded.{regular-side}
 use Rattle.places.proofs.Orderly.{range-priced, range-displayed}

@@ -6,8 +6,8 @@ use Rattle.rules.specs.Refusals.{refusalOf}
 use Rattle.rules.specs.Step.{perform}
 use Rattle.rules.proofs.ByKind.{kinds-left, sweep-left}
 use Rattle.rules.proofs.Refusing.{wellFormed}
-use Rattle.wire.specs.Seen.{seen}
-use Rattle.wire.specs.Stage.{_does_}
+use Rattle.records.specs.Seen.{seen}
+use Rattle.records.specs.Stage.{_does_}
 use Rattle.wire.specs.Brought.{Shows}
 use Rattle.places.specs.Layout.{venueOf}
 use Rattle.complexes.proofs.Walking.{sound-rising}

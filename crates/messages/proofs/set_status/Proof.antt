@@ -2,8 +2,8 @@
 use mathlib.Core.Path.{_≡_, refl, sym, ap, _∙_}
 use Rattle.rules.specs.declared.Venue.{Venue}
 use Rattle.rules.specs.Standing.{settle}
-use Rattle.wire.specs.Seen.{seen}
-use Rattle.wire.specs.Stage.{_does_}
+use Rattle.records.specs.Seen.{seen}
+use Rattle.records.specs.Stage.{_does_}
 use Rattle.places.specs.Layout.{venueOf}
 use Rattle.removal.proofs.Removing.{counts-on}
 use Rattle.levels.proofs.Sides.{listed-read}

@@ -1,9 +1,9 @@
 -- `removal::clear` meets its contract.
 use mathlib.Core.Path.{refl, sym, ap, _∙_}
 use Rattle.rules.specs.Effects.{Effect, report}
-use Rattle.wire.specs.Seen.{seen}
-use Rattle.wire.specs.Stage.{_does_}
-use Rattle.wire.proofs.Stages.{does-nothing, does-report}
+use Rattle.records.specs.Seen.{seen}
+use Rattle.records.specs.Stage.{_does_}
+use Rattle.records.proofs.Stages.{does-nothing, does-report}
 use Rattle.places.specs.Layout.{venueOf}
 use Rattle.removal.proofs.Removing.{legging-at, clear-free, clear-held}
 use borrow.Author.Needs.{needs}

@@ -2,7 +2,7 @@
 use mathlib.Core.Path.{refl}
 use borrow.Author.Needs.{needs}
 use Rattle.rules.specs.Bytes.{framed, bytes}
-use Rattle.wire.specs.Seen.{wordBytes}
+use Rattle.records.specs.Seen.{wordBytes}
 use Rattle.sets.specs.Set.{firstRecord}
 use Rattle.save.proofs.Begin.{wrote}
 use Rattle.save.proofs.put_first.Statement.{statement}

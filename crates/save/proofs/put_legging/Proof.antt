@@ -3,7 +3,7 @@ use borrow.Author.Tests.{ne-eqb}
 use borrow.Author.Needs.{needs}
 use Rattle.rules.specs.Bytes.{framed, bytes}
 use Rattle.rules.proofs.Reading.{byte}
-use Rattle.wire.specs.Seen.{wordBytes}
+use Rattle.records.specs.Seen.{wordBytes}
 use Rattle.sets.specs.Set.{leggingRecord}
 use Rattle.save.proofs.Begin.{absent, present, wrote}
 use Rattle.save.proofs.put_legging.Statement.{statement}

@@ -3,7 +3,7 @@ use mathlib.Core.Path.{refl}
 use borrow.Author.Tests.{ne-eqb}
 use borrow.Author.Needs.{needs}
 use Rattle.rules.specs.Bytes.{framed, bytes}
-use Rattle.wire.specs.Seen.{wordBytes}
+use Rattle.records.specs.Seen.{wordBytes}
 use Rattle.sets.specs.Set.{reachedRecords}
 use Rattle.save.proofs.Begin.{absent, present, wrote}
 use Rattle.save.proofs.Steps.{one-joined}

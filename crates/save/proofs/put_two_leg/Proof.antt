@@ -9,7 +9,7 @@ use borrow.Author.Needs.{needs}
 use Rattle.rules.specs.Bytes.{bytes, u32, i32}
 use Rattle.rules.specs.Messages.{twoLegFields}
 use Rattle.rules.proofs.Reading.{byte}
-use Rattle.wire.specs.Seen.{wordBytes}
+use Rattle.records.specs.Seen.{wordBytes}
 use Rattle.places.proofs.Limits.{number-cast, back32}
 use Rattle.save.proofs.Begin.{wrote}
 use Rattle.save.proofs.put_two_leg.Statement.{statement}

@@ -1,9 +1,9 @@
 -- `standing::remove_failing` meets its contract.
 use Rattle.removal.proofs.Removing.{remove-none, unmarked, marked-is}
 use Rattle.places.specs.Layout.{venueOf}
-use Rattle.wire.proofs.Stages.{does-nothing}
-use Rattle.wire.specs.Stage.{_does_}
-use Rattle.wire.specs.Seen.{seen}
+use Rattle.records.proofs.Stages.{does-nothing}
+use Rattle.records.specs.Stage.{_does_}
+use Rattle.records.specs.Seen.{seen}
 use Rattle.rules.specs.Standing.{verdict}
 use Rattle.rules.specs.Effects.{Effect}
 use borrow.Author.Tests.{eqb-true}

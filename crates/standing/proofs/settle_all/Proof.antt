@@ -3,8 +3,8 @@ use mathlib.Core.Path.{ap, _∙_}
 use Rattle.rules.specs.declared.Venue.{Venue}
 use Rattle.rules.specs.Removal.{remove}
 use Rattle.rules.specs.Standing.{verdict, settle}
-use Rattle.wire.specs.Seen.{seen}
-use Rattle.wire.specs.Stage.{_does_}
+use Rattle.records.specs.Seen.{seen}
+use Rattle.records.specs.Stage.{_does_}
 use Rattle.removal.proofs.Removing.{counts-on}
 use borrow.Author.Needs.{needs}
 use Rattle.standing.proofs.settle_all.Statement.{statement}

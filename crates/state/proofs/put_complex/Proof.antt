@@ -7,7 +7,7 @@ use mir.Val.{SFits, toZ, ofZ}
 use mir.ValLaws.{toZ-ofZ}
 use Rattle.rules.specs.Bytes.{bytes, u32, i32}
 use Rattle.rules.proofs.Reading.{byte}
-use Rattle.wire.specs.Seen.{wordBytes}
+use Rattle.records.specs.Seen.{wordBytes}
 use Rattle.places.proofs.Limits.{number-cast, back32}
 use Rattle.state.specs.Held.{complexBytes}
 use Rattle.state.proofs.Rows.{row-put}

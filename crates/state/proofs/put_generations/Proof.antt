@@ -5,8 +5,8 @@ use native.Mathlib.Omega.{arith}
 use lib.ListN.{length}
 use borrow.Author.Needs.{needs}
 use Rattle.rules.specs.Bytes.{u32}
-use Rattle.wire.specs.Seen.{Seen, seen}
-use Rattle.wire.proofs.Writes.{plus-in}
+use Rattle.records.specs.Seen.{Seen, seen}
+use Rattle.records.proofs.Writes.{plus-in}
 use Rattle.state.specs.Held.{messagesOf, generationsBytes}
 use Rattle.state.proofs.Rows.{Written, written-none, written-room, written-next, written-all, row-put}
 use Rattle.state.proofs.Widths.{number-width, messages-many, message-at, generations-width}

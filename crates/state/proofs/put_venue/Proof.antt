@@ -3,7 +3,7 @@ use mathlib.Core.Path.{_≡_, sym, ap, _∙_}
 use mathlib.Core.List.{List, map}
 use Prim.Native.Nat.{ℕ}
 use lib.ListN.{length, length-map}
-use Rattle.wire.specs.Seen.{seen, _plus_}
+use Rattle.records.specs.Seen.{seen, _plus_}
 use Rattle.state.specs.Held.{reachedAt, Sized}
 use Rattle.state.proofs.Whole.{venue-put}
 use borrow.Author.Needs.{needs}

@@ -1,0 +1,25 @@
+use Rattle.rules.specs.Bytes.{framed, bytes}
+use Rattle.rules.specs.Records.{looked, encode}
+use Rattle.rules.proofs.Reading.{byte}
+use Rattle.records.proofs.Writes.{emitted}
+use borrow.Author.Needs.{needs}
+use Rattle.records.proofs.emit_looked.Statement.{statement}
+use Rattle.records.proofs.emit_looked.Tie as tie
+
+slice-aggregate-put : tie.Need-slice-aggregate-put
+slice-aggregate-put c = search needs
+
+put-requires : tie.Need-put-requires
+put-requires c κs = search needs
+
+same-length : tie.Need-same-length
+same-length c = search needs
+
+returns : tie.Need-returns
+unfolding encode framed bytes
+returns c =
+    let s = c .before .before .before .before .before .before in
+    emitted _ _ _ (looked (s .args .count)) (c .before .before .put .ensures) (rw (byte (s .args .count) (s .fits .count .fits)))
+
+pub emit-looked-spec : {M : Type 1} → statement M
+emit-looked-spec = tie.close (tie.spec slice-aggregate-put put-requires same-length returns)
