@@ -201,7 +201,7 @@ pub fn complex_place(b: &[u32], id: u32) -> Found
     let mut i = 0;
     while i < n {
         let c = places::complex_at(b, i);
-        if levels::is_complex_of(c, id) {
+        if prices::is_complex_of(c, id) {
             return Found::At(i);
         }
         i += 1;

@@ -119,12 +119,12 @@ pub fn can_cross(b: &[u32], c: Complex, m: Complex) -> bool
     }
     let paid = net_against(m);
     let by_taker = levels::taken_at(b, c);
-    if !levels::in_band(b, by_taker, c, paid) {
+    if !prices::in_band(b, by_taker, c, paid) {
         return false;
     }
     let limit = limit_of(m);
     let by_maker = levels::taken_at(b, m);
-    if !levels::in_band(b, by_maker, m, limit) {
+    if !prices::in_band(b, by_maker, m, limit) {
         return false;
     }
     if !respects_legs(by_taker, c, paid) {

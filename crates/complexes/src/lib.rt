@@ -44,7 +44,7 @@ fn can_leg_in(b: &[u32], taken: Taken, c: Complex, a: u32, p: u32) -> bool
     if limit < net {
         return false;
     }
-    levels::in_band(b, taken, c, net)
+    prices::in_band(b, taken, c, net)
 }
 
 // The contracts of one leg in k units.
@@ -125,7 +125,7 @@ pub fn work(b: &mut [u32], i: usize, out: &mut [u8], at: usize) -> usize
     ensures counts { λ _. ⌜ SameCounts (now (b .entry)) (now (b .exit)) ⌝ }
 {
     let c = places::complex_at(b, i);
-    if levels::any_closed(b, c) {
+    if prices::any_closed(b, c) {
         return at;
     }
     let crossed = crossing::cross_all(b, i, out, at);

@@ -67,12 +67,12 @@ fn can_touch(b: &[u32], taken: Taken, c: Complex) -> bool
         return false;
     }
     let one = taken.first;
-    let first = levels::best_own(b, one.price, c.series1, figures::opposite_of(c.side1));
+    let first = prices::best_own(b, one.price, c.series1, figures::opposite_of(c.side1));
     if first == 0 {
         return false;
     }
     let two = taken.second;
-    let second = levels::best_own(b, two.price, c.series2, figures::opposite_of(c.side2));
+    let second = prices::best_own(b, two.price, c.series2, figures::opposite_of(c.side2));
     if second == 0 {
         return false;
     }
@@ -86,12 +86,12 @@ fn fills_unit(b: &[u32], taken: Taken, c: Complex) -> bool
     ensures { λ r. ⌜ r ≡ fillsUnit (venueOf (now (b .entry))) c ⌝ }
 {
     let one = taken.first;
-    let first = levels::own_size(b, one, c.series1, figures::opposite_of(c.side1));
+    let first = prices::own_size(b, one, c.series1, figures::opposite_of(c.side1));
     if first < (c.ratio1 as u64) {
         return false;
     }
     let two = taken.second;
-    let second = levels::own_size(b, two, c.series2, figures::opposite_of(c.side2));
+    let second = prices::own_size(b, two, c.series2, figures::opposite_of(c.side2));
     (c.ratio2 as u64) <= second
 }
 

@@ -39,7 +39,7 @@ use Rattle.places.specs.Layout.{leggingIn, complexIn, venueOf, complexesUsed, l
 use Rattle.places.proofs.Parts.{complex-at, complex-past}
 use Rattle.places.specs.declared.Level.{Level}
 use Rattle.levels.specs.Grid.{GridOf, LegsIn}
-use Rattle.levels.proofs.Sides.{legs-in}
+use Rattle.prices.proofs.Prices.{legs-in}
 use Rattle.removal.proofs.Removing.{legging-at, remove-same}
 use Rattle.legging.specs.Parts.{rangedPrice, pricedLeg, mayGenerate, standsClear, mayStand, plannedLeg, madeBy}
 

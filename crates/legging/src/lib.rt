@@ -47,7 +47,7 @@ fn ranged(b: &[u32], s: u8, d: u8, p: u64) -> u32
     requires { ⌜ (length (now b) ≡ size) × (s < 8) × (Figured (now b)) ⌝ }
     ensures { λ r. ⌜ r ≡ rangedPrice (venueOf (now (b .entry))) s d p ⌝ }
 {
-    let increment = levels::increment_of(b, s);
+    let increment = prices::increment_of(b, s);
     if 100254 < p {
         return 0;
     }
@@ -71,7 +71,7 @@ pub fn leg_price(b: &[u32], taken: Taken, c: Complex, s: u8, d: u8) -> u32
     if clear == 0 {
         return 0;
     }
-    let other = levels::other_leg(c, s);
+    let other = prices::other_leg(c, s);
     let limit = limit_of(c);
     let price = figures::signed_price(other.side, clear);
     ranged(b, s, d, as_price(signed_of(d, limit - price)))
@@ -85,10 +85,10 @@ fn may_generate(b: &[u32], taken: Taken, c: Complex) -> bool
     if !wire::is_one_to_one(c) {
         return false;
     }
-    if !levels::both_open(b, c) {
+    if !prices::both_open(b, c) {
         return false;
     }
-    levels::in_band(b, taken, c, limit_of(c))
+    prices::in_band(b, taken, c, limit_of(c))
 }
 
 // A price p at side d of series s is no worse than own, the best regular of its side, and reaches nothing opposite; facing is the best regular there.
@@ -100,10 +100,10 @@ fn stands_clear(b: &[u32], own: u32, facing: u32, s: u8, d: u8, p: u32) -> bool
         return false;
     }
     let f = figures::opposite_of(d);
-    if levels::reaches_any(d, p, levels::best_own(b, facing, s, f)) {
+    if levels::reaches_any(d, p, prices::best_own(b, facing, s, f)) {
         return false;
     }
-    !levels::reaches_any(d, p, levels::away_price(b, s, f))
+    !levels::reaches_any(d, p, prices::away_price(b, s, f))
 }
 
 // What stands at side d of series s gives way to c at price p: it is worse, or of class 1 at an equal price while c is of class 0.
@@ -111,7 +111,7 @@ pub fn gives_way(b: &[u32], c: Complex, s: u8, d: u8, p: u32) -> bool
     requires { ⌜ (length (now b) ≡ size) × (s < 8) × (d < 2) ⌝ }
     ensures { λ r. ⌜ r ≡ givesWay (venueOf (now (b .entry))) c d p (leggingAt (venueOf (now (b .entry))) s d) ⌝ }
 {
-    let own = levels::own_price(b, s, d);
+    let own = prices::own_price(b, s, d);
     if levels::is_better(d, p, own) {
         return true;
     }
@@ -121,7 +121,7 @@ pub fn gives_way(b: &[u32], c: Complex, s: u8, d: u8, p: u32) -> bool
     if c.class != 0 {
         return false;
     }
-    let holder = levels::parent_of(b, places::legging_at(b, figures::place_of(s, d)));
+    let holder = prices::parent_of(b, places::legging_at(b, figures::place_of(s, d)));
     holder.class == 1
 }
 

@@ -1,26 +1,21 @@
-// The prices of a side: better and reached, the levels of the regular orders and how they are kept, own, clear and market prices, and the band.
+// The levels of the regular orders, a price and a size for each side of a series: how they are kept and read; and which price is better, or reached.
 use places::Level;
 use rules::Complex;
-use rules::Leg;
-use rules::Legging;
 use rules::Regular;
 use rules::Venue;
 ghost use mathlib.Core.Path.{_≡_};
 ghost use mathlib.Core.Bool.{true};
 ghost use Prim.Native.Nat.{suc, _≤_, _<_};
-ghost use lib.IntN.{natAbs};
 ghost use lib.ListN.{length};
 ghost use Rattle.rules.specs.Base.{held};
-ghost use Rattle.rules.specs.Words.{sell, leggingAt, statusOf, isComplexOf};
-ghost use Rattle.rules.specs.Settings.{increment};
-ghost use Rattle.rules.specs.Prices.{better, betterOf, reaches, bestRegular, ownPrice, bestOwn, ownSize, clearPrice, away, marketBest, inBand};
+ghost use Rattle.rules.specs.Words.{sell};
+ghost use Rattle.rules.specs.Prices.{better, betterOf, reaches, bestRegular};
 ghost use Rattle.rules.specs.Trading.{fillRegular, putRegular};
 ghost use Rattle.rules.specs.Generation.{reachesAny};
-ghost use Rattle.rules.specs.Standing.{otherLeg, parentOf, bothOpen, showAgain};
+ghost use Rattle.rules.specs.Standing.{showAgain};
 ghost use Rattle.rules.specs.Sound.{showsFully};
-ghost use Rattle.rules.specs.Complex.{anyClosed};
-ghost use Rattle.places.specs.Layout.{size, regularsUsed, complexesUsed, venueOf, levelOf, Figured, Right, Below, Counts, SameCounts, Loadable, Loaded};
-ghost use Rattle.levels.specs.Grid.{noLevel, withOrder, levelBy, sidesIn, GridOf, LevelsPut, LegsIn, TakenOf, SidesOf};
+ghost use Rattle.places.specs.Layout.{size, regularsUsed, complexesUsed, venueOf, levelOf, Right, Below, Counts, SameCounts, Loadable, Loaded};
+ghost use Rattle.levels.specs.Grid.{noLevel, withOrder, levelBy, GridOf, LevelsPut, LegsIn, TakenOf, SidesOf};
 
 // a is strictly better than b to sell: lower, and any price is better than none.
 fn is_lower(a: u64, b: u64) -> bool
@@ -286,213 +281,4 @@ pub fn sides_at(b: &[u32], c: Complex, s: u8, d: u8) -> LegSides
     let facing = best_regular(b, s, figures::opposite_of(d));
     let taken = taken_at(b, c);
     LegSides { own, facing, taken }
-}
-
-// The same, looked up in a grid.
-pub fn sides_of(g: [[Level; 2]; 8], c: Complex, s: u8, d: u8) -> LegSides
-    requires { ⌜ (LegsIn c) × (s < 8) × (d < 2) ⌝ }
-    ensures { λ r. ⌜ r ≡ sidesIn g c s d ⌝ }
-{
-    let s1 = c.series1 as usize;
-    let d1 = figures::opposite_of(c.side1) as usize;
-    let s2 = c.series2 as usize;
-    let d2 = figures::opposite_of(c.side2) as usize;
-    let first = g[s1][d1];
-    let second = g[s2][d2];
-    let i = s as usize;
-    let j = d as usize;
-    let k = figures::opposite_of(d) as usize;
-    let own = g[i][j];
-    let facing = g[i][k];
-    let taken = Taken { first, second };
-    LegSides {
-        own: own.price,
-        facing: facing.price,
-        taken,
-    }
-}
-
-// The own price of the legging order of a series and side; 0 where there is none.
-pub fn own_price(b: &[u32], s: u8, d: u8) -> u32
-    requires { ⌜ (length (now b) ≡ size) × (s < 8) × (d < 2) ⌝ }
-    ensures { λ r. ⌜ r ≡ ownPrice (leggingAt (venueOf (now (b .entry))) s d) ⌝ }
-{
-    let l = places::legging_at(b, figures::place_of(s, d));
-    if l.quantity == 0 {
-        return 0;
-    }
-    l.price
-}
-
-// The best own price of a side, legging included; best is its best regular price.
-pub fn best_own(b: &[u32], best: u32, s: u8, d: u8) -> u32
-    requires { ⌜ (length (now b) ≡ size) × (best ≡ bestRegular (venueOf (now b)) s d) × (s < 8) × (d < 2) ⌝ }
-    ensures { λ r. ⌜ r ≡ bestOwn (venueOf (now (b .entry))) s d ⌝ }
-{
-    let own = own_price(b, s, d);
-    better_of(d, own, best)
-}
-
-// The size at the best own price of a side, legging included; level is that of its regular orders.
-pub fn own_size(b: &[u32], level: Level, s: u8, d: u8) -> u64
-    requires { ⌜ (length (now b) ≡ size) × (level ≡ levelOf s d (venueOf (now b) .regular)) × (s < 8) × (d < 2) ⌝ }
-    ensures { λ r. ⌜ r ≡ ownSize (venueOf (now (b .entry))) s d ⌝ }
-{
-    let l = places::legging_at(b, figures::place_of(s, d));
-    if l.quantity == 0 {
-        return level.size;
-    }
-    let legging = l.quantity as u64;
-    if l.price == level.price {
-        return level.size + legging;
-    }
-    if is_better(d, l.price, level.price) {
-        return legging;
-    }
-    level.size
-}
-
-// The best regular price, 0 if there is none or if the legging order has a strictly better own price.
-pub fn clear_price(b: &[u32], best: u32, s: u8, d: u8) -> u32
-    requires { ⌜ (length (now b) ≡ size) × (best ≡ bestRegular (venueOf (now b)) s d) × (s < 8) × (d < 2) ⌝ }
-    ensures { λ r. ⌜ r ≡ clearPrice (venueOf (now (b .entry))) s d ⌝ }
-{
-    let own = own_price(b, s, d);
-    if is_better(d, own, best) {
-        return 0;
-    }
-    best
-}
-
-// The away price of a side.
-pub fn away_price(b: &[u32], s: u8, d: u8) -> u32
-    requires { ⌜ (length (now b) ≡ size) × (s < 8) ⌝ }
-    ensures { λ r. ⌜ r ≡ away (venueOf (now (b .entry))) s d ⌝ }
-{
-    let x = places::listed_at(b, s as usize);
-    if d == 0 {
-        return x.bid;
-    }
-    x.offer
-}
-
-// The better of away and best regular price.
-pub fn market_best(b: &[u32], best: u32, s: u8, d: u8) -> u32
-    requires { ⌜ (length (now b) ≡ size) × (best ≡ bestRegular (venueOf (now b)) s d) × (s < 8) ⌝ }
-    ensures { λ r. ⌜ r ≡ marketBest (venueOf (now (b .entry))) s d ⌝ }
-{
-    let out = away_price(b, s, d);
-    better_of(d, out, best)
-}
-
-// The net t of a complex order is in band; taken has the levels that its legs take.
-pub fn in_band(b: &[u32], taken: Taken, c: Complex, t: i64) -> bool
-    requires { ⌜ (length (now b) ≡ size) × (TakenOf taken c (venueOf (now b) .regular)) × (LegsIn c) × (natAbs t ≤ 2190433320450) × (Figured (now b)) ⌝ }
-    ensures { λ r. ⌜ r ≡ inBand (venueOf (now (b .entry))) c t ⌝ }
-{
-    let one = taken.first;
-    let first = market_best(b, one.price, c.series1, figures::opposite_of(c.side1));
-    if first == 0 {
-        return false;
-    }
-    let two = taken.second;
-    let second = market_best(b, two.price, c.series2, figures::opposite_of(c.side2));
-    if second == 0 {
-        return false;
-    }
-    let o = figures::net_of(c.ratio1, c.side1, first, c.ratio2, c.side2, second);
-    figures::near_net(places::figure_at(b, 8), o, t)
-}
-
-// A series' increment in force. It is not 0.
-pub fn increment_of(b: &[u32], s: u8) -> u8
-    requires { ⌜ (length (now b) ≡ size) × (s < 8) × (Figured (now b)) ⌝ }
-    ensures { λ r. ⌜ (r ≡ increment (venueOf (now (b .entry))) s) × (0 < r) ⌝ }
-{
-    places::figure_at(b, s as usize)
-}
-
-// The leg of a complex order that is not in series s.
-pub fn other_leg(c: Complex, s: u8) -> Leg
-    ensures { λ r. ⌜ r ≡ otherLeg c s ⌝ }
-{
-    if c.series1 == s {
-        return Leg {
-            series: c.series2,
-            side: c.side2,
-        };
-    }
-    Leg {
-        series: c.series1,
-        side: c.side1,
-    }
-}
-
-// A resting complex order of this id.
-pub fn is_complex_of(c: Complex, id: u32) -> bool
-    ensures { λ r. ⌜ r ≡ isComplexOf id c ⌝ }
-{
-    if c.quantity == 0 {
-        return false;
-    }
-    c.id == id
-}
-
-// The complex order of a legging order.
-pub fn parent_of(b: &[u32], l: Legging) -> Complex
-    requires { ⌜ length (now b) ≡ size ⌝ }
-    ensures { λ r. ⌜ r ≡ parentOf (venueOf (now (b .entry))) l ⌝ }
-{
-    let n = places::complexes_used(b);
-    let mut i: usize = 0;
-    while i < n {
-        let c = places::complex_at(b, i);
-        if is_complex_of(c, l.parent) {
-            return c;
-        }
-        i += 1;
-    }
-    Complex {
-        id: 0,
-        series1: 0,
-        side1: 0,
-        series2: 0,
-        side2: 0,
-        class: 0,
-        limit: 0,
-        quantity: 0,
-        ratio1: 0,
-        ratio2: 0,
-    }
-}
-
-// A series' status.
-pub fn status_of(b: &[u32], s: u8) -> u8
-    requires { ⌜ (length (now b) ≡ size) × (s < 8) ⌝ }
-    ensures { λ r. ⌜ r ≡ statusOf (venueOf (now (b .entry))) s ⌝ }
-{
-    let x = places::listed_at(b, s as usize);
-    x.status
-}
-
-// Both series of a complex order are open.
-pub fn both_open(b: &[u32], c: Complex) -> bool
-    requires { ⌜ (length (now b) ≡ size) × (LegsIn c) ⌝ }
-    ensures { λ r. ⌜ r ≡ bothOpen (venueOf (now (b .entry))) c ⌝ }
-{
-    if status_of(b, c.series1) != 1 {
-        return false;
-    }
-    status_of(b, c.series2) == 1
-}
-
-// A series of a complex order is closed.
-pub fn any_closed(b: &[u32], c: Complex) -> bool
-    requires { ⌜ (length (now b) ≡ size) × (LegsIn c) ⌝ }
-    ensures { λ r. ⌜ r ≡ anyClosed (venueOf (now (b .entry))) c ⌝ }
-{
-    if status_of(b, c.series1) == 0 {
-        return true;
-    }
-    status_of(b, c.series2) == 0
 }

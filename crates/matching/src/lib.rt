@@ -130,11 +130,11 @@ fn pairing_of(b: &[u32], l: Legging, series: u8, side: u8) -> Pairing
     ensures { λ r. ⌜ r ≡ pairingOf (venueOf (now (b .entry))) l series side ⌝ }
     ensures bounded { λ r. ⌜ natAbs (r .net) ≤ 2190433320450 ⌝ }
 {
-    let c = levels::parent_of(b, l);
-    let leg = levels::other_leg(c, series);
+    let c = prices::parent_of(b, l);
+    let leg = prices::other_leg(c, series);
     let other = figures::opposite_of(leg.side);
     let best = levels::best_regular(b, leg.series, other);
-    let clear = levels::clear_price(b, best, leg.series, other);
+    let clear = prices::clear_price(b, best, leg.series, other);
     let net = figures::net_of(1, figures::opposite_of(side), l.price, 1, leg.side, clear);
     Pairing {
         id: c.id,

@@ -41,7 +41,7 @@ fn off_increment(b: &[u32], o: Regular) -> bool
     requires { ⌜ (length (now b) ≡ size) × (o .series < 8) × (Figured (now b)) ⌝ }
     ensures { λ r. ⌜ r ≡ offIncrement (venueOf (now (b .entry))) (Order o) ⌝ }
 {
-    let increment = levels::increment_of(b, o.series);
+    let increment = prices::increment_of(b, o.series);
     o.price % (increment as u32) != 0
 }
 
@@ -55,7 +55,7 @@ fn order_refusal(b: &[u32], o: Regular) -> u8
     if o.id <= places::last_id(b) {
         return 5;
     }
-    if levels::status_of(b, o.series) == 0 {
+    if prices::status_of(b, o.series) == 0 {
         return 6;
     }
     if 128 <= places::regulars_used(b) {
@@ -71,7 +71,7 @@ fn complex_refusal(b: &[u32], c: Complex) -> u8
     if c.id <= places::last_id(b) {
         return 5;
     }
-    if levels::any_closed(b, c) {
+    if prices::any_closed(b, c) {
         return 6;
     }
     if 32 <= places::complexes_used(b) {
@@ -192,7 +192,7 @@ fn is_idle(b: &[u32], s: u8) -> bool
     requires { ⌜ (length (now b) ≡ size) × (s < 8) ⌝ }
     ensures { λ r. ⌜ r ≡ idle (venueOf (now (b .entry))) s ⌝ }
 {
-    if levels::status_of(b, s) != 0 {
+    if prices::status_of(b, s) != 0 {
         return false;
     }
     if !no_order_in(b, s) {
@@ -262,7 +262,7 @@ fn set_away(b: &mut [u32], s: u8, bid: u32, offer: u32, out: &mut [u8], at: usiz
     ensures { λ r. ⌜ stage (venueOf (now (b .exit))) (now (out .exit)) r ≡ seen (now (out .entry)) at does settle (setAway s bid offer (venueOf (now (b .entry)))) ⌝ }
     ensures counts { λ _. ⌜ SameCounts (now (b .entry)) (now (b .exit)) ⌝ }
 {
-    let status = levels::status_of(b, s);
+    let status = prices::status_of(b, s);
     let x = Listed { status, bid, offer };
     storing::put_listed(b, s as usize, x);
     standing::settle_all(b, out, at)

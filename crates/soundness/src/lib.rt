@@ -30,7 +30,7 @@ fn on_increment(b: &[u32], o: Regular) -> bool
     if o.quantity == 0 {
         return true;
     }
-    let increment = levels::increment_of(b, o.series);
+    let increment = prices::increment_of(b, o.series);
     o.price % (increment as u32) == 0
 }
 
@@ -86,11 +86,11 @@ fn is_apart(b: &[u32], s: u8) -> bool
     requires { ⌜ (length (now b) ≡ size) × (Right (now b)) × (s < 8) ⌝ }
     ensures { λ r. ⌜ r ≡ apart (venueOf (now (b .entry))) s ⌝ }
 {
-    let bid = levels::best_own(b, levels::best_regular(b, s, 0), s, 0);
+    let bid = prices::best_own(b, levels::best_regular(b, s, 0), s, 0);
     if bid == 0 {
         return true;
     }
-    let offer = levels::best_own(b, levels::best_regular(b, s, 1), s, 1);
+    let offer = prices::best_own(b, levels::best_regular(b, s, 1), s, 1);
     if offer == 0 {
         return true;
     }
@@ -168,7 +168,7 @@ fn has_home(b: &[u32], l: Legging, s: u8, d: u8) -> bool
     requires { ⌜ length (now b) ≡ size ⌝ }
     ensures { λ r. ⌜ r ≡ hasHome (venueOf (now (b .entry))) l s d ⌝ }
 {
-    let c = levels::parent_of(b, l);
+    let c = prices::parent_of(b, l);
     if !has_leg(c, s, d) {
         return false;
     }

@@ -31,7 +31,7 @@ pub fn shown_price(b: &[u32], s: u8, d: u8, p: u32) -> u64
     requires { ⌜ (length (now b) ≡ size) × (s < 8) × (Figured (now b)) ⌝ }
     ensures { λ r. ⌜ r ≡ displayed (increment (venueOf (now (b .entry))) s) d p ⌝ }
 {
-    figures::displayed_price(levels::increment_of(b, s), d, p)
+    figures::displayed_price(prices::increment_of(b, s), d, p)
 }
 
 // A price p at side d of series s, displayed, is no worse than best, the best regular of its side.
@@ -57,9 +57,9 @@ pub fn other_clear(b: &[u32], taken: Taken, c: Complex, s: u8) -> u32
     requires { ⌜ (length (now b) ≡ size) × (TakenOf taken c (venueOf (now b) .regular)) × (LegsIn c) ⌝ }
     ensures { λ r. ⌜ r ≡ otherClear (venueOf (now (b .entry))) c s ⌝ }
 {
-    let other = levels::other_leg(c, s);
+    let other = prices::other_leg(c, s);
     let best = other_level(taken, c, s);
-    levels::clear_price(
+    prices::clear_price(
         b,
         best.price,
         other.series,
@@ -76,7 +76,7 @@ pub fn can_pair(b: &[u32], taken: Taken, c: Complex, s: u8, d: u8, l: Legging) -
     if clear == 0 {
         return false;
     }
-    let other = levels::other_leg(c, s);
+    let other = prices::other_leg(c, s);
     let net = figures::net_of(1, d, l.price, 1, other.side, clear);
     let limit = limit_of(c);
     if net <= limit {
@@ -95,13 +95,13 @@ pub fn test_order(b: &[u32], sides: LegSides, c: Complex, s: u8, d: u8, l: Leggi
         return Verdict::Fails(Cause::Worse);
     }
     let taken = sides.taken;
-    if !levels::in_band(b, taken, c, limit_of(c)) {
+    if !prices::in_band(b, taken, c, limit_of(c)) {
         return Verdict::Fails(Cause::OutOfBand);
     }
     if !can_pair(b, taken, c, s, d, l) {
         return Verdict::Fails(Cause::Unpaired);
     }
-    if !levels::both_open(b, c) {
+    if !prices::both_open(b, c) {
         return Verdict::Fails(Cause::NotOpen);
     }
     Verdict::Stands
@@ -116,10 +116,10 @@ pub fn judge(b: &[u32], g: [[Level; 2]; 8], n: usize) -> Verdict
     if l.quantity == 0 {
         return Verdict::Stands;
     }
-    let c = levels::parent_of(b, l);
+    let c = prices::parent_of(b, l);
     let s = (n / 2) as u8;
     let d = (n % 2) as u8;
-    let sides = levels::sides_of(g, c, s, d);
+    let sides = prices::sides_of(g, c, s, d);
     test_order(b, sides, c, s, d, l)
 }
 

@@ -9,7 +9,7 @@ use Rattle.rules.specs.Complex.{crosses, limitThenId}
 use Rattle.places.specs.Layout.{upto, complexesUsed, complexIn, venueOf}
 use Rattle.places.proofs.Parts.{complexes-few}
 use Rattle.levels.specs.Grid.{LegsIn}
-use Rattle.levels.proofs.Sides.{legs-in}
+use Rattle.prices.proofs.Prices.{legs-in}
 use Rattle.candidates.specs.Picks.{pickedOf}
 use Rattle.levels.proofs.Scanning.{scan-start, scan-past, scan-join}
 use Rattle.candidates.proofs.Candidates.{off, on, first-crossed}

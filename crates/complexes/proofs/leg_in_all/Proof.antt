@@ -6,7 +6,7 @@ use Rattle.rules.specs.Complex.{legInTurn}
 use Rattle.places.specs.Layout.{venueOf}
 use Rattle.places.proofs.Parts.{complexes-few, complex-at}
 use Rattle.levels.specs.Grid.{LegsIn}
-use Rattle.levels.proofs.Sides.{legs-in}
+use Rattle.prices.proofs.Prices.{legs-in}
 use Rattle.candidates.proofs.Candidates.{off, on}
 use Rattle.crossing.proofs.Loops.{Doing, doing-start, doing-turn, doing-end, doing-room, repeat-zero, repeat-stop, repeat-turn}
 use Rattle.complexes.proofs.Pairing.{leg-stop, leg-short, leg-turn}

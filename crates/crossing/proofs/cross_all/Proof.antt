@@ -9,7 +9,7 @@ use Rattle.rules.specs.Complex.{crossTurn}
 use Rattle.places.specs.Layout.{venueOf}
 use Rattle.places.proofs.Parts.{complexes-few, complex-at}
 use Rattle.levels.specs.Grid.{LegsIn}
-use Rattle.levels.proofs.Sides.{legs-in}
+use Rattle.prices.proofs.Prices.{legs-in}
 use Rattle.candidates.specs.Picks.{pickedOf}
 use Rattle.crossing.proofs.Turns.{cross-idle, cross-nobody, cross-some, picked-used}
 use borrow.Author.Needs.{needs}

@@ -3,7 +3,7 @@ use mathlib.Core.Path.{refl, sym, subst, _∙_}
 use native.Mathlib.Omega.{arith}
 use Rattle.places.proofs.Parts.{complexes-few, complex-at}
 use Rattle.levels.specs.Grid.{LegsIn}
-use Rattle.levels.proofs.Sides.{legs-in}
+use Rattle.prices.proofs.Prices.{legs-in}
 use Rattle.candidates.proofs.Candidates.{off, on}
 use Rattle.crossing.proofs.Touches.{touch-not, touch-both}
 use borrow.Author.Needs.{needs}

@@ -1,6 +1,6 @@
 -- `legging::gives_way` meets its contract.
 use Rattle.legging.proofs.Making.{way-better, way-worse, way-other, way-class}
-use Rattle.levels.proofs.Sides.{legging-read}
+use Rattle.prices.proofs.Prices.{legging-read}
 use Rattle.places.specs.Layout.{venueOf}
 use Rattle.rules.specs.Standing.{parentOf}
 use Rattle.rules.specs.Words.{placeOf}

@@ -4,7 +4,7 @@ use lib.IntN.{natAbs}
 use native.Mathlib.Omega.{arith}
 use Rattle.rules.proofs.Machine.{back}
 use Rattle.places.specs.Layout.{venueOf}
-use Rattle.levels.proofs.Sides.{parent-legs}
+use Rattle.prices.proofs.Prices.{parent-legs}
 use Rattle.matching.proofs.Pairs.{leg-in, opposite-in, pairing-law}
 use borrow.Author.Needs.{needs}
 use Rattle.matching.proofs.pairing_of.Statement.{statement}

@@ -1,7 +1,8 @@
 -- `standing::judge` meets its contract.
 use Rattle.standing.proofs.Testing.{verdict-free, verdict-held}
 use Rattle.levels.specs.Grid.{LegsIn}
-use Rattle.levels.proofs.Sides.{parent-legs, sides-right}
+use Rattle.levels.proofs.Sides.{sides-right}
+use Rattle.prices.proofs.Prices.{parent-legs}
 use Rattle.removal.proofs.Removing.{legging-at}
 use native.Mathlib.Omega.{arith}
 use mathlib.Core.Path.{sym, _∙_}

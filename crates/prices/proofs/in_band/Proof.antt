@@ -1,0 +1,64 @@
+-- `prices::in_band` meets its contract.
+use Rattle.levels.proofs.Sides.{first-best, second-best}
+use Rattle.prices.proofs.Prices.{band-none1, band-none2, band-near}
+use Rattle.places.specs.Layout.{venueOf}
+use Rattle.rules.proofs.Machine.{back}
+use borrow.Author.Needs.{needs}
+use Rattle.prices.proofs.in_band.Statement.{statement}
+use Rattle.prices.proofs.in_band.Tie as tie
+
+opposite-of-requires : tie.Need-opposite-of-requires
+opposite-of-requires c κs = search needs
+
+market-best-requires : tie.Need-market-best-requires
+market-best-requires c κs =
+    let a = c .before .before .before .args in
+    (c .before .before .before .pre .0, first-best (venueOf (a .b .now)) (a .taken) (a .c) (c .before .before .before .pre .1) _ (c .opposite-of .ensures), c .before .before .before .pre .2 .first)
+
+returns : tie.Need-returns
+returns c = band-none1 _ (c .before .before .before .before .before .args .c) _ _ (c .before .market-best .ensures) (c .before .before .opposite-of .ensures) _ (c .if1 .taken)
+
+opposite-of-requires-2 : tie.Need-opposite-of-requires-2
+opposite-of-requires-2 c κs = search needs
+
+market-best-requires-2 : tie.Need-market-best-requires-2
+market-best-requires-2 c κs =
+    let a = c .before .before .before .before .before .before .before .args in
+    (c .before .before .before .before .before .before .before .pre .0, second-best (venueOf (a .b .now)) (a .taken) (a .c) (c .before .before .before .before .before .before .before .pre .1) _ (c .opposite-of2 .ensures), c .before .before .before .before .before .before .before .pre .2 .second)
+
+returns-2 : tie.Need-returns-2
+returns-2 c =
+    band-none2 _ (c .before .before .before .before .before .before .before .before .before .args .c) _ _ (c .before .before .before .before .before .market-best .ensures) (c .before .before .before .before .before .before .opposite-of .ensures) (c .before .before .before .before .if1 .left) _ _
+    (c .before .market-best2 .ensures) (c .before .before .opposite-of2 .ensures) _ (c .if2 .taken)
+
+net-of-requires : tie.Need-net-of-requires
+net-of-requires c κs = search needs
+
+figure-at-requires : tie.Need-figure-at-requires
+figure-at-requires c κs = search needs
+
+near-net-requires : tie.Need-near-net-requires
+near-net-requires c κs = search needs
+
+returns-3 : tie.Need-returns-3
+returns-3 c =
+    let a = c .before .before .before .before .before .before .before .before .before .before .before .before .args in
+    let u = c .before .before .net-of in
+    band-near _ (a .c) _ _ (c .before .before .before .before .before .before .before .before .market-best .ensures) (c .before .before .before .before .before .before .before .before .before .opposite-of .ensures) (c .before .before .before .before .before .before .before .if1 .left) _ _
+    (c .before .before .before .before .market-best2 .ensures) (c .before .before .before .before .before .opposite-of2 .ensures) (c .before .before .before .if2 .left) _ _ _ _ _ _ (c .before .figure-at .ensures)
+    (back {z = u .result} (record { sfits = u .ok })) (u .ensures .0) (back {z = a .t} (c .before .before .before .before .before .before .before .before .before .before .before .before .fits .t)) (c .near-net .ensures)
+
+pub in-band-spec : {M : Type 1} → statement M
+in-band-spec =
+    tie.close
+    (tie.spec
+    opposite-of-requires
+    market-best-requires
+    returns
+    opposite-of-requires-2
+    market-best-requires-2
+    returns-2
+    net-of-requires
+    figure-at-requires
+    near-net-requires
+    returns-3)

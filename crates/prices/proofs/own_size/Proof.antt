@@ -1,0 +1,67 @@
+-- `prices::own_size` meets its contract.
+use mathlib.Core.Path.{sym, _∙_}
+use native.Mathlib.Omega.{arith}
+use Rattle.rules.specs.Words.{placeOf}
+use Rattle.levels.proofs.Kept.{level-most}
+use Rattle.prices.proofs.Prices.{legging-read, size-free, size-same, size-better, size-worse}
+use borrow.Author.Needs.{needs}
+use Rattle.prices.proofs.own_size.Statement.{statement}
+use Rattle.prices.proofs.own_size.Tie as tie
+
+place-of-requires : tie.Need-place-of-requires
+place-of-requires c κs = search needs
+
+legging-at-requires : tie.Need-legging-at-requires
+unfolding placeOf
+legging-at-requires c κs = search needs
+
+returns : tie.Need-returns
+returns c =
+    let k = c .before .before in
+    let p = k .before .before .before .pre in
+    size-free _ _ _ _ (p .1) _ (legging-read _ _ _ _ (k .legging-at .result) (p .2) (p .3) (k .before .place-of .ensures) (k .legging-at .ensures)) (c .if1 .taken)
+
+cast-legging : tie.Need-cast-legging
+cast-legging c = search needs
+
+add-result : tie.Need-add-result
+add-result c =
+    let known = c .before .before .before .before .before .before .before .before .before in
+    let a = known .before .args in
+    let z = level-most (a .b .now) (λ k. omega (arith, known .shared-slice-known .given k)) (a .s) (a .d) (a .level) (known .before .pre .1) in
+    search needs
+
+returns-2 : tie.Need-returns-2
+returns-2 c =
+    let k = c .before .before .before .before .before .before .before in
+    let p = k .before .before .before .pre in
+    size-same _ _ _ _ (p .1) _ (legging-read _ _ _ _ (k .legging-at .result) (p .2) (p .3) (k .before .place-of .ensures) (k .legging-at .ensures)) (c .before .before .before .before .before .if1 .left) (c .before .if2 .taken)
+
+is-better-requires : tie.Need-is-better-requires
+is-better-requires c κs = search needs
+
+returns-3 : tie.Need-returns-3
+returns-3 c =
+    let k = c .before .before .before .before .before .before .before .before in
+    let p = k .before .before .before .pre in
+    size-better _ _ _ _ (p .1) _ (legging-read _ _ _ _ (k .legging-at .result) (p .2) (p .3) (k .before .place-of .ensures) (k .legging-at .ensures)) (c .before .before .before .before .before .before .if1 .left) (sym (c .before .is-better .ensures) ∙ c .if3 .taken)
+
+returns-4 : tie.Need-returns-4
+returns-4 c =
+    let k = c .before .before .before .before .before .before .before .before in
+    let p = k .before .before .before .pre in
+    size-worse _ _ _ _ (p .1) _ (legging-read _ _ _ _ (k .legging-at .result) (p .2) (p .3) (k .before .place-of .ensures) (k .legging-at .ensures)) (c .before .before .before .before .before .before .if1 .left) (c .before .before .if2 .left) (sym (c .before .is-better .ensures) ∙ c .if3 .left)
+
+pub own-size-spec : {M : Type 1} → statement M
+own-size-spec =
+    tie.close
+    (tie.spec
+    place-of-requires
+    legging-at-requires
+    returns
+    cast-legging
+    add-result
+    returns-2
+    is-better-requires
+    returns-3
+    returns-4)
