@@ -1,5 +1,4 @@
-pub mod Pairing
-pub mod Working
+pub mod Arriving
 pub mod Walking
 pub mod Sweeping
 pub mod Finding

@@ -6,7 +6,7 @@ use Rattle.rules.specs.Trading.{putComplex}
 use Rattle.places.specs.Layout.{venueOf}
 use Rattle.storing.proofs.Closed.{dense-complex}
 use Rattle.removal.proofs.Removing.{counts-on}
-use Rattle.complexes.proofs.Working.{complex-law, counts-more}
+use Rattle.complexes.proofs.Arriving.{complex-law, counts-more}
 use borrow.Author.Needs.{needs}
 use Rattle.complexes.proofs.complex_order.Statement.{statement}
 use Rattle.complexes.proofs.complex_order.Tie as tie

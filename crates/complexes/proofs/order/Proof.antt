@@ -4,7 +4,7 @@ use Rattle.rules.specs.Standing.{settle}
 use Rattle.rules.specs.Order.{enterRegular, order}
 use Rattle.records.proofs.Stages.{follow}
 use Rattle.places.specs.Layout.{venueOf}
-use Rattle.complexes.proofs.Working.{counts-more}
+use Rattle.complexes.proofs.Arriving.{counts-more}
 use borrow.Author.Needs.{needs}
 use Rattle.complexes.proofs.order.Statement.{statement}
 use Rattle.complexes.proofs.order.Tie as tie

@@ -13,7 +13,7 @@ use Rattle.complexes.proofs.work_each.Statement.{statement}
 use Rattle.complexes.proofs.work_each.Tie as tie
 use Rattle.complexes.proofs.work_each.Reads as reads
 use Rattle.complexes.proofs.work_each.Lts as lts
-use Rattle.complexes.proofs.work.Reads as work-reads
+use Rattle.working.proofs.work.Reads as work-reads
 use Rattle.places.proofs.complex_at.Reads as complex-at-reads
 use Rattle.places.proofs.complexes_used.Reads as complexes-used-reads
 

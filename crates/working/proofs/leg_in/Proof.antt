@@ -1,13 +1,13 @@
--- `complexes::leg_in` meets its contract.
+-- `working::leg_in` meets its contract.
 use mathlib.Core.Path.{sym, _∙_}
 use native.Mathlib.Omega.{arith}
 use Rattle.rules.proofs.Machine.{back}
 use Rattle.places.proofs.Parts.{complexes-few, complex-at}
 use Rattle.removal.proofs.Removing.{counts-on}
-use Rattle.complexes.proofs.Pairing.{leg-in-law}
+use Rattle.working.proofs.Pairing.{leg-in-law}
 use borrow.Author.Needs.{needs}
-use Rattle.complexes.proofs.leg_in.Statement.{statement}
-use Rattle.complexes.proofs.leg_in.Tie as tie
+use Rattle.working.proofs.leg_in.Statement.{statement}
+use Rattle.working.proofs.leg_in.Tie as tie
 
 complex-at-requires : tie.Need-complex-at-requires
 complex-at-requires c κs = let z = complexes-few (c .before .before .before .args .b .now) in (c .before .before .before .pre .0, omega (arith, c .before .before .before .pre .2))

@@ -1,14 +1,14 @@
--- `complexes::work` meets its contract.
+-- `working::work` meets its contract.
 use mathlib.Core.Path.{refl, sym, subst, _∙_}
 use native.Mathlib.Omega.{arith}
 use Rattle.places.proofs.Parts.{complexes-few, complex-at}
 use Rattle.levels.specs.Grid.{LegsIn}
 use Rattle.prices.proofs.Prices.{legs-in}
 use Rattle.removal.proofs.Removing.{counts-on}
-use Rattle.complexes.proofs.Working.{work-closed, work-steps}
+use Rattle.working.proofs.Working.{work-closed, work-steps}
 use borrow.Author.Needs.{needs}
-use Rattle.complexes.proofs.work.Statement.{statement}
-use Rattle.complexes.proofs.work.Tie as tie
+use Rattle.working.proofs.work.Statement.{statement}
+use Rattle.working.proofs.work.Tie as tie
 
 complex-at-requires : tie.Need-complex-at-requires
 complex-at-requires c κs = let z = complexes-few (c .before .before .before .args .b .now) in (c .before .before .before .pre .0, omega (arith, c .before .before .before .pre .2))

@@ -1,10 +1,10 @@
--- `complexes::units` meets its contract.
+-- `working::units` meets its contract.
 use mathlib.Core.Path.{sym, ap, _∙_}
 use Prim.Native.Nat.{ℕ, _/_}
 use native.Mathlib.Nat.{div-one, div-zero}
 use borrow.Author.Needs.{needs}
-use Rattle.complexes.proofs.units.Statement.{statement}
-use Rattle.complexes.proofs.units.Tie as tie
+use Rattle.working.proofs.units.Statement.{statement}
+use Rattle.working.proofs.units.Tie as tie
 
 returns : tie.Need-returns
 returns c = let n = c .before .args .n in sym (ap (λ (r : ℕ). n / r) (c .if1 .taken) ∙ div-one n)

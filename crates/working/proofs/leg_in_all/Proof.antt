@@ -1,4 +1,4 @@
--- `complexes::leg_in_all` meets its contract.
+-- `working::leg_in_all` meets its contract.
 use mathlib.Core.Path.{refl, sym, subst, _∙_}
 use native.Mathlib.Omega.{arith}
 use Rattle.rules.specs.Effects.{repeat}
@@ -9,10 +9,10 @@ use Rattle.levels.specs.Grid.{LegsIn}
 use Rattle.prices.proofs.Prices.{legs-in}
 use Rattle.candidates.proofs.Candidates.{off, on}
 use Rattle.crossing.proofs.Loops.{Doing, doing-start, doing-turn, doing-end, doing-room, repeat-zero, repeat-stop, repeat-turn}
-use Rattle.complexes.proofs.Pairing.{leg-stop, leg-short, leg-turn}
+use Rattle.working.proofs.Pairing.{leg-stop, leg-short, leg-turn}
 use borrow.Author.Needs.{needs}
-use Rattle.complexes.proofs.leg_in_all.Statement.{statement}
-use Rattle.complexes.proofs.leg_in_all.Tie as tie
+use Rattle.working.proofs.leg_in_all.Statement.{statement}
+use Rattle.working.proofs.leg_in_all.Tie as tie
 
 abbrev Inv-loop : tie.InvT-loop
 Inv-loop b₀ i quantity out₀ at pos₀ turns₀ b out pos turns = Doing (repeat quantity (legInTurn i) (venueOf b₀)) (repeat turns (legInTurn i)) b₀ out₀ at b out pos

@@ -1,8 +1,8 @@
--- `complexes::units_in` meets its contract.
-use Rattle.complexes.proofs.Pairing.{units-are}
+-- `working::units_in` meets its contract.
+use Rattle.working.proofs.Pairing.{units-are}
 use borrow.Author.Needs.{needs}
-use Rattle.complexes.proofs.units_in.Statement.{statement}
-use Rattle.complexes.proofs.units_in.Tie as tie
+use Rattle.working.proofs.units_in.Statement.{statement}
+use Rattle.working.proofs.units_in.Tie as tie
 
 units-requires : tie.Need-units-requires
 units-requires c κs = search needs

@@ -1,10 +1,10 @@
--- `complexes::can_leg_in` meets its contract.
+-- `working::can_leg_in` meets its contract.
 use mathlib.Core.Path.{_∙_}
 use Rattle.rules.proofs.Machine.{back}
-use Rattle.complexes.proofs.Pairing.{leg-free, leg-none1, leg-none2, leg-over, leg-band}
+use Rattle.working.proofs.Pairing.{leg-free, leg-none1, leg-none2, leg-over, leg-band}
 use borrow.Author.Needs.{needs}
-use Rattle.complexes.proofs.can_leg_in.Statement.{statement}
-use Rattle.complexes.proofs.can_leg_in.Tie as tie
+use Rattle.working.proofs.can_leg_in.Statement.{statement}
+use Rattle.working.proofs.can_leg_in.Tie as tie
 
 returns : tie.Need-returns
 returns c = leg-free _ (c .before .before .before .args .c) _ _ (c .if1 .taken)

@@ -1,10 +1,10 @@
--- `complexes::contracts` meets its contract.
+-- `working::contracts` meets its contract.
 use native.Mathlib.Nat.{mul-le-mul}
 use native.Mathlib.Omega.{arith}
 use Prim.Native.Nat.{ℕ, _*_, _≤_, _<_}
 use borrow.Author.Needs.{needs}
-use Rattle.complexes.proofs.contracts.Statement.{statement}
-use Rattle.complexes.proofs.contracts.Tie as tie
+use Rattle.working.proofs.contracts.Statement.{statement}
+use Rattle.working.proofs.contracts.Tie as tie
 
 -- the product fits
 product : (r k : ℕ) → r < 256 → k < 4294967296 → r * k ≤ 1095216660225
