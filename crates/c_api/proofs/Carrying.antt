@@ -27,7 +27,7 @@ use Rattle.sets.proofs.ReadBack.{taken, reads-back}
 use Rattle.save.specs.declared.Saved.{Saved}
 use Rattle.save.specs.Begun.{savedOf}
 use Rattle.resume.specs.declared.Resumed.{Resumed}
-use Rattle.resume.specs.Told.{setRead}
+use Rattle.resume.specs.Returned.{setRead}
 use Rattle.engine.specs.Hosts.{Hosted, leaves, oneHosted, savesAs, saveHosted, readFor, resumesAs, resumeHosted, Again, HeldAgain}
 use Rattle.engine.proofs.Hosting.{declared, held-shaped, held-next}
 use Rattle.c_api.proofs.Telling.{zeros, long}

@@ -8,7 +8,7 @@ ghost use Rattle.rules.specs.Calls as calls;
 ghost use Rattle.rules.specs.Bytes.{u32};
 ghost use Rattle.records.specs.Seen.{pasted};
 ghost use Rattle.feed.specs.Feed as feeding;
-ghost use Rattle.resume.specs.Told.{setRead};
+ghost use Rattle.resume.specs.Returned.{setRead};
 ghost use Rattle.engine.specs.Hosts.{begun, freshHosted, hosted, oneHosted, settingsBytes, told, settingsHosted};
 ghost use Rattle.engine.specs.Hosts.{savesAs, saveHosted, readFor, resumesAs, resumeHosted};
 

@@ -8,10 +8,10 @@ use lib.ListN.{getD}
 use Rattle.rules.specs.declared.Venue.{Venue}
 use Rattle.rules.specs.Base.{if_then_else_, all}
 use Rattle.sets.specs.Set.{Held, broken, row, heldIn, isSet, hasPlace, carries, numberTold, venueTold, ReadSet, notRead, readRow, readSet}
-use Rattle.resume.specs.Order.{noneRead, goesOn, lookedAt}
-use Rattle.resume.specs.Told.{rowIn, Taken}
-use Rattle.resume.proofs.Ordered.{set-goes}
-use Rattle.resume.proofs.Filling.{row-in}
+use Rattle.set_order.specs.Order.{noneRead, goesOn, lookedAt}
+use Rattle.set_tables.specs.Told.{rowIn, Taken}
+use Rattle.set_tables.proofs.Ordered.{set-goes}
+use Rattle.set_tables.proofs.Filling.{row-in}
 
 -- the set that was looked at
 looked-set : (rs : List (List ℕ)) → lookedAt noneRead (row rs) ≡ (if isSet rs then (if all hasPlace rs then 0 else 9) else 16)

@@ -1,2 +1,1 @@
-pub mod Order
-pub mod Told
+pub mod Returned

@@ -1,0 +1,65 @@
+-- `set_tables::one_more` meets its contract.
+use native.Mathlib.Omega.{arith}
+use mathlib.Core.Path.{_≡_, refl, sym, ap, ap₂, _∙_}
+use Prim.Native.Nat.{ℕ, _-_}
+use Rattle.set_tables.proofs.Telling.{Shifted, shifted-next, shifted-end}
+use borrow.Author.Needs.{needs}
+use Rattle.set_tables.proofs.one_more.Statement.{statement}
+use Rattle.set_tables.proofs.one_more.Tie as tie
+
+abbrev Inv-loop : tie.InvT-loop
+Inv-loop number old messages₀ k₀ messages k = Shifted old messages k
+
+abbrev μ-loop : tie.MeasureT-loop
+μ-loop number old messages₀ k₀ messages k = 19 - k
+
+loop-holds : tie.Need-loop-holds Inv-loop μ-loop
+loop-holds c = record { many = omega arith; long = refl; moved = λ i h. absurd (omega arith) }
+
+add-messages : tie.Need-add-messages Inv-loop μ-loop
+add-messages c = search needs
+
+mul-messages : tie.Need-mul-messages Inv-loop μ-loop
+mul-messages c = search needs
+
+array-read-messages : tie.Need-array-read-messages Inv-loop μ-loop
+array-read-messages c = search needs
+
+mul-messages-2 : tie.Need-mul-messages-2 Inv-loop μ-loop
+mul-messages-2 c = search needs
+
+array-write-messages : tie.Need-array-write-messages Inv-loop μ-loop
+array-write-messages c = let n = c .before .loop .inv .long in omega arith
+
+add-k : tie.Need-add-k Inv-loop μ-loop
+add-k c = search needs
+
+loop-less : tie.Need-loop-less Inv-loop μ-loop
+loop-less c = search needs
+
+loop-again : tie.Need-loop-again Inv-loop μ-loop
+loop-again c = shifted-next _ _ _ (c .before .loop .inv) (c .loop-test .taken)
+
+array-write-messages-2 : tie.Need-array-write-messages-2 Inv-loop μ-loop
+array-write-messages-2 c = let n = c .before .loop .inv .long in omega arith
+
+returns : tie.Need-returns Inv-loop μ-loop
+returns c = shifted-end _ _ _ _ (search needs) (c .before .loop .inv) (c .loop-test .left)
+
+pub one-more-spec : {M : Type 1} → statement M
+one-more-spec =
+    tie.close
+    (tie.spec
+    Inv-loop
+    μ-loop
+    loop-holds
+    add-messages
+    mul-messages
+    array-read-messages
+    mul-messages-2
+    array-write-messages
+    add-k
+    loop-less
+    loop-again
+    array-write-messages-2
+    returns)

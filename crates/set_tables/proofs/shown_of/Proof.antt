@@ -1,0 +1,31 @@
+-- `set_tables::shown_of` meets its contract.
+use Rattle.rules.specs.Bytes.{kindField}
+use mathlib.Core.Path.{_≡_, refl, sym, ap, _∙_}
+use native.Mathlib.Omega.{arith}
+use borrow.Author.Tests.{eq-eqb, ne-eqb}
+use Rattle.sets.specs.Set.{regularTold}
+use Rattle.rules.specs.Messages.{orderAt}
+use borrow.Author.Needs.{needs}
+use Rattle.set_tables.proofs.shown_of.Statement.{statement}
+use Rattle.set_tables.proofs.shown_of.Tie as tie
+
+kind-of-requires : tie.Need-kind-of-requires
+kind-of-requires c κs = search needs
+
+u32-at-requires : tie.Need-u32-at-requires
+u32-at-requires c κs = search needs
+
+returns : tie.Need-returns
+unfolding regularTold orderAt
+returns c = rw (eq-eqb _ 9 (sym (c .before .before .kind-of .ensures) ∙ c .before .if1 .taken)) (c .u32-at .ensures)
+
+u32-at-requires-2 : tie.Need-u32-at-requires-2
+u32-at-requires-2 c κs = search needs
+
+returns-2 : tie.Need-returns-2
+unfolding regularTold orderAt
+returns-2 c = rw (ne-eqb (kindField (c .before .before .before .before .args .r .now)) 9 (λ e. omega arith)) (c .u32-at2 .ensures)
+
+pub shown-of-spec : {M : Type 1} → statement M
+shown-of-spec =
+    tie.close (tie.spec kind-of-requires u32-at-requires returns u32-at-requires-2 returns-2)
