@@ -253,7 +253,7 @@ fn withdraw_complex(b: &mut [u32], id: u32, out: &mut [u8], at: usize) -> usize
     let Found::At(i) = found else {
         return at;
     };
-    matching::cancel_complex(b, i, out, at)
+    trades::cancel_complex(b, i, out, at)
 }
 
 // The resting order with an id is cancelled.
@@ -266,7 +266,7 @@ fn withdraw(b: &mut [u32], id: u32, out: &mut [u8], at: usize) -> usize
     let Found::At(i) = found else {
         return withdraw_complex(b, id, out, at);
     };
-    matching::cancel_regular(b, i, out, at)
+    trades::cancel_regular(b, i, out, at)
 }
 
 // The resting order with an id is cancelled; then settling.

@@ -1,3 +1,1 @@
-pub mod Trades
-pub mod Pairs
 pub mod Turns

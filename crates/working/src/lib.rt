@@ -53,9 +53,9 @@ pub fn leg_in(b: &mut [u32], i: usize, a: u32, p: u32, k: u32, out: &mut [u8], a
     let net = figures::net_of(c.ratio1, c.side1, a, c.ratio2, c.side2, p);
     let one = contracts(c.ratio1, k);
     let two = contracts(c.ratio2, k);
-    let first = matching::take(b, c.id, c.series1, c.side1, a, one, out, at);
-    let second = matching::take(b, c.id, c.series2, c.side2, p, two, out, first);
-    matching::pair_off(b, i, c.id, net, k, out, second)
+    let first = trades::take(b, c.id, c.series1, c.side1, a, one, out, at);
+    let second = trades::take(b, c.id, c.series2, c.side2, p, two, out, first);
+    trades::pair_off(b, i, c.id, net, k, out, second)
 }
 
 // The units that a size fills, each of `ratio` contracts; none where that is 0.
@@ -77,8 +77,8 @@ fn units_in(taken: Taken, c: Complex) -> u32
 {
     let one = taken.first;
     let two = taken.second;
-    let open = matching::at_most(c.quantity, units(one.size, c.ratio1));
-    matching::at_most(open, units(two.size, c.ratio2))
+    let open = trades::at_most(c.quantity, units(one.size, c.ratio1));
+    trades::at_most(open, units(two.size, c.ratio2))
 }
 
 // The order at place i legs in while the best prices allow it and fill a unit, in at most `quantity` turns.

@@ -14,7 +14,7 @@ use Rattle.complexes.proofs.withdraw.Reads as reads
 use Rattle.complexes.proofs.withdraw.Lts as lts
 use Rattle.book.proofs.regular_place.Reads as regular-place-reads
 use Rattle.complexes.proofs.withdraw_complex.Reads as withdraw-complex-reads
-use Rattle.matching.proofs.cancel_regular.Reads as cancel-regular-reads
+use Rattle.trades.proofs.cancel_regular.Reads as cancel-regular-reads
 
 regular-place-requires : tie.Need-regular-place-requires
 regular-place-requires c κs = search needs

@@ -13,7 +13,7 @@ use Rattle.complexes.proofs.withdraw_complex.Tie as tie
 use Rattle.complexes.proofs.withdraw_complex.Reads as reads
 use Rattle.complexes.proofs.withdraw_complex.Lts as lts
 use Rattle.book.proofs.complex_place.Reads as complex-place-reads
-use Rattle.matching.proofs.cancel_complex.Reads as cancel-complex-reads
+use Rattle.trades.proofs.cancel_complex.Reads as cancel-complex-reads
 
 complex-place-requires : tie.Need-complex-place-requires
 complex-place-requires c κs = search needs

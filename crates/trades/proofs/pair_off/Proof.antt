@@ -1,11 +1,11 @@
--- `matching::pair_off` meets its contract.
+-- `trades::pair_off` meets its contract.
 use Rattle.rules.proofs.Machine.{back}
 use Rattle.places.specs.Layout.{venueOf}
 use Rattle.removal.proofs.Removing.{counts-on}
-use Rattle.matching.proofs.Pairs.{pair-law}
+use Rattle.trades.proofs.Pairs.{pair-law}
 use borrow.Author.Needs.{needs}
-use Rattle.matching.proofs.pair_off.Statement.{statement}
-use Rattle.matching.proofs.pair_off.Tie as tie
+use Rattle.trades.proofs.pair_off.Statement.{statement}
+use Rattle.trades.proofs.pair_off.Tie as tie
 
 fill-pair-requires : tie.Need-fill-pair-requires
 fill-pair-requires c κs = search needs

@@ -1,14 +1,14 @@
--- `matching::hit` meets its contract.
+-- `trades::hit` meets its contract.
 use mathlib.Core.Path.{sym, _∙_}
 use native.Mathlib.Omega.{arith}
 use Rattle.rules.proofs.Machine.{back, fits-of}
 use Rattle.places.specs.Layout.{venueOf}
 use Rattle.places.proofs.Parts.{regulars-few, regular-at}
 use Rattle.removal.proofs.Removing.{counts-on}
-use Rattle.matching.proofs.Pairs.{hit-law}
+use Rattle.trades.proofs.Pairs.{hit-law}
 use borrow.Author.Needs.{needs}
-use Rattle.matching.proofs.hit.Statement.{statement}
-use Rattle.matching.proofs.hit.Tie as tie
+use Rattle.trades.proofs.hit.Statement.{statement}
+use Rattle.trades.proofs.hit.Tie as tie
 
 regular-at-requires : tie.Need-regular-at-requires
 regular-at-requires c κs = let s = c .before .before .before in let w = regulars-few (s .args .b .now) in (s .pre .0, omega arith)

@@ -34,8 +34,8 @@ use Rattle.levels.specs.Grid.{LegsIn}
 use Rattle.book.specs.declared.Found.the-variants as found
 use Rattle.book.specs.Picks.{complexFound}
 use Rattle.book.proofs.Finding.{foundIn, found-is, found-not}
-use Rattle.matching.specs.declared.Pairing.{Pairing}
-use Rattle.matching.specs.Turns.{pairingOf}
+use Rattle.trades.specs.declared.Pairing.{Pairing}
+use Rattle.trades.specs.Hits.{pairingOf}
 
 -- Places --------------------------------------------------------------------------------------
 

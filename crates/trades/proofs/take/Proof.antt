@@ -1,10 +1,10 @@
--- `matching::take` meets its contract.
+-- `trades::take` meets its contract.
 use mathlib.Core.Path.{sym, _∙_}
 use native.Mathlib.Omega.{arith}
-use Rattle.matching.proofs.Trades.{Taking, taking-start, taking-end, taking-none, taking-used, taking-less, taking-turn, taking-room}
+use Rattle.trades.proofs.Trades.{Taking, taking-start, taking-end, taking-none, taking-used, taking-less, taking-turn, taking-room}
 use borrow.Author.Needs.{needs}
-use Rattle.matching.proofs.take.Statement.{statement}
-use Rattle.matching.proofs.take.Tie as tie
+use Rattle.trades.proofs.take.Statement.{statement}
+use Rattle.trades.proofs.take.Tie as tie
 
 abbrev Inv-loop : tie.InvT-loop
 Inv-loop b₀ taker series side price quantity out₀ at other pos₀ left₀ b out pos left = Taking taker series side price quantity b₀ out₀ at b out pos left

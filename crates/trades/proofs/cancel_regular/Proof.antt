@@ -1,12 +1,12 @@
--- `matching::cancel_regular` meets its contract.
+-- `trades::cancel_regular` meets its contract.
 use mathlib.Core.Path.{sym, _∙_}
 use native.Mathlib.Omega.{arith}
 use Rattle.places.specs.Layout.{venueOf}
 use Rattle.places.proofs.Parts.{regulars-few, regular-at}
-use Rattle.matching.proofs.Pairs.{cancel-law}
+use Rattle.trades.proofs.Pairs.{cancel-law}
 use borrow.Author.Needs.{needs}
-use Rattle.matching.proofs.cancel_regular.Statement.{statement}
-use Rattle.matching.proofs.cancel_regular.Tie as tie
+use Rattle.trades.proofs.cancel_regular.Statement.{statement}
+use Rattle.trades.proofs.cancel_regular.Tie as tie
 
 regular-at-requires : tie.Need-regular-at-requires
 regular-at-requires c κs = let s = c .before .before .before in let w = regulars-few (s .args .b .now) in (s .pre .0, omega arith)

@@ -1,13 +1,13 @@
--- `matching::cancel_complex` meets its contract.
+-- `trades::cancel_complex` meets its contract.
 use mathlib.Core.Path.{sym, _∙_}
 use native.Mathlib.Omega.{arith}
 use Rattle.places.specs.Layout.{venueOf}
 use Rattle.places.proofs.Parts.{complexes-few, complex-at}
 use Rattle.removal.proofs.Removing.{counts-on}
-use Rattle.matching.proofs.Pairs.{cancel-complex-law}
+use Rattle.trades.proofs.Pairs.{cancel-complex-law}
 use borrow.Author.Needs.{needs}
-use Rattle.matching.proofs.cancel_complex.Statement.{statement}
-use Rattle.matching.proofs.cancel_complex.Tie as tie
+use Rattle.trades.proofs.cancel_complex.Statement.{statement}
+use Rattle.trades.proofs.cancel_complex.Tie as tie
 
 complex-at-requires : tie.Need-complex-at-requires
 complex-at-requires c κs = let s = c .before .before .before in let w = complexes-few (s .args .b .now) in (s .pre .0, omega arith)

@@ -1,9 +1,9 @@
--- `matching::place_or_end` meets its contract.
+-- `trades::place_or_end` meets its contract.
 use mathlib.Core.Path.{sym, _∙_}
-use Rattle.matching.proofs.Pairs.{place-found, place-nothing}
+use Rattle.trades.proofs.Pairs.{place-found, place-nothing}
 use borrow.Author.Needs.{needs}
-use Rattle.matching.proofs.place_or_end.Statement.{statement}
-use Rattle.matching.proofs.place_or_end.Tie as tie
+use Rattle.trades.proofs.place_or_end.Statement.{statement}
+use Rattle.trades.proofs.place_or_end.Tie as tie
 
 complex-place-requires : tie.Need-complex-place-requires
 complex-place-requires c κs = search needs

@@ -1,14 +1,14 @@
--- `matching::pairing_of` meets its contract.
+-- `trades::pairing_of` meets its contract.
 use mathlib.Core.Path.{ap}
 use lib.IntN.{natAbs}
 use native.Mathlib.Omega.{arith}
 use Rattle.rules.proofs.Machine.{back}
 use Rattle.places.specs.Layout.{venueOf}
 use Rattle.prices.proofs.Prices.{parent-legs}
-use Rattle.matching.proofs.Pairs.{leg-in, opposite-in, pairing-law}
+use Rattle.trades.proofs.Pairs.{leg-in, opposite-in, pairing-law}
 use borrow.Author.Needs.{needs}
-use Rattle.matching.proofs.pairing_of.Statement.{statement}
-use Rattle.matching.proofs.pairing_of.Tie as tie
+use Rattle.trades.proofs.pairing_of.Statement.{statement}
+use Rattle.trades.proofs.pairing_of.Tie as tie
 
 parent-of-requires : tie.Need-parent-of-requires
 parent-of-requires c κs = search needs

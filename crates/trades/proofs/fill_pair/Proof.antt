@@ -1,10 +1,10 @@
--- `matching::fill_pair` meets its contract.
+-- `trades::fill_pair` meets its contract.
 use mathlib.Core.Path.{refl}
 use native.Mathlib.Omega.{arith}
-use Rattle.matching.proofs.Pairs.{fill-unused}
+use Rattle.trades.proofs.Pairs.{fill-unused}
 use borrow.Author.Needs.{needs}
-use Rattle.matching.proofs.fill_pair.Statement.{statement}
-use Rattle.matching.proofs.fill_pair.Tie as tie
+use Rattle.trades.proofs.fill_pair.Statement.{statement}
+use Rattle.trades.proofs.fill_pair.Tie as tie
 
 complexes-used-requires : tie.Need-complexes-used-requires
 complexes-used-requires c κs = search needs

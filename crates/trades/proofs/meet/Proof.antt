@@ -1,13 +1,13 @@
--- `matching::meet` meets its contract.
+-- `trades::meet` meets its contract.
 use mathlib.Core.Path.{sym, _∙_}
 use native.Mathlib.Omega.{arith}
 use Rattle.places.specs.Layout.{venueOf}
 use Rattle.places.proofs.Parts.{regulars-few, regular-at}
 use Rattle.removal.proofs.Removing.{counts-on}
-use Rattle.matching.proofs.Pairs.{meet-law}
+use Rattle.trades.proofs.Pairs.{meet-law}
 use borrow.Author.Needs.{needs}
-use Rattle.matching.proofs.meet.Statement.{statement}
-use Rattle.matching.proofs.meet.Tie as tie
+use Rattle.trades.proofs.meet.Statement.{statement}
+use Rattle.trades.proofs.meet.Tie as tie
 
 regular-at-requires : tie.Need-regular-at-requires
 regular-at-requires c κs = let s = c .before .before .before in let w = regulars-few (s .args .b .now) in (s .pre .0, omega (arith, s .pre .1))

@@ -1,12 +1,12 @@
--- `matching::trade_with` meets its contract.
+-- `trades::trade_with` meets its contract.
 use mathlib.Core.Path.{sym, _∙_}
 use native.Mathlib.Omega.{arith}
 use Rattle.places.specs.Layout.{venueOf}
 use Rattle.places.proofs.Parts.{regulars-few, regular-at}
-use Rattle.matching.proofs.Trades.{trade-law}
+use Rattle.trades.proofs.Trades.{trade-law}
 use borrow.Author.Needs.{needs}
-use Rattle.matching.proofs.trade_with.Statement.{statement}
-use Rattle.matching.proofs.trade_with.Tie as tie
+use Rattle.trades.proofs.trade_with.Statement.{statement}
+use Rattle.trades.proofs.trade_with.Tie as tie
 
 regular-at-requires : tie.Need-regular-at-requires
 regular-at-requires c κs = let s = c .before .before .before in let w = regulars-few (s .args .b .now) in (s .pre .0, omega arith)
