@@ -25,7 +25,7 @@ use Rattle.sets.specs.Promises.{most}
 use Rattle.sets.proofs.Most.{at-most}
 use Rattle.sets.proofs.ReadBack.{taken, reads-back}
 use Rattle.save.specs.declared.Saved.{Saved}
-use Rattle.save.specs.Begun.{savedOf}
+use Rattle.save.specs.Saving.{savedOf}
 use Rattle.resume.specs.declared.Resumed.{Resumed}
 use Rattle.resume.specs.Returned.{setRead}
 use Rattle.engine.specs.Hosts.{Hosted, leaves, oneHosted, savesAs, saveHosted, readFor, resumesAs, resumeHosted, Again, HeldAgain}

@@ -1,3 +1,1 @@
-pub mod Begin
-pub mod Steps
 pub mod Whole

@@ -16,10 +16,10 @@ use Rattle.rules.specs.Sound.{sound, follows}
 use Rattle.places.specs.Layout.{upto, regularIn, complexIn, regularsUsed, complexesUsed, venueOf, Dense}
 use Rattle.places.proofs.Tables.{upto-length}
 use Rattle.sets.specs.Set.{firstRecord, seriesRecords, editionRecord, byId, leggingRecords, generationRecords, reachedRecords, setOf, joined, carries, notWritten, writeSet}
-use Rattle.save.specs.Begun.{begun, _adds_}
-use Rattle.save.specs.Parts.{ordersFrom}
-use Rattle.save.proofs.Begin.{room-is, stands, does-not-fit}
-use Rattle.save.proofs.Steps.{joined-append, all-kept}
+use Rattle.set_parts.specs.Begun.{begun, _adds_}
+use Rattle.set_parts.specs.Parts.{ordersFrom}
+use Rattle.set_parts.proofs.Begin.{room-is, stands, does-not-fit}
+use Rattle.set_parts.proofs.Steps.{joined-append, all-kept}
 
 -- Its parts -------------------------------------------------------------------------------------
 

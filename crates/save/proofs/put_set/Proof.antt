@@ -1,6 +1,6 @@
 -- `save::put_set` meets its contract.
 use borrow.Author.Needs.{needs}
-use Rattle.save.proofs.Begin.{adds-same, adds-then}
+use Rattle.set_parts.proofs.Begin.{adds-same, adds-then}
 use Rattle.save.proofs.Whole.{parts-joined}
 use Rattle.save.proofs.put_set.Statement.{statement}
 use Rattle.save.proofs.put_set.Tie as tie

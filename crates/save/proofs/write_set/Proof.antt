@@ -8,8 +8,8 @@ use borrow.Author.Needs.{needs}
 use Rattle.rules.specs.declared.Venue.{Venue}
 use Rattle.rules.specs.Sound.{sound, follows}
 use Rattle.sets.specs.Set.{setOf, joined}
-use Rattle.save.specs.Begun.{begun, _adds_}
-use Rattle.save.proofs.Begin.{adds-same}
+use Rattle.set_parts.specs.Begun.{begun, _adds_}
+use Rattle.set_parts.proofs.Begin.{adds-same}
 use Rattle.save.proofs.Whole.{not-carried, no-room, all-written}
 use Rattle.save.proofs.write_set.Statement.{statement}
 use Rattle.save.proofs.write_set.Tie as tie

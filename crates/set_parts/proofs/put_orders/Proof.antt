@@ -1,0 +1,69 @@
+-- `set_parts::put_orders` meets its contract.
+use mathlib.Core.Path.{refl, ap₂, _∙_}
+use Prim.Native.Nat.{ℕ, _+_, _-_, _≤_}
+use native.Mathlib.Omega.{arith}
+use borrow.Author.Needs.{needs}
+use Rattle.sets.specs.Set.{joined}
+use Rattle.set_parts.specs.Parts.{ordersFrom}
+use Rattle.set_parts.proofs.Begin.{adds-same, Left, left-none, left-room}
+use Rattle.set_parts.proofs.Steps.{orders-none}
+use Rattle.set_parts.proofs.put_orders.Statement.{statement}
+use Rattle.set_parts.proofs.put_orders.Tie as tie
+
+abbrev Inv-loop : tie.InvT-loop
+Inv-loop b out₀ at n m t₀ out t =
+    Left (joined (ordersFrom b n m 0 0)) (joined (ordersFrom b n m (t .regular) (t .complex))) out₀ at out (t .at) × (t .regular ≤ n) × (t .complex ≤ m)
+
+abbrev μ-loop : tie.MeasureT-loop
+μ-loop b out₀ at n m t₀ out t = n + m - (t .regular + t .complex)
+
+regulars-used-requires : tie.Need-regulars-used-requires Inv-loop μ-loop
+regulars-used-requires c κs = search needs
+
+complexes-used-requires : tie.Need-complexes-used-requires Inv-loop μ-loop
+complexes-used-requires c κs = search needs
+
+loop-holds : tie.Need-loop-holds Inv-loop μ-loop
+loop-holds c = (refl, omega arith, omega arith)
+
+add-if1 : tie.Need-add-if1 Inv-loop μ-loop
+add-if1 c = search needs
+
+add-if1-2 : tie.Need-add-if1-2 Inv-loop μ-loop
+add-if1-2 c = search needs
+
+put-next-requires : tie.Need-put-next-requires Inv-loop μ-loop
+put-next-requires c κs = search needs
+
+loop-less : tie.Need-loop-less Inv-loop μ-loop
+loop-less c = search needs
+
+loop-again : tie.Need-loop-again Inv-loop μ-loop
+loop-again c = let k = c .before .before .put-next .ensures in (k .same ∙ c .before .before .before .before .before .before .loop .inv .0, k .regular, k .complex)
+
+same-length : tie.Need-same-length Inv-loop μ-loop
+same-length c = left-room _ _ _ _ _ _ (c .before .before .loop .inv .0)
+
+returns : tie.Need-returns Inv-loop μ-loop
+returns c =
+    let s = c .before .before .before .before .before .before .before in
+    let l = c .before .before .loop .inv in
+    adds-same _ _ _ _ (left-none _ _ _ _ _ _ (l .0) (orders-none _ _ _ _ _ (omega arith) (omega arith)))
+    (ap₂ (λ (n m : ℕ). joined (ordersFrom (s .args .b .now) n m 0 0)) (c .before .before .before .before .regulars-used .ensures .0) (c .before .before .before .complexes-used .ensures .0))
+
+pub put-orders-spec : {M : Type 1} → statement M
+put-orders-spec =
+    tie.close
+    (tie.spec
+    Inv-loop
+    μ-loop
+    regulars-used-requires
+    complexes-used-requires
+    loop-holds
+    add-if1
+    add-if1-2
+    put-next-requires
+    loop-less
+    loop-again
+    same-length
+    returns)

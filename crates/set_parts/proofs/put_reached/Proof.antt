@@ -1,0 +1,42 @@
+-- `set_parts::put_reached` meets its contract.
+use mathlib.Core.Path.{refl}
+use borrow.Author.Tests.{ne-eqb}
+use borrow.Author.Needs.{needs}
+use Rattle.rules.specs.Bytes.{framed, bytes}
+use Rattle.records.specs.Seen.{wordBytes}
+use Rattle.sets.specs.Set.{reachedRecords}
+use Rattle.set_parts.proofs.Begin.{absent, present, wrote}
+use Rattle.set_parts.proofs.Steps.{one-joined}
+use Rattle.set_parts.proofs.put_reached.Statement.{statement}
+use Rattle.set_parts.proofs.put_reached.Tie as tie
+
+returns : tie.Need-returns
+unfolding reachedRecords
+returns c = rw one-joined (absent _ _ _ _ (rw (c .if1 .taken)))
+
+slice-aggregate-put-words : tie.Need-slice-aggregate-put-words
+slice-aggregate-put-words c = search needs
+
+slice-aggregate-put-words-2 : tie.Need-slice-aggregate-put-words-2
+slice-aggregate-put-words-2 c = search needs
+
+put-words-requires : tie.Need-put-words-requires
+put-words-requires c κs = search needs
+
+same-length : tie.Need-same-length
+same-length c = search needs
+
+returns-2 : tie.Need-returns-2
+unfolding reachedRecords framed bytes wordBytes
+returns-2 c = let s = c .before .before .before .before .before .before .before .before in rw one-joined (present _ _ _ _ (rw (ne-eqb (s .args .id) 0 (c .before .before .before .before .before .before .if1 .left))) (wrote _ _ _ _ _ _ (c .before .before .put-words .ensures) refl))
+
+pub put-reached-spec : {M : Type 1} → statement M
+put-reached-spec =
+    tie.close
+    (tie.spec
+    returns
+    slice-aggregate-put-words
+    slice-aggregate-put-words-2
+    put-words-requires
+    same-length
+    returns-2)
