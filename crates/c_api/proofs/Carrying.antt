@@ -18,8 +18,8 @@ use Rattle.demands.specs.Kept.{Shaped}
 use Rattle.records.specs.Seen.{Seen, seen, pasted, _plus_}
 use Rattle.records.proofs.Writes.{plus-in}
 use Rattle.state.specs.Held.{venueSize, venueBytes, venueFrom, Declared}
-use Rattle.state.proofs.Whole.{venue-length}
-use Rattle.state.proofs.Back.{held-whole}
+use Rattle.venue_bytes.proofs.Whole.{venue-length}
+use Rattle.venue_bytes.proofs.Back.{held-whole}
 use Rattle.sets.specs.Set.{WrittenSet, ReadSet, joined, setOf, carries, notWritten, writeSet, notRead, readSet}
 use Rattle.sets.specs.Promises.{most}
 use Rattle.sets.proofs.Most.{at-most}

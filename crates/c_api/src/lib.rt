@@ -30,7 +30,7 @@ pub extern "C" fn legging_fresh(venue: &mut [u8]) -> u8
         return 9;
     }
     let fresh = figures::fresh();
-    state::put_venue(venue, fresh);
+    venue_bytes::put_venue(venue, fresh);
     0
 }
 
@@ -55,7 +55,7 @@ pub extern "C" fn legging_message(
         return r.number;
     }
     let after = r.venue;
-    state::put_venue(venue, after);
+    venue_bytes::put_venue(venue, after);
     r.number
 }
 
@@ -154,7 +154,7 @@ pub extern "C" fn legging_read_set(set: &[u8], venue: &mut [u8], number: &mut [u
     }
     let r = read_for(set, number.len());
     let read = r.venue;
-    state::put_venue(venue, read);
+    venue_bytes::put_venue(venue, read);
     if number.len() != 4 {
         return r.number;
     }

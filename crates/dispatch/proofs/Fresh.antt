@@ -14,7 +14,7 @@ use Rattle.wire.proofs.Numbers.{u8-drop, u32-here}
 use Rattle.places.specs.Layout.{upto}
 use Rattle.places.proofs.Tables.{upto-length, upto-at}
 use Rattle.state.specs.Held.{venueSize, venueBytes, venueFrom, rows, Sized}
-use Rattle.state.proofs.Whole.{venue-length}
+use Rattle.venue_bytes.proofs.Whole.{venue-length}
 use Rattle.engine.specs.Hosts.{freshHosted}
 use Rattle.engine.proofs.Hosting.{held-first}
 use Rattle.layer.specs.Layer.{Lane, Layer, freshLane, freshLayer, laneAt}

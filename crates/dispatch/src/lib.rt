@@ -108,7 +108,7 @@ fn fresh_lane(lane: &mut [u8])
 {
     let fresh = figures::fresh();
     let end = VENUE;
-    state::put_venue(&mut lane[..end], fresh);
+    venue_bytes::put_venue(&mut lane[..end], fresh);
     records::zero_from(lane, VENUE);
 }
 
@@ -221,7 +221,7 @@ fn put_after(lane: &mut [u8], number: u8, venue: Venue)
         return;
     }
     let end = VENUE;
-    state::put_venue(&mut lane[..end], venue);
+    venue_bytes::put_venue(&mut lane[..end], venue);
 }
 
 // One message more done.
