@@ -1,4 +1,4 @@
-pub mod Refusing
+pub mod Setting
 pub mod Entering
 pub mod Stepping
 pub mod Trying

@@ -1,14 +1,13 @@
 -- What a step leaves of the venue's slice and of the report memory.
 use mathlib.Core.Path.{_≡_}
-use mathlib.Core.Bool.{Bool, not}
+use mathlib.Core.Bool.{not}
 use mathlib.Core.List.{List}
 use Prim.Native.Nat.{ℕ, _≤_, _<_}
-use lib.Dec.{leb, ltb, eqb}
+use lib.Dec.{eqb}
 use lib.ListN.{length}
 use Rattle.rules.specs.declared.Venue.{Venue}
 use Rattle.rules.specs.declared.Message.{Message}
-use Rattle.rules.specs.Base.{if_then_else_, all}
-use Rattle.rules.specs.Settings.{freeEdition}
+use Rattle.rules.specs.Base.{if_then_else_}
 use Rattle.rules.specs.Effects.{nothing}
 use Rattle.rules.specs.Refusals.{refusalOf}
 use Rattle.rules.specs.Step.{StepOutcome, answered, accept}
@@ -16,14 +15,6 @@ use Rattle.records.specs.Seen.{seen, _writes_}
 use Rattle.records.specs.Stage.{stage, _does_}
 use Rattle.places.specs.Layout.{venueOf, Dense}
 use Rattle.messages.specs.declared.Stepped.{Stepped}
-
--- the first of 11 to 13 that a new edition meets; `used` where its figure is the increment of a series that is not idle
-unfoldable pub editionRefusal : Venue → (edition : ℕ) → (used : Bool) → ℕ
-editionRefusal v e used =
-    if not (all (λ k. ltb (k .edition) e) (v .editions)) then 11
-    else if used then 12
-    else if leb 32 (freeEdition v) then 13
-    else 0
 
 -- the answer to a message whose fields are in range
 unfoldable pub answeredBy : Venue → (number : ℕ) → Message → StepOutcome

@@ -11,7 +11,7 @@ use Rattle.records.specs.Seen.{seen}
 use Rattle.records.specs.Stage.{_does_}
 use Rattle.places.specs.Layout.{venueOf}
 use Rattle.complexes.proofs.Walking.{sound-rising}
-use Rattle.messages.proofs.Refusing.{increment-set}
+use Rattle.refusals.proofs.Refusing.{increment-set}
 use Rattle.messages.proofs.Stepping.{increment-place, percent-place}
 use borrow.Author.Needs.{needs}
 use Rattle.messages.proofs.perform_later.Statement.{statement}

@@ -6,7 +6,7 @@ use Rattle.records.specs.Seen.{seen}
 use Rattle.records.specs.Stage.{_does_}
 use Rattle.places.specs.Layout.{venueOf}
 use Rattle.removal.proofs.Removing.{counts-on}
-use Rattle.messages.proofs.Refusing.{away-set}
+use Rattle.messages.proofs.Setting.{away-set}
 use borrow.Author.Needs.{needs}
 use Rattle.messages.proofs.set_away.Statement.{statement}
 use Rattle.messages.proofs.set_away.Tie as tie

@@ -7,7 +7,7 @@ use Rattle.records.specs.Stage.{_does_}
 use Rattle.places.specs.Layout.{venueOf}
 use Rattle.removal.proofs.Removing.{counts-on}
 use Rattle.prices.proofs.Prices.{listed-read}
-use Rattle.messages.proofs.Refusing.{status-set}
+use Rattle.messages.proofs.Setting.{status-set}
 use borrow.Author.Needs.{needs}
 use Rattle.messages.proofs.set_status.Statement.{statement}
 use Rattle.messages.proofs.set_status.Tie as tie

@@ -1,0 +1,40 @@
+-- `refusals::is_idle` meets its contract.
+use mathlib.Core.Path.{_≡_, sym, ap, _∙_}
+use Prim.Native.Nat.{ℕ}
+use lib.Dec.{eqb}
+use borrow.Author.Tests.{eq-eqb, ne-eqb, not-true, not-false}
+use Rattle.rules.specs.Words.{closed}
+use Rattle.places.specs.Layout.{venueOf}
+use Rattle.refusals.proofs.Refusing.{busy-open, busy-order, idle-legs}
+use borrow.Author.Needs.{needs}
+use Rattle.refusals.proofs.is_idle.Statement.{statement}
+use Rattle.refusals.proofs.is_idle.Tie as tie
+
+status-of-requires : tie.Need-status-of-requires
+status-of-requires c κs = search needs
+
+returns : tie.Need-returns
+returns c = busy-open (venueOf (c .before .before .before .args .b .now)) (c .before .before .before .args .s) (ap (λ (x : ℕ). eqb x closed) (sym (c .before .status-of .ensures)) ∙ ne-eqb _ _ (c .if1 .taken))
+
+no-order-in-requires : tie.Need-no-order-in-requires
+no-order-in-requires c κs = search needs
+
+returns-2 : tie.Need-returns-2
+returns-2 c = busy-order (venueOf (c .before .before .before .before .before .args .b .now)) (c .before .before .before .before .before .args .s) (ap (λ (x : ℕ). eqb x closed) (sym (c .before .before .before .status-of .ensures)) ∙ eq-eqb _ _ (c .before .before .if1 .left)) (sym (c .before .no-order-in .ensures) ∙ not-true _ (c .if2 .taken))
+
+no-leg-in-requires : tie.Need-no-leg-in-requires
+no-leg-in-requires c κs = search needs
+
+returns-3 : tie.Need-returns-3
+returns-3 c = c .no-leg-in .ensures ∙ idle-legs (venueOf (c .before .before .before .before .before .before .args .b .now)) (c .before .before .before .before .before .before .args .s) (ap (λ (x : ℕ). eqb x closed) (sym (c .before .before .before .before .status-of .ensures)) ∙ eq-eqb _ _ (c .before .before .before .if1 .left)) (sym (c .before .before .no-order-in .ensures) ∙ not-false _ (c .before .if2 .left))
+
+pub is-idle-spec : {M : Type 1} → statement M
+is-idle-spec =
+    tie.close
+    (tie.spec
+    status-of-requires
+    returns
+    no-order-in-requires
+    returns-2
+    no-leg-in-requires
+    returns-3)

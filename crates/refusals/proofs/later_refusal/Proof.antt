@@ -1,0 +1,56 @@
+-- `refusals::later_refusal` meets its contract.
+use mathlib.Core.Path.{_≡_, sym, ap, _∙_}
+use native.Mathlib.Omega.{arith}
+use Rattle.rules.specs.Refusals.{refusalOf}
+use Rattle.rules.proofs.ByKind.{lower-left}
+use Rattle.rules.proofs.Refusing.{wellFormed}
+use Rattle.places.specs.Layout.{venueOf}
+use Rattle.refusals.proofs.Refusing.{increment-set, increment-refusal, percent-refusal, limited-taken}
+use borrow.Author.Needs.{needs}
+use Rattle.refusals.proofs.later_refusal.Statement.{statement}
+use Rattle.refusals.proofs.later_refusal.Tie as tie
+
+enum-known-m : tie.Need-enum-known-m
+enum-known-m c = search needs
+
+is-idle-requires : tie.Need-is-idle-requires
+is-idle-requires c κs = let s = c .before .before .before .before in (s .pre .0, increment-set _ _ _ (sym (ap wellFormed (c .before .m .given .1)) ∙ s .pre .2) .0)
+
+edition-refusal-requires : tie.Need-edition-refusal-requires
+edition-refusal-requires c κs = search needs
+
+enum-known-m-2 : tie.Need-enum-known-m-2
+enum-known-m-2 c = search needs
+
+edition-refusal-requires-2 : tie.Need-edition-refusal-requires-2
+edition-refusal-requires-2 c κs = search needs
+
+enum-told : tie.Need-enum-told
+enum-told c = search needs
+
+returns : tie.Need-returns
+returns c = let v = venueOf (c .before .before .before .before .before .before .args .b .now) in c .edition-refusal .ensures ∙ increment-refusal v _ _ _ _ (c .before .is-idle .ensures) ∙ sym (ap (refusalOf v) (c .before .before .before .m .given .1))
+
+returns-2 : tie.Need-returns-2
+returns-2 c = let v = venueOf (c .before .before .before .before .before .args .b .now) in c .edition-refusal2 .ensures ∙ percent-refusal v _ _ ∙ sym (ap (refusalOf v) (c .before .before .m2 .given .1))
+
+returns-3 : tie.Need-returns-3
+returns-3 c = let v = venueOf (c .before .before .before .args .b .now) in limited-taken v _ ∙ sym (ap (refusalOf v) (c .enum-told .given .1))
+
+returns-4 : tie.Need-returns-4
+returns-4 c = let s = c .before .before in let k = lower-left (s .args .m) (c .match .keys4) in absurd (omega arith)
+
+pub later-refusal-spec : {M : Type 1} → statement M
+later-refusal-spec =
+    tie.close
+    (tie.spec
+    enum-known-m
+    is-idle-requires
+    edition-refusal-requires
+    enum-known-m-2
+    edition-refusal-requires-2
+    enum-told
+    returns
+    returns-2
+    returns-3
+    returns-4)
