@@ -1,5 +1,2 @@
 pub mod Arriving
-pub mod Walking
-pub mod Sweeping
 pub mod Finding
-pub mod Rounds

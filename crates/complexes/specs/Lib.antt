@@ -1,3 +1,1 @@
-pub mod Rising
 pub mod Effects
-pub mod Round

@@ -117,7 +117,7 @@ fn perform_later(b: &mut [u32], number: u32, m: Message, out: &mut [u8], at: usi
         }
         Message::Percent(x, edition) => set_figure(b, number, 8, x, edition, out, at),
         Message::LimitedSweep(n) => {
-            let swept = complexes::limited_sweep(b, number, n, out, at);
+            let swept = sweeps::limited_sweep(b, number, n, out, at);
             swept.at
         }
         _ => at,
@@ -145,7 +145,7 @@ fn perform(b: &mut [u32], number: u32, m: Message, out: &mut [u8], at: usize) ->
     match m {
         Message::Away(series, bid, offer) => set_away(b, series, bid, offer, out, at),
         Message::Status(series, status) => set_status(b, series, status, out, at),
-        _ => complexes::sweep(b, number, out, at),
+        _ => sweeps::sweep(b, number, out, at),
     }
 }
 

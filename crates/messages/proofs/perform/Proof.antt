@@ -10,7 +10,7 @@ use Rattle.records.specs.Seen.{seen}
 use Rattle.records.specs.Stage.{_does_}
 use Rattle.wire.specs.Brought.{Shows}
 use Rattle.places.specs.Layout.{venueOf}
-use Rattle.complexes.proofs.Walking.{sound-rising}
+use Rattle.sweeps.proofs.Walking.{sound-rising}
 use Rattle.refusals.proofs.Refusing.{legs-in, away-series, status-series}
 use Rattle.messages.proofs.Stepping.{order-below, order-room, complex-room, cancel-known}
 use borrow.Author.Needs.{needs}

@@ -31,7 +31,7 @@ use Rattle.records.proofs.Stages.{stage-venue}
 use Rattle.places.specs.Layout.{complexesUsed, venueOf}
 use Rattle.places.proofs.Parts.{complexes-few, complex-past}
 use Rattle.crossing.proofs.Loops.{Doing}
-use Rattle.complexes.specs.Rising.{Holds, Rising}
+use Rattle.sweeps.specs.Rising.{Holds, Rising}
 
 -- The first in rank -----------------------------------------------------------------------------
 

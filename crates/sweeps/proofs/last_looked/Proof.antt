@@ -1,12 +1,12 @@
--- `complexes::last_looked` meets its contract.
+-- `sweeps::last_looked` meets its contract.
 use mathlib.Core.Path.{_∙_}
 use native.Mathlib.Omega.{arith}
 use Prim.Native.Nat.{_-_}
 use Rattle.places.proofs.Parts.{complexes-few}
-use Rattle.complexes.proofs.Rounds.{last-other, last-above, last-none}
+use Rattle.sweeps.proofs.Rounds.{last-other, last-above, last-none}
 use borrow.Author.Needs.{needs}
-use Rattle.complexes.proofs.last_looked.Statement.{statement}
-use Rattle.complexes.proofs.last_looked.Tie as tie
+use Rattle.sweeps.proofs.last_looked.Statement.{statement}
+use Rattle.sweeps.proofs.last_looked.Tie as tie
 
 sub-complex-at : tie.Need-sub-complex-at
 sub-complex-at c = search needs

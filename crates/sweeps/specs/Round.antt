@@ -1,7 +1,7 @@
 -- The places that a limited sweep looks at.
 use mathlib.Core.List.{List, [], _∷_, _++_}
 use Prim.Native.Nat.{ℕ, zero, suc}
-use Rattle.complexes.specs.declared.Round.{Round}
+use Rattle.sweeps.specs.declared.Round.{Round}
 
 -- n places from place k on
 unfoldable pub placesFrom : (k n : ℕ) → List ℕ

@@ -1,11 +1,11 @@
--- `complexes::sweep` meets its contract.
+-- `sweeps::sweep` meets its contract.
 use mathlib.Core.Path.{_∙_}
 use Rattle.removal.proofs.Removing.{counts-on}
-use Rattle.complexes.proofs.Sweeping.{sweep-law}
-use Rattle.complexes.proofs.Walking.{swept-rising}
+use Rattle.sweeps.proofs.Sweeping.{sweep-law}
+use Rattle.sweeps.proofs.Walking.{swept-rising}
 use borrow.Author.Needs.{needs}
-use Rattle.complexes.proofs.sweep.Statement.{statement}
-use Rattle.complexes.proofs.sweep.Tie as tie
+use Rattle.sweeps.proofs.sweep.Statement.{statement}
+use Rattle.sweeps.proofs.sweep.Tie as tie
 
 work-each-requires : tie.Need-work-each-requires
 work-each-requires c κs = c .before .before .before .before .pre

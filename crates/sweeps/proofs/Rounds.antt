@@ -25,9 +25,9 @@ use Rattle.records.specs.Stage.{stage, _does_}
 use Rattle.records.proofs.Stages.{follow, does-report}
 use Rattle.places.specs.Layout.{complexesUsed, complexIn, venueOf, Dense}
 use Rattle.places.proofs.Parts.{complex-at, complex-past}
-use Rattle.complexes.specs.declared.Round.{Round}
-use Rattle.complexes.specs.Rising.{Rising}
-use Rattle.complexes.specs.Round.{placesFrom, roundPlaces}
+use Rattle.sweeps.specs.declared.Round.{Round}
+use Rattle.sweeps.specs.Rising.{Rising}
+use Rattle.sweeps.specs.Round.{placesFrom, roundPlaces}
 
 -- The places of a test ------------------------------------------------------------------------
 

@@ -1,13 +1,13 @@
--- `complexes::limited_sweep` meets its contract.
+-- `sweeps::limited_sweep` meets its contract.
 use mathlib.Core.Path.{_∙_}
 use native.Mathlib.Omega.{arith}
 use Rattle.places.proofs.Parts.{complexes-few}
 use Rattle.removal.proofs.Removing.{counts-on}
-use Rattle.complexes.specs.Round.{roundPlaces}
-use Rattle.complexes.proofs.Rounds.{round-examined, limited-law}
+use Rattle.sweeps.specs.Round.{roundPlaces}
+use Rattle.sweeps.proofs.Rounds.{round-examined, limited-law}
 use borrow.Author.Needs.{needs}
-use Rattle.complexes.proofs.limited_sweep.Statement.{statement}
-use Rattle.complexes.proofs.limited_sweep.Tie as tie
+use Rattle.sweeps.proofs.limited_sweep.Statement.{statement}
+use Rattle.sweeps.proofs.limited_sweep.Tie as tie
 
 round-of-requires : tie.Need-round-of-requires
 round-of-requires c κs = search needs

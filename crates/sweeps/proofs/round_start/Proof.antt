@@ -1,12 +1,12 @@
--- `complexes::round_start` meets its contract.
+-- `sweeps::round_start` meets its contract.
 use mathlib.Core.Path.{ap}
 use Prim.Native.Nat.{ℕ, _-_, _≤_, _<_}
 use native.Mathlib.Omega.{arith}
 use Rattle.rules.specs.declared.Complex.{Complex}
 use Rattle.places.specs.Layout.{complexIn}
-use Rattle.complexes.proofs.Rounds.{low-more, going-round}
-use Rattle.complexes.proofs.round_start.Statement.{statement}
-use Rattle.complexes.proofs.round_start.Tie as tie
+use Rattle.sweeps.proofs.Rounds.{low-more, going-round}
+use Rattle.sweeps.proofs.round_start.Statement.{statement}
+use Rattle.sweeps.proofs.round_start.Tie as tie
 
 abbrev Inv-loop : tie.InvT-loop
 Inv-loop b used reached k₀ k = (k ≤ used) × ((i : ℕ) → i < k → complexIn b i .id ≤ reached)

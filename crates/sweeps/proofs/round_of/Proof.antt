@@ -1,14 +1,14 @@
--- `complexes::round_of` meets its contract.
+-- `sweeps::round_of` meets its contract.
 use mathlib.Core.Path.{ap, _∙_}
 use mathlib.Core.List.{_++_}
 use Prim.Native.Nat.{ℕ, _-_}
 use native.Mathlib.Omega.{arith}
 use lib.ListN.{take as firsts}
-use Rattle.complexes.specs.Round.{placesFrom, roundPlaces}
-use Rattle.complexes.proofs.Rounds.{round-within, round-on, round-whole}
+use Rattle.sweeps.specs.Round.{placesFrom, roundPlaces}
+use Rattle.sweeps.proofs.Rounds.{round-within, round-on, round-whole}
 use borrow.Author.Needs.{needs}
-use Rattle.complexes.proofs.round_of.Statement.{statement}
-use Rattle.complexes.proofs.round_of.Tie as tie
+use Rattle.sweeps.proofs.round_of.Statement.{statement}
+use Rattle.sweeps.proofs.round_of.Tie as tie
 
 complexes-used-requires : tie.Need-complexes-used-requires
 complexes-used-requires c κs = search needs

@@ -1,0 +1,3 @@
+pub mod Walking
+pub mod Sweeping
+pub mod Rounds
