@@ -64,7 +64,7 @@ pub extern "C" fn legging_message(
 pub extern "C" fn legging_feed<'a>(main: &'a [u8], spare: &'a [u8], report: &mut [u8]) -> u8
     ensures { λ r. ⌜ (r ≡ feeding.feed (length (now (report .entry))) (now (main .entry)) (now (spare .entry)) .returned .number) × (now (report .exit) ≡ feeding.feed (length (now (report .entry))) (now (main .entry)) (now (spare .entry)) .report) ⌝ }
 {
-    let r = engine::feed(main, spare, report);
+    let r = two_lines::feed(main, spare, report);
     r.number
 }
 

@@ -3,5 +3,3 @@ pub mod Running
 pub mod Calling
 pub mod Hosting
 pub mod Sheets
-pub mod Feeding
-pub mod Lists

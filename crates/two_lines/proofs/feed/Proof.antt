@@ -1,10 +1,10 @@
--- `engine::feed` meets its contract.
+-- `two_lines::feed` meets its contract.
 use mathlib.Core.Path.{sym, _∙_}
 use borrow.Author.Needs.{needs}
 use borrow.Author.Tests.{not-true, not-false}
-use Rattle.engine.proofs.Feeding.{main-faulty, spare-faulty}
-use Rattle.engine.proofs.feed.Statement.{statement}
-use Rattle.engine.proofs.feed.Tie as tie
+use Rattle.two_lines.proofs.Feeding.{main-faulty, spare-faulty}
+use Rattle.two_lines.proofs.feed.Statement.{statement}
+use Rattle.two_lines.proofs.feed.Tie as tie
 
 is-faultless-requires : tie.Need-is-faultless-requires
 is-faultless-requires c κs = search needs

@@ -1,12 +1,12 @@
--- `engine::hand_out` meets its contract.
+-- `two_lines::hand_out` meets its contract.
 use mathlib.Core.Path.{sym, _∙_}
 use native.Mathlib.Omega.{arith}
 use Prim.Native.Nat.{_+_, _-_, _^_, _≤_, _<_}
 use lib.ListN.{length}
-use Rattle.engine.proofs.Feeding.{asked, asked-one, turn-stopped, turn-full, turn-handed}
+use Rattle.two_lines.proofs.Feeding.{asked, asked-one, turn-stopped, turn-full, turn-handed}
 use borrow.Author.Needs.{needs}
-use Rattle.engine.proofs.hand_out.Statement.{statement}
-use Rattle.engine.proofs.hand_out.Tie as tie
+use Rattle.two_lines.proofs.hand_out.Statement.{statement}
+use Rattle.two_lines.proofs.hand_out.Tie as tie
 
 up-next-requires : tie.Need-up-next-requires
 up-next-requires c κs = search needs

@@ -1,14 +1,14 @@
--- `engine::feed_lines` meets its contract.
+-- `two_lines::feed_lines` meets its contract.
 use mathlib.Core.Logic.{⊎-elim}
 use mathlib.Core.Path.{sym, _∙_}
 use native.Mathlib.Omega.{arith}
 use Prim.Native.Nat.{_+_, _-_, _<_}
 use lib.ListN.{length}
 use Rattle.feed.proofs.Ahead.{ahead-ready}
-use Rattle.engine.proofs.Feeding.{Feeding, FeedEnded, feeding-start, feeding-again, feeding-end, feeding-stop, not-ends, fed}
+use Rattle.two_lines.proofs.Feeding.{Feeding, FeedEnded, feeding-start, feeding-again, feeding-end, feeding-stop, not-ends, fed}
 use borrow.Author.Needs.{needs}
-use Rattle.engine.proofs.feed_lines.Statement.{statement}
-use Rattle.engine.proofs.feed_lines.Tie as tie
+use Rattle.two_lines.proofs.feed_lines.Statement.{statement}
+use Rattle.two_lines.proofs.feed_lines.Tie as tie
 
 abbrev Inv-loop : tie.InvT-loop
 Inv-loop main spare report₀ b₀ t₀ report b t = Feeding main spare report₀ b report t

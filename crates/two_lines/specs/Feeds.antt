@@ -8,8 +8,8 @@ use Rattle.places.specs.Layout.{venueOf, Dense}
 use Rattle.feed.specs.Feed.{Part, next}
 use Rattle.feed.specs.Cursors.{upNext, advanceOf}
 use Rattle.feed.specs.Turns.{fedFrom}
-use Rattle.engine.specs.declared.Fed.{Fed}
+use Rattle.two_lines.specs.declared.Fed.{Fed}
 use Rattle.engine.specs.Runs.{Turned}
 
 -- stopped with a number where it stands
 abbrev pub stopsAt : Fed → (number : ℕ) → Fed

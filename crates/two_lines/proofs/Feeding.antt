@@ -26,10 +26,10 @@ use Rattle.feed.specs.Cursors.{ready, stopOf, partOf, upNext, advanceOf}
 use Rattle.feed.specs.Turns.{hands, fedFrom}
 use Rattle.feed.proofs.Turning.{hands-full, hands-more, fed-on, fed-stop, feed-is, feed-not}
 use Rattle.feed.proofs.Ahead.{Ahead, ahead-start, ahead-moved, ahead-ready, advance-within, some-move, next-up, next-end, next-whole, up-message, up-stop}
-use Rattle.engine.specs.declared.Fed.{Fed}
+use Rattle.two_lines.specs.declared.Fed.{Fed}
 use Rattle.engine.specs.Runs.{goesOn, callOf}
-use Rattle.engine.specs.Feeds.{stopsAt, Feeds}
+use Rattle.two_lines.specs.Feeds.{stopsAt, Feeds}
 use Rattle.engine.proofs.Proceeding.{goes-on, goes-not, turn-ends, too-long, venue-kept, front-kept, length-is, venue-is, turn-does, Sofar, sofar-start, sofar-as, sofar-turn, Ended, sofar-ends, ended-call}
 
 -- A line that is faulty -----------------------------------------------------------------------
 

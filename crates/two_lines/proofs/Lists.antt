@@ -6,8 +6,8 @@ use Rattle.rules.specs.Calls.{Call, run}
 use Rattle.feed.specs.Feed.{handed, joined, numbered, feed}
 use Rattle.feed.specs.Sent.{messages}
 use Rattle.feed.proofs.Sending.{list-run}
 use Rattle.engine.specs.Runs.{callOf}
-use Rattle.engine.specs.Lists.{ReturnsAsRun, ReturnsAsList}
+use Rattle.two_lines.specs.Lists.{ReturnsAsRun, ReturnsAsList}
 
 pub returns-as-run : ReturnsAsRun
 unfolding feed numbered
