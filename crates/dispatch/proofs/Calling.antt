@@ -22,15 +22,15 @@ use Rattle.layer.specs.Layer.{Lane, Layer, laneAt, getsNine, layerSound, arrive
 use Rattle.layer.proofs.Ways.{ending, not-done, Did, does, turn-by}
 use Rattle.layer.proofs.Keeping.{gets-nine, each-lane, lane-wait, answered}
 use Rattle.dispatch.specs.declared.TurnReturned.{TurnReturned}
-use Rattle.dispatch.specs.Memory.{doneAt, countAt, placesAt, laneSize, lastAt, layerSize, placeFrom, lanePart, layerFrom, withPart, joinedBytes, headCalled, advancedBytes}
-use Rattle.dispatch.specs.Checks.{layerSoundBut}
+use Rattle.lanes.specs.Memory.{doneAt, countAt, placesAt, laneSize, lastAt, layerSize, placeFrom, lanePart, layerFrom, withPart, joinedBytes, headCalled, advancedBytes}
+use Rattle.lanes.specs.Checks.{layerSoundBut}
 use Rattle.dispatch.specs.Hosts.{replyOf, arriveHeld, TurnReply, idleReturned, turnReplyOf, servedBytes, turnLeaves, turnHeld}
-use Rattle.dispatch.proofs.Bytes.{part-back}
-use Rattle.dispatch.proofs.Figures.{waits-at}
-use Rattle.dispatch.proofs.Places.{waits-short}
-use Rattle.dispatch.proofs.Checking.{but-wait, but-sound, but-none}
-use Rattle.dispatch.proofs.Joining.{joined-size}
-use Rattle.dispatch.proofs.Taking.{head-called, advanced-size}
+use Rattle.lanes.proofs.Bytes.{part-back}
+use Rattle.lanes.proofs.Figures.{waits-at}
+use Rattle.lanes.proofs.Places.{waits-short}
+use Rattle.lanes.proofs.Checking.{but-wait, but-sound, but-none}
+use Rattle.lanes.proofs.Joining.{joined-size}
+use Rattle.lanes.proofs.Taking.{head-called, advanced-size}
 use Rattle.dispatch.proofs.Held.{Lends, lends, lends-next}
 
 -- A lane as it is lent ------------------------------------------------------------------------

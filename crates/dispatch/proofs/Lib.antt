@@ -1,24 +1,8 @@
--- Laws of the layer in memory, in the order in which each file uses the ones before it; the statements of specs/Hosts are proved in Held.
+-- Laws of the calls upon the layer in memory; the statements of specs/Hosts are proved in Held.
 --
---   Bytes      bytes in the place of others, and a part lent and put back
---   Figures    a wait's figures, the venue to serve, and the checks lane by lane
---   Checking   the checks but one, and the layer's soundness
---   Lent       a lane of the layer lent and put back
---   Places     a message in its place
---   Joining    a message at the end of a wait
---   Taking     the head of a wait done by a call
---   Fresh      the layer's bytes read back, and the fresh layer's
 --   Held       the calls upon a memory are those upon the layer that it holds: held
 --   Calling    an arrival and a turn, by the ways in which each ends
---   Writing    what each small function writes
-pub mod Bytes
-pub mod Figures
-pub mod Checking
-pub mod Lent
-pub mod Places
-pub mod Joining
-pub mod Taking
-pub mod Fresh
+--   Beginning  a host's fresh layer
 pub mod Held
 pub mod Calling
-pub mod Writing
+pub mod Beginning

@@ -8,7 +8,7 @@ use Rattle.rules.specs.Base.{if_then_else_}
 use Rattle.rules.specs.Records.{sheet}
 use Rattle.layer.specs.Layer.{Turned, Asked, arrival, turning, freshLayer, arrive, turn, afterAll}
 use Rattle.dispatch.specs.declared.TurnReturned.{TurnReturned}
-use Rattle.dispatch.specs.Memory.{lastAt, layerSize, lanePart, layerFrom, layerBytes, withPart, joinedBytes, headCalled, advancedBytes}
+use Rattle.lanes.specs.Memory.{lastAt, layerSize, lanePart, layerFrom, layerBytes, withPart, joinedBytes, headCalled, advancedBytes}
 
 -- A fresh layer -------------------------------------------------------------------------------
 

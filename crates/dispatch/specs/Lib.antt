@@ -1,4 +1,2 @@
--- The layer as bytes (Memory), what is checked before a call that checks one venue itself (Checks), and what a host sees of the calls (Hosts).
-pub mod Memory
-pub mod Checks
+-- What a host sees of the calls.
 pub mod Hosts

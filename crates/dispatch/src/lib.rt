@@ -1,262 +1,76 @@
-// Four venues behind one line: the calls upon the layer in lent memory (specs/Memory.antt).
+// Four venues behind one line: arrivals and turns upon the layer in lent memory (crate lanes).
 use rules::Returned;
-use rules::Venue;
 ghost use mathlib.Core.Path.{_≡_};
-ghost use mathlib.Core.List.{[], _++_};
-ghost use Prim.Native.Nat.{_+_, _-_, _≤_, _<_};
-ghost use lib.ListN.{length, take, drop, replicate};
-ghost use Rattle.rules.specs.Bytes.{u8At, u32At, u8, u32};
+ghost use mathlib.Core.List.{[]};
+ghost use Prim.Native.Nat.{_≤_};
+ghost use lib.ListN.{length};
+ghost use Rattle.rules.specs.Bytes.{u8At};
 ghost use Rattle.rules.specs.Records.{sheet};
-ghost use Rattle.records.specs.Seen.{pasted};
-ghost use Rattle.state.specs.Held.{venueSize};
 ghost use Rattle.engine.specs.Runs.{callOf};
-ghost use Rattle.layer.specs.Layer.{freshLane, waitSound, next};
-ghost use Rattle.dispatch.specs.Memory.{doneAt, countAt, placesAt, placeSize, laneSize, layerSize, laneFrom, layerFrom, placeBytes, laneBytes, joinedBytes, headCalled, venuePart, advancedBytes};
-ghost use Rattle.dispatch.specs.Checks.{laneSoundBut, layerSoundBut};
+ghost use Rattle.lanes.specs.Memory.{placesAt, laneSize, headCalled};
 ghost use Rattle.dispatch.specs.Hosts.{replyOf, freshHeld, arriveHeld, idleReturned, turnReplyOf, turnHeld, toldOf, hostTurn};
 
-// A venue's bytes, as crate state has them, and the numbers that it is laid out in to be checked, as crate places has them.
-const VENUE: usize = state::VENUE_SIZE;
-
-const NUMBERS: usize = places::SIZE;
-
-// What follows from them: where the parts of a lane begin (specs/Memory.antt), and the last byte.
-const DONE: usize = VENUE;
-
-const COUNT: usize = VENUE + 4;
-
-const PLACES: usize = VENUE + 5;
-
-const PLACE: usize = 33;
-
-const SECOND: usize = PLACES + PLACE;
-
-const MOVED: usize = 7 * PLACE;
-
-const EIGHTH: usize = PLACES + MOVED;
-
-const LANE: usize = EIGHTH + PLACE;
-
-const LAST: usize = 4 * LANE;
-
-const LAYER: usize = LAST + 1;
-
-// Is the layer sound? -------------------------------------------------------------------------
-
-// How many messages wait in a lane, and how long each is, are in their ranges.
-fn wait_sound(lane: &[u8]) -> bool
-    ensures { λ r. ⌜ r ≡ waitSound (laneFrom (now (lane .entry)) .wait) ⌝ }
-{
-    let count = wire::u8_at(lane, COUNT) as usize;
-    if 8 < count {
-        return false;
-    }
-    let mut i: usize = 0;
-    while i < count {
-        let length = wire::u8_at(lane, PLACE * i + PLACES);
-        if 32 < length {
-            return false;
-        }
-        i += 1;
-    }
-    true
-}
-
-// The same of lane `v`, and its venue gets no 9 unless it is `but`.
-fn lane_sound(lane: &[u8], v: usize, but: usize) -> bool
-    requires { ⌜ length (now lane) ≡ laneSize ⌝ }
-    ensures { λ r. ⌜ r ≡ laneSoundBut but v (laneFrom (now (lane .entry))) ⌝ }
-{
-    if !wait_sound(lane) {
-        return false;
-    }
-    if v == but {
-        return true;
-    }
-    let end = VENUE;
-    let venue = state::venue_from(&lane[..end]);
-    let before = wire::u32_at(lane, DONE);
-    let mut b = [0u32; NUMBERS];
-    soundness::load_ready(&mut b, venue, before)
-}
-
-// No figure of the layer is out of range, and no venue but one gets 9; with 4, none.
-fn layer_sound(layer: &[u8], but: usize) -> bool
-    requires { ⌜ length (now layer) ≡ layerSize ⌝ }
-    ensures { λ r. ⌜ r ≡ layerSoundBut but (layerFrom (now (layer .entry))) ⌝ }
-{
-    if 3 < layer[LAST] {
-        return false;
-    }
-    let mut i: usize = 0;
-    while i < 4 {
-        let at = LANE * i;
-        let end = at + LANE;
-        if !lane_sound(&layer[at..end], i, but) {
-            return false;
-        }
-        i += 1;
-    }
-    true
-}
-
 // A fresh layer -------------------------------------------------------------------------------
-
-fn fresh_lane(lane: &mut [u8])
-    requires { ⌜ length (now lane) ≡ laneSize ⌝ }
-    ensures { λ _. ⌜ now (lane .exit) ≡ laneBytes freshLane ⌝ }
-{
-    let fresh = figures::fresh();
-    let end = VENUE;
-    venue_bytes::put_venue(&mut lane[..end], fresh);
-    records::zero_from(lane, VENUE);
-}
 
 // The first layer of a host's memory. A memory of another length can hold none.
 #[no_mangle]
 pub extern "C" fn legging_layer_fresh(layer: &mut [u8]) -> u8
     ensures { λ r. ⌜ replyOf r (now (layer .exit)) ≡ freshHeld (now (layer .entry)) ⌝ }
 {
-    if layer.len() != LAYER {
+    if layer.len() != lanes::LAYER {
         return 9;
     }
     let mut i: usize = 0;
     while i < 4 {
-        let at = LANE * i;
-        let end = at + LANE;
-        fresh_lane(&mut layer[at..end]);
+        let at = lanes::LANE * i;
+        let end = at + lanes::LANE;
+        lanes::fresh_lane(&mut layer[at..end]);
         i += 1;
     }
-    layer[LAST] = 3;
+    layer[lanes::LAST] = 3;
     0
 }
 
 // A message arrives ---------------------------------------------------------------------------
 
-// A message in a place of its own, and zeros after it.
-fn put_place(place: &mut [u8], message: &[u8])
-    requires { ⌜ (length (now place) ≡ placeSize) × (length (now message) ≤ 32) ⌝ }
-    ensures { λ _. ⌜ now (place .exit) ≡ placeBytes (now (message .entry)) ⌝ }
-{
-    place[0] = message.len() as u8;
-    let end = records::put(place, 1, message);
-    records::zero_from(place, end);
-}
-
-// A message at the end of a lane's wait.
-fn join(lane: &mut [u8], message: &[u8])
-    requires { ⌜ (length (now lane) ≡ laneSize) × (u8At (now lane) countAt < 8) × (length (now message) ≤ 32) ⌝ }
-    ensures { λ _. ⌜ now (lane .exit) ≡ joinedBytes (now (lane .entry)) (now (message .entry)) ⌝ }
-{
-    let count = wire::u8_at(lane, COUNT);
-    let at = PLACE * (count as usize) + PLACES;
-    let end = at + PLACE;
-    put_place(&mut lane[at..end], message);
-    lane[COUNT] = count + 1;
-}
-
 // A message for one of the four venues. Only one that is taken up writes the memory.
 pub fn arrive(layer: &mut [u8], venue: u32, message: &[u8]) -> u8
     ensures { λ r. ⌜ replyOf r (now (layer .exit)) ≡ arriveHeld (now (layer .entry)) venue (now (message .entry)) ⌝ }
 {
-    if layer.len() != LAYER {
+    if layer.len() != lanes::LAYER {
         return 9;
     }
-    if !layer_sound(layer, 4) {
+    if !lanes::layer_sound(layer, 4) {
         return 9;
     }
     if 3 < venue {
         return 18;
     }
-    let at = LANE * (venue as usize);
-    let end = at + LANE;
-    if 8 <= wire::u8_at(layer, at + COUNT) {
+    let at = lanes::LANE * (venue as usize);
+    let end = at + lanes::LANE;
+    if 8 <= wire::u8_at(layer, at + lanes::COUNT) {
         return 17;
     }
     if 32 < message.len() {
         return 17;
     }
-    join(&mut layer[at..end], message);
+    lanes::join(&mut layer[at..end], message);
     0
 }
 
 // A turn --------------------------------------------------------------------------------------
-
-// The next venue after the last one served, going round, that has a message waiting; 4 if none has.
-fn next_waiting(layer: &[u8]) -> usize
-    requires { ⌜ length (now layer) ≡ layerSize ⌝ }
-    ensures { λ r. ⌜ r ≡ next (layerFrom (now (layer .entry))) ⌝ }
-{
-    let mut v = (wire::u8_at(layer, LAST) as usize + 1) % 4;
-    let mut i: usize = 0;
-    while i < 4 {
-        if wire::u8_at(layer, LANE * v + COUNT) != 0 {
-            return v;
-        }
-        v = (v + 1) % 4;
-        i += 1;
-    }
-    4
-}
 
 // The one-message call with the message at the head of a lane's wait.
 fn call_head(lane: &[u8], report: &mut [u8]) -> Returned
     requires { ⌜ (length (now lane) ≡ laneSize) × (u8At (now lane) placesAt ≤ 32) ⌝ }
     ensures { λ r. ⌜ callOf r (now (report .exit)) ≡ headCalled (now (lane .entry)) (length (now (report .entry))) ⌝ }
 {
-    let end = VENUE;
+    let end = lanes::VENUE;
     let venue = state::venue_from(&lane[..end]);
-    let before = wire::u32_at(lane, DONE);
-    let from = PLACES + 1;
-    let to = from + wire::u8_at(lane, PLACES) as usize;
+    let before = wire::u32_at(lane, lanes::DONE);
+    let from = lanes::PLACES + 1;
+    let to = from + wire::u8_at(lane, lanes::PLACES) as usize;
     engine::one_message(venue, before, &lane[from..to], report)
-}
-
-// The venue after its message: its bytes are written where the message was accepted.
-fn put_after(lane: &mut [u8], number: u8, venue: Venue)
-    requires { ⌜ length (now lane) ≡ laneSize ⌝ }
-    ensures { λ _. ⌜ now (lane .exit) ≡ venuePart (now (lane .entry)) number venue ++ drop venueSize (now (lane .entry)) ⌝ }
-{
-    if number != 0 {
-        return;
-    }
-    let end = VENUE;
-    venue_bytes::put_venue(&mut lane[..end], venue);
-}
-
-// One message more done.
-fn count_done(lane: &mut [u8])
-    requires { ⌜ (length (now lane) ≡ laneSize) × (u32At (now lane) doneAt < 4294967295) ⌝ }
-    ensures { λ _. ⌜ now (lane .exit) ≡ pasted (now (lane .entry)) doneAt (u32 (u32At (now (lane .entry)) doneAt + 1)) ⌝ }
-{
-    let before = wire::u32_at(lane, DONE);
-    let done = records::bytes4(before + 1);
-    records::put(lane, DONE, &done);
-}
-
-// The wait without its head: each place one place down, and the last one free.
-fn drop_head(lane: &mut [u8])
-    requires { ⌜ (length (now lane) ≡ laneSize) × (0 < u8At (now lane) countAt) × (u8At (now lane) countAt ≤ 8) ⌝ }
-    ensures { λ _. ⌜ now (lane .exit) ≡ take countAt (now (lane .entry)) ++ u8 (u8At (now (lane .entry)) countAt - 1) ++ drop (placesAt + placeSize) (now (lane .entry)) ++ replicate placeSize 0 ⌝ }
-{
-    let count = wire::u8_at(lane, COUNT);
-    let mut i: usize = 0;
-    while i < MOVED {
-        lane[PLACES + i] = lane[SECOND + i];
-        i += 1;
-    }
-    records::zero_from(lane, EIGHTH);
-    lane[COUNT] = count - 1;
-}
-
-// A lane whose head a call has done.
-fn advance(lane: &mut [u8], number: u8, venue: Venue)
-    requires { ⌜ (length (now lane) ≡ laneSize) × (u32At (now lane) doneAt < 4294967295) × (0 < u8At (now lane) countAt) × (u8At (now lane) countAt ≤ 8) ⌝ }
-    ensures { λ _. ⌜ now (lane .exit) ≡ advancedBytes (now (lane .entry)) number venue ⌝ }
-{
-    put_after(lane, number, venue);
-    count_done(lane);
-    drop_head(lane);
 }
 
 // What a turn returns beside the layer and the report; 4 is served where no message was done.
@@ -285,18 +99,18 @@ fn idle(number: u8, report: &mut [u8]) -> TurnReturned
 pub fn turn(layer: &mut [u8], report: &mut [u8]) -> TurnReturned
     ensures { λ r. ⌜ turnReplyOf r (now (layer .exit)) (now (report .exit)) ≡ turnHeld (now (layer .entry)) (length (now (report .entry))) ⌝ }
 {
-    if layer.len() != LAYER {
+    if layer.len() != lanes::LAYER {
         return idle(9, report);
     }
-    let v = next_waiting(layer);
-    if !layer_sound(layer, v) {
+    let v = lanes::next_waiting(layer);
+    if !lanes::layer_sound(layer, v) {
         return idle(9, report);
     }
     if v == 4 {
         return idle(0, report);
     }
-    let at = LANE * v;
-    let end = at + LANE;
+    let at = lanes::LANE * v;
+    let end = at + lanes::LANE;
     let r = call_head(&layer[at..end], report);
     if r.done == 0 {
         return TurnReturned {
@@ -307,8 +121,8 @@ pub fn turn(layer: &mut [u8], report: &mut [u8]) -> TurnReturned
         };
     }
     let after = r.venue;
-    advance(&mut layer[at..end], r.number, after);
-    layer[LAST] = v as u8;
+    lanes::advance(&mut layer[at..end], r.number, after);
+    layer[lanes::LAST] = v as u8;
     TurnReturned {
         number: r.number,
         done: r.done,

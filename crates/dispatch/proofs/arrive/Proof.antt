@@ -4,8 +4,8 @@ use Prim.Native.Nat.{_+_, _-_, _*_}
 use native.Mathlib.Omega.{arith}
 use borrow.Author.Tests.{not-true, not-false}
 use borrow.Author.Needs.{needs}
-use Rattle.dispatch.specs.Memory.{laneSize}
-use Rattle.dispatch.proofs.Bytes.{part-length}
+use Rattle.lanes.specs.Memory.{laneSize}
+use Rattle.lanes.proofs.Bytes.{part-length}
 use Rattle.dispatch.proofs.Calling.{part-count, checked-all, arrive-none, arrive-unsound, arrive-beyond, arrive-full, arrive-long, arrive-taken}
 use Rattle.dispatch.proofs.arrive.Statement.{statement}
 use Rattle.dispatch.proofs.arrive.Tie as tie

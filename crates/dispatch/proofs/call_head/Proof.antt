@@ -6,9 +6,9 @@ use lib.Seq.{length-take-le}
 use native.Mathlib.Omega.{arith}
 use borrow.Author.Needs.{needs}
 use Rattle.state.specs.Held.{venueSize}
-use Rattle.dispatch.specs.Memory.{placesAt}
-use Rattle.dispatch.proofs.Places.{head-lent}
-use Rattle.dispatch.proofs.Writing.{called-head}
+use Rattle.lanes.specs.Memory.{placesAt}
+use Rattle.lanes.proofs.Places.{head-lent}
+use Rattle.lanes.proofs.Writing.{called-head}
 use Rattle.dispatch.proofs.call_head.Statement.{statement}
 use Rattle.dispatch.proofs.call_head.Tie as tie
 

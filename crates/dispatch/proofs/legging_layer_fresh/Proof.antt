@@ -5,9 +5,9 @@ use lib.ListN.{length-set}
 use native.Mathlib.Omega.{arith}
 use borrow.Author.Needs.{needs}
 use Rattle.state.proofs.Rows.{Written, written-none}
-use Rattle.dispatch.specs.Memory.{laneSize, lastAt}
-use Rattle.dispatch.proofs.Bytes.{part-length}
-use Rattle.dispatch.proofs.Writing.{freshRow, four, fresh-room, fresh-next, fresh-all, fresh-none}
+use Rattle.lanes.specs.Memory.{laneSize, lastAt}
+use Rattle.lanes.proofs.Bytes.{part-length}
+use Rattle.dispatch.proofs.Beginning.{freshRow, four, fresh-room, fresh-next, fresh-all, fresh-none}
 use Rattle.dispatch.proofs.legging_layer_fresh.Statement.{statement}
 use Rattle.dispatch.proofs.legging_layer_fresh.Tie as tie
 
