@@ -6,14 +6,15 @@
 Says each fault as FILE:LINE: what is wrong, and ends with status 1 where there is one. It asks that
 
 - every name in backticks exists:
-    "Words: `isPrice`"          declared in crates/rules/specs/Words.antt; the word holds to the end of the sentence or cell
+    "Words: `isPrice`"          declared in crates/rules/specs/Words.antt (of Trials also in crates/trials/specs); the word holds to the end of the
+                                sentence or cell
     "reader Head: `headAt`"     declared in crates/reader/specs/Head.antt or proofs/Head.antt
     "engine: `run`"             a function, type, definition or law of that crate
     "Type: `Venue`"             a type of crates/rules/src/lib.rt
     `Kept.NeverNine`            declared in a file Kept.antt; `levels::load` is a function of the crate levels
     `isPrice`                   declared anywhere in crates/, host/ or include/
   In a table a column headed "Wrong edit" has must-fail edits after their crate, one headed "Test" functions after their file
-  in host/sessions/tests/all; one headed by a crate has its functions; one headed by a file has that file's names; and in
+  in host/sessions/tests/all; one headed by a crate, or by several, has their functions; one headed by a file has that file's names; and in
   one headed "File" each row begins with the file that its names are of. Code of more than a name is not looked at;
 - every path beginning with crates/, host/, docs/, tests/, include/, examples/ or bin/ exists (NAME and the like stand for any);
 - every definition of crates/rules/specs, but those of Trials and Opened, is named after its file in docs/CROSSWALK.md or
@@ -42,7 +43,7 @@ NOT_ASKED = {"Trials", "Opened", "Lib"}
 MACHINE = re.compile(r"(?<![\w.~-])/(?:tmp|work|root|opt|home|usr|var|etc|mnt)\b")
 PATH = re.compile(r"(?<![\w/.-])(?:crates|host|docs|tests|include|examples|bin)/[\w./+*-]*[\w*]")
 SPAN = re.compile(r"`([^`]+)`")
-WORD = re.compile(r"(?:\b([a-z]+) )?\b(\w+): (?=`)")
+WORD = re.compile(r"(?:\b([a-z_]+) )?\b(\w+): (?=`)")
 ROW = re.compile(r"(?<![\w(])([A-Z])(\d+)\b")
 READING = re.compile(r"\bReadings? (\d+(?:(?:, | to | and )\d+)*)")
 NAME = re.compile(r"[^\W\d][\w·⟫'-]*|_[^\s`.()]+_")
@@ -120,11 +121,11 @@ class Tree:
         return set().union(*found) if found else None
 
     def of_file(self, crate, stem):
-        """The names of a crate's file, or None. Without a crate: of the rules' definitions, else of all files of that name."""
+        """The names of a crate's file, or None. Without a crate: of the rules' definitions and the trials, else of all files of that name."""
         if crate:
             return self.files.get((crate, stem))
         if stem in self.specs or stem in NOT_ASKED:
-            return self.files[("rules", stem)]
+            return self.files[("rules", stem)] | self.files.get(("trials", stem), set())
         return self.of_stem(stem)
 
     def of_word(self, crate, word, column):
@@ -227,9 +228,11 @@ class Papers:
 
     def headed(self, heading):
         """What the names of a column are where no word stands before them, and the file of the rules that they are then of."""
+        crates = heading.split(", ")
+        if all(crate in self.tree.functions for crate in crates):
+            names = set().union(*(self.tree.functions[crate] for crate in crates))
+            return (names, "no function of " + " or ".join(f"crates/{crate}/src" for crate in crates)), None
         words = heading.split()
-        if len(words) == 1 and words[0] in self.tree.functions:
-            return (self.tree.functions[words[0]], f"no function of crates/{words[0]}/src"), None
         if len(words) == 2 and tuple(words) in self.tree.files:
             return (self.tree.files[tuple(words)], f"not declared in {words[0]}: {words[1]}.antt"), None
         if len(words) == 1 and words[0] in self.tree.specs:

@@ -8,9 +8,9 @@ places of crates/rules/specs (or of the files named) where an operator, a number
 changed, a conjunct or a step dropped, two steps or two arguments exchanged. Definitions are gone through in an
 order drawn by the seed, one edit of each in a round. With --skip the list and the first M draws are left out, for a
 run in parts. Each edit is made in a copy of the crate `rules` that has its types, its definitions and its trials
-alone: no law and no function. There `trials-hold` must fail, over one part of the trials (the cheap lists first, then
-list by list), or the statement of a request's trials: that is a failure of the whole. An edit that passes all parts is
-checked against the whole from nothing. One that does not compile is not counted, and another is drawn.
+alone, with those of the crate `trials`: no law and no function. There `trials-hold` must fail, over one part of the
+trials (the cheap lists first, then list by list), or a statement of rules' own trials or of a request's: that is a
+failure of the whole. An edit that passes all parts is checked against the whole from nothing. One that does not compile is not counted, and another is drawn.
 Left out: Trials itself, Opened (a list of names), Lengths (bounds of what is written, for the proofs alone), and
 what only states a type. So are edits that tell nothing: the order of a table's rows (`if eqb k 1 .. else if eqb k 2
 ..`), the arguments of `eqb` exchanged, `leb x 0` for `eqb x 0`.
@@ -31,6 +31,7 @@ import tempfile
 import threading
 
 LEFT_OUT = {"Trials", "Opened", "Lengths", "Lib"}
+MORE = "MoreTrials.antt"  # the file of the crate trials, in the copy of rules
 TYPES = {"OneByte", "TwoBytes", "FourBytes", "FourSigned", "Fits", "ForAll"}
 SIGNATURE = re.compile(r"\s*(abbrev|unfoldable|pub|use|infix|infixl|data|record|module|--)\b|\s*--")
 # what a name may be mistaken for
@@ -324,13 +325,6 @@ def listed(path):
     return fixed, same
 
 
-def types_alone(text):
-    """src/lib.rt without its functions and without what only they use."""
-    kept = "\n".join(l for l in text.split("\n") if not l.startswith("ghost use"))
-    first = re.search(r"(?m)^pub fn ", kept).start()
-    return kept[:kept.rfind("\n}\n", 0, first) + 3]
-
-
 def with_imports(text):
     lines = text.split("\n")
     for i, line in enumerate(lines):
@@ -348,14 +342,15 @@ class Copy:
         self.tree = place
         self.specs = f"{place}/crates/rules/specs"
         shutil.copytree(f"{root}/crates/rules/specs", self.specs)
-        os.makedirs(f"{place}/crates/rules/src")
-        with open(f"{root}/crates/rules/src/lib.rt", encoding="utf-8") as lib:
-            self.write("../src/lib.rt", types_alone(lib.read()))
+        shutil.copytree(f"{root}/crates/rules/src", f"{place}/crates/rules/src")
         with open(f"{place}/crates.txt", "w", encoding="utf-8") as crates:
             crates.write("rules:\n")
         for name, text in files.items():
             self.write(f"{name}.antt", text)
-        self.trials = files["Trials"]
+        with open(f"{root}/crates/trials/specs/Trials.antt", encoding="utf-8") as trials:
+            self.trials = trials.read().replace("Rattle.rules.specs.", "Rattle.rules.specs.")
+        self.write(MORE, self.trials)
+        self.write("Lib.antt", files["Lib"].rstrip("\n") + "\npub mod MoreTrials\n")
         names = re.search(r"(?m)^trials = (.*)$", self.trials).group(1).split(" ++ ")
         early = [[n for n in part if n in names] for part in PARTS]
         self.parts = [p for p in early if p] + [[n] for n in names if not any(n in part for part in PARTS)]
@@ -364,6 +359,12 @@ class Copy:
         with open(f"{self.specs}/{name}", "w", encoding="utf-8") as file:
             file.write(text)
 
+    def of_part(self, part):
+        """The trials with one statement over some of the lists in the place of that over all, which is asked list by list."""
+        lists = "pub trials : List Trial\ntrials = " + " ++ ".join(part) + "\n\n"
+        holds = "pub trials-hold : map outcome trials ≡ map expected trials\nunfolding opened-rules tried staged trials\ntrials-hold = refl\n\n"
+        return re.sub(r"(?s)-- every trial of a list comes out.*?(?=pub reserves-hold)", lambda _: lists + holds, self.trials)
+
     def checked(self):
         """survives, refused, compiles-not or NO VERDICT, with the line that says why."""
         done = subprocess.run(["rt", "dev", "rules"], cwd=self.tree, capture_output=True, text=True, check=False)
@@ -371,7 +372,7 @@ class Copy:
         if done.returncode == 0 and any(l.startswith("logic=proved") for l in said):
             return "survives", ""
         errors = [line[line.find("specs/"):] for line in said if ": error" in line]
-        if errors and all(re.search(r"Trials\.antt:\d+:\d+: error: `(?:trials|reserves|units|seasons|traffic)-[\w-]+`: expected type", e) for e in errors):
+        if errors and all(re.search(r"Trials\.antt:\d+:\d+: error: `(?:trials|starred|telling|reserves|units|seasons|traffic)-[\w-]+`: expected type", e) for e in errors):
             return "refused", errors[0]
         if errors and all("Trials.antt" in e and "steps" in e for e in errors):
             return "refused", errors[0]
@@ -382,11 +383,11 @@ class Copy:
     def tried(self, name, new, old):
         self.write(name, new)
         for part in self.parts:
-            self.write("Trials.antt", re.sub(r"(?m)^trials = .*$", "trials = " + " ++ ".join(part), self.trials))
+            self.write(MORE, self.of_part(part))
             what, why = self.checked()
             if what != "survives":
                 break
-        self.write("Trials.antt", self.trials)
+        self.write(MORE, self.trials)
         if what == "survives":
             shutil.rmtree(f"{self.tree}/target/inc", ignore_errors=True)
             what, why = self.checked()
