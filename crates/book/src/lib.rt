@@ -29,7 +29,7 @@ pub enum Found {
 fn shows_for(o: Regular, series: u8, side: u8, price: u32) -> bool
     ensures { λ r. ⌜ r ≡ showsFor series side price o ⌝ }
 {
-    if figures::shown_of(o) == 0 {
+    if arithmetic::shown_of(o) == 0 {
         return false;
     }
     if o.series != series {
@@ -46,7 +46,7 @@ pub fn first_for(b: &[u32], series: u8, side: u8, price: u32) -> Pick
     requires { ⌜ (length (now b) ≡ size) × (Right (now b)) ⌝ }
     ensures { λ r. ⌜ r ≡ pickOf (first (showsFor series side price) earlier (venueOf (now (b .entry)) .regular)) ⌝ }
 {
-    let key = figures::place_of(series, side);
+    let key = arithmetic::place_of(series, side);
     let n = places::regulars_used(b);
     let mut k = 0;
     while k < n {
@@ -69,7 +69,7 @@ fn first_shown(b: &[u32], series: u8, side: u8, price: u32) -> Pick
     requires { ⌜ (length (now b) ≡ size) × (Right (now b)) × (series < 8) × (isUnmarked (now b) ≡ true) ⌝ }
     ensures { λ r. ⌜ r ≡ pickOf (first (isMet series side price) priceThenId (venueOf (now (b .entry)) .regular)) ⌝ }
 {
-    let other = figures::opposite_of(side);
+    let other = arithmetic::opposite_of(side);
     let best = levels::best_regular(b, series, other);
     if !levels::reaches_any(side, price, best) {
         return Pick::Nobody;
@@ -87,7 +87,7 @@ fn is_met(m: Regular, series: u8, side: u8, price: u32) -> bool
     if m.series != series {
         return false;
     }
-    if m.side != figures::opposite_of(side) {
+    if m.side != arithmetic::opposite_of(side) {
         return false;
     }
     levels::reaches_price(side, price, m.price)
@@ -97,13 +97,13 @@ fn is_met(m: Regular, series: u8, side: u8, price: u32) -> bool
 fn shows_first(a: Regular, m: Regular) -> bool
     ensures { λ r. ⌜ r ≡ shownThenId a m ⌝ }
 {
-    if figures::shown_of(m) == 0 {
-        if figures::shown_of(a) == 0 {
+    if arithmetic::shown_of(m) == 0 {
+        if arithmetic::shown_of(a) == 0 {
             return a.id < m.id;
         }
         return true;
     }
-    if figures::shown_of(a) == 0 {
+    if arithmetic::shown_of(a) == 0 {
         return false;
     }
     a.id < m.id
@@ -142,7 +142,7 @@ fn first_ranked(b: &[u32], series: u8, side: u8, price: u32) -> Pick
     requires { ⌜ length (now b) ≡ size ⌝ }
     ensures { λ r. ⌜ r ≡ pickOf (first (isMet series side price) priceThenId (venueOf (now (b .entry)) .regular)) ⌝ }
 {
-    let key = figures::place_of(series, figures::opposite_of(side));
+    let key = arithmetic::place_of(series, arithmetic::opposite_of(side));
     let mut best = Pick::Nobody;
     let mut i = places::regulars_used(b);
     while 0 < i {

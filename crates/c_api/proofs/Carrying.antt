@@ -17,17 +17,17 @@ use Rattle.rules.proofs.Tests.{and-l}
 use Rattle.demands.specs.Kept.{Shaped}
 use Rattle.records.specs.Seen.{Seen, seen, pasted, _plus_}
 use Rattle.records.proofs.Writes.{plus-in}
-use Rattle.state.specs.Held.{venueSize, venueBytes, venueFrom, Declared}
-use Rattle.venue_bytes.proofs.Whole.{venue-length}
-use Rattle.venue_bytes.proofs.Back.{held-whole}
+use Rattle.venue_bytes.specs.Held.{venueSize, venueBytes, venueFrom, Declared}
+use Rattle.venue_writer.proofs.Whole.{venue-length}
+use Rattle.venue_writer.proofs.Back.{held-whole}
 use Rattle.sets.specs.Set.{WrittenSet, ReadSet, joined, setOf, carries, notWritten, writeSet, notRead, readSet}
 use Rattle.sets.specs.Promises.{most}
 use Rattle.sets.proofs.Most.{at-most}
 use Rattle.sets.proofs.ReadBack.{taken, reads-back}
-use Rattle.save.specs.declared.Saved.{Saved}
-use Rattle.save.specs.Saving.{savedOf}
-use Rattle.resume.specs.declared.Resumed.{Resumed}
-use Rattle.resume.specs.Returned.{setRead}
+use Rattle.set_writer.specs.declared.Saved.{Saved}
+use Rattle.set_writer.specs.Saving.{savedOf}
+use Rattle.set_reader.specs.declared.Resumed.{Resumed}
+use Rattle.set_reader.specs.Returned.{setRead}
 use Rattle.engine.specs.Hosts.{Hosted, leaves, oneHosted, savesAs, saveHosted, readFor, resumesAs, resumeHosted, Again, HeldAgain}
 use Rattle.engine.proofs.Hosting.{declared, held-shaped, held-next}
 use Rattle.c_api.proofs.Telling.{zeros, long}

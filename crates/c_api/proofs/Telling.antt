@@ -13,7 +13,7 @@ use Rattle.rules.specs.Calls.{settings}
 use Rattle.rules.proofs.Cases.{if-by}
 use Rattle.records.specs.Seen.{Seen, seen, pasted, _plus_}
 use Rattle.records.proofs.Writes.{plus-in, pasted-length, pasted-pasted}
-use Rattle.state.specs.Held.{venueSize, venueFrom}
+use Rattle.venue_bytes.specs.Held.{venueSize, venueFrom}
 use Rattle.engine.specs.Hosts.{settingsBytes, told, settingsHosted}
 
 -- Bytes after bytes ---------------------------------------------------------------------------

@@ -1,5 +1,5 @@
 // The calls for a host in C: the run, the first venue, one message, the feed, the settings, and a set written and read.
-use resume::Resumed;
+use set_reader::Resumed;
 use rules::Settings;
 ghost use mathlib.Core.Path.{_≡_};
 ghost use Prim.Native.Nat.{_≤_};
@@ -8,7 +8,7 @@ ghost use Rattle.rules.specs.Calls as calls;
 ghost use Rattle.rules.specs.Bytes.{u32};
 ghost use Rattle.records.specs.Seen.{pasted};
 ghost use Rattle.feed.specs.Feed as feeding;
-ghost use Rattle.resume.specs.Returned.{setRead};
+ghost use Rattle.set_reader.specs.Returned.{setRead};
 ghost use Rattle.engine.specs.Hosts.{begun, freshHosted, hosted, oneHosted, settingsBytes, told, settingsHosted};
 ghost use Rattle.engine.specs.Hosts.{savesAs, saveHosted, readFor, resumesAs, resumeHosted};
 
@@ -26,11 +26,11 @@ pub extern "C" fn legging_run(messages: &[u8], report: &mut [u8]) -> u8
 pub extern "C" fn legging_fresh(venue: &mut [u8]) -> u8
     ensures { λ r. ⌜ begun r (now (venue .exit)) ≡ freshHosted (now (venue .entry)) ⌝ }
 {
-    if venue.len() != state::VENUE_SIZE {
+    if venue.len() != venue_bytes::VENUE_SIZE {
         return 9;
     }
-    let fresh = figures::fresh();
-    venue_bytes::put_venue(venue, fresh);
+    let fresh = arithmetic::fresh();
+    venue_writer::put_venue(venue, fresh);
     0
 }
 
@@ -45,17 +45,17 @@ pub extern "C" fn legging_message(
 ) -> u8
     ensures { λ r. ⌜ hosted r (now (venue .exit)) (now (report .exit)) ≡ oneHosted (now (venue .entry)) before (length (now (report .entry))) (now (message .entry)) ⌝ }
 {
-    if venue.len() != state::VENUE_SIZE {
+    if venue.len() != venue_bytes::VENUE_SIZE {
         records::zero_from(report, 0);
         return 9;
     }
-    let given = state::venue_from(venue);
+    let given = venue_bytes::venue_from(venue);
     let r = engine::one_message(given, before, message, report);
     if r.number != 0 {
         return r.number;
     }
     let after = r.venue;
-    venue_bytes::put_venue(venue, after);
+    venue_writer::put_venue(venue, after);
     r.number
 }
 
@@ -64,7 +64,7 @@ pub extern "C" fn legging_message(
 pub extern "C" fn legging_feed<'a>(main: &'a [u8], spare: &'a [u8], report: &mut [u8]) -> u8
     ensures { λ r. ⌜ (r ≡ feeding.feed (length (now (report .entry))) (now (main .entry)) (now (spare .entry)) .returned .number) × (now (report .exit) ≡ feeding.feed (length (now (report .entry))) (now (main .entry)) (now (spare .entry)) .report) ⌝ }
 {
-    let r = two_lines::feed(main, spare, report);
+    let r = feed_run::feed(main, spare, report);
     r.number
 }
 
@@ -86,14 +86,14 @@ pub extern "C" fn legging_settings(venue: &[u8], number: u32, settings: &mut [u8
     ensures { λ r. ⌜ told r (now (settings .exit)) ≡ settingsHosted (now (venue .entry)) number (length (now (settings .entry))) ⌝ }
 {
     records::zero_from(settings, 0);
-    if venue.len() != state::VENUE_SIZE {
+    if venue.len() != venue_bytes::VENUE_SIZE {
         return 9;
     }
     if settings.len() < 9 {
         return 9;
     }
-    let given = state::venue_from(venue);
-    let s = dates::settings(given, number);
+    let given = venue_bytes::venue_from(venue);
+    let s = settings::settings(given, number);
     put_settings(settings, s);
     s.number
 }
@@ -120,14 +120,14 @@ pub extern "C" fn legging_write_set(
 {
     records::zero_from(set, 0);
     records::zero_from(written, 0);
-    if venue.len() != state::VENUE_SIZE {
+    if venue.len() != venue_bytes::VENUE_SIZE {
         return 9;
     }
     if written.len() != 4 {
         return 9;
     }
-    let given = state::venue_from(venue);
-    let r = save::write_set(given, number, set);
+    let given = venue_bytes::venue_from(venue);
+    let r = set_writer::write_set(given, number, set);
     put_number(written, r.written as u32);
     r.number
 }
@@ -137,9 +137,9 @@ fn read_for(set: &[u8], room: usize) -> Resumed
     ensures { λ r. ⌜ setRead r ≡ readFor room (now (set .entry)) ⌝ }
 {
     if room != 4 {
-        return resume::refused(9);
+        return set_reader::refused(9);
     }
-    resume::read_set(set)
+    set_reader::read_set(set)
 }
 
 // The venue and the message number of a set, in a host's memory for either; the number is returned. A refused set is a fresh venue and zeros. A memory of
@@ -149,12 +149,12 @@ pub extern "C" fn legging_read_set(set: &[u8], venue: &mut [u8], number: &mut [u
     ensures { λ r. ⌜ resumesAs r (now (venue .exit)) (now (number .exit)) ≡ resumeHosted (now (set .entry)) (now (venue .entry)) (now (number .entry)) ⌝ }
 {
     records::zero_from(number, 0);
-    if venue.len() != state::VENUE_SIZE {
+    if venue.len() != venue_bytes::VENUE_SIZE {
         return 9;
     }
     let r = read_for(set, number.len());
     let read = r.venue;
-    venue_bytes::put_venue(venue, read);
+    venue_writer::put_venue(venue, read);
     if number.len() != 4 {
         return r.number;
     }

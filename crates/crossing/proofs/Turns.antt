@@ -23,7 +23,7 @@ use Rattle.records.specs.Stage.{stage, _does_}
 use Rattle.records.proofs.Stages.{follow, does-report}
 use Rattle.places.specs.Layout.{complexesUsed, venueOf}
 use Rattle.places.proofs.Parts.{complex-past}
-use Rattle.candidates.proofs.Candidates.{cross-free}
+use Rattle.cross_makers.proofs.Candidates.{cross-free}
 
 -- 70, both fills, the taker's removals, the maker's
 pub cross-law : (i j k : ℕ) (v v₁ v₂ v₃ v₄ : Venue) (l₀ l₁ l₂ l₃ : List ℕ) (a₀ a₁ a₂ a₃ : ℕ) (c m : Complex) (n : ℤ) →

@@ -1,7 +1,7 @@
 // Complex orders with one another: the cross, and the touch of legging orders.
-use candidates::Pick;
-use figures::lesser;
-use figures::limit_of;
+use cross_makers::Pick;
+use arithmetic::lesser;
+use arithmetic::limit_of;
 use levels::Taken;
 use rules::Cause;
 use rules::Complex;
@@ -27,9 +27,9 @@ pub fn cross(b: &mut [u32], i: usize, j: usize, k: u32, out: &mut [u8], at: usiz
 {
     let c = places::complex_at(b, i);
     let m = places::complex_at(b, j);
-    storing::fill_complex(b, i, k);
-    storing::fill_complex(b, j, k);
-    let told = records::emit_crossed(out, at, c.id, m.id, candidates::net_against(m), k);
+    place_writes::fill_complex(b, i, k);
+    place_writes::fill_complex(b, j, k);
+    let told = records::emit_crossed(out, at, c.id, m.id, cross_makers::net_against(m), k);
     let gone = removal::remove_of(b, c.id, Cause::Executed, out, told);
     removal::remove_of(b, m.id, Cause::Executed, out, gone)
 }
@@ -49,7 +49,7 @@ pub fn cross_all(b: &mut [u32], i: usize, out: &mut [u8], at: usize) -> usize
         if c.quantity == 0 {
             return pos;
         }
-        let found = candidates::first_cross(b, c);
+        let found = cross_makers::first_cross(b, c);
         let Pick::At(j, m) = found else {
             return pos;
         };
@@ -67,16 +67,16 @@ fn can_touch(b: &[u32], taken: Taken, c: Complex) -> bool
         return false;
     }
     let one = taken.first;
-    let first = prices::best_own(b, one.price, c.series1, figures::opposite_of(c.side1));
+    let first = prices::best_own(b, one.price, c.series1, arithmetic::opposite_of(c.side1));
     if first == 0 {
         return false;
     }
     let two = taken.second;
-    let second = prices::best_own(b, two.price, c.series2, figures::opposite_of(c.side2));
+    let second = prices::best_own(b, two.price, c.series2, arithmetic::opposite_of(c.side2));
     if second == 0 {
         return false;
     }
-    let net = figures::net_of(c.ratio1, c.side1, first, c.ratio2, c.side2, second);
+    let net = arithmetic::net_of(c.ratio1, c.side1, first, c.ratio2, c.side2, second);
     net <= limit_of(c)
 }
 
@@ -86,12 +86,12 @@ fn fills_unit(b: &[u32], taken: Taken, c: Complex) -> bool
     ensures { λ r. ⌜ r ≡ fillsUnit (venueOf (now (b .entry))) c ⌝ }
 {
     let one = taken.first;
-    let first = prices::own_size(b, one, c.series1, figures::opposite_of(c.side1));
+    let first = prices::own_size(b, one, c.series1, arithmetic::opposite_of(c.side1));
     if first < (c.ratio1 as u64) {
         return false;
     }
     let two = taken.second;
-    let second = prices::own_size(b, two, c.series2, figures::opposite_of(c.side2));
+    let second = prices::own_size(b, two, c.series2, arithmetic::opposite_of(c.side2));
     (c.ratio2 as u64) <= second
 }
 
@@ -118,7 +118,7 @@ pub fn touch(b: &mut [u32], i: usize, out: &mut [u8], at: usize) -> usize
         return at;
     }
     let cause = touch_cause(b, taken, c);
-    let one = figures::place_of(c.series1, figures::opposite_of(c.side1));
-    let two = figures::place_of(c.series2, figures::opposite_of(c.side2));
+    let one = arithmetic::place_of(c.series1, arithmetic::opposite_of(c.side1));
+    let two = arithmetic::place_of(c.series2, arithmetic::opposite_of(c.side2));
     removal::remove_at(b, one, two, cause, out, at)
 }

@@ -11,8 +11,8 @@ use Rattle.rules.specs.Bytes.{bytes}
 use Rattle.rules.specs.Calls.{one}
 use Rattle.records.specs.Seen.{Seen, seen, pasted}
 use Rattle.records.proofs.Writes.{plus-in}
-use Rattle.state.specs.Held.{rows}
-use Rattle.state.proofs.Rows.{Written, written-all, written-room, written-next}
+use Rattle.venue_bytes.specs.Held.{rows}
+use Rattle.venue_bytes.proofs.Rows.{Written, written-all, written-room, written-next}
 use Rattle.layer.specs.Layer.{Lane, freshLane, freshLayer}
 use Rattle.lanes.specs.Memory.{laneSize, lastAt, layerSize, laneBytes, layerBytes}
 use Rattle.dispatch.specs.Hosts.{replyOf, freshHeld}

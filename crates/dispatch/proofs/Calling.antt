@@ -16,7 +16,7 @@ use Rattle.rules.specs.Bytes.{u8At, u32At}
 use Rattle.rules.specs.Records.{sheet}
 use Rattle.rules.specs.Calls.{Call, called, ends}
 use Rattle.places.proofs.Tables.{upto-length}
-use Rattle.state.specs.Held.{venueSize, venueFrom}
+use Rattle.venue_bytes.specs.Held.{venueSize, venueFrom}
 use Rattle.engine.specs.Runs.{callOf}
 use Rattle.layer.specs.Layer.{Lane, Layer, laneAt, getsNine, layerSound, arrive, next, head, headCall, idle, serve, turn}
 use Rattle.layer.proofs.Ways.{ending, not-done, Did, does, turn-by}

@@ -66,7 +66,7 @@ fn call_head(lane: &[u8], report: &mut [u8]) -> Returned
     ensures { λ r. ⌜ callOf r (now (report .exit)) ≡ headCalled (now (lane .entry)) (length (now (report .entry))) ⌝ }
 {
     let end = lanes::VENUE;
-    let venue = state::venue_from(&lane[..end]);
+    let venue = venue_bytes::venue_from(&lane[..end]);
     let before = wire::u32_at(lane, lanes::DONE);
     let from = lanes::PLACES + 1;
     let to = from + wire::u8_at(lane, lanes::PLACES) as usize;

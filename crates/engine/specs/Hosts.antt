@@ -11,7 +11,7 @@ use Rattle.rules.specs.Words.{freshVenue}
 use Rattle.rules.specs.Bytes.{u32}
 use Rattle.rules.specs.Records.{FourBytes, sheet}
 use Rattle.rules.specs.Calls.{Call, one, settings}
-use Rattle.state.specs.Held.{venueSize, venueBytes, venueFrom}
+use Rattle.venue_bytes.specs.Held.{venueSize, venueBytes, venueFrom}
 use Rattle.sets.specs.Set.{ReadSet, writeSet, notRead, readSet}
 
 -- The first venue -----------------------------------------------------------------------------

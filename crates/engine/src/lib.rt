@@ -62,7 +62,7 @@ fn advance(t: Turn, head: Head, b: &mut [u32], messages: &[u8], report: &mut [u8
 pub fn run(messages: &[u8], report: &mut [u8]) -> Returned
     ensures { λ r. ⌜ callOf r (now (report .exit)) ≡ calls.run (length (now (report .entry))) (now (messages .entry)) ⌝ }
 {
-    let mut b = loading::fresh_numbers();
+    let mut b = venue_numbers::fresh_numbers();
     let mut t = Turn {
         number: 0,
         done: 0,

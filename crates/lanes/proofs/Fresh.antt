@@ -13,8 +13,8 @@ use Rattle.demands.proofs.Calls.{fresh-sound}
 use Rattle.wire.proofs.Numbers.{u8-drop, u32-here}
 use Rattle.places.specs.Layout.{upto}
 use Rattle.places.proofs.Tables.{upto-length, upto-at}
-use Rattle.state.specs.Held.{venueSize, venueBytes, venueFrom, rows, Sized}
-use Rattle.venue_bytes.proofs.Whole.{venue-length}
+use Rattle.venue_bytes.specs.Held.{venueSize, venueBytes, venueFrom, rows, Sized}
+use Rattle.venue_writer.proofs.Whole.{venue-length}
 use Rattle.engine.specs.Hosts.{freshHosted}
 use Rattle.engine.proofs.Hosting.{held-first}
 use Rattle.layer.specs.Layer.{Lane, Layer, freshLane, freshLayer, laneAt}

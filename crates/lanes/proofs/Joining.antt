@@ -14,7 +14,7 @@ use Rattle.wire.proofs.Numbers.{u8-drop}
 use Rattle.records.proofs.Writes.{pasted-length}
 use Rattle.places.specs.Layout.{upto}
 use Rattle.places.proofs.Tables.{upto-more, upto-same}
-use Rattle.state.specs.Held.{venueSize, venueFrom}
+use Rattle.venue_bytes.specs.Held.{venueSize, venueFrom}
 use Rattle.layer.specs.Layer.{Lane, waitSound, joins}
 use Rattle.lanes.specs.Memory.{doneAt, countAt, placesAt, placeSize, laneSize, placeFrom, laneFrom, placeBytes, joinedBytes}
 use Rattle.lanes.proofs.Bytes.{byte-below, byte-in, same-part}

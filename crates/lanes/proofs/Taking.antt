@@ -18,8 +18,8 @@ use Rattle.demands.specs.Kept.{Shaped}
 use Rattle.wire.proofs.Numbers.{u8-drop, u32-here}
 use Rattle.places.specs.Layout.{upto}
 use Rattle.places.proofs.Tables.{upto-at, upto-same}
-use Rattle.state.specs.Held.{venueSize, venueBytes, venueFrom}
-use Rattle.venue_bytes.proofs.Whole.{venue-length}
+use Rattle.venue_bytes.specs.Held.{venueSize, venueBytes, venueFrom}
+use Rattle.venue_writer.proofs.Whole.{venue-length}
 use Rattle.engine.specs.Hosts.{oneHosted, leaves}
 use Rattle.engine.proofs.Hosting.{held-shaped, held-next}
 use Rattle.layer.specs.Layer.{waitSound, head, headCall, advanced}

@@ -18,7 +18,7 @@ use Rattle.rules.proofs.Reading.{byte}
 use Rattle.records.specs.Seen.{Seen, seen, pasted, _plus_}
 use Rattle.wire.proofs.Numbers.{u8-drop, u32-here}
 use Rattle.records.proofs.Writes.{plus-in, pasted-length, pasted-to, pasted-above}
-use Rattle.state.specs.Held.{venueSize, venueBytes, venueFrom}
+use Rattle.venue_bytes.specs.Held.{venueSize, venueBytes, venueFrom}
 use Rattle.engine.specs.Runs.{callOf}
 use Rattle.layer.specs.Layer.{freshLane}
 use Rattle.lanes.specs.Memory.{doneAt, countAt, placesAt, placeSize, laneSize, placeFrom, placeBytes, laneBytes, joinedBytes, headCalled, venuePart, advancedBytes}

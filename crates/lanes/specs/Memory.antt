@@ -1,7 +1,7 @@
 -- The layer in lent memory: four lanes one after another, and then the venue served last u8. Each number is as in a message, little-endian.
 --
 --   of a lane, from
---           0   the venue, as a host holds one (crate state)
+--           0   the venue, as a host holds one (crate venue_bytes)
 --   venueSize   its messages done u32
 --         + 4   how many wait u8
 --         + 5   eight places of 33 bytes: a length u8 and 32 bytes; those in use come first, the head in front
@@ -17,7 +17,7 @@ use Rattle.rules.specs.Bytes.{u8At, u32At, u8, u32}
 use Rattle.rules.specs.Calls.{Call, one}
 use Rattle.records.specs.Seen.{pasted}
 use Rattle.places.specs.Layout.{upto}
-use Rattle.state.specs.Held.{venueSize, venueBytes, venueFrom, rows}
+use Rattle.venue_bytes.specs.Held.{venueSize, venueBytes, venueFrom, rows}
 use Rattle.layer.specs.Layer.{Lane, Layer}
 
 abbrev pub doneAt : ℕ

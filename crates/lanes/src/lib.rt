@@ -6,13 +6,13 @@ ghost use Prim.Native.Nat.{_+_, _-_, _≤_, _<_};
 ghost use lib.ListN.{length, take, drop, replicate};
 ghost use Rattle.rules.specs.Bytes.{u8At, u32At, u8, u32};
 ghost use Rattle.records.specs.Seen.{pasted};
-ghost use Rattle.state.specs.Held.{venueSize};
+ghost use Rattle.venue_bytes.specs.Held.{venueSize};
 ghost use Rattle.layer.specs.Layer.{freshLane, waitSound, next};
 ghost use Rattle.lanes.specs.Memory.{doneAt, countAt, placesAt, placeSize, laneSize, layerSize, laneFrom, layerFrom, placeBytes, laneBytes, joinedBytes, venuePart, advancedBytes};
 ghost use Rattle.lanes.specs.Checks.{laneSoundBut, layerSoundBut};
 
-// A venue's bytes, as crate state has them, and the numbers that it is laid out in to be checked, as crate places has them.
-pub const VENUE: usize = state::VENUE_SIZE;
+// A venue's bytes, as crate venue_bytes has them, and the numbers that it is laid out in to be checked, as crate places has them.
+pub const VENUE: usize = venue_bytes::VENUE_SIZE;
 
 const NUMBERS: usize = places::SIZE;
 
@@ -70,7 +70,7 @@ fn lane_sound(lane: &[u8], v: usize, but: usize) -> bool
         return true;
     }
     let end = VENUE;
-    let venue = state::venue_from(&lane[..end]);
+    let venue = venue_bytes::venue_from(&lane[..end]);
     let before = wire::u32_at(lane, DONE);
     let mut b = [0u32; NUMBERS];
     soundness::load_ready(&mut b, venue, before)
@@ -102,9 +102,9 @@ pub fn fresh_lane(lane: &mut [u8])
     requires { ⌜ length (now lane) ≡ laneSize ⌝ }
     ensures { λ _. ⌜ now (lane .exit) ≡ laneBytes freshLane ⌝ }
 {
-    let fresh = figures::fresh();
+    let fresh = arithmetic::fresh();
     let end = VENUE;
-    venue_bytes::put_venue(&mut lane[..end], fresh);
+    venue_writer::put_venue(&mut lane[..end], fresh);
     records::zero_from(lane, VENUE);
 }
 
@@ -160,7 +160,7 @@ fn put_after(lane: &mut [u8], number: u8, venue: Venue)
         return;
     }
     let end = VENUE;
-    venue_bytes::put_venue(&mut lane[..end], venue);
+    venue_writer::put_venue(&mut lane[..end], venue);
 }
 
 // One message more done.

@@ -20,7 +20,7 @@ use Rattle.rules.proofs.Sizes.{shows-rests, rests-series, rests-side}
 use Rattle.places.specs.declared.Level.{Level}
 use Rattle.places.specs.Layout.{size, upto, regularsUsed, complexesUsed, regularIn, regularKey, venueOf, levelOf, levelIn, isUnmarked, Marked, Right, Beside, SameBeside, LevelPut, Counts, SameCounts, Orderly, Below, Laid, Loaded, Loadable}
 use Rattle.places.proofs.Parts.{regulars-few, regulars-many, regular-at, regular-past}
-use Rattle.storing.proofs.Closed.{regulars-filled, complexes-filled}
+use Rattle.place_writes.proofs.Closed.{regulars-filled, complexes-filled}
 use Rattle.rules.proofs.Filling.{reg, fill-fewer, filled-other, filled-same}
 use Rattle.rules.proofs.Again.{again-at, again-fewer}
 use Rattle.rules.proofs.Showing.{again-same}

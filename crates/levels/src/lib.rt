@@ -85,7 +85,7 @@ fn with_order(l: Level, o: Regular) -> Level
     requires { ⌜ l .size ≤ 549755813760 ⌝ }
     ensures { λ r. ⌜ r ≡ withOrder o l ⌝ }
 {
-    let shown = figures::shown_of(o);
+    let shown = arithmetic::shown_of(o);
     if shown == 0 {
         return l;
     }
@@ -110,7 +110,7 @@ fn level_of(b: &[u32], s: u8, d: u8) -> Level
     requires { ⌜ (length (now b) ≡ size) × (s < 8) × (d < 2) ⌝ }
     ensures { λ r. ⌜ r ≡ levelOf s d (venueOf (now (b .entry)) .regular) ⌝ }
 {
-    let key = figures::place_of(s, d);
+    let key = arithmetic::place_of(s, d);
     let mut l = Level { price: 0, size: 0 };
     let mut i = places::regulars_used(b);
     while 0 < i {
@@ -132,7 +132,7 @@ fn clear_levels(b: &mut [u32])
     let none = Level { price: 0, size: 0 };
     let mut n: usize = 0;
     while n < 16 {
-        storing::put_level(b, n, none);
+        place_writes::put_level(b, n, none);
         n += 1;
     }
 }
@@ -149,7 +149,7 @@ fn make_levels(b: &mut [u32])
         let o = places::regular_at(b, i);
         let n = places::key_at(b, i);
         let l = places::level_at(b, n);
-        storing::put_level(b, n, with_order(l, o));
+        place_writes::put_level(b, n, with_order(l, o));
     }
 }
 
@@ -158,7 +158,7 @@ pub fn load(b: &mut [u32], v: Venue)
     requires { ⌜ (length (now b) ≡ size) × Loadable v ⌝ }
     ensures { λ _. ⌜ Loaded v (now (b .exit)) ⌝ }
 {
-    loading::load(b, v);
+    venue_numbers::load(b, v);
     make_levels(b);
 }
 
@@ -168,10 +168,10 @@ pub fn add_order(b: &mut [u32], o: Regular)
     ensures { λ _. ⌜ venueOf (now (b .exit)) ≡ putRegular (regularsUsed (now (b .entry))) o (venueOf (now (b .entry))) ⌝ }
     ensures counts { λ _. ⌜ Counts (suc (regularsUsed (now (b .entry)))) (complexesUsed (now (b .entry))) (now (b .entry)) (now (b .exit)) ⌝ }
 {
-    let n = figures::place_of(o.series, o.side);
+    let n = arithmetic::place_of(o.series, o.side);
     let l = places::level_at(b, n);
-    storing::add_regular(b, o);
-    storing::put_level(b, n, with_order(l, o));
+    place_writes::add_regular(b, o);
+    place_writes::put_level(b, n, with_order(l, o));
 }
 
 // The order at place i is filled for k contracts, what it shows first.
@@ -183,22 +183,22 @@ pub fn fill_order(b: &mut [u32], i: usize, k: u32)
     let o = places::regular_at(b, i);
     let n = places::key_at(b, i);
     let l = places::level_at(b, n);
-    storing::fill_regular(b, i, k);
+    place_writes::fill_regular(b, i, k);
     if o.price != l.price {
         return;
     }
-    let shown = figures::shown_of(o);
-    let gone = figures::lesser(k, shown) as u64;
+    let shown = arithmetic::shown_of(o);
+    let gone = arithmetic::lesser(k, shown) as u64;
     if gone < l.size {
         let rest = Level {
             price: l.price,
             size: l.size - gone,
         };
-        storing::put_level(b, n, rest);
+        place_writes::put_level(b, n, rest);
         return;
     }
     let anew = level_of(b, o.series, o.side);
-    storing::put_level(b, n, anew);
+    place_writes::put_level(b, n, anew);
 }
 
 // Each order shows again. Without the mark each already shows what it should.
@@ -210,7 +210,7 @@ pub fn show_again(b: &mut [u32])
     if places::is_unmarked(b) {
         return;
     }
-    storing::show_again(b);
+    place_writes::show_again(b);
     make_levels(b);
 }
 
@@ -221,7 +221,7 @@ pub fn best_regular(b: &[u32], s: u8, d: u8) -> u32
     requires { ⌜ (length (now b) ≡ size) × (Right (now b)) × (s < 8) × (d < 2) ⌝ }
     ensures { λ r. ⌜ r ≡ bestRegular (venueOf (now (b .entry))) s d ⌝ }
 {
-    let l = places::level_at(b, figures::place_of(s, d));
+    let l = places::level_at(b, arithmetic::place_of(s, d));
     l.price
 }
 
@@ -263,11 +263,11 @@ pub fn taken_at(b: &[u32], c: Complex) -> Taken
 {
     let first = places::level_at(
         b,
-        figures::place_of(c.series1, figures::opposite_of(c.side1)),
+        arithmetic::place_of(c.series1, arithmetic::opposite_of(c.side1)),
     );
     let second = places::level_at(
         b,
-        figures::place_of(c.series2, figures::opposite_of(c.side2)),
+        arithmetic::place_of(c.series2, arithmetic::opposite_of(c.side2)),
     );
     Taken { first, second }
 }
@@ -278,7 +278,7 @@ pub fn sides_at(b: &[u32], c: Complex, s: u8, d: u8) -> LegSides
     ensures { λ r. ⌜ SidesOf r c s d (venueOf (now (b .entry)) .regular) ⌝ }
 {
     let own = best_regular(b, s, d);
-    let facing = best_regular(b, s, figures::opposite_of(d));
+    let facing = best_regular(b, s, arithmetic::opposite_of(d));
     let taken = taken_at(b, c);
     LegSides { own, facing, taken }
 }

@@ -15,7 +15,7 @@ ghost use Rattle.records.specs.Stage.{stage, _does_};
 ghost use Rattle.places.specs.Layout.{size, regularsUsed, complexesUsed, venueOf, Right, Below, Counts, SameCounts, Dense};
 ghost use Rattle.matching.specs.Turns.{turnOf, InUse};
 use book::Pick;
-use figures::lesser;
+use arithmetic::lesser;
 use rules::Legging;
 use rules::Regular;
 
@@ -46,7 +46,7 @@ fn legging_first(o: Regular, l: Legging, p: u32) -> bool
     if !levels::reaches_price(o.side, o.price, own) {
         return false;
     }
-    levels::is_better(figures::opposite_of(o.side), own, p)
+    levels::is_better(arithmetic::opposite_of(o.side), own, p)
 }
 
 // The legging order that one of a side in a series faces.
@@ -54,7 +54,7 @@ fn facing(b: &[u32], series: u8, side: u8) -> Legging
     requires { ⌜ (length (now b) ≡ size) × (series < 8) ⌝ }
     ensures { λ r. ⌜ r ≡ leggingAt (venueOf (now (b .entry))) series (opposite side) ⌝ }
 {
-    let n = figures::place_of(series, figures::opposite_of(side));
+    let n = arithmetic::place_of(series, arithmetic::opposite_of(side));
     places::legging_at(b, n)
 }
 
@@ -62,7 +62,7 @@ fn facing(b: &[u32], series: u8, side: u8) -> Legging
 fn at_once(m: Regular) -> u32
     ensures { λ r. ⌜ r ≡ atOnce m ⌝ }
 {
-    let size = figures::shown_of(m);
+    let size = arithmetic::shown_of(m);
     if size == 0 {
         return m.quantity;
     }

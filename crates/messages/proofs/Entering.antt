@@ -14,7 +14,7 @@ use Rattle.rules.specs.Step.{setFigure}
 use Rattle.rules.proofs.Finding.{where-passes}
 use Rattle.places.specs.Layout.{editionIn, venueOf}
 use Rattle.places.proofs.Tables.{upto-at}
-use Rattle.storing.proofs.Figures.{editions-many}
+use Rattle.place_writes.proofs.Figures.{editions-many}
 
 pub place-free : (b : List ℕ) (i : ℕ) → i ≡ freeEdition (venueOf b) → freeEdition (venueOf b) < 32 → holdsEdition (editionIn b i) ≡ false
 unfolding freeEdition

@@ -37,7 +37,7 @@ use Rattle.wire.specs.Brought.{Shows}
 use Rattle.records.proofs.Writes.{answer-last}
 use Rattle.records.proofs.Stages.{does-nothing, follow, stage-venue, stage-written}
 use Rattle.places.specs.Layout.{regularsUsed, complexesUsed, venueOf, Below, SameCounts, Dense}
-use Rattle.storing.proofs.Closed.{dense-regular, dense-complex, dense-kept}
+use Rattle.place_writes.proofs.Closed.{dense-regular, dense-complex, dense-kept}
 use Rattle.book.proofs.Masks.{ones-mask}
 use Rattle.messages.specs.declared.Stepped.{Stepped}
 use Rattle.messages.specs.Steps.{answeredBy, Steps}

@@ -40,8 +40,8 @@ fn set_away(b: &mut [u32], s: u8, bid: u32, offer: u32, out: &mut [u8], at: usiz
 {
     let status = prices::status_of(b, s);
     let x = Listed { status, bid, offer };
-    storing::put_listed(b, s as usize, x);
-    standing::settle_all(b, out, at)
+    place_writes::put_listed(b, s as usize, x);
+    settling::settle_all(b, out, at)
 }
 
 // A series' status anew; then settling.
@@ -56,8 +56,8 @@ fn set_status(b: &mut [u32], s: u8, status: u8, out: &mut [u8], at: usize) -> us
         bid: old.bid,
         offer: old.offer,
     };
-    storing::put_listed(b, s as usize, x);
-    standing::settle_all(b, out, at)
+    place_writes::put_listed(b, s as usize, x);
+    settling::settle_all(b, out, at)
 }
 
 // A figure's edition, entered by the message of this number at the first free place; then settling.
@@ -81,8 +81,8 @@ fn set_figure(
         figure: f,
         value: x,
     };
-    storing::put_edition(b, i, e);
-    standing::settle_all(b, out, at)
+    place_writes::put_edition(b, i, e);
+    settling::settle_all(b, out, at)
 }
 
 // An order arrives, and its id is the last accepted.
@@ -91,8 +91,8 @@ fn enter_order(b: &mut [u32], o: Regular, out: &mut [u8], at: usize) -> usize
     ensures { λ r. ⌜ stage (venueOf (now (b .exit))) (now (out .exit)) r ≡ seen (now (out .entry)) at does order o (withLast (venueOf (now (b .entry))) (o .id)) ⌝ }
     ensures right { λ _. ⌜ Right (now (b .exit)) ⌝ }
 {
-    storing::put_last(b, o.id);
-    complexes::order(b, o, out, at)
+    place_writes::put_last(b, o.id);
+    orders::order(b, o, out, at)
 }
 
 // A complex order arrives by the message of this number, and its id is the last accepted.
@@ -101,8 +101,8 @@ fn enter_complex(b: &mut [u32], number: u32, c: Complex, out: &mut [u8], at: usi
     ensures { λ r. ⌜ stage (venueOf (now (b .exit))) (now (out .exit)) r ≡ seen (now (out .entry)) at does complex number c (withLast (venueOf (now (b .entry))) (c .id)) ⌝ }
     ensures right { λ _. ⌜ Right (now (b .exit)) ⌝ }
 {
-    storing::put_last(b, c.id);
-    complexes::complex_order(b, number, c, out, at)
+    place_writes::put_last(b, c.id);
+    orders::complex_order(b, number, c, out, at)
 }
 
 // What a new setting that is not refused does, and a limited sweep.
@@ -130,7 +130,7 @@ fn perform(b: &mut [u32], number: u32, m: Message, out: &mut [u8], at: usize) ->
     ensures { λ r. ⌜ stage (venueOf (now (b .exit))) (now (out .exit)) r ≡ seen (now (out .entry)) at does step.perform number m (venueOf (now (b .entry))) ⌝ }
     ensures right { λ _. ⌜ Right (now (b .exit)) ⌝ }
 {
-    let form = figures::message_form(m);
+    let form = arithmetic::message_form(m);
     if 6 < form {
         return perform_later(b, number, m, out, at);
     }
@@ -138,7 +138,7 @@ fn perform(b: &mut [u32], number: u32, m: Message, out: &mut [u8], at: usize) ->
         return match m {
             Message::Order(o) => enter_order(b, o, out, at),
             Message::TwoLeg(c) => enter_complex(b, number, c, out, at),
-            Message::Cancel(id) => complexes::cancel(b, id, out, at),
+            Message::Cancel(id) => orders::cancel(b, id, out, at),
             _ => at,
         };
     }
@@ -156,7 +156,7 @@ fn accept(b: &mut [u32], number: u32, m: Message, out: &mut [u8], at: usize) -> 
     ensures dense { λ _. ⌜ Dense (now (b .exit)) ⌝ }
 {
     let end = perform(b, number, m, out, at);
-    storing::close_gaps(b);
+    place_writes::close_gaps(b);
     end
 }
 

@@ -1,4 +1,4 @@
-// The venue inside a call: numbers in one lent slice (specs/Layout.antt), as they are read. Only this crate, storing and loading know the layout: the others
+// The venue inside a call: numbers in one lent slice (specs/Layout.antt), as they are read. Only this crate, place_writes and venue_numbers know the layout: the others
 // read and write places, and speak of the venue that the numbers stand for.
 ghost use mathlib.Core.Path.{_≡_};
 ghost use Prim.Native.Nat.{min, _-_, _≤_, _<_};
@@ -66,8 +66,8 @@ pub fn regular_at(b: &[u32], i: usize) -> Regular
 {
     let place = b[4 * i + 1];
     let quantity = b[4 * i + 3];
-    let display = figures::lesser(b[2 * i + 976], quantity);
-    let reserve = figures::lesser(b[2 * i + 975], quantity);
+    let display = arithmetic::lesser(b[2 * i + 976], quantity);
+    let reserve = arithmetic::lesser(b[2 * i + 975], quantity);
     Regular {
         id: b[4 * i],
         series: (place % 16 / 2) as u8,

@@ -25,14 +25,14 @@ pub fn sides_of(g: [[Level; 2]; 8], c: Complex, s: u8, d: u8) -> LegSides
     ensures { λ r. ⌜ r ≡ sidesIn g c s d ⌝ }
 {
     let s1 = c.series1 as usize;
-    let d1 = figures::opposite_of(c.side1) as usize;
+    let d1 = arithmetic::opposite_of(c.side1) as usize;
     let s2 = c.series2 as usize;
-    let d2 = figures::opposite_of(c.side2) as usize;
+    let d2 = arithmetic::opposite_of(c.side2) as usize;
     let first = g[s1][d1];
     let second = g[s2][d2];
     let i = s as usize;
     let j = d as usize;
-    let k = figures::opposite_of(d) as usize;
+    let k = arithmetic::opposite_of(d) as usize;
     let own = g[i][j];
     let facing = g[i][k];
     let taken = Taken { first, second };
@@ -48,7 +48,7 @@ pub fn own_price(b: &[u32], s: u8, d: u8) -> u32
     requires { ⌜ (length (now b) ≡ size) × (s < 8) × (d < 2) ⌝ }
     ensures { λ r. ⌜ r ≡ ownPrice (leggingAt (venueOf (now (b .entry))) s d) ⌝ }
 {
-    let l = places::legging_at(b, figures::place_of(s, d));
+    let l = places::legging_at(b, arithmetic::place_of(s, d));
     if l.quantity == 0 {
         return 0;
     }
@@ -69,7 +69,7 @@ pub fn own_size(b: &[u32], level: Level, s: u8, d: u8) -> u64
     requires { ⌜ (length (now b) ≡ size) × (level ≡ levelOf s d (venueOf (now b) .regular)) × (s < 8) × (d < 2) ⌝ }
     ensures { λ r. ⌜ r ≡ ownSize (venueOf (now (b .entry))) s d ⌝ }
 {
-    let l = places::legging_at(b, figures::place_of(s, d));
+    let l = places::legging_at(b, arithmetic::place_of(s, d));
     if l.quantity == 0 {
         return level.size;
     }
@@ -122,17 +122,17 @@ pub fn in_band(b: &[u32], taken: Taken, c: Complex, t: i64) -> bool
     ensures { λ r. ⌜ r ≡ inBand (venueOf (now (b .entry))) c t ⌝ }
 {
     let one = taken.first;
-    let first = market_best(b, one.price, c.series1, figures::opposite_of(c.side1));
+    let first = market_best(b, one.price, c.series1, arithmetic::opposite_of(c.side1));
     if first == 0 {
         return false;
     }
     let two = taken.second;
-    let second = market_best(b, two.price, c.series2, figures::opposite_of(c.side2));
+    let second = market_best(b, two.price, c.series2, arithmetic::opposite_of(c.side2));
     if second == 0 {
         return false;
     }
-    let o = figures::net_of(c.ratio1, c.side1, first, c.ratio2, c.side2, second);
-    figures::near_net(places::figure_at(b, 8), o, t)
+    let o = arithmetic::net_of(c.ratio1, c.side1, first, c.ratio2, c.side2, second);
+    arithmetic::near_net(places::figure_at(b, 8), o, t)
 }
 
 // A series' increment in force. It is not 0.

@@ -191,7 +191,7 @@ pub fn emit_removed(out: &mut [u8], at: usize, id: u32, series: u8, side: u8, ca
     ensures { λ r. ⌜ seen (now (out .exit)) r ≡ seen (now (out .entry)) at writes (removed id series side cause ∷ []) ⌝ }
 {
     let i = bytes4(id);
-    let why = figures::cause_number(cause);
+    let why = arithmetic::cause_number(cause);
     let record = [11u8, 0, 68, 0, i[0], i[1], i[2], i[3], series, side, why];
     put(out, at, &record)
 }

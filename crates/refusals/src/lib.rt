@@ -222,7 +222,7 @@ pub fn refusal_of(b: &[u32], m: Message) -> u8
     requires { ⌜ (length (now b) ≡ size) × (Dense (now b)) × (wellFormed m ≡ true) ⌝ }
     ensures { λ r. ⌜ r ≡ refusalOf (venueOf (now (b .entry))) m ⌝ }
 {
-    let form = figures::message_form(m);
+    let form = arithmetic::message_form(m);
     if 6 < form {
         return later_refusal(b, m);
     }

@@ -29,7 +29,7 @@ fn clear(b: &mut [u32], n: usize, cause: Cause, out: &mut [u8], at: usize) -> us
         price: 0,
         quantity: 0,
     };
-    storing::put_legging(b, n, none);
+    place_writes::put_legging(b, n, none);
     records::emit_removed(out, at, l.parent, (n / 2) as u8, (n % 2) as u8, cause)
 }
 

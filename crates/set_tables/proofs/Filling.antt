@@ -14,11 +14,11 @@ use Rattle.rules.specs.Bytes.{lengthField, kindField, u8At, u16At}
 use Rattle.rules.specs.Refusals.{torn}
 use Rattle.sets.specs.Set.{Held, broken, row, behind, heldFrom, heldIn, countOf, places, setLength}
 use Rattle.sets.proofs.Rows.{Well, AllWell, held-out}
-use Rattle.set_order.specs.declared.Front.{Front}
-use Rattle.set_order.specs.declared.Front.the-variants.{End, Broken, Record}
-use Rattle.set_order.specs.Order.{frontOf, oneIf}
+use Rattle.set_check.specs.declared.Front.{Front}
+use Rattle.set_check.specs.declared.Front.the-variants.{End, Broken, Record}
+use Rattle.set_check.specs.Order.{frontOf, oneIf}
 use Rattle.set_tables.specs.Told.{rowIn, Taken}
-use Rattle.set_order.proofs.Walks.{InFront, in-front, held-ended, held-broken}
+use Rattle.set_check.proofs.Walks.{InFront, in-front, held-ended, held-broken}
 use Rattle.set_tables.proofs.Ordered.{count-more}
 
 -- Walking -------------------------------------------------------------------------------------

@@ -13,9 +13,9 @@ use Rattle.rules.specs.Bytes.{u8At, kindField}
 use Rattle.rules.proofs.Tests.{and-in, and-l, and-r, and-false, or-false-l, or-false-r}
 use Rattle.sets.specs.Set.{part, mark, generationTold, mayFollow, inOrder, countOf, ofSeries, fewEnough, ofWhole, ofShort, seriesThen, isSet, tellsEdition, tellsRegular, tellsComplex, tellsLegging, tellsGeneration}
 use Rattle.sets.proofs.Parts.{sort, sort-of, whether}
-use Rattle.set_order.specs.declared.Standing.{Standing}
-use Rattle.set_order.specs.Order.{opening, noneRead, opens, ofThis, sameSeries, mayStand, isNext, oneIf, nextStage, isWhole, runWith, onward, few, goesOn}
-use Rattle.set_order.proofs.Looks.{Few, few-in, few-out}
+use Rattle.set_check.specs.declared.Standing.{Standing}
+use Rattle.set_check.specs.Order.{opening, noneRead, opens, ofThis, sameSeries, mayStand, isNext, oneIf, nextStage, isWhole, runWith, onward, few, goesOn}
+use Rattle.set_check.proofs.Looks.{Few, few-in, few-out}
 
 -- two tests that follow from each other are equal
 same-test : (a b : Bool) → (a ≡ true → b ≡ true) → (b ≡ true → a ≡ true) → a ≡ b

@@ -22,7 +22,7 @@ use rules::Venue;
 fn shown_of(r: &[u8]) -> u32
     ensures { λ n. ⌜ n ≡ regularTold (now (r .entry)) .display ⌝ }
 {
-    if set_order::kind_of(r) == 9 {
+    if set_check::kind_of(r) == 9 {
         return wire::u32_at(r, 18);
     }
     wire::u32_at(r, 14)
@@ -39,7 +39,7 @@ fn complex_told(r: &[u8]) -> Complex
     requires { ⌜ 21 ≤ length (now r) ⌝ }
     ensures { λ o. ⌜ o ≡ complexTold (now (r .entry)) ⌝ }
 {
-    if set_order::kind_of(r) == 10 {
+    if set_check::kind_of(r) == 10 {
         return wire::two_leg_at(r, wire::u8_at(r, 21), wire::u8_at(r, 22));
     }
     wire::two_leg_at(r, 1, 1)
@@ -48,7 +48,7 @@ fn complex_told(r: &[u8]) -> Complex
 fn edition_told(r: &[u8]) -> Edition
     ensures { λ e. ⌜ e ≡ editionTold (now (r .entry)) ⌝ }
 {
-    if set_order::kind_of(r) == 8 {
+    if set_check::kind_of(r) == 8 {
         return Edition {
             edition: wire::u32_at(r, 5),
             message: wire::u32_at(r, 9),
@@ -114,7 +114,7 @@ fn regulars_told(memory: &[u8]) -> [Regular; 128]
         let from = at;
         at = from + size;
         size = size_at(memory, at);
-        if !set_order::tells_regular(&memory[from..at]) {
+        if !set_check::tells_regular(&memory[from..at]) {
             continue;
         }
         let o = regular_told(&memory[from..at]);
@@ -148,7 +148,7 @@ fn complexes_told(memory: &[u8]) -> [Complex; 32]
         let from = at;
         at = from + size;
         size = size_at(memory, at);
-        if !set_order::tells_complex(&memory[from..at]) {
+        if !set_check::tells_complex(&memory[from..at]) {
             continue;
         }
         let c = complex_told(&memory[from..at]);
@@ -176,7 +176,7 @@ fn editions_told(memory: &[u8]) -> [Edition; 32]
         let from = at;
         at = from + size;
         size = size_at(memory, at);
-        if !set_order::tells_edition(&memory[from..at]) {
+        if !set_check::tells_edition(&memory[from..at]) {
             continue;
         }
         let e = edition_told(&memory[from..at]);
@@ -202,10 +202,10 @@ fn leggings_told(memory: &[u8]) -> [Legging; 16]
         let from = at;
         at = from + size;
         size = size_at(memory, at);
-        if !set_order::tells_legging(&memory[from..at]) {
+        if !set_check::tells_legging(&memory[from..at]) {
             continue;
         }
-        let n = set_order::place_of(&memory[from..at]) as usize;
+        let n = set_check::place_of(&memory[from..at]) as usize;
         let x = legging_told(&memory[from..at]);
         l[n] = x;
     }
@@ -262,12 +262,12 @@ fn generations_told(memory: &[u8]) -> [Generations; 8]
         let from = at;
         at = from + size;
         size = size_at(memory, at);
-        if !set_order::tells_generation(&memory[from..at]) {
+        if !set_check::tells_generation(&memory[from..at]) {
             continue;
         }
         let s = wire::u8_at(&memory[from..at], 4) as usize;
         let g = l[s];
-        let h = one_more(g, set_order::told_of(&memory[from..at]));
+        let h = one_more(g, set_check::told_of(&memory[from..at]));
         l[s] = h;
     }
     l
@@ -284,7 +284,7 @@ fn reached_told(memory: &[u8]) -> u32
         let from = at;
         at = from + size;
         size = size_at(memory, at);
-        if set_order::kind_of(&memory[from..at]) == 84 {
+        if set_check::kind_of(&memory[from..at]) == 84 {
             return wire::u32_at(&memory[from..at], 4);
         }
     }

@@ -22,7 +22,7 @@ use Rattle.demands.specs.Kept.{SoundAt}
 use Rattle.demands.specs.Most.{most}
 use Rattle.demands.proofs.Calls.{fresh-sound, kept, step-fits}
 use Rattle.demands.proofs.Most.{writes-at-most}
-use Rattle.lines.specs.Lines.{lineOf, textOf}
+use Rattle.text.specs.Lines.{lineOf, textOf}
 use Rattle.sheet.specs.Sheet.{AnyMemory, left, sheetText, started, textFrom}
 
 pub text-append : (a b : List Report) → textOf (a ++ b) ≡ textOf a ++ textOf b

@@ -14,7 +14,7 @@ use Rattle.rules.specs.Records.{records}
 use Rattle.rules.specs.Calls.{run, runFrom}
 use Rattle.demands.specs.Kept.{SoundAt}
 use Rattle.demands.specs.Most.{most}
-use Rattle.lines.specs.Lines.{textOf}
+use Rattle.text.specs.Lines.{textOf}
 use Rattle.sheet.specs.declared.Progress.{Progress}
 
 abbrev pub mostInput : ℕ

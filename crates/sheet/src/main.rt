@@ -20,7 +20,7 @@ struct Progress {
 fn start() -> Progress
     ensures { λ r. ⌜ r ≡ started ⌝ }
 {
-    let venue = figures::fresh();
+    let venue = arithmetic::fresh();
     Progress {
         number: 0,
         done: 0,
@@ -49,7 +49,7 @@ fn advance(p: Progress, messages: &[u8], report: &mut [u8], text: &mut [u8]) -> 
     let venue = p.venue;
     let rest = &messages[at..];
     let r = engine::one_message(venue, p.done, rest, report);
-    let written = lines::put_sheet(text, 0, report);
+    let written = text::put_sheet(text, 0, report);
     let number = r.number;
     let after = r.venue;
     Progress {

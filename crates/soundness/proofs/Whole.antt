@@ -20,11 +20,11 @@ use Rattle.rules.proofs.Arranging.{arranged-out, blank-is, blank-free, blank-fr
 use Rattle.rules.proofs.Editions.{Stepped, dated-steps}
 use Rattle.places.proofs.Orderly.{range-priced, range-displayed}
 use Rattle.places.proofs.Fully.{range-bounded}
-use Rattle.loading.proofs.Loaded.{regular-side, complex-sides, editions-dated}
+use Rattle.venue_numbers.proofs.Loaded.{regular-side, complex-sides, editions-dated}
 use Rattle.places.specs.Layout.{Fully, Loadable, Loaded, venueOf}
-use Rattle.alone.specs.Checked.{askedRegular, regularsFrom, keptSound, placesSound}
+use Rattle.sound_places.specs.Checked.{askedRegular, regularsFrom, keptSound, placesSound}
 use Rattle.soundness.specs.Checked.{pricedOn, onIncrements, eight, ordersSound, Checked}
-use Rattle.alone.proofs.Passes.{arranged-split, and-assoc}
+use Rattle.sound_places.proofs.Passes.{arranged-split, and-assoc}
 
 -- Loading -------------------------------------------------------------------------------------
 

@@ -193,7 +193,7 @@ fn legging_sound(b: &[u32], g: [[Level; 2]; 8], n: usize) -> bool
     if !has_home(b, l, (n / 2) as u8, (n % 2) as u8) {
         return false;
     }
-    let Verdict::Stands = standing::judge(b, g, n) else {
+    let Verdict::Stands = settling::judge(b, g, n) else {
         return false;
     };
     true
@@ -236,7 +236,7 @@ pub fn load_sound(b: &mut [u32], v: Venue) -> bool
     requires { ⌜ length (now b) ≡ size ⌝ }
     ensures { λ r. ⌜ Checked v r (now (b .exit)) ⌝ }
 {
-    if !alone::places_sound(v) {
+    if !sound_places::places_sound(v) {
         return false;
     }
     levels::load(b, v);

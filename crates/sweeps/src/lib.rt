@@ -29,7 +29,7 @@ fn work_each(b: &mut [u32], out: &mut [u8], at: usize) -> usize
         if c.quantity == 0 {
             continue;
         }
-        pos = working::work(b, i, out, pos);
+        pos = work::work(b, i, out, pos);
     }
     pos
 }
@@ -50,7 +50,7 @@ fn generate_each(b: &mut [u32], number: u32, out: &mut [u8], at: usize) -> usize
         if c.quantity == 0 {
             continue;
         }
-        pos = legging::generate_order(b, number, i, out, pos);
+        pos = generation::generate_order(b, number, i, out, pos);
     }
     pos
 }
@@ -62,7 +62,7 @@ pub fn sweep(b: &mut [u32], number: u32, out: &mut [u8], at: usize) -> usize
     ensures counts { λ _. ⌜ SameCounts (now (b .entry)) (now (b .exit)) ⌝ }
 {
     let worked = work_each(b, out, at);
-    let settled = standing::settle_all(b, out, worked);
+    let settled = settling::settle_all(b, out, worked);
     generate_each(b, number, out, settled)
 }
 
@@ -154,7 +154,7 @@ fn work_places(b: &mut [u32], first: usize, count: usize, out: &mut [u8], at: us
     let mut pos = at;
     let mut k: usize = 0;
     while k < count {
-        pos = working::work(b, first + k, out, pos);
+        pos = work::work(b, first + k, out, pos);
         k += 1;
     }
     pos
@@ -176,7 +176,7 @@ fn generate_places(
     let mut pos = at;
     let mut k: usize = 0;
     while k < count {
-        pos = legging::generate_order(b, number, first + k, out, pos);
+        pos = generation::generate_order(b, number, first + k, out, pos);
         k += 1;
     }
     pos
@@ -213,10 +213,10 @@ pub fn limited_sweep(b: &mut [u32], number: u32, n: u8, out: &mut [u8], at: usiz
     let round = round_of(b, n);
     let looked = (round.above + round.others) as u8;
     let id = last_looked(b, round);
-    storing::put_reached(b, id);
+    place_writes::put_reached(b, id);
     let told = records::emit_looked(out, at, looked);
     let worked = work_round(b, round, out, told);
-    let settled = standing::settle_all(b, out, worked);
+    let settled = settling::settle_all(b, out, worked);
     let end = generate_round(b, number, round, out, settled);
     Swept { at: end, looked }
 }

@@ -61,7 +61,7 @@ pub fn take(
     ensures { λ r. ⌜ stage (venueOf (now (b .exit))) (now (out .exit)) r ≡ seen (now (out .entry)) at does trading.take quantity taker series side price quantity (venueOf (now (b .entry))) ⌝ }
     ensures counts { λ _. ⌜ SameCounts (now (b .entry)) (now (b .exit)) ⌝ }
 {
-    let other = figures::opposite_of(side);
+    let other = arithmetic::opposite_of(side);
     let mut pos = at;
     let mut left = quantity;
     while 0 < left {
@@ -69,7 +69,7 @@ pub fn take(
         let Pick::At(j, m) = found else {
             return pos;
         };
-        let k = at_most(figures::shown_of(m), left);
+        let k = at_most(arithmetic::shown_of(m), left);
         pos = trade_with(b, taker, side, j, k, out, pos);
         left -= k as u64;
     }
@@ -85,7 +85,7 @@ fn fill_pair(b: &mut [u32], i: usize, k: u32)
     if places::complexes_used(b) <= i {
         return;
     }
-    storing::fill_complex(b, i, k);
+    place_writes::fill_complex(b, i, k);
 }
 
 // The complex order of this id, at place i, pairs k units at a net; its legging orders go.
@@ -123,10 +123,10 @@ fn pairing_of(b: &[u32], l: Legging, series: u8, side: u8) -> Pairing
 {
     let c = prices::parent_of(b, l);
     let leg = prices::other_leg(c, series);
-    let other = figures::opposite_of(leg.side);
+    let other = arithmetic::opposite_of(leg.side);
     let best = levels::best_regular(b, leg.series, other);
     let clear = prices::clear_price(b, best, leg.series, other);
-    let net = figures::net_of(1, figures::opposite_of(side), l.price, 1, leg.side, clear);
+    let net = arithmetic::net_of(1, arithmetic::opposite_of(side), l.price, 1, leg.side, clear);
     Pairing {
         id: c.id,
         series: leg.series,
@@ -192,7 +192,7 @@ pub fn cancel_complex(b: &mut [u32], i: usize, out: &mut [u8], at: usize) -> usi
     ensures counts { λ _. ⌜ SameCounts (now (b .entry)) (now (b .exit)) ⌝ }
 {
     let c = places::complex_at(b, i);
-    storing::fill_complex(b, i, c.quantity);
+    place_writes::fill_complex(b, i, c.quantity);
     let pos = records::emit_cancelled(out, at, c.id, c.quantity);
     removal::remove_of(b, c.id, Cause::Withdrawn, out, pos)
 }

@@ -306,7 +306,7 @@ fn far_of(kind: u16) -> u32
 fn in_range(kind: u16, m: Message) -> bool
     ensures { λ r. ⌜ r ≡ inRange kind m ⌝ }
 {
-    let form = figures::message_form(m);
+    let form = arithmetic::message_form(m);
     if 6 < form {
         return later_in_range(m);
     }
@@ -441,7 +441,7 @@ pub fn decode(s: &[u8]) -> Decoded
     if 11 < kind {
         return Decoded::Refused(2);
     }
-    if size != figures::length_of(kind) {
+    if size != arithmetic::length_of(kind) {
         return Decoded::Refused(3);
     }
     let m = message_of(s);

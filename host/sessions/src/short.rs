@@ -12,7 +12,7 @@ pub const MOST_MESSAGES: usize = 12;
 /// The most messages of a session.
 pub const MOST_LENGTH: usize = 3;
 
-/// The fixed list, which the proved program, crates/short, has.
+/// The fixed list, which the proved program, crates/short_sheets, has.
 pub const FIXED: &str = include_str!("short.txt");
 
 /// The messages of a list's text, each in bytes. An error names the line, or what is

@@ -1,4 +1,4 @@
-//! The file that the proved program, crates/short, is compared with in the gate: what it holds is
+//! The file that the proved program, crates/short_sheets, is compared with in the gate: what it holds is
 //! the reference's.
 //!
 //! With STORE set it is written anew: `STORE=1 cargo test -p venue --test short`.
@@ -12,7 +12,7 @@ const SESSIONS: usize = 1_885;
 const LINES: usize = 7_860;
 
 fn stored() -> PathBuf {
-    Path::new(env!("CARGO_MANIFEST_DIR")).join("../../crates/short/stdout")
+    Path::new(env!("CARGO_MANIFEST_DIR")).join("../../crates/short_sheets/stdout")
 }
 
 /// A line of places: a record's line begins with its kind, which is no place.

@@ -10,9 +10,9 @@ use Rattle.crossing.proofs.cross.Statement.{statement}
 use Rattle.crossing.proofs.cross.Tie as tie
 use Rattle.crossing.proofs.cross.Reads as reads
 use Rattle.crossing.proofs.cross.Lts as lts
-use Rattle.candidates.proofs.net_against.Reads as net-against-reads
+use Rattle.cross_makers.proofs.net_against.Reads as net-against-reads
 use Rattle.places.proofs.complex_at.Reads as complex-at-reads
-use Rattle.storing.proofs.fill_complex.Reads as fill-complex-reads
+use Rattle.place_writes.proofs.fill_complex.Reads as fill-complex-reads
 use Rattle.removal.proofs.remove_of.Reads as remove-of-reads
 use Rattle.records.proofs.emit_crossed.Reads as emit-crossed-reads
 

@@ -10,7 +10,7 @@ use Rattle.places.specs.Layout.{venueOf}
 use Rattle.places.proofs.Parts.{complexes-few, complex-at}
 use Rattle.levels.specs.Grid.{LegsIn}
 use Rattle.prices.proofs.Prices.{legs-in}
-use Rattle.candidates.specs.Picks.{pickedOf}
+use Rattle.cross_makers.specs.Picks.{pickedOf}
 use Rattle.crossing.proofs.Turns.{cross-idle, cross-nobody, cross-some, picked-used}
 use borrow.Author.Needs.{needs}
 use Rattle.crossing.proofs.cross_all.Statement.{statement}
@@ -18,7 +18,7 @@ use Rattle.crossing.proofs.cross_all.Tie as tie
 use Rattle.crossing.proofs.cross_all.Reads as reads
 use Rattle.crossing.proofs.cross_all.Lts as lts
 use Rattle.crossing.proofs.cross.Reads as cross-reads
-use Rattle.candidates.proofs.first_cross.Reads as first-cross-reads
+use Rattle.cross_makers.proofs.first_cross.Reads as first-cross-reads
 use Rattle.places.proofs.complex_at.Reads as complex-at-reads
 
 abbrev Inv-loop : tie.InvT-loop

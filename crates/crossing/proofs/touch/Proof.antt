@@ -4,7 +4,7 @@ use native.Mathlib.Omega.{arith}
 use Rattle.places.proofs.Parts.{complexes-few, complex-at}
 use Rattle.levels.specs.Grid.{LegsIn}
 use Rattle.prices.proofs.Prices.{legs-in}
-use Rattle.candidates.proofs.Candidates.{off, on}
+use Rattle.cross_makers.proofs.Candidates.{off, on}
 use Rattle.crossing.proofs.Touches.{touch-not, touch-both}
 use borrow.Author.Needs.{needs}
 use Rattle.crossing.proofs.touch.Statement.{statement}

@@ -5,7 +5,7 @@ use lib.ListN.{take, drop}
 use lib.Seq.{length-take-le}
 use native.Mathlib.Omega.{arith}
 use borrow.Author.Needs.{needs}
-use Rattle.state.specs.Held.{venueSize}
+use Rattle.venue_bytes.specs.Held.{venueSize}
 use Rattle.lanes.specs.Memory.{placesAt}
 use Rattle.lanes.proofs.Places.{head-lent}
 use Rattle.lanes.proofs.Writing.{called-head}

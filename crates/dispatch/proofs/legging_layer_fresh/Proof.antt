@@ -4,7 +4,7 @@ use Prim.Native.Nat.{_+_, _-_, _*_}
 use lib.ListN.{length-set}
 use native.Mathlib.Omega.{arith}
 use borrow.Author.Needs.{needs}
-use Rattle.state.proofs.Rows.{Written, written-none}
+use Rattle.venue_bytes.proofs.Rows.{Written, written-none}
 use Rattle.lanes.specs.Memory.{laneSize, lastAt}
 use Rattle.lanes.proofs.Bytes.{part-length}
 use Rattle.dispatch.proofs.Beginning.{freshRow, four, fresh-room, fresh-next, fresh-all, fresh-none}

@@ -4,7 +4,7 @@ use lib.Seq.{length-take-le}
 use native.Mathlib.Omega.{arith}
 use borrow.Author.Tests.{not-true, not-false}
 use borrow.Author.Needs.{needs}
-use Rattle.state.specs.Held.{venueSize}
+use Rattle.venue_bytes.specs.Held.{venueSize}
 use Rattle.lanes.proofs.Figures.{lane-waits, lane-passed, lane-checked}
 use Rattle.lanes.proofs.lane_sound.Statement.{statement}
 use Rattle.lanes.proofs.lane_sound.Tie as tie

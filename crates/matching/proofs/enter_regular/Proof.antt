@@ -8,7 +8,7 @@ use Rattle.records.specs.Seen.{seen}
 use Rattle.records.specs.Stage.{_does_}
 use Rattle.places.specs.Layout.{venueOf}
 use Rattle.matching.proofs.Turns.{enter-law}
-use Rattle.storing.proofs.Closed.{dense-regular}
+use Rattle.place_writes.proofs.Closed.{dense-regular}
 use borrow.Author.Needs.{needs}
 use Rattle.matching.proofs.enter_regular.Statement.{statement}
 use Rattle.matching.proofs.enter_regular.Tie as tie

@@ -6,7 +6,7 @@ use Rattle.rules.specs.Order.{order}
 use Rattle.records.specs.Seen.{seen}
 use Rattle.records.specs.Stage.{_does_}
 use Rattle.places.specs.Layout.{venueOf}
-use Rattle.loading.proofs.Loaded.{regular-side}
+use Rattle.venue_numbers.proofs.Loaded.{regular-side}
 use Rattle.places.proofs.Orderly.{range-priced, range-displayed}
 use Rattle.places.proofs.Fully.{range-bounded}
 use Rattle.messages.proofs.Stepping.{last-dense, last-below}

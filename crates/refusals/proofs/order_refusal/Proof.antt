@@ -8,8 +8,8 @@ use Rattle.rules.specs.declared.Message.the-variants.{Order}
 use Rattle.rules.specs.Words.{closed}
 use Rattle.rules.specs.Refusals.{offIncrement, editionTooLow, inUse, noEditionLeft, idTooLow, onClosed, full, unknown}
 use Rattle.places.specs.Layout.{venueOf}
-use Rattle.loading.proofs.Loaded.{regular-side}
-use Rattle.storing.proofs.Closed.{dense-regular}
+use Rattle.venue_numbers.proofs.Loaded.{regular-side}
+use Rattle.place_writes.proofs.Closed.{dense-regular}
 use Rattle.refusals.proofs.Refusing.{refuses-off, refuses-low, refuses-closed, refuses-full, accepts}
 use borrow.Author.Needs.{needs}
 use Rattle.refusals.proofs.order_refusal.Statement.{statement}

@@ -8,7 +8,7 @@ use borrow.Author.Tests.{not-true, not-false}
 use Rattle.sets.specs.Set.{tellsComplex, complexTold, venueTold}
 use Rattle.rules.specs.Words.{noComplex}
 use Rattle.set_tables.proofs.Parted.{set-counts}
-use Rattle.set_order.proofs.Fronts.{complex-long}
+use Rattle.set_check.proofs.Fronts.{complex-long}
 use borrow.Author.Needs.{needs}
 use Rattle.set_tables.proofs.complexes_told.Statement.{statement}
 use Rattle.set_tables.proofs.complexes_told.Tie as tie

@@ -8,7 +8,7 @@ use borrow.Author.Tests.{not-true, not-false}
 use Rattle.sets.specs.Set.{tellsRegular, regularTold, venueTold}
 use Rattle.rules.specs.Words.{noRegular}
 use Rattle.set_tables.proofs.Parted.{set-counts}
-use Rattle.set_order.proofs.Fronts.{regular-long}
+use Rattle.set_check.proofs.Fronts.{regular-long}
 use borrow.Author.Needs.{needs}
 use Rattle.set_tables.proofs.regulars_told.Statement.{statement}
 use Rattle.set_tables.proofs.regulars_told.Tie as tie

@@ -1,6 +1,6 @@
 -- `set_tables::size_at` meets its contract.
 use mathlib.Core.Path.{_≡_, refl, sym, ap, _∙_}
-use Rattle.set_order.proofs.Fronts.{length-here}
+use Rattle.set_check.proofs.Fronts.{length-here}
 use borrow.Author.Needs.{needs}
 use Rattle.set_tables.proofs.size_at.Statement.{statement}
 use Rattle.set_tables.proofs.size_at.Tie as tie

@@ -14,7 +14,7 @@ use Rattle.sweeps.proofs.generate_each.Statement.{statement}
 use Rattle.sweeps.proofs.generate_each.Tie as tie
 use Rattle.sweeps.proofs.generate_each.Reads as reads
 use Rattle.sweeps.proofs.generate_each.Lts as lts
-use Rattle.legging.proofs.generate_order.Reads as generate-order-reads
+use Rattle.generation.proofs.generate_order.Reads as generate-order-reads
 use Rattle.places.proofs.complex_at.Reads as complex-at-reads
 use Rattle.places.proofs.complexes_used.Reads as complexes-used-reads
 

@@ -1,0 +1,55 @@
+-- `arithmetic::displayed_price` meets its contract.
+use mathlib.Core.Path.{sym}
+use Prim.Native.Nat.{_+_, _-_}
+use borrow.Author.Needs.{needs}
+use borrow.Author.Tests.{eq-eqb, ne-eqb}
+use native.Mathlib.Omega.{arith}
+use native.Mathlib.Nat.{div-add-mod'}
+use Rattle.rules.specs.Prices.{displayed}
+use Rattle.rules.proofs.Machine.{shown-none}
+use Rattle.arithmetic.proofs.displayed_price.Statement.{statement}
+use Rattle.arithmetic.proofs.displayed_price.Tie as tie
+
+returns : tie.Need-returns
+returns c = let z = c .if1 .taken in rw z (sym (shown-none _ _))
+
+div-result : tie.Need-div-result
+div-result c = search needs
+
+mul-result : tie.Need-mul-result
+mul-result c = record { fits = omega (arith, div-add-mod' (c .before .before .args .price) (c .before .before .args .increment)) }
+
+returns-2 : tie.Need-returns-2
+unfolding displayed
+returns-2 c = simp (eq-eqb _ _ (c .if2 .taken))
+
+sub-result : tie.Need-sub-result
+sub-result c = search needs
+
+add-result : tie.Need-add-result
+add-result c = search needs
+
+div-result-2 : tie.Need-div-result-2
+div-result-2 c = search needs
+
+mul-result-2 : tie.Need-mul-result-2
+mul-result-2 c =
+    record { fits = omega (arith, div-add-mod' (c .before .before .args .price + (c .before .before .args .increment - 1)) (c .before .before .args .increment)) }
+
+returns-3 : tie.Need-returns-3
+unfolding displayed
+returns-3 c = simp (ne-eqb _ _ (c .if2 .left))
+
+pub displayed-price-spec : {M : Type 1} → statement M
+displayed-price-spec =
+    tie.close
+    (tie.spec
+    returns
+    div-result
+    mul-result
+    returns-2
+    sub-result
+    add-result
+    div-result-2
+    mul-result-2
+    returns-3)

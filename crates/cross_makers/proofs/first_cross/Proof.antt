@@ -1,0 +1,133 @@
+-- `cross_makers::first_cross` meets its contract.
+use borrow.Author.Needs.{needs}
+use mathlib.Core.Path.{_≡_, sym, ap, subst, _∙_}
+use Prim.Native.Nat.{ℕ, _-_, _≤_}
+use native.Mathlib.Omega.{arith}
+use Rattle.rules.specs.declared.Complex.{Complex}
+use Rattle.rules.specs.Base.{ranked, firstFrom}
+use Rattle.rules.specs.Complex.{crosses, limitThenId}
+use Rattle.places.specs.Layout.{upto, complexesUsed, complexIn, venueOf}
+use Rattle.places.proofs.Parts.{complexes-few}
+use Rattle.levels.specs.Grid.{LegsIn}
+use Rattle.prices.proofs.Prices.{legs-in}
+use Rattle.cross_makers.specs.Picks.{pickedOf}
+use Rattle.levels.proofs.Scanning.{scan-start, scan-past, scan-join}
+use Rattle.cross_makers.proofs.Candidates.{off, on, first-crossed}
+use Rattle.cross_makers.proofs.Keys.{cross-key}
+use Rattle.cross_makers.proofs.first_cross.Statement.{statement}
+use Rattle.cross_makers.proofs.first_cross.Tie as tie
+
+abbrev Inv-loop : tie.InvT-loop
+Inv-loop b c straight turned best₀ i₀ best i = (i ≤ complexesUsed b) × (pickedOf best ≡ firstFrom (crosses (venueOf b) c) limitThenId i (upto (complexIn b) i (complexesUsed b - i)))
+
+abbrev μ-loop : tie.MeasureT-loop
+μ-loop b c straight turned best₀ i₀ best i = i
+
+facing-key-requires : tie.Need-facing-key-requires Inv-loop μ-loop
+facing-key-requires c κs = search needs
+
+facing-key-requires-2 : tie.Need-facing-key-requires-2 Inv-loop μ-loop
+facing-key-requires-2 c κs = search needs
+
+complexes-used-requires : tie.Need-complexes-used-requires Inv-loop μ-loop
+complexes-used-requires c κs = search needs
+
+loop-holds : tie.Need-loop-holds Inv-loop μ-loop
+unfolding pickedOf
+loop-holds c =
+    let e = c .complexes-used .ensures .0 in
+    let a = c .before .before .before .before .args in
+    (omega (arith, e), scan-start (crosses (venueOf (a .b .now)) (a .c)) limitThenId (complexIn (a .b .now)) _ _ (omega (arith, e)))
+
+sub-i : tie.Need-sub-i Inv-loop μ-loop
+sub-i c = search needs
+
+legs-at-requires : tie.Need-legs-at-requires Inv-loop μ-loop
+legs-at-requires c κs = let z = complexes-few (c .before .before .before .before .before .before .args .b .now) in (c .before .before .before .before .before .before .pre .0, omega arith)
+
+is-either-requires : tie.Need-is-either-requires Inv-loop μ-loop
+is-either-requires c κs = search needs
+
+loop-less : tie.Need-loop-less Inv-loop μ-loop
+loop-less c = search needs
+
+loop-again : tie.Need-loop-again Inv-loop μ-loop
+loop-again c =
+    let l = c .before .before .before .before .loop in
+    let a = c .before .before .before .before .before .before .before .before .before .args in
+    let h = c .before .before .before .loop-test .taken in (
+      omega (arith, l .inv .0),
+      scan-past (crosses (venueOf (a .b .now)) (a .c)) limitThenId (complexIn (a .b .now)) (l .i) (complexesUsed (a .b .now)) h (l .inv .0) _ (l .inv .1)
+          (cross-key (a .c) (complexIn (a .b .now) (l .i - 1)) (legs-in (a .b .now) (l .i - 1)) _ _ _ (c .before .before .legs-at .ensures) (c .before .before .before .before .before .before .before .facing-key .ensures)
+          (c .before .before .before .before .before .before .facing-key2 .ensures) (off _ _ (c .before .is-either .ensures) (c .if1 .taken)) (venueOf (a .b .now))),
+    )
+
+complex-at-requires : tie.Need-complex-at-requires Inv-loop μ-loop
+complex-at-requires c κs = let z = complexes-few (c .before .before .before .before .before .before .before .before .before .args .b .now) in (c .before .before .before .before .before .before .before .before .before .pre .0, omega arith)
+
+can-cross-requires : tie.Need-can-cross-requires Inv-loop μ-loop
+can-cross-requires c κs = let p = c .before .before .before .before .before .before .before .before .before .before .pre in (p .0, p .1, p .2, subst LegsIn (sym (c .complex-at .ensures)) (legs-in (c .before .before .before .before .before .before .before .before .before .before .args .b .now) _))
+
+loop-less-2 : tie.Need-loop-less-2 Inv-loop μ-loop
+loop-less-2 c = search needs
+
+loop-again-2 : tie.Need-loop-again-2 Inv-loop μ-loop
+loop-again-2 c =
+    let l = c .before .before .before .before .before .before .before .loop in
+    let a = c .before .before .before .before .before .before .before .before .before .before .before .before .args in
+    let h = c .before .before .before .before .before .before .loop-test .taken in (
+      omega (arith, l .inv .0),
+      scan-past (crosses (venueOf (a .b .now)) (a .c)) limitThenId (complexIn (a .b .now)) (l .i) (complexesUsed (a .b .now)) h (l .inv .0) _ (l .inv .1)
+          (ap (crosses (venueOf (a .b .now)) (a .c)) (sym (c .before .before .complex-at .ensures)) ∙ off _ _ (c .before .can-cross .ensures) (c .if2 .taken)),
+    )
+
+better-pick-requires : tie.Need-better-pick-requires Inv-loop μ-loop
+better-pick-requires c κs = search needs
+
+loop-less-3 : tie.Need-loop-less-3 Inv-loop μ-loop
+loop-less-3 c = search needs
+
+loop-again-3 : tie.Need-loop-again-3 Inv-loop μ-loop
+loop-again-3 c =
+    let l = c .before .before .before .before .before .before .before .before .loop in
+    let a = c .before .before .before .before .before .before .before .before .before .before .before .before .before .args in
+    let h = c .before .before .before .before .before .before .before .loop-test .taken in
+    let e = c .before .before .before .complex-at .ensures in (
+      omega (arith, l .inv .0),
+      scan-join (crosses (venueOf (a .b .now)) (a .c)) limitThenId (complexIn (a .b .now)) (l .i) (complexesUsed (a .b .now)) h (l .inv .0) _ (l .inv .1) _
+          (ap (crosses (venueOf (a .b .now)) (a .c)) (sym e) ∙ on _ _ (c .before .before .can-cross .ensures) (c .before .if2 .left))
+          (c .better-pick .ensures ∙ ap (λ (m : Complex). ranked limitThenId (l .i - 1) m (pickedOf (l .best))) e),
+    )
+
+returns : tie.Need-returns Inv-loop μ-loop
+returns c =
+    let l = c .before .loop in
+    let a = c .before .before .before .before .before .before .args in
+    let z : l .i ≡ 0 = search needs in
+    l .inv .1
+    ∙ ap (λ (k : ℕ). firstFrom (crosses (venueOf (a .b .now)) (a .c)) limitThenId k (upto (complexIn (a .b .now)) k (complexesUsed (a .b .now) - k))) z
+    ∙ first-crossed (a .b .now) (a .c)
+
+pub first-cross-spec : {M : Type 1} → statement M
+first-cross-spec =
+    tie.close
+    (tie.spec
+    Inv-loop
+    μ-loop
+    facing-key-requires
+    facing-key-requires-2
+    complexes-used-requires
+    loop-holds
+    sub-i
+    legs-at-requires
+    is-either-requires
+    loop-less
+    loop-again
+    complex-at-requires
+    can-cross-requires
+    loop-less-2
+    loop-again-2
+    better-pick-requires
+    loop-less-3
+    loop-again-3
+    returns)

@@ -1,0 +1,205 @@
+// Complex orders with one another: who crosses with whom, and who first.
+use arithmetic::limit_of;
+use levels::Taken;
+use rules::Complex;
+ghost use mathlib.Core.Path.{_≡_};
+ghost use mathlib.Core.Bool.{_&&_, _||_};
+ghost use Prim.Native.Nat.{_≤_, _<_};
+ghost use lib.Dec.{eqb};
+ghost use lib.IntN.{ℤ, pos, natAbs, negℤ, _+ℤ_};
+ghost use lib.ListN.{length};
+ghost use lib.Signed.{leZ};
+ghost use Rattle.rules.specs.declared.Venue.{Venue};
+ghost use Rattle.rules.specs.Base.{if_then_else_, ranked, first};
+ghost use Rattle.rules.specs.Words.{opposite};
+ghost use Rattle.rules.specs.Complex.{reversed, respectsLegs, crosses, limitThenId, cross};
+ghost use Rattle.places.specs.Layout.{size, venueOf, Right};
+ghost use Rattle.levels.specs.Grid.{LegsIn, TakenOf};
+ghost use Rattle.cross_makers.specs.Picks.{pickedOf, facingKey};
+
+// A complex order with its place, or none.
+pub enum Pick {
+    Nobody,
+    At(usize, Complex),
+}
+
+// What an order pays in a cross with m, at m's limit.
+pub fn net_against(m: Complex) -> i64
+    ensures { λ r. ⌜ (r ≡ negℤ (m .limit)) × (natAbs r ≤ 2147483648) ⌝ }
+{
+    let n = limit_of(m);
+    0 - n
+}
+
+// The legs of c stand in series s and t at the sides opposite to d and e, with ratios q and r.
+fn legs_face(c: Complex, s: u8, d: u8, q: u8, t: u8, e: u8, r: u8) -> bool
+    ensures { λ x. ⌜ x ≡ (eqb (c .series1) s && eqb (c .side1) (opposite d) && eqb (c .ratio1) q && eqb (c .series2) t && eqb (c .side2) (opposite e) && eqb (c .ratio2) r) ⌝ }
+{
+    if c.series1 != s {
+        return false;
+    }
+    if c.side1 != arithmetic::opposite_of(d) {
+        return false;
+    }
+    if c.ratio1 != q {
+        return false;
+    }
+    if c.series2 != t {
+        return false;
+    }
+    if c.side2 != arithmetic::opposite_of(e) {
+        return false;
+    }
+    c.ratio2 == r
+}
+
+// The same series, and in each the reversed side and the same ratio, whichever leg is named first.
+pub fn is_reversed(c: Complex, m: Complex) -> bool
+    ensures { λ r. ⌜ r ≡ reversed c m ⌝ }
+{
+    if legs_face(
+        c,
+        m.series1,
+        m.side1,
+        m.ratio1,
+        m.series2,
+        m.side2,
+        m.ratio2,
+    ) {
+        return true;
+    }
+    legs_face(
+        c,
+        m.series2,
+        m.side2,
+        m.ratio2,
+        m.series1,
+        m.side1,
+        m.ratio1,
+    )
+}
+
+// The limits of two orders leave room for a cross.
+fn limits_meet(c: Complex, m: Complex) -> bool
+    ensures { λ r. ⌜ r ≡ leZ (pos 0) (c .limit +ℤ m .limit) ⌝ }
+{
+    let x = limit_of(c);
+    let y = limit_of(m);
+    0 <= x + y
+}
+
+// Dealt at this net, c pays no more than at the best regular prices, where both its legs have one; taken has the levels that they take.
+fn respects_legs(taken: Taken, c: Complex, net: i64) -> bool
+    ensures { λ r. ⌜ ((v : Venue) → TakenOf taken c (v .regular) → r ≡ respectsLegs v c net) ⌝ }
+{
+    let one = taken.first;
+    if one.price == 0 {
+        return true;
+    }
+    let two = taken.second;
+    if two.price == 0 {
+        return true;
+    }
+    net <= arithmetic::net_of(c.ratio1, c.side1, one.price, c.ratio2, c.side2, two.price)
+}
+
+// The resting order m is a candidate for c.
+pub fn can_cross(b: &[u32], c: Complex, m: Complex) -> bool
+    requires { ⌜ (length (now b) ≡ size) × (Right (now b)) × (LegsIn c) × (LegsIn m) ⌝ }
+    ensures { λ r. ⌜ r ≡ crosses (venueOf (now (b .entry))) c m ⌝ }
+{
+    if m.quantity == 0 {
+        return false;
+    }
+    if !is_reversed(c, m) {
+        return false;
+    }
+    if !limits_meet(c, m) {
+        return false;
+    }
+    let paid = net_against(m);
+    let by_taker = levels::taken_at(b, c);
+    if !prices::in_band(b, by_taker, c, paid) {
+        return false;
+    }
+    let limit = limit_of(m);
+    let by_maker = levels::taken_at(b, m);
+    if !prices::in_band(b, by_maker, m, limit) {
+        return false;
+    }
+    if !respects_legs(by_taker, c, paid) {
+        return false;
+    }
+    respects_legs(by_maker, m, limit)
+}
+
+// a goes before m: the higher limit, then the earlier.
+pub fn ranks_before(a: Complex, m: Complex) -> bool
+    ensures { λ r. ⌜ r ≡ limitThenId a m ⌝ }
+{
+    let x = a.limit;
+    let y = m.limit;
+    if y < x {
+        return true;
+    }
+    if x < y {
+        return false;
+    }
+    a.id < m.id
+}
+
+// The candidate m at place n, beside the best of those after it.
+fn better_pick(best: Pick, n: usize, m: Complex) -> Pick
+    ensures { λ r. ⌜ pickedOf r ≡ ranked limitThenId n m (pickedOf best) ⌝ }
+{
+    match best {
+        Pick::Nobody => Pick::At(n, m),
+        Pick::At(i, a) => {
+            if ranks_before(a, m) {
+                return Pick::At(i, a);
+            }
+            Pick::At(n, m)
+        }
+    }
+}
+
+// The key of an order whose legs face these two: the same series, at the opposite sides.
+fn facing_key(s: u8, d: u8, t: u8, e: u8) -> usize
+    ensures { λ r. ⌜ r ≡ facingKey s d t e ⌝ }
+{
+    let one = arithmetic::place_of(s, arithmetic::opposite_of(d));
+    let two = arithmetic::place_of(t, arithmetic::opposite_of(e));
+    16 * one + two
+}
+
+fn is_either(key: usize, one: usize, two: usize) -> bool
+    ensures { λ r. ⌜ r ≡ (eqb key one || eqb key two) ⌝ }
+{
+    if key == one {
+        return true;
+    }
+    key == two
+}
+
+// The resting order that c crosses with first. Of the others only those whose legs have the key are read.
+pub fn first_cross(b: &[u32], c: Complex) -> Pick
+    requires { ⌜ (length (now b) ≡ size) × (Right (now b)) × (LegsIn c) ⌝ }
+    ensures { λ r. ⌜ pickedOf r ≡ first (crosses (venueOf (now (b .entry))) c) limitThenId (venueOf (now (b .entry)) .complex) ⌝ }
+{
+    let straight = facing_key(c.series1, c.side1, c.series2, c.side2);
+    let turned = facing_key(c.series2, c.side2, c.series1, c.side1);
+    let mut best = Pick::Nobody;
+    let mut i = places::complexes_used(b);
+    while 0 < i {
+        i -= 1;
+        if !is_either(places::legs_at(b, i), straight, turned) {
+            continue;
+        }
+        let m = places::complex_at(b, i);
+        if !can_cross(b, c, m) {
+            continue;
+        }
+        best = better_pick(best, i, m);
+    }
+    best
+}

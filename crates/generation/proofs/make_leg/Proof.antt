@@ -1,0 +1,60 @@
+-- `generation::make_leg` meets its contract.
+use Rattle.generation.proofs.Making.{made-law}
+use Rattle.removal.proofs.Removing.{counts-on}
+use Rattle.rules.specs.Words.{placeOf}
+use borrow.Author.Needs.{needs}
+use Rattle.generation.proofs.make_leg.Statement.{statement}
+use Rattle.generation.proofs.make_leg.Tie as tie
+
+shown-price-requires : tie.Need-shown-price-requires
+shown-price-requires c κs = search needs
+
+cast-shown : tie.Need-cast-shown
+cast-shown c = search needs
+
+place-of-requires : tie.Need-place-of-requires
+place-of-requires c κs = search needs
+
+remove-at-requires : tie.Need-remove-at-requires
+remove-at-requires c κs = search needs
+
+put-legging-requires : tie.Need-put-legging-requires
+unfolding placeOf
+put-legging-requires c κs = search needs
+
+count-generation-requires : tie.Need-count-generation-requires
+count-generation-requires c κs = search needs
+
+emit-generated-requires : tie.Need-emit-generated-requires
+emit-generated-requires c κs = search needs
+
+same-length : tie.Need-same-length
+same-length c = search needs
+
+same-length-2 : tie.Need-same-length-2
+same-length-2 c = search needs
+
+returns : tie.Need-returns
+returns c =
+    let count = c .before .before .before .before .before .before .count-generation .ensures in
+    let put = c .before .before .before .before .before .before .before .before .before .before .put-legging .ensures in
+    let gone = c .before .before .before .before .before .before .before .before .before .before .before .before .before .before .before .before .remove-at .ensures in
+    let s = c .before .before .before .before .before .before .before .before .before .before .before .before .before .before .before .before .before .before .before .before .before .before .before .before in (
+      made-law _ _ _ _ _ _ (s .args .l) _ _ _ _ _ _ _ _ _ _ (c .before .before .before .before .before .before .before .before .before .before .before .before .before .before .before .before .before .before .before .place-of .ensures) (c .before .before .before .before .before .before .before .before .before .before .before .before .before .before .before .before .before .before .before .before .shown-price .ensures) (gone .0) (put .0) (count .0) (c .before .before .emit-generated .ensures),
+      counts-on _ _ _ (counts-on _ _ _ (gone .1) (put .1)) (count .1),
+    )
+
+pub make-leg-spec : {M : Type 1} → statement M
+make-leg-spec =
+    tie.close
+    (tie.spec
+    shown-price-requires
+    cast-shown
+    place-of-requires
+    remove-at-requires
+    put-legging-requires
+    count-generation-requires
+    emit-generated-requires
+    same-length
+    same-length-2
+    returns)

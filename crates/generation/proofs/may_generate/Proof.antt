@@ -1,0 +1,61 @@
+-- `generation::may_generate` meets its contract.
+use Rattle.settling.proofs.Testing.{off, on}
+use Rattle.generation.specs.Parts.{mayGenerate}
+use Rattle.places.specs.Layout.{venueOf}
+use Rattle.rules.proofs.Machine.{back}
+use Rattle.rules.specs.Prices.{inBand}
+use lib.IntN.{natAbs}
+use native.Mathlib.Omega.{arith}
+use mathlib.Core.Path.{ap, _∙_}
+use borrow.Author.Needs.{needs}
+use Rattle.generation.proofs.may_generate.Statement.{statement}
+use Rattle.generation.proofs.may_generate.Tie as tie
+
+is-one-to-one-requires : tie.Need-is-one-to-one-requires
+is-one-to-one-requires c κs = search needs
+
+returns : tie.Need-returns
+unfolding mayGenerate
+returns c = simp (off _ _ (c .before .is-one-to-one .ensures) (c .if1 .taken))
+
+both-open-requires : tie.Need-both-open-requires
+both-open-requires c κs = search needs
+
+returns-2 : tie.Need-returns-2
+unfolding mayGenerate
+returns-2 c =
+    let p2 = c .before .before in
+    simp (on _ _ (p2 .before .is-one-to-one .ensures) (p2 .if1 .left), off _ _ (c .before .both-open .ensures) (c .if2 .taken))
+
+limit-of-requires : tie.Need-limit-of-requires
+limit-of-requires c κs = search needs
+
+in-band-requires : tie.Need-in-band-requires
+in-band-requires c κs =
+    let p = c .before .before .before .before .before .before .pre in
+    let w = c .limit-of in
+    let q = back {z = w .result} (record { sfits = w .ok }) in
+    (p .0, p .1, p .2, omega (arith, ap natAbs q, w .ensures .1), p .3)
+
+returns-3 : tie.Need-returns-3
+unfolding mayGenerate
+returns-3 c =
+    let p2 = c .before .before in
+    let p4 = p2 .before .before in
+    let a = p4 .before .before .before .args in
+    let w = c .before .limit-of in
+    let q = back {z = w .result} (record { sfits = w .ok }) ∙ w .ensures .0 in
+    simp (on _ _ (p4 .before .is-one-to-one .ensures) (p4 .if1 .left), on _ _ (p2 .before .both-open .ensures) (p2 .if2 .left))
+    (c .in-band .ensures ∙ ap (inBand (venueOf (a .b .now)) (a .c)) q)
+
+pub may-generate-spec : {M : Type 1} → statement M
+may-generate-spec =
+    tie.close
+    (tie.spec
+    is-one-to-one-requires
+    returns
+    both-open-requires
+    returns-2
+    limit-of-requires
+    in-band-requires
+    returns-3)

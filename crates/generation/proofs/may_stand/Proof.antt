@@ -1,0 +1,32 @@
+-- `generation::may_stand` meets its contract.
+use Rattle.settling.proofs.Testing.{off, on}
+use Rattle.generation.specs.Parts.{mayStand}
+use Rattle.levels.proofs.Sides.{own-is, facing-is}
+use Rattle.places.specs.Layout.{venueOf}
+use mathlib.Core.Path.{refl}
+use borrow.Author.Needs.{needs}
+use Rattle.generation.proofs.may_stand.Statement.{statement}
+use Rattle.generation.proofs.may_stand.Tie as tie
+
+stands-clear-requires : tie.Need-stands-clear-requires
+stands-clear-requires c κs =
+    let p = c .before .pre in
+    let a = c .before .args in
+    let v = venueOf (a .b .now) in
+    (p .0, own-is v (a .sides) (a .c) _ _ (p .1), facing-is v (a .sides) (a .c) _ _ (p .1) _ refl, p .3, p .6)
+
+returns : tie.Need-returns
+unfolding mayStand
+returns c = simp (c .before .before .before .pre .5, off _ _ (c .before .stands-clear .ensures) (c .if1 .taken))
+
+gives-way-requires : tie.Need-gives-way-requires
+gives-way-requires c κs = search needs
+
+returns-2 : tie.Need-returns-2
+unfolding mayStand
+returns-2 c =
+    let p2 = c .before .before in
+    simp (p2 .before .before .pre .5, on _ _ (p2 .stands-clear .ensures) (c .before .if1 .left)) (c .gives-way .ensures)
+
+pub may-stand-spec : {M : Type 1} → statement M
+may-stand-spec = tie.close (tie.spec stands-clear-requires returns gives-way-requires returns-2)

@@ -1,0 +1,55 @@
+-- `generation::plan_leg` meets its contract.
+use Rattle.settling.proofs.Testing.{off, on, size-is}
+use Rattle.generation.proofs.Making.{planned-free, planned-not, planned-new}
+use Rattle.places.specs.Layout.{venueOf}
+use Prim.Native.Nat.{min}
+use mathlib.Core.Path.{refl, ap, _∙_}
+use borrow.Author.Needs.{needs}
+use Rattle.generation.proofs.plan_leg.Statement.{statement}
+use Rattle.generation.proofs.plan_leg.Tie as tie
+
+sides-at-requires : tie.Need-sides-at-requires
+sides-at-requires c κs = search needs
+
+leg-price-requires : tie.Need-leg-price-requires
+leg-price-requires c κs = search needs
+
+returns : tie.Need-returns
+returns c =
+    let s = c .before .before .before .before .before in
+    planned-free _ (s .args .c) _ _ _ (c .before .leg-price .ensures) (s .pre .5) (c .if1 .taken)
+
+may-stand-requires : tie.Need-may-stand-requires
+may-stand-requires c κs = search needs
+
+returns-2 : tie.Need-returns-2
+returns-2 c =
+    let p2 = c .before .before in
+    let p3 = p2 .before in
+    let s = p3 .before .before .before .before in
+    planned-not _ (s .args .c) _ _ _ (p3 .leg-price .ensures) (s .pre .5) (p2 .if1 .left) (off _ _ (c .before .may-stand .ensures) (c .if2 .taken))
+
+leg-quantity-requires : tie.Need-leg-quantity-requires
+leg-quantity-requires c κs = search needs
+
+returns-3 : tie.Need-returns-3
+returns-3 c =
+    let p2 = c .before .before in
+    let p4 = p2 .before .before in
+    let x = p4 .before .before .sides-at in
+    let s = p4 .before .before .before .before in
+    let a = s .args in
+    planned-new _ (a .c) _ _ _ _ (p4 .leg-price .ensures) (s .pre .5) (p2 .before .if1 .left) (on _ _ (p2 .may-stand .ensures) (c .before .if2 .left))
+    (c .leg-quantity .ensures ∙ ap (min (a .c .quantity)) (size-is (venueOf (a .b .now)) (x .result .taken) (a .c) (a .s) (x .ensures .taken) _ refl))
+
+pub plan-leg-spec : {M : Type 1} → statement M
+plan-leg-spec =
+    tie.close
+    (tie.spec
+    sides-at-requires
+    leg-price-requires
+    returns
+    may-stand-requires
+    returns-2
+    leg-quantity-requires
+    returns-3)

@@ -1,0 +1,18 @@
+-- `generation::signed_of` meets its contract.
+use Rattle.generation.proofs.Making.{sign-buy, sign-sell, turned-fits, turned-is}
+use Rattle.rules.proofs.Machine.{back}
+use mathlib.Core.Path.{_∙_}
+use Rattle.generation.proofs.signed_of.Statement.{statement}
+use Rattle.generation.proofs.signed_of.Tie as tie
+
+returns : tie.Need-returns
+returns c = back {z = c .before .args .z} (c .before .fits .z) ∙ sign-buy _ (c .before .args .z) (c .if1 .taken)
+
+sub-result : tie.Need-sub-result
+sub-result c = turned-fits (c .before .args .z) (c .before .fits .z) (c .before .pre)
+
+returns-2 : tie.Need-returns-2
+returns-2 c = turned-is (c .before .args .z) (c .before .fits .z) (sub-result c) ∙ sign-sell _ (c .before .args .z) (c .if1 .left)
+
+pub signed-of-spec : {M : Type 1} → statement M
+signed-of-spec = tie.close (tie.spec returns sub-result returns-2)

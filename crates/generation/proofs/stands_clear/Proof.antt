@@ -1,0 +1,66 @@
+-- `generation::stands_clear` meets its contract.
+use Rattle.settling.proofs.Testing.{off, on, shown-is}
+use Rattle.generation.proofs.Making.{clear-own, clear-away}
+use Rattle.generation.specs.Parts.{standsClear}
+use Rattle.places.specs.Layout.{venueOf}
+use Rattle.rules.specs.Prices.{bestRegular}
+use Rattle.levels.proofs.Sides.{opposite-in}
+use mathlib.Core.Bool.{not}
+use mathlib.Core.Path.{sym, ap, _∙_}
+use borrow.Author.Needs.{needs}
+use Rattle.generation.proofs.stands_clear.Statement.{statement}
+use Rattle.generation.proofs.stands_clear.Tie as tie
+
+shown-well-requires : tie.Need-shown-well-requires
+shown-well-requires c κs = search needs
+
+returns : tie.Need-returns
+unfolding standsClear
+returns c = simp (off _ _ (shown-is (venueOf (c .before .before .before .args .b .now)) _ _ _ _ _ (c .before .before .before .pre .1) (c .before .shown-well .ensures)) (c .if1 .taken))
+
+opposite-of-requires : tie.Need-opposite-of-requires
+opposite-of-requires c κs = search needs
+
+best-own-requires : tie.Need-best-own-requires
+best-own-requires c κs =
+    let p = c .before .before .before .before .pre in
+    let a = c .before .before .before .before .args in (
+      p .0,
+      p .2 ∙ ap (bestRegular (venueOf (a .b .now)) (a .s)) (sym (c .opposite-of .ensures)),
+      p .3,
+      rw (c .opposite-of .ensures) (opposite-in _),
+    )
+
+reaches-any-requires : tie.Need-reaches-any-requires
+reaches-any-requires c κs = search needs
+
+returns-2 : tie.Need-returns-2
+returns-2 c =
+    clear-own _ _ _ _ _ (c .before .before .before .opposite-of .ensures) (on _ _ (shown-is (venueOf (c .before .before .before .before .before .before .before .args .b .now)) _ _ _ _ _ (c .before .before .before .before .before .before .before .pre .1) (c .before .before .before .before .before .shown-well .ensures)) (c .before .before .before .before .if1 .left)) _
+    (c .before .before .best-own .ensures) (sym (c .before .reaches-any .ensures) ∙ c .if2 .taken)
+
+away-price-requires : tie.Need-away-price-requires
+away-price-requires c κs = search needs
+
+reaches-any-requires-2 : tie.Need-reaches-any-requires-2
+reaches-any-requires-2 c κs = search needs
+
+returns-3 : tie.Need-returns-3
+returns-3 c =
+    ap not (c .reaches-any2 .ensures)
+    ∙ clear-away _ _ _ _ _ (c .before .before .before .before .before .opposite-of .ensures) (on _ _ (shown-is (venueOf (c .before .before .before .before .before .before .before .before .before .args .b .now)) _ _ _ _ _ (c .before .before .before .before .before .before .before .before .before .pre .1) (c .before .before .before .before .before .before .before .shown-well .ensures)) (c .before .before .before .before .before .before .if1 .left)) _
+    (c .before .before .before .before .best-own .ensures) (sym (c .before .before .before .reaches-any .ensures) ∙ c .before .before .if2 .left) _ (c .before .away-price .ensures)
+
+pub stands-clear-spec : {M : Type 1} → statement M
+stands-clear-spec =
+    tie.close
+    (tie.spec
+    shown-well-requires
+    returns
+    opposite-of-requires
+    best-own-requires
+    reaches-any-requires
+    returns-2
+    away-price-requires
+    reaches-any-requires-2
+    returns-3)

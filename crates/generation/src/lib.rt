@@ -1,0 +1,273 @@
+// Generation of legging orders.
+use arithmetic::limit_of;
+use levels::LegSides;
+use levels::Taken;
+use rules::Cause;
+use rules::Complex;
+use rules::Legging;
+ghost use mathlib.Core.Path.{_≡_};
+ghost use mathlib.Core.Bool.{true};
+ghost use Prim.Native.Nat.{_≤_, _<_, min};
+ghost use lib.IntN.{natAbs};
+ghost use lib.ListN.{length};
+ghost use Rattle.rules.specs.Words.{opposite, signed, leggingAt};
+ghost use Rattle.rules.specs.Settings.{increment};
+ghost use Rattle.rules.specs.Prices.{bestRegular, displayed};
+ghost use Rattle.rules.specs.Generation.{asPrice, generationsOf, givesWay, placed, othersStand, underCeiling, generateLeg, generate};
+ghost use Rattle.records.specs.Seen.{seen};
+ghost use Rattle.records.specs.Stage.{stage, _does_};
+ghost use Rattle.places.specs.Layout.{size, venueOf, Figured, Right, SameCounts};
+ghost use Rattle.levels.specs.Grid.{LegsIn, TakenOf, SidesOf};
+ghost use Rattle.settling.specs.Parts.{otherTaken};
+ghost use Rattle.generation.specs.Parts.{rangedPrice, pricedLeg, mayGenerate, standsClear, mayStand, plannedLeg, madeBy};
+
+// Sign × z for a leg of side d.
+fn signed_of(d: u8, z: i64) -> i64
+    requires { ⌜ natAbs z ≤ 8589934590 ⌝ }
+    ensures { λ r. ⌜ r ≡ signed d z ⌝ }
+{
+    if d == 0 {
+        return z;
+    }
+    0 - z
+}
+
+// A price; 0 where the number is negative.
+fn as_price(z: i64) -> u64
+    ensures { λ r. ⌜ r ≡ asPrice z ⌝ }
+{
+    if z < 0 {
+        return 0;
+    }
+    z as u64
+}
+
+// A price whose displayed price is from the increment to 100,000; else 0.
+fn ranged(b: &[u32], s: u8, d: u8, p: u64) -> u32
+    requires { ⌜ (length (now b) ≡ size) × (s < 8) × (Figured (now b)) ⌝ }
+    ensures { λ r. ⌜ r ≡ rangedPrice (venueOf (now (b .entry))) s d p ⌝ }
+{
+    let increment = prices::increment_of(b, s);
+    if 100254 < p {
+        return 0;
+    }
+    let price = p as u32;
+    let shown = arithmetic::displayed_price(increment, d, price);
+    if shown < (increment as u64) {
+        return 0;
+    }
+    if 100000 < shown {
+        return 0;
+    }
+    price
+}
+
+// The price of the leg of c at side d of series s: sign × (N - the other leg's sign × its clear price); 0 where there is none in range.
+pub fn leg_price(b: &[u32], taken: Taken, c: Complex, s: u8, d: u8) -> u32
+    requires { ⌜ (length (now b) ≡ size) × (TakenOf taken c (venueOf (now b) .regular)) × (LegsIn c) × (s < 8) × (Figured (now b)) ⌝ }
+    ensures { λ r. ⌜ r ≡ pricedLeg (venueOf (now (b .entry))) c s d ⌝ }
+{
+    let clear = settling::other_clear(b, taken, c, s);
+    if clear == 0 {
+        return 0;
+    }
+    let other = prices::other_leg(c, s);
+    let limit = limit_of(c);
+    let price = arithmetic::signed_price(other.side, clear);
+    ranged(b, s, d, as_price(signed_of(d, limit - price)))
+}
+
+// c is one to one, both its series are open, and N is in band.
+fn may_generate(b: &[u32], taken: Taken, c: Complex) -> bool
+    requires { ⌜ (length (now b) ≡ size) × (TakenOf taken c (venueOf (now b) .regular)) × (LegsIn c) × (Figured (now b)) ⌝ }
+    ensures { λ r. ⌜ r ≡ mayGenerate (venueOf (now (b .entry))) c ⌝ }
+{
+    if !wire::is_one_to_one(c) {
+        return false;
+    }
+    if !prices::both_open(b, c) {
+        return false;
+    }
+    prices::in_band(b, taken, c, limit_of(c))
+}
+
+// A price p at side d of series s is no worse than own, the best regular of its side, and reaches nothing opposite; facing is the best regular there.
+fn stands_clear(b: &[u32], own: u32, facing: u32, s: u8, d: u8, p: u32) -> bool
+    requires { ⌜ (length (now b) ≡ size) × (own ≡ bestRegular (venueOf (now b)) s d) × (facing ≡ bestRegular (venueOf (now b)) s (opposite d)) × (s < 8) × (Figured (now b)) ⌝ }
+    ensures { λ r. ⌜ r ≡ standsClear (venueOf (now (b .entry))) s d p ⌝ }
+{
+    if !settling::shown_well(b, own, s, d, p) {
+        return false;
+    }
+    let f = arithmetic::opposite_of(d);
+    if levels::reaches_any(d, p, prices::best_own(b, facing, s, f)) {
+        return false;
+    }
+    !levels::reaches_any(d, p, prices::away_price(b, s, f))
+}
+
+// What stands at side d of series s gives way to c at price p: it is worse, or of class 1 at an equal price while c is of class 0.
+pub fn gives_way(b: &[u32], c: Complex, s: u8, d: u8, p: u32) -> bool
+    requires { ⌜ (length (now b) ≡ size) × (s < 8) × (d < 2) ⌝ }
+    ensures { λ r. ⌜ r ≡ givesWay (venueOf (now (b .entry))) c d p (leggingAt (venueOf (now (b .entry))) s d) ⌝ }
+{
+    let own = prices::own_price(b, s, d);
+    if levels::is_better(d, p, own) {
+        return true;
+    }
+    if p != own {
+        return false;
+    }
+    if c.class != 0 {
+        return false;
+    }
+    let holder = prices::parent_of(b, places::legging_at(b, arithmetic::place_of(s, d)));
+    holder.class == 1
+}
+
+// All that is asked of a legging order of c at price p but that the others stand, and the ceiling; c may generate.
+fn may_stand(b: &[u32], sides: LegSides, c: Complex, s: u8, d: u8, p: u32) -> bool
+    requires { ⌜ (length (now b) ≡ size) × (SidesOf sides c s d (venueOf (now b) .regular)) × (LegsIn c) × (s < 8) × (d < 2) × (mayGenerate (venueOf (now b)) c ≡ true) × (Figured (now b)) ⌝ }
+    ensures { λ r. ⌜ r ≡ mayStand (venueOf (now (b .entry))) c s d p ⌝ }
+{
+    if !stands_clear(b, sides.own, sides.facing, s, d, p) {
+        return false;
+    }
+    gives_way(b, c, s, d, p)
+}
+
+// The lesser of an order's open quantity and the size at the other leg's clear price.
+fn leg_quantity(taken: Taken, c: Complex, s: u8) -> u32
+    ensures { λ r. ⌜ r ≡ min (c .quantity) (otherTaken taken c s .size) ⌝ }
+{
+    let open = c.quantity as u64;
+    let best = settling::other_level(taken, c, s);
+    if open < best.size {
+        return c.quantity;
+    }
+    best.size as u32
+}
+
+// With l at place n every other legging order passes its test; the grid is of the regular orders alone. The venue is left as it was.
+fn others_stand_with(b: &mut [u32], n: usize, l: Legging) -> bool
+    requires { ⌜ (length (now b) ≡ size) × (Right (now b)) × (n < 16) ⌝ }
+    ensures { λ r. ⌜ r ≡ othersStand (placed n l (venueOf (now (b .entry)))) n 0 (placed n l (venueOf (now (b .entry))) .legging) ⌝ }
+    ensures kept { λ r. ⌜ venueOf (now (b .exit)) ≡ venueOf (now (b .entry)) ⌝ }
+    ensures counts { λ r. ⌜ SameCounts (now (b .entry)) (now (b .exit)) ⌝ }
+{
+    let g = levels::levels(b);
+    let old = places::legging_at(b, n);
+    place_writes::put_legging(b, n, l);
+    let stand = settling::others_stand(b, g, n);
+    place_writes::put_legging(b, n, old);
+    stand
+}
+
+// The legging order of the leg of c at side d of series s, where it may stand; else a free place. c has open quantity, and may generate.
+fn plan_leg(b: &[u32], c: Complex, s: u8, d: u8) -> Legging
+    requires { ⌜ (length (now b) ≡ size) × (Right (now b)) × (LegsIn c) × (s < 8) × (d < 2) × (0 < c .quantity) × (mayGenerate (venueOf (now b)) c ≡ true) ⌝ }
+    ensures { λ r. ⌜ r ≡ plannedLeg (venueOf (now (b .entry))) c s d ⌝ }
+{
+    let none = Legging {
+        parent: 0,
+        price: 0,
+        quantity: 0,
+    };
+    let sides = levels::sides_at(b, c, s, d);
+    let taken = sides.taken;
+    let price = leg_price(b, taken, c, s, d);
+    if price == 0 {
+        return none;
+    }
+    if !may_stand(b, sides, c, s, d, price) {
+        return none;
+    }
+    let quantity = leg_quantity(taken, c, s);
+    Legging {
+        parent: c.id,
+        price,
+        quantity,
+    }
+}
+
+// The ceiling allows one more in series s to the message of this number: the oldest of the last 20 is none, or it was 256 messages before or more.
+fn is_under_ceiling(b: &[u32], number: u32, s: u8) -> bool
+    requires { ⌜ (length (now b) ≡ size) × (s < 8) ⌝ }
+    ensures { λ r. ⌜ r ≡ underCeiling number (generationsOf (venueOf (now (b .entry))) s) ⌝ }
+{
+    let oldest = places::oldest_at(b, s as usize);
+    if oldest == 0 {
+        return true;
+    }
+    (oldest as u64) + 256 <= (number as u64)
+}
+
+// The holder of the place goes, and then l is put there and counted in its series.
+fn make_leg(
+    b: &mut [u32],
+    number: u32,
+    id: u32,
+    s: u8,
+    d: u8,
+    l: Legging,
+    out: &mut [u8],
+    at: usize,
+) -> usize
+    requires { ⌜ (length (now b) ≡ size) × (s < 8) × (d < 2) × (displayed (increment (venueOf (now b)) s) d (l .price) ≤ 100000) × (Figured (now b)) ⌝ }
+    ensures { λ r. ⌜ stage (venueOf (now (b .exit))) (now (out .exit)) r ≡ seen (now (out .entry)) at does madeBy number id s d l (venueOf (now (b .entry))) ⌝ }
+    ensures counts { λ r. ⌜ SameCounts (now (b .entry)) (now (b .exit)) ⌝ }
+{
+    let shown = settling::shown_price(b, s, d, l.price) as u32;
+    let place = arithmetic::place_of(s, d);
+    let pos = removal::remove_at(b, place, place, Cause::Replaced, out, at);
+    place_writes::put_legging(b, place, l);
+    place_writes::count_generation(b, s as usize, number);
+    records::emit_generated(out, pos, id, s, d, l.price, shown, l.quantity)
+}
+
+// The legging order of a leg of c, made where every condition holds. Those that no leg changes are tested before.
+pub fn generate_leg(
+    b: &mut [u32],
+    number: u32,
+    c: Complex,
+    s: u8,
+    d: u8,
+    out: &mut [u8],
+    at: usize,
+) -> usize
+    requires { ⌜ (length (now b) ≡ size) × (Right (now b)) × (LegsIn c) × (s < 8) × (d < 2) × (0 < c .quantity) × (mayGenerate (venueOf (now b)) c ≡ true) ⌝ }
+    ensures { λ r. ⌜ stage (venueOf (now (b .exit))) (now (out .exit)) r ≡ seen (now (out .entry)) at does generateLeg number c s d (venueOf (now (b .entry))) ⌝ }
+    ensures counts { λ r. ⌜ SameCounts (now (b .entry)) (now (b .exit)) ⌝ }
+{
+    let l = plan_leg(b, c, s, d);
+    if l.price == 0 {
+        return at;
+    }
+    if !others_stand_with(b, arithmetic::place_of(s, d), l) {
+        return at;
+    }
+    if !is_under_ceiling(b, number, s) {
+        return at;
+    }
+    make_leg(b, number, c.id, s, d, l, out, at)
+}
+
+// Generation for the first leg and then the second of the order at place i. No legging order changes whether it may.
+pub fn generate_order(b: &mut [u32], number: u32, i: usize, out: &mut [u8], at: usize) -> usize
+    requires { ⌜ (length (now b) ≡ size) × (Right (now b)) ⌝ }
+    ensures { λ r. ⌜ stage (venueOf (now (b .exit))) (now (out .exit)) r ≡ seen (now (out .entry)) at does generate number i (venueOf (now (b .entry))) ⌝ }
+    ensures counts { λ r. ⌜ SameCounts (now (b .entry)) (now (b .exit)) ⌝ }
+{
+    if places::complexes_used(b) <= i {
+        return at;
+    }
+    let c = places::complex_at(b, i);
+    if c.quantity == 0 {
+        return at;
+    }
+    if !may_generate(b, levels::taken_at(b, c), c) {
+        return at;
+    }
+    let pos = generate_leg(b, number, c, c.series1, c.side1, out, at);
+    generate_leg(b, number, c, c.series2, c.side2, out, pos)
+}

@@ -1,0 +1,35 @@
+-- `orders::cancel` meets its contract.
+use mathlib.Core.Path.{_∙_}
+use Rattle.rules.specs.Standing.{settle}
+use Rattle.rules.specs.Complex.{cancel}
+use Rattle.records.proofs.Stages.{follow}
+use Rattle.places.specs.Layout.{venueOf}
+use Rattle.removal.proofs.Removing.{counts-on}
+use Rattle.orders.specs.Effects.{withdrawn}
+use borrow.Author.Needs.{needs}
+use Rattle.orders.proofs.cancel.Statement.{statement}
+use Rattle.orders.proofs.cancel.Tie as tie
+use Rattle.orders.proofs.cancel.Reads as reads
+use Rattle.orders.proofs.cancel.Lts as lts
+use Rattle.orders.proofs.withdraw.Reads as withdraw-reads
+use Rattle.settling.proofs.settle_all.Reads as settle-all-reads
+
+withdraw-requires : tie.Need-withdraw-requires
+withdraw-requires c κs = search needs
+
+settle-all-requires : tie.Need-settle-all-requires
+settle-all-requires c κs = let w = c .before .before .before .before .before .before .withdraw in let s = c .before .before .before .before .before .before .before .before .before .before .before in (w .kept .0 ∙ s .pre .0, w .ensures .1 .right (s .pre .1 .right))
+
+same-length : tie.Need-same-length
+same-length c = search needs
+
+same-length-2 : tie.Need-same-length-2
+same-length-2 c = search needs
+
+returns : tie.Need-returns
+unfolding cancel withdrawn
+returns c = (follow _ (withdrawn (c .before .before .before .before .before .before .before .before .before .before .before .before .before .before .before .before .args .id) (venueOf (c .before .before .before .before .before .before .before .before .before .before .before .before .before .before .before .before .args .b .now))) settle _ _ _ _ _ _ (c .before .before .before .before .before .before .before .before .before .before .before .withdraw .ensures .0) (c .before .before .before .before .settle-all .ensures .0), counts-on _ _ _ (c .before .before .before .before .before .before .before .before .before .before .before .withdraw .ensures .1) (c .before .before .before .before .settle-all .ensures .1))
+
+pub cancel-spec : {M : Type 1} → statement M
+cancel-spec =
+    tie.close (tie.spec withdraw-requires settle-all-requires same-length same-length-2 returns)

@@ -1,0 +1,71 @@
+-- `orders::complex_order` meets its contract.
+use mathlib.Core.Path.{sym, ap, _∙_}
+use Prim.Native.Nat.{ℕ}
+use native.Mathlib.Omega.{arith}
+use Rattle.rules.specs.Trading.{putComplex}
+use Rattle.places.specs.Layout.{venueOf}
+use Rattle.place_writes.proofs.Closed.{dense-complex}
+use Rattle.removal.proofs.Removing.{counts-on}
+use Rattle.orders.proofs.Arriving.{complex-law, counts-more}
+use borrow.Author.Needs.{needs}
+use Rattle.orders.proofs.complex_order.Statement.{statement}
+use Rattle.orders.proofs.complex_order.Tie as tie
+
+complexes-used-requires : tie.Need-complexes-used-requires
+complexes-used-requires c κs = search needs
+
+add-complex-requires : tie.Need-add-complex-requires
+add-complex-requires c κs = search needs
+
+work-requires : tie.Need-work-requires
+work-requires c κs =
+    let a = c .before .before .before .before .add-complex in
+    let s = c .before .before .before .before .before .before .before .before .before .before in
+    (a .kept .0 ∙ s .pre .0, a .ensures .1 .right (s .pre .1 .right), omega (arith, a .ensures .1 .complexes, c .before .before .before .before .before .before .complexes-used .ensures .0))
+
+settle-all-requires : tie.Need-settle-all-requires
+settle-all-requires c κs =
+    let w = c .before .before .before .before .before .before .work in
+    let a = c .before .before .before .before .before .before .before .before .before .before .before .add-complex in
+    let s = c .before .before .before .before .before .before .before .before .before .before .before .before .before .before .before .before .before in
+    (w .kept .0 ∙ a .kept .0 ∙ s .pre .0, w .ensures .1 .right (a .ensures .1 .right (s .pre .1 .right)))
+
+generate-order-requires : tie.Need-generate-order-requires
+generate-order-requires c κs =
+    let x = c .before .before .before .before .before .before .settle-all in
+    let w = c .before .before .before .before .before .before .before .before .before .before .before .before .before .work in
+    let a = c .before .before .before .before .before .before .before .before .before .before .before .before .before .before .before .before .before .before .add-complex in
+    let s = c .before .before .before .before .before .before .before .before .before .before .before .before .before .before .before .before .before .before .before .before .before .before .before .before in
+    (x .kept .0 ∙ w .kept .0 ∙ a .kept .0 ∙ s .pre .0, x .ensures .1 .right (w .ensures .1 .right (a .ensures .1 .right (s .pre .1 .right))))
+
+same-length : tie.Need-same-length
+same-length c = search needs
+
+same-length-2 : tie.Need-same-length-2
+same-length-2 c = search needs
+
+returns : tie.Need-returns
+returns c =
+    let g = c .before .before .before .before .generate-order in
+    let x = c .before .before .before .before .before .before .before .before .before .before .before .settle-all in
+    let w = c .before .before .before .before .before .before .before .before .before .before .before .before .before .before .before .before .before .before .work in
+    let a = c .before .before .before .before .before .before .before .before .before .before .before .before .before .before .before .before .before .before .before .before .before .before .before .add-complex in
+    let u = c .before .before .before .before .before .before .before .before .before .before .before .before .before .before .before .before .before .before .before .before .before .before .before .before .before .complexes-used in
+    let s = c .before .before .before .before .before .before .before .before .before .before .before .before .before .before .before .before .before .before .before .before .before .before .before .before .before .before .before .before .before in (
+      complex-law (s .args .number) (s .args .c) _ _ _ _ _ _ _ _ _ _ _ _ _ _ (u .ensures .0 ∙ sym (dense-complex (s .args .b .now) (s .pre .1)))
+          (a .ensures .0 ∙ ap (λ (k : ℕ). putComplex k (s .args .c) (venueOf (s .args .b .now))) (sym (u .ensures .0))) (w .ensures .0) (x .ensures .0) (g .ensures .0),
+      counts-more _ _ _ _ _ (a .ensures .1) (counts-on _ _ _ (counts-on _ _ _ (w .ensures .1) (x .ensures .1)) (g .ensures .1)),
+    )
+
+pub complex-order-spec : {M : Type 1} → statement M
+complex-order-spec =
+    tie.close
+    (tie.spec
+    complexes-used-requires
+    add-complex-requires
+    work-requires
+    settle-all-requires
+    generate-order-requires
+    same-length
+    same-length-2
+    returns)

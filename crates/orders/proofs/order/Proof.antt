@@ -1,0 +1,35 @@
+-- `orders::order` meets its contract.
+use mathlib.Core.Path.{_∙_}
+use Rattle.rules.specs.Standing.{settle}
+use Rattle.rules.specs.Order.{enterRegular, order}
+use Rattle.records.proofs.Stages.{follow}
+use Rattle.places.specs.Layout.{venueOf}
+use Rattle.orders.proofs.Arriving.{counts-more}
+use borrow.Author.Needs.{needs}
+use Rattle.orders.proofs.order.Statement.{statement}
+use Rattle.orders.proofs.order.Tie as tie
+use Rattle.orders.proofs.order.Reads as reads
+use Rattle.orders.proofs.order.Lts as lts
+use Rattle.settling.proofs.settle_all.Reads as settle-all-reads
+use Rattle.matching.proofs.enter_regular.Reads as enter-regular-reads
+
+enter-regular-requires : tie.Need-enter-regular-requires
+enter-regular-requires c κs = c .before .before .before .before .pre
+
+settle-all-requires : tie.Need-settle-all-requires
+settle-all-requires c κs = let w = c .before .before .before .before .before .before .enter-regular in let s = c .before .before .before .before .before .before .before .before .before .before .before in (w .kept .0 ∙ s .pre .0, w .ensures .1 .right (s .pre .1 .right))
+
+same-length : tie.Need-same-length
+same-length c = search needs
+
+same-length-2 : tie.Need-same-length-2
+same-length-2 c = search needs
+
+returns : tie.Need-returns
+unfolding order
+returns c = (follow _ (enterRegular (c .before .before .before .before .before .before .before .before .before .before .before .before .before .before .before .before .args .o) (venueOf (c .before .before .before .before .before .before .before .before .before .before .before .before .before .before .before .before .args .b .now))) settle _ _ _ _ _ _ (c .before .before .before .before .before .before .before .before .before .before .before .enter-regular .ensures .0) (c .before .before .before .before .settle-all .ensures .0), counts-more _ _ _ _ _ (c .before .before .before .before .before .before .before .before .before .before .before .enter-regular .ensures .1) (c .before .before .before .before .settle-all .ensures .1))
+
+pub order-spec : {M : Type 1} → statement M
+order-spec =
+    tie.close
+    (tie.spec enter-regular-requires settle-all-requires same-length same-length-2 returns)

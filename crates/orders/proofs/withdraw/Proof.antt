@@ -1,0 +1,66 @@
+-- `orders::withdraw` meets its contract.
+use mathlib.Core.Path.{sym, ap, _∙_}
+use Rattle.rules.specs.Effects.{Effect}
+use Rattle.rules.specs.Complex.{restsRegular, restsComplex}
+use Rattle.rules.proofs.Tests.{or-r}
+use Rattle.records.specs.Seen.{seen}
+use Rattle.records.specs.Stage.{_does_}
+use Rattle.places.specs.Layout.{venueOf}
+use Rattle.orders.proofs.Finding.{regular-found, regular-used, regular-not, withdraw-regular, withdraw-other}
+use borrow.Author.Needs.{needs}
+use Rattle.orders.proofs.withdraw.Statement.{statement}
+use Rattle.orders.proofs.withdraw.Tie as tie
+use Rattle.orders.proofs.withdraw.Reads as reads
+use Rattle.orders.proofs.withdraw.Lts as lts
+use Rattle.book.proofs.regular_place.Reads as regular-place-reads
+use Rattle.orders.proofs.withdraw_complex.Reads as withdraw-complex-reads
+use Rattle.trades.proofs.cancel_regular.Reads as cancel-regular-reads
+
+regular-place-requires : tie.Need-regular-place-requires
+regular-place-requires c κs = search needs
+
+enum-known-found : tie.Need-enum-known-found
+enum-known-found c = search needs
+
+enum-told : tie.Need-enum-told
+enum-told c = search needs
+
+withdraw-complex-requires : tie.Need-withdraw-complex-requires
+withdraw-complex-requires c κs = (c .before .before .before .before .before .before .before .before .pre .0, or-r (restsRegular (venueOf (c .before .before .before .before .before .before .before .before .args .b .now)) (c .before .before .before .before .before .before .before .before .args .id)) (restsComplex (venueOf (c .before .before .before .before .before .before .before .before .args .b .now)) (c .before .before .before .before .before .before .before .before .args .id)) (regular-not (c .before .before .before .before .before .before .before .before .args .b .now) (c .before .before .before .before .before .before .before .before .args .id) (sym (c .before .before .enum-told .given .1) ∙ c .before .before .before .before .regular-place .ensures)) (c .before .before .before .before .before .before .before .before .pre .2))
+
+same-length : tie.Need-same-length
+same-length c = search needs
+
+same-length-2 : tie.Need-same-length-2
+same-length-2 c = search needs
+
+returns : tie.Need-returns
+returns c = (c .before .before .before .before .withdraw-complex .ensures .0 ∙ ap (λ (e : Effect). seen (c .before .before .before .before .before .before .before .before .before .before .before .before .before .args .out .now) (c .before .before .before .before .before .before .before .before .before .before .before .before .before .args .at) does e) (withdraw-other _ _ (regular-not (c .before .before .before .before .before .before .before .before .before .before .before .before .before .args .b .now) (c .before .before .before .before .before .before .before .before .before .before .before .before .before .args .id) (sym (c .before .before .before .before .before .before .before .enum-told .given .1) ∙ c .before .before .before .before .before .before .before .before .before .regular-place .ensures))), c .before .before .before .before .withdraw-complex .ensures .1)
+
+cancel-regular-requires : tie.Need-cancel-regular-requires
+cancel-regular-requires c κs = (c .before .before .before .before .before .before .before .before .before .pre .0, regular-used (c .before .before .before .before .before .before .before .before .before .args .b .now) (c .before .before .before .before .before .before .before .before .before .args .id) _ (sym (c .before .before .before .found .given .1) ∙ c .before .before .before .before .before .regular-place .ensures))
+
+same-length-3 : tie.Need-same-length-3
+same-length-3 c = search needs
+
+same-length-4 : tie.Need-same-length-4
+same-length-4 c = search needs
+
+returns-2 : tie.Need-returns-2
+returns-2 c = (c .before .before .before .before .cancel-regular .ensures .0 ∙ ap (λ (e : Effect). seen (c .before .before .before .before .before .before .before .before .before .before .before .before .before .before .args .out .now) (c .before .before .before .before .before .before .before .before .before .before .before .before .before .before .args .at) does e) (withdraw-regular _ _ _ (regular-found (c .before .before .before .before .before .before .before .before .before .before .before .before .before .before .args .b .now) (c .before .before .before .before .before .before .before .before .before .before .before .before .before .before .args .id) _ (sym (c .before .before .before .before .before .before .before .before .found .given .1) ∙ c .before .before .before .before .before .before .before .before .before .before .regular-place .ensures))), c .before .before .before .before .cancel-regular .ensures .1)
+
+pub withdraw-spec : {M : Type 1} → statement M
+withdraw-spec =
+    tie.close
+    (tie.spec
+    regular-place-requires
+    enum-known-found
+    enum-told
+    withdraw-complex-requires
+    same-length
+    same-length-2
+    returns
+    cancel-regular-requires
+    same-length-3
+    same-length-4
+    returns-2)

@@ -1,0 +1,48 @@
+-- `place_writes::add_complex` meets its contract.
+use Rattle.place_writes.proofs.Stores.{added-complex}
+use mathlib.Core.Path.{_∙_}
+use lib.ListN.{length-set}
+use native.Mathlib.Omega.{arith}
+use borrow.Author.Needs.{needs}
+use Rattle.place_writes.proofs.add_complex.Statement.{statement}
+use Rattle.place_writes.proofs.add_complex.Tie as tie
+
+complexes-used-requires : tie.Need-complexes-used-requires
+complexes-used-requires c κs = search needs
+
+write-complex-requires : tie.Need-write-complex-requires
+write-complex-requires c κs = search needs
+
+add-b : tie.Need-add-b
+add-b c = search needs
+
+cast-b : tie.Need-cast-b
+cast-b c = search needs
+
+slice-write-b : tie.Need-slice-write-b
+slice-write-b c = search needs
+
+lower-requires : tie.Need-lower-requires
+lower-requires c κs = (simp length-set (omega arith), omega arith)
+
+same-length : tie.Need-same-length
+same-length c = c .before .before .lower .kept .0 ∙ simp length-set (c .before .before .before .before .before .before .write-complex .kept .0)
+
+returns : tie.Need-returns
+returns c = let s = c .before .before .before .before .before .before .before .before .before .before .before in
+    let w = c .before .before .before .before .before .before .write-complex .ensures in
+    added-complex (s .args .b .now) _ _ _ (s .args .c) (s .pre .0) (s .pre .1) (s .pre .2) (s .pre .3) (s .pre .4) (s .pre .5) (w .1)
+    (c .before .before .before .before .before .before .before .before .complexes-used .ensures .0) (w .0) (c .before .before .lower .ensures)
+
+pub add-complex-spec : {M : Type 1} → statement M
+add-complex-spec =
+    tie.close
+    (tie.spec
+    complexes-used-requires
+    write-complex-requires
+    add-b
+    cast-b
+    slice-write-b
+    lower-requires
+    same-length
+    returns)

@@ -1,0 +1,47 @@
+-- `place_writes::add_regular` meets its contract.
+use Rattle.place_writes.proofs.Stores.{added-regular}
+use mathlib.Core.Path.{_∙_}
+use lib.ListN.{length-set}
+use native.Mathlib.Omega.{arith}
+use borrow.Author.Needs.{needs}
+use Rattle.place_writes.proofs.add_regular.Statement.{statement}
+use Rattle.place_writes.proofs.add_regular.Tie as tie
+
+regulars-used-requires : tie.Need-regulars-used-requires
+regulars-used-requires c κs = search needs
+
+write-regular-requires : tie.Need-write-regular-requires
+write-regular-requires c κs = search needs
+
+add-b : tie.Need-add-b
+add-b c = search needs
+
+cast-b : tie.Need-cast-b
+cast-b c = search needs
+
+slice-write-b : tie.Need-slice-write-b
+slice-write-b c = search needs
+
+lower-requires : tie.Need-lower-requires
+lower-requires c κs = (simp length-set (omega arith), omega arith)
+
+same-length : tie.Need-same-length
+same-length c = c .before .before .lower .kept .0 ∙ simp length-set (c .before .before .before .before .before .before .write-regular .kept .0)
+
+returns : tie.Need-returns
+returns c = let s = c .before .before .before .before .before .before .before .before .before .before .before in
+    added-regular (s .args .b .now) _ _ _ (s .args .o) (s .pre .0) (s .pre .1) (s .pre .2) (s .pre .3) (s .pre .4) (s .pre .5)
+    (c .before .before .before .before .before .before .before .before .regulars-used .ensures .0) (c .before .before .before .before .before .before .write-regular .ensures) (c .before .before .lower .ensures)
+
+pub add-regular-spec : {M : Type 1} → statement M
+add-regular-spec =
+    tie.close
+    (tie.spec
+    regulars-used-requires
+    write-regular-requires
+    add-b
+    cast-b
+    slice-write-b
+    lower-requires
+    same-length
+    returns)

@@ -1,0 +1,75 @@
+-- `place_writes::base_figures` meets its contract.
+use Prim.Native.Nat.{_-_, _≤_}
+use mathlib.Core.Path.{_≡_}
+use native.Mathlib.Omega.{arith}
+use lib.ListN.{length}
+use Rattle.places.specs.Layout.{size}
+use Rattle.place_writes.proofs.Figures.{Based, based-first, based-next, based-last}
+use borrow.Author.Needs.{needs}
+use Rattle.place_writes.proofs.base_figures.Statement.{statement}
+use Rattle.place_writes.proofs.base_figures.Tie as tie
+
+abbrev Inv-loop : tie.InvT-loop
+Inv-loop b₀ f₀ b f = (f ≤ 9) × (length b ≡ size) × Based b₀ b f
+
+abbrev μ-loop : tie.MeasureT-loop
+μ-loop b₀ f₀ b f = 9 - f
+
+loop-holds : tie.Need-loop-holds Inv-loop μ-loop
+loop-holds c = (omega arith, c .before .pre, based-first _ (c .before .pre))
+
+base-figure-requires : tie.Need-base-figure-requires Inv-loop μ-loop
+base-figure-requires c κs = search needs
+
+cast-b : tie.Need-cast-b Inv-loop μ-loop
+cast-b c = search needs
+
+cast-b-2 : tie.Need-cast-b-2 Inv-loop μ-loop
+cast-b-2 c = search needs
+
+mul-b : tie.Need-mul-b Inv-loop μ-loop
+mul-b c = search needs
+
+add-b : tie.Need-add-b Inv-loop μ-loop
+add-b c = search needs
+
+mul-b-2 : tie.Need-mul-b-2 Inv-loop μ-loop
+mul-b-2 c = search needs
+
+slice-write-b : tie.Need-slice-write-b Inv-loop μ-loop
+slice-write-b c = omega arith
+
+add-f : tie.Need-add-f Inv-loop μ-loop
+add-f c = search needs
+
+loop-less : tie.Need-loop-less Inv-loop μ-loop
+loop-less c = search needs
+
+loop-again : tie.Need-loop-again Inv-loop μ-loop
+loop-again c = let m = based-next _ _ _ _ (c .before .before .loop .inv .2) (c .before .loop-test .taken) (c .base-figure .ensures) in (omega arith, m .aside .long, m)
+
+same-length : tie.Need-same-length Inv-loop μ-loop
+same-length c = omega arith
+
+returns : tie.Need-returns Inv-loop μ-loop
+returns c = based-last _ _ _ (c .before .loop .inv .2) (omega arith)
+
+pub base-figures-spec : {M : Type 1} → statement M
+base-figures-spec =
+    tie.close
+    (tie.spec
+    Inv-loop
+    μ-loop
+    loop-holds
+    base-figure-requires
+    cast-b
+    cast-b-2
+    mul-b
+    add-b
+    mul-b-2
+    slice-write-b
+    add-f
+    loop-less
+    loop-again
+    same-length
+    returns)

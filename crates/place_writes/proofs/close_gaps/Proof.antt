@@ -1,0 +1,24 @@
+-- `place_writes::close_gaps` meets its contract.
+use mathlib.Core.Path.{_∙_}
+use Rattle.place_writes.proofs.Closed.{both-closed}
+use borrow.Author.Needs.{needs}
+use Rattle.place_writes.proofs.close_gaps.Statement.{statement}
+use Rattle.place_writes.proofs.close_gaps.Tie as tie
+
+close-regulars-requires : tie.Need-close-regulars-requires
+close-regulars-requires c κs = search needs
+
+close-complexes-requires : tie.Need-close-complexes-requires
+close-complexes-requires c κs = let r = c .before .before .before .close-regulars in
+    (r .kept .0 ∙ c .before .before .before .before .before .before .pre .0, r .ensures .counts .right (c .before .before .before .before .before .before .pre .1) .marked)
+
+same-length : tie.Need-same-length
+same-length c = search needs
+
+returns : tie.Need-returns
+returns c =
+    both-closed _ _ _ (c .before .before .before .before .before .before .before .before .before .pre .1) (c .before .before .before .before .before .before .close-regulars .ensures) (c .before .before .close-complexes .ensures)
+
+pub close-gaps-spec : {M : Type 1} → statement M
+close-gaps-spec =
+    tie.close (tie.spec close-regulars-requires close-complexes-requires same-length returns)

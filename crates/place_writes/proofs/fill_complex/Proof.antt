@@ -1,0 +1,82 @@
+-- `place_writes::fill_complex` meets its contract.
+use mathlib.Core.Path.{_∙_}
+use native.Mathlib.Omega.{arith}
+use lib.ListN.{length-set}
+use Rattle.places.specs.Layout.{complexesUsed}
+use Rattle.place_writes.proofs.Stores.{complex-stays, complex-leaves}
+use borrow.Author.Needs.{needs}
+use Rattle.place_writes.proofs.fill_complex.Statement.{statement}
+use Rattle.place_writes.proofs.fill_complex.Tie as tie
+
+mul-q : tie.Need-mul-q
+unfolding complexesUsed
+mul-q c = record { fits = omega arith }
+
+add-q : tie.Need-add-q
+unfolding complexesUsed
+add-q c = record { fits = omega arith }
+
+mul-q-2 : tie.Need-mul-q-2
+unfolding complexesUsed
+mul-q-2 c = record { fits = omega arith }
+
+slice-read-q : tie.Need-slice-read-q
+unfolding complexesUsed
+slice-read-q c = omega arith
+
+less-requires : tie.Need-less-requires
+less-requires c κs = search needs
+
+mul-b : tie.Need-mul-b
+unfolding complexesUsed
+mul-b c = record { fits = omega arith }
+
+add-b : tie.Need-add-b
+unfolding complexesUsed
+add-b c = record { fits = omega arith }
+
+mul-b-2 : tie.Need-mul-b-2
+unfolding complexesUsed
+mul-b-2 c = record { fits = omega arith }
+
+slice-write-b : tie.Need-slice-write-b
+unfolding complexesUsed
+slice-write-b c = omega arith
+
+same-length : tie.Need-same-length
+same-length c = search needs
+
+returns : tie.Need-returns
+returns c = let s = c .before .before .before .before in
+    complex-stays (s .args .b .now) (s .args .i) (s .args .k) (c .before .less .result) (s .pre .0) (s .pre .1) (c .before .less .ensures) (c .if1 .taken)
+
+lower-requires : tie.Need-lower-requires
+unfolding complexesUsed
+lower-requires c κs = (simp length-set (omega arith), omega arith)
+
+same-length-2 : tie.Need-same-length-2
+same-length-2 c = c .before .before .lower .kept .0 ∙ simp length-set
+
+returns-2 : tie.Need-returns-2
+returns-2 c = let s = c .before .before .before .before .before .before .before .before in
+    let l = c .before .before .before .before .before .less in
+    complex-leaves (s .args .b .now) (s .args .i) (s .args .k) (l .result) (s .pre .0) (s .pre .1) (l .ensures) _ (c .before .before .lower .ensures)
+
+pub fill-complex-spec : {M : Type 1} → statement M
+fill-complex-spec =
+    tie.close
+    (tie.spec
+    mul-q
+    add-q
+    mul-q-2
+    slice-read-q
+    less-requires
+    mul-b
+    add-b
+    mul-b-2
+    slice-write-b
+    same-length
+    returns
+    lower-requires
+    same-length-2
+    returns-2)

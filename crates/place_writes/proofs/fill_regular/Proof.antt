@@ -1,0 +1,117 @@
+-- `place_writes::fill_regular` meets its contract.
+use mathlib.Core.Path.{_∙_}
+use native.Mathlib.Omega.{arith}
+use lib.ListN.{length-set}
+use Rattle.places.specs.Layout.{regularsUsed}
+use Rattle.place_writes.proofs.Stores.{regular-stays, regular-hides, regular-leaves}
+use borrow.Author.Needs.{needs}
+use Rattle.place_writes.proofs.fill_regular.Statement.{statement}
+use Rattle.place_writes.proofs.fill_regular.Tie as tie
+
+mul-q : tie.Need-mul-q
+unfolding regularsUsed
+mul-q c = record { fits = omega arith }
+
+add-q : tie.Need-add-q
+unfolding regularsUsed
+add-q c = record { fits = omega arith }
+
+mul-q-2 : tie.Need-mul-q-2
+unfolding regularsUsed
+mul-q-2 c = record { fits = omega arith }
+
+slice-read-q : tie.Need-slice-read-q
+unfolding regularsUsed
+slice-read-q c = omega arith
+
+less-requires : tie.Need-less-requires
+less-requires c κs = search needs
+
+mul-b : tie.Need-mul-b
+unfolding regularsUsed
+mul-b c = record { fits = omega arith }
+
+add-b : tie.Need-add-b
+unfolding regularsUsed
+add-b c = record { fits = omega arith }
+
+mul-b-2 : tie.Need-mul-b-2
+unfolding regularsUsed
+mul-b-2 c = record { fits = omega arith }
+
+slice-write-b : tie.Need-slice-write-b
+unfolding regularsUsed
+slice-write-b c = omega arith
+
+lower-requires : tie.Need-lower-requires
+unfolding regularsUsed
+lower-requires c κs = (simp length-set (omega arith), omega arith)
+
+same-length : tie.Need-same-length
+same-length c = c .before .before .lower .kept .0 ∙ simp length-set
+
+returns : tie.Need-returns
+returns c = let s = c .before .before .before .before .before .before .before .before in
+    let l = c .before .before .before .before .before .less in
+    regular-leaves (s .args .b .now) (s .args .i) (s .args .k) (l .result) (s .pre .0) (s .pre .1) (l .ensures) (c .before .before .before .before .if1 .taken) _ (c .before .before .lower .ensures)
+
+mul-if2 : tie.Need-mul-if2
+unfolding regularsUsed
+mul-if2 c = record { fits = omega arith }
+
+add-if2 : tie.Need-add-if2
+unfolding regularsUsed
+add-if2 c = record { fits = omega arith }
+
+mul-if2-2 : tie.Need-mul-if2-2
+unfolding regularsUsed
+mul-if2-2 c = record { fits = omega arith }
+
+slice-read-if2 : tie.Need-slice-read-if2
+unfolding regularsUsed
+slice-read-if2 c = simp length-set (omega arith)
+
+same-length-2 : tie.Need-same-length-2
+same-length-2 c = search needs
+
+returns-2 : tie.Need-returns-2
+returns-2 c = let s = c .before .before .before .before .before .before in
+    let l = c .before .before .before .less in
+    regular-stays (s .args .b .now) (s .args .i) (s .args .k) (l .result) (s .pre .0) (s .pre .1) (l .ensures) (omega arith) (c .if2 .taken)
+
+slice-write-b-2 : tie.Need-slice-write-b-2
+slice-write-b-2 c = search needs
+
+same-length-3 : tie.Need-same-length-3
+same-length-3 c = search needs
+
+returns-3 : tie.Need-returns-3
+returns-3 c = let s = c .before .before .before .before .before .before in
+    let l = c .before .before .before .less in
+    regular-hides (s .args .b .now) (s .args .i) (s .args .k) (l .result) (s .pre .0) (s .pre .1) (l .ensures) (omega arith)
+
+pub fill-regular-spec : {M : Type 1} → statement M
+fill-regular-spec =
+    tie.close
+    (tie.spec
+    mul-q
+    add-q
+    mul-q-2
+    slice-read-q
+    less-requires
+    mul-b
+    add-b
+    mul-b-2
+    slice-write-b
+    lower-requires
+    same-length
+    returns
+    mul-if2
+    add-if2
+    mul-if2-2
+    slice-read-if2
+    same-length-2
+    returns-2
+    slice-write-b-2
+    same-length-3
+    returns-3)

@@ -1,0 +1,75 @@
+-- `place_writes::put_generations` meets its contract.
+use mathlib.Core.Path.{_≡_}
+use Prim.Native.Nat.{_+_, _-_, _*_, _≤_}
+use native.Mathlib.Omega.{arith}
+use lib.ListN.{length}
+use Rattle.places.specs.Layout.{size}
+use Rattle.place_writes.proofs.GenerationsPut.{Written, written-first, listFrom, put-next, put-generations}
+use borrow.Author.Needs.{needs}
+use Rattle.place_writes.proofs.put_generations.Statement.{statement}
+use Rattle.place_writes.proofs.put_generations.Tie as tie
+
+abbrev Inv-loop : tie.InvT-loop
+Inv-loop b₀ s messages k₀ b k = (k ≤ 20) × (length b ≡ size) × Written (listFrom (20 * s + 1232) messages) (20 * s + 1232) (20 * s + k + 1232) b₀ b
+
+abbrev μ-loop : tie.MeasureT-loop
+μ-loop b₀ s messages k₀ b k = 20 - k
+
+loop-holds : tie.Need-loop-holds Inv-loop μ-loop
+loop-holds c = (omega arith, c .before .pre .0, written-first _ _ _ _ (c .before .pre .0) (omega arith))
+
+mul-b : tie.Need-mul-b Inv-loop μ-loop
+mul-b c = search needs
+
+array-read-b : tie.Need-array-read-b Inv-loop μ-loop
+array-read-b c = search needs
+
+mul-b-2 : tie.Need-mul-b-2 Inv-loop μ-loop
+mul-b-2 c = search needs
+
+add-b : tie.Need-add-b Inv-loop μ-loop
+add-b c = search needs
+
+add-b-2 : tie.Need-add-b-2 Inv-loop μ-loop
+add-b-2 c = search needs
+
+mul-b-3 : tie.Need-mul-b-3 Inv-loop μ-loop
+mul-b-3 c = search needs
+
+slice-write-b : tie.Need-slice-write-b Inv-loop μ-loop
+slice-write-b c = omega arith
+
+add-k : tie.Need-add-k Inv-loop μ-loop
+add-k c = search needs
+
+loop-less : tie.Need-loop-less Inv-loop μ-loop
+loop-less c = search needs
+
+loop-again : tie.Need-loop-again Inv-loop μ-loop
+loop-again c = let m = put-next _ _ (c .before .before .before .args .g .messages) _ _ (c .before .loop .inv .2) (omega arith) (omega arith) in (omega arith, m .long, m)
+
+same-length : tie.Need-same-length Inv-loop μ-loop
+same-length c = omega arith
+
+returns : tie.Need-returns Inv-loop μ-loop
+returns c = put-generations _ _ _ _ _ (omega arith) (search needs) (omega arith) (c .before .loop .inv .2)
+
+pub put-generations-spec : {M : Type 1} → statement M
+put-generations-spec =
+    tie.close
+    (tie.spec
+    Inv-loop
+    μ-loop
+    loop-holds
+    mul-b
+    array-read-b
+    mul-b-2
+    add-b
+    add-b-2
+    mul-b-3
+    slice-write-b
+    add-k
+    loop-less
+    loop-again
+    same-length
+    returns)

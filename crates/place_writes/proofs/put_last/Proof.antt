@@ -1,0 +1,24 @@
+-- `place_writes::put_last` meets its contract.
+use Rattle.places.proofs.Parts.{stored}
+use Rattle.places.proofs.Beside.{counts-kept}
+use mathlib.Core.Logic.{inl}
+use native.Mathlib.Omega.{arith}
+use Rattle.place_writes.proofs.Stores.{put-last}
+use borrow.Author.Needs.{needs}
+use Rattle.place_writes.proofs.put_last.Statement.{statement}
+use Rattle.place_writes.proofs.put_last.Tie as tie
+
+slice-write-b : tie.Need-slice-write-b
+slice-write-b c = search needs
+
+same-length : tie.Need-same-length
+same-length c = search needs
+
+returns : tie.Need-returns
+returns c = (
+  put-last (c .args .b .now) (c .args .id) (c .pre),
+  counts-kept (stored (c .args .b .now) 778 (c .args .id)) (omega arith) (omega arith) (inl (omega arith)),
+)
+
+pub put-last-spec : {M : Type 1} → statement M
+put-last-spec = tie.close (tie.spec slice-write-b same-length returns)

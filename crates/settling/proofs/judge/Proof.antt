@@ -1,0 +1,53 @@
+-- `settling::judge` meets its contract.
+use Rattle.settling.proofs.Testing.{verdict-free, verdict-held}
+use Rattle.levels.specs.Grid.{LegsIn}
+use Rattle.levels.proofs.Sides.{sides-right}
+use Rattle.prices.proofs.Prices.{parent-legs}
+use Rattle.removal.proofs.Removing.{legging-at}
+use native.Mathlib.Omega.{arith}
+use mathlib.Core.Path.{sym, _∙_}
+use borrow.Author.Needs.{needs}
+use Rattle.settling.proofs.judge.Statement.{statement}
+use Rattle.settling.proofs.judge.Tie as tie
+
+legging-at-requires : tie.Need-legging-at-requires
+legging-at-requires c κs = search needs
+
+returns : tie.Need-returns
+returns c = verdict-free _ _ (c .before .before .legging-at .result) _ (c .before .before .legging-at .ensures ∙ sym (legging-at (c .before .before .before .before .args .b .now) (c .before .before .before .before .args .n) (c .before .before .before .before .pre .2))) (c .if1 .taken)
+
+parent-of-requires : tie.Need-parent-of-requires
+parent-of-requires c κs = search needs
+
+cast-s : tie.Need-cast-s
+cast-s c = search needs
+
+cast-d : tie.Need-cast-d
+cast-d c = search needs
+
+sides-of-requires : tie.Need-sides-of-requires
+sides-of-requires c κs = (rw (c .parent-of .ensures) (parent-legs (c .before .before .before .before .before .args .b .now) (c .before .before .before .legging-at .result)), omega arith, omega arith)
+
+test-order-requires : tie.Need-test-order-requires
+test-order-requires c κs =
+    let p = c .before .before .before .before .before .before .pre in
+    let legs : LegsIn (c .before .parent-of .result) = rw (c .before .parent-of .ensures) (parent-legs (c .before .before .before .before .before .before .args .b .now) (c .before .before .before .before .legging-at .result)) in
+    (p .0, sides-right (c .before .before .before .before .before .before .args .g) _ (p .1) (c .before .parent-of .result) legs _ _ (omega arith) (omega arith) (c .sides-of .result) (c .sides-of .ensures), legs, omega arith, p .3)
+
+returns-2 : tie.Need-returns-2
+returns-2 c =
+    verdict-held _ _ (c .before .before .before .before .before .legging-at .result) _ (c .before .before .parent-of .result) _
+    (c .before .before .before .before .before .legging-at .ensures ∙ sym (legging-at (c .before .before .before .before .before .before .before .args .b .now) (c .before .before .before .before .before .before .before .args .n) (c .before .before .before .before .before .before .before .pre .2))) (c .before .before .before .if1 .left) (c .before .before .parent-of .ensures) (c .test-order .ensures)
+
+pub judge-spec : {M : Type 1} → statement M
+judge-spec =
+    tie.close
+    (tie.spec
+    legging-at-requires
+    returns
+    parent-of-requires
+    cast-s
+    cast-d
+    sides-of-requires
+    test-order-requires
+    returns-2)

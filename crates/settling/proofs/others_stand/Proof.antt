@@ -1,0 +1,88 @@
+-- `settling::others_stand` meets its contract.
+use Rattle.settling.proofs.Marking.{standFrom, stand-own, stand-free, stand-past, stand-fails, stand-end, stand-all}
+use Rattle.places.specs.Layout.{venueOf}
+use Rattle.rules.specs.Generation.{othersStand}
+use mathlib.Core.Path.{_≡_, _∙_}
+use Prim.Native.Nat.{_-_, _≤_}
+use borrow.Author.Needs.{needs}
+use Rattle.settling.proofs.others_stand.Statement.{statement}
+use Rattle.settling.proofs.others_stand.Tie as tie
+
+abbrev Inv-loop : tie.InvT-loop
+Inv-loop b g m n₀ n = (n ≤ 16) × (standFrom b m n ≡ othersStand (venueOf b) m 0 (venueOf b .legging))
+
+abbrev μ-loop : tie.MeasureT-loop
+μ-loop b g m n₀ n = 16 - n
+
+loop-holds : tie.Need-loop-holds Inv-loop μ-loop
+loop-holds c = (search needs, stand-all _ _)
+
+add-n : tie.Need-add-n Inv-loop μ-loop
+add-n c = search needs
+
+loop-less : tie.Need-loop-less Inv-loop μ-loop
+loop-less c = search needs
+
+loop-again : tie.Need-loop-again Inv-loop μ-loop
+loop-again c = (search needs, stand-own (c .before .before .before .before .args .b .now) (c .before .before .before .before .args .m) (c .before .before .loop .n) (c .before .loop-test .taken) (c .if1 .taken) ∙ c .before .before .loop .inv .1)
+
+legging-at-requires : tie.Need-legging-at-requires Inv-loop μ-loop
+legging-at-requires c κs = search needs
+
+loop-less-2 : tie.Need-loop-less-2 Inv-loop μ-loop
+loop-less-2 c = search needs
+
+loop-again-2 : tie.Need-loop-again-2 Inv-loop μ-loop
+loop-again-2 c = (
+  search needs,
+  stand-free (c .before .before .before .before .before .before .before .args .b .now) (c .before .before .before .before .before .before .before .args .m) (c .before .before .before .before .before .loop .n) (c .before .before .before .before .loop-test .taken) (c .before .before .before .if1 .left) (c .before .before .legging-at .result) (c .before .before .legging-at .ensures) (c .if2 .taken)
+      ∙ c .before .before .before .before .before .loop .inv .1,
+)
+
+judge-requires : tie.Need-judge-requires Inv-loop μ-loop
+judge-requires c κs = search needs
+
+enum-told : tie.Need-enum-told Inv-loop μ-loop
+enum-told c = search needs
+
+loop-less-3 : tie.Need-loop-less-3 Inv-loop μ-loop
+loop-less-3 c = search needs
+
+loop-again-3 : tie.Need-loop-again-3 Inv-loop μ-loop
+loop-again-3 c = (
+  search needs,
+  stand-past (c .before .before .before .before .before .before .before .before .before .before .args .b .now) (c .before .before .before .before .before .before .before .before .before .before .args .m) (c .before .before .before .before .before .before .before .before .loop .n) (c .before .before .before .before .before .before .before .loop-test .taken) (c .before .before .before .before .before .before .if1 .left) (c .before .before .judge .result) (c .before .before .judge .ensures) (c .enum-told .given .1)
+      ∙ c .before .before .before .before .before .before .before .before .loop .inv .1,
+)
+
+enum-told-2 : tie.Need-enum-told-2 Inv-loop μ-loop
+enum-told-2 c = search needs
+
+returns : tie.Need-returns Inv-loop μ-loop
+returns c =
+    stand-fails (c .before .before .before .before .before .before .before .before .before .before .args .b .now) (c .before .before .before .before .before .before .before .before .before .before .args .m) (c .before .before .before .before .before .before .before .before .loop .n) (c .before .before .before .before .before .before .before .loop-test .taken) (c .before .before .before .before .before .before .if1 .left) (c .before .before .judge .result) (c .before .before .judge .ensures) _ (c .enum-told2 .given .1)
+    ∙ c .before .before .before .before .before .before .before .before .loop .inv .1
+
+returns-2 : tie.Need-returns-2 Inv-loop μ-loop
+returns-2 c = stand-end (c .before .before .before .args .b .now) (c .before .before .before .args .m) (c .before .loop .n) (c .loop-test .left) ∙ c .before .loop .inv .1
+
+pub others-stand-spec : {M : Type 1} → statement M
+others-stand-spec =
+    tie.close
+    (tie.spec
+    Inv-loop
+    μ-loop
+    loop-holds
+    add-n
+    loop-less
+    loop-again
+    legging-at-requires
+    loop-less-2
+    loop-again-2
+    judge-requires
+    enum-told
+    loop-less-3
+    loop-again-3
+    enum-told-2
+    returns
+    returns-2)

@@ -1,0 +1,83 @@
+-- `settling::remove_failing` meets its contract.
+use Rattle.removal.proofs.Removing.{remove-none, unmarked, marked-is}
+use Rattle.places.specs.Layout.{venueOf}
+use Rattle.records.proofs.Stages.{does-nothing}
+use Rattle.records.specs.Stage.{_does_}
+use Rattle.records.specs.Seen.{seen}
+use Rattle.rules.specs.Standing.{verdict}
+use Rattle.rules.specs.Effects.{Effect}
+use borrow.Author.Tests.{eqb-true}
+use mathlib.Core.Path.{refl, sym, ap, _∙_}
+use borrow.Author.Needs.{needs}
+use Rattle.settling.proofs.remove_failing.Statement.{statement}
+use Rattle.settling.proofs.remove_failing.Tie as tie
+
+none-stands-requires : tie.Need-none-stands-requires
+none-stands-requires c κs = search needs
+
+same-length : tie.Need-same-length
+same-length c = search needs
+
+returns : tie.Need-returns
+returns c =
+    let p1 = c .before in
+    let a = p1 .before .before .before .before .args in
+    let v = venueOf (a .b .now) in (
+      does-nothing v (a .out .now) (a .at)
+          ∙ ap (λ (e : Effect). seen (a .out .now) (a .at) does e) (sym (remove-none (verdict v) v (eqb-true _ _ (sym (p1 .none-stands .ensures) ∙ c .if1 .taken)))),
+      record { regulars = refl; complexes = refl; right = λ h. h },
+    )
+
+levels-requires : tie.Need-levels-requires
+levels-requires c κs = search needs
+
+verdicts-requires : tie.Need-verdicts-requires
+verdicts-requires c κs = search needs
+
+same-length-2 : tie.Need-same-length-2
+same-length-2 c = search needs
+
+returns-2 : tie.Need-returns-2
+returns-2 c =
+    let p1 = c .before in
+    let a = p1 .before .before .before .before .before .before .before .before .before .args in
+    let v = venueOf (a .b .now) in
+    let m = p1 .verdicts in (
+      does-nothing v (a .out .now) (a .at)
+          ∙ ap (λ (e : Effect). seen (a .out .now) (a .at) does e) (unmarked (m .result) v (c .if2 .taken) ∙ marked-is (verdict v) (m .result) (a .b .now) (m .ensures)),
+      record { regulars = refl; complexes = refl; right = λ h. h },
+    )
+
+remove-marked-requires : tie.Need-remove-marked-requires
+remove-marked-requires c κs = search needs
+
+same-length-3 : tie.Need-same-length-3
+same-length-3 c = search needs
+
+same-length-4 : tie.Need-same-length-4
+same-length-4 c = search needs
+
+returns-3 : tie.Need-returns-3
+returns-3 c =
+    let p4 = c .before .before .before .before in
+    let p8 = p4 .before .before .before .before in
+    let a = p8 .before .before .before .before .before .before .before .before .before .args in
+    let m = p8 .verdicts in
+    let w = p4 .remove-marked in
+    (w .ensures .0 ∙ ap (λ (e : Effect). seen (a .out .now) (a .at) does e) (marked-is (verdict (venueOf (a .b .now))) (m .result) (a .b .now) (m .ensures)), w .ensures .1)
+
+pub remove-failing-spec : {M : Type 1} → statement M
+remove-failing-spec =
+    tie.close
+    (tie.spec
+    none-stands-requires
+    same-length
+    returns
+    levels-requires
+    verdicts-requires
+    same-length-2
+    returns-2
+    remove-marked-requires
+    same-length-3
+    same-length-4
+    returns-3)

@@ -1,0 +1,100 @@
+-- `settling::test_order` meets its contract.
+use Rattle.settling.proofs.Testing.{off, on, shown-is}
+use Rattle.levels.proofs.Sides.{own-is}
+use Rattle.places.specs.Layout.{venueOf}
+use Rattle.rules.proofs.Machine.{back}
+use Rattle.rules.specs.Standing.{verdictOf}
+use Rattle.rules.specs.Prices.{inBand}
+use lib.IntN.{natAbs}
+use native.Mathlib.Omega.{arith}
+use mathlib.Core.Path.{ap, _∙_}
+use borrow.Author.Needs.{needs}
+use Rattle.settling.proofs.test_order.Statement.{statement}
+use Rattle.settling.proofs.test_order.Tie as tie
+
+shown-well-requires : tie.Need-shown-well-requires
+shown-well-requires c κs = search needs
+
+returns : tie.Need-returns
+unfolding verdictOf
+returns c = simp (off _ _ (shown-is (venueOf (c .before .before .before .args .b .now)) _ _ _ _ _ (own-is _ (c .before .before .before .args .sides) (c .before .before .before .args .c) _ _ (c .before .before .before .pre .1)) (c .before .shown-well .ensures)) (c .if1 .taken))
+
+limit-of-requires : tie.Need-limit-of-requires
+limit-of-requires c κs = search needs
+
+in-band-requires : tie.Need-in-band-requires
+in-band-requires c κs =
+    let p = c .before .before .before .before .before .pre in
+    let w = c .limit-of in
+    let q = back {z = w .result} (record { sfits = w .ok }) in
+    (p .0, p .1 .taken, p .2, omega (arith, ap natAbs q, w .ensures .1), p .4)
+
+returns-2 : tie.Need-returns-2
+unfolding verdictOf
+returns-2 c =
+    let a = c .before .before .before .before .before .before .before .args in
+    let w = c .before .before .limit-of in
+    let q = back {z = w .result} (record { sfits = w .ok }) ∙ w .ensures .0 in
+    simp (
+      on _ _ (shown-is (venueOf (c .before .before .before .before .before .before .before .args .b .now)) _ _ _ _ _ (own-is _ (c .before .before .before .before .before .before .before .args .sides) (c .before .before .before .before .before .before .before .args .c) _ _ (c .before .before .before .before .before .before .before .pre .1)) (c .before .before .before .before .before .shown-well .ensures)) (c .before .before .before .before .if1 .left),
+      off _ _ (c .before .in-band .ensures ∙ ap (inBand (venueOf (a .b .now)) (a .c)) q) (c .if2 .taken),
+    )
+
+can-pair-requires : tie.Need-can-pair-requires
+can-pair-requires c κs = search needs
+
+returns-3 : tie.Need-returns-3
+unfolding verdictOf
+returns-3 c =
+    let a = c .before .before .before .before .before .before .before .before .before .args in
+    let w = c .before .before .before .before .limit-of in
+    let q = back {z = w .result} (record { sfits = w .ok }) ∙ w .ensures .0 in
+    simp (
+      on _ _ (shown-is (venueOf (c .before .before .before .before .before .before .before .before .before .args .b .now)) _ _ _ _ _ (own-is _ (c .before .before .before .before .before .before .before .before .before .args .sides) (c .before .before .before .before .before .before .before .before .before .args .c) _ _ (c .before .before .before .before .before .before .before .before .before .pre .1)) (c .before .before .before .before .before .before .before .shown-well .ensures)) (c .before .before .before .before .before .before .if1 .left),
+      on _ _ (c .before .before .before .in-band .ensures ∙ ap (inBand (venueOf (a .b .now)) (a .c)) q) (c .before .before .if2 .left),
+      off _ _ (c .before .can-pair .ensures) (c .if3 .taken),
+    )
+
+both-open-requires : tie.Need-both-open-requires
+both-open-requires c κs = search needs
+
+returns-4 : tie.Need-returns-4
+unfolding verdictOf
+returns-4 c =
+    let a = c .before .before .before .before .before .before .before .before .before .before .before .args in
+    let w = c .before .before .before .before .before .before .limit-of in
+    let q = back {z = w .result} (record { sfits = w .ok }) ∙ w .ensures .0 in
+    simp (
+      on _ _ (shown-is (venueOf (c .before .before .before .before .before .before .before .before .before .before .before .args .b .now)) _ _ _ _ _ (own-is _ (c .before .before .before .before .before .before .before .before .before .before .before .args .sides) (c .before .before .before .before .before .before .before .before .before .before .before .args .c) _ _ (c .before .before .before .before .before .before .before .before .before .before .before .pre .1)) (c .before .before .before .before .before .before .before .before .before .shown-well .ensures)) (c .before .before .before .before .before .before .before .before .if1 .left),
+      on _ _ (c .before .before .before .before .before .in-band .ensures ∙ ap (inBand (venueOf (a .b .now)) (a .c)) q) (c .before .before .before .before .if2 .left),
+      on _ _ (c .before .before .before .can-pair .ensures) (c .before .before .if3 .left),
+      off _ _ (c .before .both-open .ensures) (c .if4 .taken),
+    )
+
+returns-5 : tie.Need-returns-5
+unfolding verdictOf
+returns-5 c =
+    let a = c .before .before .before .before .before .before .before .before .before .before .before .args in
+    let w = c .before .before .before .before .before .before .limit-of in
+    let q = back {z = w .result} (record { sfits = w .ok }) ∙ w .ensures .0 in
+    simp (
+      on _ _ (shown-is (venueOf (c .before .before .before .before .before .before .before .before .before .before .before .args .b .now)) _ _ _ _ _ (own-is _ (c .before .before .before .before .before .before .before .before .before .before .before .args .sides) (c .before .before .before .before .before .before .before .before .before .before .before .args .c) _ _ (c .before .before .before .before .before .before .before .before .before .before .before .pre .1)) (c .before .before .before .before .before .before .before .before .before .shown-well .ensures)) (c .before .before .before .before .before .before .before .before .if1 .left),
+      on _ _ (c .before .before .before .before .before .in-band .ensures ∙ ap (inBand (venueOf (a .b .now)) (a .c)) q) (c .before .before .before .before .if2 .left),
+      on _ _ (c .before .before .before .can-pair .ensures) (c .before .before .if3 .left),
+      on _ _ (c .before .both-open .ensures) (c .if4 .left),
+    )
+
+pub test-order-spec : {M : Type 1} → statement M
+test-order-spec =
+    tie.close
+    (tie.spec
+    shown-well-requires
+    returns
+    limit-of-requires
+    in-band-requires
+    returns-2
+    can-pair-requires
+    returns-3
+    both-open-requires
+    returns-4
+    returns-5)

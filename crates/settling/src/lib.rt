@@ -1,0 +1,201 @@
+// The test by which legging orders stand, and settling.
+use arithmetic::limit_of;
+use levels::LegSides;
+use levels::Taken;
+use places::Level;
+use rules::Cause;
+use rules::Complex;
+use rules::Legging;
+use rules::Verdict;
+ghost use mathlib.Core.Path.{_≡_};
+ghost use mathlib.Core.Bool.{true, not};
+ghost use Prim.Native.Nat.{ℕ, _<_};
+ghost use lib.Dec.{eqb};
+ghost use lib.ListN.{length, getD};
+ghost use Rattle.rules.specs.Step.{mask};
+ghost use Rattle.rules.specs.Words.{noLegging};
+ghost use Rattle.rules.specs.Settings.{increment};
+ghost use Rattle.rules.specs.Prices.{better, displayed};
+ghost use Rattle.rules.specs.Removal.{remove};
+ghost use Rattle.rules.specs.Standing.{otherClear, pairs, verdictOf, verdict, verdictNumber, settle};
+ghost use Rattle.rules.specs.Generation.{othersStand};
+ghost use Rattle.records.specs.Seen.{seen};
+ghost use Rattle.records.specs.Stage.{stage, _does_};
+ghost use Rattle.places.specs.Layout.{size, leggingIn, venueOf, Figured, Right, SameCounts};
+ghost use Rattle.levels.specs.Grid.{GridOf, LegsIn, TakenOf, SidesOf};
+ghost use Rattle.removal.specs.Marks.{markAt};
+ghost use Rattle.settling.specs.Parts.{otherTaken};
+
+// A price p at side d of series s, displayed.
+pub fn shown_price(b: &[u32], s: u8, d: u8, p: u32) -> u64
+    requires { ⌜ (length (now b) ≡ size) × (s < 8) × (Figured (now b)) ⌝ }
+    ensures { λ r. ⌜ r ≡ displayed (increment (venueOf (now (b .entry))) s) d p ⌝ }
+{
+    arithmetic::displayed_price(prices::increment_of(b, s), d, p)
+}
+
+// A price p at side d of series s, displayed, is no worse than best, the best regular of its side.
+pub fn shown_well(b: &[u32], best: u32, s: u8, d: u8, p: u32) -> bool
+    requires { ⌜ (length (now b) ≡ size) × (s < 8) × (Figured (now b)) ⌝ }
+    ensures { λ r. ⌜ r ≡ not (better d best (displayed (increment (venueOf (now (b .entry))) s) d p)) ⌝ }
+{
+    !levels::is_better_wide(d, best as u64, shown_price(b, s, d, p))
+}
+
+// The level that the leg of c takes that is not in series s.
+pub fn other_level(taken: Taken, c: Complex, s: u8) -> Level
+    ensures { λ r. ⌜ r ≡ otherTaken taken c s ⌝ }
+{
+    if c.series1 == s {
+        return taken.second;
+    }
+    taken.first
+}
+
+// The clear price of that leg.
+pub fn other_clear(b: &[u32], taken: Taken, c: Complex, s: u8) -> u32
+    requires { ⌜ (length (now b) ≡ size) × (TakenOf taken c (venueOf (now b) .regular)) × (LegsIn c) ⌝ }
+    ensures { λ r. ⌜ r ≡ otherClear (venueOf (now (b .entry))) c s ⌝ }
+{
+    let other = prices::other_leg(c, s);
+    let best = other_level(taken, c, s);
+    prices::clear_price(
+        b,
+        best.price,
+        other.series,
+        arithmetic::opposite_of(other.side),
+    )
+}
+
+// The other leg of c has a clear price, its net with the legging order's is no more than N, and its size is enough.
+pub fn can_pair(b: &[u32], taken: Taken, c: Complex, s: u8, d: u8, l: Legging) -> bool
+    requires { ⌜ (length (now b) ≡ size) × (TakenOf taken c (venueOf (now b) .regular)) × (LegsIn c) ⌝ }
+    ensures { λ r. ⌜ r ≡ pairs (venueOf (now (b .entry))) c s d (l .price) (l .quantity) ⌝ }
+{
+    let clear = other_clear(b, taken, c, s);
+    if clear == 0 {
+        return false;
+    }
+    let other = prices::other_leg(c, s);
+    let net = arithmetic::net_of(1, d, l.price, 1, other.side, clear);
+    let limit = limit_of(c);
+    if net <= limit {
+        let best = other_level(taken, c, s);
+        return (l.quantity as u64) <= best.size;
+    }
+    false
+}
+
+// The test of a legging order of c at side d of series s: of the causes that apply, the first of 1, 5, 2, 6.
+pub fn test_order(b: &[u32], sides: LegSides, c: Complex, s: u8, d: u8, l: Legging) -> Verdict
+    requires { ⌜ (length (now b) ≡ size) × (SidesOf sides c s d (venueOf (now b) .regular)) × (LegsIn c) × (s < 8) × (Figured (now b)) ⌝ }
+    ensures { λ r. ⌜ r ≡ verdictOf (venueOf (now (b .entry))) c s d l ⌝ }
+{
+    if !shown_well(b, sides.own, s, d, l.price) {
+        return Verdict::Fails(Cause::Worse);
+    }
+    let taken = sides.taken;
+    if !prices::in_band(b, taken, c, limit_of(c)) {
+        return Verdict::Fails(Cause::OutOfBand);
+    }
+    if !can_pair(b, taken, c, s, d, l) {
+        return Verdict::Fails(Cause::Unpaired);
+    }
+    if !prices::both_open(b, c) {
+        return Verdict::Fails(Cause::NotOpen);
+    }
+    Verdict::Stands
+}
+
+// The test of what stands at place n.
+pub fn judge(b: &[u32], g: [[Level; 2]; 8], n: usize) -> Verdict
+    requires { ⌜ (length (now b) ≡ size) × (GridOf g (venueOf (now b) .regular)) × (n < 16) × (Figured (now b)) ⌝ }
+    ensures { λ r. ⌜ r ≡ verdict (venueOf (now (b .entry))) n (getD (venueOf (now (b .entry)) .legging) n noLegging) ⌝ }
+{
+    let l = places::legging_at(b, n);
+    if l.quantity == 0 {
+        return Verdict::Stands;
+    }
+    let c = prices::parent_of(b, l);
+    let s = (n / 2) as u8;
+    let d = (n % 2) as u8;
+    let sides = prices::sides_of(g, c, s, d);
+    test_order(b, sides, c, s, d, l)
+}
+
+// The number of each place's verdict, by 4 bits, the lowest that of place 0; that of a free place is 0.
+fn verdicts(b: &[u32], g: [[Level; 2]; 8]) -> u64
+    requires { ⌜ (length (now b) ≡ size) × (GridOf g (venueOf (now b) .regular)) × (Figured (now b)) ⌝ }
+    ensures { λ r. ⌜ ((n : ℕ) → n < 16 → markAt r n ≡ verdictNumber (verdict (venueOf (now (b .entry))) n (leggingIn (now (b .entry)) n))) ⌝ }
+{
+    let mut marks: u64 = 0;
+    let mut n: usize = 16;
+    while 0 < n {
+        n -= 1;
+        marks = marks * 16;
+        let l = places::legging_at(b, n);
+        if l.quantity == 0 {
+            continue;
+        }
+        marks += arithmetic::verdict_number(judge(b, g, n)) as u64;
+    }
+    marks
+}
+
+// No legging order stands.
+pub fn none_stands(b: &[u32]) -> bool
+    requires { ⌜ (length (now b) ≡ size) × (Right (now b)) ⌝ }
+    ensures { λ r. ⌜ r ≡ eqb (mask (venueOf (now (b .entry)) .legging)) 0 ⌝ }
+{
+    places::mask_of(b) == 0
+}
+
+// All legging orders are tested against the same state, and the failures go together. The grid is made only where some legging order stands.
+fn remove_failing(b: &mut [u32], out: &mut [u8], at: usize) -> usize
+    requires { ⌜ (length (now b) ≡ size) × (Right (now b)) ⌝ }
+    ensures { λ r. ⌜ stage (venueOf (now (b .exit))) (now (out .exit)) r ≡ seen (now (out .entry)) at does remove (verdict (venueOf (now (b .entry)))) (venueOf (now (b .entry))) ⌝ }
+    ensures counts { λ r. ⌜ SameCounts (now (b .entry)) (now (b .exit)) ⌝ }
+{
+    if none_stands(b) {
+        return at;
+    }
+    let g = levels::levels(b);
+    let marks = verdicts(b, g);
+    if marks == 0 {
+        return at;
+    }
+    removal::remove_marked(b, marks, out, at)
+}
+
+// Each order shows again, and then the legging orders are tested.
+pub fn settle_all(b: &mut [u32], out: &mut [u8], at: usize) -> usize
+    requires { ⌜ (length (now b) ≡ size) × (Right (now b)) ⌝ }
+    ensures { λ r. ⌜ stage (venueOf (now (b .exit))) (now (out .exit)) r ≡ seen (now (out .entry)) at does settle (venueOf (now (b .entry))) ⌝ }
+    ensures counts { λ r. ⌜ SameCounts (now (b .entry)) (now (b .exit)) ⌝ }
+{
+    levels::show_again(b);
+    remove_failing(b, out, at)
+}
+
+// Every legging order but the one at place m passes its test.
+pub fn others_stand(b: &[u32], g: [[Level; 2]; 8], m: usize) -> bool
+    requires { ⌜ (length (now b) ≡ size) × (GridOf g (venueOf (now b) .regular)) × (Figured (now b)) ⌝ }
+    ensures { λ r. ⌜ r ≡ othersStand (venueOf (now (b .entry))) m 0 (venueOf (now (b .entry)) .legging) ⌝ }
+{
+    let mut n: usize = 0;
+    while n < 16 {
+        let place = n;
+        n += 1;
+        if place == m {
+            continue;
+        }
+        let l = places::legging_at(b, place);
+        if l.quantity == 0 {
+            continue;
+        }
+        let Verdict::Stands = judge(b, g, place) else {
+            return false;
+        };
+    }
+    true
+}

@@ -1,0 +1,31 @@
+use native.Mathlib.Numerals.{add-one}
+use native.Mathlib.Omega.{arith}
+use mathlib.Core.Path.{sym}
+use Rattle.short_sessions.proofs.Following.{at-last, goes-up, longest, no-places, same-length, stays}
+use borrow.Author.Needs.{needs}
+use Rattle.short_sessions.proofs.after_three.Statement.{statement}
+use Rattle.short_sessions.proofs.after_three.Tie as tie
+
+add-t6 : tie.Need-add-t6
+add-t6 c = search needs
+
+returns : tie.Need-returns
+returns c = rw add-one (sym (same-length _ _ _ (stays _ _ _ _ (stays _ _ _ _ (goes-up _ _ _ (no-places _) (omega arith))))))
+
+add-t8 : tie.Need-add-t8
+add-t8 c = search needs
+
+returns-2 : tie.Need-returns-2
+returns-2 c = rw add-one (sym (same-length _ _ _ (stays _ _ _ _ (goes-up _ _ _ (at-last _ _ _ (no-places _) (omega arith)) (omega arith)))))
+
+add-t10 : tie.Need-add-t10
+add-t10 c = search needs
+
+returns-3 : tie.Need-returns-3
+returns-3 c = rw add-one (sym (same-length _ _ _ (goes-up _ _ _ (at-last _ _ _ (at-last _ _ _ (no-places _) (omega arith)) (omega arith)) (omega arith))))
+
+returns-4 : tie.Need-returns-4
+returns-4 c = sym (longest _ _ (at-last _ _ _ (at-last _ _ _ (at-last _ _ _ (no-places _) (omega arith)) (omega arith)) (omega arith)) (omega arith))
+
+pub after-three-spec : {M : Type 1} → statement M
+after-three-spec = tie.close (tie.spec add-t6 returns add-t8 returns-2 add-t10 returns-3 returns-4)

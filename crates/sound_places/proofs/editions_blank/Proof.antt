@@ -1,0 +1,65 @@
+-- `sound_places::editions_blank` meets its contract.
+use mathlib.Core.Path.{_≡_, refl, sym, _∙_}
+use Prim.Native.Nat.{_-_}
+use native.Mathlib.Omega.{arith}
+use lib.ListN.{length, drop}
+use borrow.Author.Tests.{not-true, not-false}
+use borrow.Author.Needs.{needs}
+use Rattle.rules.specs.Base.{all}
+use Rattle.rules.specs.Words.{noEdition}
+use Rattle.rules.specs.Places.{blankEdition}
+use Rattle.sound_places.proofs.Passes.{rest-past, rest-stop, rest-none}
+use Rattle.sound_places.proofs.editions_blank.Statement.{statement}
+use Rattle.sound_places.proofs.editions_blank.Tie as tie
+
+abbrev Inv-loop : tie.InvT-loop
+Inv-loop from l i₀ i = all blankEdition (drop i l) ≡ all blankEdition (drop from l)
+
+abbrev μ-loop : tie.MeasureT-loop
+μ-loop from l i₀ i = 32 - i
+
+loop-holds : tie.Need-loop-holds Inv-loop μ-loop
+loop-holds c = refl
+
+mul-e : tie.Need-mul-e Inv-loop μ-loop
+mul-e c = search needs
+
+array-copy-out-e : tie.Need-array-copy-out-e Inv-loop μ-loop
+array-copy-out-e c = search needs
+
+blank-edition-requires : tie.Need-blank-edition-requires Inv-loop μ-loop
+blank-edition-requires c κs = search needs
+
+returns : tie.Need-returns Inv-loop μ-loop
+returns c = let n : length (c .before .before .before .before .before .args .t1) ≡ 32 = search needs in
+    rest-stop blankEdition noEdition (c .before .before .before .before .before .args .t1) (c .before .before .before .before .loop .i) (omega arith) (sym (c .before .blank-edition .ensures) ∙ not-true _ (c .if1 .taken)) ∙ c .before .before .before .before .loop .inv
+
+add-i : tie.Need-add-i Inv-loop μ-loop
+add-i c = search needs
+
+loop-less : tie.Need-loop-less Inv-loop μ-loop
+loop-less c = search needs
+
+loop-again : tie.Need-loop-again Inv-loop μ-loop
+loop-again c = let n : length (c .before .before .before .before .before .args .t1) ≡ 32 = search needs in
+    rest-past blankEdition noEdition (c .before .before .before .before .before .args .t1) (c .before .before .before .before .loop .i) (omega arith) (sym (c .before .blank-edition .ensures) ∙ not-false _ (c .if1 .left)) ∙ c .before .before .before .before .loop .inv
+
+returns-2 : tie.Need-returns-2 Inv-loop μ-loop
+returns-2 c = let n : length (c .before .before .args .t1) ≡ 32 = search needs in
+    rest-none blankEdition noEdition (c .before .before .args .t1) (c .before .loop .i) (omega arith) ∙ c .before .loop .inv
+
+pub editions-blank-spec : {M : Type 1} → statement M
+editions-blank-spec =
+    tie.close
+    (tie.spec
+    Inv-loop
+    μ-loop
+    loop-holds
+    mul-e
+    array-copy-out-e
+    blank-edition-requires
+    returns
+    add-i
+    loop-less
+    loop-again
+    returns-2)

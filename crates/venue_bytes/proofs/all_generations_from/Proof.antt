@@ -1,0 +1,80 @@
+-- `venue_bytes::all_generations_from` meets its contract.
+use mathlib.Core.Path.{_≡_, refl, ap, _∙_}
+use Prim.Native.Nat.{_-_, _≤_}
+use native.Mathlib.Omega.{arith}
+use lib.ListN.{length}
+use borrow.Author.Needs.{needs}
+use Rattle.rules.specs.Words.{noGenerations}
+use Rattle.places.specs.Layout.{upto, inUse}
+use Rattle.places.proofs.Tables.{used-length, used-next, used-done, whole}
+use Rattle.venue_bytes.specs.Held.{generationsAt, generationsFrom, rowAt, venueFrom}
+use Rattle.venue_bytes.proofs.Rows.{row-read}
+use Rattle.venue_bytes.proofs.all_generations_from.Statement.{statement}
+use Rattle.venue_bytes.proofs.all_generations_from.Tie as tie
+
+abbrev Inv-loop : tie.InvT-loop
+Inv-loop bytes r₀ i₀ r i = (i ≤ 8) × (r ≡ inUse (rowAt generationsFrom generationsAt 80 bytes) noGenerations i 8)
+
+abbrev μ-loop : tie.MeasureT-loop
+μ-loop bytes r₀ i₀ r i = 8 - i
+
+loop-holds : tie.Need-loop-holds Inv-loop μ-loop
+unfolding inUse upto
+loop-holds c = (omega arith, refl)
+
+mul-at : tie.Need-mul-at Inv-loop μ-loop
+mul-at c = search needs
+
+add-at : tie.Need-add-at Inv-loop μ-loop
+add-at c = search needs
+
+sub-generations-from : tie.Need-sub-generations-from Inv-loop μ-loop
+sub-generations-from c = search needs
+
+part-generations-from-start : tie.Need-part-generations-from-start Inv-loop μ-loop
+part-generations-from-start c = search needs
+
+part-generations-from-end : tie.Need-part-generations-from-end Inv-loop μ-loop
+part-generations-from-end c = search needs
+
+generations-from-requires : tie.Need-generations-from-requires Inv-loop μ-loop
+generations-from-requires c κs = search needs
+
+mul-r : tie.Need-mul-r Inv-loop μ-loop
+mul-r c = search needs
+
+array-set-from-r : tie.Need-array-set-from-r Inv-loop μ-loop
+array-set-from-r c = let h = c .before .before .before in let z = ap length (h .loop .inv .1) in let y = used-length (rowAt generationsFrom generationsAt 80 (c .before .before .before .before .before .args .bytes .now)) noGenerations (h .loop .i) 8 (omega arith) in omega arith
+
+add-i : tie.Need-add-i Inv-loop μ-loop
+add-i c = search needs
+
+loop-less : tie.Need-loop-less Inv-loop μ-loop
+loop-less c = search needs
+
+loop-again : tie.Need-loop-again Inv-loop μ-loop
+loop-again c = let h = c .before .before .before in (omega arith, used-next _ _ _ 8 _ _ (omega arith) (h .loop .inv .1) (row-read generationsFrom generationsAt 80 _ (h .loop .i) _ _ (omega arith) (c .generations-from .ensures)))
+
+returns : tie.Need-returns Inv-loop μ-loop
+unfolding venueFrom
+returns c = used-done _ _ _ _ 8 _ (omega arith) (c .before .loop .inv .1) ∙ whole (rowAt generationsFrom generationsAt 80 (c .before .before .before .args .bytes .now)) noGenerations 8
+
+pub all-generations-from-spec : {M : Type 1} → statement M
+all-generations-from-spec =
+    tie.close
+    (tie.spec
+    Inv-loop
+    μ-loop
+    loop-holds
+    mul-at
+    add-at
+    sub-generations-from
+    part-generations-from-start
+    part-generations-from-end
+    generations-from-requires
+    mul-r
+    array-set-from-r
+    add-i
+    loop-less
+    loop-again
+    returns)

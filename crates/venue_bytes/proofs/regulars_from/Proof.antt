@@ -1,0 +1,96 @@
+-- `venue_bytes::regulars_from` meets its contract.
+use mathlib.Core.Path.{_≡_, refl, ap, _∙_}
+use Prim.Native.Nat.{_-_, _≤_}
+use native.Mathlib.Omega.{arith}
+use lib.ListN.{length}
+use borrow.Author.Needs.{needs}
+use Rattle.rules.specs.Words.{noRegular}
+use Rattle.places.specs.Layout.{upto, inUse}
+use Rattle.places.proofs.Tables.{used-length, used-next, used-done, whole}
+use Rattle.venue_bytes.specs.Held.{reservesAt, regularFrom, rowsAt, venueFrom}
+use Rattle.venue_bytes.proofs.Rows.{rows-read}
+use Rattle.venue_bytes.proofs.regulars_from.Statement.{statement}
+use Rattle.venue_bytes.proofs.regulars_from.Tie as tie
+
+abbrev Inv-loop : tie.InvT-loop
+Inv-loop bytes r₀ i₀ r i = (i ≤ 128) × (r ≡ inUse (rowsAt regularFrom 0 14 reservesAt 8 bytes) noRegular i 128)
+
+abbrev μ-loop : tie.MeasureT-loop
+μ-loop bytes r₀ i₀ r i = 128 - i
+
+loop-holds : tie.Need-loop-holds Inv-loop μ-loop
+unfolding inUse upto
+loop-holds c = (omega arith, refl)
+
+mul-at : tie.Need-mul-at Inv-loop μ-loop
+mul-at c = search needs
+
+mul-reserve : tie.Need-mul-reserve Inv-loop μ-loop
+mul-reserve c = search needs
+
+add-reserve : tie.Need-add-reserve Inv-loop μ-loop
+add-reserve c = search needs
+
+sub-regular-from : tie.Need-sub-regular-from Inv-loop μ-loop
+sub-regular-from c = search needs
+
+part-regular-from-start : tie.Need-part-regular-from-start Inv-loop μ-loop
+part-regular-from-start c = search needs
+
+part-regular-from-end : tie.Need-part-regular-from-end Inv-loop μ-loop
+part-regular-from-end c = search needs
+
+sub-regular-from-2 : tie.Need-sub-regular-from-2 Inv-loop μ-loop
+sub-regular-from-2 c = search needs
+
+part-regular-from-start-2 : tie.Need-part-regular-from-start-2 Inv-loop μ-loop
+part-regular-from-start-2 c = search needs
+
+part-regular-from-end-2 : tie.Need-part-regular-from-end-2 Inv-loop μ-loop
+part-regular-from-end-2 c = search needs
+
+regular-from-requires : tie.Need-regular-from-requires Inv-loop μ-loop
+regular-from-requires c κs = search needs
+
+mul-r : tie.Need-mul-r Inv-loop μ-loop
+mul-r c = search needs
+
+array-set-from-r : tie.Need-array-set-from-r Inv-loop μ-loop
+array-set-from-r c = let h = c .before .before .before .before in let z = ap length (h .loop .inv .1) in let y = used-length (rowsAt regularFrom 0 14 reservesAt 8 (c .before .before .before .before .before .before .args .bytes .now)) noRegular (h .loop .i) 128 (omega arith) in omega arith
+
+add-i : tie.Need-add-i Inv-loop μ-loop
+add-i c = search needs
+
+loop-less : tie.Need-loop-less Inv-loop μ-loop
+loop-less c = search needs
+
+loop-again : tie.Need-loop-again Inv-loop μ-loop
+loop-again c = let h = c .before .before .before .before in (omega arith, used-next _ _ _ 128 _ _ (omega arith) (h .loop .inv .1) (rows-read regularFrom 0 14 reservesAt 8 _ (h .loop .i) _ _ _ (omega arith) (omega arith) (c .regular-from .ensures)))
+
+returns : tie.Need-returns Inv-loop μ-loop
+unfolding venueFrom
+returns c = used-done _ _ _ _ 128 _ (omega arith) (c .before .loop .inv .1) ∙ whole (rowsAt regularFrom 0 14 reservesAt 8 (c .before .before .before .args .bytes .now)) noRegular 128
+
+pub regulars-from-spec : {M : Type 1} → statement M
+regulars-from-spec =
+    tie.close
+    (tie.spec
+    Inv-loop
+    μ-loop
+    loop-holds
+    mul-at
+    mul-reserve
+    add-reserve
+    sub-regular-from
+    part-regular-from-start
+    part-regular-from-end
+    sub-regular-from-2
+    part-regular-from-start-2
+    part-regular-from-end-2
+    regular-from-requires
+    mul-r
+    array-set-from-r
+    add-i
+    loop-less
+    loop-again
+    returns)

@@ -1,0 +1,80 @@
+-- `venue_bytes::series_from` meets its contract.
+use mathlib.Core.Path.{_≡_, refl, ap, _∙_}
+use Prim.Native.Nat.{_-_, _≤_}
+use native.Mathlib.Omega.{arith}
+use lib.ListN.{length}
+use borrow.Author.Needs.{needs}
+use Rattle.rules.specs.Words.{notListed}
+use Rattle.places.specs.Layout.{upto, inUse}
+use Rattle.places.proofs.Tables.{used-length, used-next, used-done, whole}
+use Rattle.venue_bytes.specs.Held.{listedFrom, rowAt, venueFrom}
+use Rattle.venue_bytes.proofs.Rows.{row-read}
+use Rattle.venue_bytes.proofs.series_from.Statement.{statement}
+use Rattle.venue_bytes.proofs.series_from.Tie as tie
+
+abbrev Inv-loop : tie.InvT-loop
+Inv-loop bytes r₀ i₀ r i = (i ≤ 8) × (r ≡ inUse (rowAt listedFrom 2528 9 bytes) notListed i 8)
+
+abbrev μ-loop : tie.MeasureT-loop
+μ-loop bytes r₀ i₀ r i = 8 - i
+
+loop-holds : tie.Need-loop-holds Inv-loop μ-loop
+unfolding inUse upto
+loop-holds c = (omega arith, refl)
+
+mul-at : tie.Need-mul-at Inv-loop μ-loop
+mul-at c = search needs
+
+add-at : tie.Need-add-at Inv-loop μ-loop
+add-at c = search needs
+
+sub-listed-from : tie.Need-sub-listed-from Inv-loop μ-loop
+sub-listed-from c = search needs
+
+part-listed-from-start : tie.Need-part-listed-from-start Inv-loop μ-loop
+part-listed-from-start c = search needs
+
+part-listed-from-end : tie.Need-part-listed-from-end Inv-loop μ-loop
+part-listed-from-end c = search needs
+
+listed-from-requires : tie.Need-listed-from-requires Inv-loop μ-loop
+listed-from-requires c κs = search needs
+
+mul-r : tie.Need-mul-r Inv-loop μ-loop
+mul-r c = search needs
+
+array-set-from-r : tie.Need-array-set-from-r Inv-loop μ-loop
+array-set-from-r c = let h = c .before .before .before in let z = ap length (h .loop .inv .1) in let y = used-length (rowAt listedFrom 2528 9 (c .before .before .before .before .before .args .bytes .now)) notListed (h .loop .i) 8 (omega arith) in omega arith
+
+add-i : tie.Need-add-i Inv-loop μ-loop
+add-i c = search needs
+
+loop-less : tie.Need-loop-less Inv-loop μ-loop
+loop-less c = search needs
+
+loop-again : tie.Need-loop-again Inv-loop μ-loop
+loop-again c = let h = c .before .before .before in (omega arith, used-next _ _ _ 8 _ _ (omega arith) (h .loop .inv .1) (row-read listedFrom 2528 9 _ (h .loop .i) _ _ (omega arith) (c .listed-from .ensures)))
+
+returns : tie.Need-returns Inv-loop μ-loop
+unfolding venueFrom
+returns c = used-done _ _ _ _ 8 _ (omega arith) (c .before .loop .inv .1) ∙ whole (rowAt listedFrom 2528 9 (c .before .before .before .args .bytes .now)) notListed 8
+
+pub series-from-spec : {M : Type 1} → statement M
+series-from-spec =
+    tie.close
+    (tie.spec
+    Inv-loop
+    μ-loop
+    loop-holds
+    mul-at
+    add-at
+    sub-listed-from
+    part-listed-from-start
+    part-listed-from-end
+    listed-from-requires
+    mul-r
+    array-set-from-r
+    add-i
+    loop-less
+    loop-again
+    returns)

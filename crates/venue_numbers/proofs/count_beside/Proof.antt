@@ -1,0 +1,49 @@
+-- `venue_numbers::count_beside` meets its contract.
+use native.Mathlib.Omega.{arith}
+use lib.ListN.{length-set}
+use Rattle.venue_numbers.proofs.Loaded.{beside-counted}
+use borrow.Author.Needs.{needs}
+use Rattle.venue_numbers.proofs.count_beside.Statement.{statement}
+use Rattle.venue_numbers.proofs.count_beside.Tie as tie
+
+count-mask-requires : tie.Need-count-mask-requires
+count-mask-requires c κs = search needs
+
+count-figures-requires : tie.Need-count-figures-requires
+count-figures-requires c κs = search needs
+
+slice-write-b : tie.Need-slice-write-b
+slice-write-b c = search needs
+
+slice-write-b-2 : tie.Need-slice-write-b-2
+slice-write-b-2 c = simp length-set (omega arith)
+
+cast-b : tie.Need-cast-b
+cast-b c = search needs
+
+slice-write-b-3 : tie.Need-slice-write-b-3
+slice-write-b-3 c = simp length-set (omega arith)
+
+slice-write-b-4 : tie.Need-slice-write-b-4
+slice-write-b-4 c = simp length-set (omega arith)
+
+same-length : tie.Need-same-length
+same-length c = simp length-set (omega arith)
+
+returns : tie.Need-returns
+returns c = let f = c .before .before .count-figures in
+    beside-counted _ _ _ (c .before .before .before .before .before .before .before .pre) (c .before .before .before .before .count-mask .ensures) (f .kept .0) (f .ensures)
+
+pub count-beside-spec : {M : Type 1} → statement M
+count-beside-spec =
+    tie.close
+    (tie.spec
+    count-mask-requires
+    count-figures-requires
+    slice-write-b
+    slice-write-b-2
+    cast-b
+    slice-write-b-3
+    slice-write-b-4
+    same-length
+    returns)

@@ -1,0 +1,78 @@
+-- `venue_writer::put_all_generations` meets its contract.
+use mathlib.Core.Path.{_≡_, refl}
+use Prim.Native.Nat.{_+_, _-_, _*_, _≤_}
+use native.Mathlib.Omega.{arith}
+use lib.ListN.{length}
+use borrow.Author.Needs.{needs}
+use Rattle.venue_bytes.specs.Held.{generationsAt, generationsBytes}
+use Rattle.venue_bytes.proofs.Rows.{Written, written-none, written-room, written-next, written-all}
+use Rattle.venue_writer.proofs.Widths.{generations-width}
+use Rattle.venue_writer.proofs.put_all_generations.Statement.{statement}
+use Rattle.venue_writer.proofs.put_all_generations.Tie as tie
+
+abbrev Inv-loop : tie.InvT-loop
+Inv-loop out₀ l i₀ out i = Written generationsBytes generationsAt l out₀ out i
+
+abbrev μ-loop : tie.MeasureT-loop
+μ-loop out₀ l i₀ out i = 8 - i
+
+long : (s : tie.Start Inv-loop μ-loop) → length (s .args .t2) ≡ 8
+long s = search needs
+
+fits : (s : tie.Start Inv-loop μ-loop) → 80 * length (s .args .t2) + generationsAt ≤ length (s .args .out .now)
+fits s = omega (arith, long s, s .pre)
+
+loop-holds : tie.Need-loop-holds Inv-loop μ-loop
+loop-holds c = written-none generationsBytes generationsAt _ _
+
+mul-g : tie.Need-mul-g Inv-loop μ-loop
+mul-g c = search needs
+
+array-copy-out-g : tie.Need-array-copy-out-g Inv-loop μ-loop
+array-copy-out-g c = search needs
+
+mul-put-generations : tie.Need-mul-put-generations Inv-loop μ-loop
+mul-put-generations c = search needs
+
+add-put-generations : tie.Need-add-put-generations Inv-loop μ-loop
+add-put-generations c = search needs
+
+put-generations-requires : tie.Need-put-generations-requires Inv-loop μ-loop
+put-generations-requires c κs =
+    let h = c .before .before .before in
+    let s = h .before .before in
+    let r = written-room generationsBytes 80 generations-width generationsAt (s .args .t2) (s .args .out .now) (fits s) (h .loop .out) (h .loop .i) (h .loop .inv) in
+    omega (arith, s .pre)
+
+add-i : tie.Need-add-i Inv-loop μ-loop
+add-i c = search needs
+
+loop-less : tie.Need-loop-less Inv-loop μ-loop
+loop-less c = search needs
+
+loop-again : tie.Need-loop-again Inv-loop μ-loop
+loop-again c = let s = c .before .before .before .before .before .before .before .before in let h = c .before .before .before .before .before .before in written-next generationsBytes 80 generations-width generationsAt (s .args .t2) (s .args .out .now) (fits s) (h .loop .out) (h .loop .i) (h .loop .inv) _ _ _ _ (omega (arith, long s)) refl (omega arith) (c .before .before .put-generations .ensures)
+
+same-length : tie.Need-same-length Inv-loop μ-loop
+same-length c = let s = c .before .before .before in let h = c .before in written-room generationsBytes 80 generations-width generationsAt (s .args .t2) (s .args .out .now) (fits s) (h .loop .out) (h .loop .i) (h .loop .inv)
+
+returns : tie.Need-returns Inv-loop μ-loop
+returns c = let s = c .before .before .before in let h = c .before in written-all generationsBytes generationsAt (s .args .t2) (s .args .out .now) (h .loop .out) (h .loop .i) (h .loop .inv) (omega (arith, long s))
+
+pub put-all-generations-spec : {M : Type 1} → statement M
+put-all-generations-spec =
+    tie.close
+    (tie.spec
+    Inv-loop
+    μ-loop
+    loop-holds
+    mul-g
+    array-copy-out-g
+    mul-put-generations
+    add-put-generations
+    put-generations-requires
+    add-i
+    loop-less
+    loop-again
+    same-length
+    returns)

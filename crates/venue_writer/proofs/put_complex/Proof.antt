@@ -1,0 +1,80 @@
+-- `venue_writer::put_complex` meets its contract.
+use mathlib.Core.Path.{ap, _∙_}
+use mathlib.Core.List.{List, [], _∷_, _++_}
+use Prim.Native.Nat.{ℕ}
+use mir.Syntax.{w32, w64}
+use mir.Val.{SFits, toZ, ofZ}
+use mir.ValLaws.{toZ-ofZ}
+use Rattle.rules.specs.Bytes.{bytes, u32, i32}
+use Rattle.rules.proofs.Reading.{byte}
+use Rattle.records.specs.Seen.{wordBytes}
+use Rattle.places.proofs.Limits.{number-cast, back32}
+use Rattle.venue_bytes.specs.Held.{complexBytes}
+use Rattle.venue_bytes.proofs.Rows.{row-put}
+use borrow.Author.Needs.{needs}
+use Rattle.venue_writer.proofs.put_complex.Statement.{statement}
+use Rattle.venue_writer.proofs.put_complex.Tie as tie
+
+-- the limit is an i32
+limit-fits : (c : tie.After-struct-told) → SFits w32 (c .before .before .before .before .args .c .limit)
+limit-fits c = record { sfits = c .struct-told .given .1 .1 .1 .1 .1 .1 .0 .1 }
+
+bytes4-requires : tie.Need-bytes4-requires
+bytes4-requires c κs = search needs
+
+array-read-t10 : tie.Need-array-read-t10
+array-read-t10 c = search needs
+
+array-read-t13 : tie.Need-array-read-t13
+array-read-t13 c = search needs
+
+array-read-t16 : tie.Need-array-read-t16
+array-read-t16 c = search needs
+
+array-read-t19 : tie.Need-array-read-t19
+array-read-t19 c = search needs
+
+cast-bits : tie.Need-cast-bits
+cast-bits c = number-cast (limit-fits c)
+
+bits-requires : tie.Need-bits-requires
+bits-requires c κs = search needs
+
+slice-aggregate-put-words : tie.Need-slice-aggregate-put-words
+slice-aggregate-put-words c = search needs
+
+slice-aggregate-put-words-2 : tie.Need-slice-aggregate-put-words-2
+slice-aggregate-put-words-2 c = search needs
+
+put-words-requires : tie.Need-put-words-requires
+put-words-requires c κs = search needs
+
+same-length : tie.Need-same-length
+same-length c = search needs
+
+returns : tie.Need-returns
+unfolding complexBytes bytes wordBytes
+returns c =
+    let s = c .before .before .before .before .before .before .before .before .before .before .before in
+    let f = limit-fits (c .before .before .before .before .before .before .before) in
+    let n = c .before .before .before .before .before .before .bits .ensures ∙ ap i32 (toZ-ofZ w64 (toZ w32 (ofZ w32 (s .args .c .limit))) (number-cast f) ∙ back32 f) in
+    row-put _ _ _ _ _ _ (c .before .before .put-words .ensures)
+    (rw (c .before .before .before .before .before .before .before .before .before .bytes4 .ensures, byte (s .args .c .series1) (search needs), byte (s .args .c .side1) (search needs), byte (s .args .c .series2) (search needs), byte (s .args .c .side2) (search needs), byte (s .args .c .class) (search needs))
+    (ap (λ (y : List ℕ). u32 (s .args .c .id) ++ (s .args .c .series1 ∷ s .args .c .side1 ∷ s .args .c .series2 ∷ s .args .c .side2 ∷ s .args .c .class ∷ []) ++ (y ++ (u32 (s .args .c .quantity) ++ []))) n))
+
+pub put-complex-spec : {M : Type 1} → statement M
+put-complex-spec =
+    tie.close
+    (tie.spec
+    bytes4-requires
+    array-read-t10
+    array-read-t13
+    array-read-t16
+    array-read-t19
+    cast-bits
+    bits-requires
+    slice-aggregate-put-words
+    slice-aggregate-put-words-2
+    put-words-requires
+    same-length
+    returns)

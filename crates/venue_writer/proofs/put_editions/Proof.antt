@@ -1,0 +1,74 @@
+-- `venue_writer::put_editions` meets its contract.
+use mathlib.Core.Path.{_≡_, refl}
+use Prim.Native.Nat.{_+_, _-_, _*_, _≤_}
+use native.Mathlib.Omega.{arith}
+use lib.ListN.{length}
+use borrow.Author.Needs.{needs}
+use Rattle.venue_bytes.specs.Held.{editionsAt, editionBytes}
+use Rattle.venue_bytes.proofs.Rows.{Written, written-none, written-room, written-next, written-all}
+use Rattle.venue_writer.proofs.Widths.{edition-width}
+use Rattle.venue_writer.proofs.put_editions.Statement.{statement}
+use Rattle.venue_writer.proofs.put_editions.Tie as tie
+
+abbrev Inv-loop : tie.InvT-loop
+Inv-loop out₀ l i₀ out i = Written editionBytes editionsAt l out₀ out i
+
+abbrev μ-loop : tie.MeasureT-loop
+μ-loop out₀ l i₀ out i = 32 - i
+
+long : (s : tie.Start Inv-loop μ-loop) → length (s .args .t2) ≡ 32
+long s = search needs
+
+fits : (s : tie.Start Inv-loop μ-loop) → 10 * length (s .args .t2) + editionsAt ≤ length (s .args .out .now)
+fits s = omega (arith, long s, s .pre)
+
+loop-holds : tie.Need-loop-holds Inv-loop μ-loop
+loop-holds c = written-none editionBytes editionsAt _ _
+
+mul-x : tie.Need-mul-x Inv-loop μ-loop
+mul-x c = search needs
+
+array-copy-out-x : tie.Need-array-copy-out-x Inv-loop μ-loop
+array-copy-out-x c = search needs
+
+mul-put-edition : tie.Need-mul-put-edition Inv-loop μ-loop
+mul-put-edition c = search needs
+
+add-put-edition : tie.Need-add-put-edition Inv-loop μ-loop
+add-put-edition c = search needs
+
+put-edition-requires : tie.Need-put-edition-requires Inv-loop μ-loop
+put-edition-requires c κs = search needs
+
+add-i : tie.Need-add-i Inv-loop μ-loop
+add-i c = search needs
+
+loop-less : tie.Need-loop-less Inv-loop μ-loop
+loop-less c = search needs
+
+loop-again : tie.Need-loop-again Inv-loop μ-loop
+loop-again c = let s = c .before .before .before .before .before .before .before .before in let h = c .before .before .before .before .before .before in written-next editionBytes 10 edition-width editionsAt (s .args .t2) (s .args .out .now) (fits s) (h .loop .out) (h .loop .i) (h .loop .inv) _ _ _ _ (omega (arith, long s)) refl (omega arith) (c .before .before .put-edition .ensures)
+
+same-length : tie.Need-same-length Inv-loop μ-loop
+same-length c = let s = c .before .before .before in let h = c .before in written-room editionBytes 10 edition-width editionsAt (s .args .t2) (s .args .out .now) (fits s) (h .loop .out) (h .loop .i) (h .loop .inv)
+
+returns : tie.Need-returns Inv-loop μ-loop
+returns c = let s = c .before .before .before in let h = c .before in written-all editionBytes editionsAt (s .args .t2) (s .args .out .now) (h .loop .out) (h .loop .i) (h .loop .inv) (omega (arith, long s))
+
+pub put-editions-spec : {M : Type 1} → statement M
+put-editions-spec =
+    tie.close
+    (tie.spec
+    Inv-loop
+    μ-loop
+    loop-holds
+    mul-x
+    array-copy-out-x
+    mul-put-edition
+    add-put-edition
+    put-edition-requires
+    add-i
+    loop-less
+    loop-again
+    same-length
+    returns)

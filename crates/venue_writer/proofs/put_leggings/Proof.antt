@@ -1,0 +1,74 @@
+-- `venue_writer::put_leggings` meets its contract.
+use mathlib.Core.Path.{_≡_, refl}
+use Prim.Native.Nat.{_+_, _-_, _*_, _≤_}
+use native.Mathlib.Omega.{arith}
+use lib.ListN.{length}
+use borrow.Author.Needs.{needs}
+use Rattle.venue_bytes.specs.Held.{leggingBytes}
+use Rattle.venue_bytes.proofs.Rows.{Written, written-none, written-room, written-next, written-all}
+use Rattle.venue_writer.proofs.Widths.{legging-width}
+use Rattle.venue_writer.proofs.put_leggings.Statement.{statement}
+use Rattle.venue_writer.proofs.put_leggings.Tie as tie
+
+abbrev Inv-loop : tie.InvT-loop
+Inv-loop out₀ l i₀ out i = Written leggingBytes 2336 l out₀ out i
+
+abbrev μ-loop : tie.MeasureT-loop
+μ-loop out₀ l i₀ out i = 16 - i
+
+long : (s : tie.Start Inv-loop μ-loop) → length (s .args .t2) ≡ 16
+long s = search needs
+
+fits : (s : tie.Start Inv-loop μ-loop) → 12 * length (s .args .t2) + 2336 ≤ length (s .args .out .now)
+fits s = omega (arith, long s, s .pre)
+
+loop-holds : tie.Need-loop-holds Inv-loop μ-loop
+loop-holds c = written-none leggingBytes 2336 _ _
+
+mul-x : tie.Need-mul-x Inv-loop μ-loop
+mul-x c = search needs
+
+array-copy-out-x : tie.Need-array-copy-out-x Inv-loop μ-loop
+array-copy-out-x c = search needs
+
+mul-put-legging : tie.Need-mul-put-legging Inv-loop μ-loop
+mul-put-legging c = search needs
+
+add-put-legging : tie.Need-add-put-legging Inv-loop μ-loop
+add-put-legging c = search needs
+
+put-legging-requires : tie.Need-put-legging-requires Inv-loop μ-loop
+put-legging-requires c κs = search needs
+
+add-i : tie.Need-add-i Inv-loop μ-loop
+add-i c = search needs
+
+loop-less : tie.Need-loop-less Inv-loop μ-loop
+loop-less c = search needs
+
+loop-again : tie.Need-loop-again Inv-loop μ-loop
+loop-again c = let s = c .before .before .before .before .before .before .before .before in let h = c .before .before .before .before .before .before in written-next leggingBytes 12 legging-width 2336 (s .args .t2) (s .args .out .now) (fits s) (h .loop .out) (h .loop .i) (h .loop .inv) _ _ _ _ (omega (arith, long s)) refl (omega arith) (c .before .before .put-legging .ensures)
+
+same-length : tie.Need-same-length Inv-loop μ-loop
+same-length c = let s = c .before .before .before in let h = c .before in written-room leggingBytes 12 legging-width 2336 (s .args .t2) (s .args .out .now) (fits s) (h .loop .out) (h .loop .i) (h .loop .inv)
+
+returns : tie.Need-returns Inv-loop μ-loop
+returns c = let s = c .before .before .before in let h = c .before in written-all leggingBytes 2336 (s .args .t2) (s .args .out .now) (h .loop .out) (h .loop .i) (h .loop .inv) (omega (arith, long s))
+
+pub put-leggings-spec : {M : Type 1} → statement M
+put-leggings-spec =
+    tie.close
+    (tie.spec
+    Inv-loop
+    μ-loop
+    loop-holds
+    mul-x
+    array-copy-out-x
+    mul-put-legging
+    add-put-legging
+    put-legging-requires
+    add-i
+    loop-less
+    loop-again
+    same-length
+    returns)

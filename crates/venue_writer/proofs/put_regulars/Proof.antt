@@ -1,0 +1,70 @@
+-- `venue_writer::put_regulars` meets its contract.
+use mathlib.Core.Path.{_≡_, refl}
+use Prim.Native.Nat.{_+_, _-_, _*_, _≤_}
+use native.Mathlib.Omega.{arith}
+use lib.ListN.{length}
+use borrow.Author.Needs.{needs}
+use Rattle.venue_bytes.specs.Held.{regularBytes}
+use Rattle.venue_bytes.proofs.Rows.{Written, written-none, written-room, written-next, written-all}
+use Rattle.venue_writer.proofs.Widths.{regular-width}
+use Rattle.venue_writer.proofs.put_regulars.Statement.{statement}
+use Rattle.venue_writer.proofs.put_regulars.Tie as tie
+
+abbrev Inv-loop : tie.InvT-loop
+Inv-loop out₀ l i₀ out i = Written regularBytes 0 l out₀ out i
+
+abbrev μ-loop : tie.MeasureT-loop
+μ-loop out₀ l i₀ out i = 128 - i
+
+long : (s : tie.Start Inv-loop μ-loop) → length (s .args .t2) ≡ 128
+long s = search needs
+
+fits : (s : tie.Start Inv-loop μ-loop) → 14 * length (s .args .t2) + 0 ≤ length (s .args .out .now)
+fits s = omega (arith, long s, s .pre)
+
+loop-holds : tie.Need-loop-holds Inv-loop μ-loop
+loop-holds c = written-none regularBytes 0 _ _
+
+mul-o : tie.Need-mul-o Inv-loop μ-loop
+mul-o c = search needs
+
+array-copy-out-o : tie.Need-array-copy-out-o Inv-loop μ-loop
+array-copy-out-o c = search needs
+
+mul-put-regular : tie.Need-mul-put-regular Inv-loop μ-loop
+mul-put-regular c = search needs
+
+put-regular-requires : tie.Need-put-regular-requires Inv-loop μ-loop
+put-regular-requires c κs = search needs
+
+add-i : tie.Need-add-i Inv-loop μ-loop
+add-i c = search needs
+
+loop-less : tie.Need-loop-less Inv-loop μ-loop
+loop-less c = search needs
+
+loop-again : tie.Need-loop-again Inv-loop μ-loop
+loop-again c = let s = c .before .before .before .before .before .before .before .before in let h = c .before .before .before .before .before .before in written-next regularBytes 14 regular-width 0 (s .args .t2) (s .args .out .now) (fits s) (h .loop .out) (h .loop .i) (h .loop .inv) _ _ _ _ (omega (arith, long s)) refl (omega arith) (c .before .before .put-regular .ensures)
+
+same-length : tie.Need-same-length Inv-loop μ-loop
+same-length c = let s = c .before .before .before in let h = c .before in written-room regularBytes 14 regular-width 0 (s .args .t2) (s .args .out .now) (fits s) (h .loop .out) (h .loop .i) (h .loop .inv)
+
+returns : tie.Need-returns Inv-loop μ-loop
+returns c = let s = c .before .before .before in let h = c .before in written-all regularBytes 0 (s .args .t2) (s .args .out .now) (h .loop .out) (h .loop .i) (h .loop .inv) (omega (arith, long s))
+
+pub put-regulars-spec : {M : Type 1} → statement M
+put-regulars-spec =
+    tie.close
+    (tie.spec
+    Inv-loop
+    μ-loop
+    loop-holds
+    mul-o
+    array-copy-out-o
+    mul-put-regular
+    put-regular-requires
+    add-i
+    loop-less
+    loop-again
+    same-length
+    returns)

@@ -1,0 +1,72 @@
+-- `work::leg_in` meets its contract.
+use mathlib.Core.Path.{sym, _∙_}
+use native.Mathlib.Omega.{arith}
+use Rattle.rules.proofs.Machine.{back}
+use Rattle.places.proofs.Parts.{complexes-few, complex-at}
+use Rattle.removal.proofs.Removing.{counts-on}
+use Rattle.work.proofs.Pairing.{leg-in-law}
+use borrow.Author.Needs.{needs}
+use Rattle.work.proofs.leg_in.Statement.{statement}
+use Rattle.work.proofs.leg_in.Tie as tie
+
+complex-at-requires : tie.Need-complex-at-requires
+complex-at-requires c κs = let z = complexes-few (c .before .before .before .args .b .now) in (c .before .before .before .pre .0, omega (arith, c .before .before .before .pre .2))
+
+net-of-requires : tie.Need-net-of-requires
+net-of-requires c κs = search needs
+
+contracts-requires : tie.Need-contracts-requires
+contracts-requires c κs = search needs
+
+contracts-requires-2 : tie.Need-contracts-requires-2
+contracts-requires-2 c κs = search needs
+
+take-requires : tie.Need-take-requires
+take-requires c κs = let p = c .before .before .before .before .before .before .before .before .before .pre in (p .0, p .1)
+
+take-requires-2 : tie.Need-take-requires-2
+take-requires-2 c κs =
+    let p6 = c .before .before .before .before .before .before in
+    let t = p6 .take in
+    let p = p6 .before .before .before .before .before .before .before .before .before .before .pre in
+    (t .kept .0 ∙ p .0, t .ensures .1 .right (p .1))
+
+pair-off-requires : tie.Need-pair-off-requires
+pair-off-requires c κs = search needs
+
+same-length : tie.Need-same-length
+same-length c = search needs
+
+same-length-2 : tie.Need-same-length-2
+same-length-2 c = search needs
+
+returns : tie.Need-returns
+returns c =
+    let p4 = c .before .before .before .before in
+    let p11 = p4 .before .before .before .before .before .before .before in
+    let p18 = p11 .before .before .before .before .before .before .before in
+    let p21 = p18 .before .before .before in
+    let p23 = p21 .before .before in
+    let s = p23 .before .before .before .before .before in
+    let a = s .args in
+    let w = p23 .net-of in (
+      leg-in-law (a .i) (a .a) (a .p) (a .k) _ _ _ _ _ _ _ _ _ _ _ _ _ _ _ _ (p23 .before .complex-at .ensures ∙ sym (complex-at (a .b .now) (a .i) (s .pre .2)))
+          (back {z = w .result} (record { sfits = w .ok }) ∙ w .ensures .0) (p21 .before .contracts .ensures) (p21 .contracts2 .ensures) (p18 .take .ensures .0)
+          (p11 .take2 .ensures .0) (p4 .pair-off .ensures .0),
+      counts-on _ _ _ (counts-on _ _ _ (p18 .take .ensures .1) (p11 .take2 .ensures .1)) (p4 .pair-off .ensures .1),
+    )
+
+pub leg-in-spec : {M : Type 1} → statement M
+leg-in-spec =
+    tie.close
+    (tie.spec
+    complex-at-requires
+    net-of-requires
+    contracts-requires
+    contracts-requires-2
+    take-requires
+    take-requires-2
+    pair-off-requires
+    same-length
+    same-length-2
+    returns)

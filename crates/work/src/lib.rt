@@ -1,0 +1,123 @@
+// How a complex order is worked: crossed, touched, and legged in, a unit at a time.
+// Each function says in one equation the venue that it leaves and all that it writes: those of its definition.
+use levels::Taken;
+use rules::Complex;
+ghost use mathlib.Core.Path.{_≡_};
+ghost use Prim.Native.Nat.{_*_, _/_, _<_};
+ghost use lib.ListN.{length};
+ghost use Rattle.rules.specs.declared.Venue.{Venue};
+ghost use Rattle.rules.specs.Effects.{repeat};
+ghost use Rattle.rules.specs.Complex.{legsIn, unitsIn, legInTurn};
+ghost use Rattle.rules.specs.Complex as complex;
+ghost use Rattle.records.specs.Seen.{seen};
+ghost use Rattle.records.specs.Stage.{stage, _does_};
+ghost use Rattle.places.specs.Layout.{size, complexesUsed, venueOf, Figured, Right, SameCounts};
+ghost use Rattle.levels.specs.Grid.{LegsIn, TakenOf};
+
+// The best regular prices a and p that c would take net to its limit or less, and that net is in band.
+fn can_leg_in(b: &[u32], taken: Taken, c: Complex, a: u32, p: u32) -> bool
+    requires { ⌜ (length (now b) ≡ size) × (TakenOf taken c (venueOf (now b) .regular)) × (LegsIn c) × (Figured (now b)) ⌝ }
+    ensures { λ r. ⌜ r ≡ legsIn (venueOf (now (b .entry))) c a p ⌝ }
+{
+    if c.quantity == 0 {
+        return false;
+    }
+    if a == 0 {
+        return false;
+    }
+    if p == 0 {
+        return false;
+    }
+    let net = arithmetic::net_of(c.ratio1, c.side1, a, c.ratio2, c.side2, p);
+    let limit = arithmetic::limit_of(c);
+    if limit < net {
+        return false;
+    }
+    prices::in_band(b, taken, c, net)
+}
+
+// The contracts of one leg in k units.
+fn contracts(ratio: u8, k: u32) -> u64
+    ensures { λ r. ⌜ r ≡ ratio * k ⌝ }
+{
+    (ratio as u64) * (k as u64)
+}
+
+// k units of the order at place i, at prices a and p: the first leg's trades, the second's, the pair.
+pub fn leg_in(b: &mut [u32], i: usize, a: u32, p: u32, k: u32, out: &mut [u8], at: usize) -> usize
+    requires { ⌜ (length (now b) ≡ size) × (Right (now b)) × (i < complexesUsed (now b)) ⌝ }
+    ensures { λ r. ⌜ stage (venueOf (now (b .exit))) (now (out .exit)) r ≡ seen (now (out .entry)) at does complex.legIn i a p k (venueOf (now (b .entry))) ⌝ }
+    ensures counts { λ _. ⌜ SameCounts (now (b .entry)) (now (b .exit)) ⌝ }
+{
+    let c = places::complex_at(b, i);
+    let net = arithmetic::net_of(c.ratio1, c.side1, a, c.ratio2, c.side2, p);
+    let one = contracts(c.ratio1, k);
+    let two = contracts(c.ratio2, k);
+    let first = trades::take(b, c.id, c.series1, c.side1, a, one, out, at);
+    let second = trades::take(b, c.id, c.series2, c.side2, p, two, out, first);
+    trades::pair_off(b, i, c.id, net, k, out, second)
+}
+
+// The units that a size fills, each of `ratio` contracts; none where that is 0.
+fn units(n: u64, ratio: u8) -> u64
+    ensures { λ r. ⌜ r ≡ n / ratio ⌝ }
+{
+    if ratio == 1 {
+        return n;
+    }
+    if ratio == 0 {
+        return 0;
+    }
+    n / (ratio as u64)
+}
+
+// As many units as c has open and the sizes at the best prices fill; taken has their levels.
+fn units_in(taken: Taken, c: Complex) -> u32
+    ensures { λ r. ⌜ ((v : Venue) → TakenOf taken c (v .regular) → r ≡ unitsIn v c) ⌝ }
+{
+    let one = taken.first;
+    let two = taken.second;
+    let open = trades::at_most(c.quantity, units(one.size, c.ratio1));
+    trades::at_most(open, units(two.size, c.ratio2))
+}
+
+// The order at place i legs in while the best prices allow it and fill a unit, in at most `quantity` turns.
+pub fn leg_in_all(b: &mut [u32], i: usize, quantity: u32, out: &mut [u8], at: usize) -> usize
+    requires { ⌜ (length (now b) ≡ size) × (Right (now b)) × (i < complexesUsed (now b)) ⌝ }
+    ensures { λ r. ⌜ stage (venueOf (now (b .exit))) (now (out .exit)) r ≡ seen (now (out .entry)) at does repeat quantity (legInTurn i) (venueOf (now (b .entry))) ⌝ }
+    ensures counts { λ _. ⌜ SameCounts (now (b .entry)) (now (b .exit)) ⌝ }
+{
+    let mut pos = at;
+    let mut turns = quantity;
+    while 0 < turns {
+        turns -= 1;
+        let c = places::complex_at(b, i);
+        let taken = levels::taken_at(b, c);
+        let first = taken.first;
+        let second = taken.second;
+        if !can_leg_in(b, taken, c, first.price, second.price) {
+            return pos;
+        }
+        let k = units_in(taken, c);
+        if k == 0 {
+            return pos;
+        }
+        pos = leg_in(b, i, first.price, second.price, k, out, pos);
+    }
+    pos
+}
+
+// The order at place i crosses, touches and legs in, if neither of its series is closed.
+pub fn work(b: &mut [u32], i: usize, out: &mut [u8], at: usize) -> usize
+    requires { ⌜ (length (now b) ≡ size) × (Right (now b)) × (i < complexesUsed (now b)) ⌝ }
+    ensures { λ r. ⌜ stage (venueOf (now (b .exit))) (now (out .exit)) r ≡ seen (now (out .entry)) at does complex.work i (venueOf (now (b .entry))) ⌝ }
+    ensures counts { λ _. ⌜ SameCounts (now (b .entry)) (now (b .exit)) ⌝ }
+{
+    let c = places::complex_at(b, i);
+    if prices::any_closed(b, c) {
+        return at;
+    }
+    let crossed = crossing::cross_all(b, i, out, at);
+    let touched = crossing::touch(b, i, out, crossed);
+    leg_in_all(b, i, c.quantity, out, touched)
+}
