@@ -21,6 +21,7 @@ Says each fault as FILE:LINE: what is wrong, and ends with status 1 where there 
   docs/requests/*.md;
 - every row ("W3") that the columns "In 01", "Definitions" and "Rule" name has a line under "No.", and every "Reading 14" is a number of
   docs/DECISIONS.md, section 2;
+- in crates.txt a crate uses only crates above it and has a line that says what it is for, and README's table "Layers" has its layers and crates;
 - no line outside tables and code is longer than 160 characters, and no path of a machine is told;
 - docs/ without docs/requests/ is at most 90,000 bytes, and 2,000 more for each request that has landed (docs/requests/a.md and so on).
 
@@ -277,6 +278,29 @@ class Papers:
             for name in sorted(names - self.named.get(stem, set())):
                 self.fault("docs/CROSSWALK.md", 1, f"{stem}: `{name}` is defined in crates/rules/specs/{stem}.antt and not named")
 
+    def layers(self):
+        """That crates.txt is in order, with a line on each crate, and that README's table of layers is its layers, the last one first."""
+        layers, said, known = [], None, {"io", "libc", "os"}
+        for number, line in enumerate(read("crates.txt").split("\n"), 1):
+            if found := re.fullmatch(r"# ([a-z_]+): \S.*", line):
+                said = found[1]
+            elif line.startswith("# "):
+                layers.append((line[2:], []))
+            elif found := re.fullmatch(r"([a-z_]+):((?: [a-z_]+)*)", line):
+                crate, used = found[1], found[2].split()
+                if said != crate:
+                    self.fault("crates.txt", number, f"the line before does not say what {crate} is for")
+                for other in set(used) - known:
+                    self.fault("crates.txt", number, f"{crate} uses {other}, which is not above it")
+                known.add(crate)
+                layers[-1][1].append(crate)
+        rows = [f"| {title} | {', '.join(crates)} |" for title, crates in reversed(layers) if crates]
+        shown = re.findall(r"^\| .*", read("README.md").split("\n## Layers\n")[1].split("\n## ")[0], re.M)[1:]
+        for row in [row for row in rows if row not in shown] + [row for row in shown if row not in rows]:
+            self.fault("README.md", 1, f"not a row of README's layers and a layer of crates.txt: {row}")
+        if sorted(rows) == sorted(shown) and rows != shown:
+            self.fault("README.md", 1, "the rows of README's layers are not in the order of crates.txt, the last layer first")
+
     def size(self):
         total = sum(os.path.getsize(p) for p in glob.glob("docs/*.md"))
         most = MOST_BYTES + MOST_PER_REQUEST * len(glob.glob("docs/requests/[a-z].md"))
@@ -310,6 +334,7 @@ def main():
     for path in ["README.md"] + sorted(set(glob.glob("docs/*.md")) - {"docs/CROSSWALK.md"}):
         papers.paper(path)
     papers.rows_named()
+    papers.layers()
     total = papers.size()
     for fault in papers.faults:
         print(fault)
