@@ -1,6 +1,6 @@
 // The calls for a host in C: the run, the first venue, one message, the feed, the settings, and a set written and read.
-use set_reader::Resumed;
 use rules::Settings;
+use set_reader::Resumed;
 ghost use mathlib.Core.Path.{_≡_};
 ghost use Prim.Native.Nat.{_≤_};
 ghost use lib.ListN.{length};

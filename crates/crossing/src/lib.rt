@@ -1,7 +1,7 @@
 // Complex orders with one another: the cross, and the touch of legging orders.
-use cross_makers::Pick;
 use arithmetic::lesser;
 use arithmetic::limit_of;
+use cross_makers::Pick;
 use levels::Taken;
 use rules::Cause;
 use rules::Complex;

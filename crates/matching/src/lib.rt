@@ -14,8 +14,8 @@ ghost use Rattle.records.specs.Seen.{seen};
 ghost use Rattle.records.specs.Stage.{stage, _does_};
 ghost use Rattle.places.specs.Layout.{size, regularsUsed, complexesUsed, venueOf, Right, Below, Counts, SameCounts, Dense};
 ghost use Rattle.matching.specs.Turns.{turnOf, InUse};
-use book::Pick;
 use arithmetic::lesser;
+use book::Pick;
 use rules::Legging;
 use rules::Regular;
 

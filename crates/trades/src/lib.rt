@@ -12,6 +12,7 @@ ghost use Rattle.records.specs.Seen.{seen};
 ghost use Rattle.records.specs.Stage.{stage, _does_};
 ghost use Rattle.places.specs.Layout.{size, regularsUsed, complexesUsed, venueOf, Right, SameCounts};
 ghost use Rattle.trades.specs.Hits.{pairingOf};
+use arithmetic::opposite_of;
 use book::Found;
 use book::Pick;
 use rules::Cause;
@@ -61,7 +62,7 @@ pub fn take(
     ensures { λ r. ⌜ stage (venueOf (now (b .exit))) (now (out .exit)) r ≡ seen (now (out .entry)) at does trading.take quantity taker series side price quantity (venueOf (now (b .entry))) ⌝ }
     ensures counts { λ _. ⌜ SameCounts (now (b .entry)) (now (b .exit)) ⌝ }
 {
-    let other = arithmetic::opposite_of(side);
+    let other = opposite_of(side);
     let mut pos = at;
     let mut left = quantity;
     while 0 < left {
@@ -123,10 +124,10 @@ fn pairing_of(b: &[u32], l: Legging, series: u8, side: u8) -> Pairing
 {
     let c = prices::parent_of(b, l);
     let leg = prices::other_leg(c, series);
-    let other = arithmetic::opposite_of(leg.side);
+    let other = opposite_of(leg.side);
     let best = levels::best_regular(b, leg.series, other);
     let clear = prices::clear_price(b, best, leg.series, other);
-    let net = arithmetic::net_of(1, arithmetic::opposite_of(side), l.price, 1, leg.side, clear);
+    let net = arithmetic::net_of(1, opposite_of(side), l.price, 1, leg.side, clear);
     Pairing {
         id: c.id,
         series: leg.series,
