@@ -5,9 +5,6 @@ use borrow.Author.Tests.{eq-eqb, ne-eqb}
 use Rattle.arithmetic.proofs.cause_number.Statement.{statement}
 use Rattle.arithmetic.proofs.cause_number.Tie as tie
 
-cause-order-requires : tie.Need-cause-order-requires
-cause-order-requires c κs = search needs
-
 returns : tie.Need-returns
 returns c = rw (eq-eqb (c .before .cause-order .result) 9 (c .if1 .taken)) at (c .before .cause-order .ensures)
 
@@ -15,4 +12,4 @@ returns-2 : tie.Need-returns-2
 returns-2 c = rw (ne-eqb (c .before .cause-order .result) 9 (c .if1 .left)) at (c .before .cause-order .ensures)
 
 pub cause-number-spec : {M : Type 1} → statement M
-cause-number-spec = tie.close (tie.spec cause-order-requires returns returns-2)
+cause-number-spec = tie.close (tie.spec (λ c κs. search needs) returns returns-2)

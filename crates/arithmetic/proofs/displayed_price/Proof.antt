@@ -13,24 +13,12 @@ use Rattle.arithmetic.proofs.displayed_price.Tie as tie
 returns : tie.Need-returns
 returns c = let z = c .if1 .taken in rw z (sym (shown-none _ _))
 
-div-result : tie.Need-div-result
-div-result c = search needs
-
 mul-result : tie.Need-mul-result
 mul-result c = record { fits = omega (arith, div-add-mod' (c .before .before .args .price) (c .before .before .args .increment)) }
 
 returns-2 : tie.Need-returns-2
 unfolding displayed
 returns-2 c = simp (eq-eqb _ _ (c .if2 .taken))
-
-sub-result : tie.Need-sub-result
-sub-result c = search needs
-
-add-result : tie.Need-add-result
-add-result c = search needs
-
-div-result-2 : tie.Need-div-result-2
-div-result-2 c = search needs
 
 mul-result-2 : tie.Need-mul-result-2
 mul-result-2 c =
@@ -45,11 +33,11 @@ displayed-price-spec =
     tie.close
     (tie.spec
     returns
-    div-result
+    (λ c. search needs)
     mul-result
     returns-2
-    sub-result
-    add-result
-    div-result-2
+    (λ c. search needs)
+    (λ c. search needs)
+    (λ c. search needs)
     mul-result-2
     returns-3)

@@ -6,9 +6,6 @@ use Rattle.rules.proofs.Machine.{back, credit-fits, credit-ok, debit-fits, debi
 use Rattle.arithmetic.proofs.near_net.Statement.{statement}
 use Rattle.arithmetic.proofs.near_net.Tie as tie
 
-cast-x : tie.Need-cast-x
-cast-x c = search needs
-
 mul-result : tie.Need-mul-result
 mul-result c = let s = c .before in hundred-t (s .args .percent) (omega arith) (s .fits .o) (s .fits .t) (omega arith) (omega arith)
 
@@ -45,7 +42,7 @@ pub near-net-spec : {M : Type 1} → statement M
 near-net-spec =
     tie.close
     (tie.spec
-    cast-x
+    (λ c. search needs)
     mul-result
     mul-result-2
     add-result

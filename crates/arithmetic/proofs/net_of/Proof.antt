@@ -8,12 +8,6 @@ use borrow.Author.Needs.{needs}
 use Rattle.arithmetic.proofs.net_of.Statement.{statement}
 use Rattle.arithmetic.proofs.net_of.Tie as tie
 
-weighed-price-requires : tie.Need-weighed-price-requires
-weighed-price-requires c κs = search needs
-
-weighed-price-requires-2 : tie.Need-weighed-price-requires-2
-weighed-price-requires-2 c κs = search needs
-
 add-result : tie.Need-add-result
 add-result c = sum-fits {a = c .before .weighed-price .result} {b = c .weighed-price2 .result} (record { sfits = c .before .weighed-price .ok }) (record { sfits = c .weighed-price2 .ok })
     (omega (arith, c .before .weighed-price .ensures .1, c .weighed-price2 .ensures .1))
@@ -23,4 +17,4 @@ returns c = let e = sum-ok {a = c .before .weighed-price .result} {b = c .weighe
     (e ∙ rw (c .before .weighed-price .ensures .0, c .weighed-price2 .ensures .0) refl, omega (arith, ap natAbs e, abs-add (c .before .weighed-price .result) (c .weighed-price2 .result), c .before .weighed-price .ensures .1, c .weighed-price2 .ensures .1))
 
 pub net-of-spec : {M : Type 1} → statement M
-net-of-spec = tie.close (tie.spec weighed-price-requires weighed-price-requires-2 add-result returns)
+net-of-spec = tie.close (tie.spec (λ c κs. search needs) (λ c κs. search needs) add-result returns)

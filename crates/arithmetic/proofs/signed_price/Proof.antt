@@ -10,15 +10,9 @@ use borrow.Author.Needs.{needs}
 use Rattle.arithmetic.proofs.signed_price.Statement.{statement}
 use Rattle.arithmetic.proofs.signed_price.Tie as tie
 
-cast-result : tie.Need-cast-result
-cast-result c = search needs
-
 returns : tie.Need-returns
 unfolding signed
 returns c = let e = cast-of (c .before .args .price) (omega arith) in (e ∙ simp (eq-eqb _ _ (c .if1 .taken)), omega (arith, ap natAbs e))
-
-cast-result-2 : tie.Need-cast-result-2
-cast-result-2 c = search needs
 
 sub-result : tie.Need-sub-result
 sub-result c = neg-fits (c .before .args .price) (omega arith)
@@ -28,4 +22,4 @@ unfolding signed
 returns-2 c = let e = neg-ok (c .before .args .price) (omega arith) in (e ∙ simp (ne-eqb _ _ (c .if1 .left)), omega (arith, ap natAbs e, abs-neg (pos (c .before .args .price))))
 
 pub signed-price-spec : {M : Type 1} → statement M
-signed-price-spec = tie.close (tie.spec cast-result returns cast-result-2 sub-result returns-2)
+signed-price-spec = tie.close (tie.spec (λ c. search needs) returns (λ c. search needs) sub-result returns-2)

@@ -5,15 +5,6 @@ use borrow.Author.Needs.{needs}
 use Rattle.book.proofs.better_pick.Statement.{statement}
 use Rattle.book.proofs.better_pick.Tie as tie
 
-enum-told : tie.Need-enum-told
-enum-told c = search needs
-
-enum-known-best : tie.Need-enum-known-best
-enum-known-best c = search needs
-
-ranks-before-requires : tie.Need-ranks-before-requires
-ranks-before-requires c κs = search needs
-
 returns : tie.Need-returns
 returns c = λ x p. pick-kept _ _ _ _ _ (c .before .before .before .best .given .1) x p (sym (c .before .ranks-before .ensures) ∙ c .if1 .taken)
 
@@ -26,4 +17,4 @@ returns-3 c = λ x p. pick-new _ _ _ _ _ (c .before .before .before .best .given
 pub better-pick-spec : {M : Type 1} → statement M
 better-pick-spec =
     tie.close
-    (tie.spec enum-told enum-known-best ranks-before-requires returns returns-2 returns-3)
+    (tie.spec (λ c. search needs) (λ c. search needs) (λ c κs. search needs) returns returns-2 returns-3)

@@ -19,17 +19,11 @@ Inv-loop b id n i₀ i = (i ≤ complexesUsed b) × ((j : ℕ) → j < i → isC
 abbrev μ-loop : tie.MeasureT-loop
 μ-loop b id n i₀ i = complexesUsed b - i
 
-complexes-used-requires : tie.Need-complexes-used-requires Inv-loop μ-loop
-complexes-used-requires c κs = search needs
-
 loop-holds : tie.Need-loop-holds Inv-loop μ-loop
 loop-holds c = (search needs, λ j q. absurd (omega arith))
 
 complex-at-requires : tie.Need-complex-at-requires Inv-loop μ-loop
 complex-at-requires c κs = let w = complexes-few (c .before .before .before .before .args .b .now) in search needs
-
-is-complex-of-requires : tie.Need-is-complex-of-requires Inv-loop μ-loop
-is-complex-of-requires c κs = search needs
 
 returns : tie.Need-returns Inv-loop μ-loop
 unfolding complexFound restsComplex complexPlace complexAt venueOf foundIn
@@ -43,9 +37,6 @@ returns c =
 
 add-i : tie.Need-add-i Inv-loop μ-loop
 add-i c = let w = complexes-few (c .before .before .before .before .before .before .before .args .b .now) in search needs
-
-loop-less : tie.Need-loop-less Inv-loop μ-loop
-loop-less c = search needs
 
 loop-again : tie.Need-loop-again Inv-loop μ-loop
 loop-again c =
@@ -71,12 +62,12 @@ complex-place-spec =
     (tie.spec
     Inv-loop
     μ-loop
-    complexes-used-requires
+    (λ c κs. search needs)
     loop-holds
     complex-at-requires
-    is-complex-of-requires
+    (λ c κs. search needs)
     returns
     add-i
-    loop-less
+    (λ c. search needs)
     loop-again
     returns-2)

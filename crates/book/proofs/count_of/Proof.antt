@@ -8,8 +8,5 @@ use Rattle.book.proofs.count_of.Tie as tie
 cast-result : tie.Need-cast-result
 cast-result c = let h = ones-le 16 (c .args .mask) (c .fits .mask .fits) in record { fits = omega arith }
 
-returns : tie.Need-returns
-returns c = search needs
-
 pub count-of-spec : {M : Type 1} → statement M
-count-of-spec = tie.close (tie.spec cast-result returns)
+count-of-spec = tie.close (tie.spec cast-result (λ c. search needs))

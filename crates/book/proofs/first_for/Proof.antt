@@ -20,12 +20,6 @@ Inv-loop b series side price key n k₀ k = (k ≤ regularsUsed b) × ((j : ℕ)
 abbrev μ-loop : tie.MeasureT-loop
 μ-loop b series side price key n k₀ k = regularsUsed b - k
 
-place-of-requires : tie.Need-place-of-requires Inv-loop μ-loop
-place-of-requires c κs = search needs
-
-regulars-used-requires : tie.Need-regulars-used-requires Inv-loop μ-loop
-regulars-used-requires c κs = search needs
-
 loop-holds : tie.Need-loop-holds Inv-loop μ-loop
 loop-holds c = (search needs, λ j q. absurd (omega arith))
 
@@ -34,9 +28,6 @@ add-k c = let w = regulars-few (c .before .before .before .before .before .args 
 
 key-at-requires : tie.Need-key-at-requires Inv-loop μ-loop
 key-at-requires c κs = let w = regulars-few (c .before .before .before .before .before .args .b .now) in search needs
-
-loop-less : tie.Need-loop-less Inv-loop μ-loop
-loop-less c = search needs
 
 loop-again : tie.Need-loop-again Inv-loop μ-loop
 loop-again c =
@@ -52,9 +43,6 @@ loop-again c =
 regular-at-requires : tie.Need-regular-at-requires Inv-loop μ-loop
 regular-at-requires c κs = let w = regulars-few (c .before .before .before .before .before .before .before .args .b .now) in search needs
 
-shows-for-requires : tie.Need-shows-for-requires Inv-loop μ-loop
-shows-for-requires c κs = search needs
-
 returns : tie.Need-returns Inv-loop μ-loop
 returns c =
     let p2 = c .before .before in
@@ -62,9 +50,6 @@ returns c =
     let p10 = p6 .before .before .before .before in
     for-at (p10 .args .b .now) (p10 .pre .1) (p10 .args .series) (p10 .args .side) (p10 .args .price) _ _ (omega arith) (p2 .regular-at .ensures)
     (sym (c .before .shows-for .ensures) ∙ c .if2 .taken) (p6 .loop .inv .1)
-
-loop-less-2 : tie.Need-loop-less-2 Inv-loop μ-loop
-loop-less-2 c = search needs
 
 loop-again-2 : tie.Need-loop-again-2 Inv-loop μ-loop
 loop-again-2 c =
@@ -87,16 +72,16 @@ first-for-spec =
     (tie.spec
     Inv-loop
     μ-loop
-    place-of-requires
-    regulars-used-requires
+    (λ c κs. search needs)
+    (λ c κs. search needs)
     loop-holds
     add-k
     key-at-requires
-    loop-less
+    (λ c. search needs)
     loop-again
     regular-at-requires
-    shows-for-requires
+    (λ c κs. search needs)
     returns
-    loop-less-2
+    (λ c. search needs)
     loop-again-2
     returns-2)

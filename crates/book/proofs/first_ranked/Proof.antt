@@ -20,26 +20,11 @@ Inv-loop b series side price key best₀ i₀ best i = (i ≤ regularsUsed b) ×
 abbrev μ-loop : tie.MeasureT-loop
 μ-loop b series side price key best₀ i₀ best i = i
 
-opposite-of-requires : tie.Need-opposite-of-requires Inv-loop μ-loop
-opposite-of-requires c κs = search needs
-
-place-of-requires : tie.Need-place-of-requires Inv-loop μ-loop
-place-of-requires c κs = search needs
-
-regulars-used-requires : tie.Need-regulars-used-requires Inv-loop μ-loop
-regulars-used-requires c κs = search needs
-
 loop-holds : tie.Need-loop-holds Inv-loop μ-loop
 loop-holds c = let e = c .regulars-used .ensures .0 in (omega (arith, e), met-start _ _ _ _ _ (omega (arith, e)))
 
-sub-i : tie.Need-sub-i Inv-loop μ-loop
-sub-i c = search needs
-
 key-at-requires : tie.Need-key-at-requires Inv-loop μ-loop
 key-at-requires c κs = let w = regulars-few (c .before .before .before .before .before .before .args .b .now) in search needs
-
-loop-less : tie.Need-loop-less Inv-loop μ-loop
-loop-less c = search needs
 
 loop-again : tie.Need-loop-again Inv-loop μ-loop
 loop-again c =
@@ -53,12 +38,6 @@ loop-again c =
 regular-at-requires : tie.Need-regular-at-requires Inv-loop μ-loop
 regular-at-requires c κs = let w = regulars-few (c .before .before .before .before .before .before .before .before .args .b .now) in search needs
 
-is-met-requires : tie.Need-is-met-requires Inv-loop μ-loop
-is-met-requires c κs = search needs
-
-loop-less-2 : tie.Need-loop-less-2 Inv-loop μ-loop
-loop-less-2 c = search needs
-
 loop-again-2 : tie.Need-loop-again-2 Inv-loop μ-loop
 loop-again-2 c =
     let l = c .before .before .before .before .before .before .loop in
@@ -67,12 +46,6 @@ loop-again-2 c =
       met-past (a .b .now) (a .series) (a .side) (a .price) _ _ (c .before .before .before .before .before .loop-test .taken) (l .inv .0) (l .inv .1)
           (ap (isMet (a .series) (a .side) (a .price)) (sym (c .before .before .regular-at .ensures)) ∙ sym (c .before .is-met .ensures) ∙ not-true _ (c .if2 .taken)),
     )
-
-better-pick-requires : tie.Need-better-pick-requires Inv-loop μ-loop
-better-pick-requires c κs = search needs
-
-loop-less-3 : tie.Need-loop-less-3 Inv-loop μ-loop
-loop-less-3 c = search needs
 
 loop-again-3 : tie.Need-loop-again-3 Inv-loop μ-loop
 loop-again-3 c =
@@ -92,19 +65,19 @@ first-ranked-spec =
     (tie.spec
     Inv-loop
     μ-loop
-    opposite-of-requires
-    place-of-requires
-    regulars-used-requires
+    (λ c κs. search needs)
+    (λ c κs. search needs)
+    (λ c κs. search needs)
     loop-holds
-    sub-i
+    (λ c. search needs)
     key-at-requires
-    loop-less
+    (λ c. search needs)
     loop-again
     regular-at-requires
-    is-met-requires
-    loop-less-2
+    (λ c κs. search needs)
+    (λ c. search needs)
     loop-again-2
-    better-pick-requires
-    loop-less-3
+    (λ c κs. search needs)
+    (λ c. search needs)
     loop-again-3
     returns)

@@ -18,15 +18,9 @@ use borrow.Author.Needs.{needs}
 use Rattle.book.proofs.first_shown.Statement.{statement}
 use Rattle.book.proofs.first_shown.Tie as tie
 
-opposite-of-requires : tie.Need-opposite-of-requires
-opposite-of-requires c κs = search needs
-
 best-regular-requires : tie.Need-best-regular-requires
 unfolding opposite
 best-regular-requires c κs = search needs
-
-reaches-any-requires : tie.Need-reaches-any-requires
-reaches-any-requires c κs = search needs
 
 -- every order shows some size
 some : {b : List ℕ} → Right b → isUnmarked b ≡ true → (i : ℕ) → held (getD (venueOf b .regular) i noRegular .quantity) ≡ true → held (shown (getD (venueOf b .regular) i noRegular)) ≡ true
@@ -50,9 +44,6 @@ returns c =
     sym (ap pickOf (unmet (p5 .args .series) (p5 .args .side) (p5 .args .price) (venueOf (p5 .args .b .now) .regular) (p5 .pre .1 .orders) (some (p5 .pre .1) (p5 .pre .3))
     (sym (best-asked (c .before)) ∙ not-true _ (c .if1 .taken))))
 
-first-for-requires : tie.Need-first-for-requires
-first-for-requires c κs = search needs
-
 returns-2 : tie.Need-returns-2
 unfolding bestRegular
 returns-2 c =
@@ -69,4 +60,4 @@ returns-2 c =
 
 pub first-shown-spec : {M : Type 1} → statement M
 first-shown-spec =
-    tie.close (tie.spec opposite-of-requires best-regular-requires reaches-any-requires returns first-for-requires returns-2)
+    tie.close (tie.spec (λ c κs. search needs) best-regular-requires (λ c κs. search needs) returns (λ c κs. search needs) returns-2)

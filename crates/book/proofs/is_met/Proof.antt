@@ -10,14 +10,8 @@ returns c = met-none _ _ _ _ (c .if1 .taken)
 returns-2 : tie.Need-returns-2
 returns-2 c = met-aside _ _ _ _ (c .before .before .if1 .left) (c .if2 .taken)
 
-opposite-of-requires : tie.Need-opposite-of-requires
-opposite-of-requires c κs = search needs
-
 returns-3 : tie.Need-returns-3
 returns-3 c = met-own _ _ _ _ (c .before .before .before .before .before .if1 .left) (c .before .before .before .if2 .left) _ (c .before .before .opposite-of .ensures) (c .if3 .taken)
-
-reaches-price-requires : tie.Need-reaches-price-requires
-reaches-price-requires c κs = search needs
 
 returns-4 : tie.Need-returns-4
 returns-4 c = met-reached _ _ _ _ (c .before .before .before .before .before .before .if1 .left) (c .before .before .before .before .if2 .left) _ (c .before .before .before .opposite-of .ensures) (c .before .if3 .left) _ (c .reaches-price .ensures)
@@ -25,4 +19,4 @@ returns-4 c = met-reached _ _ _ _ (c .before .before .before .before .before .be
 pub is-met-spec : {M : Type 1} → statement M
 is-met-spec =
     tie.close
-    (tie.spec returns returns-2 opposite-of-requires returns-3 reaches-price-requires returns-4)
+    (tie.spec returns returns-2 (λ c κs. search needs) returns-3 (λ c κs. search needs) returns-4)

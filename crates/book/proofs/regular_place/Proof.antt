@@ -18,9 +18,6 @@ Inv-loop b id low₀ high₀ low high =
 abbrev μ-loop : tie.MeasureT-loop
 μ-loop b id low₀ high₀ low high = high - low
 
-regulars-used-requires : tie.Need-regulars-used-requires Inv-loop μ-loop
-regulars-used-requires c κs = search needs
-
 loop-holds : tie.Need-loop-holds Inv-loop μ-loop
 loop-holds c = (search needs, λ j q. absurd (omega arith), λ j p q. absurd (omega arith))
 
@@ -38,17 +35,11 @@ returns c =
 add-low : tie.Need-add-low Inv-loop μ-loop
 add-low c = let w = regulars-few (c .before .before .before .before .before .before .before .args .b .now) in search needs
 
-loop-less : tie.Need-loop-less Inv-loop μ-loop
-loop-less c = search needs
-
 loop-again : tie.Need-loop-again Inv-loop μ-loop
 loop-again c =
     let p4 = c .before .before .before .before in
     let p7 = p4 .before .before .before in
     (omega arith, lower-before (p7 .args .b .now) (p7 .pre .1) (p7 .args .id) _ (omega arith) (omega arith), p4 .loop .inv .2)
-
-loop-less-2 : tie.Need-loop-less-2 Inv-loop μ-loop
-loop-less-2 c = search needs
 
 loop-again-2 : tie.Need-loop-again-2 Inv-loop μ-loop
 loop-again-2 c =
@@ -72,14 +63,14 @@ regular-place-spec =
     (tie.spec
     Inv-loop
     μ-loop
-    regulars-used-requires
+    (λ c κs. search needs)
     loop-holds
     add-i
     regular-id-requires
     returns
     add-low
-    loop-less
+    (λ c. search needs)
     loop-again
-    loop-less-2
+    (λ c. search needs)
     loop-again-2
     returns-2)

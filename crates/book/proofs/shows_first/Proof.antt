@@ -4,20 +4,11 @@ use borrow.Author.Needs.{needs}
 use Rattle.book.proofs.shows_first.Statement.{statement}
 use Rattle.book.proofs.shows_first.Tie as tie
 
-shown-of-requires : tie.Need-shown-of-requires
-shown-of-requires c κs = search needs
-
-shown-of-requires-2 : tie.Need-shown-of-requires-2
-shown-of-requires-2 c κs = search needs
-
 returns : tie.Need-returns
 returns c = shown-neither _ _ _ _ (c .before .before .before .shown-of2 .ensures) (c .before .before .before .before .before .shown-of .ensures) (c .before .before .if2 .taken) (c .before .before .before .before .if1 .taken)
 
 returns-2 : tie.Need-returns-2
 returns-2 c = shown-alone _ _ _ _ (c .before .shown-of2 .ensures) (c .before .before .before .shown-of .ensures) (c .if2 .left) (c .before .before .if1 .taken)
-
-shown-of-requires-3 : tie.Need-shown-of-requires-3
-shown-of-requires-3 c κs = search needs
 
 returns-3 : tie.Need-returns-3
 returns-3 c = shown-after _ _ _ _ (c .before .shown-of3 .ensures) (c .before .before .before .shown-of .ensures) (c .if3 .taken) (c .before .before .if1 .left)
@@ -29,10 +20,10 @@ pub shows-first-spec : {M : Type 1} → statement M
 shows-first-spec =
     tie.close
     (tie.spec
-    shown-of-requires
-    shown-of-requires-2
+    (λ c κs. search needs)
+    (λ c κs. search needs)
     returns
     returns-2
-    shown-of-requires-3
+    (λ c κs. search needs)
     returns-3
     returns-4)

@@ -4,9 +4,6 @@ use borrow.Author.Needs.{needs}
 use Rattle.book.proofs.shows_for.Statement.{statement}
 use Rattle.book.proofs.shows_for.Tie as tie
 
-shown-of-requires : tie.Need-shown-of-requires
-shown-of-requires c κs = search needs
-
 returns : tie.Need-returns
 returns c = shows-none _ _ _ _ _ (c .before .shown-of .ensures) (c .if1 .taken)
 
@@ -20,4 +17,4 @@ returns-4 : tie.Need-returns-4
 returns-4 c = shows-price _ _ _ _ _ (c .before .before .before .before .before .before .shown-of .ensures) (c .before .before .before .before .before .if1 .left) (c .before .before .before .if2 .left) (c .before .if3 .left)
 
 pub shows-for-spec : {M : Type 1} → statement M
-shows-for-spec = tie.close (tie.spec shown-of-requires returns returns-2 returns-3 returns-4)
+shows-for-spec = tie.close (tie.spec (λ c κs. search needs) returns returns-2 returns-3 returns-4)

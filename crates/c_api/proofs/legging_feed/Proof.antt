@@ -5,14 +5,8 @@ use borrow.Author.Needs.{needs}
 use Rattle.c_api.proofs.legging_feed.Statement.{statement}
 use Rattle.c_api.proofs.legging_feed.Tie as tie
 
-feed-requires : tie.Need-feed-requires
-feed-requires c κs = search needs
-
-same-length : tie.Need-same-length
-same-length c = search needs
-
 returns : tie.Need-returns
 returns c = let e = c .before .before .feed .ensures in (ap (λ (x : Call). x .returned .number) e, ap (λ (x : Call). x .report) e)
 
 pub legging-feed-spec : {M : Type 1} → statement M
-legging-feed-spec = tie.close (tie.spec feed-requires same-length returns)
+legging-feed-spec = tie.close (tie.spec (λ c κs. search needs) (λ c. search needs) returns)

@@ -7,17 +7,8 @@ use Rattle.c_api.proofs.legging_fresh.Tie as tie
 returns : tie.Need-returns
 returns c = none-begun _ (c .if1 .taken)
 
-fresh-requires : tie.Need-fresh-requires
-fresh-requires c κs = search needs
-
-put-venue-requires : tie.Need-put-venue-requires
-put-venue-requires c κs = search needs
-
-same-length : tie.Need-same-length
-same-length c = search needs
-
 returns-2 : tie.Need-returns-2
 returns-2 c = let k = c .before .before .before .before .fresh in fresh-begun _ _ (k .result) (c .before .before .before .before .before .if1 .left) (k .ensures) (c .before .before .put-venue .ensures)
 
 pub legging-fresh-spec : {M : Type 1} → statement M
-legging-fresh-spec = tie.close (tie.spec returns fresh-requires put-venue-requires same-length returns-2)
+legging-fresh-spec = tie.close (tie.spec returns (λ c κs. search needs) (λ c κs. search needs) (λ c. search needs) returns-2)

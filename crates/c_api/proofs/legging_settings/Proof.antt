@@ -5,32 +5,11 @@ use borrow.Author.Needs.{needs}
 use Rattle.c_api.proofs.legging_settings.Statement.{statement}
 use Rattle.c_api.proofs.legging_settings.Tie as tie
 
-zero-from-requires : tie.Need-zero-from-requires
-zero-from-requires c κs = search needs
-
-same-length : tie.Need-same-length
-same-length c = search needs
-
 returns : tie.Need-returns
 returns c = let s = c .before .before .before .before .before .before .before in told-none (s .args .venue .now) (s .args .number) (s .args .settings .now) _ (c .before .before .before .zero-from .ensures) (c .if1 .taken)
 
-same-length-2 : tie.Need-same-length-2
-same-length-2 c = search needs
-
 returns-2 : tie.Need-returns-2
 returns-2 c = let s = c .before .before .before .before .before .before .before .before in told-short (s .args .venue .now) (s .args .number) (s .args .settings .now) _ (c .before .before .before .before .zero-from .ensures) (c .before .if1 .left) (c .if2 .taken)
-
-venue-from-requires : tie.Need-venue-from-requires
-venue-from-requires c κs = search needs
-
-settings-requires : tie.Need-settings-requires
-settings-requires c κs = search needs
-
-put-settings-requires : tie.Need-put-settings-requires
-put-settings-requires c κs = search needs
-
-same-length-3 : tie.Need-same-length-3
-same-length-3 c = search needs
 
 returns-3 : tie.Need-returns-3
 returns-3 c = let s = c .before .before .before .before .before .before .before .before .before .before .before .before .before .before in told-all (s .args .venue .now) (s .args .number) (s .args .settings .now) _ (c .before .before .before .before .before .before .before .before .before .before .zero-from .ensures) (c .before .before .before .before .before .before .before .if1 .left) (omega arith) _ (c .before .before .before .before .before .venue-from .ensures) _ (c .before .before .before .before .settings2 .ensures) _ (c .before .before .put-settings .ensures)
@@ -39,13 +18,13 @@ pub legging-settings-spec : {M : Type 1} → statement M
 legging-settings-spec =
     tie.close
     (tie.spec
-    zero-from-requires
-    same-length
+    (λ c κs. search needs)
+    (λ c. search needs)
     returns
-    same-length-2
+    (λ c. search needs)
     returns-2
-    venue-from-requires
-    settings-requires
-    put-settings-requires
-    same-length-3
+    (λ c κs. search needs)
+    (λ c κs. search needs)
+    (λ c κs. search needs)
+    (λ c. search needs)
     returns-3)

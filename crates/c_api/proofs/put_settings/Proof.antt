@@ -8,21 +8,6 @@ use borrow.Author.Needs.{needs}
 use Rattle.c_api.proofs.put_settings.Statement.{statement}
 use Rattle.c_api.proofs.put_settings.Tie as tie
 
-slice-aggregate-put : tie.Need-slice-aggregate-put
-slice-aggregate-put c = search needs
-
-put-requires : tie.Need-put-requires
-put-requires c κs = search needs
-
-slice-aggregate-put-2 : tie.Need-slice-aggregate-put-2
-slice-aggregate-put-2 c = search needs
-
-put-requires-2 : tie.Need-put-requires-2
-put-requires-2 c κs = search needs
-
-same-length : tie.Need-same-length
-same-length c = search needs
-
 returns : tie.Need-returns
 unfolding settingsBytes
 returns c = let n : length (c .before .before .before .before .before .before .before .before .before .before .before .before .args .s .increments) ≡ 8 = search needs in put-both _ _ _ _ _ _ _ (omega arith) (c .before .before .before .before .before .before .before .put .ensures) (c .before .before .put2 .ensures)
@@ -31,9 +16,9 @@ pub put-settings-spec : {M : Type 1} → statement M
 put-settings-spec =
     tie.close
     (tie.spec
-    slice-aggregate-put
-    put-requires
-    slice-aggregate-put-2
-    put-requires-2
-    same-length
+    (λ c. search needs)
+    (λ c κs. search needs)
+    (λ c. search needs)
+    (λ c κs. search needs)
+    (λ c. search needs)
     returns)

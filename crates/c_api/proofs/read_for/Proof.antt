@@ -4,14 +4,8 @@ use borrow.Author.Needs.{needs}
 use Rattle.c_api.proofs.read_for.Statement.{statement}
 use Rattle.c_api.proofs.read_for.Tie as tie
 
-refused-requires : tie.Need-refused-requires
-refused-requires c κs = search needs
-
 returns : tie.Need-returns
 returns c = read-short _ _ _ (c .before .if1 .taken) (c .refused .ensures)
-
-read-set-requires : tie.Need-read-set-requires
-read-set-requires c κs = search needs
 
 returns-2 : tie.Need-returns-2
 returns-2 c = read-four _ _ _ (c .before .if1 .left) (c .read-set .ensures)
@@ -20,7 +14,7 @@ pub read-for-spec : {M : Type 1} → statement M
 read-for-spec =
     tie.close
     (tie.spec
-    refused-requires
+    (λ c κs. search needs)
     returns
-    read-set-requires
+    (λ c κs. search needs)
     returns-2)

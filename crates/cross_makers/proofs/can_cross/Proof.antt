@@ -13,20 +13,11 @@ use Rattle.cross_makers.proofs.can_cross.Tie as tie
 returns : tie.Need-returns
 returns c = cross-free _ (c .before .before .before .args .c) (c .before .before .before .args .m) (c .if1 .taken)
 
-is-reversed-requires : tie.Need-is-reversed-requires
-is-reversed-requires c κs = search needs
-
 returns-2 : tie.Need-returns-2
 returns-2 c = cross-aside _ (c .before .before .before .before .before .args .c) (c .before .before .before .before .before .args .m) (c .before .before .if1 .left) (off _ _ (c .before .is-reversed .ensures) (c .if2 .taken))
 
-limits-meet-requires : tie.Need-limits-meet-requires
-limits-meet-requires c κs = search needs
-
 returns-3 : tie.Need-returns-3
 returns-3 c = cross-apart _ (c .before .before .before .before .before .before .before .args .c) (c .before .before .before .before .before .before .before .args .m) (c .before .before .before .before .if1 .left) (on _ _ (c .before .before .before .is-reversed .ensures) (c .before .before .if2 .left)) (off _ _ (c .before .limits-meet .ensures) (c .if3 .taken))
-
-net-against-requires : tie.Need-net-against-requires
-net-against-requires c κs = search needs
 
 taken-at-requires : tie.Need-taken-at-requires
 taken-at-requires c κs = let p = c .before .before .before .before .before .before .before .before .pre in (p .0, p .1, p .2)
@@ -43,9 +34,6 @@ returns-4 c =
     let u = c .before .before .before .net-against in
     cross-out _ (a .c) (a .m) (c .before .before .before .before .before .before .before .before .if1 .left) (on _ _ (c .before .before .before .before .before .before .before .is-reversed .ensures) (c .before .before .before .before .before .before .if2 .left)) (on _ _ (c .before .before .before .before .before .limits-meet .ensures) (c .before .before .before .before .if3 .left))
     (off _ _ (c .before .in-band .ensures ∙ ap (inBand _ (a .c)) (back {z = u .result} (record { sfits = u .ok }) ∙ u .ensures .0)) (c .if4 .taken))
-
-limit-of-requires : tie.Need-limit-of-requires
-limit-of-requires c κs = search needs
 
 taken-at-requires-2 : tie.Need-taken-at-requires-2
 taken-at-requires-2 c κs = let p = c .before .before .before .before .before .before .before .before .before .before .before .before .pre in (p .0, p .1, p .3)
@@ -65,9 +53,6 @@ returns-5 c =
     (on _ _ (c .before .before .before .before .before .in-band .ensures ∙ ap (inBand _ (a .c)) (back {z = u .result} (record { sfits = u .ok }) ∙ u .ensures .0)) (c .before .before .before .before .if4 .left))
     (off _ _ (c .before .in-band2 .ensures ∙ ap (inBand _ (a .m)) (back {z = w .result} (record { sfits = w .ok }) ∙ w .ensures .0)) (c .if5 .taken))
 
-respects-legs-requires : tie.Need-respects-legs-requires
-respects-legs-requires c κs = search needs
-
 returns-6 : tie.Need-returns-6
 returns-6 c =
     let a = c .before .before .before .before .before .before .before .before .before .before .before .before .before .before .before .before .before .args in
@@ -77,9 +62,6 @@ returns-6 c =
     (on _ _ (c .before .before .before .before .before .before .before .in-band .ensures ∙ ap (inBand _ (a .c)) (back {z = u .result} (record { sfits = u .ok }) ∙ u .ensures .0)) (c .before .before .before .before .before .before .if4 .left))
     (on _ _ (c .before .before .before .in-band2 .ensures ∙ ap (inBand _ (a .m)) (back {z = w .result} (record { sfits = w .ok }) ∙ w .ensures .0)) (c .before .before .if5 .left))
     (off _ _ (c .before .respects-legs .ensures _ (c .before .before .before .before .before .before .before .before .taken-at .ensures) ∙ ap (respectsLegs _ (a .c)) (back {z = u .result} (record { sfits = u .ok }) ∙ u .ensures .0)) (c .if6 .taken))
-
-respects-legs-requires-2 : tie.Need-respects-legs-requires-2
-respects-legs-requires-2 c κs = search needs
 
 returns-7 : tie.Need-returns-7
 returns-7 c =
@@ -97,19 +79,19 @@ can-cross-spec =
     tie.close
     (tie.spec
     returns
-    is-reversed-requires
+    (λ c κs. search needs)
     returns-2
-    limits-meet-requires
+    (λ c κs. search needs)
     returns-3
-    net-against-requires
+    (λ c κs. search needs)
     taken-at-requires
     in-band-requires
     returns-4
-    limit-of-requires
+    (λ c κs. search needs)
     taken-at-requires-2
     in-band-requires-2
     returns-5
-    respects-legs-requires
+    (λ c κs. search needs)
     returns-6
-    respects-legs-requires-2
+    (λ c κs. search needs)
     returns-7)

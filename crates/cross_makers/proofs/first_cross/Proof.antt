@@ -23,15 +23,6 @@ Inv-loop b c straight turned best₀ i₀ best i = (i ≤ complexesUsed b) × (p
 abbrev μ-loop : tie.MeasureT-loop
 μ-loop b c straight turned best₀ i₀ best i = i
 
-facing-key-requires : tie.Need-facing-key-requires Inv-loop μ-loop
-facing-key-requires c κs = search needs
-
-facing-key-requires-2 : tie.Need-facing-key-requires-2 Inv-loop μ-loop
-facing-key-requires-2 c κs = search needs
-
-complexes-used-requires : tie.Need-complexes-used-requires Inv-loop μ-loop
-complexes-used-requires c κs = search needs
-
 loop-holds : tie.Need-loop-holds Inv-loop μ-loop
 unfolding pickedOf
 loop-holds c =
@@ -39,17 +30,8 @@ loop-holds c =
     let a = c .before .before .before .before .args in
     (omega (arith, e), scan-start (crosses (venueOf (a .b .now)) (a .c)) limitThenId (complexIn (a .b .now)) _ _ (omega (arith, e)))
 
-sub-i : tie.Need-sub-i Inv-loop μ-loop
-sub-i c = search needs
-
 legs-at-requires : tie.Need-legs-at-requires Inv-loop μ-loop
 legs-at-requires c κs = let z = complexes-few (c .before .before .before .before .before .before .args .b .now) in (c .before .before .before .before .before .before .pre .0, omega arith)
-
-is-either-requires : tie.Need-is-either-requires Inv-loop μ-loop
-is-either-requires c κs = search needs
-
-loop-less : tie.Need-loop-less Inv-loop μ-loop
-loop-less c = search needs
 
 loop-again : tie.Need-loop-again Inv-loop μ-loop
 loop-again c =
@@ -68,9 +50,6 @@ complex-at-requires c κs = let z = complexes-few (c .before .before .before .be
 can-cross-requires : tie.Need-can-cross-requires Inv-loop μ-loop
 can-cross-requires c κs = let p = c .before .before .before .before .before .before .before .before .before .before .pre in (p .0, p .1, p .2, subst LegsIn (sym (c .complex-at .ensures)) (legs-in (c .before .before .before .before .before .before .before .before .before .before .args .b .now) _))
 
-loop-less-2 : tie.Need-loop-less-2 Inv-loop μ-loop
-loop-less-2 c = search needs
-
 loop-again-2 : tie.Need-loop-again-2 Inv-loop μ-loop
 loop-again-2 c =
     let l = c .before .before .before .before .before .before .before .loop in
@@ -80,12 +59,6 @@ loop-again-2 c =
       scan-past (crosses (venueOf (a .b .now)) (a .c)) limitThenId (complexIn (a .b .now)) (l .i) (complexesUsed (a .b .now)) h (l .inv .0) _ (l .inv .1)
           (ap (crosses (venueOf (a .b .now)) (a .c)) (sym (c .before .before .complex-at .ensures)) ∙ off _ _ (c .before .can-cross .ensures) (c .if2 .taken)),
     )
-
-better-pick-requires : tie.Need-better-pick-requires Inv-loop μ-loop
-better-pick-requires c κs = search needs
-
-loop-less-3 : tie.Need-loop-less-3 Inv-loop μ-loop
-loop-less-3 c = search needs
 
 loop-again-3 : tie.Need-loop-again-3 Inv-loop μ-loop
 loop-again-3 c =
@@ -114,20 +87,20 @@ first-cross-spec =
     (tie.spec
     Inv-loop
     μ-loop
-    facing-key-requires
-    facing-key-requires-2
-    complexes-used-requires
+    (λ c κs. search needs)
+    (λ c κs. search needs)
+    (λ c κs. search needs)
     loop-holds
-    sub-i
+    (λ c. search needs)
     legs-at-requires
-    is-either-requires
-    loop-less
+    (λ c κs. search needs)
+    (λ c. search needs)
     loop-again
     complex-at-requires
     can-cross-requires
-    loop-less-2
+    (λ c. search needs)
     loop-again-2
-    better-pick-requires
-    loop-less-3
+    (λ c κs. search needs)
+    (λ c. search needs)
     loop-again-3
     returns)

@@ -8,19 +8,13 @@ use Rattle.cross_makers.proofs.is_reversed.Reads as reads
 use Rattle.cross_makers.proofs.is_reversed.Lts as lts
 use Rattle.cross_makers.proofs.legs_face.Reads as legs-face-reads
 
-legs-face-requires : tie.Need-legs-face-requires
-legs-face-requires c κs = search needs
-
 returns : tie.Need-returns
 unfolding reversed
 returns c = rw (sym (c .before .legs-face .ensures) ∙ c .if1 .taken)
-
-legs-face-requires-2 : tie.Need-legs-face-requires-2
-legs-face-requires-2 c κs = search needs
 
 returns-2 : tie.Need-returns-2
 unfolding reversed
 returns-2 c = rw (sym (c .before .before .legs-face .ensures) ∙ c .before .if1 .left) (c .legs-face2 .ensures)
 
 pub is-reversed-spec : {M : Type 1} → statement M
-is-reversed-spec = tie.close (tie.spec legs-face-requires returns legs-face-requires-2 returns-2)
+is-reversed-spec = tie.close (tie.spec (λ c κs. search needs) returns (λ c κs. search needs) returns-2)

@@ -11,9 +11,6 @@ use Rattle.arithmetic.proofs.opposite_of.Reads as opposite-of-reads
 returns : tie.Need-returns
 returns c = simp (ne-eqb _ _ (c .if1 .taken))
 
-opposite-of-requires : tie.Need-opposite-of-requires
-opposite-of-requires c κs = search needs
-
 returns-2 : tie.Need-returns-2
 returns-2 c =
     let p2 = c .before .before in
@@ -37,9 +34,6 @@ returns-4 c =
       eq-eqb _ _ (p2 .if3 .left),
       ne-eqb _ _ (c .if4 .taken),
     )
-
-opposite-of-requires-2 : tie.Need-opposite-of-requires-2
-opposite-of-requires-2 c κs = search needs
 
 returns-5 : tie.Need-returns-5
 returns-5 c =
@@ -71,10 +65,10 @@ legs-face-spec =
     tie.close
     (tie.spec
     returns
-    opposite-of-requires
+    (λ c κs. search needs)
     returns-2
     returns-3
     returns-4
-    opposite-of-requires-2
+    (λ c κs. search needs)
     returns-5
     returns-6)

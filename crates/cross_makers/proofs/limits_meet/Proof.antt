@@ -10,12 +10,6 @@ use Rattle.cross_makers.proofs.limits_meet.Tie as tie
 use Rattle.cross_makers.proofs.limits_meet.Reads as reads
 use Rattle.cross_makers.proofs.limits_meet.Lts as lts
 
-limit-of-requires : tie.Need-limit-of-requires
-limit-of-requires c κs = search needs
-
-limit-of-requires-2 : tie.Need-limit-of-requires-2
-limit-of-requires-2 c κs = search needs
-
 add-result : tie.Need-add-result
 add-result c = sum-fits {a = c .before .limit-of .result} {b = c .limit-of2 .result} (record { sfits = c .before .limit-of .ok }) (record { sfits = c .limit-of2 .ok }) (omega (arith, c .before .limit-of .ensures .1, c .limit-of2 .ensures .1))
 
@@ -23,4 +17,4 @@ returns : tie.Need-returns
 returns c = ap (leZ (pos 0)) (sum-ok {a = c .before .limit-of .result} {b = c .limit-of2 .result} (record { sfits = c .before .limit-of .ok }) (record { sfits = c .limit-of2 .ok }) (add-result c) ∙ ap₂ (λ (x y : ℤ). x +ℤ y) (c .before .limit-of .ensures .0) (c .limit-of2 .ensures .0))
 
 pub limits-meet-spec : {M : Type 1} → statement M
-limits-meet-spec = tie.close (tie.spec limit-of-requires limit-of-requires-2 add-result returns)
+limits-meet-spec = tie.close (tie.spec (λ c κs. search needs) (λ c κs. search needs) add-result returns)

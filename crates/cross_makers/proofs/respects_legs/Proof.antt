@@ -17,9 +17,6 @@ returns-2 c v h =
     let a = c .before .before .before .before .before .before .args in
     legs-none2 v (a .c) _ _ (first-best v (a .taken) (a .c) h _ refl) (c .before .before .before .if1 .left) _ (second-best v (a .taken) (a .c) h _ refl) (c .if2 .taken)
 
-net-of-requires : tie.Need-net-of-requires
-net-of-requires c κs = search needs
-
 returns-3 : tie.Need-returns-3
 returns-3 c v h =
     let s = c .before .before .before .before .before .before .before in
@@ -29,4 +26,4 @@ returns-3 c v h =
     (back (s .fits .net)) (back {z = u .result} (record { sfits = u .ok }) ∙ u .ensures .0)
 
 pub respects-legs-spec : {M : Type 1} → statement M
-respects-legs-spec = tie.close (tie.spec returns returns-2 net-of-requires returns-3)
+respects-legs-spec = tie.close (tie.spec returns returns-2 (λ c κs. search needs) returns-3)

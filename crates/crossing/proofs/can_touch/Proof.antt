@@ -11,9 +11,6 @@ use Rattle.crossing.proofs.can_touch.Tie as tie
 returns : tie.Need-returns
 returns c = touch-free _ (c .before .before .before .args .c) (c .if1 .taken)
 
-opposite-of-requires : tie.Need-opposite-of-requires
-opposite-of-requires c κs = search needs
-
 best-own-requires : tie.Need-best-own-requires
 best-own-requires c κs =
     let p = c .before .before .before .before .before .pre in
@@ -22,9 +19,6 @@ best-own-requires c κs =
 
 returns-2 : tie.Need-returns-2
 returns-2 c = touch-none1 _ (c .before .before .before .before .before .before .before .args .c) (c .before .before .before .before .if1 .left) _ _ (c .before .before .opposite-of .ensures) (c .before .best-own .ensures) (c .if2 .taken)
-
-opposite-of-requires-2 : tie.Need-opposite-of-requires-2
-opposite-of-requires-2 c κs = search needs
 
 best-own-requires-2 : tie.Need-best-own-requires-2
 best-own-requires-2 c κs =
@@ -36,12 +30,6 @@ returns-3 : tie.Need-returns-3
 returns-3 c =
     touch-none2 _ (c .before .before .before .before .before .before .before .before .before .before .before .args .c) (c .before .before .before .before .before .before .before .before .if1 .left) _ _ (c .before .before .before .before .before .before .opposite-of .ensures) (c .before .before .before .before .before .best-own .ensures) (c .before .before .before .before .if2 .left) _ _
     (c .before .before .opposite-of2 .ensures) (c .before .best-own2 .ensures) (c .if3 .taken)
-
-net-of-requires : tie.Need-net-of-requires
-net-of-requires c κs = search needs
-
-limit-of-requires : tie.Need-limit-of-requires
-limit-of-requires c κs = search needs
 
 returns-4 : tie.Need-returns-4
 returns-4 c =
@@ -56,12 +44,12 @@ can-touch-spec =
     tie.close
     (tie.spec
     returns
-    opposite-of-requires
+    (λ c κs. search needs)
     best-own-requires
     returns-2
-    opposite-of-requires-2
+    (λ c κs. search needs)
     best-own-requires-2
     returns-3
-    net-of-requires
-    limit-of-requires
+    (λ c κs. search needs)
+    (λ c κs. search needs)
     returns-4)

@@ -22,29 +22,8 @@ complex-at-requires c κs = let z = complexes-few (c .before .before .before .ar
 complex-at-requires-2 : tie.Need-complex-at-requires-2
 complex-at-requires-2 c κs = let z = complexes-few (c .before .before .before .before .before .args .b .now) in (c .before .before .before .before .before .pre .0, omega (arith, c .before .before .before .before .before .pre .2))
 
-fill-complex-requires : tie.Need-fill-complex-requires
-fill-complex-requires c κs = search needs
-
-fill-complex-requires-2 : tie.Need-fill-complex-requires-2
-fill-complex-requires-2 c κs = search needs
-
-net-against-requires : tie.Need-net-against-requires
-net-against-requires c κs = search needs
-
-emit-crossed-requires : tie.Need-emit-crossed-requires
-emit-crossed-requires c κs = search needs
-
-remove-of-requires : tie.Need-remove-of-requires
-remove-of-requires c κs = search needs
-
 remove-of-requires-2 : tie.Need-remove-of-requires-2
 remove-of-requires-2 c κs = c .before .before .before .before .before .before .remove-of .kept .0 ∙ c .before .before .before .before .before .before .before .before .before .before .before .before .before .before .before .before .fill-complex2 .kept .0 ∙ c .before .before .before .before .before .before .before .before .before .before .before .before .before .before .before .before .before .before .before .before .fill-complex .kept .0 ∙ c .before .before .before .before .before .before .before .before .before .before .before .before .before .before .before .before .before .before .before .before .before .before .before .before .before .before .before .before .pre .0
-
-same-length : tie.Need-same-length
-same-length c = search needs
-
-same-length-2 : tie.Need-same-length-2
-same-length-2 c = search needs
 
 returns : tie.Need-returns
 returns c = (cross-law (c .before .before .before .before .before .before .before .before .before .before .before .before .before .before .before .before .before .before .before .before .before .before .before .before .before .before .before .before .before .before .before .before .before .args .i) (c .before .before .before .before .before .before .before .before .before .before .before .before .before .before .before .before .before .before .before .before .before .before .before .before .before .before .before .before .before .before .before .before .before .args .j) (c .before .before .before .before .before .before .before .before .before .before .before .before .before .before .before .before .before .before .before .before .before .before .before .before .before .before .before .before .before .before .before .before .before .args .k) _ _ _ _ _ _ _ _ _ _ _ _ _ _ _ _ (c .before .before .before .before .before .before .before .before .before .before .before .before .before .before .before .before .before .before .before .before .before .before .before .before .before .before .before .before .before .complex-at .ensures ∙ sym (complex-at (c .before .before .before .before .before .before .before .before .before .before .before .before .before .before .before .before .before .before .before .before .before .before .before .before .before .before .before .before .before .before .before .before .before .args .b .now) (c .before .before .before .before .before .before .before .before .before .before .before .before .before .before .before .before .before .before .before .before .before .before .before .before .before .before .before .before .before .before .before .before .before .args .i) (c .before .before .before .before .before .before .before .before .before .before .before .before .before .before .before .before .before .before .before .before .before .before .before .before .before .before .before .before .before .before .before .before .before .pre .1))) (c .before .before .before .before .before .before .before .before .before .before .before .before .before .before .before .before .before .before .before .before .before .before .before .before .before .before .before .complex-at2 .ensures ∙ sym (complex-at (c .before .before .before .before .before .before .before .before .before .before .before .before .before .before .before .before .before .before .before .before .before .before .before .before .before .before .before .before .before .before .before .before .before .args .b .now) (c .before .before .before .before .before .before .before .before .before .before .before .before .before .before .before .before .before .before .before .before .before .before .before .before .before .before .before .before .before .before .before .before .before .args .j) (c .before .before .before .before .before .before .before .before .before .before .before .before .before .before .before .before .before .before .before .before .before .before .before .before .before .before .before .before .before .before .before .before .before .pre .2))) (back {z = c .before .before .before .before .before .before .before .before .before .before .before .before .before .before .before .before .before .net-against .result} (record { sfits = c .before .before .before .before .before .before .before .before .before .before .before .before .before .before .before .before .before .net-against .ok }) ∙ c .before .before .before .before .before .before .before .before .before .before .before .before .before .before .before .before .before .net-against .ensures .0) (c .before .before .before .before .before .before .before .before .before .before .before .before .before .before .before .before .before .before .before .before .before .before .before .before .before .fill-complex .ensures .0) (c .before .before .before .before .before .before .before .before .before .before .before .before .before .before .before .before .before .before .before .before .before .fill-complex2 .ensures .0) (c .before .before .before .before .before .before .before .before .before .before .before .before .before .before .before .before .emit-crossed .ensures) (c .before .before .before .before .before .before .before .before .before .before .before .remove-of .ensures .0) (c .before .before .before .before .remove-of2 .ensures .0), counts-on _ _ _ (counts-on _ _ _ (c .before .before .before .before .before .before .before .before .before .before .before .before .before .before .before .before .before .before .before .before .before .before .before .before .before .fill-complex .ensures .1) (c .before .before .before .before .before .before .before .before .before .before .before .before .before .before .before .before .before .before .before .before .before .fill-complex2 .ensures .1)) (counts-on _ _ _ (c .before .before .before .before .before .before .before .before .before .before .before .remove-of .ensures .1) (c .before .before .before .before .remove-of2 .ensures .1)))
@@ -55,12 +34,12 @@ cross-spec =
     (tie.spec
     complex-at-requires
     complex-at-requires-2
-    fill-complex-requires
-    fill-complex-requires-2
-    net-against-requires
-    emit-crossed-requires
-    remove-of-requires
+    (λ c κs. search needs)
+    (λ c κs. search needs)
+    (λ c κs. search needs)
+    (λ c κs. search needs)
+    (λ c κs. search needs)
     remove-of-requires-2
-    same-length
-    same-length-2
+    (λ c. search needs)
+    (λ c. search needs)
     returns)

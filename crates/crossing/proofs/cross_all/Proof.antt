@@ -33,9 +33,6 @@ complex-at-requires c κs = let z = complexes-few (c .before .before .before .ar
 loop-holds : tie.Need-loop-holds Inv-loop μ-loop
 loop-holds c = doing-start _ _ _ _ _ (c .before .before .before .before .pre .0) (ap (λ (x : Complex). repeat (x .quantity) (crossTurn (c .before .before .before .before .args .i)) (venueOf (c .before .before .before .before .args .b .now))) (c .complex-at .ensures ∙ sym (complex-at (c .before .before .before .before .args .b .now) (c .before .before .before .before .args .i) (c .before .before .before .before .pre .2))))
 
-sub-turns : tie.Need-sub-turns Inv-loop μ-loop
-sub-turns c = search needs
-
 complex-at-requires-2 : tie.Need-complex-at-requires-2 Inv-loop μ-loop
 complex-at-requires-2 c κs = let z = complexes-few (c .before .before .loop .b) in (c .before .before .loop .inv .whole, omega (arith, c .before .before .loop .inv .counts .complexes, c .before .before .before .before .before .before .before .pre .2))
 
@@ -51,12 +48,6 @@ returns c = (doing-end (c .before .before .before .before .before .loop .inv) (r
 first-cross-requires : tie.Need-first-cross-requires Inv-loop μ-loop
 first-cross-requires c κs = (c .before .before .before .before .before .before .loop .inv .whole, c .before .before .before .before .before .before .loop .inv .counts .right (c .before .before .before .before .before .before .before .before .before .before .before .pre .1), subst LegsIn (sym (c .before .before .before .complex-at2 .ensures)) (legs-in (c .before .before .before .before .before .before .loop .b) (c .before .before .before .before .before .before .before .before .before .before .before .args .i)))
 
-enum-known-found : tie.Need-enum-known-found Inv-loop μ-loop
-enum-known-found c = search needs
-
-enum-told : tie.Need-enum-told Inv-loop μ-loop
-enum-told c = search needs
-
 same-length-3 : tie.Need-same-length-3 Inv-loop μ-loop
 same-length-3 c = c .before .before .before .before .before .before .before .before .before .loop .inv .whole ∙ sym (c .before .before .before .before .before .before .before .before .before .before .before .before .before .before .pre .0)
 
@@ -67,15 +58,9 @@ returns-2 : tie.Need-returns-2 Inv-loop μ-loop
 unfolding pickedOf
 returns-2 c = (doing-end (c .before .before .before .before .before .before .before .before .before .loop .inv) (repeat-stop _ _ _ (cross-nobody (c .before .before .before .before .before .before .before .before .before .before .before .before .before .before .args .i) _ _ (c .before .before .before .before .before .before .complex-at2 .ensures ∙ sym (complex-at (c .before .before .before .before .before .before .before .before .before .loop .b) (c .before .before .before .before .before .before .before .before .before .before .before .before .before .before .args .i) (omega (arith, c .before .before .before .before .before .before .before .before .before .loop .inv .counts .complexes, c .before .before .before .before .before .before .before .before .before .before .before .before .before .before .pre .2)))) (c .before .before .before .before .if1 .left) (sym (ap pickedOf (c .enum-told .given .1)) ∙ c .before .before .first-cross .ensures))), c .before .before .before .before .before .before .before .before .before .loop .inv .counts)
 
-lesser-requires : tie.Need-lesser-requires Inv-loop μ-loop
-lesser-requires c κs = search needs
-
 cross-requires : tie.Need-cross-requires Inv-loop μ-loop
 unfolding pickedOf
 cross-requires c κs = (c .before .before .before .before .before .before .before .before .before .before .before .before .before .loop .inv .whole, (omega (arith, c .before .before .before .before .before .before .before .before .before .before .before .before .before .loop .inv .counts .complexes, c .before .before .before .before .before .before .before .before .before .before .before .before .before .before .before .before .before .before .pre .2)), picked-used (c .before .before .before .before .before .before .before .before .before .before .before .before .before .loop .b) _ _ _ (sym (ap pickedOf (c .before .before .before .before .found .given .1)) ∙ c .before .before .before .before .before .before .first-cross .ensures))
-
-loop-less : tie.Need-loop-less Inv-loop μ-loop
-loop-less c = search needs
 
 loop-again : tie.Need-loop-again Inv-loop μ-loop
 unfolding pickedOf
@@ -98,20 +83,20 @@ cross-all-spec =
     μ-loop
     complex-at-requires
     loop-holds
-    sub-turns
+    (λ c. search needs)
     complex-at-requires-2
     same-length
     same-length-2
     returns
     first-cross-requires
-    enum-known-found
-    enum-told
+    (λ c. search needs)
+    (λ c. search needs)
     same-length-3
     same-length-4
     returns-2
-    lesser-requires
+    (λ c κs. search needs)
     cross-requires
-    loop-less
+    (λ c. search needs)
     loop-again
     same-length-5
     same-length-6

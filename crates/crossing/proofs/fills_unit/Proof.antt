@@ -5,17 +5,11 @@ use borrow.Author.Needs.{needs}
 use Rattle.crossing.proofs.fills_unit.Statement.{statement}
 use Rattle.crossing.proofs.fills_unit.Tie as tie
 
-opposite-of-requires : tie.Need-opposite-of-requires
-opposite-of-requires c κs = search needs
-
 own-size-requires : tie.Need-own-size-requires
 own-size-requires c κs =
     let p = c .before .before .before .pre in
     let e = c .opposite-of .ensures in
     (p .0, rw e (p .1 .first), p .2 .first, rw e (opposite-in _))
-
-cast-if1 : tie.Need-cast-if1
-cast-if1 c = search needs
 
 returns : tie.Need-returns
 returns c =
@@ -23,17 +17,11 @@ returns c =
     let p3 = p2 .before in
     unit-short _ (p3 .before .before .before .args .c) _ _ (p3 .opposite-of .ensures) (p2 .own-size .ensures) (c .if1 .taken)
 
-opposite-of-requires-2 : tie.Need-opposite-of-requires-2
-opposite-of-requires-2 c κs = search needs
-
 own-size-requires-2 : tie.Need-own-size-requires-2
 own-size-requires-2 c κs =
     let p = c .before .before .before .before .before .before .before .before .pre in
     let e = c .opposite-of2 .ensures in
     (p .0, rw e (p .1 .second), p .2 .second, rw e (opposite-in _))
-
-cast-result : tie.Need-cast-result
-cast-result c = search needs
 
 returns-2 : tie.Need-returns-2
 returns-2 c =
@@ -48,11 +36,11 @@ pub fills-unit-spec : {M : Type 1} → statement M
 fills-unit-spec =
     tie.close
     (tie.spec
-    opposite-of-requires
+    (λ c κs. search needs)
     own-size-requires
-    cast-if1
+    (λ c. search needs)
     returns
-    opposite-of-requires-2
+    (λ c κs. search needs)
     own-size-requires-2
-    cast-result
+    (λ c. search needs)
     returns-2)

@@ -24,9 +24,6 @@ can-touch-requires c κs =
     let a = c .before .before .before .before .before .before .before .args in
     (c .before .before .before .before .before .before .before .pre .0, c .before .taken-at .ensures, subst LegsIn (sym (c .before .before .before .complex-at .ensures)) (legs-in (a .b .now) (a .i)))
 
-same-length : tie.Need-same-length
-same-length c = search needs
-
 returns : tie.Need-returns
 returns c =
     let p5 = c .before .before .before .before .before in
@@ -38,27 +35,6 @@ returns c =
 
 touch-cause-requires : tie.Need-touch-cause-requires
 touch-cause-requires c κs = can-touch-requires (c .before .before .before) κs
-
-opposite-of-requires : tie.Need-opposite-of-requires
-opposite-of-requires c κs = search needs
-
-place-of-requires : tie.Need-place-of-requires
-place-of-requires c κs = search needs
-
-opposite-of-requires-2 : tie.Need-opposite-of-requires-2
-opposite-of-requires-2 c κs = search needs
-
-place-of-requires-2 : tie.Need-place-of-requires-2
-place-of-requires-2 c κs = search needs
-
-remove-at-requires : tie.Need-remove-at-requires
-remove-at-requires c κs = search needs
-
-same-length-2 : tie.Need-same-length-2
-same-length-2 c = search needs
-
-same-length-3 : tie.Need-same-length-3
-same-length-3 c = search needs
 
 returns-2 : tie.Need-returns-2
 returns-2 c =
@@ -84,14 +60,14 @@ touch-spec =
     complex-at-requires
     taken-at-requires
     can-touch-requires
-    same-length
+    (λ c. search needs)
     returns
     touch-cause-requires
-    opposite-of-requires
-    place-of-requires
-    opposite-of-requires-2
-    place-of-requires-2
-    remove-at-requires
-    same-length-2
-    same-length-3
+    (λ c κs. search needs)
+    (λ c κs. search needs)
+    (λ c κs. search needs)
+    (λ c κs. search needs)
+    (λ c κs. search needs)
+    (λ c. search needs)
+    (λ c. search needs)
     returns-2)

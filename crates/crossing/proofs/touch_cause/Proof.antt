@@ -4,9 +4,6 @@ use borrow.Author.Needs.{needs}
 use Rattle.crossing.proofs.touch_cause.Statement.{statement}
 use Rattle.crossing.proofs.touch_cause.Tie as tie
 
-fills-unit-requires : tie.Need-fills-unit-requires
-fills-unit-requires c κs = search needs
-
 returns : tie.Need-returns
 returns c = rw (sym (c .before .fills-unit .ensures) ∙ c .if1 .taken)
 
@@ -14,4 +11,4 @@ returns-2 : tie.Need-returns-2
 returns-2 c = rw (sym (c .before .fills-unit .ensures) ∙ c .if1 .left)
 
 pub touch-cause-spec : {M : Type 1} → statement M
-touch-cause-spec = tie.close (tie.spec fills-unit-requires returns returns-2)
+touch-cause-spec = tie.close (tie.spec (λ c κs. search needs) returns returns-2)

@@ -13,59 +13,20 @@ use Rattle.dispatch.proofs.arrive.Tie as tie
 returns : tie.Need-returns
 returns c = arrive-none (c .before .before .before .args .layer .now) (c .before .before .before .args .venue) (c .before .before .before .args .message .now) (c .if1 .taken)
 
-layer-sound-requires : tie.Need-layer-sound-requires
-layer-sound-requires c κs = search needs
-
-same-length : tie.Need-same-length
-same-length c = search needs
-
 returns-2 : tie.Need-returns-2
 returns-2 c = arrive-unsound (c .before .before .before .before .before .before .args .layer .now) (c .before .before .before .before .before .before .args .venue) (c .before .before .before .before .before .before .args .message .now) (c .before .before .before .if1 .left) (checked-all (c .before .before .before .before .before .before .args .layer .now) 4 _ (c .before .layer-sound .ensures) refl ∙ not-true _ (c .if2 .taken))
-
-same-length-2 : tie.Need-same-length-2
-same-length-2 c = search needs
 
 returns-3 : tie.Need-returns-3
 returns-3 c = arrive-beyond (c .before .before .before .before .before .before .before .args .layer .now) (c .before .before .before .before .before .before .before .args .venue) (c .before .before .before .before .before .before .before .args .message .now) (c .before .before .before .before .if1 .left) (checked-all (c .before .before .before .before .before .before .before .args .layer .now) 4 _ (c .before .before .layer-sound .ensures) refl ∙ not-false _ (c .before .if2 .left)) (c .if3 .taken)
 
-mul-at : tie.Need-mul-at
-mul-at c = search needs
-
-add-end : tie.Need-add-end
-add-end c = search needs
-
-add-u8-at : tie.Need-add-u8-at
-add-u8-at c = search needs
-
-u8-at-requires : tie.Need-u8-at-requires
-u8-at-requires c κs = search needs
-
-same-length-3 : tie.Need-same-length-3
-same-length-3 c = search needs
-
 returns-4 : tie.Need-returns-4
 returns-4 c = let e = c .before .u8-at .ensures in let h = c .if4 .taken in arrive-full (c .before .before .before .before .before .before .before .before .before .before .args .layer .now) (c .before .before .before .before .before .before .before .before .before .before .args .venue) (c .before .before .before .before .before .before .before .before .before .before .args .message .now) (c .before .before .before .before .before .before .before .if1 .left) (checked-all (c .before .before .before .before .before .before .before .before .before .before .args .layer .now) 4 _ (c .before .before .before .before .before .layer-sound .ensures) refl ∙ not-false _ (c .before .before .before .before .if2 .left)) (c .before .before .before .if3 .left) (omega arith)
-
-same-length-4 : tie.Need-same-length-4
-same-length-4 c = search needs
 
 returns-5 : tie.Need-returns-5
 returns-5 c = arrive-long (c .before .before .before .before .before .before .before .before .before .before .before .args .layer .now) (c .before .before .before .before .before .before .before .before .before .before .before .args .venue) (c .before .before .before .before .before .before .before .before .before .before .before .args .message .now) (c .before .before .before .before .before .before .before .before .if1 .left) (checked-all (c .before .before .before .before .before .before .before .before .before .before .before .args .layer .now) 4 _ (c .before .before .before .before .before .before .layer-sound .ensures) refl ∙ not-false _ (c .before .before .before .before .before .if2 .left)) (c .before .before .before .before .if3 .left) (c .if5 .taken)
 
-sub-join : tie.Need-sub-join
-sub-join c = search needs
-
-part-join-start : tie.Need-part-join-start
-part-join-start c = search needs
-
-part-join-end : tie.Need-part-join-end
-part-join-end c = search needs
-
 join-requires : tie.Need-join-requires
 join-requires c κs = let m = c .before .before .before .before .before .before .before .before .before .before .before .before .args .layer .now in let v = c .before .before .before .before .before .before .before .before .before .before .before .before .args .venue in let size = c .before .before .before .before .before .before .before .before .before .if1 .left in let small = c .before .before .before .before .before .if3 .left in let k = laneSize * v + laneSize - laneSize * v in let e = c .before .before .before .u8-at .ensures in let h = c .before .before .if4 .left in let n = part-count m v k (omega arith) in (part-length m (laneSize * v) k (omega arith) ∙ omega arith, omega arith, c .before .if5 .left)
-
-same-length-5 : tie.Need-same-length-5
-same-length-5 c = search needs
 
 returns-6 : tie.Need-returns-6
 returns-6 c = let v = c .before .before .before .before .before .before .before .before .before .before .before .before .before .before .before .args .venue in let e = c .before .before .before .before .before .before .u8-at .ensures in let h = c .before .before .before .before .before .if4 .left in arrive-taken (c .before .before .before .before .before .before .before .before .before .before .before .before .before .before .before .args .layer .now) (c .before .before .before .before .before .before .before .before .before .before .before .before .before .before .before .args .venue) (c .before .before .before .before .before .before .before .before .before .before .before .before .before .before .before .args .message .now) (c .before .before .before .before .before .before .before .before .before .before .before .before .if1 .left) (checked-all (c .before .before .before .before .before .before .before .before .before .before .before .before .before .before .before .args .layer .now) 4 _ (c .before .before .before .before .before .before .before .before .before .before .layer-sound .ensures) refl ∙ not-false _ (c .before .before .before .before .before .before .before .before .before .if2 .left)) (c .before .before .before .before .before .before .before .before .if3 .left) (omega arith) (c .before .before .before .before .if5 .left) (laneSize * v + laneSize - laneSize * v) (c .before .before .join .last .0) (omega arith) (c .before .before .join .ensures)
@@ -75,22 +36,22 @@ arrive-spec =
     tie.close
     (tie.spec
     returns
-    layer-sound-requires
-    same-length
+    (λ c κs. search needs)
+    (λ c. search needs)
     returns-2
-    same-length-2
+    (λ c. search needs)
     returns-3
-    mul-at
-    add-end
-    add-u8-at
-    u8-at-requires
-    same-length-3
+    (λ c. search needs)
+    (λ c. search needs)
+    (λ c. search needs)
+    (λ c κs. search needs)
+    (λ c. search needs)
     returns-4
-    same-length-4
+    (λ c. search needs)
     returns-5
-    sub-join
-    part-join-start
-    part-join-end
+    (λ c. search needs)
+    (λ c. search needs)
+    (λ c. search needs)
     join-requires
-    same-length-5
+    (λ c. search needs)
     returns-6)

@@ -18,36 +18,6 @@ slice-aggregate-venue-from c = let p = c .before .before .before .pre .0 in sym 
 venue-from-requires : tie.Need-venue-from-requires
 venue-from-requires c κs = let p = c .before .before .before .pre .0 in length-take-le venueSize (c .before .before .before .args .lane .now) (omega arith)
 
-u32-at-requires : tie.Need-u32-at-requires
-u32-at-requires c κs = search needs
-
-add-from : tie.Need-add-from
-add-from c = search needs
-
-u8-at-requires : tie.Need-u8-at-requires
-u8-at-requires c κs = search needs
-
-cast-to : tie.Need-cast-to
-cast-to c = search needs
-
-add-to : tie.Need-add-to
-add-to c = search needs
-
-sub-one-message : tie.Need-sub-one-message
-sub-one-message c = search needs
-
-part-one-message-start : tie.Need-part-one-message-start
-part-one-message-start c = search needs
-
-part-one-message-end : tie.Need-part-one-message-end
-part-one-message-end c = search needs
-
-one-message-requires : tie.Need-one-message-requires
-one-message-requires c κs = search needs
-
-same-length : tie.Need-same-length
-same-length c = search needs
-
 returns : tie.Need-returns
 returns c = let s = c .before .before .before .before .before .before .before .before .before .before .before in let bs = s .args .lane .now in let p = s .pre in let n = c .before .before .before .before .before .u8-at .result in let e = c .before .before .before .before .before .u8-at .ensures in let k = c .before .before .one-message in called-head bs (take (placesAt + 1 + n - (placesAt + 1)) (drop (placesAt + 1) bs)) (k .last .1 .1 .1 .0) _ (c .before .before .before .before .before .before .u32-at .result) (c .before .before .before .before .before .before .before .venue-from .result) (k .result) (c .before .before .before .before .before .before .before .venue-from .ensures) (c .before .before .before .before .before .before .u32-at .ensures) (head-lent bs n (placesAt + 1 + n - (placesAt + 1)) e (omega arith) (omega arith)) (k .ensures)
 
@@ -57,14 +27,14 @@ call-head-spec =
     (tie.spec
     slice-aggregate-venue-from
     venue-from-requires
-    u32-at-requires
-    add-from
-    u8-at-requires
-    cast-to
-    add-to
-    sub-one-message
-    part-one-message-start
-    part-one-message-end
-    one-message-requires
-    same-length
+    (λ c κs. search needs)
+    (λ c. search needs)
+    (λ c κs. search needs)
+    (λ c. search needs)
+    (λ c. search needs)
+    (λ c. search needs)
+    (λ c. search needs)
+    (λ c. search needs)
+    (λ c κs. search needs)
+    (λ c. search needs)
     returns)

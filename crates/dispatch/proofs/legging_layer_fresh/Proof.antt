@@ -23,15 +23,6 @@ returns c = fresh-none _ (c .if1 .taken)
 loop-holds : tie.Need-loop-holds Inv-loop μ-loop
 loop-holds c = written-none freshRow 0 four _
 
-mul-at : tie.Need-mul-at Inv-loop μ-loop
-mul-at c = search needs
-
-add-end : tie.Need-add-end Inv-loop μ-loop
-add-end c = search needs
-
-sub-fresh-lane : tie.Need-sub-fresh-lane Inv-loop μ-loop
-sub-fresh-lane c = search needs
-
 part-fresh-lane-start : tie.Need-part-fresh-lane-start Inv-loop μ-loop
 part-fresh-lane-start c = omega (arith, c .before .before .if1 .left, fresh-room _ (c .before .before .if1 .left) _ (c .before .loop .i) (c .before .loop .inv))
 
@@ -40,12 +31,6 @@ part-fresh-lane-end c = omega (arith, c .before .before .if1 .left, fresh-room _
 
 fresh-lane-requires : tie.Need-fresh-lane-requires Inv-loop μ-loop
 fresh-lane-requires c κs = let i = c .before .before .loop .i in let r = fresh-room _ (c .before .before .before .if1 .left) _ i (c .before .before .loop .inv) in let e = c .before .before .before .if1 .left in part-length (c .before .before .loop .layer) (laneSize * i) (laneSize * i + laneSize - laneSize * i) (omega arith) ∙ omega arith
-
-add-i : tie.Need-add-i Inv-loop μ-loop
-add-i c = search needs
-
-loop-less : tie.Need-loop-less Inv-loop μ-loop
-loop-less c = search needs
 
 loop-again : tie.Need-loop-again Inv-loop μ-loop
 loop-again c = let i = c .before .before .before .before .before .loop .i in fresh-next _ (c .before .before .before .before .before .before .if1 .left) (c .before .before .before .before .before .loop .layer) i (c .before .before .before .before .before .loop .inv) (c .before .before .fresh-lane .last .0) (laneSize * i + laneSize - laneSize * i) (c .before .before .before .before .loop-test .taken) (omega arith) (c .before .before .fresh-lane .ensures)
@@ -67,14 +52,14 @@ legging-layer-fresh-spec =
     μ-loop
     returns
     loop-holds
-    mul-at
-    add-end
-    sub-fresh-lane
+    (λ c. search needs)
+    (λ c. search needs)
+    (λ c. search needs)
     part-fresh-lane-start
     part-fresh-lane-end
     fresh-lane-requires
-    add-i
-    loop-less
+    (λ c. search needs)
+    (λ c. search needs)
     loop-again
     slice-write-layer
     same-length

@@ -16,41 +16,11 @@ use Rattle.dispatch.proofs.turn.Tie as tie
 serves : (c : tie.Else3) → Serves (c .before .before .before .before .before .before .before .before .before .args .layer .now) (c .before .before .before .before .next-waiting .result)
 serves c = record { size = c .before .before .before .before .before .before .if1 .left; checked = sym (c .before .before .layer-sound .ensures) ∙ not-false _ (c .before .if2 .left); here = c .before .before .before .before .next-waiting .ensures; some = c .if3 .left }
 
-idle-requires : tie.Need-idle-requires
-idle-requires c κs = search needs
-
-same-length : tie.Need-same-length
-same-length c = search needs
-
 returns : tie.Need-returns
 returns c = let k = c .before .before .idle in ap (λ r. turnReplyOf r (c .before .before .before .before .before .before .before .args .layer .now) (k .last .1 .0)) (k .ensures .0) ∙ turn-none (c .before .before .before .before .before .before .before .args .layer .now) (length (c .before .before .before .before .before .before .before .args .report .now)) _ (c .before .before .before .before .if1 .taken) (k .ensures .1)
 
-next-waiting-requires : tie.Need-next-waiting-requires
-next-waiting-requires c κs = search needs
-
-layer-sound-requires : tie.Need-layer-sound-requires
-layer-sound-requires c κs = search needs
-
-idle-requires-2 : tie.Need-idle-requires-2
-idle-requires-2 c κs = search needs
-
-same-length-2 : tie.Need-same-length-2
-same-length-2 c = search needs
-
-same-length-3 : tie.Need-same-length-3
-same-length-3 c = search needs
-
 returns-2 : tie.Need-returns-2
 returns-2 c = let k = c .before .before .idle2 in ap (λ r. turnReplyOf r (c .before .before .before .before .before .before .before .before .before .before .before .before .args .layer .now) (k .last .1 .0)) (k .ensures .0) ∙ turn-unsound (c .before .before .before .before .before .before .before .before .before .before .before .before .args .layer .now) (c .before .before .before .before .before .before .before .before .before .if1 .left) (length (c .before .before .before .before .before .before .before .before .before .before .before .before .args .report .now)) _ (fails-unsound (c .before .before .before .before .before .before .before .next-waiting .result) (layerFrom (c .before .before .before .before .before .before .before .before .before .before .before .before .args .layer .now)) (sym (c .before .before .before .before .before .layer-sound .ensures) ∙ not-true _ (c .before .before .before .before .if2 .taken))) (k .ensures .1)
-
-idle-requires-3 : tie.Need-idle-requires-3
-idle-requires-3 c κs = search needs
-
-same-length-4 : tie.Need-same-length-4
-same-length-4 c = search needs
-
-same-length-5 : tie.Need-same-length-5
-same-length-5 c = search needs
 
 returns-3 : tie.Need-returns-3
 returns-3 c = let k = c .before .before .idle3 in ap (λ r. turnReplyOf r (c .before .before .before .before .before .before .before .before .before .before .before .before .before .args .layer .now) (k .last .1 .0)) (k .ensures .0) ∙ turn-idle (c .before .before .before .before .before .before .before .before .before .before .before .before .before .args .layer .now) (c .before .before .before .before .before .before .before .before .before .before .if1 .left) (length (c .before .before .before .before .before .before .before .before .before .before .before .before .before .args .report .now)) _ (checked-all (c .before .before .before .before .before .before .before .before .before .before .before .before .before .args .layer .now) (c .before .before .before .before .before .before .before .before .next-waiting .result) _ (c .before .before .before .before .before .before .layer-sound .ensures) (c .before .before .before .before .if3 .taken) ∙ not-false _ (c .before .before .before .before .before .if2 .left)) (sym (c .before .before .before .before .before .before .before .before .next-waiting .ensures) ∙ c .before .before .before .before .if3 .taken) (k .ensures .1)
@@ -61,32 +31,14 @@ mul-at c = omega (arith, small (c .before .before .before .before .before .befor
 add-end : tie.Need-add-end
 add-end c = omega (arith, small (c .before .before .before .before .before .before .before .before .before .args .layer .now) (c .before .before .before .before .next-waiting .result) (serves (c)))
 
-sub-call-head : tie.Need-sub-call-head
-sub-call-head c = search needs
-
-part-call-head-start : tie.Need-part-call-head-start
-part-call-head-start c = search needs
-
 part-call-head-end : tie.Need-part-call-head-end
 part-call-head-end c = omega (arith, small (c .before .before .before .before .before .before .before .before .before .before .args .layer .now) (c .before .before .before .before .before .next-waiting .result) (serves (c .before)), serves (c .before) .size)
 
 call-head-requires : tie.Need-call-head-requires
 call-head-requires c κs = (lent-size (c .before .before .before .before .before .before .before .before .before .before .before .before .args .layer .now) (c .before .before .before .before .before .before .before .next-waiting .result) (serves (c .before .before .before)) (laneSize * (c .before .before .before .before .before .before .before .next-waiting .result) + laneSize - laneSize * (c .before .before .before .before .before .before .before .next-waiting .result)) (omega arith), lent-short (c .before .before .before .before .before .before .before .before .before .before .before .before .args .layer .now) (c .before .before .before .before .before .before .before .next-waiting .result) (serves (c .before .before .before)) (laneSize * (c .before .before .before .before .before .before .before .next-waiting .result) + laneSize - laneSize * (c .before .before .before .before .before .before .before .next-waiting .result)) (omega arith))
 
-same-length-6 : tie.Need-same-length-6
-same-length-6 c = search needs
-
-same-length-7 : tie.Need-same-length-7
-same-length-7 c = search needs
-
 returns-4 : tie.Need-returns-4
 returns-4 c = let k = c .before .before .before .before .call-head in turn-ended (c .before .before .before .before .before .before .before .before .before .before .before .before .before .before .before .before .before .args .layer .now) (c .before .before .before .before .before .before .before .before .before .before .before .before .next-waiting .result) (serves (c .before .before .before .before .before .before .before .before)) (laneSize * (c .before .before .before .before .before .before .before .before .before .before .before .before .next-waiting .result) + laneSize - laneSize * (c .before .before .before .before .before .before .before .before .before .before .before .before .next-waiting .result)) (omega arith) (length (c .before .before .before .before .before .before .before .before .before .before .before .before .before .before .before .before .before .args .report .now)) (k .result) _ (k .ensures) (c .if4 .taken)
-
-sub-advance : tie.Need-sub-advance
-sub-advance c = search needs
-
-part-advance-start : tie.Need-part-advance-start
-part-advance-start c = search needs
 
 part-advance-end : tie.Need-part-advance-end
 part-advance-end c = omega (arith, small (c .before .before .before .before .before .before .before .before .before .before .before .before .before .before .before .before .before .before .args .layer .now) (c .before .before .before .before .before .before .before .before .before .before .before .before .before .next-waiting .result) (serves (c .before .before .before .before .before .before .before .before .before)), serves (c .before .before .before .before .before .before .before .before .before) .size)
@@ -97,17 +49,8 @@ advance-requires c κs = let k = c .before .before .before .before .before .befo
 cast-layer : tie.Need-cast-layer
 cast-layer c = omega (arith, small (c .before .before .before .before .before .before .before .before .before .before .before .before .before .before .before .before .before .before .before .before .before .before .args .layer .now) (c .before .before .before .before .before .before .before .before .before .before .before .before .before .before .before .before .before .next-waiting .result) (serves (c .before .before .before .before .before .before .before .before .before .before .before .before .before)))
 
-slice-write-layer : tie.Need-slice-write-layer
-slice-write-layer c = search needs
-
 cast-t30 : tie.Need-cast-t30
 cast-t30 c = omega (arith, small (c .before .before .before .before .before .before .before .before .before .before .before .before .before .before .before .before .before .before .before .before .before .before .args .layer .now) (c .before .before .before .before .before .before .before .before .before .before .before .before .before .before .before .before .before .next-waiting .result) (serves (c .before .before .before .before .before .before .before .before .before .before .before .before .before)))
-
-same-length-8 : tie.Need-same-length-8
-same-length-8 c = search needs
-
-same-length-9 : tie.Need-same-length-9
-same-length-9 c = search needs
 
 returns-5 : tie.Need-returns-5
 returns-5 c = let k = c .before .before .before .before .before .before .before .before .before .call-head in turn-serves (c .before .before .before .before .before .before .before .before .before .before .before .before .before .before .before .before .before .before .before .before .before .before .args .layer .now) (c .before .before .before .before .before .before .before .before .before .before .before .before .before .before .before .before .before .next-waiting .result) (serves (c .before .before .before .before .before .before .before .before .before .before .before .before .before)) (laneSize * (c .before .before .before .before .before .before .before .before .before .before .before .before .before .before .before .before .before .next-waiting .result) + laneSize - laneSize * (c .before .before .before .before .before .before .before .before .before .before .before .before .before .before .before .before .before .next-waiting .result)) (omega arith) (length (c .before .before .before .before .before .before .before .before .before .before .before .before .before .before .before .before .before .before .before .before .before .before .args .report .now)) (k .result) _ (k .ensures) (c .before .before .before .before .before .if4 .left) (c .before .before .advance .last .0) (c .before .before .advance .ensures)
@@ -116,35 +59,35 @@ pub turn-spec : {M : Type 1} → statement M
 turn-spec =
     tie.close
     (tie.spec
-    idle-requires
-    same-length
+    (λ c κs. search needs)
+    (λ c. search needs)
     returns
-    next-waiting-requires
-    layer-sound-requires
-    idle-requires-2
-    same-length-2
-    same-length-3
+    (λ c κs. search needs)
+    (λ c κs. search needs)
+    (λ c κs. search needs)
+    (λ c. search needs)
+    (λ c. search needs)
     returns-2
-    idle-requires-3
-    same-length-4
-    same-length-5
+    (λ c κs. search needs)
+    (λ c. search needs)
+    (λ c. search needs)
     returns-3
     mul-at
     add-end
-    sub-call-head
-    part-call-head-start
+    (λ c. search needs)
+    (λ c. search needs)
     part-call-head-end
     call-head-requires
-    same-length-6
-    same-length-7
+    (λ c. search needs)
+    (λ c. search needs)
     returns-4
-    sub-advance
-    part-advance-start
+    (λ c. search needs)
+    (λ c. search needs)
     part-advance-end
     advance-requires
     cast-layer
-    slice-write-layer
+    (λ c. search needs)
     cast-t30
-    same-length-8
-    same-length-9
+    (λ c. search needs)
+    (λ c. search needs)
     returns-5)

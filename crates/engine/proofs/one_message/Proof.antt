@@ -25,79 +25,22 @@ passed c = let k = c .before .before .before .before .before .before .load-sound
 stands : (c : tie.Else3) → Loaded (c .before .before .before .before .before .before .before .before .before .before .args .venue) (c .before .before .before .before .before .before .load-sound .last .0)
 stands c = let k = c .before .before .before .before .before .before .load-sound .ensures in let t = not-false _ (c .before .before .before .before .if1 .left) in k .loaded t
 
-slice-aggregate-load-sound : tie.Need-slice-aggregate-load-sound
-slice-aggregate-load-sound c = search needs
-
-load-sound-requires : tie.Need-load-sound-requires
-load-sound-requires c κs = search needs
-
-end-call-requires : tie.Need-end-call-requires
-end-call-requires c κs = search needs
-
-same-length : tie.Need-same-length
-same-length c = search needs
-
 returns : tie.Need-returns
 returns c = let s = c .before .before .before .before .before .before .before .before .before .before in c .before .before .end-call .ensures ∙ one-unready (s .args .venue) (s .args .before) _ (s .args .message .now) (sym (unready (s .args .venue) (s .args .before) (c .before .before .before .before .before .before .load-sound .last .0) (sym (c .before .before .before .before .before .before .load-sound .ensures .answer) ∙ not-true _ (c .before .before .before .before .if1 .taken)) .answer))
-
-end-call-requires-2 : tie.Need-end-call-requires-2
-end-call-requires-2 c κs = search needs
-
-same-length-2 : tie.Need-same-length-2
-same-length-2 c = search needs
 
 returns-2 : tie.Need-returns-2
 returns-2 c = let s = c .before .before .before .before .before .before .before .before .before .before .before in let k = c .before .before .before .before .before .before .before .load-sound .ensures in let t = not-false _ (c .before .before .before .before .before .if1 .left) in let last = c .before .before .before .before .if2 .taken in c .before .before .end-call2 .ensures ∙ one-no-number (s .args .venue) (s .args .before) _ (s .args .message .now) (sym (ready-last (s .args .venue) (s .args .before) _ (sym (k .answer) ∙ t) (k .loaded t) last .answer)) last
 
-slice-aggregate-follows-kept : tie.Need-slice-aggregate-follows-kept
-slice-aggregate-follows-kept c = search needs
-
-add-follows-kept : tie.Need-add-follows-kept
-add-follows-kept c = search needs
-
-follows-kept-requires : tie.Need-follows-kept-requires
-follows-kept-requires c κs = search needs
-
-end-call-requires-3 : tie.Need-end-call-requires-3
-end-call-requires-3 c κs = search needs
-
-same-length-3 : tie.Need-same-length-3
-same-length-3 c = search needs
-
 returns-3 : tie.Need-returns-3
 returns-3 c = let s = c .before .before .before .before .before .before .before .before .before .before .before .before .before .before in let k = c .before .before .before .before .before .before .before .before .before .before .load-sound .ensures in let t = not-false _ (c .before .before .before .before .before .before .before .before .if1 .left) in c .before .before .end-call3 .ensures ∙ one-unready (s .args .venue) (s .args .before) _ (s .args .message .now) (sym (ready-next (s .args .venue) (s .args .before) _ (sym (k .answer) ∙ t) (k .loaded t) _ (c .before .before .before .before .before .follows-kept .ensures) .answer) ∙ not-true _ (c .before .before .before .before .if3 .taken))
-
-slice-aggregate-step : tie.Need-slice-aggregate-step
-slice-aggregate-step c = search needs
-
-add-step : tie.Need-add-step
-add-step c = search needs
 
 step-requires : tie.Need-step-requires
 step-requires c κs =
     let l = stands (c .before .before) in
     (search needs, l .dense, laid-sound _ _ (and-l _ _ (passed (c .before .before))) (l .venue))
 
-end-call-requires-4 : tie.Need-end-call-requires-4
-end-call-requires-4 c κs = search needs
-
-same-length-4 : tie.Need-same-length-4
-same-length-4 c = search needs
-
 returns-4 : tie.Need-returns-4
 returns-4 c = let s = c .before .before .before .before .before .before .before .before .before .before .before .before .before .before .before .before .before .before .before .before .before in let k = c .before .before .before .before .before .before .before .before .step in c .before .before .end-call4 .ensures ∙ one-no-room (s .args .venue) (s .args .before) (s .args .message .now) _ (k .last .0) (s .args .report .now) (k .last .1 .1 .1 .0) (k .result) (passed (c .before .before .before .before .before .before .before .before .before .before .before)) (stands (c .before .before .before .before .before .before .before .before .before .before .before) .venue) (numbered (c .before .before .before .before .before .before .before .before .before .before .before .before .before .before)) (k .ensures) (omega arith)
-
-zero-from-requires : tie.Need-zero-from-requires
-zero-from-requires c κs = search needs
-
-slice-aggregate-venue-of : tie.Need-slice-aggregate-venue-of
-slice-aggregate-venue-of c = search needs
-
-venue-of-requires : tie.Need-venue-of-requires
-venue-of-requires c κs = search needs
-
-same-length-5 : tie.Need-same-length-5
-same-length-5 c = search needs
 
 returns-5 : tie.Need-returns-5
 returns-5 c = let s = c .before .before .before .before .before .before .before .before .before .before .before .before .before .before .before .before .before .before .before .before .before .before .before in let k = c .before .before .before .before .before .before .before .before .before .before .step in one-done (s .args .venue) (s .args .before) (s .args .message .now) _ (k .last .0) (s .args .report .now) (k .last .1 .1 .1 .0) (k .result) (passed (c .before .before .before .before .before .before .before .before .before .before .before .before .before)) (stands (c .before .before .before .before .before .before .before .before .before .before .before .before .before) .venue) (numbered (c .before .before .before .before .before .before .before .before .before .before .before .before .before .before .before .before)) (k .ensures) _ _ (omega arith) (c .before .before .before .before .zero-from .ensures) (c .venue-of .ensures)
@@ -106,28 +49,28 @@ pub one-message-spec : {M : Type 1} → statement M
 one-message-spec =
     tie.close
     (tie.spec
-    slice-aggregate-load-sound
-    load-sound-requires
-    end-call-requires
-    same-length
+    (λ c. search needs)
+    (λ c κs. search needs)
+    (λ c κs. search needs)
+    (λ c. search needs)
     returns
-    end-call-requires-2
-    same-length-2
+    (λ c κs. search needs)
+    (λ c. search needs)
     returns-2
-    slice-aggregate-follows-kept
-    add-follows-kept
-    follows-kept-requires
-    end-call-requires-3
-    same-length-3
+    (λ c. search needs)
+    (λ c. search needs)
+    (λ c κs. search needs)
+    (λ c κs. search needs)
+    (λ c. search needs)
     returns-3
-    slice-aggregate-step
-    add-step
+    (λ c. search needs)
+    (λ c. search needs)
     step-requires
-    end-call-requires-4
-    same-length-4
+    (λ c κs. search needs)
+    (λ c. search needs)
     returns-4
-    zero-from-requires
-    slice-aggregate-venue-of
-    venue-of-requires
-    same-length-5
+    (λ c κs. search needs)
+    (λ c. search needs)
+    (λ c κs. search needs)
+    (λ c. search needs)
     returns-5)

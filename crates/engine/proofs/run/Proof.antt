@@ -30,9 +30,6 @@ loop-holds c = running-start _ _ _ (search needs) (search needs)
 message-head-requires : tie.Need-message-head-requires Inv-loop μ-loop
 message-head-requires c κs = tt
 
-enum-told : tie.Need-enum-told Inv-loop μ-loop
-enum-told c = search needs
-
 -- where the head is not `End`, a message or a torn one stands ahead
 ahead : (c : tie.At-match-keys2 Inv-loop μ-loop) → let a = c .before .before .before .before .before .before .args in c .before .before .loop .t .at < length (a .messages .now)
 ahead c =
@@ -84,7 +81,7 @@ run-spec =
     fresh-numbers-requires
     loop-holds
     message-head-requires
-    enum-told
+    (λ c. search needs)
     slice-aggregate-advance
     advance-requires
     loop-less

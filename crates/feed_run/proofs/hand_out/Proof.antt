@@ -8,41 +8,14 @@ use borrow.Author.Needs.{needs}
 use Rattle.feed_run.proofs.hand_out.Statement.{statement}
 use Rattle.feed_run.proofs.hand_out.Tie as tie
 
-up-next-requires : tie.Need-up-next-requires
-up-next-requires c κs = search needs
-
-stop-at-requires : tie.Need-stop-at-requires
-stop-at-requires c κs = search needs
-
 returns : tie.Need-returns
 returns c = let s = c .before .before .before .before .before .before .before in let u = c .before .before .up-next in rw (c .stop-at .ensures) (turn-stopped (s .args .t) (s .args .main .now) (s .args .spare .now) (s .args .b .now) (s .args .report .now) _ (u .ensures .1) (c .before .if1 .taken) (s .pre .3) (s .pre .1) (s .pre .2))
 
 next-part-requires : tie.Need-next-part-requires
 next-part-requires c κs = let s = c .before .before .before .before .before .before in let u = c .before .up-next in asked _ _ _ _ _ (u .ensures .0) (s .pre .4) (s .pre .5) (u .ensures .1) (c .if1 .left)
 
-sub-try-step : tie.Need-sub-try-step
-sub-try-step c = search needs
-
-part-try-step-start : tie.Need-part-try-step-start
-part-try-step-start c = search needs
-
-part-try-step-end : tie.Need-part-try-step-end
-part-try-step-end c = search needs
-
 try-step-requires : tie.Need-try-step-requires
 try-step-requires c κs = let s = c .before .before .before .before .before .before .before .before .before in (s .pre .0, s .pre .1, s .pre .2 .venue)
-
-sub-if2 : tie.Need-sub-if2
-sub-if2 c = search needs
-
-stop-at-requires-2 : tie.Need-stop-at-requires-2
-stop-at-requires-2 c κs = search needs
-
-same-length : tie.Need-same-length
-same-length c = search needs
-
-same-length-2 : tie.Need-same-length-2
-same-length-2 c = search needs
 
 returns-2 : tie.Need-returns-2
 returns-2 c = let s = c .before .before .before .before .before .before .before .before .before .before .before .before .before .before .before .before in let u = c .before .before .before .before .before .before .before .before .before .before .before .up-next in let p = c .before .before .before .before .before .before .before .before .before .next-part in let k = c .before .before .before .before .before .before .try-step in rw (c .stop-at2 .ensures) (turn-full (s .args .t) (s .args .main .now) (s .args .spare .now) (s .args .b .now) (k .last .0) (s .args .report .now) (k .last .1 .1 .1 .0) _ _ (k .result) (sym (u .ensures .1) ∙ c .before .before .before .before .before .before .before .before .before .before .if1 .left) (u .ensures .0) (let f = u .ensures .2 in let n = u .ensures .0 in omega arith) (p .ensures) (s .pre .3) (s .pre .2) (k .ensures) (omega arith))
@@ -66,12 +39,6 @@ moved-requires-2 c κs = let s = c .before .before .before .before .before .befo
 add-t21 : tie.Need-add-t21
 add-t21 c = record { fits = sums (c .before .before) }
 
-same-length-3 : tie.Need-same-length-3
-same-length-3 c = search needs
-
-same-length-4 : tie.Need-same-length-4
-same-length-4 c = search needs
-
 returns-3 : tie.Need-returns-3
 returns-3 c = let s = c .before .before .before .before .before .before .before .before .before .before .before .before .before .before .before .before .before in let u = c .before .before .before .before .before .before .before .before .before .before .before .before .up-next in let p = c .before .before .before .before .before .before .before .before .before .before .next-part in let k = c .before .before .before .before .before .before .before .try-step in turn-handed (s .args .t) (s .args .main .now) (s .args .spare .now) (s .args .b .now) (k .last .0) (s .args .report .now) (k .last .1 .1 .1 .0) _ _ (k .result) (sym (u .ensures .1) ∙ c .before .before .before .before .before .before .before .before .before .before .before .if1 .left) (u .ensures .0) (let f = u .ensures .2 in let n = u .ensures .0 in omega arith) (p .ensures) (s .pre .3) (s .pre .2) (k .ensures) (roomy (c .before .before)) _ _ (c .before .moved .ensures) (c .moved2 .ensures)
 
@@ -79,22 +46,22 @@ pub hand-out-spec : {M : Type 1} → statement M
 hand-out-spec =
     tie.close
     (tie.spec
-    up-next-requires
-    stop-at-requires
+    (λ c κs. search needs)
+    (λ c κs. search needs)
     returns
     next-part-requires
-    sub-try-step
-    part-try-step-start
-    part-try-step-end
+    (λ c. search needs)
+    (λ c. search needs)
+    (λ c. search needs)
     try-step-requires
-    sub-if2
-    stop-at-requires-2
-    same-length
-    same-length-2
+    (λ c. search needs)
+    (λ c κs. search needs)
+    (λ c. search needs)
+    (λ c. search needs)
     returns-2
     moved-requires
     moved-requires-2
     add-t21
-    same-length-3
-    same-length-4
+    (λ c. search needs)
+    (λ c. search needs)
     returns-3)

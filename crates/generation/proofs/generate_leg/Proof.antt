@@ -16,12 +16,6 @@ use borrow.Author.Needs.{needs}
 use Rattle.generation.proofs.generate_leg.Statement.{statement}
 use Rattle.generation.proofs.generate_leg.Tie as tie
 
-plan-leg-requires : tie.Need-plan-leg-requires
-plan-leg-requires c κs = search needs
-
-same-length : tie.Need-same-length
-same-length c = search needs
-
 returns : tie.Need-returns
 returns c = let a = c .before .before .before .before .before .before .args in let p = c .before .before .before .before .before .before .pre in (
   does-nothing (venueOf (a .b .now)) (a .out .now) (a .at)
@@ -29,15 +23,9 @@ returns c = let a = c .before .before .before .before .before .before .args in l
   record { regulars = refl; complexes = refl; right = λ h. h },
 )
 
-place-of-requires : tie.Need-place-of-requires
-place-of-requires c κs = search needs
-
 others-stand-with-requires : tie.Need-others-stand-with-requires
 unfolding placeOf
 others-stand-with-requires c κs = search needs
-
-same-length-2 : tie.Need-same-length-2
-same-length-2 c = search needs
 
 returns-2 : tie.Need-returns-2
 returns-2 c = let a = c .before .before .before .before .before .before .before .before .before .before .before .before .args in let w = c .before .before .before .others-stand-with in (
@@ -49,9 +37,6 @@ returns-2 c = let a = c .before .before .before .before .before .before .before 
 
 is-under-ceiling-requires : tie.Need-is-under-ceiling-requires
 is-under-ceiling-requires c κs = (search needs, c .before .before .before .before .before .before .before .before .before .before .before .before .before .pre .3)
-
-same-length-3 : tie.Need-same-length-3
-same-length-3 c = search needs
 
 returns-3 : tie.Need-returns-3
 returns-3 c =
@@ -70,12 +55,6 @@ make-leg-requires c κs =
     let w = c .before .before .before .before .before .before .before .before .others-stand-with .ensures .1 in
     (search needs, s .pre .3, s .pre .4, rw (w .0) (planned-shown _ (s .args .c) _ _ (p .result) (p .ensures) (c .before .before .before .before .before .before .before .before .before .before .before .if1 .left)), w .1 .right (s .pre .1) .marked .figures)
 
-same-length-4 : tie.Need-same-length-4
-same-length-4 c = search needs
-
-same-length-5 : tie.Need-same-length-5
-same-length-5 c = search needs
-
 returns-4 : tie.Need-returns-4
 returns-4 c =
     let a = c .before .before .before .before .before .before .before .before .before .before .before .before .before .before .before .before .before .before .before .before .before .before .args in
@@ -93,17 +72,17 @@ pub generate-leg-spec : {M : Type 1} → statement M
 generate-leg-spec =
     tie.close
     (tie.spec
-    plan-leg-requires
-    same-length
+    (λ c κs. search needs)
+    (λ c. search needs)
     returns
-    place-of-requires
+    (λ c κs. search needs)
     others-stand-with-requires
-    same-length-2
+    (λ c. search needs)
     returns-2
     is-under-ceiling-requires
-    same-length-3
+    (λ c. search needs)
     returns-3
     make-leg-requires
-    same-length-4
-    same-length-5
+    (λ c. search needs)
+    (λ c. search needs)
     returns-4)

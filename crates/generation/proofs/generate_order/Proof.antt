@@ -15,12 +15,6 @@ use borrow.Author.Needs.{needs}
 use Rattle.generation.proofs.generate_order.Statement.{statement}
 use Rattle.generation.proofs.generate_order.Tie as tie
 
-complexes-used-requires : tie.Need-complexes-used-requires
-complexes-used-requires c κs = search needs
-
-same-length : tie.Need-same-length
-same-length c = search needs
-
 returns : tie.Need-returns
 returns c =
     let a = c .before .before .before .before .before .args in (
@@ -29,9 +23,6 @@ returns c =
       record { regulars = refl; complexes = refl; right = λ h. h },
     )
 
-complex-at-requires : tie.Need-complex-at-requires
-complex-at-requires c κs = search needs
-
 -- the order's place is in use
 used : (c : tie.After-complex-at) →
     let a = c .before .before .before .before .before .before .before .args in
@@ -39,9 +30,6 @@ used : (c : tie.After-complex-at) →
 used c =
     let p3 = c .before .before .before in
     omega (arith, p3 .complexes-used .ensures .0, c .before .before .if1 .left)
-
-same-length-2 : tie.Need-same-length-2
-same-length-2 c = search needs
 
 returns-2 : tie.Need-returns-2
 returns-2 c =
@@ -66,9 +54,6 @@ may-generate-requires c κs =
     let s = p4 .before .before .before .before .before .before .before in
     let x = p4 .complex-at in
     (s .pre .0, c .taken-at .ensures, complex-in _ _ (x .result) (x .ensures), s .pre .1 .marked .figures)
-
-same-length-3 : tie.Need-same-length-3
-same-length-3 c = search needs
 
 returns-3 : tie.Need-returns-3
 returns-3 c =
@@ -111,12 +96,6 @@ generate-leg-requires-2 c κs =
           ∙ on _ _ (p9 .before .may-generate .ensures) (p9 .if3 .left),
     )
 
-same-length-4 : tie.Need-same-length-4
-same-length-4 c = search needs
-
-same-length-5 : tie.Need-same-length-5
-same-length-5 c = search needs
-
 returns-4 : tie.Need-returns-4
 returns-4 c =
     let p4 = c .before .before .before .before in
@@ -135,18 +114,18 @@ pub generate-order-spec : {M : Type 1} → statement M
 generate-order-spec =
     tie.close
     (tie.spec
-    complexes-used-requires
-    same-length
+    (λ c κs. search needs)
+    (λ c. search needs)
     returns
-    complex-at-requires
-    same-length-2
+    (λ c κs. search needs)
+    (λ c. search needs)
     returns-2
     taken-at-requires
     may-generate-requires
-    same-length-3
+    (λ c. search needs)
     returns-3
     generate-leg-requires
     generate-leg-requires-2
-    same-length-4
-    same-length-5
+    (λ c. search needs)
+    (λ c. search needs)
     returns-4)

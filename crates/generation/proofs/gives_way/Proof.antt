@@ -9,12 +9,6 @@ use borrow.Author.Needs.{needs}
 use Rattle.generation.proofs.gives_way.Statement.{statement}
 use Rattle.generation.proofs.gives_way.Tie as tie
 
-own-price-requires : tie.Need-own-price-requires
-own-price-requires c κs = search needs
-
-is-better-requires : tie.Need-is-better-requires
-is-better-requires c κs = search needs
-
 returns : tie.Need-returns
 returns c = way-better _ (c .before .before .before .before .args .c) _ _ _ _ (c .before .before .own-price .ensures) (sym (c .before .is-better .ensures) ∙ c .if1 .taken)
 
@@ -24,15 +18,9 @@ returns-2 c = way-worse _ (c .before .before .before .before .before .args .c) _
 returns-3 : tie.Need-returns-3
 returns-3 c = way-other _ (c .before .before .before .before .before .before .before .args .c) _ _ _ _ (c .before .before .before .before .before .own-price .ensures) (sym (c .before .before .before .before .is-better .ensures) ∙ c .before .before .before .if1 .left) (c .before .before .if2 .left) (c .if3 .taken)
 
-place-of-requires : tie.Need-place-of-requires
-place-of-requires c κs = search needs
-
 legging-at-requires : tie.Need-legging-at-requires
 unfolding placeOf
 legging-at-requires c κs = search needs
-
-parent-of-requires : tie.Need-parent-of-requires
-parent-of-requires c κs = search needs
 
 returns-4 : tie.Need-returns-4
 returns-4 c = let a = c .before .before .before .before .before .before .before .before .before .before .before .args in let p = c .before .before .before .before .before .before .before .before .before .before .before .pre in
@@ -40,4 +28,4 @@ returns-4 c = let a = c .before .before .before .before .before .before .before 
     (c .before .parent-of .ensures ∙ ap (parentOf (venueOf (a .b .now))) (legging-read _ _ _ _ (c .before .before .legging-at .result) (p .1) (p .2) (c .before .before .before .place-of .ensures) (c .before .before .legging-at .ensures)))
 
 pub gives-way-spec : {M : Type 1} → statement M
-gives-way-spec = tie.close (tie.spec own-price-requires is-better-requires returns returns-2 returns-3 place-of-requires legging-at-requires parent-of-requires returns-4)
+gives-way-spec = tie.close (tie.spec (λ c κs. search needs) (λ c κs. search needs) returns returns-2 returns-3 (λ c κs. search needs) legging-at-requires (λ c κs. search needs) returns-4)

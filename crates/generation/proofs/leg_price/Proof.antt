@@ -7,32 +7,14 @@ use borrow.Author.Needs.{needs}
 use Rattle.generation.proofs.leg_price.Statement.{statement}
 use Rattle.generation.proofs.leg_price.Tie as tie
 
-other-clear-requires : tie.Need-other-clear-requires
-other-clear-requires c κs = search needs
-
 returns : tie.Need-returns
 returns c = priced-none _ (c .before .before .before .args .c) _ _ _ (c .before .other-clear .ensures) (c .if1 .taken)
-
-other-leg-requires : tie.Need-other-leg-requires
-other-leg-requires c κs = search needs
-
-limit-of-requires : tie.Need-limit-of-requires
-limit-of-requires c κs = search needs
-
-signed-price-requires : tie.Need-signed-price-requires
-signed-price-requires c κs = search needs
 
 sub-signed-of : tie.Need-sub-signed-of
 sub-signed-of c = let m = c .before .limit-of in let n = c .signed-price in diff-fits {a = m .result} {b = n .result} (record { sfits = m .ok }) (record { sfits = n .ok }) (omega (arith, m .ensures .1, n .ensures .1))
 
 signed-of-requires : tie.Need-signed-of-requires
 signed-of-requires c κs = let m = c .before .limit-of in let n = c .signed-price in diff-abs {a = m .result} {b = n .result} (record { sfits = m .ok }) (record { sfits = n .ok }) (omega (arith, m .ensures .1, n .ensures .1))
-
-as-price-requires : tie.Need-as-price-requires
-as-price-requires c κs = search needs
-
-ranged-requires : tie.Need-ranged-requires
-ranged-requires c κs = search needs
 
 returns-2 : tie.Need-returns-2
 returns-2 c = let a = c .before .before .before .before .before .before .before .before .before .args in let m = c .before .before .before .before .limit-of in let n = c .before .before .before .signed-price in let u = c .before .before .signed-of in
@@ -41,4 +23,4 @@ returns-2 c = let a = c .before .before .before .before .before .before .before 
     (back {z = u .result} (record { sfits = u .ok }) ∙ u .ensures) (c .before .as-price .ensures) (c .ranged .ensures)
 
 pub leg-price-spec : {M : Type 1} → statement M
-leg-price-spec = tie.close (tie.spec other-clear-requires returns other-leg-requires limit-of-requires signed-price-requires sub-signed-of signed-of-requires as-price-requires ranged-requires returns-2)
+leg-price-spec = tie.close (tie.spec (λ c κs. search needs) returns (λ c κs. search needs) (λ c κs. search needs) (λ c κs. search needs) sub-signed-of signed-of-requires (λ c κs. search needs) (λ c κs. search needs) returns-2)

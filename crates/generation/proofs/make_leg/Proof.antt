@@ -6,33 +6,9 @@ use borrow.Author.Needs.{needs}
 use Rattle.generation.proofs.make_leg.Statement.{statement}
 use Rattle.generation.proofs.make_leg.Tie as tie
 
-shown-price-requires : tie.Need-shown-price-requires
-shown-price-requires c κs = search needs
-
-cast-shown : tie.Need-cast-shown
-cast-shown c = search needs
-
-place-of-requires : tie.Need-place-of-requires
-place-of-requires c κs = search needs
-
-remove-at-requires : tie.Need-remove-at-requires
-remove-at-requires c κs = search needs
-
 put-legging-requires : tie.Need-put-legging-requires
 unfolding placeOf
 put-legging-requires c κs = search needs
-
-count-generation-requires : tie.Need-count-generation-requires
-count-generation-requires c κs = search needs
-
-emit-generated-requires : tie.Need-emit-generated-requires
-emit-generated-requires c κs = search needs
-
-same-length : tie.Need-same-length
-same-length c = search needs
-
-same-length-2 : tie.Need-same-length-2
-same-length-2 c = search needs
 
 returns : tie.Need-returns
 returns c =
@@ -48,13 +24,13 @@ pub make-leg-spec : {M : Type 1} → statement M
 make-leg-spec =
     tie.close
     (tie.spec
-    shown-price-requires
-    cast-shown
-    place-of-requires
-    remove-at-requires
+    (λ c κs. search needs)
+    (λ c. search needs)
+    (λ c κs. search needs)
+    (λ c κs. search needs)
     put-legging-requires
-    count-generation-requires
-    emit-generated-requires
-    same-length
-    same-length-2
+    (λ c κs. search needs)
+    (λ c κs. search needs)
+    (λ c. search needs)
+    (λ c. search needs)
     returns)

@@ -11,24 +11,15 @@ use borrow.Author.Needs.{needs}
 use Rattle.generation.proofs.may_generate.Statement.{statement}
 use Rattle.generation.proofs.may_generate.Tie as tie
 
-is-one-to-one-requires : tie.Need-is-one-to-one-requires
-is-one-to-one-requires c κs = search needs
-
 returns : tie.Need-returns
 unfolding mayGenerate
 returns c = simp (off _ _ (c .before .is-one-to-one .ensures) (c .if1 .taken))
-
-both-open-requires : tie.Need-both-open-requires
-both-open-requires c κs = search needs
 
 returns-2 : tie.Need-returns-2
 unfolding mayGenerate
 returns-2 c =
     let p2 = c .before .before in
     simp (on _ _ (p2 .before .is-one-to-one .ensures) (p2 .if1 .left), off _ _ (c .before .both-open .ensures) (c .if2 .taken))
-
-limit-of-requires : tie.Need-limit-of-requires
-limit-of-requires c κs = search needs
 
 in-band-requires : tie.Need-in-band-requires
 in-band-requires c κs =
@@ -52,10 +43,10 @@ pub may-generate-spec : {M : Type 1} → statement M
 may-generate-spec =
     tie.close
     (tie.spec
-    is-one-to-one-requires
+    (λ c κs. search needs)
     returns
-    both-open-requires
+    (λ c κs. search needs)
     returns-2
-    limit-of-requires
+    (λ c κs. search needs)
     in-band-requires
     returns-3)

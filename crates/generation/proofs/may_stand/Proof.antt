@@ -19,9 +19,6 @@ returns : tie.Need-returns
 unfolding mayStand
 returns c = simp (c .before .before .before .pre .5, off _ _ (c .before .stands-clear .ensures) (c .if1 .taken))
 
-gives-way-requires : tie.Need-gives-way-requires
-gives-way-requires c κs = search needs
-
 returns-2 : tie.Need-returns-2
 unfolding mayStand
 returns-2 c =
@@ -29,4 +26,4 @@ returns-2 c =
     simp (p2 .before .before .pre .5, on _ _ (p2 .stands-clear .ensures) (c .before .if1 .left)) (c .gives-way .ensures)
 
 pub may-stand-spec : {M : Type 1} → statement M
-may-stand-spec = tie.close (tie.spec stands-clear-requires returns gives-way-requires returns-2)
+may-stand-spec = tie.close (tie.spec stands-clear-requires returns (λ c κs. search needs) returns-2)

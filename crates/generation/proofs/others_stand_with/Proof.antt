@@ -8,26 +8,11 @@ use borrow.Author.Needs.{needs}
 use Rattle.generation.proofs.others_stand_with.Statement.{statement}
 use Rattle.generation.proofs.others_stand_with.Tie as tie
 
-levels-requires : tie.Need-levels-requires
-levels-requires c κs = search needs
-
-legging-at-requires : tie.Need-legging-at-requires
-legging-at-requires c κs = search needs
-
-put-legging-requires : tie.Need-put-legging-requires
-put-legging-requires c κs = search needs
-
 others-stand-requires : tie.Need-others-stand-requires
 others-stand-requires c κs =
     let p3 = c .before .before .before in
     let g = p3 .before .before .before .before .levels in
     (search needs, grid-kept (g .result) _ _ (ap (λ (w : Venue). w .regular) (p3 .put-legging .ensures .0) ∙ placed-regular _ _ _) (g .ensures), p3 .put-legging .ensures .1 .right (p3 .before .before .before .before .before .before .before .pre .1) .marked .figures)
-
-put-legging-requires-2 : tie.Need-put-legging-requires-2
-put-legging-requires-2 c κs = search needs
-
-same-length : tie.Need-same-length
-same-length c = search needs
 
 returns : tie.Need-returns
 returns c =
@@ -51,10 +36,10 @@ pub others-stand-with-spec : {M : Type 1} → statement M
 others-stand-with-spec =
     tie.close
     (tie.spec
-    levels-requires
-    legging-at-requires
-    put-legging-requires
+    (λ c κs. search needs)
+    (λ c κs. search needs)
+    (λ c κs. search needs)
     others-stand-requires
-    put-legging-requires-2
-    same-length
+    (λ c κs. search needs)
+    (λ c. search needs)
     returns)

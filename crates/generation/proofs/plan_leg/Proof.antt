@@ -8,19 +8,10 @@ use borrow.Author.Needs.{needs}
 use Rattle.generation.proofs.plan_leg.Statement.{statement}
 use Rattle.generation.proofs.plan_leg.Tie as tie
 
-sides-at-requires : tie.Need-sides-at-requires
-sides-at-requires c κs = search needs
-
-leg-price-requires : tie.Need-leg-price-requires
-leg-price-requires c κs = search needs
-
 returns : tie.Need-returns
 returns c =
     let s = c .before .before .before .before .before in
     planned-free _ (s .args .c) _ _ _ (c .before .leg-price .ensures) (s .pre .5) (c .if1 .taken)
-
-may-stand-requires : tie.Need-may-stand-requires
-may-stand-requires c κs = search needs
 
 returns-2 : tie.Need-returns-2
 returns-2 c =
@@ -28,9 +19,6 @@ returns-2 c =
     let p3 = p2 .before in
     let s = p3 .before .before .before .before in
     planned-not _ (s .args .c) _ _ _ (p3 .leg-price .ensures) (s .pre .5) (p2 .if1 .left) (off _ _ (c .before .may-stand .ensures) (c .if2 .taken))
-
-leg-quantity-requires : tie.Need-leg-quantity-requires
-leg-quantity-requires c κs = search needs
 
 returns-3 : tie.Need-returns-3
 returns-3 c =
@@ -46,10 +34,10 @@ pub plan-leg-spec : {M : Type 1} → statement M
 plan-leg-spec =
     tie.close
     (tie.spec
-    sides-at-requires
-    leg-price-requires
+    (λ c κs. search needs)
+    (λ c κs. search needs)
     returns
-    may-stand-requires
+    (λ c κs. search needs)
     returns-2
-    leg-quantity-requires
+    (λ c κs. search needs)
     returns-3)

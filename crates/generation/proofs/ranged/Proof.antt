@@ -5,20 +5,8 @@ use borrow.Author.Needs.{needs}
 use Rattle.generation.proofs.ranged.Statement.{statement}
 use Rattle.generation.proofs.ranged.Tie as tie
 
-increment-of-requires : tie.Need-increment-of-requires
-increment-of-requires c κs = search needs
-
 returns : tie.Need-returns
 returns c = let i = c .before .increment-of .ensures in ranged-far _ _ _ _ _ (i .0) (i .1) (omega arith) (c .if1 .taken)
-
-cast-price : tie.Need-cast-price
-cast-price c = search needs
-
-displayed-price-requires : tie.Need-displayed-price-requires
-displayed-price-requires c κs = search needs
-
-cast-if2 : tie.Need-cast-if2
-cast-if2 c = search needs
 
 returns-2 : tie.Need-returns-2
 returns-2 c = ranged-low _ _ _ _ _ _ (c .before .displayed-price .ensures) (c .before .before .before .increment-of .ensures .0) (c .if2 .taken)
@@ -30,4 +18,4 @@ returns-4 : tie.Need-returns-4
 returns-4 c = ranged-in _ _ _ _ _ _ (c .before .before .displayed-price .ensures) (c .before .before .before .before .increment-of .ensures .0) (c .before .if2 .left) (c .if3 .left)
 
 pub ranged-spec : {M : Type 1} → statement M
-ranged-spec = tie.close (tie.spec increment-of-requires returns cast-price displayed-price-requires cast-if2 returns-2 returns-3 returns-4)
+ranged-spec = tie.close (tie.spec (λ c κs. search needs) returns (λ c. search needs) (λ c κs. search needs) (λ c. search needs) returns-2 returns-3 returns-4)

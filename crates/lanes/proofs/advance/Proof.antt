@@ -6,17 +6,11 @@ use Rattle.lanes.proofs.Writing.{done-same, count-same, advanced-put}
 use Rattle.lanes.proofs.advance.Statement.{statement}
 use Rattle.lanes.proofs.advance.Tie as tie
 
-put-after-requires : tie.Need-put-after-requires
-put-after-requires c κs = search needs
-
 count-done-requires : tie.Need-count-done-requires
 count-done-requires c κs = let s = c .before .before .before .before .before .before in let k = c .before .before .before .put-after in let h = s .pre .1 in (k .kept .0 ∙ s .pre .0, omega (arith, done-same (s .args .lane .now) (s .args .number) (s .args .venue) (k .last .0) (s .pre .0) (k .ensures) (k .kept .0)))
 
 drop-head-requires : tie.Need-drop-head-requires
 drop-head-requires c κs = let s = c .before .before .before .before .before .before .before .before .before .before in let k = c .before .before .before .before .before .before .before .put-after in let d = c .before .before .before .count-done in let p = s .pre in let n = count-same (s .args .lane .now) (s .args .number) (s .args .venue) (k .last .0) (s .pre .0) (k .ensures) (k .kept .0) (d .last .0) (d .ensures) in (d .kept .0 ∙ k .kept .0 ∙ s .pre .0, omega arith, omega arith)
-
-same-length : tie.Need-same-length
-same-length c = search needs
 
 returns : tie.Need-returns
 returns c = let s = c .before .before .before .before .before .before .before .before .before .before .before .before .before in let k = c .before .before .before .before .before .before .before .before .before .before .put-after in let d = c .before .before .before .before .before .before .count-done in advanced-put (s .args .lane .now) (s .args .number) (s .args .venue) (k .last .0) (s .pre .0) (k .ensures) (k .kept .0) (d .last .0) (d .ensures) _ (c .before .before .drop-head .ensures)
@@ -25,8 +19,8 @@ pub advance-spec : {M : Type 1} → statement M
 advance-spec =
     tie.close
     (tie.spec
-    put-after-requires
+    (λ c κs. search needs)
     count-done-requires
     drop-head-requires
-    same-length
+    (λ c. search needs)
     returns)

@@ -15,35 +15,17 @@ Inv-loop lane₀ count i₀ lane i = Moved lane₀ lane i
 abbrev μ-loop : tie.MeasureT-loop
 μ-loop lane₀ count i₀ lane i = 7 * placeSize - i
 
-u8-at-requires : tie.Need-u8-at-requires Inv-loop μ-loop
-u8-at-requires c κs = search needs
-
 loop-holds : tie.Need-loop-holds Inv-loop μ-loop
 loop-holds c = moved-none _
-
-add-lane : tie.Need-add-lane Inv-loop μ-loop
-add-lane c = search needs
 
 slice-read-lane : tie.Need-slice-read-lane Inv-loop μ-loop
 slice-read-lane c = let r = c .before .before .loop .inv .room in omega (arith, c .before .before .before .before .before .before .pre .0)
 
-add-lane-2 : tie.Need-add-lane-2 Inv-loop μ-loop
-add-lane-2 c = search needs
-
 slice-write-lane : tie.Need-slice-write-lane Inv-loop μ-loop
 slice-write-lane c = let r = c .before .before .loop .inv .room in omega (arith, c .before .before .before .before .before .before .pre .0)
 
-add-i : tie.Need-add-i Inv-loop μ-loop
-add-i c = search needs
-
-loop-less : tie.Need-loop-less Inv-loop μ-loop
-loop-less c = search needs
-
 loop-again : tie.Need-loop-again Inv-loop μ-loop
 loop-again c = let s = c .before .before .before .before .before .before in moved-next (s .args .lane .now) (s .pre .0) (c .before .before .loop .lane) (c .before .before .loop .i) (c .before .before .loop .inv) (c .before .loop-test .taken)
-
-zero-from-requires : tie.Need-zero-from-requires Inv-loop μ-loop
-zero-from-requires c κs = search needs
 
 sub-lane : tie.Need-sub-lane Inv-loop μ-loop
 sub-lane c = omega (arith, c .before .before .before .before .before .before .u8-at .ensures, c .before .before .before .before .before .before .before .before .before .pre .1)
@@ -63,16 +45,16 @@ drop-head-spec =
     (tie.spec
     Inv-loop
     μ-loop
-    u8-at-requires
+    (λ c κs. search needs)
     loop-holds
-    add-lane
+    (λ c. search needs)
     slice-read-lane
-    add-lane-2
+    (λ c. search needs)
     slice-write-lane
-    add-i
-    loop-less
+    (λ c. search needs)
+    (λ c. search needs)
     loop-again
-    zero-from-requires
+    (λ c κs. search needs)
     sub-lane
     slice-write-lane-2
     same-length

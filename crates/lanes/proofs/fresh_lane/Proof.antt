@@ -8,23 +8,11 @@ use Rattle.lanes.proofs.Writing.{fresh-put}
 use Rattle.lanes.proofs.fresh_lane.Statement.{statement}
 use Rattle.lanes.proofs.fresh_lane.Tie as tie
 
-fresh-requires : tie.Need-fresh-requires
-fresh-requires c κs = search needs
-
-slice-relend-prefix-put-venue : tie.Need-slice-relend-prefix-put-venue
-slice-relend-prefix-put-venue c = search needs
-
 slice-aggregate-put-venue : tie.Need-slice-aggregate-put-venue
 slice-aggregate-put-venue c = let p = c .before .before .before .pre in sym (length-take-le venueSize (c .before .before .before .args .lane .now) (omega arith))
 
 put-venue-requires : tie.Need-put-venue-requires
 put-venue-requires c κs = let p = c .before .before .before .pre in length-take-le venueSize (c .before .before .before .args .lane .now) (omega arith)
-
-zero-from-requires : tie.Need-zero-from-requires
-zero-from-requires c κs = search needs
-
-same-length : tie.Need-same-length
-same-length c = search needs
 
 returns : tie.Need-returns
 returns c = let s = c .before .before .before .before .before .before .before .before .before .before in let p = s .pre in let bs = s .args .lane .now in let k = c .before .before .before .before .before .before .put-venue in c .before .before .zero-from .ensures ∙ fresh-put bs (k .last .0) (c .before .before .before .before .before .before .before .before .fresh .result) p (k .kept .0 ∙ length-take-le venueSize bs (omega arith)) (c .before .before .before .before .before .before .before .before .fresh .ensures) (k .ensures)
@@ -33,10 +21,10 @@ pub fresh-lane-spec : {M : Type 1} → statement M
 fresh-lane-spec =
     tie.close
     (tie.spec
-    fresh-requires
-    slice-relend-prefix-put-venue
+    (λ c κs. search needs)
+    (λ c. search needs)
     slice-aggregate-put-venue
     put-venue-requires
-    zero-from-requires
-    same-length
+    (λ c κs. search needs)
+    (λ c. search needs)
     returns)

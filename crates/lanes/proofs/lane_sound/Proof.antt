@@ -9,9 +9,6 @@ use Rattle.lanes.proofs.Figures.{lane-waits, lane-passed, lane-checked}
 use Rattle.lanes.proofs.lane_sound.Statement.{statement}
 use Rattle.lanes.proofs.lane_sound.Tie as tie
 
-wait-sound-requires : tie.Need-wait-sound-requires
-wait-sound-requires c κs = search needs
-
 returns : tie.Need-returns
 returns c = lane-waits _ _ _ _ (c .before .wait-sound .ensures) (not-true _ (c .if1 .taken))
 
@@ -24,15 +21,6 @@ slice-aggregate-venue-from c = let p = c .before .before .before .before .before
 venue-from-requires : tie.Need-venue-from-requires
 venue-from-requires c κs = let p = c .before .before .before .before .before .pre in length-take-le venueSize (c .before .before .before .before .before .args .lane .now) (omega arith)
 
-u32-at-requires : tie.Need-u32-at-requires
-u32-at-requires c κs = search needs
-
-slice-aggregate-load-ready : tie.Need-slice-aggregate-load-ready
-slice-aggregate-load-ready c = search needs
-
-load-ready-requires : tie.Need-load-ready-requires
-load-ready-requires c κs = search needs
-
 returns-3 : tie.Need-returns-3
 returns-3 c = lane-checked _ _ _ _ (c .before .before .before .before .before .before .before .before .wait-sound .ensures) _ _ _ (not-false _ (c .before .before .before .before .before .before .before .if1 .left)) (c .before .before .before .before .before .before .if2 .left) (c .before .before .before .before .venue-from .ensures) (c .before .before .before .u32-at .ensures) (c .before .load-ready .ensures .answer)
 
@@ -40,12 +28,12 @@ pub lane-sound-spec : {M : Type 1} → statement M
 lane-sound-spec =
     tie.close
     (tie.spec
-    wait-sound-requires
+    (λ c κs. search needs)
     returns
     returns-2
     slice-aggregate-venue-from
     venue-from-requires
-    u32-at-requires
-    slice-aggregate-load-ready
-    load-ready-requires
+    (λ c κs. search needs)
+    (λ c. search needs)
+    (λ c κs. search needs)
     returns-3)

@@ -16,41 +16,17 @@ Inv-loop layer but i₀ i = (i ≤ 4) × Passed layer but i
 abbrev μ-loop : tie.MeasureT-loop
 μ-loop layer but i₀ i = 4 - i
 
-shared-slice-read-if1 : tie.Need-shared-slice-read-if1 Inv-loop μ-loop
-shared-slice-read-if1 c = search needs
-
 returns : tie.Need-returns Inv-loop μ-loop
 returns c = last-fails _ _ (c .if1 .taken)
 
 loop-holds : tie.Need-loop-holds Inv-loop μ-loop
 loop-holds c = (search needs, passed-none _ _)
 
-mul-at : tie.Need-mul-at Inv-loop μ-loop
-mul-at c = search needs
-
-add-end : tie.Need-add-end Inv-loop μ-loop
-add-end c = search needs
-
-sub-lane-sound : tie.Need-sub-lane-sound Inv-loop μ-loop
-sub-lane-sound c = search needs
-
-part-lane-sound-start : tie.Need-part-lane-sound-start Inv-loop μ-loop
-part-lane-sound-start c = search needs
-
-part-lane-sound-end : tie.Need-part-lane-sound-end Inv-loop μ-loop
-part-lane-sound-end c = search needs
-
 lane-sound-requires : tie.Need-lane-sound-requires Inv-loop μ-loop
 lane-sound-requires c κs = let p = c .before .before .before .before .before .before .pre in part-length (c .before .before .before .before .before .before .args .layer .now) (laneSize * c .before .before .loop .i) (laneSize * c .before .before .loop .i + laneSize - laneSize * c .before .before .loop .i) (omega arith) ∙ omega arith
 
 returns-2 : tie.Need-returns-2 Inv-loop μ-loop
 returns-2 c = lane-fails _ _ (c .before .before .before .before .loop .i) (c .before .before .before .loop-test .taken) (sym (lent _ _ (c .before .before .before .before .loop .i) (laneSize * c .before .before .before .before .loop .i) (laneSize * c .before .before .before .before .loop .i + laneSize - laneSize * c .before .before .before .before .loop .i) _ refl (omega arith) (c .before .before .before .loop-test .taken) (c .before .lane-sound .ensures)) ∙ not-true _ (c .if2 .taken))
-
-add-i : tie.Need-add-i Inv-loop μ-loop
-add-i c = search needs
-
-loop-less : tie.Need-loop-less Inv-loop μ-loop
-loop-less c = search needs
 
 loop-again : tie.Need-loop-again Inv-loop μ-loop
 loop-again c = (search needs, passed-next _ _ (c .before .before .before .before .loop .i) (c .before .before .before .before .loop .inv .1) (sym (lent _ _ (c .before .before .before .before .loop .i) (laneSize * c .before .before .before .before .loop .i) (laneSize * c .before .before .before .before .loop .i + laneSize - laneSize * c .before .before .before .before .loop .i) _ refl (omega arith) (c .before .before .before .loop-test .taken) (c .before .lane-sound .ensures)) ∙ not-false _ (c .if2 .left)))
@@ -64,17 +40,17 @@ layer-sound-spec =
     (tie.spec
     Inv-loop
     μ-loop
-    shared-slice-read-if1
+    (λ c. search needs)
     returns
     loop-holds
-    mul-at
-    add-end
-    sub-lane-sound
-    part-lane-sound-start
-    part-lane-sound-end
+    (λ c. search needs)
+    (λ c. search needs)
+    (λ c. search needs)
+    (λ c. search needs)
+    (λ c. search needs)
     lane-sound-requires
     returns-2
-    add-i
-    loop-less
+    (λ c. search needs)
+    (λ c. search needs)
     loop-again
     returns-3)

@@ -13,38 +13,11 @@ Inv-loop layer v₀ i₀ v i = Searching layer v i
 abbrev μ-loop : tie.MeasureT-loop
 μ-loop layer v₀ i₀ v i = 4 - i
 
-u8-at-requires : tie.Need-u8-at-requires Inv-loop μ-loop
-u8-at-requires c κs = search needs
-
-cast-v : tie.Need-cast-v Inv-loop μ-loop
-cast-v c = search needs
-
-add-v : tie.Need-add-v Inv-loop μ-loop
-add-v c = search needs
-
 loop-holds : tie.Need-loop-holds Inv-loop μ-loop
 loop-holds c = search-start _ _ _ (c .u8-at .ensures) refl
 
-mul-u8-at : tie.Need-mul-u8-at Inv-loop μ-loop
-mul-u8-at c = search needs
-
-add-u8-at : tie.Need-add-u8-at Inv-loop μ-loop
-add-u8-at c = search needs
-
-u8-at-requires-2 : tie.Need-u8-at-requires-2 Inv-loop μ-loop
-u8-at-requires-2 c κs = search needs
-
 returns : tie.Need-returns Inv-loop μ-loop
 returns c = search-found _ _ (c .before .before .before .loop .i) _ (c .before .before .before .loop .inv) (c .before .before .loop-test .taken) (c .before .u8-at2 .ensures) (c .if1 .taken)
-
-add-v-2 : tie.Need-add-v-2 Inv-loop μ-loop
-add-v-2 c = search needs
-
-add-i : tie.Need-add-i Inv-loop μ-loop
-add-i c = search needs
-
-loop-less : tie.Need-loop-less Inv-loop μ-loop
-loop-less c = search needs
 
 loop-again : tie.Need-loop-again Inv-loop μ-loop
 loop-again c = search-next _ _ (c .before .before .before .loop .i) _ (c .before .before .before .loop .inv) (c .before .before .loop-test .taken) (c .before .u8-at2 .ensures) _ (c .if1 .left) refl
@@ -58,16 +31,16 @@ next-waiting-spec =
     (tie.spec
     Inv-loop
     μ-loop
-    u8-at-requires
-    cast-v
-    add-v
+    (λ c κs. search needs)
+    (λ c. search needs)
+    (λ c. search needs)
     loop-holds
-    mul-u8-at
-    add-u8-at
-    u8-at-requires-2
+    (λ c. search needs)
+    (λ c. search needs)
+    (λ c κs. search needs)
     returns
-    add-v-2
-    add-i
-    loop-less
+    (λ c. search needs)
+    (λ c. search needs)
+    (λ c. search needs)
     loop-again
     returns-2)

@@ -6,18 +6,6 @@ use Rattle.lanes.proofs.Writing.{place-put}
 use Rattle.lanes.proofs.put_place.Statement.{statement}
 use Rattle.lanes.proofs.put_place.Tie as tie
 
-cast-place : tie.Need-cast-place
-cast-place c = search needs
-
-slice-write-place : tie.Need-slice-write-place
-slice-write-place c = search needs
-
-put-requires : tie.Need-put-requires
-put-requires c κs = search needs
-
-zero-from-requires : tie.Need-zero-from-requires
-zero-from-requires c κs = search needs
-
 same-length : tie.Need-same-length
 same-length c = c .before .before .zero-from .kept .0 ∙ c .before .before .before .before .before .before .put .kept .0 ∙ length-set (c .before .before .before .before .before .before .before .before .before .before .args .place .now) 0 (length (c .before .before .before .before .before .before .before .before .before .before .args .message .now))
 
@@ -28,9 +16,9 @@ pub put-place-spec : {M : Type 1} → statement M
 put-place-spec =
     tie.close
     (tie.spec
-    cast-place
-    slice-write-place
-    put-requires
-    zero-from-requires
+    (λ c. search needs)
+    (λ c. search needs)
+    (λ c κs. search needs)
+    (λ c κs. search needs)
     same-length
     returns)

@@ -5,9 +5,6 @@ use borrow.Author.Needs.{needs}
 use Rattle.levels.proofs.better_of.Statement.{statement}
 use Rattle.levels.proofs.better_of.Tie as tie
 
-is-better-requires : tie.Need-is-better-requires
-is-better-requires c κs = search needs
-
 returns : tie.Need-returns
 unfolding betterOf
 returns c = simp (sym (c .before .is-better .ensures) ∙ c .if1 .taken)
@@ -17,4 +14,4 @@ unfolding betterOf
 returns-2 c = simp (sym (c .before .is-better .ensures) ∙ c .if1 .left)
 
 pub better-of-spec : {M : Type 1} → statement M
-better-of-spec = tie.close (tie.spec is-better-requires returns returns-2)
+better-of-spec = tie.close (tie.spec (λ c κs. search needs) returns returns-2)

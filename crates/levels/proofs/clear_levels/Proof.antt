@@ -19,12 +19,6 @@ loop-holds c = clearing-start _ (c .before .pre)
 put-level-requires : tie.Need-put-level-requires Inv-loop μ-loop
 put-level-requires c κs = (c .before .before .loop .inv .long, c .before .loop-test .taken)
 
-add-n : tie.Need-add-n Inv-loop μ-loop
-add-n c = search needs
-
-loop-less : tie.Need-loop-less Inv-loop μ-loop
-loop-less c = search needs
-
 loop-again : tie.Need-loop-again Inv-loop μ-loop
 loop-again c = clearing-turn _ _ _ _ (c .before .before .before .before .before .loop .inv) (c .before .before .before .before .loop-test .taken) (c .before .before .put-level .kept .0) (c .before .before .put-level .ensures)
 
@@ -42,8 +36,8 @@ clear-levels-spec =
     μ-loop
     loop-holds
     put-level-requires
-    add-n
-    loop-less
+    (λ c. search needs)
+    (λ c. search needs)
     loop-again
     same-length
     returns)

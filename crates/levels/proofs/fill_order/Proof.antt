@@ -18,32 +18,11 @@ key-at-requires c κs = let f = regulars-few (c .before .before .before .before 
 level-at-requires : tie.Need-level-at-requires
 level-at-requires c κs = (c .before .before .before .before .before .before .pre .0, key-few _ _ _ (c .before .key-at .ensures))
 
-fill-regular-requires : tie.Need-fill-regular-requires
-fill-regular-requires c κs = search needs
-
-same-length : tie.Need-same-length
-same-length c = search needs
-
 returns : tie.Need-returns
 returns c = (c .before .before .before .before .before .fill-regular .ensures .0, filled-off (c .before .before .before .before .before .before .before .before .before .before .before .before .before .before .args .b .now) _ (c .before .before .before .before .before .before .before .before .before .before .before .before .before .before .args .i) (c .before .before .before .before .before .before .before .before .before .before .before .before .before .before .args .k) _ (c .before .before .before .before .before .before .before .before .before .before .before .regular-at .result) (c .before .before .before .before .before .before .before .level-at .result) (c .before .before .before .before .before .before .before .before .before .before .before .before .before .before .pre .1) (c .before .before .before .before .before .before .before .before .before .before .before .regular-at .ensures) (c .before .before .before .before .before .before .before .before .before .key-at .ensures) (c .before .before .before .before .before .before .before .level-at .ensures) (c .before .before .before .before .before .fill-regular .ensures .0) (c .before .before .before .before .before .fill-regular .ensures .1) (c .if1 .taken))
 
-shown-of-requires : tie.Need-shown-of-requires
-shown-of-requires c κs = search needs
-
-lesser-requires : tie.Need-lesser-requires
-lesser-requires c κs = search needs
-
-cast-gone : tie.Need-cast-gone
-cast-gone c = search needs
-
-sub-t22 : tie.Need-sub-t22
-sub-t22 c = search needs
-
 put-level-requires : tie.Need-put-level-requires
 put-level-requires c κs = (c .before .before .before .before .before .before .before .before .before .before .before .fill-regular .kept .0 ∙ c .before .before .before .before .before .before .before .before .before .before .before .before .before .before .before .before .before .before .before .before .pre .0, key-few _ _ _ (c .before .before .before .before .before .before .before .before .before .before .before .before .before .before .before .key-at .ensures))
-
-same-length-2 : tie.Need-same-length-2
-same-length-2 c = search needs
 
 returns-2 : tie.Need-returns-2
 returns-2 c = filled-on (c .before .before .before .before .before .before .before .before .before .before .before .before .before .before .before .before .before .before .before .before .before .before .before .args .b .now) _ (c .before .before .before .before .before .before .before .before .before .before .before .before .before .before .before .before .before .before .before .before .before .before .before .args .i) (c .before .before .before .before .before .before .before .before .before .before .before .before .before .before .before .before .before .before .before .before .before .before .before .args .k) _ (c .before .before .before .before .before .before .before .before .before .before .before .before .before .before .before .before .before .before .before .before .regular-at .result) (c .before .before .before .before .before .before .before .before .before .before .before .before .before .before .before .before .level-at .result) (c .before .before .before .before .before .before .before .before .before .before .before .before .before .before .before .before .before .before .before .before .before .before .before .pre .1) (c .before .before .before .before .before .before .before .before .before .before .before .before .before .before .before .before .before .before .before .before .regular-at .ensures) (c .before .before .before .before .before .before .before .before .before .before .before .before .before .before .before .before .before .before .key-at .ensures) (c .before .before .before .before .before .before .before .before .before .before .before .before .before .before .before .before .level-at .ensures) (c .before .before .before .before .before .before .before .before .before .before .before .before .before .before .fill-regular .ensures .0) (c .before .before .before .before .before .before .before .before .before .before .before .before .before .before .fill-regular .ensures .1) _ _ (c .before .before .put-level .ensures) (filled-rest (c .before .before .before .before .before .before .before .before .before .before .before .before .before .before .before .before .before .before .before .before .before .before .before .args .b .now) _ (c .before .before .before .before .before .before .before .before .before .before .before .before .before .before .before .before .before .before .before .before .before .before .before .args .i) (c .before .before .before .before .before .before .before .before .before .before .before .before .before .before .before .before .before .before .before .before .before .before .before .args .k) _ (c .before .before .before .before .before .before .before .before .before .before .before .before .before .before .before .before .before .before .before .before .regular-at .result) (c .before .before .before .before .before .before .before .before .before .before .before .before .before .before .before .before .level-at .result) (c .before .before .before .before .before .before .before .before .before .before .before .before .before .before .before .before .before .before .before .before .before .before .before .pre .1) (c .before .before .before .before .before .before .before .before .before .before .before .before .before .before .before .before .before .before .before .before .regular-at .ensures) (c .before .before .before .before .before .before .before .before .before .before .before .before .before .before .before .before .before .before .key-at .ensures) (c .before .before .before .before .before .before .before .before .before .before .before .before .before .before .before .before .level-at .ensures) (c .before .before .before .before .before .before .before .before .before .before .before .before .before .before .fill-regular .ensures .0) (c .before .before .before .before .before .before .before .before .before .before .before .before .before .before .fill-regular .ensures .1) _ (c .before .before .before .before .before .before .before .lesser .ensures ∙ ap (min (c .before .before .before .before .before .before .before .before .before .before .before .before .before .before .before .before .before .before .before .before .before .before .before .args .k)) (c .before .before .before .before .before .before .before .before .shown-of .ensures)) (c .before .before .before .before .before .before .before .before .before .if1 .left) (c .before .before .before .before .before .if2 .taken) _ refl)
@@ -53,9 +32,6 @@ level-of-requires c κs = (c .before .before .before .before .before .before .be
 
 put-level-requires-2 : tie.Need-put-level-requires-2
 put-level-requires-2 c κs = (c .before .before .before .before .before .before .before .before .before .before .before .before .fill-regular .kept .0 ∙ c .before .before .before .before .before .before .before .before .before .before .before .before .before .before .before .before .before .before .before .before .before .pre .0, key-few _ _ _ (c .before .before .before .before .before .before .before .before .before .before .before .before .before .before .before .before .key-at .ensures))
-
-same-length-3 : tie.Need-same-length-3
-same-length-3 c = search needs
 
 returns-3 : tie.Need-returns-3
 returns-3 c = filled-on (c .before .before .before .before .before .before .before .before .before .before .before .before .before .before .before .before .before .before .before .before .before .before .before .before .args .b .now) _ (c .before .before .before .before .before .before .before .before .before .before .before .before .before .before .before .before .before .before .before .before .before .before .before .before .args .i) (c .before .before .before .before .before .before .before .before .before .before .before .before .before .before .before .before .before .before .before .before .before .before .before .before .args .k) _ (c .before .before .before .before .before .before .before .before .before .before .before .before .before .before .before .before .before .before .before .before .before .regular-at .result) (c .before .before .before .before .before .before .before .before .before .before .before .before .before .before .before .before .before .level-at .result) (c .before .before .before .before .before .before .before .before .before .before .before .before .before .before .before .before .before .before .before .before .before .before .before .before .pre .1) (c .before .before .before .before .before .before .before .before .before .before .before .before .before .before .before .before .before .before .before .before .before .regular-at .ensures) (c .before .before .before .before .before .before .before .before .before .before .before .before .before .before .before .before .before .before .before .key-at .ensures) (c .before .before .before .before .before .before .before .before .before .before .before .before .before .before .before .before .before .level-at .ensures) (c .before .before .before .before .before .before .before .before .before .before .before .before .before .before .before .fill-regular .ensures .0) (c .before .before .before .before .before .before .before .before .before .before .before .before .before .before .before .fill-regular .ensures .1) _ _ (c .before .before .put-level2 .ensures) (λ _. c .before .before .before .before .level-of .ensures)
@@ -67,17 +43,17 @@ fill-order-spec =
     regular-at-requires
     key-at-requires
     level-at-requires
-    fill-regular-requires
-    same-length
+    (λ c κs. search needs)
+    (λ c. search needs)
     returns
-    shown-of-requires
-    lesser-requires
-    cast-gone
-    sub-t22
+    (λ c κs. search needs)
+    (λ c κs. search needs)
+    (λ c. search needs)
+    (λ c. search needs)
     put-level-requires
-    same-length-2
+    (λ c. search needs)
     returns-2
     level-of-requires
     put-level-requires-2
-    same-length-3
+    (λ c. search needs)
     returns-3)

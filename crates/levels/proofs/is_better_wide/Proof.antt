@@ -5,9 +5,6 @@ use borrow.Author.Needs.{needs}
 use Rattle.levels.proofs.is_better_wide.Statement.{statement}
 use Rattle.levels.proofs.is_better_wide.Tie as tie
 
-is-lower-requires : tie.Need-is-lower-requires
-is-lower-requires c κs = search needs
-
 returns : tie.Need-returns
 unfolding better
 returns c = simp (eq-eqb _ _ (c .if1 .taken))
@@ -17,4 +14,4 @@ unfolding better
 returns-2 c = simp (ne-eqb _ _ (c .if1 .left)) (c .before .is-lower .ensures)
 
 pub is-better-wide-spec : {M : Type 1} → statement M
-is-better-wide-spec = tie.close (tie.spec is-lower-requires returns returns-2)
+is-better-wide-spec = tie.close (tie.spec (λ c κs. search needs) returns returns-2)

@@ -12,23 +12,14 @@ Inv-loop b s d key l₀ i₀ l i = Scanned b s d i₀ l i
 abbrev μ-loop : tie.MeasureT-loop
 μ-loop b s d key l₀ i₀ l i = i
 
-place-of-requires : tie.Need-place-of-requires Inv-loop μ-loop
-place-of-requires c κs = search needs
-
 regulars-used-requires : tie.Need-regulars-used-requires Inv-loop μ-loop
 regulars-used-requires c κs = c .before .before .pre .0
 
 loop-holds : tie.Need-loop-holds Inv-loop μ-loop
 loop-holds c = scanned-none _ _ _ _ _ refl
 
-sub-i : tie.Need-sub-i Inv-loop μ-loop
-sub-i c = search needs
-
 key-at-requires : tie.Need-key-at-requires Inv-loop μ-loop
 key-at-requires c κs = (c .before .before .before .before .before .pre .0, omega (arith, c .before .loop .inv .below, c .before .before .regulars-used .ensures .1))
-
-loop-less : tie.Need-loop-less Inv-loop μ-loop
-loop-less c = search needs
 
 loop-again : tie.Need-loop-again Inv-loop μ-loop
 loop-again c = scanned-past _ _ _ _ _ _ (c .before .before .before .loop .inv) (omega (arith, c .before .before .loop-test .taken)) (λ e. c .if1 .taken (c .before .key-at .ensures ∙ e ∙ sym (c .before .before .before .before .before .place-of .ensures)))
@@ -38,9 +29,6 @@ regular-at-requires c κs = (c .before .before .before .before .before .before .
 
 with-order-requires : tie.Need-with-order-requires Inv-loop μ-loop
 with-order-requires c κs = omega (arith, c .before .before .before .before .loop .inv .bound, c .before .before .before .before .loop .inv .below, c .before .before .before .before .before .regulars-used .ensures .1)
-
-loop-less-2 : tie.Need-loop-less-2 Inv-loop μ-loop
-loop-less-2 c = search needs
 
 loop-again-2 : tie.Need-loop-again-2 Inv-loop μ-loop
 loop-again-2 c = scanned-on _ _ _ _ _ _ (c .before .before .before .before .before .loop .inv) (omega (arith, c .before .before .before .before .loop-test .taken)) (c .before .regular-at .result) (c .before .regular-at .ensures) (sym (c .before .before .before .key-at .ensures) ∙ c .before .before .if1 .left ∙ c .before .before .before .before .before .before .before .place-of .ensures) (c .before .before .before .before .before .before .before .before .before .pre .2) (search needs) _ (c .with-order .ensures)
@@ -54,15 +42,15 @@ level-of-spec =
     (tie.spec
     Inv-loop
     μ-loop
-    place-of-requires
+    (λ c κs. search needs)
     regulars-used-requires
     loop-holds
-    sub-i
+    (λ c. search needs)
     key-at-requires
-    loop-less
+    (λ c. search needs)
     loop-again
     regular-at-requires
     with-order-requires
-    loop-less-2
+    (λ c. search needs)
     loop-again-2
     returns)

@@ -15,23 +15,11 @@ abbrev μ-loop : tie.MeasureT-loop
 loop-holds : tie.Need-loop-holds Inv-loop μ-loop
 loop-holds c = filling-start _
 
-mul-level-at : tie.Need-mul-level-at Inv-loop μ-loop
-mul-level-at c = search needs
-
 level-at-requires : tie.Need-level-at-requires Inv-loop μ-loop
 level-at-requires c κs = (c .before .before .before .pre .0, omega (arith, c .loop-test .taken))
 
-mul-level-at-2 : tie.Need-mul-level-at-2 Inv-loop μ-loop
-mul-level-at-2 c = search needs
-
-add-level-at : tie.Need-add-level-at Inv-loop μ-loop
-add-level-at c = search needs
-
 level-at-requires-2 : tie.Need-level-at-requires-2 Inv-loop μ-loop
 level-at-requires-2 c κs = (c .before .before .before .before .pre .0, omega (arith, c .before .loop-test .taken))
-
-mul-bids : tie.Need-mul-bids Inv-loop μ-loop
-mul-bids c = search needs
 
 index-1-bids : tie.Need-index-1-bids Inv-loop μ-loop
 index-1-bids c = omega (arith, c .before .before .before .loop .inv .long, c .before .before .loop-test .taken)
@@ -39,20 +27,11 @@ index-1-bids c = omega (arith, c .before .before .before .loop .inv .long, c .be
 index-2-bids : tie.Need-index-2-bids Inv-loop μ-loop
 index-2-bids c = omega (arith, c .before .before .before .loop .inv .rows (c .before .before .before .loop .s) (c .before .before .loop-test .taken))
 
-mul-offers : tie.Need-mul-offers Inv-loop μ-loop
-mul-offers c = search needs
-
 index-1-offers : tie.Need-index-1-offers Inv-loop μ-loop
 index-1-offers c = omega (arith, c .before .before .before .loop .inv .long, c .before .before .loop-test .taken)
 
 index-2-offers : tie.Need-index-2-offers Inv-loop μ-loop
 index-2-offers c = omega (arith, c .before .before .before .loop .inv .rows (c .before .before .before .loop .s) (c .before .before .loop-test .taken))
-
-add-s : tie.Need-add-s Inv-loop μ-loop
-add-s c = search needs
-
-loop-less : tie.Need-loop-less Inv-loop μ-loop
-loop-less c = search needs
 
 loop-again : tie.Need-loop-again Inv-loop μ-loop
 loop-again c = filling-turn _ _ _ (c .before .before .before .loop .inv) (c .before .before .loop-test .taken) _ _ (c .before .level-at .ensures) (c .level-at2 .ensures)
@@ -67,18 +46,18 @@ levels-spec =
     Inv-loop
     μ-loop
     loop-holds
-    mul-level-at
+    (λ c. search needs)
     level-at-requires
-    mul-level-at-2
-    add-level-at
+    (λ c. search needs)
+    (λ c. search needs)
     level-at-requires-2
-    mul-bids
+    (λ c. search needs)
     index-1-bids
     index-2-bids
-    mul-offers
+    (λ c. search needs)
     index-1-offers
     index-2-offers
-    add-s
-    loop-less
+    (λ c. search needs)
+    (λ c. search needs)
     loop-again
     returns)

@@ -22,9 +22,6 @@ regulars-used-requires c κs = c .before .before .before .clear-levels .kept .0 
 loop-holds : tie.Need-loop-holds Inv-loop μ-loop
 loop-holds c = making-start _ _ _ (c .regulars-used .ensures .0) (c .before .before .before .before .clear-levels .kept .0 ∙ c .before .before .before .before .before .before .before .pre) (c .before .before .before .before .clear-levels .ensures)
 
-sub-i : tie.Need-sub-i Inv-loop μ-loop
-sub-i c = search needs
-
 regular-at-requires : tie.Need-regular-at-requires Inv-loop μ-loop
 regular-at-requires c κs = let f = regulars-few (c .before .before .before .before .before .before .before .before .before .before .args .b .now) in (c .before .before .loop .inv .long, omega (arith, c .before .before .loop .inv .below, c .before .before .loop .inv .used))
 
@@ -39,9 +36,6 @@ with-order-requires c κs = rw (c .before .level-at .ensures) (making-bound _ _ 
 
 put-level-requires : tie.Need-put-level-requires Inv-loop μ-loop
 put-level-requires c κs = (c .before .before .before .before .before .before .before .before .before .loop .inv .long, key-few _ _ _ (c .before .before .before .before .key-at .ensures))
-
-loop-less : tie.Need-loop-less Inv-loop μ-loop
-loop-less c = search needs
 
 loop-again : tie.Need-loop-again Inv-loop μ-loop
 loop-again c = making-turn _ _ _ _ _ (c .before .before .before .before .before .before .before .before .before .before .before .before .loop .inv) (c .before .before .before .before .before .before .before .before .before .before .before .loop-test .taken) (c .before .before .before .before .before .before .before .before .before .regular-at .result) (c .before .before .before .before .before .before .before .before .before .regular-at .ensures) _ (c .before .before .before .before .before .before .before .key-at .ensures) _ _ (c .before .before .before .before .before .level-at .ensures) (c .before .before .before .with-order .ensures) (search needs) (c .before .before .put-level .kept .0) (c .before .before .put-level .ensures)
@@ -61,13 +55,13 @@ make-levels-spec =
     clear-levels-requires
     regulars-used-requires
     loop-holds
-    sub-i
+    (λ c. search needs)
     regular-at-requires
     key-at-requires
     level-at-requires
     with-order-requires
     put-level-requires
-    loop-less
+    (λ c. search needs)
     loop-again
     same-length
     returns)

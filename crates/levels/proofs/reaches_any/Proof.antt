@@ -9,12 +9,9 @@ returns : tie.Need-returns
 unfolding reachesAny
 returns c = simp (eq-eqb _ _ (c .if1 .taken))
 
-reaches-price-requires : tie.Need-reaches-price-requires
-reaches-price-requires c κs = search needs
-
 returns-2 : tie.Need-returns-2
 unfolding reachesAny
 returns-2 c = simp (ne-eqb _ _ (c .before .if1 .left)) (c .reaches-price .ensures)
 
 pub reaches-any-spec : {M : Type 1} → statement M
-reaches-any-spec = tie.close (tie.spec returns reaches-price-requires returns-2)
+reaches-any-spec = tie.close (tie.spec returns (λ c κs. search needs) returns-2)

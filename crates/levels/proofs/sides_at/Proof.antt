@@ -7,17 +7,8 @@ use borrow.Author.Needs.{needs}
 use Rattle.levels.proofs.sides_at.Statement.{statement}
 use Rattle.levels.proofs.sides_at.Tie as tie
 
-best-regular-requires : tie.Need-best-regular-requires
-best-regular-requires c κs = search needs
-
-opposite-of-requires : tie.Need-opposite-of-requires
-opposite-of-requires c κs = search needs
-
 best-regular-requires-2 : tie.Need-best-regular-requires-2
 best-regular-requires-2 c κs = let p = c .before .before .before .pre in (p .0, p .1, p .3, opposite-side _ _ (c .opposite-of .ensures))
-
-taken-at-requires : tie.Need-taken-at-requires
-taken-at-requires c κs = search needs
 
 returns : tie.Need-returns
 unfolding bestRegular
@@ -27,8 +18,8 @@ pub sides-at-spec : {M : Type 1} → statement M
 sides-at-spec =
     tie.close
     (tie.spec
-    best-regular-requires
-    opposite-of-requires
+    (λ c κs. search needs)
+    (λ c κs. search needs)
     best-regular-requires-2
-    taken-at-requires
+    (λ c κs. search needs)
     returns)

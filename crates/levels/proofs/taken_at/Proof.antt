@@ -7,20 +7,8 @@ use borrow.Author.Needs.{needs}
 use Rattle.levels.proofs.taken_at.Statement.{statement}
 use Rattle.levels.proofs.taken_at.Tie as tie
 
-opposite-of-requires : tie.Need-opposite-of-requires
-opposite-of-requires c κs = search needs
-
-place-of-requires : tie.Need-place-of-requires
-place-of-requires c κs = search needs
-
 level-at-requires : tie.Need-level-at-requires
 level-at-requires c κs = let p = c .before .before .before .pre in (p .0, place-low _ _ _ (p .2 .first) (opposite-side _ _ (c .before .opposite-of .ensures)) (c .place-of .ensures))
-
-opposite-of-requires-2 : tie.Need-opposite-of-requires-2
-opposite-of-requires-2 c κs = search needs
-
-place-of-requires-2 : tie.Need-place-of-requires-2
-place-of-requires-2 c κs = search needs
 
 level-at-requires-2 : tie.Need-level-at-requires-2
 level-at-requires-2 c κs = let p = c .before .before .before .before .before .before .pre in (p .0, place-low _ _ _ (p .2 .second) (opposite-side _ _ (c .before .opposite-of2 .ensures)) (c .place-of2 .ensures))
@@ -32,10 +20,10 @@ pub taken-at-spec : {M : Type 1} → statement M
 taken-at-spec =
     tie.close
     (tie.spec
-    opposite-of-requires
-    place-of-requires
+    (λ c κs. search needs)
+    (λ c κs. search needs)
     level-at-requires
-    opposite-of-requires-2
-    place-of-requires-2
+    (λ c κs. search needs)
+    (λ c κs. search needs)
     level-at-requires-2
     returns)

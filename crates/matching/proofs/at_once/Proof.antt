@@ -4,9 +4,6 @@ use borrow.Author.Needs.{needs}
 use Rattle.matching.proofs.at_once.Statement.{statement}
 use Rattle.matching.proofs.at_once.Tie as tie
 
-shown-of-requires : tie.Need-shown-of-requires
-shown-of-requires c κs = search needs
-
 returns : tie.Need-returns
 returns c = once-reserve _ _ (c .before .shown-of .ensures) (c .if1 .taken)
 
@@ -14,4 +11,4 @@ returns-2 : tie.Need-returns-2
 returns-2 c = once-size _ _ (c .before .shown-of .ensures) (c .if1 .left)
 
 pub at-once-spec : {M : Type 1} → statement M
-at-once-spec = tie.close (tie.spec shown-of-requires returns returns-2)
+at-once-spec = tie.close (tie.spec (λ c κs. search needs) returns returns-2)

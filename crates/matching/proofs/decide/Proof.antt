@@ -35,15 +35,6 @@ first-met-requires c κs =
     let p5 = p3 .before .before in
     (p5 .pre .0, p5 .pre .2, series-in (p5 .args .b .now) (p5 .args .i) _ (p3 .regular-at .ensures))
 
-enum-told : tie.Need-enum-told
-enum-told c = search needs
-
-legging-first-requires : tie.Need-legging-first-requires
-legging-first-requires c κs = search needs
-
-lesser-requires : tie.Need-lesser-requires
-lesser-requires c κs = search needs
-
 returns-2 : tie.Need-returns-2
 unfolding turnOf
 returns-2 c =
@@ -60,15 +51,6 @@ returns-2 c =
       tt,
     )
 
-enum-known-found : tie.Need-enum-known-found
-enum-known-found c = search needs
-
-legging-first-requires-2 : tie.Need-legging-first-requires-2
-legging-first-requires-2 c κs = search needs
-
-lesser-requires-2 : tie.Need-lesser-requires-2
-lesser-requires-2 c κs = search needs
-
 returns-3 : tie.Need-returns-3
 unfolding turnOf
 returns-3 c =
@@ -84,12 +66,6 @@ returns-3 c =
           (sym (p2 .legging-first2 .ensures) ∙ c .before .if3 .taken) (c .lesser2 .ensures),
       tt,
     )
-
-at-once-requires : tie.Need-at-once-requires
-at-once-requires c κs = search needs
-
-lesser-requires-3 : tie.Need-lesser-requires-3
-lesser-requires-3 c κs = search needs
 
 returns-4 : tie.Need-returns-4
 unfolding turnOf
@@ -132,15 +108,15 @@ decide-spec =
     returns
     facing-requires
     first-met-requires
-    enum-told
-    legging-first-requires
-    lesser-requires
+    (λ c. search needs)
+    (λ c κs. search needs)
+    (λ c κs. search needs)
     returns-2
-    enum-known-found
-    legging-first-requires-2
-    lesser-requires-2
+    (λ c. search needs)
+    (λ c κs. search needs)
+    (λ c κs. search needs)
     returns-3
-    at-once-requires
-    lesser-requires-3
+    (λ c κs. search needs)
+    (λ c κs. search needs)
     returns-4
     returns-5)

@@ -13,9 +13,6 @@ use borrow.Author.Needs.{needs}
 use Rattle.matching.proofs.enter_regular.Statement.{statement}
 use Rattle.matching.proofs.enter_regular.Tie as tie
 
-regulars-used-requires : tie.Need-regulars-used-requires
-regulars-used-requires c κs = search needs
-
 add-order-requires : tie.Need-add-order-requires
 add-order-requires c κs =
     let s = c .before .before .before .before .before in
@@ -28,12 +25,6 @@ meet-all-requires c κs =
     let s = p6 .before .before .before .before in
     let a = p4 .add-order .ensures .1 in
     (p4 .add-order .kept .0 ∙ s .pre .0, omega (arith, a .regulars, p6 .regulars-used .ensures .0), a .right (s .pre .1 .right))
-
-same-length : tie.Need-same-length
-same-length c = search needs
-
-same-length-2 : tie.Need-same-length-2
-same-length-2 c = search needs
 
 returns : tie.Need-returns
 returns c =
@@ -55,9 +46,9 @@ pub enter-regular-spec : {M : Type 1} → statement M
 enter-regular-spec =
     tie.close
     (tie.spec
-    regulars-used-requires
+    (λ c κs. search needs)
     add-order-requires
     meet-all-requires
-    same-length
-    same-length-2
+    (λ c. search needs)
+    (λ c. search needs)
     returns)

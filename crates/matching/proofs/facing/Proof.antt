@@ -8,12 +8,6 @@ use borrow.Author.Needs.{needs}
 use Rattle.matching.proofs.facing.Statement.{statement}
 use Rattle.matching.proofs.facing.Tie as tie
 
-opposite-of-requires : tie.Need-opposite-of-requires
-opposite-of-requires c κs = search needs
-
-place-of-requires : tie.Need-place-of-requires
-place-of-requires c κs = search needs
-
 legging-at-requires : tie.Need-legging-at-requires
 unfolding placeOf
 legging-at-requires c κs =
@@ -30,4 +24,4 @@ returns c =
 
 pub facing-spec : {M : Type 1} → statement M
 facing-spec =
-    tie.close (tie.spec opposite-of-requires place-of-requires legging-at-requires returns)
+    tie.close (tie.spec (λ c κs. search needs) (λ c κs. search needs) legging-at-requires returns)

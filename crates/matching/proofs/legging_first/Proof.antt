@@ -6,26 +6,14 @@ use borrow.Author.Needs.{needs}
 use Rattle.matching.proofs.legging_first.Statement.{statement}
 use Rattle.matching.proofs.legging_first.Tie as tie
 
-own-price-requires : tie.Need-own-price-requires
-own-price-requires c κs = search needs
-
 returns : tie.Need-returns
 returns c = first-none _ _ _ _ (c .before .own-price .ensures) (c .if1 .taken)
-
-reaches-price-requires : tie.Need-reaches-price-requires
-reaches-price-requires c κs = search needs
 
 returns-2 : tie.Need-returns-2
 returns-2 c =
     let p2 = c .before .before in
     let p3 = p2 .before in
     first-far _ _ _ _ (p3 .own-price .ensures) (p2 .if1 .left) (sym (c .before .reaches-price .ensures) ∙ not-true _ (c .if2 .taken))
-
-opposite-of-requires : tie.Need-opposite-of-requires
-opposite-of-requires c κs = search needs
-
-is-better-requires : tie.Need-is-better-requires
-is-better-requires c κs = search needs
 
 returns-3 : tie.Need-returns-3
 returns-3 c =
@@ -40,10 +28,10 @@ pub legging-first-spec : {M : Type 1} → statement M
 legging-first-spec =
     tie.close
     (tie.spec
-    own-price-requires
+    (λ c κs. search needs)
     returns
-    reaches-price-requires
+    (λ c κs. search needs)
     returns-2
-    opposite-of-requires
-    is-better-requires
+    (λ c κs. search needs)
+    (λ c κs. search needs)
     returns-3)

@@ -17,17 +17,11 @@ abbrev μ-loop : tie.MeasureT-loop
 loop-holds : tie.Need-loop-holds Inv-loop μ-loop
 loop-holds c = turning-start _ _ _ _ _ (c .before .before .pre .0)
 
-sub-turns : tie.Need-sub-turns Inv-loop μ-loop
-sub-turns c = search needs
-
 decide-requires : tie.Need-decide-requires Inv-loop μ-loop
 decide-requires c κs =
     let p2 = c .before .before in
     let p5 = p2 .before .before .before in
     (p2 .loop .inv .whole, rw (p2 .loop .inv .counts .regulars) (p5 .pre .1), p2 .loop .inv .counts .right (p5 .pre .2))
-
-enum-told : tie.Need-enum-told Inv-loop μ-loop
-enum-told c = search needs
 
 same-length : tie.Need-same-length Inv-loop μ-loop
 same-length c = c .before .before .before .before .before .loop .inv .whole ∙ sym (c .before .before .before .before .before .before .before .before .pre .0)
@@ -43,17 +37,11 @@ returns c =
     let p8 = p5 .before .before .before in
     turning-stop (p5 .loop .inv) (sym (ap (turnOf (p8 .args .i) (venueOf (p5 .loop .b))) (c .enum-told .given .1)) ∙ p2 .decide .ensures .0)
 
-enum-known-plan : tie.Need-enum-known-plan Inv-loop μ-loop
-enum-known-plan c = search needs
-
 hit-requires : tie.Need-hit-requires Inv-loop μ-loop
 hit-requires c κs =
     let p8 = c .before .before .before .before .before .before .before .before in
     let p11 = p8 .before .before .before in
     (p8 .loop .inv .whole, rw (p8 .loop .inv .counts .regulars) (p11 .pre .1), p8 .loop .inv .counts .right (p11 .pre .2))
-
-loop-less : tie.Need-loop-less Inv-loop μ-loop
-loop-less c = search needs
 
 loop-again : tie.Need-loop-again Inv-loop μ-loop
 unfolding turnOf
@@ -67,9 +55,6 @@ loop-again c =
     turning-turn (p13 .loop .inv) _ _ _ _ (p12 .loop-test .taken)
     (sym (ap (turnOf (p16 .args .i) (venueOf (p13 .loop .b))) (p8 .plan .given .1)) ∙ p10 .decide .ensures .0) (p4 .hit .kept .0) (p4 .hit .ensures)
 
-enum-known-plan-2 : tie.Need-enum-known-plan-2 Inv-loop μ-loop
-enum-known-plan-2 c = search needs
-
 meet-requires : tie.Need-meet-requires Inv-loop μ-loop
 meet-requires c κs =
     let p3 = c .before .before .before in
@@ -77,9 +62,6 @@ meet-requires c κs =
     let p8 = p5 .before .before .before in
     let p11 = p8 .before .before .before in
     (p8 .loop .inv .whole, rw (p8 .loop .inv .counts .regulars) (p11 .pre .1), rw (p3 .plan2 .given .1) at (p5 .decide .ensures .1))
-
-loop-less-2 : tie.Need-loop-less-2 Inv-loop μ-loop
-loop-less-2 c = search needs
 
 loop-again-2 : tie.Need-loop-again-2 Inv-loop μ-loop
 unfolding turnOf
@@ -109,19 +91,19 @@ meet-all-spec =
     Inv-loop
     μ-loop
     loop-holds
-    sub-turns
+    (λ c. search needs)
     decide-requires
-    enum-told
+    (λ c. search needs)
     same-length
     same-length-2
     returns
-    enum-known-plan
+    (λ c. search needs)
     hit-requires
-    loop-less
+    (λ c. search needs)
     loop-again
-    enum-known-plan-2
+    (λ c. search needs)
     meet-requires
-    loop-less-2
+    (λ c. search needs)
     loop-again-2
     same-length-3
     same-length-4

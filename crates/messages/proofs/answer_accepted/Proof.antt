@@ -7,29 +7,11 @@ use borrow.Author.Needs.{needs}
 use Rattle.messages.proofs.answer_accepted.Statement.{statement}
 use Rattle.messages.proofs.answer_accepted.Tie as tie
 
-emit-answer-requires : tie.Need-emit-answer-requires
-emit-answer-requires c κs = search needs
-
-accept-requires : tie.Need-accept-requires
-accept-requires c κs = search needs
-
 mask-of-requires : tie.Need-mask-of-requires
 mask-of-requires c κs =
     let p5 = c .before .before .before .before .before in
     let s = p5 .before .before .before .before .before .before .before .before .before in
     (p5 .accept .kept .0 ∙ s .pre .0, p5 .accept .ensures .1 .right)
-
-count-of-requires : tie.Need-count-of-requires
-count-of-requires c κs = search needs
-
-set-answer-requires : tie.Need-set-answer-requires
-set-answer-requires c κs = search needs
-
-same-length : tie.Need-same-length
-same-length c = search needs
-
-same-length-2 : tie.Need-same-length-2
-same-length-2 c = search needs
 
 returns : tie.Need-returns
 unfolding answered
@@ -39,11 +21,11 @@ pub answer-accepted-spec : {M : Type 1} → statement M
 answer-accepted-spec =
     tie.close
     (tie.spec
-    emit-answer-requires
-    accept-requires
+    (λ c κs. search needs)
+    (λ c κs. search needs)
     mask-of-requires
-    count-of-requires
-    set-answer-requires
-    same-length
-    same-length-2
+    (λ c κs. search needs)
+    (λ c κs. search needs)
+    (λ c. search needs)
+    (λ c. search needs)
     returns)

@@ -18,9 +18,6 @@ abbrev μ-loop : tie.MeasureT-loop
 loop-holds : tie.Need-loop-holds Inv-loop μ-loop
 loop-holds c = (zero-le, (paste-zero _ 0 (c .args .from .now), refl))
 
-mul-to : tie.Need-mul-to Inv-loop μ-loop
-mul-to c = search needs
-
 shared-slice-read-to : tie.Need-shared-slice-read-to Inv-loop μ-loop
 shared-slice-read-to c = omega arith
 
@@ -52,7 +49,7 @@ copy-spec =
     Inv-loop
     μ-loop
     loop-holds
-    mul-to
+    (λ c. search needs)
     shared-slice-read-to
     mul-to-2
     slice-write-to

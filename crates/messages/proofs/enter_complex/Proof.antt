@@ -11,17 +11,8 @@ use borrow.Author.Needs.{needs}
 use Rattle.messages.proofs.enter_complex.Statement.{statement}
 use Rattle.messages.proofs.enter_complex.Tie as tie
 
-put-last-requires : tie.Need-put-last-requires
-put-last-requires c κs = search needs
-
 complex-order-requires : tie.Need-complex-order-requires
 complex-order-requires c κs = let s = c .before .before .before .before .before .before .before .before in let p = c .before .before .before .before .put-last .ensures in let k = p .1 .complexes in let h = s .pre .2 in (c .before .before .before .before .put-last .kept .0 ∙ s .pre .0, last-dense _ _ _ (p .0) (p .1) (s .pre .1), omega arith, s .pre .3)
-
-same-length : tie.Need-same-length
-same-length c = search needs
-
-same-length-2 : tie.Need-same-length-2
-same-length-2 c = search needs
 
 returns : tie.Need-returns
 returns c =
@@ -34,4 +25,4 @@ returns c =
 
 pub enter-complex-spec : {M : Type 1} → statement M
 enter-complex-spec =
-    tie.close (tie.spec put-last-requires complex-order-requires same-length same-length-2 returns)
+    tie.close (tie.spec (λ c κs. search needs) complex-order-requires (λ c. search needs) (λ c. search needs) returns)

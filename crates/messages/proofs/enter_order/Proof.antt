@@ -14,9 +14,6 @@ use borrow.Author.Needs.{needs}
 use Rattle.messages.proofs.enter_order.Statement.{statement}
 use Rattle.messages.proofs.enter_order.Tie as tie
 
-put-last-requires : tie.Need-put-last-requires
-put-last-requires c κs = search needs
-
 order-requires : tie.Need-order-requires
 order-requires c κs =
     let s = c .before .before .before .before .before .before .before .before in
@@ -38,12 +35,6 @@ order-requires c κs =
       f,
     )
 
-same-length : tie.Need-same-length
-same-length c = search needs
-
-same-length-2 : tie.Need-same-length-2
-same-length-2 c = search needs
-
 returns : tie.Need-returns
 returns c =
     let k = c .before .before .before .before .order .ensures in
@@ -55,4 +46,4 @@ returns c =
 
 pub enter-order-spec : {M : Type 1} → statement M
 enter-order-spec =
-    tie.close (tie.spec put-last-requires order-requires same-length same-length-2 returns)
+    tie.close (tie.spec (λ c κs. search needs) order-requires (λ c. search needs) (λ c. search needs) returns)

@@ -17,23 +17,11 @@ use borrow.Author.Needs.{needs}
 use Rattle.messages.proofs.perform.Statement.{statement}
 use Rattle.messages.proofs.perform.Tie as tie
 
-message-form-requires : tie.Need-message-form-requires
-message-form-requires c κs = search needs
-
 perform-later-requires : tie.Need-perform-later-requires
 perform-later-requires c κs = let s = c .before .before .before .before .before .before in let e = c .before .before .before .message-form .ensures in (s .pre .0, omega arith, s .pre .2, s .pre .3, s .pre .1, s .pre .4)
 
-same-length : tie.Need-same-length
-same-length c = search needs
-
-same-length-2 : tie.Need-same-length-2
-same-length-2 c = search needs
-
 returns : tie.Need-returns
 returns c = let s = c .before .before .before .before .before .before .before .before .before .before .before in let k = c .before .before .before .before .perform-later .ensures in (k .0, k .1 .right (s .pre .1 .right))
-
-enum-known-m : tie.Need-enum-known-m
-enum-known-m c = search needs
 
 enter-order-requires : tie.Need-enter-order-requires
 unfolding wellFormed Shows
@@ -43,44 +31,20 @@ enter-order-requires c κs =
     let r = sym (ap (refusalOf (venueOf (s .args .b .now))) e) ∙ s .pre .3 in
     (s .pre .0, s .pre .1, order-room _ (s .pre .1) _ r, sym (ap wellFormed e) ∙ s .pre .2, s .pre .5 _ e, order-below (venueOf (s .args .b .now)) _ r (s .pre .4 .is))
 
-enum-known-m-2 : tie.Need-enum-known-m-2
-enum-known-m-2 c = search needs
-
 enter-complex-requires : tie.Need-enter-complex-requires
 unfolding wellFormed
 enter-complex-requires c κs = let s = c .before .before .before .before .before .before .before .before .before .before in let e = c .before .before .before .m2 .given .1 in (s .pre .0, s .pre .1, complex-room _ (s .pre .1) _ (sym (ap (refusalOf (venueOf (s .args .b .now))) e) ∙ s .pre .3), legs-in _ (sym (ap wellFormed e) ∙ s .pre .2))
 
-enum-known-m-3 : tie.Need-enum-known-m-3
-enum-known-m-3 c = search needs
-
 cancel-requires : tie.Need-cancel-requires
 cancel-requires c κs = let s = c .before .before .before .before .before .before .before .before .before .before in let e = c .before .before .before .m3 .given .1 in (s .pre .0, s .pre .1, cancel-known _ _ (sym (ap (refusalOf (venueOf (s .args .b .now))) e) ∙ s .pre .3))
-
-same-length-3 : tie.Need-same-length-3
-same-length-3 c = search needs
-
-same-length-4 : tie.Need-same-length-4
-same-length-4 c = search needs
 
 returns-2 : tie.Need-returns-2
 unfolding perform
 returns-2 c = let s = c .before .before .before .before .before .before .before .before .before .before .before .before .before .before .before in let k = c .before .before .before .before .enter-order .ensures in (k .0 ∙ ap (λ (x : Message). seen (s .args .out .now) (s .args .at) does perform (s .args .number) x (venueOf (s .args .b .now))) (sym (c .before .before .before .before .before .before .before .before .m .given .1)), k .1)
 
-same-length-5 : tie.Need-same-length-5
-same-length-5 c = search needs
-
-same-length-6 : tie.Need-same-length-6
-same-length-6 c = search needs
-
 returns-3 : tie.Need-returns-3
 unfolding perform
 returns-3 c = let s = c .before .before .before .before .before .before .before .before .before .before .before .before .before .before .before in let k = c .before .before .before .before .enter-complex .ensures in (k .0 ∙ ap (λ (x : Message). seen (s .args .out .now) (s .args .at) does perform (s .args .number) x (venueOf (s .args .b .now))) (sym (c .before .before .before .before .before .before .before .before .m2 .given .1)), k .1)
-
-same-length-7 : tie.Need-same-length-7
-same-length-7 c = search needs
-
-same-length-8 : tie.Need-same-length-8
-same-length-8 c = search needs
 
 returns-4 : tie.Need-returns-4
 unfolding perform
@@ -89,14 +53,8 @@ returns-4 c = let s = c .before .before .before .before .before .before .before 
 returns-5 : tie.Need-returns-5
 returns-5 c = let k = kinds-left (c .before .before .before .before .before .before .args .m) (c .match .keys4) in let e = c .before .before .before .message-form .ensures in absurd (omega arith)
 
-enum-known-m-4 : tie.Need-enum-known-m-4
-enum-known-m-4 c = search needs
-
 set-away-requires : tie.Need-set-away-requires
 set-away-requires c κs = let s = c .before .before .before .before .before .before .before .before .before .before in let e = c .before .before .before .m4 .given .1 in (s .pre .0, away-series _ _ _ (sym (ap wellFormed e) ∙ s .pre .2), s .pre .1 .right)
-
-enum-known-m-5 : tie.Need-enum-known-m-5
-enum-known-m-5 c = search needs
 
 set-status-requires : tie.Need-set-status-requires
 set-status-requires c κs = let s = c .before .before .before .before .before .before .before .before .before .before in let e = c .before .before .before .m5 .given .1 in (s .pre .0, status-series _ _ (sym (ap wellFormed e) ∙ s .pre .2), s .pre .1 .right)
@@ -104,31 +62,13 @@ set-status-requires c κs = let s = c .before .before .before .before .before .b
 sweep-requires : tie.Need-sweep-requires
 sweep-requires c κs = let s = c .before .before .before .before .before .before .before .before in (s .pre .0, s .pre .1 .right, sound-rising _ (s .pre .4 .is))
 
-same-length-9 : tie.Need-same-length-9
-same-length-9 c = search needs
-
-same-length-10 : tie.Need-same-length-10
-same-length-10 c = search needs
-
 returns-6 : tie.Need-returns-6
 unfolding perform
 returns-6 c = let s = c .before .before .before .before .before .before .before .before .before .before .before .before .before .before .before in let k = c .before .before .before .before .set-away .ensures in (k .0 ∙ ap (λ (x : Message). seen (s .args .out .now) (s .args .at) does perform (s .args .number) x (venueOf (s .args .b .now))) (sym (c .before .before .before .before .before .before .before .before .m4 .given .1)), k .1 .right (s .pre .1 .right))
 
-same-length-11 : tie.Need-same-length-11
-same-length-11 c = search needs
-
-same-length-12 : tie.Need-same-length-12
-same-length-12 c = search needs
-
 returns-7 : tie.Need-returns-7
 unfolding perform
 returns-7 c = let s = c .before .before .before .before .before .before .before .before .before .before .before .before .before .before .before in let k = c .before .before .before .before .set-status .ensures in (k .0 ∙ ap (λ (x : Message). seen (s .args .out .now) (s .args .at) does perform (s .args .number) x (venueOf (s .args .b .now))) (sym (c .before .before .before .before .before .before .before .before .m5 .given .1)), k .1 .right (s .pre .1 .right))
-
-same-length-13 : tie.Need-same-length-13
-same-length-13 c = search needs
-
-same-length-14 : tie.Need-same-length-14
-same-length-14 c = search needs
 
 returns-8 : tie.Need-returns-8
 unfolding perform
@@ -138,38 +78,38 @@ pub perform-spec : {M : Type 1} → statement M
 perform-spec =
     tie.close
     (tie.spec
-    message-form-requires
+    (λ c κs. search needs)
     perform-later-requires
-    same-length
-    same-length-2
+    (λ c. search needs)
+    (λ c. search needs)
     returns
-    enum-known-m
+    (λ c. search needs)
     enter-order-requires
-    enum-known-m-2
+    (λ c. search needs)
     enter-complex-requires
-    enum-known-m-3
+    (λ c. search needs)
     cancel-requires
-    same-length-3
-    same-length-4
+    (λ c. search needs)
+    (λ c. search needs)
     returns-2
-    same-length-5
-    same-length-6
+    (λ c. search needs)
+    (λ c. search needs)
     returns-3
-    same-length-7
-    same-length-8
+    (λ c. search needs)
+    (λ c. search needs)
     returns-4
     returns-5
-    enum-known-m-4
+    (λ c. search needs)
     set-away-requires
-    enum-known-m-5
+    (λ c. search needs)
     set-status-requires
     sweep-requires
-    same-length-9
-    same-length-10
+    (λ c. search needs)
+    (λ c. search needs)
     returns-6
-    same-length-11
-    same-length-12
+    (λ c. search needs)
+    (λ c. search needs)
     returns-7
-    same-length-13
-    same-length-14
+    (λ c. search needs)
+    (λ c. search needs)
     returns-8)

@@ -17,49 +17,22 @@ use borrow.Author.Needs.{needs}
 use Rattle.messages.proofs.perform_later.Statement.{statement}
 use Rattle.messages.proofs.perform_later.Tie as tie
 
-enum-known-m : tie.Need-enum-known-m
-enum-known-m c = search needs
-
 set-figure-requires : tie.Need-set-figure-requires
 set-figure-requires c κs = let s = c .before .before .before .before .before .before .before in let e = c .before .before .before .m .given .1 in (s .pre .0, increment-place _ _ _ _ (sym (ap (refusalOf (venueOf (s .args .b .now))) e) ∙ s .pre .3), inl (increment-set _ _ _ (sym (ap wellFormed e) ∙ s .pre .2) .1), s .pre .4 .right)
-
-enum-known-m-2 : tie.Need-enum-known-m-2
-enum-known-m-2 c = search needs
 
 set-figure-requires-2 : tie.Need-set-figure-requires-2
 set-figure-requires-2 c κs = let s = c .before .before .before .before .before .before .before in let e = c .before .before .before .m2 .given .1 in (s .pre .0, percent-place _ _ _ (sym (ap (refusalOf (venueOf (s .args .b .now))) e) ∙ s .pre .3), inr (omega arith), s .pre .4 .right)
 
-enum-known-m-3 : tie.Need-enum-known-m-3
-enum-known-m-3 c = search needs
-
 limited-sweep-requires : tie.Need-limited-sweep-requires
 limited-sweep-requires c κs = let s = c .before .before .before .before .before .before .before in (s .pre .0, s .pre .4, sound-rising _ (s .pre .5 .is))
-
-same-length : tie.Need-same-length
-same-length c = search needs
-
-same-length-2 : tie.Need-same-length-2
-same-length-2 c = search needs
 
 returns : tie.Need-returns
 unfolding perform
 returns c = let s = c .before .before .before .before .before .before .before .before .before .before .before .before in let k = c .before .before .before .before .set-figure .ensures in (k .0 ∙ ap (λ (x : Message). seen (s .args .out .now) (s .args .at) does perform (s .args .number) x (venueOf (s .args .b .now))) (sym (c .before .before .before .before .before .before .before .before .m .given .1)), k .1)
 
-same-length-3 : tie.Need-same-length-3
-same-length-3 c = search needs
-
-same-length-4 : tie.Need-same-length-4
-same-length-4 c = search needs
-
 returns-2 : tie.Need-returns-2
 unfolding perform
 returns-2 c = let s = c .before .before .before .before .before .before .before .before .before .before .before .before in let k = c .before .before .before .before .set-figure2 .ensures in (k .0 ∙ ap (λ (x : Message). seen (s .args .out .now) (s .args .at) does perform (s .args .number) x (venueOf (s .args .b .now))) (sym (c .before .before .before .before .before .before .before .before .m2 .given .1)), k .1)
-
-same-length-5 : tie.Need-same-length-5
-same-length-5 c = search needs
-
-same-length-6 : tie.Need-same-length-6
-same-length-6 c = search needs
 
 returns-3 : tie.Need-returns-3
 unfolding perform
@@ -72,19 +45,19 @@ pub perform-later-spec : {M : Type 1} → statement M
 perform-later-spec =
     tie.close
     (tie.spec
-    enum-known-m
+    (λ c. search needs)
     set-figure-requires
-    enum-known-m-2
+    (λ c. search needs)
     set-figure-requires-2
-    enum-known-m-3
+    (λ c. search needs)
     limited-sweep-requires
-    same-length
-    same-length-2
+    (λ c. search needs)
+    (λ c. search needs)
     returns
-    same-length-3
-    same-length-4
+    (λ c. search needs)
+    (λ c. search needs)
     returns-2
-    same-length-5
-    same-length-6
+    (λ c. search needs)
+    (λ c. search needs)
     returns-3
     returns-4)

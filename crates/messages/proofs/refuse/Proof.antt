@@ -10,15 +10,6 @@ use Rattle.messages.proofs.refuse.Tie as tie
 mask-of-requires : tie.Need-mask-of-requires
 mask-of-requires c κs = let s = c .before .before in (s .pre .0, s .pre .1 .right)
 
-count-of-requires : tie.Need-count-of-requires
-count-of-requires c κs = search needs
-
-emit-answer-requires : tie.Need-emit-answer-requires
-emit-answer-requires c κs = search needs
-
-same-length : tie.Need-same-length
-same-length c = search needs
-
 returns : tie.Need-returns
 unfolding answered
 returns c = let s = c .before .before .before .before .before .before .before .before in record { refused = refl; staged = refuse-law (venueOf (s .args .b .now)) _ _ _ _ _ _ _ (c .before .before .before .before .before .mask-of .ensures) (c .before .before .before .before .count-of .ensures) (c .before .before .emit-answer .ensures); dense = s .pre .1 }
@@ -26,4 +17,4 @@ returns c = let s = c .before .before .before .before .before .before .before .b
 pub refuse-spec : {M : Type 1} → statement M
 refuse-spec =
     tie.close
-    (tie.spec mask-of-requires count-of-requires emit-answer-requires same-length returns)
+    (tie.spec mask-of-requires (λ c κs. search needs) (λ c κs. search needs) (λ c. search needs) returns)

@@ -11,23 +11,11 @@ use borrow.Author.Needs.{needs}
 use Rattle.messages.proofs.set_away.Statement.{statement}
 use Rattle.messages.proofs.set_away.Tie as tie
 
-status-of-requires : tie.Need-status-of-requires
-status-of-requires c κs = search needs
-
-put-listed-requires : tie.Need-put-listed-requires
-put-listed-requires c κs = search needs
-
 settle-all-requires : tie.Need-settle-all-requires
 settle-all-requires c κs =
     let p4 = c .before .before .before .before in
     let s = p4 .before .before .before .before .before .before in
     (p4 .put-listed .kept .0 ∙ s .pre .0, p4 .put-listed .ensures .1 .right (s .pre .2))
-
-same-length : tie.Need-same-length
-same-length c = search needs
-
-same-length-2 : tie.Need-same-length-2
-same-length-2 c = search needs
 
 returns : tie.Need-returns
 returns c = let s = c .before .before .before .before .before .before .before .before .before .before .before .before .before .before .before in let p = c .before .before .before .before .before .before .before .before .before .put-listed .ensures in let q = c .before .before .before .before .settle-all .ensures in (q .0 ∙ ap (λ (w : Venue). seen (s .args .out .now) (s .args .at) does settle w) (away-set (venueOf (s .args .b .now)) _ (s .args .s) _ _ _ (c .before .before .before .before .before .before .before .before .before .before .before .status-of .ensures) (p .0)), counts-on _ _ _ (p .1) (q .1))
@@ -36,9 +24,9 @@ pub set-away-spec : {M : Type 1} → statement M
 set-away-spec =
     tie.close
     (tie.spec
-    status-of-requires
-    put-listed-requires
+    (λ c κs. search needs)
+    (λ c κs. search needs)
     settle-all-requires
-    same-length
-    same-length-2
+    (λ c. search needs)
+    (λ c. search needs)
     returns)

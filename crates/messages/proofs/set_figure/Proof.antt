@@ -12,9 +12,6 @@ use borrow.Author.Needs.{needs}
 use Rattle.messages.proofs.set_figure.Statement.{statement}
 use Rattle.messages.proofs.set_figure.Tie as tie
 
-free-edition-requires : tie.Need-free-edition-requires
-free-edition-requires c κs = search needs
-
 put-edition-requires : tie.Need-put-edition-requires
 put-edition-requires c κs = let s = c .before .before .before .before .before in let e = c .before .free-edition .ensures in let h = s .pre .1 in (s .pre .0, omega arith, place-free (s .args .b .now) _ e h, s .pre .2)
 
@@ -23,12 +20,6 @@ settle-all-requires c κs =
     let p4 = c .before .before .before .before in
     let s = p4 .before .before .before .before .before .before in
     (p4 .put-edition .kept .0 ∙ s .pre .0, p4 .put-edition .ensures .1 .right (s .pre .3))
-
-same-length : tie.Need-same-length
-same-length c = search needs
-
-same-length-2 : tie.Need-same-length-2
-same-length-2 c = search needs
 
 returns : tie.Need-returns
 returns c =
@@ -45,9 +36,9 @@ pub set-figure-spec : {M : Type 1} → statement M
 set-figure-spec =
     tie.close
     (tie.spec
-    free-edition-requires
+    (λ c κs. search needs)
     put-edition-requires
     settle-all-requires
-    same-length
-    same-length-2
+    (λ c. search needs)
+    (λ c. search needs)
     returns)

@@ -14,17 +14,8 @@ use Rattle.orders.proofs.cancel.Lts as lts
 use Rattle.orders.proofs.withdraw.Reads as withdraw-reads
 use Rattle.settling.proofs.settle_all.Reads as settle-all-reads
 
-withdraw-requires : tie.Need-withdraw-requires
-withdraw-requires c κs = search needs
-
 settle-all-requires : tie.Need-settle-all-requires
 settle-all-requires c κs = let w = c .before .before .before .before .before .before .withdraw in let s = c .before .before .before .before .before .before .before .before .before .before .before in (w .kept .0 ∙ s .pre .0, w .ensures .1 .right (s .pre .1 .right))
-
-same-length : tie.Need-same-length
-same-length c = search needs
-
-same-length-2 : tie.Need-same-length-2
-same-length-2 c = search needs
 
 returns : tie.Need-returns
 unfolding cancel withdrawn
@@ -32,4 +23,4 @@ returns c = (follow _ (withdrawn (c .before .before .before .before .before .bef
 
 pub cancel-spec : {M : Type 1} → statement M
 cancel-spec =
-    tie.close (tie.spec withdraw-requires settle-all-requires same-length same-length-2 returns)
+    tie.close (tie.spec (λ c κs. search needs) settle-all-requires (λ c. search needs) (λ c. search needs) returns)

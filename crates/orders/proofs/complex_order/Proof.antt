@@ -11,12 +11,6 @@ use borrow.Author.Needs.{needs}
 use Rattle.orders.proofs.complex_order.Statement.{statement}
 use Rattle.orders.proofs.complex_order.Tie as tie
 
-complexes-used-requires : tie.Need-complexes-used-requires
-complexes-used-requires c κs = search needs
-
-add-complex-requires : tie.Need-add-complex-requires
-add-complex-requires c κs = search needs
-
 work-requires : tie.Need-work-requires
 work-requires c κs =
     let a = c .before .before .before .before .add-complex in
@@ -38,12 +32,6 @@ generate-order-requires c κs =
     let s = c .before .before .before .before .before .before .before .before .before .before .before .before .before .before .before .before .before .before .before .before .before .before .before .before in
     (x .kept .0 ∙ w .kept .0 ∙ a .kept .0 ∙ s .pre .0, x .ensures .1 .right (w .ensures .1 .right (a .ensures .1 .right (s .pre .1 .right))))
 
-same-length : tie.Need-same-length
-same-length c = search needs
-
-same-length-2 : tie.Need-same-length-2
-same-length-2 c = search needs
-
 returns : tie.Need-returns
 returns c =
     let g = c .before .before .before .before .generate-order in
@@ -61,11 +49,11 @@ pub complex-order-spec : {M : Type 1} → statement M
 complex-order-spec =
     tie.close
     (tie.spec
-    complexes-used-requires
-    add-complex-requires
+    (λ c κs. search needs)
+    (λ c κs. search needs)
     work-requires
     settle-all-requires
     generate-order-requires
-    same-length
-    same-length-2
+    (λ c. search needs)
+    (λ c. search needs)
     returns)

@@ -19,12 +19,6 @@ enter-regular-requires c κs = c .before .before .before .before .pre
 settle-all-requires : tie.Need-settle-all-requires
 settle-all-requires c κs = let w = c .before .before .before .before .before .before .enter-regular in let s = c .before .before .before .before .before .before .before .before .before .before .before in (w .kept .0 ∙ s .pre .0, w .ensures .1 .right (s .pre .1 .right))
 
-same-length : tie.Need-same-length
-same-length c = search needs
-
-same-length-2 : tie.Need-same-length-2
-same-length-2 c = search needs
-
 returns : tie.Need-returns
 unfolding order
 returns c = (follow _ (enterRegular (c .before .before .before .before .before .before .before .before .before .before .before .before .before .before .before .before .args .o) (venueOf (c .before .before .before .before .before .before .before .before .before .before .before .before .before .before .before .before .args .b .now))) settle _ _ _ _ _ _ (c .before .before .before .before .before .before .before .before .before .before .before .enter-regular .ensures .0) (c .before .before .before .before .settle-all .ensures .0), counts-more _ _ _ _ _ (c .before .before .before .before .before .before .before .before .before .before .before .enter-regular .ensures .1) (c .before .before .before .before .settle-all .ensures .1))
@@ -32,4 +26,4 @@ returns c = (follow _ (enterRegular (c .before .before .before .before .before .
 pub order-spec : {M : Type 1} → statement M
 order-spec =
     tie.close
-    (tie.spec enter-regular-requires settle-all-requires same-length same-length-2 returns)
+    (tie.spec enter-regular-requires settle-all-requires (λ c. search needs) (λ c. search needs) returns)

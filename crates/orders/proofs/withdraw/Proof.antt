@@ -16,35 +16,14 @@ use Rattle.book.proofs.regular_place.Reads as regular-place-reads
 use Rattle.orders.proofs.withdraw_complex.Reads as withdraw-complex-reads
 use Rattle.trades.proofs.cancel_regular.Reads as cancel-regular-reads
 
-regular-place-requires : tie.Need-regular-place-requires
-regular-place-requires c κs = search needs
-
-enum-known-found : tie.Need-enum-known-found
-enum-known-found c = search needs
-
-enum-told : tie.Need-enum-told
-enum-told c = search needs
-
 withdraw-complex-requires : tie.Need-withdraw-complex-requires
 withdraw-complex-requires c κs = (c .before .before .before .before .before .before .before .before .pre .0, or-r (restsRegular (venueOf (c .before .before .before .before .before .before .before .before .args .b .now)) (c .before .before .before .before .before .before .before .before .args .id)) (restsComplex (venueOf (c .before .before .before .before .before .before .before .before .args .b .now)) (c .before .before .before .before .before .before .before .before .args .id)) (regular-not (c .before .before .before .before .before .before .before .before .args .b .now) (c .before .before .before .before .before .before .before .before .args .id) (sym (c .before .before .enum-told .given .1) ∙ c .before .before .before .before .regular-place .ensures)) (c .before .before .before .before .before .before .before .before .pre .2))
-
-same-length : tie.Need-same-length
-same-length c = search needs
-
-same-length-2 : tie.Need-same-length-2
-same-length-2 c = search needs
 
 returns : tie.Need-returns
 returns c = (c .before .before .before .before .withdraw-complex .ensures .0 ∙ ap (λ (e : Effect). seen (c .before .before .before .before .before .before .before .before .before .before .before .before .before .args .out .now) (c .before .before .before .before .before .before .before .before .before .before .before .before .before .args .at) does e) (withdraw-other _ _ (regular-not (c .before .before .before .before .before .before .before .before .before .before .before .before .before .args .b .now) (c .before .before .before .before .before .before .before .before .before .before .before .before .before .args .id) (sym (c .before .before .before .before .before .before .before .enum-told .given .1) ∙ c .before .before .before .before .before .before .before .before .before .regular-place .ensures))), c .before .before .before .before .withdraw-complex .ensures .1)
 
 cancel-regular-requires : tie.Need-cancel-regular-requires
 cancel-regular-requires c κs = (c .before .before .before .before .before .before .before .before .before .pre .0, regular-used (c .before .before .before .before .before .before .before .before .before .args .b .now) (c .before .before .before .before .before .before .before .before .before .args .id) _ (sym (c .before .before .before .found .given .1) ∙ c .before .before .before .before .before .regular-place .ensures))
-
-same-length-3 : tie.Need-same-length-3
-same-length-3 c = search needs
-
-same-length-4 : tie.Need-same-length-4
-same-length-4 c = search needs
 
 returns-2 : tie.Need-returns-2
 returns-2 c = (c .before .before .before .before .cancel-regular .ensures .0 ∙ ap (λ (e : Effect). seen (c .before .before .before .before .before .before .before .before .before .before .before .before .before .before .args .out .now) (c .before .before .before .before .before .before .before .before .before .before .before .before .before .before .args .at) does e) (withdraw-regular _ _ _ (regular-found (c .before .before .before .before .before .before .before .before .before .before .before .before .before .before .args .b .now) (c .before .before .before .before .before .before .before .before .before .before .before .before .before .before .args .id) _ (sym (c .before .before .before .before .before .before .before .before .found .given .1) ∙ c .before .before .before .before .before .before .before .before .before .before .regular-place .ensures))), c .before .before .before .before .cancel-regular .ensures .1)
@@ -53,14 +32,14 @@ pub withdraw-spec : {M : Type 1} → statement M
 withdraw-spec =
     tie.close
     (tie.spec
-    regular-place-requires
-    enum-known-found
-    enum-told
+    (λ c κs. search needs)
+    (λ c. search needs)
+    (λ c. search needs)
     withdraw-complex-requires
-    same-length
-    same-length-2
+    (λ c. search needs)
+    (λ c. search needs)
     returns
     cancel-regular-requires
-    same-length-3
-    same-length-4
+    (λ c. search needs)
+    (λ c. search needs)
     returns-2)

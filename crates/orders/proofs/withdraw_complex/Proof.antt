@@ -15,29 +15,11 @@ use Rattle.orders.proofs.withdraw_complex.Lts as lts
 use Rattle.book.proofs.complex_place.Reads as complex-place-reads
 use Rattle.trades.proofs.cancel_complex.Reads as cancel-complex-reads
 
-complex-place-requires : tie.Need-complex-place-requires
-complex-place-requires c κs = search needs
-
-enum-known-found : tie.Need-enum-known-found
-enum-known-found c = search needs
-
-enum-told : tie.Need-enum-told
-enum-told c = search needs
-
-same-length : tie.Need-same-length
-same-length c = search needs
-
 returns : tie.Need-returns
 returns c = absurd (true≢false (sym (c .before .before .before .before .before .before .pre .1) ∙ complex-not (c .before .before .before .before .before .before .args .b .now) (c .before .before .before .before .before .before .args .id) (sym (c .enum-told .given .1) ∙ c .before .before .complex-place .ensures)))
 
 cancel-complex-requires : tie.Need-cancel-complex-requires
 cancel-complex-requires c κs = (c .before .before .before .before .before .before .before .before .before .pre .0, complex-used (c .before .before .before .before .before .before .before .before .before .args .b .now) (c .before .before .before .before .before .before .before .before .before .args .id) _ (sym (c .before .before .before .found .given .1) ∙ c .before .before .before .before .before .complex-place .ensures))
-
-same-length-2 : tie.Need-same-length-2
-same-length-2 c = search needs
-
-same-length-3 : tie.Need-same-length-3
-same-length-3 c = search needs
 
 returns-2 : tie.Need-returns-2
 returns-2 c = (c .before .before .before .before .cancel-complex .ensures .0 ∙ ap (λ (k : ℕ). seen (c .before .before .before .before .before .before .before .before .before .before .before .before .before .before .args .out .now) (c .before .before .before .before .before .before .before .before .before .before .before .before .before .before .args .at) does cancelComplex k (venueOf (c .before .before .before .before .before .before .before .before .before .before .before .before .before .before .args .b .now))) (sym (complex-found (c .before .before .before .before .before .before .before .before .before .before .before .before .before .before .args .b .now) (c .before .before .before .before .before .before .before .before .before .before .before .before .before .before .args .id) _ (sym (c .before .before .before .before .before .before .before .before .found .given .1) ∙ c .before .before .before .before .before .before .before .before .before .before .complex-place .ensures) .1)), c .before .before .before .before .cancel-complex .ensures .1)
@@ -46,12 +28,12 @@ pub withdraw-complex-spec : {M : Type 1} → statement M
 withdraw-complex-spec =
     tie.close
     (tie.spec
-    complex-place-requires
-    enum-known-found
-    enum-told
-    same-length
+    (λ c κs. search needs)
+    (λ c. search needs)
+    (λ c. search needs)
+    (λ c. search needs)
     returns
     cancel-complex-requires
-    same-length-2
-    same-length-3
+    (λ c. search needs)
+    (λ c. search needs)
     returns-2)

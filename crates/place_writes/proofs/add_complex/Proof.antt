@@ -7,21 +7,6 @@ use borrow.Author.Needs.{needs}
 use Rattle.place_writes.proofs.add_complex.Statement.{statement}
 use Rattle.place_writes.proofs.add_complex.Tie as tie
 
-complexes-used-requires : tie.Need-complexes-used-requires
-complexes-used-requires c κs = search needs
-
-write-complex-requires : tie.Need-write-complex-requires
-write-complex-requires c κs = search needs
-
-add-b : tie.Need-add-b
-add-b c = search needs
-
-cast-b : tie.Need-cast-b
-cast-b c = search needs
-
-slice-write-b : tie.Need-slice-write-b
-slice-write-b c = search needs
-
 lower-requires : tie.Need-lower-requires
 lower-requires c κs = (simp length-set (omega arith), omega arith)
 
@@ -38,11 +23,11 @@ pub add-complex-spec : {M : Type 1} → statement M
 add-complex-spec =
     tie.close
     (tie.spec
-    complexes-used-requires
-    write-complex-requires
-    add-b
-    cast-b
-    slice-write-b
+    (λ c κs. search needs)
+    (λ c κs. search needs)
+    (λ c. search needs)
+    (λ c. search needs)
+    (λ c. search needs)
     lower-requires
     same-length
     returns)

@@ -7,21 +7,6 @@ use borrow.Author.Needs.{needs}
 use Rattle.place_writes.proofs.add_regular.Statement.{statement}
 use Rattle.place_writes.proofs.add_regular.Tie as tie
 
-regulars-used-requires : tie.Need-regulars-used-requires
-regulars-used-requires c κs = search needs
-
-write-regular-requires : tie.Need-write-regular-requires
-write-regular-requires c κs = search needs
-
-add-b : tie.Need-add-b
-add-b c = search needs
-
-cast-b : tie.Need-cast-b
-cast-b c = search needs
-
-slice-write-b : tie.Need-slice-write-b
-slice-write-b c = search needs
-
 lower-requires : tie.Need-lower-requires
 lower-requires c κs = (simp length-set (omega arith), omega arith)
 
@@ -37,11 +22,11 @@ pub add-regular-spec : {M : Type 1} → statement M
 add-regular-spec =
     tie.close
     (tie.spec
-    regulars-used-requires
-    write-regular-requires
-    add-b
-    cast-b
-    slice-write-b
+    (λ c κs. search needs)
+    (λ c κs. search needs)
+    (λ c. search needs)
+    (λ c. search needs)
+    (λ c. search needs)
     lower-requires
     same-length
     returns)

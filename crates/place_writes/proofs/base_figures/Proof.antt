@@ -18,32 +18,8 @@ abbrev μ-loop : tie.MeasureT-loop
 loop-holds : tie.Need-loop-holds Inv-loop μ-loop
 loop-holds c = (omega arith, c .before .pre, based-first _ (c .before .pre))
 
-base-figure-requires : tie.Need-base-figure-requires Inv-loop μ-loop
-base-figure-requires c κs = search needs
-
-cast-b : tie.Need-cast-b Inv-loop μ-loop
-cast-b c = search needs
-
-cast-b-2 : tie.Need-cast-b-2 Inv-loop μ-loop
-cast-b-2 c = search needs
-
-mul-b : tie.Need-mul-b Inv-loop μ-loop
-mul-b c = search needs
-
-add-b : tie.Need-add-b Inv-loop μ-loop
-add-b c = search needs
-
-mul-b-2 : tie.Need-mul-b-2 Inv-loop μ-loop
-mul-b-2 c = search needs
-
 slice-write-b : tie.Need-slice-write-b Inv-loop μ-loop
 slice-write-b c = omega arith
-
-add-f : tie.Need-add-f Inv-loop μ-loop
-add-f c = search needs
-
-loop-less : tie.Need-loop-less Inv-loop μ-loop
-loop-less c = search needs
 
 loop-again : tie.Need-loop-again Inv-loop μ-loop
 loop-again c = let m = based-next _ _ _ _ (c .before .before .loop .inv .2) (c .before .loop-test .taken) (c .base-figure .ensures) in (omega arith, m .aside .long, m)
@@ -61,15 +37,15 @@ base-figures-spec =
     Inv-loop
     μ-loop
     loop-holds
-    base-figure-requires
-    cast-b
-    cast-b-2
-    mul-b
-    add-b
-    mul-b-2
+    (λ c κs. search needs)
+    (λ c. search needs)
+    (λ c. search needs)
+    (λ c. search needs)
+    (λ c. search needs)
+    (λ c. search needs)
     slice-write-b
-    add-f
-    loop-less
+    (λ c. search needs)
+    (λ c. search needs)
     loop-again
     same-length
     returns)

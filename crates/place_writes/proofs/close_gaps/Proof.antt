@@ -5,15 +5,9 @@ use borrow.Author.Needs.{needs}
 use Rattle.place_writes.proofs.close_gaps.Statement.{statement}
 use Rattle.place_writes.proofs.close_gaps.Tie as tie
 
-close-regulars-requires : tie.Need-close-regulars-requires
-close-regulars-requires c κs = search needs
-
 close-complexes-requires : tie.Need-close-complexes-requires
 close-complexes-requires c κs = let r = c .before .before .before .close-regulars in
     (r .kept .0 ∙ c .before .before .before .before .before .before .pre .0, r .ensures .counts .right (c .before .before .before .before .before .before .pre .1) .marked)
-
-same-length : tie.Need-same-length
-same-length c = search needs
 
 returns : tie.Need-returns
 returns c =
@@ -21,4 +15,4 @@ returns c =
 
 pub close-gaps-spec : {M : Type 1} → statement M
 close-gaps-spec =
-    tie.close (tie.spec close-regulars-requires close-complexes-requires same-length returns)
+    tie.close (tie.spec (λ c κs. search needs) close-complexes-requires (λ c. search needs) returns)

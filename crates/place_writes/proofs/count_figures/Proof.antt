@@ -15,24 +15,9 @@ Inv-loop b₀ i₀ b i = (i ≤ 32) × (length b ≡ size) × Counting b₀ b i
 abbrev μ-loop : tie.MeasureT-loop
 μ-loop b₀ i₀ b i = 32 - i
 
-base-figures-requires : tie.Need-base-figures-requires Inv-loop μ-loop
-base-figures-requires c κs = search needs
-
 loop-holds : tie.Need-loop-holds Inv-loop μ-loop
 loop-holds c = let n = c .before .before .base-figures .kept .0 ∙ c .before .before .before .before .before .pre in
     (omega arith, n, counting-first _ _ n (c .before .before .base-figures .ensures))
-
-edition-at-requires : tie.Need-edition-at-requires Inv-loop μ-loop
-edition-at-requires c κs = search needs
-
-set-figure-requires : tie.Need-set-figure-requires Inv-loop μ-loop
-set-figure-requires c κs = search needs
-
-add-i : tie.Need-add-i Inv-loop μ-loop
-add-i c = search needs
-
-loop-less : tie.Need-loop-less Inv-loop μ-loop
-loop-less c = search needs
 
 loop-again : tie.Need-loop-again Inv-loop μ-loop
 loop-again c = let m = counting-next _ _ _ _ _ (c .before .before .set-figure .kept .0) (c .before .before .before .before .before .before .before .loop .inv .2) (c .before .before .before .before .before .before .loop-test .taken) (c .before .before .before .before .edition-at .ensures) (c .before .before .set-figure .ensures) in
@@ -50,12 +35,12 @@ count-figures-spec =
     (tie.spec
     Inv-loop
     μ-loop
-    base-figures-requires
+    (λ c κs. search needs)
     loop-holds
-    edition-at-requires
-    set-figure-requires
-    add-i
-    loop-less
+    (λ c κs. search needs)
+    (λ c κs. search needs)
+    (λ c. search needs)
+    (λ c. search needs)
     loop-again
     same-length
     returns)

@@ -16,44 +16,17 @@ Inv-loop b₀ s number first last k₀ b k = (first ≤ k) × (k ≤ last) × (l
 abbrev μ-loop : tie.MeasureT-loop
 μ-loop b₀ s number first last k₀ b k = last - k
 
-mul-first : tie.Need-mul-first Inv-loop μ-loop
-mul-first c = search needs
-
-add-first : tie.Need-add-first Inv-loop μ-loop
-add-first c = search needs
-
-add-last : tie.Need-add-last Inv-loop μ-loop
-add-last c = search needs
-
 loop-holds : tie.Need-loop-holds Inv-loop μ-loop
 loop-holds c = (omega arith, omega arith, c .pre .0, written-first _ _ _ _ (c .pre .0) (omega arith))
-
-add-b : tie.Need-add-b Inv-loop μ-loop
-add-b c = search needs
-
-mul-b : tie.Need-mul-b Inv-loop μ-loop
-mul-b c = search needs
 
 slice-read-b : tie.Need-slice-read-b Inv-loop μ-loop
 slice-read-b c = omega arith
 
-mul-b-2 : tie.Need-mul-b-2 Inv-loop μ-loop
-mul-b-2 c = search needs
-
 slice-write-b : tie.Need-slice-write-b Inv-loop μ-loop
 slice-write-b c = omega arith
 
-add-k : tie.Need-add-k Inv-loop μ-loop
-add-k c = search needs
-
-loop-less : tie.Need-loop-less Inv-loop μ-loop
-loop-less c = search needs
-
 loop-again : tie.Need-loop-again Inv-loop μ-loop
 loop-again c = let m = written-next _ _ _ _ _ _ _ (c .before .before .loop .inv .3) (omega arith) (omega arith) refl (c .before .before .loop .inv .3 .rest _ (inr (omega arith))) in (omega arith, omega arith, m .long, m)
-
-mul-b-3 : tie.Need-mul-b-3 Inv-loop μ-loop
-mul-b-3 c = search needs
 
 slice-write-b-2 : tie.Need-slice-write-b-2 Inv-loop μ-loop
 slice-write-b-2 c = omega arith
@@ -70,19 +43,19 @@ count-generation-spec =
     (tie.spec
     Inv-loop
     μ-loop
-    mul-first
-    add-first
-    add-last
+    (λ c. search needs)
+    (λ c. search needs)
+    (λ c. search needs)
     loop-holds
-    add-b
-    mul-b
+    (λ c. search needs)
+    (λ c. search needs)
     slice-read-b
-    mul-b-2
+    (λ c. search needs)
     slice-write-b
-    add-k
-    loop-less
+    (λ c. search needs)
+    (λ c. search needs)
     loop-again
-    mul-b-3
+    (λ c. search needs)
     slice-write-b-2
     same-length
     returns)

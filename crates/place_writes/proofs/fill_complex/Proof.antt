@@ -24,9 +24,6 @@ slice-read-q : tie.Need-slice-read-q
 unfolding complexesUsed
 slice-read-q c = omega arith
 
-less-requires : tie.Need-less-requires
-less-requires c κs = search needs
-
 mul-b : tie.Need-mul-b
 unfolding complexesUsed
 mul-b c = record { fits = omega arith }
@@ -42,9 +39,6 @@ mul-b-2 c = record { fits = omega arith }
 slice-write-b : tie.Need-slice-write-b
 unfolding complexesUsed
 slice-write-b c = omega arith
-
-same-length : tie.Need-same-length
-same-length c = search needs
 
 returns : tie.Need-returns
 returns c = let s = c .before .before .before .before in
@@ -70,12 +64,12 @@ fill-complex-spec =
     add-q
     mul-q-2
     slice-read-q
-    less-requires
+    (λ c κs. search needs)
     mul-b
     add-b
     mul-b-2
     slice-write-b
-    same-length
+    (λ c. search needs)
     returns
     lower-requires
     same-length-2

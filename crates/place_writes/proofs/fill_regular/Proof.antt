@@ -24,9 +24,6 @@ slice-read-q : tie.Need-slice-read-q
 unfolding regularsUsed
 slice-read-q c = omega arith
 
-less-requires : tie.Need-less-requires
-less-requires c κs = search needs
-
 mul-b : tie.Need-mul-b
 unfolding regularsUsed
 mul-b c = record { fits = omega arith }
@@ -71,19 +68,10 @@ slice-read-if2 : tie.Need-slice-read-if2
 unfolding regularsUsed
 slice-read-if2 c = simp length-set (omega arith)
 
-same-length-2 : tie.Need-same-length-2
-same-length-2 c = search needs
-
 returns-2 : tie.Need-returns-2
 returns-2 c = let s = c .before .before .before .before .before .before in
     let l = c .before .before .before .less in
     regular-stays (s .args .b .now) (s .args .i) (s .args .k) (l .result) (s .pre .0) (s .pre .1) (l .ensures) (omega arith) (c .if2 .taken)
-
-slice-write-b-2 : tie.Need-slice-write-b-2
-slice-write-b-2 c = search needs
-
-same-length-3 : tie.Need-same-length-3
-same-length-3 c = search needs
 
 returns-3 : tie.Need-returns-3
 returns-3 c = let s = c .before .before .before .before .before .before in
@@ -98,7 +86,7 @@ fill-regular-spec =
     add-q
     mul-q-2
     slice-read-q
-    less-requires
+    (λ c κs. search needs)
     mul-b
     add-b
     mul-b-2
@@ -110,8 +98,8 @@ fill-regular-spec =
     add-if2
     mul-if2-2
     slice-read-if2
-    same-length-2
+    (λ c. search needs)
     returns-2
-    slice-write-b-2
-    same-length-3
+    (λ c. search needs)
+    (λ c. search needs)
     returns-3)

@@ -8,31 +8,10 @@ use borrow.Author.Needs.{needs}
 use Rattle.place_writes.proofs.lower.Statement.{statement}
 use Rattle.place_writes.proofs.lower.Tie as tie
 
-mul-x : tie.Need-mul-x
-mul-x c = search needs
-
-slice-read-x : tie.Need-slice-read-x
-slice-read-x c = search needs
-
-wide-requires : tie.Need-wide-requires
-wide-requires c κs = search needs
-
 returns : tie.Need-returns
 returns c = let s = c .before .before .before .before .args in
     let e : min (getD (s .b .now) (s .at) 0) (s .i) ≡ getD (s .b .now) (s .at) 0 = omega arith in
     sym (ap (λ (x : ℕ). set (s .b .now) (s .at) x) e ∙ set-getD (s .b .now) (s .at) 0)
-
-cast-b : tie.Need-cast-b
-cast-b c = search needs
-
-mul-b : tie.Need-mul-b
-mul-b c = search needs
-
-slice-write-b : tie.Need-slice-write-b
-slice-write-b c = search needs
-
-same-length : tie.Need-same-length
-same-length c = search needs
 
 returns-2 : tie.Need-returns-2
 returns-2 c = let s = c .before .before .before .before .args in
@@ -43,12 +22,12 @@ pub lower-spec : {M : Type 1} → statement M
 lower-spec =
     tie.close
     (tie.spec
-    mul-x
-    slice-read-x
-    wide-requires
+    (λ c. search needs)
+    (λ c. search needs)
+    (λ c κs. search needs)
     returns
-    cast-b
-    mul-b
-    slice-write-b
-    same-length
+    (λ c. search needs)
+    (λ c. search needs)
+    (λ c. search needs)
+    (λ c. search needs)
     returns-2)

@@ -4,19 +4,10 @@ use Rattle.place_writes.proofs.Figures.{put-edition}
 use Rattle.place_writes.proofs.put_edition.Statement.{statement}
 use Rattle.place_writes.proofs.put_edition.Tie as tie
 
-write-edition-requires : tie.Need-write-edition-requires
-write-edition-requires c κs = search needs
-
-count-figures-requires : tie.Need-count-figures-requires
-count-figures-requires c κs = search needs
-
-same-length : tie.Need-same-length
-same-length c = search needs
-
 returns : tie.Need-returns
 returns c = let w = c .before .before .before .before .before .before .write-edition .ensures in
     let z = c .before .before .before .before .before .before .before .before .before in
     put-edition _ _ _ _ _ (z .pre .0) (z .pre .1) (w .1) (w .2) (z .pre .2) (z .pre .3) (w .0) (c .before .before .count-figures .ensures)
 
 pub put-edition-spec : {M : Type 1} → statement M
-put-edition-spec = tie.close (tie.spec write-edition-requires count-figures-requires same-length returns)
+put-edition-spec = tie.close (tie.spec (λ c κs. search needs) (λ c κs. search needs) (λ c. search needs) returns)

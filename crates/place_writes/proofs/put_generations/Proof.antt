@@ -18,32 +18,8 @@ abbrev μ-loop : tie.MeasureT-loop
 loop-holds : tie.Need-loop-holds Inv-loop μ-loop
 loop-holds c = (omega arith, c .before .pre .0, written-first _ _ _ _ (c .before .pre .0) (omega arith))
 
-mul-b : tie.Need-mul-b Inv-loop μ-loop
-mul-b c = search needs
-
-array-read-b : tie.Need-array-read-b Inv-loop μ-loop
-array-read-b c = search needs
-
-mul-b-2 : tie.Need-mul-b-2 Inv-loop μ-loop
-mul-b-2 c = search needs
-
-add-b : tie.Need-add-b Inv-loop μ-loop
-add-b c = search needs
-
-add-b-2 : tie.Need-add-b-2 Inv-loop μ-loop
-add-b-2 c = search needs
-
-mul-b-3 : tie.Need-mul-b-3 Inv-loop μ-loop
-mul-b-3 c = search needs
-
 slice-write-b : tie.Need-slice-write-b Inv-loop μ-loop
 slice-write-b c = omega arith
-
-add-k : tie.Need-add-k Inv-loop μ-loop
-add-k c = search needs
-
-loop-less : tie.Need-loop-less Inv-loop μ-loop
-loop-less c = search needs
 
 loop-again : tie.Need-loop-again Inv-loop μ-loop
 loop-again c = let m = put-next _ _ (c .before .before .before .args .g .messages) _ _ (c .before .loop .inv .2) (omega arith) (omega arith) in (omega arith, m .long, m)
@@ -61,15 +37,15 @@ put-generations-spec =
     Inv-loop
     μ-loop
     loop-holds
-    mul-b
-    array-read-b
-    mul-b-2
-    add-b
-    add-b-2
-    mul-b-3
+    (λ c. search needs)
+    (λ c. search needs)
+    (λ c. search needs)
+    (λ c. search needs)
+    (λ c. search needs)
+    (λ c. search needs)
     slice-write-b
-    add-k
-    loop-less
+    (λ c. search needs)
+    (λ c. search needs)
     loop-again
     same-length
     returns)

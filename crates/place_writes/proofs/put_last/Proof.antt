@@ -8,12 +8,6 @@ use borrow.Author.Needs.{needs}
 use Rattle.place_writes.proofs.put_last.Statement.{statement}
 use Rattle.place_writes.proofs.put_last.Tie as tie
 
-slice-write-b : tie.Need-slice-write-b
-slice-write-b c = search needs
-
-same-length : tie.Need-same-length
-same-length c = search needs
-
 returns : tie.Need-returns
 returns c = (
   put-last (c .args .b .now) (c .args .id) (c .pre),
@@ -21,4 +15,4 @@ returns c = (
 )
 
 pub put-last-spec : {M : Type 1} → statement M
-put-last-spec = tie.close (tie.spec slice-write-b same-length returns)
+put-last-spec = tie.close (tie.spec (λ c. search needs) (λ c. search needs) returns)

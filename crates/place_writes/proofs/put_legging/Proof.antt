@@ -8,65 +8,14 @@ use borrow.Author.Needs.{needs}
 use Rattle.place_writes.proofs.put_legging.Statement.{statement}
 use Rattle.place_writes.proofs.put_legging.Tie as tie
 
-legging-at-requires : tie.Need-legging-at-requires
-legging-at-requires c κs = search needs
-
-slice-read-less : tie.Need-slice-read-less
-slice-read-less c = search needs
-
-weight-requires : tie.Need-weight-requires
-weight-requires c κs = search needs
-
-less-requires : tie.Need-less-requires
-less-requires c κs = search needs
-
-weight-requires-2 : tie.Need-weight-requires-2
-weight-requires-2 c κs = search needs
-
-add-b : tie.Need-add-b
-add-b c = search needs
-
-slice-write-b : tie.Need-slice-write-b
-slice-write-b c = search needs
-
-mul-b : tie.Need-mul-b
-mul-b c = search needs
-
-add-b-2 : tie.Need-add-b-2
-add-b-2 c = search needs
-
-mul-b-2 : tie.Need-mul-b-2
-mul-b-2 c = search needs
-
 slice-write-b-2 : tie.Need-slice-write-b-2
 slice-write-b-2 c = simp length-set (omega arith)
-
-mul-b-3 : tie.Need-mul-b-3
-mul-b-3 c = search needs
-
-add-b-3 : tie.Need-add-b-3
-add-b-3 c = search needs
-
-mul-b-4 : tie.Need-mul-b-4
-mul-b-4 c = search needs
 
 slice-write-b-3 : tie.Need-slice-write-b-3
 slice-write-b-3 c = simp length-set (omega arith)
 
-mul-b-5 : tie.Need-mul-b-5
-mul-b-5 c = search needs
-
-add-b-4 : tie.Need-add-b-4
-add-b-4 c = search needs
-
-mul-b-6 : tie.Need-mul-b-6
-mul-b-6 c = search needs
-
 slice-write-b-4 : tie.Need-slice-write-b-4
 slice-write-b-4 c = simp length-set (omega arith)
-
-same-length : tie.Need-same-length
-same-length c = search needs
 
 returns : tie.Need-returns
 returns c = let s = c .before .before .before .before .before .before .before in
@@ -81,24 +30,24 @@ pub put-legging-spec : {M : Type 1} → statement M
 put-legging-spec =
     tie.close
     (tie.spec
-    legging-at-requires
-    slice-read-less
-    weight-requires
-    less-requires
-    weight-requires-2
-    add-b
-    slice-write-b
-    mul-b
-    add-b-2
-    mul-b-2
+    (λ c κs. search needs)
+    (λ c. search needs)
+    (λ c κs. search needs)
+    (λ c κs. search needs)
+    (λ c κs. search needs)
+    (λ c. search needs)
+    (λ c. search needs)
+    (λ c. search needs)
+    (λ c. search needs)
+    (λ c. search needs)
     slice-write-b-2
-    mul-b-3
-    add-b-3
-    mul-b-4
+    (λ c. search needs)
+    (λ c. search needs)
+    (λ c. search needs)
     slice-write-b-3
-    mul-b-5
-    add-b-4
-    mul-b-6
+    (λ c. search needs)
+    (λ c. search needs)
+    (λ c. search needs)
     slice-write-b-4
-    same-length
+    (λ c. search needs)
     returns)

@@ -11,47 +11,11 @@ use borrow.Author.Needs.{needs}
 use Rattle.place_writes.proofs.put_listed.Statement.{statement}
 use Rattle.place_writes.proofs.put_listed.Tie as tie
 
-cast-b : tie.Need-cast-b
-cast-b c = search needs
-
-mul-b : tie.Need-mul-b
-mul-b c = search needs
-
-add-b : tie.Need-add-b
-add-b c = search needs
-
-mul-b-2 : tie.Need-mul-b-2
-mul-b-2 c = search needs
-
-slice-write-b : tie.Need-slice-write-b
-slice-write-b c = search needs
-
-mul-b-3 : tie.Need-mul-b-3
-mul-b-3 c = search needs
-
-add-b-2 : tie.Need-add-b-2
-add-b-2 c = search needs
-
-mul-b-4 : tie.Need-mul-b-4
-mul-b-4 c = search needs
-
 slice-write-b-2 : tie.Need-slice-write-b-2
 slice-write-b-2 c = simp length-set (omega arith)
 
-mul-b-5 : tie.Need-mul-b-5
-mul-b-5 c = search needs
-
-add-b-3 : tie.Need-add-b-3
-add-b-3 c = search needs
-
-mul-b-6 : tie.Need-mul-b-6
-mul-b-6 c = search needs
-
 slice-write-b-3 : tie.Need-slice-write-b-3
 slice-write-b-3 c = simp length-set (omega arith)
-
-same-length : tie.Need-same-length
-same-length c = search needs
 
 returns : tie.Need-returns
 returns c = let z = c .before in
@@ -68,18 +32,18 @@ pub put-listed-spec : {M : Type 1} → statement M
 put-listed-spec =
     tie.close
     (tie.spec
-    cast-b
-    mul-b
-    add-b
-    mul-b-2
-    slice-write-b
-    mul-b-3
-    add-b-2
-    mul-b-4
+    (λ c. search needs)
+    (λ c. search needs)
+    (λ c. search needs)
+    (λ c. search needs)
+    (λ c. search needs)
+    (λ c. search needs)
+    (λ c. search needs)
+    (λ c. search needs)
     slice-write-b-2
-    mul-b-5
-    add-b-3
-    mul-b-6
+    (λ c. search needs)
+    (λ c. search needs)
+    (λ c. search needs)
     slice-write-b-3
-    same-length
+    (λ c. search needs)
     returns)

@@ -12,27 +12,6 @@ use borrow.Author.Needs.{needs}
 use Rattle.place_writes.proofs.write_complex.Statement.{statement}
 use Rattle.place_writes.proofs.write_complex.Tie as tie
 
-place-number-requires : tie.Need-place-number-requires
-place-number-requires c κs = search needs
-
-place-number-requires-2 : tie.Need-place-number-requires-2
-place-number-requires-2 c κs = search needs
-
-limit-number-requires : tie.Need-limit-number-requires
-limit-number-requires c κs = search needs
-
-mul-b : tie.Need-mul-b
-mul-b c = search needs
-
-add-b : tie.Need-add-b
-add-b c = search needs
-
-mul-b-2 : tie.Need-mul-b-2
-mul-b-2 c = search needs
-
-slice-write-b : tie.Need-slice-write-b
-slice-write-b c = search needs
-
 mul-b-3 : tie.Need-mul-b-3
 unfolding placeOf
 mul-b-3 c = search needs
@@ -41,77 +20,17 @@ add-b-2 : tie.Need-add-b-2
 unfolding placeOf
 add-b-2 c = search needs
 
-mul-b-4 : tie.Need-mul-b-4
-mul-b-4 c = search needs
-
-add-b-3 : tie.Need-add-b-3
-add-b-3 c = search needs
-
-mul-b-5 : tie.Need-mul-b-5
-mul-b-5 c = search needs
-
 slice-write-b-2 : tie.Need-slice-write-b-2
 slice-write-b-2 c = simp length-set (omega arith)
-
-cast-b : tie.Need-cast-b
-cast-b c = search needs
-
-mul-b-6 : tie.Need-mul-b-6
-mul-b-6 c = search needs
-
-cast-b-2 : tie.Need-cast-b-2
-cast-b-2 c = search needs
-
-add-b-4 : tie.Need-add-b-4
-add-b-4 c = search needs
-
-mul-b-7 : tie.Need-mul-b-7
-mul-b-7 c = search needs
-
-add-b-5 : tie.Need-add-b-5
-add-b-5 c = search needs
-
-mul-b-8 : tie.Need-mul-b-8
-mul-b-8 c = search needs
 
 slice-write-b-3 : tie.Need-slice-write-b-3
 slice-write-b-3 c = simp length-set (omega arith)
 
-cast-b-3 : tie.Need-cast-b-3
-cast-b-3 c = search needs
-
-mul-b-9 : tie.Need-mul-b-9
-mul-b-9 c = search needs
-
-add-b-6 : tie.Need-add-b-6
-add-b-6 c = search needs
-
-mul-b-10 : tie.Need-mul-b-10
-mul-b-10 c = search needs
-
 slice-write-b-4 : tie.Need-slice-write-b-4
 slice-write-b-4 c = simp length-set (omega arith)
 
-mul-b-11 : tie.Need-mul-b-11
-mul-b-11 c = search needs
-
-add-b-7 : tie.Need-add-b-7
-add-b-7 c = search needs
-
-mul-b-12 : tie.Need-mul-b-12
-mul-b-12 c = search needs
-
 slice-write-b-5 : tie.Need-slice-write-b-5
 slice-write-b-5 c = simp length-set (omega arith)
-
-mul-b-13 : tie.Need-mul-b-13
-mul-b-13 c = search needs
-
-add-b-8 : tie.Need-add-b-8
-add-b-8 c = search needs
-
-mul-b-14 : tie.Need-mul-b-14
-mul-b-14 c = search needs
 
 slice-write-b-6 : tie.Need-slice-write-b-6
 slice-write-b-6 c = simp length-set (omega arith)
@@ -139,39 +58,39 @@ pub write-complex-spec : {M : Type 1} → statement M
 write-complex-spec =
     tie.close
     (tie.spec
-    place-number-requires
-    place-number-requires-2
-    limit-number-requires
-    mul-b
-    add-b
-    mul-b-2
-    slice-write-b
+    (λ c κs. search needs)
+    (λ c κs. search needs)
+    (λ c κs. search needs)
+    (λ c. search needs)
+    (λ c. search needs)
+    (λ c. search needs)
+    (λ c. search needs)
     mul-b-3
     add-b-2
-    mul-b-4
-    add-b-3
-    mul-b-5
+    (λ c. search needs)
+    (λ c. search needs)
+    (λ c. search needs)
     slice-write-b-2
-    cast-b
-    mul-b-6
-    cast-b-2
-    add-b-4
-    mul-b-7
-    add-b-5
-    mul-b-8
+    (λ c. search needs)
+    (λ c. search needs)
+    (λ c. search needs)
+    (λ c. search needs)
+    (λ c. search needs)
+    (λ c. search needs)
+    (λ c. search needs)
     slice-write-b-3
-    cast-b-3
-    mul-b-9
-    add-b-6
-    mul-b-10
+    (λ c. search needs)
+    (λ c. search needs)
+    (λ c. search needs)
+    (λ c. search needs)
     slice-write-b-4
-    mul-b-11
-    add-b-7
-    mul-b-12
+    (λ c. search needs)
+    (λ c. search needs)
+    (λ c. search needs)
     slice-write-b-5
-    mul-b-13
-    add-b-8
-    mul-b-14
+    (λ c. search needs)
+    (λ c. search needs)
+    (λ c. search needs)
     slice-write-b-6
     same-length
     returns)

@@ -8,74 +8,17 @@ use borrow.Author.Needs.{needs}
 use Rattle.place_writes.proofs.write_regular.Statement.{statement}
 use Rattle.place_writes.proofs.write_regular.Tie as tie
 
-place-number-requires : tie.Need-place-number-requires
-place-number-requires c κs = search needs
-
-mul-b : tie.Need-mul-b
-mul-b c = search needs
-
-mul-b-2 : tie.Need-mul-b-2
-mul-b-2 c = search needs
-
-slice-write-b : tie.Need-slice-write-b
-slice-write-b c = search needs
-
-mul-b-3 : tie.Need-mul-b-3
-mul-b-3 c = search needs
-
-add-b : tie.Need-add-b
-add-b c = search needs
-
-mul-b-4 : tie.Need-mul-b-4
-mul-b-4 c = search needs
-
 slice-write-b-2 : tie.Need-slice-write-b-2
 slice-write-b-2 c = simp length-set (omega arith)
-
-mul-b-5 : tie.Need-mul-b-5
-mul-b-5 c = search needs
-
-add-b-2 : tie.Need-add-b-2
-add-b-2 c = search needs
-
-mul-b-6 : tie.Need-mul-b-6
-mul-b-6 c = search needs
 
 slice-write-b-3 : tie.Need-slice-write-b-3
 slice-write-b-3 c = simp length-set (omega arith)
 
-mul-b-7 : tie.Need-mul-b-7
-mul-b-7 c = search needs
-
-add-b-3 : tie.Need-add-b-3
-add-b-3 c = search needs
-
-mul-b-8 : tie.Need-mul-b-8
-mul-b-8 c = search needs
-
 slice-write-b-4 : tie.Need-slice-write-b-4
 slice-write-b-4 c = simp length-set (omega arith)
 
-mul-b-9 : tie.Need-mul-b-9
-mul-b-9 c = search needs
-
-add-b-4 : tie.Need-add-b-4
-add-b-4 c = search needs
-
-mul-b-10 : tie.Need-mul-b-10
-mul-b-10 c = search needs
-
 slice-write-b-5 : tie.Need-slice-write-b-5
 slice-write-b-5 c = simp length-set (omega arith)
-
-mul-b-11 : tie.Need-mul-b-11
-mul-b-11 c = search needs
-
-add-b-5 : tie.Need-add-b-5
-add-b-5 c = search needs
-
-mul-b-12 : tie.Need-mul-b-12
-mul-b-12 c = search needs
 
 slice-write-b-6 : tie.Need-slice-write-b-6
 slice-write-b-6 c = simp length-set (omega arith)
@@ -96,29 +39,29 @@ pub write-regular-spec : {M : Type 1} → statement M
 write-regular-spec =
     tie.close
     (tie.spec
-    place-number-requires
-    mul-b
-    mul-b-2
-    slice-write-b
-    mul-b-3
-    add-b
-    mul-b-4
+    (λ c κs. search needs)
+    (λ c. search needs)
+    (λ c. search needs)
+    (λ c. search needs)
+    (λ c. search needs)
+    (λ c. search needs)
+    (λ c. search needs)
     slice-write-b-2
-    mul-b-5
-    add-b-2
-    mul-b-6
+    (λ c. search needs)
+    (λ c. search needs)
+    (λ c. search needs)
     slice-write-b-3
-    mul-b-7
-    add-b-3
-    mul-b-8
+    (λ c. search needs)
+    (λ c. search needs)
+    (λ c. search needs)
     slice-write-b-4
-    mul-b-9
-    add-b-4
-    mul-b-10
+    (λ c. search needs)
+    (λ c. search needs)
+    (λ c. search needs)
     slice-write-b-5
-    mul-b-11
-    add-b-5
-    mul-b-12
+    (λ c. search needs)
+    (λ c. search needs)
+    (λ c. search needs)
     slice-write-b-6
     same-length
     returns)

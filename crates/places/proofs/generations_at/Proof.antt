@@ -20,35 +20,11 @@ loop-holds : tie.Need-loop-holds Inv-loop μ-loop
 unfolding inUse upto
 loop-holds c = (omega arith, refl)
 
-mul-messages : tie.Need-mul-messages Inv-loop μ-loop
-mul-messages c = search needs
-
-add-messages : tie.Need-add-messages Inv-loop μ-loop
-add-messages c = search needs
-
-add-messages-2 : tie.Need-add-messages-2 Inv-loop μ-loop
-add-messages-2 c = search needs
-
-mul-messages-2 : tie.Need-mul-messages-2 Inv-loop μ-loop
-mul-messages-2 c = search needs
-
-shared-slice-read-messages : tie.Need-shared-slice-read-messages Inv-loop μ-loop
-shared-slice-read-messages c = search needs
-
-mul-messages-3 : tie.Need-mul-messages-3 Inv-loop μ-loop
-mul-messages-3 c = search needs
-
 array-write-messages : tie.Need-array-write-messages Inv-loop μ-loop
 array-write-messages c = let h = c .before .before in
     let z = ap length (h .loop .inv .1) in
     let y = used-length (numberIn (h .before .args .b .now) (h .before .args .s)) 0 (h .loop .k) 20 (omega arith) in
     omega arith
-
-add-k : tie.Need-add-k Inv-loop μ-loop
-add-k c = search needs
-
-loop-less : tie.Need-loop-less Inv-loop μ-loop
-loop-less c = search needs
 
 loop-again : tie.Need-loop-again Inv-loop μ-loop
 loop-again c = (omega arith, used-next _ _ _ 20 _ _ (omega arith) (c .before .before .loop .inv .1) refl)
@@ -63,14 +39,14 @@ generations-at-spec =
     Inv-loop
     μ-loop
     loop-holds
-    mul-messages
-    add-messages
-    add-messages-2
-    mul-messages-2
-    shared-slice-read-messages
-    mul-messages-3
+    (λ c. search needs)
+    (λ c. search needs)
+    (λ c. search needs)
+    (λ c. search needs)
+    (λ c. search needs)
+    (λ c. search needs)
     array-write-messages
-    add-k
-    loop-less
+    (λ c. search needs)
+    (λ c. search needs)
     loop-again
     returns)

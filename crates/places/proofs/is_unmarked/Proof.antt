@@ -5,12 +5,9 @@ use borrow.Author.Needs.{needs}
 use Rattle.places.proofs.is_unmarked.Statement.{statement}
 use Rattle.places.proofs.is_unmarked.Tie as tie
 
-shared-slice-read-result : tie.Need-shared-slice-read-result
-shared-slice-read-result c = search needs
-
 returns : tie.Need-returns
 unfolding isUnmarked
 returns c = refl
 
 pub is-unmarked-spec : {M : Type 1} → statement M
-is-unmarked-spec = tie.close (tie.spec shared-slice-read-result returns)
+is-unmarked-spec = tie.close (tie.spec (λ c. search needs) returns)

@@ -4,12 +4,9 @@ use borrow.Author.Needs.{needs}
 use Rattle.places.proofs.last_id.Statement.{statement}
 use Rattle.places.proofs.last_id.Tie as tie
 
-shared-slice-read-result : tie.Need-shared-slice-read-result
-shared-slice-read-result c = search needs
-
 returns : tie.Need-returns
 unfolding venueOf
 returns c = search needs
 
 pub last-id-spec : {M : Type 1} → statement M
-last-id-spec = tie.close (tie.spec shared-slice-read-result returns)
+last-id-spec = tie.close (tie.spec (λ c. search needs) returns)

@@ -5,9 +5,6 @@ use borrow.Author.Needs.{needs}
 use Rattle.places.proofs.limit_of.Statement.{statement}
 use Rattle.places.proofs.limit_of.Tie as tie
 
-cast-result : tie.Need-cast-result
-cast-result c = search needs
-
 sub-result : tie.Need-sub-result
 sub-result c = sub-fits (c .args .x) (omega arith)
 
@@ -18,4 +15,4 @@ returns : tie.Need-returns
 returns c = cast-is (c .args .x) (omega arith)
 
 pub limit-of-spec : {M : Type 1} → statement M
-limit-of-spec = tie.close (tie.spec cast-result sub-result cast-result-2 returns)
+limit-of-spec = tie.close (tie.spec (λ c. search needs) sub-result cast-result-2 returns)

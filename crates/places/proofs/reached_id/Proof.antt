@@ -4,12 +4,9 @@ use borrow.Author.Needs.{needs}
 use Rattle.places.proofs.reached_id.Statement.{statement}
 use Rattle.places.proofs.reached_id.Tie as tie
 
-shared-slice-read-result : tie.Need-shared-slice-read-result
-shared-slice-read-result c = search needs
-
 returns : tie.Need-returns
 unfolding venueOf
 returns c = search needs
 
 pub reached-id-spec : {M : Type 1} → statement M
-reached-id-spec = tie.close (tie.spec shared-slice-read-result returns)
+reached-id-spec = tie.close (tie.spec (λ c. search needs) returns)

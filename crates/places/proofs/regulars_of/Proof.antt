@@ -16,9 +16,6 @@ Inv-loop b r₀ n i₀ r i = (i ≤ n) × (r ≡ inUse (regularIn b) noRegular i
 abbrev μ-loop : tie.MeasureT-loop
 μ-loop b r₀ n i₀ r i = n - i
 
-regulars-used-requires : tie.Need-regulars-used-requires Inv-loop μ-loop
-regulars-used-requires c κs = search needs
-
 loop-holds : tie.Need-loop-holds Inv-loop μ-loop
 unfolding inUse upto
 loop-holds c = (omega arith, refl)
@@ -26,20 +23,11 @@ loop-holds c = (omega arith, refl)
 regular-at-requires : tie.Need-regular-at-requires Inv-loop μ-loop
 regular-at-requires c κs = (c .before .before .before .before .pre, omega arith)
 
-mul-r : tie.Need-mul-r Inv-loop μ-loop
-mul-r c = search needs
-
 array-set-from-r : tie.Need-array-set-from-r Inv-loop μ-loop
 array-set-from-r c = let h = c .before .before in
     let z = ap length (h .loop .inv .1) in
     let y = used-length (regularIn (c .before .before .before .before .before .args .b .now)) noRegular (h .loop .i) 128 (omega arith) in
     omega arith
-
-add-i : tie.Need-add-i Inv-loop μ-loop
-add-i c = search needs
-
-loop-less : tie.Need-loop-less Inv-loop μ-loop
-loop-less c = search needs
 
 loop-again : tie.Need-loop-again Inv-loop μ-loop
 loop-again c = (omega arith, used-next _ _ _ 128 _ _ (omega arith) (c .before .before .loop .inv .1) (c .regular-at .ensures))
@@ -54,12 +42,12 @@ regulars-of-spec =
     (tie.spec
     Inv-loop
     μ-loop
-    regulars-used-requires
+    (λ c κs. search needs)
     loop-holds
     regular-at-requires
-    mul-r
+    (λ c. search needs)
     array-set-from-r
-    add-i
-    loop-less
+    (λ c. search needs)
+    (λ c. search needs)
     loop-again
     returns)

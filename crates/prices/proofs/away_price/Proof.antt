@@ -4,9 +4,6 @@ use borrow.Author.Needs.{needs}
 use Rattle.prices.proofs.away_price.Statement.{statement}
 use Rattle.prices.proofs.away_price.Tie as tie
 
-listed-at-requires : tie.Need-listed-at-requires
-listed-at-requires c κs = search needs
-
 returns : tie.Need-returns
 returns c = away-bid _ _ _ (c .before .listed-at .result) (listed-read _ _ (c .before .listed-at .result) (c .before .before .before .pre .1) (c .before .listed-at .ensures)) (c .if1 .taken)
 
@@ -14,4 +11,4 @@ returns-2 : tie.Need-returns-2
 returns-2 c = away-offer _ _ _ (c .before .listed-at .result) (listed-read _ _ (c .before .listed-at .result) (c .before .before .before .pre .1) (c .before .listed-at .ensures)) (c .if1 .left)
 
 pub away-price-spec : {M : Type 1} → statement M
-away-price-spec = tie.close (tie.spec listed-at-requires returns returns-2)
+away-price-spec = tie.close (tie.spec (λ c κs. search needs) returns returns-2)

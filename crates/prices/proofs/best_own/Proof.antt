@@ -4,14 +4,8 @@ use borrow.Author.Needs.{needs}
 use Rattle.prices.proofs.best_own.Statement.{statement}
 use Rattle.prices.proofs.best_own.Tie as tie
 
-own-price-requires : tie.Need-own-price-requires
-own-price-requires c κs = search needs
-
-better-of-requires : tie.Need-better-of-requires
-better-of-requires c κs = search needs
-
 returns : tie.Need-returns
 returns c = own-best _ _ _ _ (c .before .before .before .pre .1) _ (c .before .own-price .ensures) _ (c .better-of .ensures)
 
 pub best-own-spec : {M : Type 1} → statement M
-best-own-spec = tie.close (tie.spec own-price-requires better-of-requires returns)
+best-own-spec = tie.close (tie.spec (λ c κs. search needs) (λ c κs. search needs) returns)

@@ -5,12 +5,6 @@ use borrow.Author.Needs.{needs}
 use Rattle.prices.proofs.clear_price.Statement.{statement}
 use Rattle.prices.proofs.clear_price.Tie as tie
 
-own-price-requires : tie.Need-own-price-requires
-own-price-requires c κs = search needs
-
-is-better-requires : tie.Need-is-better-requires
-is-better-requires c κs = search needs
-
 returns : tie.Need-returns
 returns c = clear-none _ _ _ _ (c .before .before .before .before .pre .1) _ (c .before .before .own-price .ensures) (sym (c .before .is-better .ensures) ∙ c .if1 .taken)
 
@@ -18,4 +12,4 @@ returns-2 : tie.Need-returns-2
 returns-2 c = clear-best _ _ _ _ (c .before .before .before .before .pre .1) _ (c .before .before .own-price .ensures) (sym (c .before .is-better .ensures) ∙ c .if1 .left)
 
 pub clear-price-spec : {M : Type 1} → statement M
-clear-price-spec = tie.close (tie.spec own-price-requires is-better-requires returns returns-2)
+clear-price-spec = tie.close (tie.spec (λ c κs. search needs) (λ c κs. search needs) returns returns-2)

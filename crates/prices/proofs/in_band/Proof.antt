@@ -7,9 +7,6 @@ use borrow.Author.Needs.{needs}
 use Rattle.prices.proofs.in_band.Statement.{statement}
 use Rattle.prices.proofs.in_band.Tie as tie
 
-opposite-of-requires : tie.Need-opposite-of-requires
-opposite-of-requires c κs = search needs
-
 market-best-requires : tie.Need-market-best-requires
 market-best-requires c κs =
     let a = c .before .before .before .args in
@@ -17,9 +14,6 @@ market-best-requires c κs =
 
 returns : tie.Need-returns
 returns c = band-none1 _ (c .before .before .before .before .before .args .c) _ _ (c .before .market-best .ensures) (c .before .before .opposite-of .ensures) _ (c .if1 .taken)
-
-opposite-of-requires-2 : tie.Need-opposite-of-requires-2
-opposite-of-requires-2 c κs = search needs
 
 market-best-requires-2 : tie.Need-market-best-requires-2
 market-best-requires-2 c κs =
@@ -30,15 +24,6 @@ returns-2 : tie.Need-returns-2
 returns-2 c =
     band-none2 _ (c .before .before .before .before .before .before .before .before .before .args .c) _ _ (c .before .before .before .before .before .market-best .ensures) (c .before .before .before .before .before .before .opposite-of .ensures) (c .before .before .before .before .if1 .left) _ _
     (c .before .market-best2 .ensures) (c .before .before .opposite-of2 .ensures) _ (c .if2 .taken)
-
-net-of-requires : tie.Need-net-of-requires
-net-of-requires c κs = search needs
-
-figure-at-requires : tie.Need-figure-at-requires
-figure-at-requires c κs = search needs
-
-near-net-requires : tie.Need-near-net-requires
-near-net-requires c κs = search needs
 
 returns-3 : tie.Need-returns-3
 returns-3 c =
@@ -52,13 +37,13 @@ pub in-band-spec : {M : Type 1} → statement M
 in-band-spec =
     tie.close
     (tie.spec
-    opposite-of-requires
+    (λ c κs. search needs)
     market-best-requires
     returns
-    opposite-of-requires-2
+    (λ c κs. search needs)
     market-best-requires-2
     returns-2
-    net-of-requires
-    figure-at-requires
-    near-net-requires
+    (λ c κs. search needs)
+    (λ c κs. search needs)
+    (λ c κs. search needs)
     returns-3)

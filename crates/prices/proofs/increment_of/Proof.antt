@@ -4,11 +4,8 @@ use borrow.Author.Needs.{needs}
 use Rattle.prices.proofs.increment_of.Statement.{statement}
 use Rattle.prices.proofs.increment_of.Tie as tie
 
-figure-at-requires : tie.Need-figure-at-requires
-figure-at-requires c κs = search needs
-
 returns : tie.Need-returns
 returns c = increment-is _ _ _ (c .before .before .pre .2) (c .before .before .pre .1) (c .figure-at .ensures)
 
 pub increment-of-spec : {M : Type 1} → statement M
-increment-of-spec = tie.close (tie.spec figure-at-requires returns)
+increment-of-spec = tie.close (tie.spec (λ c κs. search needs) returns)

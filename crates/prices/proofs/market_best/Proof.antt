@@ -4,14 +4,8 @@ use borrow.Author.Needs.{needs}
 use Rattle.prices.proofs.market_best.Statement.{statement}
 use Rattle.prices.proofs.market_best.Tie as tie
 
-away-price-requires : tie.Need-away-price-requires
-away-price-requires c κs = search needs
-
-better-of-requires : tie.Need-better-of-requires
-better-of-requires c κs = search needs
-
 returns : tie.Need-returns
 returns c = market-is _ _ _ _ (c .before .before .before .pre .1) _ _ (c .before .away-price .ensures) (c .better-of .ensures)
 
 pub market-best-spec : {M : Type 1} → statement M
-market-best-spec = tie.close (tie.spec away-price-requires better-of-requires returns)
+market-best-spec = tie.close (tie.spec (λ c κs. search needs) (λ c κs. search needs) returns)

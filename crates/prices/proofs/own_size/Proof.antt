@@ -8,9 +8,6 @@ use borrow.Author.Needs.{needs}
 use Rattle.prices.proofs.own_size.Statement.{statement}
 use Rattle.prices.proofs.own_size.Tie as tie
 
-place-of-requires : tie.Need-place-of-requires
-place-of-requires c κs = search needs
-
 legging-at-requires : tie.Need-legging-at-requires
 unfolding placeOf
 legging-at-requires c κs = search needs
@@ -20,9 +17,6 @@ returns c =
     let k = c .before .before in
     let p = k .before .before .before .pre in
     size-free _ _ _ _ (p .1) _ (legging-read _ _ _ _ (k .legging-at .result) (p .2) (p .3) (k .before .place-of .ensures) (k .legging-at .ensures)) (c .if1 .taken)
-
-cast-legging : tie.Need-cast-legging
-cast-legging c = search needs
 
 add-result : tie.Need-add-result
 add-result c =
@@ -36,9 +30,6 @@ returns-2 c =
     let k = c .before .before .before .before .before .before .before in
     let p = k .before .before .before .pre in
     size-same _ _ _ _ (p .1) _ (legging-read _ _ _ _ (k .legging-at .result) (p .2) (p .3) (k .before .place-of .ensures) (k .legging-at .ensures)) (c .before .before .before .before .before .if1 .left) (c .before .if2 .taken)
-
-is-better-requires : tie.Need-is-better-requires
-is-better-requires c κs = search needs
 
 returns-3 : tie.Need-returns-3
 returns-3 c =
@@ -56,12 +47,12 @@ pub own-size-spec : {M : Type 1} → statement M
 own-size-spec =
     tie.close
     (tie.spec
-    place-of-requires
+    (λ c κs. search needs)
     legging-at-requires
     returns
-    cast-legging
+    (λ c. search needs)
     add-result
     returns-2
-    is-better-requires
+    (λ c κs. search needs)
     returns-3
     returns-4)

@@ -16,27 +16,12 @@ Inv-loop b l n i₀ i = (i ≤ n) × (findComplex (l .parent) (upto (complexIn b
 abbrev μ-loop : tie.MeasureT-loop
 μ-loop b l n i₀ i = n - i
 
-complexes-used-requires : tie.Need-complexes-used-requires Inv-loop μ-loop
-complexes-used-requires c κs = search needs
-
 loop-holds : tie.Need-loop-holds Inv-loop μ-loop
 unfolding parentOf venueOf
 loop-holds c = let n = c .complexes-used .ensures in (search needs, ap (λ (k : ℕ). findComplex (c .before .before .args .l .parent) (upto (complexIn (c .before .before .args .b .now)) 0 k)) (sub-zero _ ∙ n .0) ∙ find-used (complexIn (c .before .before .args .b .now)) (c .before .before .args .l .parent) (complexesUsed (c .before .before .args .b .now)) 32)
 
-complex-at-requires : tie.Need-complex-at-requires Inv-loop μ-loop
-complex-at-requires c κs = search needs
-
-is-complex-of-requires : tie.Need-is-complex-of-requires Inv-loop μ-loop
-is-complex-of-requires c κs = search needs
-
 returns : tie.Need-returns Inv-loop μ-loop
 returns c = (c .before .before .complex-at .ensures) ∙ find-here (c .before .before .before .before .before .before .before .args .l .parent) (complexIn (c .before .before .before .before .before .before .before .args .b .now)) (c .before .before .before .before .loop .i) _ (c .before .before .before .loop-test .taken) (ap (isComplexOf (c .before .before .before .before .before .before .before .args .l .parent)) (sym (c .before .before .complex-at .ensures)) ∙ sym (c .before .is-complex-of .ensures) ∙ c .if1 .taken) ∙ c .before .before .before .before .loop .inv .1
-
-add-i : tie.Need-add-i Inv-loop μ-loop
-add-i c = search needs
-
-loop-less : tie.Need-loop-less Inv-loop μ-loop
-loop-less c = search needs
 
 loop-again : tie.Need-loop-again Inv-loop μ-loop
 loop-again c = (search needs, find-past (c .before .before .before .before .before .before .before .args .l .parent) (complexIn (c .before .before .before .before .before .before .before .args .b .now)) (c .before .before .before .before .loop .i) _ (c .before .before .before .loop-test .taken) (ap (isComplexOf (c .before .before .before .before .before .before .before .args .l .parent)) (sym (c .before .before .complex-at .ensures)) ∙ sym (c .before .is-complex-of .ensures) ∙ c .if1 .left) ∙ c .before .before .before .before .loop .inv .1)
@@ -50,12 +35,12 @@ parent-of-spec =
     (tie.spec
     Inv-loop
     μ-loop
-    complexes-used-requires
+    (λ c κs. search needs)
     loop-holds
-    complex-at-requires
-    is-complex-of-requires
+    (λ c κs. search needs)
+    (λ c κs. search needs)
     returns
-    add-i
-    loop-less
+    (λ c. search needs)
+    (λ c. search needs)
     loop-again
     returns-2)

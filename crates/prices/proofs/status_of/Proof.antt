@@ -4,11 +4,8 @@ use borrow.Author.Needs.{needs}
 use Rattle.prices.proofs.status_of.Statement.{statement}
 use Rattle.prices.proofs.status_of.Tie as tie
 
-listed-at-requires : tie.Need-listed-at-requires
-listed-at-requires c κs = search needs
-
 returns : tie.Need-returns
 returns c = status-is _ _ (c .listed-at .result) (listed-read _ _ (c .listed-at .result) (c .before .before .pre .1) (c .listed-at .ensures))
 
 pub status-of-spec : {M : Type 1} → statement M
-status-of-spec = tie.close (tie.spec listed-at-requires returns)
+status-of-spec = tie.close (tie.spec (λ c κs. search needs) returns)

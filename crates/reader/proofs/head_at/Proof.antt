@@ -7,20 +7,11 @@ use Rattle.reader.proofs.head_at.Tie as tie
 returns : tie.Need-returns
 returns c = let s = c .before .before .args in at-end (s .messages .now) (s .at) (omega arith)
 
-sub-left : tie.Need-sub-left
-sub-left c = search needs
-
 returns-2 : tie.Need-returns-2
 returns-2 c = let s = c .before .before .before .args in at-torn (s .messages .now) (s .at) (omega arith) (λ a b. omega arith)
 
-u16-at-requires : tie.Need-u16-at-requires
-u16-at-requires c κs = search needs
-
 returns-3 : tie.Need-returns-3
 returns-3 c = let s = c .before .before .before .before .before .args in at-torn (s .messages .now) (s .at) (omega arith) (λ a b. omega arith)
-
-cast-if4 : tie.Need-cast-if4
-cast-if4 c = search needs
 
 returns-4 : tie.Need-returns-4
 returns-4 c = let s = c .before .before .before .before .before .before .args in at-torn (s .messages .now) (s .at) (omega arith) (λ a b. omega arith)
@@ -31,4 +22,4 @@ returns-5 c = at-message _ _ (omega arith) _ (c .before .before .u16-at .ensures
 pub head-at-spec : {M : Type 1} → statement M
 head-at-spec =
     tie.close
-    (tie.spec returns sub-left returns-2 u16-at-requires returns-3 cast-if4 returns-4 returns-5)
+    (tie.spec returns (λ c. search needs) returns-2 (λ c κs. search needs) returns-3 (λ c. search needs) returns-4 returns-5)

@@ -30,9 +30,6 @@ returns c =
     let y : 0 ≡ 4294967295 - n = omega arith in
     ap (bytes 4) (y ∙ sym (ap asUnsigned e))
 
-cast-result : tie.Need-cast-result
-cast-result c = search needs
-
 returns-2 : tie.Need-returns-2
 unfolding asUnsigned
 returns-2 c =
@@ -44,9 +41,6 @@ cast-wide c =
     let x = c .before .args .x in let f = c .before .fits .x in let (n, e, h) = positive x f (c .if1 .left) in
     rw (toZ-ofZ w64 x f, e) (tt, record { fits = omega arith })
 
-cast-result-2 : tie.Need-cast-result-2
-cast-result-2 c = search needs
-
 returns-3 : tie.Need-returns-3
 unfolding asUnsigned
 returns-3 c =
@@ -56,4 +50,4 @@ returns-3 c =
 pub bits-spec : {M : Type 1} → statement M
 bits-spec =
     tie.close
-    (tie.spec sub-back cast-back returns cast-result returns-2 cast-wide cast-result-2 returns-3)
+    (tie.spec sub-back cast-back returns (λ c. search needs) returns-2 cast-wide (λ c. search needs) returns-3)

@@ -4,15 +4,9 @@ use borrow.Author.Needs.{needs}
 use Rattle.records.proofs.bytes2.Statement.{statement}
 use Rattle.records.proofs.bytes2.Tie as tie
 
-cast-t3 : tie.Need-cast-t3
-cast-t3 c = search needs
-
-cast-t6 : tie.Need-cast-t6
-cast-t6 c = search needs
-
 returns : tie.Need-returns
 unfolding bytes
 returns c = refl
 
 pub bytes2-spec : {M : Type 1} → statement M
-bytes2-spec = tie.close (tie.spec cast-t3 cast-t6 returns)
+bytes2-spec = tie.close (tie.spec (λ c. search needs) (λ c. search needs) returns)

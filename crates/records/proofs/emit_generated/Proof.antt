@@ -7,33 +7,6 @@ use borrow.Author.Needs.{needs}
 use Rattle.records.proofs.emit_generated.Statement.{statement}
 use Rattle.records.proofs.emit_generated.Tie as tie
 
-bytes4-requires : tie.Need-bytes4-requires
-bytes4-requires c κs = search needs
-
-array-read-t15 : tie.Need-array-read-t15
-array-read-t15 c = search needs
-
-array-read-t18 : tie.Need-array-read-t18
-array-read-t18 c = search needs
-
-array-read-t21 : tie.Need-array-read-t21
-array-read-t21 c = search needs
-
-array-read-t24 : tie.Need-array-read-t24
-array-read-t24 c = search needs
-
-slice-aggregate-put-words : tie.Need-slice-aggregate-put-words
-slice-aggregate-put-words c = search needs
-
-slice-aggregate-put-words-2 : tie.Need-slice-aggregate-put-words-2
-slice-aggregate-put-words-2 c = search needs
-
-put-words-requires : tie.Need-put-words-requires
-put-words-requires c κs = search needs
-
-same-length : tie.Need-same-length
-same-length c = search needs
-
 returns : tie.Need-returns
 unfolding encode framed bytes wordBytes
 returns c =
@@ -45,13 +18,13 @@ pub emit-generated-spec : {M : Type 1} → statement M
 emit-generated-spec =
     tie.close
     (tie.spec
-    bytes4-requires
-    array-read-t15
-    array-read-t18
-    array-read-t21
-    array-read-t24
-    slice-aggregate-put-words
-    slice-aggregate-put-words-2
-    put-words-requires
-    same-length
+    (λ c κs. search needs)
+    (λ c. search needs)
+    (λ c. search needs)
+    (λ c. search needs)
+    (λ c. search needs)
+    (λ c. search needs)
+    (λ c. search needs)
+    (λ c κs. search needs)
+    (λ c. search needs)
     returns)

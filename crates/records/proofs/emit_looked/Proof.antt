@@ -6,15 +6,6 @@ use borrow.Author.Needs.{needs}
 use Rattle.records.proofs.emit_looked.Statement.{statement}
 use Rattle.records.proofs.emit_looked.Tie as tie
 
-slice-aggregate-put : tie.Need-slice-aggregate-put
-slice-aggregate-put c = search needs
-
-put-requires : tie.Need-put-requires
-put-requires c κs = search needs
-
-same-length : tie.Need-same-length
-same-length c = search needs
-
 returns : tie.Need-returns
 unfolding encode framed bytes
 returns c =
@@ -22,4 +13,4 @@ returns c =
     emitted _ _ _ (looked (s .args .count)) (c .before .before .put .ensures) (rw (byte (s .args .count) (s .fits .count .fits)))
 
 pub emit-looked-spec : {M : Type 1} → statement M
-emit-looked-spec = tie.close (tie.spec slice-aggregate-put put-requires same-length returns)
+emit-looked-spec = tie.close (tie.spec (λ c. search needs) (λ c κs. search needs) (λ c. search needs) returns)

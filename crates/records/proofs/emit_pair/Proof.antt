@@ -11,21 +11,6 @@ use borrow.Author.Needs.{needs}
 use Rattle.records.proofs.emit_pair.Statement.{statement}
 use Rattle.records.proofs.emit_pair.Tie as tie
 
-bits-requires : tie.Need-bits-requires
-bits-requires c κs = search needs
-
-slice-aggregate-put-words : tie.Need-slice-aggregate-put-words
-slice-aggregate-put-words c = search needs
-
-slice-aggregate-put-words-2 : tie.Need-slice-aggregate-put-words-2
-slice-aggregate-put-words-2 c = search needs
-
-put-words-requires : tie.Need-put-words-requires
-put-words-requires c κs = search needs
-
-same-length : tie.Need-same-length
-same-length c = search needs
-
 returns : tie.Need-returns
 unfolding encode framed bytes wordBytes
 returns c =
@@ -38,9 +23,9 @@ pub emit-pair-spec : {M : Type 1} → statement M
 emit-pair-spec =
     tie.close
     (tie.spec
-    bits-requires
-    slice-aggregate-put-words
-    slice-aggregate-put-words-2
-    put-words-requires
-    same-length
+    (λ c κs. search needs)
+    (λ c. search needs)
+    (λ c. search needs)
+    (λ c κs. search needs)
+    (λ c. search needs)
     returns)

@@ -6,33 +6,6 @@ use borrow.Author.Needs.{needs}
 use Rattle.records.proofs.emit_removed.Statement.{statement}
 use Rattle.records.proofs.emit_removed.Tie as tie
 
-bytes4-requires : tie.Need-bytes4-requires
-bytes4-requires c κs = search needs
-
-cause-number-requires : tie.Need-cause-number-requires
-cause-number-requires c κs = search needs
-
-array-read-t13 : tie.Need-array-read-t13
-array-read-t13 c = search needs
-
-array-read-t16 : tie.Need-array-read-t16
-array-read-t16 c = search needs
-
-array-read-t19 : tie.Need-array-read-t19
-array-read-t19 c = search needs
-
-array-read-t22 : tie.Need-array-read-t22
-array-read-t22 c = search needs
-
-slice-aggregate-put : tie.Need-slice-aggregate-put
-slice-aggregate-put c = search needs
-
-put-requires : tie.Need-put-requires
-put-requires c κs = search needs
-
-same-length : tie.Need-same-length
-same-length c = search needs
-
 returns : tie.Need-returns
 unfolding encode framed bytes
 returns c =
@@ -44,13 +17,13 @@ pub emit-removed-spec : {M : Type 1} → statement M
 emit-removed-spec =
     tie.close
     (tie.spec
-    bytes4-requires
-    cause-number-requires
-    array-read-t13
-    array-read-t16
-    array-read-t19
-    array-read-t22
-    slice-aggregate-put
-    put-requires
-    same-length
+    (λ c κs. search needs)
+    (λ c κs. search needs)
+    (λ c. search needs)
+    (λ c. search needs)
+    (λ c. search needs)
+    (λ c. search needs)
+    (λ c. search needs)
+    (λ c κs. search needs)
+    (λ c. search needs)
     returns)

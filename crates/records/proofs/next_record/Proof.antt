@@ -9,29 +9,11 @@ use Rattle.records.proofs.next_record.Tie as tie
 returns : tie.Need-returns
 returns c = let s = c .before .before .args in sym (next-none (s .memory .now) (s .at) (u16-past _ _ (c .if1 .taken)))
 
-u16-at-requires : tie.Need-u16-at-requires
-u16-at-requires c κs = search needs
-
 returns-2 : tie.Need-returns-2
 returns-2 c = sym (next-none _ _ (omega arith))
 
-add-u16-at : tie.Need-add-u16-at
-add-u16-at c = search needs
-
-u16-at-requires-2 : tie.Need-u16-at-requires-2
-u16-at-requires-2 c κs = search needs
-
-sub-room : tie.Need-sub-room
-sub-room c = search needs
-
-cast-bytes : tie.Need-cast-bytes
-cast-bytes c = search needs
-
 returns-3 : tie.Need-returns-3
 returns-3 c = let s = c .before .before .before .before .before .before .args in rw (c .before .u16-at2 .ensures) (sym (next-found (s .memory .now) (s .at) _ (λ e. omega arith) (omega arith)))
-
-add-t9 : tie.Need-add-t9
-add-t9 c = search needs
 
 returns-4 : tie.Need-returns-4
 returns-4 c = let s = c .before .before .before .before .before .before .args in rw (c .before .u16-at2 .ensures) (sym (next-found (s .memory .now) (s .at) _ (λ e. omega arith) (omega arith)))
@@ -41,12 +23,12 @@ next-record-spec =
     tie.close
     (tie.spec
     returns
-    u16-at-requires
+    (λ c κs. search needs)
     returns-2
-    add-u16-at
-    u16-at-requires-2
-    sub-room
-    cast-bytes
+    (λ c. search needs)
+    (λ c κs. search needs)
+    (λ c. search needs)
+    (λ c. search needs)
     returns-3
-    add-t9
+    (λ c. search needs)
     returns-4)

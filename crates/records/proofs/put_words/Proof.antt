@@ -5,38 +5,17 @@ use borrow.Author.Needs.{needs}
 use Rattle.records.proofs.put_words.Statement.{statement}
 use Rattle.records.proofs.put_words.Tie as tie
 
-add-result : tie.Need-add-result
-add-result c = search needs
-
 returns : tie.Need-returns
 returns c = let s = c .before .before .before .before .args in rw add-one (words-out (s .out .now) (s .head .now) (s .words .now) (s .at) (omega arith))
-
-mul-if2 : tie.Need-mul-if2
-mul-if2 c = search needs
-
-add-if2 : tie.Need-add-if2
-add-if2 c = search needs
-
-add-result-2 : tie.Need-add-result-2
-add-result-2 c = search needs
 
 returns-2 : tie.Need-returns-2
 returns-2 c = let s = c .before .before .before .before .before .args in rw add-one (words-out (s .out .now) (s .head .now) (s .words .now) (s .at) (omega arith))
 
-put-requires : tie.Need-put-requires
-put-requires c κs = search needs
-
 store-words-requires : tie.Need-store-words-requires
 store-words-requires c κs = let s = c .before .before .before .before .before .before .before .before .before .before .args in head-room (s .out .now) (s .head .now) (s .words .now) (s .at) _ _ (omega arith) (c .before .before .before .put .ensures)
 
-mul-result : tie.Need-mul-result
-mul-result c = search needs
-
 add-result-3 : tie.Need-add-result-3
 add-result-3 c = let s = c .before .before .before .before .before .before .before .before .before .before .before .before .before .args in let r = head-room (s .out .now) (s .head .now) (s .words .now) (s .at) _ _ (omega arith) (c .before .before .before .before .before .before .put .ensures) in omega arith
-
-same-length : tie.Need-same-length
-same-length c = search needs
 
 returns-3 : tie.Need-returns-3
 returns-3 c = let s = c .before .before .before .before .before .before .before .before .before .before .before .before .before .args in head-words (s .out .now) (s .head .now) (s .words .now) (s .at) _ _ _ (omega arith) (c .before .before .before .before .before .before .put .ensures) (c .before .before .store-words .ensures)
@@ -45,15 +24,15 @@ pub put-words-spec : {M : Type 1} → statement M
 put-words-spec =
     tie.close
     (tie.spec
-    add-result
+    (λ c. search needs)
     returns
-    mul-if2
-    add-if2
-    add-result-2
+    (λ c. search needs)
+    (λ c. search needs)
+    (λ c. search needs)
     returns-2
-    put-requires
+    (λ c κs. search needs)
     store-words-requires
-    mul-result
+    (λ c. search needs)
     add-result-3
-    same-length
+    (λ c. search needs)
     returns-3)

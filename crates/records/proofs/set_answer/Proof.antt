@@ -4,15 +4,9 @@ use borrow.Author.Needs.{needs}
 use Rattle.records.proofs.set_answer.Statement.{statement}
 use Rattle.records.proofs.set_answer.Tie as tie
 
-emit-answer-requires : tie.Need-emit-answer-requires
-emit-answer-requires c κs = search needs
-
-same-length : tie.Need-same-length
-same-length c = search needs
-
 returns : tie.Need-returns
 unfolding seen
 returns c = ap (λ (w : Seen). w .memory) (c .before .before .emit-answer .ensures)
 
 pub set-answer-spec : {M : Type 1} → statement M
-set-answer-spec = tie.close (tie.spec emit-answer-requires same-length returns)
+set-answer-spec = tie.close (tie.spec (λ c κs. search needs) (λ c. search needs) returns)

@@ -9,9 +9,6 @@ use borrow.Author.Needs.{needs}
 use Rattle.refusals.proofs.cancel_refusal.Statement.{statement}
 use Rattle.refusals.proofs.cancel_refusal.Tie as tie
 
-rests-requires : tie.Need-rests-requires
-rests-requires c κs = search needs
-
 returns : tie.Need-returns
 unfolding offIncrement editionTooLow inUse noEditionLeft idTooLow onClosed full unknown
 returns c = let s = c .before .before .before in accepts (venueOf (s .args .b .now)) (Cancel (s .args .id)) refl refl refl refl refl refl refl (ap not (sym (c .before .rests .ensures) ∙ c .if1 .taken))
@@ -21,4 +18,4 @@ unfolding offIncrement editionTooLow inUse noEditionLeft idTooLow onClosed full 
 returns-2 c = let s = c .before .before .before in refuses-unknown (venueOf (s .args .b .now)) (Cancel (s .args .id)) refl refl refl refl refl refl refl (ap not (sym (c .before .rests .ensures) ∙ c .if1 .left))
 
 pub cancel-refusal-spec : {M : Type 1} → statement M
-cancel-refusal-spec = tie.close (tie.spec rests-requires returns returns-2)
+cancel-refusal-spec = tie.close (tie.spec (λ c κs. search needs) returns returns-2)

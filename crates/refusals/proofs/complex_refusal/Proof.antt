@@ -13,9 +13,6 @@ use borrow.Author.Needs.{needs}
 use Rattle.refusals.proofs.complex_refusal.Statement.{statement}
 use Rattle.refusals.proofs.complex_refusal.Tie as tie
 
-last-id-requires : tie.Need-last-id-requires
-last-id-requires c κs = search needs
-
 returns : tie.Need-returns
 unfolding offIncrement editionTooLow inUse noEditionLeft idTooLow
 returns c = let s = c .before .before .before .before in refuses-low (venueOf (s .args .b .now)) (TwoLeg (s .args .c)) refl refl refl refl (ap (leb (s .args .c .id)) (sym (c .before .before .last-id .ensures)) ∙ le-leb _ _ (c .if1 .taken))
@@ -26,9 +23,6 @@ any-closed-requires c κs = let s = c .before .before .before .before in (s .pre
 returns-2 : tie.Need-returns-2
 unfolding offIncrement editionTooLow inUse noEditionLeft idTooLow onClosed
 returns-2 c = let s = c .before .before .before .before .before .before in refuses-closed (venueOf (s .args .b .now)) (TwoLeg (s .args .c)) refl refl refl refl (ap (leb (s .args .c .id)) (sym (c .before .before .before .before .last-id .ensures)) ∙ lt-leb _ _ (c .before .before .if1 .left)) (sym (c .before .any-closed .ensures) ∙ c .if2 .taken)
-
-complexes-used-requires : tie.Need-complexes-used-requires
-complexes-used-requires c κs = search needs
 
 returns-3 : tie.Need-returns-3
 unfolding offIncrement editionTooLow inUse noEditionLeft idTooLow onClosed full
@@ -42,10 +36,10 @@ pub complex-refusal-spec : {M : Type 1} → statement M
 complex-refusal-spec =
     tie.close
     (tie.spec
-    last-id-requires
+    (λ c κs. search needs)
     returns
     any-closed-requires
     returns-2
-    complexes-used-requires
+    (λ c κs. search needs)
     returns-3
     returns-4)

@@ -8,17 +8,11 @@ use borrow.Author.Needs.{needs}
 use Rattle.refusals.proofs.edition_refusal.Statement.{statement}
 use Rattle.refusals.proofs.edition_refusal.Tie as tie
 
-is-above-requires : tie.Need-is-above-requires
-is-above-requires c κs = search needs
-
 returns : tie.Need-returns
 returns c = edition-low (venueOf (c .before .before .before .args .b .now)) (c .before .before .before .args .edition) (c .before .before .before .args .used) (sym (c .before .is-above .ensures) ∙ not-true _ (c .if1 .taken))
 
 returns-2 : tie.Need-returns-2
 returns-2 c = edition-used (venueOf (c .before .before .before .before .args .b .now)) (c .before .before .before .before .args .edition) (c .before .before .before .before .args .used) (sym (c .before .before .is-above .ensures) ∙ not-false _ (c .before .if1 .left)) (c .if2 .taken)
-
-free-edition-requires : tie.Need-free-edition-requires
-free-edition-requires c κs = search needs
 
 returns-3 : tie.Need-returns-3
 returns-3 c = edition-none-left (venueOf (c .before .before .before .before .before .before .args .b .now)) (c .before .before .before .before .before .before .args .edition) (c .before .before .before .before .before .before .args .used) (sym (c .before .before .before .before .is-above .ensures) ∙ not-false _ (c .before .before .before .if1 .left)) (c .before .before .if2 .left) (ap (leb 32) (sym (c .before .free-edition .ensures)) ∙ le-leb _ _ (c .if3 .taken))
@@ -30,9 +24,9 @@ pub edition-refusal-spec : {M : Type 1} → statement M
 edition-refusal-spec =
     tie.close
     (tie.spec
-    is-above-requires
+    (λ c κs. search needs)
     returns
     returns-2
-    free-edition-requires
+    (λ c κs. search needs)
     returns-3
     returns-4)

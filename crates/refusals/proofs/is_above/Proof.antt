@@ -28,17 +28,8 @@ abbrev μ-loop : tie.MeasureT-loop
 loop-holds : tie.Need-loop-holds Inv-loop μ-loop
 loop-holds c = (search needs, λ j q. absurd (omega arith))
 
-edition-at-requires : tie.Need-edition-at-requires Inv-loop μ-loop
-edition-at-requires c κs = search needs
-
 returns : tie.Need-returns Inv-loop μ-loop
 returns c = let b = c .before .before .before .before .before .before .args .b .now in let e = c .before .before .before .before .before .before .args .edition in one-fails (below e) noEdition (editionIn b) 32 32 (omega arith) (c .before .before .before .before .loop .i) (omega arith) (ap (below e) (sym (c .before .before .edition-at .ensures)) ∙ le-ltb _ _ (c .if1 .taken)) ∙ ap (all (below e)) (editions-used b)
-
-add-i : tie.Need-add-i Inv-loop μ-loop
-add-i c = search needs
-
-loop-less : tie.Need-loop-less Inv-loop μ-loop
-loop-less c = search needs
 
 loop-again : tie.Need-loop-again Inv-loop μ-loop
 loop-again c = let b = c .before .before .before .before .before .before .args .b .now in let e = c .before .before .before .before .before .before .args .edition in (omega arith, below-more (λ j. below e (editionIn b j) ≡ true) (c .before .before .before .before .loop .i) (c .before .before .before .before .loop .inv .1) (ap (below e) (sym (c .before .before .edition-at .ensures)) ∙ lt-ltb _ _ (c .if1 .left)))
@@ -53,9 +44,9 @@ is-above-spec =
     Inv-loop
     μ-loop
     loop-holds
-    edition-at-requires
+    (λ c κs. search needs)
     returns
-    add-i
-    loop-less
+    (λ c. search needs)
+    (λ c. search needs)
     loop-again
     returns-2)

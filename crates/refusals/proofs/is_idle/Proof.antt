@@ -10,20 +10,11 @@ use borrow.Author.Needs.{needs}
 use Rattle.refusals.proofs.is_idle.Statement.{statement}
 use Rattle.refusals.proofs.is_idle.Tie as tie
 
-status-of-requires : tie.Need-status-of-requires
-status-of-requires c κs = search needs
-
 returns : tie.Need-returns
 returns c = busy-open (venueOf (c .before .before .before .args .b .now)) (c .before .before .before .args .s) (ap (λ (x : ℕ). eqb x closed) (sym (c .before .status-of .ensures)) ∙ ne-eqb _ _ (c .if1 .taken))
 
-no-order-in-requires : tie.Need-no-order-in-requires
-no-order-in-requires c κs = search needs
-
 returns-2 : tie.Need-returns-2
 returns-2 c = busy-order (venueOf (c .before .before .before .before .before .args .b .now)) (c .before .before .before .before .before .args .s) (ap (λ (x : ℕ). eqb x closed) (sym (c .before .before .before .status-of .ensures)) ∙ eq-eqb _ _ (c .before .before .if1 .left)) (sym (c .before .no-order-in .ensures) ∙ not-true _ (c .if2 .taken))
-
-no-leg-in-requires : tie.Need-no-leg-in-requires
-no-leg-in-requires c κs = search needs
 
 returns-3 : tie.Need-returns-3
 returns-3 c = c .no-leg-in .ensures ∙ idle-legs (venueOf (c .before .before .before .before .before .before .args .b .now)) (c .before .before .before .before .before .before .args .s) (ap (λ (x : ℕ). eqb x closed) (sym (c .before .before .before .before .status-of .ensures)) ∙ eq-eqb _ _ (c .before .before .before .if1 .left)) (sym (c .before .before .no-order-in .ensures) ∙ not-false _ (c .before .if2 .left))
@@ -32,9 +23,9 @@ pub is-idle-spec : {M : Type 1} → statement M
 is-idle-spec =
     tie.close
     (tie.spec
-    status-of-requires
+    (λ c κs. search needs)
     returns
-    no-order-in-requires
+    (λ c κs. search needs)
     returns-2
-    no-leg-in-requires
+    (λ c κs. search needs)
     returns-3)

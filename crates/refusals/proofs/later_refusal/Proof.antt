@@ -10,23 +10,8 @@ use borrow.Author.Needs.{needs}
 use Rattle.refusals.proofs.later_refusal.Statement.{statement}
 use Rattle.refusals.proofs.later_refusal.Tie as tie
 
-enum-known-m : tie.Need-enum-known-m
-enum-known-m c = search needs
-
 is-idle-requires : tie.Need-is-idle-requires
 is-idle-requires c κs = let s = c .before .before .before .before in (s .pre .0, increment-set _ _ _ (sym (ap wellFormed (c .before .m .given .1)) ∙ s .pre .2) .0)
-
-edition-refusal-requires : tie.Need-edition-refusal-requires
-edition-refusal-requires c κs = search needs
-
-enum-known-m-2 : tie.Need-enum-known-m-2
-enum-known-m-2 c = search needs
-
-edition-refusal-requires-2 : tie.Need-edition-refusal-requires-2
-edition-refusal-requires-2 c κs = search needs
-
-enum-told : tie.Need-enum-told
-enum-told c = search needs
 
 returns : tie.Need-returns
 returns c = let v = venueOf (c .before .before .before .before .before .before .args .b .now) in c .edition-refusal .ensures ∙ increment-refusal v _ _ _ _ (c .before .is-idle .ensures) ∙ sym (ap (refusalOf v) (c .before .before .before .m .given .1))
@@ -44,12 +29,12 @@ pub later-refusal-spec : {M : Type 1} → statement M
 later-refusal-spec =
     tie.close
     (tie.spec
-    enum-known-m
+    (λ c. search needs)
     is-idle-requires
-    edition-refusal-requires
-    enum-known-m-2
-    edition-refusal-requires-2
-    enum-told
+    (λ c κs. search needs)
+    (λ c. search needs)
+    (λ c κs. search needs)
+    (λ c. search needs)
     returns
     returns-2
     returns-3

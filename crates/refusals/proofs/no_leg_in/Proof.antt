@@ -24,17 +24,11 @@ Inv-loop b s n i₀ i = (i ≤ complexesUsed b) × ((j : ℕ) → j < i → else
 abbrev μ-loop : tie.MeasureT-loop
 μ-loop b s n i₀ i = complexesUsed b - i
 
-complexes-used-requires : tie.Need-complexes-used-requires Inv-loop μ-loop
-complexes-used-requires c κs = search needs
-
 loop-holds : tie.Need-loop-holds Inv-loop μ-loop
 loop-holds c = (search needs, λ j q. absurd (omega arith))
 
 complex-at-requires : tie.Need-complex-at-requires Inv-loop μ-loop
 complex-at-requires c κs = let w = complexes-few (c .before .before .before .before .args .b .now) in search needs
-
-has-leg-in-requires : tie.Need-has-leg-in-requires Inv-loop μ-loop
-has-leg-in-requires c κs = search needs
 
 returns : tie.Need-returns Inv-loop μ-loop
 unfolding venueOf
@@ -42,9 +36,6 @@ returns c = let b = c .before .before .before .before .before .before .before .a
 
 add-i : tie.Need-add-i Inv-loop μ-loop
 add-i c = let w = complexes-few (c .before .before .before .before .before .before .before .args .b .now) in search needs
-
-loop-less : tie.Need-loop-less Inv-loop μ-loop
-loop-less c = search needs
 
 loop-again : tie.Need-loop-again Inv-loop μ-loop
 loop-again c = let b = c .before .before .before .before .before .before .before .args .b .now in let s = c .before .before .before .before .before .before .before .args .s in (omega arith, below-more (λ j. elsewhere s (complexIn b j) ≡ true) (c .before .before .before .before .loop .i) (c .before .before .before .before .loop .inv .1) (ap (elsewhere s) (sym (c .before .before .complex-at .ensures)) ∙ ap not (sym (c .before .has-leg-in .ensures) ∙ c .if1 .left)))
@@ -59,12 +50,12 @@ no-leg-in-spec =
     (tie.spec
     Inv-loop
     μ-loop
-    complexes-used-requires
+    (λ c κs. search needs)
     loop-holds
     complex-at-requires
-    has-leg-in-requires
+    (λ c κs. search needs)
     returns
     add-i
-    loop-less
+    (λ c. search needs)
     loop-again
     returns-2)

@@ -24,17 +24,11 @@ Inv-loop b s n i₀ i = (i ≤ regularsUsed b) × ((j : ℕ) → j < i → elsew
 abbrev μ-loop : tie.MeasureT-loop
 μ-loop b s n i₀ i = regularsUsed b - i
 
-regulars-used-requires : tie.Need-regulars-used-requires Inv-loop μ-loop
-regulars-used-requires c κs = search needs
-
 loop-holds : tie.Need-loop-holds Inv-loop μ-loop
 loop-holds c = (search needs, λ j q. absurd (omega arith))
 
 regular-at-requires : tie.Need-regular-at-requires Inv-loop μ-loop
 regular-at-requires c κs = let w = regulars-few (c .before .before .before .before .args .b .now) in search needs
-
-rests-in-requires : tie.Need-rests-in-requires Inv-loop μ-loop
-rests-in-requires c κs = search needs
 
 returns : tie.Need-returns Inv-loop μ-loop
 unfolding venueOf
@@ -42,9 +36,6 @@ returns c = let b = c .before .before .before .before .before .before .before .a
 
 add-i : tie.Need-add-i Inv-loop μ-loop
 add-i c = let w = regulars-few (c .before .before .before .before .before .before .before .args .b .now) in search needs
-
-loop-less : tie.Need-loop-less Inv-loop μ-loop
-loop-less c = search needs
 
 loop-again : tie.Need-loop-again Inv-loop μ-loop
 loop-again c = let b = c .before .before .before .before .before .before .before .args .b .now in let s = c .before .before .before .before .before .before .before .args .s in (omega arith, below-more (λ j. elsewhere s (regularIn b j) ≡ true) (c .before .before .before .before .loop .i) (c .before .before .before .before .loop .inv .1) (ap (elsewhere s) (sym (c .before .before .regular-at .ensures)) ∙ ap not (sym (c .before .rests-in .ensures) ∙ c .if1 .left)))
@@ -59,12 +50,12 @@ no-order-in-spec =
     (tie.spec
     Inv-loop
     μ-loop
-    regulars-used-requires
+    (λ c κs. search needs)
     loop-holds
     regular-at-requires
-    rests-in-requires
+    (λ c κs. search needs)
     returns
     add-i
-    loop-less
+    (λ c. search needs)
     loop-again
     returns-2)

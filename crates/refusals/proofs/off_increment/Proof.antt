@@ -8,18 +8,9 @@ use borrow.Author.Needs.{needs}
 use Rattle.refusals.proofs.off_increment.Statement.{statement}
 use Rattle.refusals.proofs.off_increment.Tie as tie
 
-increment-of-requires : tie.Need-increment-of-requires
-increment-of-requires c κs = search needs
-
-cast-result : tie.Need-cast-result
-cast-result c = search needs
-
-rem-result : tie.Need-rem-result
-rem-result c = search needs
-
 returns : tie.Need-returns
 unfolding offIncrement onIncrement
 returns c = ap (λ (x : ℕ). not (eqb (c .before .before .before .args .o .price % x) 0)) (c .before .increment-of .ensures .0)
 
 pub off-increment-spec : {M : Type 1} → statement M
-off-increment-spec = tie.close (tie.spec increment-of-requires cast-result rem-result returns)
+off-increment-spec = tie.close (tie.spec (λ c κs. search needs) (λ c. search needs) (λ c. search needs) returns)

@@ -25,9 +25,6 @@ off-increment-requires c κs = let s = c .before in (s .pre .0, regular-side (s 
 returns : tie.Need-returns
 returns c = refuses-off (venueOf (c .before .before .before .args .b .now)) (Order (c .before .before .before .args .o)) (sym (c .before .off-increment .ensures) ∙ c .if1 .taken)
 
-last-id-requires : tie.Need-last-id-requires
-last-id-requires c κs = search needs
-
 returns-2 : tie.Need-returns-2
 unfolding editionTooLow inUse noEditionLeft idTooLow
 returns-2 c = refuses-low (venueOf (c .before .before .before .before .before .before .args .b .now)) (Order (c .before .before .before .before .before .before .args .o)) (on-increment (c .before .before .before)) refl refl refl (ap (leb (c .before .before .before .before .before .before .args .o .id)) (sym (c .before .before .last-id .ensures)) ∙ le-leb _ _ (c .if2 .taken))
@@ -38,9 +35,6 @@ status-of-requires c κs = let s = c .before .before .before .before .before .be
 returns-3 : tie.Need-returns-3
 unfolding editionTooLow inUse noEditionLeft idTooLow onClosed
 returns-3 c = refuses-closed (venueOf (c .before .before .before .before .before .before .before .before .args .b .now)) (Order (c .before .before .before .before .before .before .before .before .args .o)) (on-increment (c .before .before .before .before .before)) refl refl refl (ap (leb (c .before .before .before .before .before .before .before .before .args .o .id)) (sym (c .before .before .before .before .last-id .ensures)) ∙ lt-leb _ _ (c .before .before .if2 .left)) (ap (λ (x : ℕ). eqb x closed) (sym (c .before .status-of .ensures)) ∙ eq-eqb _ _ (c .if3 .taken))
-
-regulars-used-requires : tie.Need-regulars-used-requires
-regulars-used-requires c κs = search needs
 
 returns-4 : tie.Need-returns-4
 unfolding editionTooLow inUse noEditionLeft idTooLow onClosed full
@@ -56,10 +50,10 @@ order-refusal-spec =
     (tie.spec
     off-increment-requires
     returns
-    last-id-requires
+    (λ c κs. search needs)
     returns-2
     status-of-requires
     returns-3
-    regulars-used-requires
+    (λ c κs. search needs)
     returns-4
     returns-5)

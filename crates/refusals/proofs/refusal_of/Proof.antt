@@ -10,9 +10,6 @@ use borrow.Author.Needs.{needs}
 use Rattle.refusals.proofs.refusal_of.Statement.{statement}
 use Rattle.refusals.proofs.refusal_of.Tie as tie
 
-message-form-requires : tie.Need-message-form-requires
-message-form-requires c κs = search needs
-
 later-refusal-requires : tie.Need-later-refusal-requires
 later-refusal-requires c κs = let s = c .before .before .before in let e = c .before .message-form .ensures in (s .pre .0, omega arith, s .pre .2)
 
@@ -22,25 +19,13 @@ returns c = c .later-refusal .ensures
 returns-2 : tie.Need-returns-2
 returns-2 c = let s = c .before .before .before .before in let e = c .before .before .message-form .ensures in never-refused (venueOf (s .args .b .now)) (s .args .m) (omega arith) (omega arith)
 
-enum-known-m : tie.Need-enum-known-m
-enum-known-m c = search needs
-
 order-refusal-requires : tie.Need-order-refusal-requires
 unfolding wellFormed
 order-refusal-requires c κs = let s = c .before .before .before .before .before .before .before in (s .pre .0, s .pre .1, sym (ap wellFormed (c .before .m .given .1)) ∙ s .pre .2)
 
-enum-known-m-2 : tie.Need-enum-known-m-2
-enum-known-m-2 c = search needs
-
 complex-refusal-requires : tie.Need-complex-refusal-requires
 unfolding wellFormed
 complex-refusal-requires c κs = let s = c .before .before .before .before .before .before .before in (s .pre .0, s .pre .1, sym (ap wellFormed (c .before .m2 .given .1)) ∙ s .pre .2)
-
-enum-known-m-3 : tie.Need-enum-known-m-3
-enum-known-m-3 c = search needs
-
-cancel-refusal-requires : tie.Need-cancel-refusal-requires
-cancel-refusal-requires c κs = search needs
 
 returns-3 : tie.Need-returns-3
 returns-3 c = let s = c .before .before .before .before .before .before .before .before in c .order-refusal .ensures ∙ sym (ap (refusalOf (venueOf (s .args .b .now))) (c .before .before .m .given .1))
@@ -58,16 +43,16 @@ pub refusal-of-spec : {M : Type 1} → statement M
 refusal-of-spec =
     tie.close
     (tie.spec
-    message-form-requires
+    (λ c κs. search needs)
     later-refusal-requires
     returns
     returns-2
-    enum-known-m
+    (λ c. search needs)
     order-refusal-requires
-    enum-known-m-2
+    (λ c. search needs)
     complex-refusal-requires
-    enum-known-m-3
-    cancel-refusal-requires
+    (λ c. search needs)
+    (λ c κs. search needs)
     returns-3
     returns-4
     returns-5

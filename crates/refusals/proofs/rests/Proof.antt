@@ -8,18 +8,6 @@ use borrow.Author.Needs.{needs}
 use Rattle.refusals.proofs.rests.Statement.{statement}
 use Rattle.refusals.proofs.rests.Tie as tie
 
-regular-place-requires : tie.Need-regular-place-requires
-regular-place-requires c κs = search needs
-
-enum-known-found : tie.Need-enum-known-found
-enum-known-found c = search needs
-
-enum-told : tie.Need-enum-told
-enum-told c = search needs
-
-complex-rests-requires : tie.Need-complex-rests-requires
-complex-rests-requires c κs = search needs
-
 returns : tie.Need-returns
 returns c = let s = c .before .before .before .before .before in ap (λ (t : Bool). t || restsComplex (venueOf (s .args .b .now)) (s .args .id)) (regular-told _ _ _ (sym (c .before .found .given .1) ∙ c .before .before .before .regular-place .ensures))
 
@@ -30,9 +18,9 @@ pub rests-spec : {M : Type 1} → statement M
 rests-spec =
     tie.close
     (tie.spec
-    regular-place-requires
-    enum-known-found
-    enum-told
-    complex-rests-requires
+    (λ c κs. search needs)
+    (λ c. search needs)
+    (λ c. search needs)
+    (λ c κs. search needs)
     returns
     returns-2)

@@ -10,12 +10,6 @@ use borrow.Author.Needs.{needs}
 use Rattle.removal.proofs.clear.Statement.{statement}
 use Rattle.removal.proofs.clear.Tie as tie
 
-legging-at-requires : tie.Need-legging-at-requires
-legging-at-requires c κs = search needs
-
-same-length : tie.Need-same-length
-same-length c = search needs
-
 returns : tie.Need-returns
 returns c =
     let p2 = c .before .before in
@@ -26,24 +20,6 @@ returns c =
           (clear-free (a .n) (venueOf (a .b .now)) _ (legging-at (a .b .now) (a .n) (s .pre .1) ∙ sym (p2 .legging-at .ensures)) (a .cause) (c .if1 .taken)),
       record { regulars = refl; complexes = refl; right = λ h. h },
     )
-
-put-legging-requires : tie.Need-put-legging-requires
-put-legging-requires c κs = search needs
-
-cast-emit-removed : tie.Need-cast-emit-removed
-cast-emit-removed c = search needs
-
-cast-emit-removed-2 : tie.Need-cast-emit-removed-2
-cast-emit-removed-2 c = search needs
-
-emit-removed-requires : tie.Need-emit-removed-requires
-emit-removed-requires c κs = search needs
-
-same-length-2 : tie.Need-same-length-2
-same-length-2 c = search needs
-
-same-length-3 : tie.Need-same-length-3
-same-length-3 c = search needs
 
 returns-2 : tie.Need-returns-2
 returns-2 c =
@@ -64,13 +40,13 @@ pub clear-spec : {M : Type 1} → statement M
 clear-spec =
     tie.close
     (tie.spec
-    legging-at-requires
-    same-length
+    (λ c κs. search needs)
+    (λ c. search needs)
     returns
-    put-legging-requires
-    cast-emit-removed
-    cast-emit-removed-2
-    emit-removed-requires
-    same-length-2
-    same-length-3
+    (λ c κs. search needs)
+    (λ c. search needs)
+    (λ c. search needs)
+    (λ c κs. search needs)
+    (λ c. search needs)
+    (λ c. search needs)
     returns-2)

@@ -18,15 +18,6 @@ abbrev μ-loop : tie.MeasureT-loop
 loop-holds : tie.Need-loop-holds Inv-loop μ-loop
 loop-holds c = removing-start _ _ _ _ (c .before .before .pre)
 
-add-n : tie.Need-add-n Inv-loop μ-loop
-add-n c = search needs
-
-clear-requires : tie.Need-clear-requires Inv-loop μ-loop
-clear-requires c κs = search needs
-
-loop-less : tie.Need-loop-less Inv-loop μ-loop
-loop-less c = search needs
-
 loop-again : tie.Need-loop-again Inv-loop μ-loop
 loop-again c =
     let p4 = c .before .before .before .before in
@@ -35,12 +26,6 @@ loop-again c =
     let p9 = p8 .before in
     removing-turn _ (p9 .loop .inv) _ _ _ _ (p8 .loop-test .taken) (at-one _ _ _ _ (p7 .if1 .taken)) (p4 .clear .kept .0) (p4 .clear .ensures)
 
-clear-requires-2 : tie.Need-clear-requires-2 Inv-loop μ-loop
-clear-requires-2 c κs = search needs
-
-loop-less-2 : tie.Need-loop-less-2 Inv-loop μ-loop
-loop-less-2 c = search needs
-
 loop-again-2 : tie.Need-loop-again-2 Inv-loop μ-loop
 loop-again-2 c =
     let p4 = c .before .before .before .before in
@@ -48,9 +33,6 @@ loop-again-2 c =
     let p9 = p7 .before .before in
     let p10 = p9 .before in
     removing-turn _ (p10 .loop .inv) _ _ _ _ (p9 .loop-test .taken) (at-two _ _ _ _ (p7 .if2 .taken)) (p4 .clear2 .kept .0) (p4 .clear2 .ensures)
-
-loop-less-3 : tie.Need-loop-less-3 Inv-loop μ-loop
-loop-less-3 c = search needs
 
 loop-again-3 : tie.Need-loop-again-3 Inv-loop μ-loop
 loop-again-3 c =
@@ -74,14 +56,14 @@ remove-at-spec =
     Inv-loop
     μ-loop
     loop-holds
-    add-n
-    clear-requires
-    loop-less
+    (λ c. search needs)
+    (λ c κs. search needs)
+    (λ c. search needs)
     loop-again
-    clear-requires-2
-    loop-less-2
+    (λ c κs. search needs)
+    (λ c. search needs)
     loop-again-2
-    loop-less-3
+    (λ c. search needs)
     loop-again-3
     same-length
     same-length-2

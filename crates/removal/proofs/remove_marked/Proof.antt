@@ -25,24 +25,6 @@ few c =
     let i = c .before .loop .inv in
     left-few (i .1) (i .0 .few) (c .loop-test .taken)
 
-add-n : tie.Need-add-n Inv-loop μ-loop
-add-n c = search needs
-
-cast-x : tie.Need-cast-x Inv-loop μ-loop
-cast-x c = search needs
-
-verdict-by-requires : tie.Need-verdict-by-requires Inv-loop μ-loop
-verdict-by-requires c κs = search needs
-
-enum-known-found : tie.Need-enum-known-found Inv-loop μ-loop
-enum-known-found c = search needs
-
-enum-told : tie.Need-enum-told Inv-loop μ-loop
-enum-told c = search needs
-
-loop-less : tie.Need-loop-less Inv-loop μ-loop
-loop-less c = search needs
-
 loop-again : tie.Need-loop-again Inv-loop μ-loop
 loop-again c =
     let p2 = c .before .before in
@@ -54,9 +36,6 @@ loop-again c =
 
 clear-requires : tie.Need-clear-requires Inv-loop μ-loop
 clear-requires c κs = (search needs, few (c .before .before .before .before .before .before))
-
-loop-less-2 : tie.Need-loop-less-2 Inv-loop μ-loop
-loop-less-2 c = search needs
 
 loop-again-2 : tie.Need-loop-again-2 Inv-loop μ-loop
 loop-again-2 c =
@@ -87,15 +66,15 @@ remove-marked-spec =
     Inv-loop
     μ-loop
     loop-holds
-    add-n
-    cast-x
-    verdict-by-requires
-    enum-known-found
-    enum-told
-    loop-less
+    (λ c. search needs)
+    (λ c. search needs)
+    (λ c κs. search needs)
+    (λ c. search needs)
+    (λ c. search needs)
+    (λ c. search needs)
     loop-again
     clear-requires
-    loop-less-2
+    (λ c. search needs)
     loop-again-2
     same-length
     same-length-2

@@ -17,27 +17,12 @@ abbrev μ-loop : tie.MeasureT-loop
 loop-holds : tie.Need-loop-holds Inv-loop μ-loop
 loop-holds c = removing-start _ _ _ _ (c .before .before .pre)
 
-add-n : tie.Need-add-n Inv-loop μ-loop
-add-n c = search needs
-
-legging-at-requires : tie.Need-legging-at-requires Inv-loop μ-loop
-legging-at-requires c κs = search needs
-
-loop-less : tie.Need-loop-less Inv-loop μ-loop
-loop-less c = search needs
-
 loop-again : tie.Need-loop-again Inv-loop μ-loop
 loop-again c =
     let p2 = c .before .before in
     let p4 = p2 .before .before in
     let p5 = p4 .before in
     removing-past _ (p5 .loop .inv) (p4 .loop-test .taken) (not-parent _ _ (p2 .legging-at .ensures) (c .if1 .taken))
-
-clear-requires : tie.Need-clear-requires Inv-loop μ-loop
-clear-requires c κs = search needs
-
-loop-less-2 : tie.Need-loop-less-2 Inv-loop μ-loop
-loop-less-2 c = search needs
 
 loop-again-2 : tie.Need-loop-again-2 Inv-loop μ-loop
 loop-again-2 c =
@@ -66,12 +51,12 @@ remove-of-spec =
     Inv-loop
     μ-loop
     loop-holds
-    add-n
-    legging-at-requires
-    loop-less
+    (λ c. search needs)
+    (λ c κs. search needs)
+    (λ c. search needs)
     loop-again
-    clear-requires
-    loop-less-2
+    (λ c κs. search needs)
+    (λ c. search needs)
     loop-again-2
     same-length
     same-length-2

@@ -5,26 +5,14 @@ use borrow.Author.Needs.{needs}
 use Rattle.set_check.proofs.complex_placed.Statement.{statement}
 use Rattle.set_check.proofs.complex_placed.Tie as tie
 
-u32-at-requires : tie.Need-u32-at-requires
-u32-at-requires c κs = search needs
-
 returns : tie.Need-returns
 returns c = complex-free _ _ (c .before .u32-at .ensures) (omega arith)
-
-kind-of-requires : tie.Need-kind-of-requires
-kind-of-requires c κs = search needs
 
 returns-2 : tie.Need-returns-2
 returns-2 c = complex-pair _ _ (c .before .before .before .u32-at .ensures) (λ e. omega arith) (λ e. omega arith)
 
-u8-at-requires : tie.Need-u8-at-requires
-u8-at-requires c κs = search needs
-
 returns-3 : tie.Need-returns-3
 returns-3 c = complex-first _ _ (c .before .before .before .before .before .u32-at .ensures) (λ e. omega arith) (omega arith) (λ e. omega arith)
-
-u8-at-requires-2 : tie.Need-u8-at-requires-2
-u8-at-requires-2 c κs = search needs
 
 returns-4 : tie.Need-returns-4
 returns-4 c = complex-second _ _ (c .before .before .before .before .before .before .u32-at .ensures) (λ e. omega arith) _ (omega arith) (omega arith) (c .u8-at2 .ensures)
@@ -33,11 +21,11 @@ pub complex-placed-spec : {M : Type 1} → statement M
 complex-placed-spec =
     tie.close
     (tie.spec
-    u32-at-requires
+    (λ c κs. search needs)
     returns
-    kind-of-requires
+    (λ c κs. search needs)
     returns-2
-    u8-at-requires
+    (λ c κs. search needs)
     returns-3
-    u8-at-requires-2
+    (λ c κs. search needs)
     returns-4)

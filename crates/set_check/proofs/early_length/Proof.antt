@@ -7,18 +7,12 @@ use borrow.Author.Needs.{needs}
 use Rattle.set_check.proofs.early_length.Statement.{statement}
 use Rattle.set_check.proofs.early_length.Tie as tie
 
-length-of-requires : tie.Need-length-of-requires
-length-of-requires c κs = search needs
-
 returns : tie.Need-returns
 returns c = c .length-of .ensures ∙ length-same _ (omega arith) (λ e. omega arith) (λ e. omega arith) (λ e. omega arith) (λ e. omega arith)
 
 returns-2 : tie.Need-returns-2
 unfolding setLength
 returns-2 c = let k : c .before .before .args .kind ≡ 3 = omega arith in sym (ap setLength k)
-
-length-of-requires-2 : tie.Need-length-of-requires-2
-length-of-requires-2 c κs = search needs
 
 returns-3 : tie.Need-returns-3
 returns-3 c = c .length-of2 .ensures ∙ length-same _ (omega arith) (λ e. omega arith) (λ e. omega arith) (λ e. omega arith) (λ e. omega arith)
@@ -35,9 +29,6 @@ returns-6 : tie.Need-returns-6
 unfolding setLength
 returns-6 c = let k : c .before .before .before .before .before .before .args .kind ≡ 8 = omega arith in sym (ap setLength k)
 
-length-of-requires-3 : tie.Need-length-of-requires-3
-length-of-requires-3 c κs = search needs
-
 returns-7 : tie.Need-returns-7
 returns-7 c = c .length-of3 .ensures ∙ length-same _ (omega arith) (λ e. omega arith) (λ e. omega arith) (λ e. omega arith) (λ e. omega arith)
 
@@ -45,13 +36,13 @@ pub early-length-spec : {M : Type 1} → statement M
 early-length-spec =
     tie.close
     (tie.spec
-    length-of-requires
+    (λ c κs. search needs)
     returns
     returns-2
-    length-of-requires-2
+    (λ c κs. search needs)
     returns-3
     returns-4
     returns-5
     returns-6
-    length-of-requires-3
+    (λ c κs. search needs)
     returns-7)

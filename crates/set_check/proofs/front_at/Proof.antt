@@ -9,29 +9,14 @@ use borrow.Author.Needs.{needs}
 use Rattle.set_check.proofs.front_at.Statement.{statement}
 use Rattle.set_check.proofs.front_at.Tie as tie
 
-u16-at-requires : tie.Need-u16-at-requires
-u16-at-requires c κs = search needs
-
 returns : tie.Need-returns
 returns c = let s = c .before .before .before .args in front-ended _ (omega (arith, length-here (s .memory .now) (s .at)))
-
-message-head-requires : tie.Need-message-head-requires
-message-head-requires c κs = search needs
-
-head-length-requires : tie.Need-head-length-requires
-head-length-requires c κs = search needs
 
 returns-2 : tie.Need-returns-2
 returns-2 c = let s = c .before .before .before .before .before .before .args in front-no-head _ (λ e. omega (arith, length-here (s .memory .now) (s .at))) (sym (ap headLength (c .before .before .message-head .ensures)) ∙ sym (c .before .head-length .ensures) ∙ c .if2 .taken)
 
 add-u16-at : tie.Need-add-u16-at
 add-u16-at c = let s = c .before .before .before .before .before .before .args in let w = front-head _ _ (c .before .head-length .ensures ∙ ap headLength (c .before .before .message-head .ensures)) (c .if2 .left) in let x = w .four in let y = w .fits in omega (arith, length-drop (s .at) (s .memory .now))
-
-u16-at-requires-2 : tie.Need-u16-at-requires-2
-u16-at-requires-2 c κs = search needs
-
-set-length-requires : tie.Need-set-length-requires
-set-length-requires c κs = search needs
 
 returns-3 : tie.Need-returns-3
 returns-3 c = let s = c .before .before .before .before .before .before .before .before .before .args in let w = front-head _ _ (c .before .before .before .before .head-length .ensures ∙ ap headLength (c .before .before .before .before .before .message-head .ensures)) (c .before .before .before .if2 .left) in front-other _ _ w _ (c .before .set-length .ensures ∙ ap setLength (c .before .before .u16-at2 .ensures ∙ sym (kind-here (s .memory .now) (s .at)))) (c .if3 .taken)
@@ -43,13 +28,13 @@ pub front-at-spec : {M : Type 1} → statement M
 front-at-spec =
     tie.close
     (tie.spec
-    u16-at-requires
+    (λ c κs. search needs)
     returns
-    message-head-requires
-    head-length-requires
+    (λ c κs. search needs)
+    (λ c κs. search needs)
     returns-2
     add-u16-at
-    u16-at-requires-2
-    set-length-requires
+    (λ c κs. search needs)
+    (λ c κs. search needs)
     returns-3
     returns-4)

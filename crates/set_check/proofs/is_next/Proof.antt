@@ -7,20 +7,11 @@ use borrow.Author.Needs.{needs}
 use Rattle.set_check.proofs.is_next.Statement.{statement}
 use Rattle.set_check.proofs.is_next.Tie as tie
 
-is-opening-requires : tie.Need-is-opening-requires
-is-opening-requires c κs = search needs
-
 returns : tie.Need-returns
 returns c = next-opens _ _ _ (omega arith) (c .is-opening .ensures)
 
-of-this-requires : tie.Need-of-this-requires
-of-this-requires c κs = search needs
-
 returns-2 : tie.Need-returns-2
 returns-2 c = next-not _ _ (omega arith) (sym (c .before .of-this .ensures) ∙ not-true _ (c .if2 .taken))
-
-may-stand-requires : tie.Need-may-stand-requires
-may-stand-requires c κs = search needs
 
 returns-3 : tie.Need-returns-3
 returns-3 c = next-stands _ _ _ (omega arith) (sym (c .before .before .of-this .ensures) ∙ not-false _ (c .before .if2 .left)) (c .may-stand .ensures)
@@ -28,4 +19,4 @@ returns-3 c = next-stands _ _ _ (omega arith) (sym (c .before .before .of-this .
 pub is-next-spec : {M : Type 1} → statement M
 is-next-spec =
     tie.close
-    (tie.spec is-opening-requires returns of-this-requires returns-2 may-stand-requires returns-3)
+    (tie.spec (λ c κs. search needs) returns (λ c κs. search needs) returns-2 (λ c κs. search needs) returns-3)

@@ -8,9 +8,6 @@ use borrow.Author.Needs.{needs}
 use Rattle.set_check.proofs.is_whole.Statement.{statement}
 use Rattle.set_check.proofs.is_whole.Tie as tie
 
-kind-of-requires : tie.Need-kind-of-requires
-kind-of-requires c κs = search needs
-
 returns : tie.Need-returns
 unfolding isWhole
 returns c = rw (eq-eqb _ _ (c .before .if1 .taken)) (ap (λ (k : ℕ). eqb k 80) (c .kind-of .ensures))
@@ -20,4 +17,4 @@ unfolding isWhole
 returns-2 c = rw (ne-eqb _ _ (c .if1 .left))
 
 pub is-whole-spec : {M : Type 1} → statement M
-is-whole-spec = tie.close (tie.spec kind-of-requires returns returns-2)
+is-whole-spec = tie.close (tie.spec (λ c κs. search needs) returns returns-2)

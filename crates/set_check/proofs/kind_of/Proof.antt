@@ -4,12 +4,9 @@ use borrow.Author.Needs.{needs}
 use Rattle.set_check.proofs.kind_of.Statement.{statement}
 use Rattle.set_check.proofs.kind_of.Tie as tie
 
-u16-at-requires : tie.Need-u16-at-requires
-u16-at-requires c κs = search needs
-
 returns : tie.Need-returns
 unfolding kindField
 returns c = c .u16-at .ensures
 
 pub kind-of-spec : {M : Type 1} → statement M
-kind-of-spec = tie.close (tie.spec u16-at-requires returns)
+kind-of-spec = tie.close (tie.spec (λ c κs. search needs) returns)

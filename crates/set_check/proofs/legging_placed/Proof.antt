@@ -5,20 +5,11 @@ use borrow.Author.Needs.{needs}
 use Rattle.set_check.proofs.legging_placed.Statement.{statement}
 use Rattle.set_check.proofs.legging_placed.Tie as tie
 
-u8-at-requires : tie.Need-u8-at-requires
-u8-at-requires c κs = search needs
-
 returns : tie.Need-returns
 returns c = legging-series _ _ (c .before .u8-at .ensures) (omega arith)
 
-u8-at-requires-2 : tie.Need-u8-at-requires-2
-u8-at-requires-2 c κs = search needs
-
 returns-2 : tie.Need-returns-2
 returns-2 c = legging-side _ _ (c .before .before .before .u8-at .ensures) _ (c .before .u8-at2 .ensures) (omega arith) (omega arith)
-
-u32-at-requires : tie.Need-u32-at-requires
-u32-at-requires c κs = search needs
 
 returns-3 : tie.Need-returns-3
 returns-3 c = legging-quantity _ _ (c .before .before .before .before .u8-at .ensures) _ (c .before .before .u8-at2 .ensures) _ (c .u32-at .ensures) (omega arith) (omega arith)
@@ -26,4 +17,4 @@ returns-3 c = legging-quantity _ _ (c .before .before .before .before .u8-at .en
 pub legging-placed-spec : {M : Type 1} → statement M
 legging-placed-spec =
     tie.close
-    (tie.spec u8-at-requires returns u8-at-requires-2 returns-2 u32-at-requires returns-3)
+    (tie.spec (λ c κs. search needs) returns (λ c κs. search needs) returns-2 (λ c κs. search needs) returns-3)

@@ -7,29 +7,17 @@ use borrow.Author.Needs.{needs}
 use Rattle.set_check.proofs.may_stand.Statement.{statement}
 use Rattle.set_check.proofs.may_stand.Tie as tie
 
-part-of-requires : tie.Need-part-of-requires
-part-of-requires c κs = search needs
-
 returns : tie.Need-returns
 returns c = stand-later _ _ (omega arith)
 
 returns-2 : tie.Need-returns-2
 returns-2 c = stand-earlier _ _ (omega arith) (λ e. omega arith)
 
-mark-of-requires : tie.Need-mark-of-requires
-mark-of-requires c κs = search needs
-
 returns-3 : tie.Need-returns-3
 returns-3 c = stand-risen _ _ (omega arith) (omega arith)
 
-same-series-requires : tie.Need-same-series-requires
-same-series-requires c κs = search needs
-
 returns-4 : tie.Need-returns-4
 returns-4 c = stand-fallen _ _ (omega arith) (omega arith) (sym (c .before .same-series .ensures) ∙ not-true _ (c .if4 .taken))
-
-told-of-requires : tie.Need-told-of-requires
-told-of-requires c κs = search needs
 
 returns-5 : tie.Need-returns-5
 returns-5 c = stand-told _ _ (omega arith) _ (omega arith) (sym (c .before .before .before .same-series .ensures) ∙ not-false _ (c .before .before .if4 .left)) (c .before .told-of .ensures)
@@ -38,12 +26,12 @@ pub may-stand-spec : {M : Type 1} → statement M
 may-stand-spec =
     tie.close
     (tie.spec
-    part-of-requires
+    (λ c κs. search needs)
     returns
     returns-2
-    mark-of-requires
+    (λ c κs. search needs)
     returns-3
-    same-series-requires
+    (λ c κs. search needs)
     returns-4
-    told-of-requires
+    (λ c κs. search needs)
     returns-5)

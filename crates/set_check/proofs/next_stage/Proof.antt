@@ -7,9 +7,6 @@ use borrow.Author.Needs.{needs}
 use Rattle.set_check.proofs.next_stage.Statement.{statement}
 use Rattle.set_check.proofs.next_stage.Tie as tie
 
-add-result : tie.Need-add-result
-add-result c = search needs
-
 returns : tie.Need-returns
 unfolding nextStage
 returns c = sym (rw (lt-ltb _ _ (c .if1 .taken)))
@@ -19,4 +16,4 @@ unfolding nextStage
 returns-2 c = rw (le-ltb _ _ (c .if1 .left))
 
 pub next-stage-spec : {M : Type 1} → statement M
-next-stage-spec = tie.close (tie.spec add-result returns returns-2)
+next-stage-spec = tie.close (tie.spec (λ c. search needs) returns returns-2)

@@ -5,17 +5,11 @@ use borrow.Author.Needs.{needs}
 use Rattle.set_check.proofs.of_whole.Statement.{statement}
 use Rattle.set_check.proofs.of_whole.Tie as tie
 
-part-of-requires : tie.Need-part-of-requires
-part-of-requires c κs = search needs
-
 returns : tie.Need-returns
 returns c = whole-none _ (omega arith)
-
-kind-of-requires : tie.Need-kind-of-requires
-kind-of-requires c κs = search needs
 
 returns-2 : tie.Need-returns-2
 returns-2 c = whole-some _ _ (c .kind-of .ensures) (λ e. omega arith)
 
 pub of-whole-spec : {M : Type 1} → statement M
-of-whole-spec = tie.close (tie.spec part-of-requires returns kind-of-requires returns-2)
+of-whole-spec = tie.close (tie.spec (λ c κs. search needs) returns (λ c κs. search needs) returns-2)

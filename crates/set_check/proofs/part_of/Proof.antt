@@ -6,38 +6,20 @@ use borrow.Author.Needs.{needs}
 use Rattle.set_check.proofs.part_of.Statement.{statement}
 use Rattle.set_check.proofs.part_of.Tie as tie
 
-tells-edition-requires : tie.Need-tells-edition-requires
-tells-edition-requires c κs = search needs
-
 returns : tie.Need-returns
 returns c = part-edition _ (sym (c .before .tells-edition .ensures) ∙ c .if1 .taken)
-
-tells-regular-requires : tie.Need-tells-regular-requires
-tells-regular-requires c κs = search needs
 
 returns-2 : tie.Need-returns-2
 returns-2 c = part-regular _ (sym (c .before .before .before .tells-edition .ensures) ∙ c .before .before .if1 .left) (sym (c .before .tells-regular .ensures) ∙ c .if2 .taken)
 
-tells-complex-requires : tie.Need-tells-complex-requires
-tells-complex-requires c κs = search needs
-
 returns-3 : tie.Need-returns-3
 returns-3 c = part-complex _ (sym (c .before .before .before .before .before .tells-edition .ensures) ∙ c .before .before .before .before .if1 .left) (sym (c .before .before .before .tells-regular .ensures) ∙ c .before .before .if2 .left) (sym (c .before .tells-complex .ensures) ∙ c .if3 .taken)
-
-tells-legging-requires : tie.Need-tells-legging-requires
-tells-legging-requires c κs = search needs
 
 returns-4 : tie.Need-returns-4
 returns-4 c = part-legging _ (sym (c .before .before .before .before .before .before .before .tells-edition .ensures) ∙ c .before .before .before .before .before .before .if1 .left) (sym (c .before .before .before .before .before .tells-regular .ensures) ∙ c .before .before .before .before .if2 .left) (sym (c .before .before .before .tells-complex .ensures) ∙ c .before .before .if3 .left) (sym (c .before .tells-legging .ensures) ∙ c .if4 .taken)
 
-tells-generation-requires : tie.Need-tells-generation-requires
-tells-generation-requires c κs = search needs
-
 returns-5 : tie.Need-returns-5
 returns-5 c = part-generation _ (sym (c .before .before .before .before .before .before .before .before .before .tells-edition .ensures) ∙ c .before .before .before .before .before .before .before .before .if1 .left) (sym (c .before .before .before .before .before .before .before .tells-regular .ensures) ∙ c .before .before .before .before .before .before .if2 .left) (sym (c .before .before .before .before .before .tells-complex .ensures) ∙ c .before .before .before .before .if3 .left) (sym (c .before .before .before .tells-legging .ensures) ∙ c .before .before .if4 .left) (sym (c .before .tells-generation .ensures) ∙ c .if5 .taken)
-
-kind-of-requires : tie.Need-kind-of-requires
-kind-of-requires c κs = search needs
 
 returns-6 : tie.Need-returns-6
 returns-6 c = part-reached _ (sym (c .before .before .before .before .before .before .before .before .before .before .before .tells-edition .ensures) ∙ c .before .before .before .before .before .before .before .before .before .before .if1 .left) (sym (c .before .before .before .before .before .before .before .before .before .tells-regular .ensures) ∙ c .before .before .before .before .before .before .before .before .if2 .left) (sym (c .before .before .before .before .before .before .before .tells-complex .ensures) ∙ c .before .before .before .before .before .before .if3 .left) (sym (c .before .before .before .before .before .tells-legging .ensures) ∙ c .before .before .before .before .if4 .left) (sym (c .before .before .before .tells-generation .ensures) ∙ c .before .before .if5 .left) (omega arith)
@@ -49,16 +31,16 @@ pub part-of-spec : {M : Type 1} → statement M
 part-of-spec =
     tie.close
     (tie.spec
-    tells-edition-requires
+    (λ c κs. search needs)
     returns
-    tells-regular-requires
+    (λ c κs. search needs)
     returns-2
-    tells-complex-requires
+    (λ c κs. search needs)
     returns-3
-    tells-legging-requires
+    (λ c κs. search needs)
     returns-4
-    tells-generation-requires
+    (λ c κs. search needs)
     returns-5
-    kind-of-requires
+    (λ c κs. search needs)
     returns-6
     returns-7)

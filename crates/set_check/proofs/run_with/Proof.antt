@@ -7,15 +7,6 @@ use borrow.Author.Needs.{needs}
 use Rattle.set_check.proofs.run_with.Statement.{statement}
 use Rattle.set_check.proofs.run_with.Tie as tie
 
-tells-generation-requires : tie.Need-tells-generation-requires
-tells-generation-requires c κs = search needs
-
-one-if-requires : tie.Need-one-if-requires
-one-if-requires c κs = search needs
-
-same-series-requires : tie.Need-same-series-requires
-same-series-requires c κs = search needs
-
 add-result : tie.Need-add-result
 add-result c = omega (arith, few-out _ (c .before .before .before .before .before .before .pre) .run)
 
@@ -29,9 +20,9 @@ pub run-with-spec : {M : Type 1} → statement M
 run-with-spec =
     tie.close
     (tie.spec
-    tells-generation-requires
-    one-if-requires
-    same-series-requires
+    (λ c κs. search needs)
+    (λ c κs. search needs)
+    (λ c κs. search needs)
     add-result
     returns
     returns-2)

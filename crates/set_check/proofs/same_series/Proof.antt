@@ -8,11 +8,8 @@ use Rattle.set_check.proofs.same_series.Tie as tie
 returns : tie.Need-returns
 returns c = same-not _ _ (λ e. omega arith)
 
-mark-of-requires : tie.Need-mark-of-requires
-mark-of-requires c κs = search needs
-
 returns-2 : tie.Need-returns-2
 returns-2 c = same-so _ _ _ (c .before .mark-of .ensures) (omega arith)
 
 pub same-series-spec : {M : Type 1} → statement M
-same-series-spec = tie.close (tie.spec returns mark-of-requires returns-2)
+same-series-spec = tie.close (tie.spec returns (λ c κs. search needs) returns-2)

@@ -7,9 +7,6 @@ use borrow.Author.Needs.{needs}
 use Rattle.set_check.proofs.set_length.Statement.{statement}
 use Rattle.set_check.proofs.set_length.Tie as tie
 
-early-length-requires : tie.Need-early-length-requires
-early-length-requires c κs = search needs
-
 returns : tie.Need-returns
 returns c = c .early-length .ensures
 
@@ -38,7 +35,7 @@ pub set-length-spec : {M : Type 1} → statement M
 set-length-spec =
     tie.close
     (tie.spec
-    early-length-requires
+    (λ c κs. search needs)
     returns
     returns-2
     returns-3

@@ -6,9 +6,6 @@ use borrow.Author.Needs.{needs}
 use Rattle.set_check.proofs.tells_edition.Statement.{statement}
 use Rattle.set_check.proofs.tells_edition.Tie as tie
 
-kind-of-requires : tie.Need-kind-of-requires
-kind-of-requires c κs = search needs
-
 returns : tie.Need-returns
 unfolding tellsEdition
 returns c = first-of-two _ _ _ _ (c .before .kind-of .ensures) (omega arith)
@@ -18,4 +15,4 @@ unfolding tellsEdition
 returns-2 c = second-of-two _ _ _ _ (c .before .kind-of .ensures) (λ e. omega arith)
 
 pub tells-edition-spec : {M : Type 1} → statement M
-tells-edition-spec = tie.close (tie.spec kind-of-requires returns returns-2)
+tells-edition-spec = tie.close (tie.spec (λ c κs. search needs) returns returns-2)

@@ -7,12 +7,9 @@ use borrow.Author.Needs.{needs}
 use Rattle.set_check.proofs.tells_generation.Statement.{statement}
 use Rattle.set_check.proofs.tells_generation.Tie as tie
 
-kind-of-requires : tie.Need-kind-of-requires
-kind-of-requires c κs = search needs
-
 returns : tie.Need-returns
 unfolding tellsGeneration
 returns c = ap (λ (k : ℕ). eqb k 83) (c .kind-of .ensures)
 
 pub tells-generation-spec : {M : Type 1} → statement M
-tells-generation-spec = tie.close (tie.spec kind-of-requires returns)
+tells-generation-spec = tie.close (tie.spec (λ c κs. search needs) returns)

@@ -7,12 +7,9 @@ use borrow.Author.Needs.{needs}
 use Rattle.set_check.proofs.tells_legging.Statement.{statement}
 use Rattle.set_check.proofs.tells_legging.Tie as tie
 
-kind-of-requires : tie.Need-kind-of-requires
-kind-of-requires c κs = search needs
-
 returns : tie.Need-returns
 unfolding tellsLegging
 returns c = ap (λ (k : ℕ). eqb k 82) (c .kind-of .ensures)
 
 pub tells-legging-spec : {M : Type 1} → statement M
-tells-legging-spec = tie.close (tie.spec kind-of-requires returns)
+tells-legging-spec = tie.close (tie.spec (λ c κs. search needs) returns)

@@ -6,9 +6,6 @@ use borrow.Author.Needs.{needs}
 use Rattle.set_check.proofs.tells_regular.Statement.{statement}
 use Rattle.set_check.proofs.tells_regular.Tie as tie
 
-kind-of-requires : tie.Need-kind-of-requires
-kind-of-requires c κs = search needs
-
 returns : tie.Need-returns
 unfolding tellsRegular
 returns c = first-of-two _ _ _ _ (c .before .kind-of .ensures) (omega arith)
@@ -18,4 +15,4 @@ unfolding tellsRegular
 returns-2 c = second-of-two _ _ _ _ (c .before .kind-of .ensures) (λ e. omega arith)
 
 pub tells-regular-spec : {M : Type 1} → statement M
-tells-regular-spec = tie.close (tie.spec kind-of-requires returns returns-2)
+tells-regular-spec = tie.close (tie.spec (λ c κs. search needs) returns returns-2)

@@ -4,12 +4,9 @@ use borrow.Author.Needs.{needs}
 use Rattle.set_check.proofs.told_of.Statement.{statement}
 use Rattle.set_check.proofs.told_of.Tie as tie
 
-u32-at-requires : tie.Need-u32-at-requires
-u32-at-requires c κs = search needs
-
 returns : tie.Need-returns
 unfolding generationTold
 returns c = c .u32-at .ensures
 
 pub told-of-spec : {M : Type 1} → statement M
-told-of-spec = tie.close (tie.spec u32-at-requires returns)
+told-of-spec = tie.close (tie.spec (λ c κs. search needs) returns)

@@ -21,15 +21,6 @@ abbrev μ-loop : tie.MeasureT-loop
 loop-holds : tie.Need-loop-holds Inv-loop μ-loop
 loop-holds c = refl
 
-put-generations-requires : tie.Need-put-generations-requires Inv-loop μ-loop
-put-generations-requires c κs = search needs
-
-add-s : tie.Need-add-s Inv-loop μ-loop
-add-s c = search needs
-
-loop-less : tie.Need-loop-less Inv-loop μ-loop
-loop-less c = search needs
-
 loop-again : tie.Need-loop-again Inv-loop μ-loop
 loop-again c = let s = c .before .before .before .before .before .before .before .before in left-next _ _ _ _ _ _ _ _ _ _ (c .before .before .before .before .before .loop .inv) (generations-next (venueOf (s .args .b .now)) _ (omega (arith, generations-many (s .args .b .now)))) (c .before .before .put-generations .ensures)
 
@@ -46,9 +37,9 @@ put-all-generations-spec =
     Inv-loop
     μ-loop
     loop-holds
-    put-generations-requires
-    add-s
-    loop-less
+    (λ c κs. search needs)
+    (λ c. search needs)
+    (λ c. search needs)
     loop-again
     same-length
     returns)

@@ -8,18 +8,6 @@ use Rattle.set_parts.proofs.Begin.{wrote}
 use Rattle.set_parts.proofs.put_away.Statement.{statement}
 use Rattle.set_parts.proofs.put_away.Tie as tie
 
-slice-aggregate-put-words : tie.Need-slice-aggregate-put-words
-slice-aggregate-put-words c = search needs
-
-slice-aggregate-put-words-2 : tie.Need-slice-aggregate-put-words-2
-slice-aggregate-put-words-2 c = search needs
-
-put-words-requires : tie.Need-put-words-requires
-put-words-requires c κs = search needs
-
-same-length : tie.Need-same-length
-same-length c = search needs
-
 returns : tie.Need-returns
 unfolding encodeMessage framed bytes wordBytes
 returns c = let s = c .before .before .before .before .before .before .before in wrote _ _ _ _ _ _ (c .before .before .put-words .ensures) (rw (byte (s .args .s) (s .fits .s .fits)))
@@ -28,8 +16,8 @@ pub put-away-spec : {M : Type 1} → statement M
 put-away-spec =
     tie.close
     (tie.spec
-    slice-aggregate-put-words
-    slice-aggregate-put-words-2
-    put-words-requires
-    same-length
+    (λ c. search needs)
+    (λ c. search needs)
+    (λ c κs. search needs)
+    (λ c. search needs)
     returns)

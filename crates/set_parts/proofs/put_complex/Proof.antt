@@ -6,26 +6,8 @@ use Rattle.set_parts.proofs.Steps.{complex-even, complex-uneven}
 use Rattle.set_parts.proofs.put_complex.Statement.{statement}
 use Rattle.set_parts.proofs.put_complex.Tie as tie
 
-is-one-to-one-requires : tie.Need-is-one-to-one-requires
-is-one-to-one-requires c κs = search needs
-
-put-two-leg-requires : tie.Need-put-two-leg-requires
-put-two-leg-requires c κs = search needs
-
-same-length : tie.Need-same-length
-same-length c = search needs
-
 returns : tie.Need-returns
 returns c = adds-same _ _ _ _ (c .before .before .put-two-leg .ensures) (complex-even _ (sym (c .before .before .before .before .before .is-one-to-one .ensures) ∙ c .before .before .before .before .if1 .taken))
-
-put-two-leg-requires-2 : tie.Need-put-two-leg-requires-2
-put-two-leg-requires-2 c κs = search needs
-
-put-ratios-requires : tie.Need-put-ratios-requires
-put-ratios-requires c κs = search needs
-
-same-length-2 : tie.Need-same-length-2
-same-length-2 c = search needs
 
 returns-2 : tie.Need-returns-2
 returns-2 c = adds-same _ _ _ _ (adds-then _ _ _ _ _ (c .before .before .before .before .before .before .put-two-leg2 .ensures) (c .before .before .put-ratios .ensures)) (complex-uneven _ (sym (c .before .before .before .before .before .before .before .before .before .is-one-to-one .ensures) ∙ c .before .before .before .before .before .before .before .before .if1 .left))
@@ -34,11 +16,11 @@ pub put-complex-spec : {M : Type 1} → statement M
 put-complex-spec =
     tie.close
     (tie.spec
-    is-one-to-one-requires
-    put-two-leg-requires
-    same-length
+    (λ c κs. search needs)
+    (λ c κs. search needs)
+    (λ c. search needs)
     returns
-    put-two-leg-requires-2
-    put-ratios-requires
-    same-length-2
+    (λ c κs. search needs)
+    (λ c κs. search needs)
+    (λ c. search needs)
     returns-2)

@@ -25,18 +25,6 @@ loop-holds : tie.Need-loop-holds Inv-loop μ-loop
 unfolding venueOf
 loop-holds c = refl
 
-edition-at-requires : tie.Need-edition-at-requires Inv-loop μ-loop
-edition-at-requires c κs = search needs
-
-put-edition-requires : tie.Need-put-edition-requires Inv-loop μ-loop
-put-edition-requires c κs = search needs
-
-add-i : tie.Need-add-i Inv-loop μ-loop
-add-i c = search needs
-
-loop-less : tie.Need-loop-less Inv-loop μ-loop
-loop-less c = search needs
-
 loop-again : tie.Need-loop-again Inv-loop μ-loop
 loop-again c = left-next _ _ _ _ _ _ _ _ _ _ (c .before .before .before .before .before .before .loop .inv) (kept-next editionRecord holdsEdition _ _ _ (omega arith))
     (adds-same _ _ _ _ (c .before .before .put-edition .ensures) (ap (λ (e : Edition). recordIf (holdsEdition e) (editionRecord e)) (c .before .before .before .before .edition-at .ensures)))
@@ -55,10 +43,10 @@ put-editions-spec =
     Inv-loop
     μ-loop
     loop-holds
-    edition-at-requires
-    put-edition-requires
-    add-i
-    loop-less
+    (λ c κs. search needs)
+    (λ c κs. search needs)
+    (λ c. search needs)
+    (λ c. search needs)
     loop-again
     same-length
     returns)

@@ -12,18 +12,6 @@ use Rattle.set_parts.proofs.put_generation.Tie as tie
 returns : tie.Need-returns
 returns c = absent _ _ _ _ (rw (c .if1 .taken))
 
-slice-aggregate-put-words : tie.Need-slice-aggregate-put-words
-slice-aggregate-put-words c = search needs
-
-slice-aggregate-put-words-2 : tie.Need-slice-aggregate-put-words-2
-slice-aggregate-put-words-2 c = search needs
-
-put-words-requires : tie.Need-put-words-requires
-put-words-requires c κs = search needs
-
-same-length : tie.Need-same-length
-same-length c = search needs
-
 returns-2 : tie.Need-returns-2
 unfolding generationRecord framed bytes wordBytes
 returns-2 c = let s = c .before .before .before .before .before .before .before .before in present _ _ _ _ (rw (ne-eqb (s .args .number) 0 (c .before .before .before .before .before .before .if1 .left))) (wrote _ _ _ _ _ _ (c .before .before .put-words .ensures) (rw (byte (s .args .s) (s .fits .s .fits))))
@@ -33,8 +21,8 @@ put-generation-spec =
     tie.close
     (tie.spec
     returns
-    slice-aggregate-put-words
-    slice-aggregate-put-words-2
-    put-words-requires
-    same-length
+    (λ c. search needs)
+    (λ c. search needs)
+    (λ c κs. search needs)
+    (λ c. search needs)
     returns-2)

@@ -25,21 +25,6 @@ abbrev μ-loop : tie.MeasureT-loop
 loop-holds : tie.Need-loop-holds Inv-loop μ-loop
 loop-holds c = refl
 
-generation-at-requires : tie.Need-generation-at-requires Inv-loop μ-loop
-generation-at-requires c κs = search needs
-
-cast-put-generation : tie.Need-cast-put-generation Inv-loop μ-loop
-cast-put-generation c = search needs
-
-put-generation-requires : tie.Need-put-generation-requires Inv-loop μ-loop
-put-generation-requires c κs = search needs
-
-add-k : tie.Need-add-k Inv-loop μ-loop
-add-k c = search needs
-
-loop-less : tie.Need-loop-less Inv-loop μ-loop
-loop-less c = search needs
-
 loop-again : tie.Need-loop-again Inv-loop μ-loop
 loop-again c =
     let s = c .before .before .before .before .before .before .before .before .before in
@@ -59,11 +44,11 @@ put-generations-spec =
     Inv-loop
     μ-loop
     loop-holds
-    generation-at-requires
-    cast-put-generation
-    put-generation-requires
-    add-k
-    loop-less
+    (λ c κs. search needs)
+    (λ c. search needs)
+    (λ c κs. search needs)
+    (λ c. search needs)
+    (λ c. search needs)
     loop-again
     same-length
     returns)

@@ -12,33 +12,6 @@ use Rattle.set_parts.proofs.put_legging.Tie as tie
 returns : tie.Need-returns
 returns c = absent _ _ _ _ (rw (c .if1 .taken))
 
-bytes4-requires : tie.Need-bytes4-requires
-bytes4-requires c κs = search needs
-
-array-read-t13 : tie.Need-array-read-t13
-array-read-t13 c = search needs
-
-array-read-t16 : tie.Need-array-read-t16
-array-read-t16 c = search needs
-
-array-read-t19 : tie.Need-array-read-t19
-array-read-t19 c = search needs
-
-array-read-t22 : tie.Need-array-read-t22
-array-read-t22 c = search needs
-
-slice-aggregate-put-words : tie.Need-slice-aggregate-put-words
-slice-aggregate-put-words c = search needs
-
-slice-aggregate-put-words-2 : tie.Need-slice-aggregate-put-words-2
-slice-aggregate-put-words-2 c = search needs
-
-put-words-requires : tie.Need-put-words-requires
-put-words-requires c κs = search needs
-
-same-length : tie.Need-same-length
-same-length c = search needs
-
 returns-2 : tie.Need-returns-2
 unfolding leggingRecord framed bytes wordBytes
 returns-2 c = let s = c .before .before .before .before .before .before .before .before .before .before in present _ _ _ _ (rw (ne-eqb (s .args .l .quantity) 0 (c .before .before .before .before .before .before .before .if1 .left))) (wrote _ _ _ _ _ _ (c .before .before .put-words .ensures) (rw (c .before .before .before .before .before .before .bytes4 .ensures, byte (s .args .s) (s .fits .s .fits), byte (s .args .d) (s .fits .d .fits))))
@@ -48,13 +21,13 @@ put-legging-spec =
     tie.close
     (tie.spec
     returns
-    bytes4-requires
-    array-read-t13
-    array-read-t16
-    array-read-t19
-    array-read-t22
-    slice-aggregate-put-words
-    slice-aggregate-put-words-2
-    put-words-requires
-    same-length
+    (λ c κs. search needs)
+    (λ c. search needs)
+    (λ c. search needs)
+    (λ c. search needs)
+    (λ c. search needs)
+    (λ c. search needs)
+    (λ c. search needs)
+    (λ c κs. search needs)
+    (λ c. search needs)
     returns-2)

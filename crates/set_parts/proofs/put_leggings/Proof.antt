@@ -20,15 +20,6 @@ loop-holds : tie.Need-loop-holds Inv-loop μ-loop
 unfolding venueOf
 loop-holds c = refl
 
-put-sides-requires : tie.Need-put-sides-requires Inv-loop μ-loop
-put-sides-requires c κs = search needs
-
-add-s : tie.Need-add-s Inv-loop μ-loop
-add-s c = search needs
-
-loop-less : tie.Need-loop-less Inv-loop μ-loop
-loop-less c = search needs
-
 loop-again : tie.Need-loop-again Inv-loop μ-loop
 loop-again c = left-next _ _ _ _ _ _ _ _ _ _ (c .before .before .before .before .before .loop .inv) (leggings-next _ _ (omega arith)) (c .before .before .put-sides .ensures)
 
@@ -46,9 +37,9 @@ put-leggings-spec =
     Inv-loop
     μ-loop
     loop-holds
-    put-sides-requires
-    add-s
-    loop-less
+    (λ c κs. search needs)
+    (λ c. search needs)
+    (λ c. search needs)
     loop-again
     same-length
     returns)

@@ -8,20 +8,8 @@ use Rattle.set_parts.proofs.Steps.{regular-there, complex-there, regula
 use Rattle.set_parts.proofs.put_next.Statement.{statement}
 use Rattle.set_parts.proofs.put_next.Tie as tie
 
-regular-next-requires : tie.Need-regular-next-requires
-regular-next-requires c κs = search needs
-
 regular-at-requires : tie.Need-regular-at-requires
 regular-at-requires c κs = let s = c .before .before .before .before in (s .pre .0, omega (arith, regular-there _ _ _ _ _ (sym (c .before .regular-next .ensures) ∙ c .if1 .taken)))
-
-put-regular-requires : tie.Need-put-regular-requires
-put-regular-requires c κs = search needs
-
-add-t16 : tie.Need-add-t16
-add-t16 c = search needs
-
-same-length : tie.Need-same-length
-same-length c = search needs
 
 returns : tie.Need-returns
 returns c =
@@ -37,15 +25,6 @@ returns c =
 
 complex-at-requires : tie.Need-complex-at-requires
 complex-at-requires c κs = let s = c .before .before .before .before in (s .pre .0, omega (arith, complex-there _ _ _ _ _ (omega arith) (omega arith) (omega arith) (sym (c .before .regular-next .ensures) ∙ c .if1 .left)))
-
-put-complex-requires : tie.Need-put-complex-requires
-put-complex-requires c κs = search needs
-
-add-t19 : tie.Need-add-t19
-add-t19 c = search needs
-
-same-length-2 : tie.Need-same-length-2
-same-length-2 c = search needs
 
 returns-2 : tie.Need-returns-2
 returns-2 c =
@@ -63,14 +42,14 @@ pub put-next-spec : {M : Type 1} → statement M
 put-next-spec =
     tie.close
     (tie.spec
-    regular-next-requires
+    (λ c κs. search needs)
     regular-at-requires
-    put-regular-requires
-    add-t16
-    same-length
+    (λ c κs. search needs)
+    (λ c. search needs)
+    (λ c. search needs)
     returns
     complex-at-requires
-    put-complex-requires
-    add-t19
-    same-length-2
+    (λ c κs. search needs)
+    (λ c. search needs)
+    (λ c. search needs)
     returns-2)

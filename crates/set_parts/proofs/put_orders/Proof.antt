@@ -17,26 +17,8 @@ Inv-loop b out₀ at n m t₀ out t =
 abbrev μ-loop : tie.MeasureT-loop
 μ-loop b out₀ at n m t₀ out t = n + m - (t .regular + t .complex)
 
-regulars-used-requires : tie.Need-regulars-used-requires Inv-loop μ-loop
-regulars-used-requires c κs = search needs
-
-complexes-used-requires : tie.Need-complexes-used-requires Inv-loop μ-loop
-complexes-used-requires c κs = search needs
-
 loop-holds : tie.Need-loop-holds Inv-loop μ-loop
 loop-holds c = (refl, omega arith, omega arith)
-
-add-if1 : tie.Need-add-if1 Inv-loop μ-loop
-add-if1 c = search needs
-
-add-if1-2 : tie.Need-add-if1-2 Inv-loop μ-loop
-add-if1-2 c = search needs
-
-put-next-requires : tie.Need-put-next-requires Inv-loop μ-loop
-put-next-requires c κs = search needs
-
-loop-less : tie.Need-loop-less Inv-loop μ-loop
-loop-less c = search needs
 
 loop-again : tie.Need-loop-again Inv-loop μ-loop
 loop-again c = let k = c .before .before .put-next .ensures in (k .same ∙ c .before .before .before .before .before .before .loop .inv .0, k .regular, k .complex)
@@ -57,13 +39,13 @@ put-orders-spec =
     (tie.spec
     Inv-loop
     μ-loop
-    regulars-used-requires
-    complexes-used-requires
+    (λ c κs. search needs)
+    (λ c κs. search needs)
     loop-holds
-    add-if1
-    add-if1-2
-    put-next-requires
-    loop-less
+    (λ c. search needs)
+    (λ c. search needs)
+    (λ c κs. search needs)
+    (λ c. search needs)
     loop-again
     same-length
     returns)

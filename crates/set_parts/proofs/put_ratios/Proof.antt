@@ -6,18 +6,9 @@ use Rattle.set_parts.proofs.Begin.{wrote}
 use Rattle.set_parts.proofs.put_ratios.Statement.{statement}
 use Rattle.set_parts.proofs.put_ratios.Tie as tie
 
-slice-aggregate-put : tie.Need-slice-aggregate-put
-slice-aggregate-put c = search needs
-
-put-requires : tie.Need-put-requires
-put-requires c κs = search needs
-
-same-length : tie.Need-same-length
-same-length c = search needs
-
 returns : tie.Need-returns
 unfolding bytes
 returns c = let s = c .before .before .before .before .before .before in wrote _ _ _ _ _ _ (c .before .before .put .ensures) (rw (byte (s .args .c .ratio1) (search needs), byte (s .args .c .ratio2) (search needs)))
 
 pub put-ratios-spec : {M : Type 1} → statement M
-put-ratios-spec = tie.close (tie.spec slice-aggregate-put put-requires same-length returns)
+put-ratios-spec = tie.close (tie.spec (λ c. search needs) (λ c κs. search needs) (λ c. search needs) returns)

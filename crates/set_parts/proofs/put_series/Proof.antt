@@ -24,21 +24,6 @@ loop-holds : tie.Need-loop-holds Inv-loop μ-loop
 unfolding venueOf
 loop-holds c = refl
 
-listed-at-requires : tie.Need-listed-at-requires Inv-loop μ-loop
-listed-at-requires c κs = search needs
-
-cast-put-listed : tie.Need-cast-put-listed Inv-loop μ-loop
-cast-put-listed c = search needs
-
-put-listed-requires : tie.Need-put-listed-requires Inv-loop μ-loop
-put-listed-requires c κs = search needs
-
-add-s : tie.Need-add-s Inv-loop μ-loop
-add-s c = search needs
-
-loop-less : tie.Need-loop-less Inv-loop μ-loop
-loop-less c = search needs
-
 loop-again : tie.Need-loop-again Inv-loop μ-loop
 loop-again c = left-next _ _ _ _ _ _ _ _ _ _ (c .before .before .before .before .before .before .loop .inv) (series-next _ _ (omega arith))
     (adds-same _ _ _ _ (c .before .before .put-listed .ensures) (ap (λ (x : Listed). encodeMessage (Status (c .before .before .before .before .before .before .loop .s) (x .status)) ++ encodeMessage (Away (c .before .before .before .before .before .before .loop .s) (x .bid) (x .offer))) (c .before .before .before .before .listed-at .ensures)))
@@ -57,11 +42,11 @@ put-series-spec =
     Inv-loop
     μ-loop
     loop-holds
-    listed-at-requires
-    cast-put-listed
-    put-listed-requires
-    add-s
-    loop-less
+    (λ c κs. search needs)
+    (λ c. search needs)
+    (λ c κs. search needs)
+    (λ c. search needs)
+    (λ c. search needs)
     loop-again
     same-length
     returns)

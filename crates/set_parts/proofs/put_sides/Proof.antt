@@ -12,36 +12,6 @@ use Rattle.set_parts.proofs.Begin.{adds-same, adds-then}
 use Rattle.set_parts.proofs.put_sides.Statement.{statement}
 use Rattle.set_parts.proofs.put_sides.Tie as tie
 
-mul-legging-at : tie.Need-mul-legging-at
-mul-legging-at c = search needs
-
-legging-at-requires : tie.Need-legging-at-requires
-legging-at-requires c κs = search needs
-
-cast-put-legging : tie.Need-cast-put-legging
-cast-put-legging c = search needs
-
-put-legging-requires : tie.Need-put-legging-requires
-put-legging-requires c κs = search needs
-
-mul-legging-at-2 : tie.Need-mul-legging-at-2
-mul-legging-at-2 c = search needs
-
-add-legging-at : tie.Need-add-legging-at
-add-legging-at c = search needs
-
-legging-at-requires-2 : tie.Need-legging-at-requires-2
-legging-at-requires-2 c κs = search needs
-
-cast-put-legging-2 : tie.Need-cast-put-legging-2
-cast-put-legging-2 c = search needs
-
-put-legging-requires-2 : tie.Need-put-legging-requires-2
-put-legging-requires-2 c κs = search needs
-
-same-length : tie.Need-same-length
-same-length c = search needs
-
 returns : tie.Need-returns
 unfolding sideRecord
 returns c =
@@ -55,14 +25,14 @@ pub put-sides-spec : {M : Type 1} → statement M
 put-sides-spec =
     tie.close
     (tie.spec
-    mul-legging-at
-    legging-at-requires
-    cast-put-legging
-    put-legging-requires
-    mul-legging-at-2
-    add-legging-at
-    legging-at-requires-2
-    cast-put-legging-2
-    put-legging-requires-2
-    same-length
+    (λ c. search needs)
+    (λ c κs. search needs)
+    (λ c. search needs)
+    (λ c κs. search needs)
+    (λ c. search needs)
+    (λ c. search needs)
+    (λ c κs. search needs)
+    (λ c. search needs)
+    (λ c κs. search needs)
+    (λ c. search needs)
     returns)

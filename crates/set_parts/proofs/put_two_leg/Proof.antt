@@ -19,38 +19,8 @@ use Rattle.set_parts.proofs.put_two_leg.Tie as tie
 limit-fits : (c : tie.After-struct-told) → SFits w32 (c .before .before .before .before .args .c .limit)
 limit-fits c = record { sfits = c .struct-told .given .1 .1 .1 .1 .1 .1 .0 .1 }
 
-bytes4-requires : tie.Need-bytes4-requires
-bytes4-requires c κs = search needs
-
-array-read-t12 : tie.Need-array-read-t12
-array-read-t12 c = search needs
-
-array-read-t15 : tie.Need-array-read-t15
-array-read-t15 c = search needs
-
-array-read-t18 : tie.Need-array-read-t18
-array-read-t18 c = search needs
-
-array-read-t21 : tie.Need-array-read-t21
-array-read-t21 c = search needs
-
 cast-bits : tie.Need-cast-bits
 cast-bits c = number-cast (limit-fits c)
-
-bits-requires : tie.Need-bits-requires
-bits-requires c κs = search needs
-
-slice-aggregate-put-words : tie.Need-slice-aggregate-put-words
-slice-aggregate-put-words c = search needs
-
-slice-aggregate-put-words-2 : tie.Need-slice-aggregate-put-words-2
-slice-aggregate-put-words-2 c = search needs
-
-put-words-requires : tie.Need-put-words-requires
-put-words-requires c κs = search needs
-
-same-length : tie.Need-same-length
-same-length c = search needs
 
 returns : tie.Need-returns
 unfolding twoLegFields bytes wordBytes
@@ -66,15 +36,15 @@ pub put-two-leg-spec : {M : Type 1} → statement M
 put-two-leg-spec =
     tie.close
     (tie.spec
-    bytes4-requires
-    array-read-t12
-    array-read-t15
-    array-read-t18
-    array-read-t21
+    (λ c κs. search needs)
+    (λ c. search needs)
+    (λ c. search needs)
+    (λ c. search needs)
+    (λ c. search needs)
     cast-bits
-    bits-requires
-    slice-aggregate-put-words
-    slice-aggregate-put-words-2
-    put-words-requires
-    same-length
+    (λ c κs. search needs)
+    (λ c. search needs)
+    (λ c. search needs)
+    (λ c κs. search needs)
+    (λ c. search needs)
     returns)

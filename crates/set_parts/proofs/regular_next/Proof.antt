@@ -14,15 +14,9 @@ returns c = sym (next-none _ _ _ _ _ (omega arith))
 returns-2 : tie.Need-returns-2
 returns-2 c = sym (next-alone _ _ _ _ _ (omega arith) (omega arith))
 
-complex-at-requires : tie.Need-complex-at-requires
-complex-at-requires c κs = search needs
-
-regular-id-requires : tie.Need-regular-id-requires
-regular-id-requires c κs = search needs
-
 returns-3 : tie.Need-returns-3
 returns-3 c = ap₂ ltb (c .before .regular-id .ensures) (ap (λ (x : Complex). x .id) (c .before .before .complex-at .ensures)) ∙ sym (next-by-id _ _ _ _ _ (omega arith) (omega arith))
 
 pub regular-next-spec : {M : Type 1} → statement M
 regular-next-spec =
-    tie.close (tie.spec returns returns-2 complex-at-requires regular-id-requires returns-3)
+    tie.close (tie.spec returns returns-2 (λ c κs. search needs) (λ c κs. search needs) returns-3)

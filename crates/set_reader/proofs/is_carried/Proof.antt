@@ -4,15 +4,9 @@ use borrow.Author.Needs.{needs}
 use Rattle.set_reader.proofs.is_carried.Statement.{statement}
 use Rattle.set_reader.proofs.is_carried.Tie as tie
 
-slice-aggregate-load-ready : tie.Need-slice-aggregate-load-ready
-slice-aggregate-load-ready c = search needs
-
-load-ready-requires : tie.Need-load-ready-requires
-load-ready-requires c κs = search needs
-
 returns : tie.Need-returns
 unfolding carries
 returns c = c .before .load-ready .ensures .answer
 
 pub is-carried-spec : {M : Type 1} → statement M
-is-carried-spec = tie.close (tie.spec slice-aggregate-load-ready load-ready-requires returns)
+is-carried-spec = tie.close (tie.spec (λ c. search needs) (λ c κs. search needs) returns)

@@ -7,12 +7,6 @@ use borrow.Author.Needs.{needs}
 use Rattle.set_reader.proofs.read_set.Statement.{statement}
 use Rattle.set_reader.proofs.read_set.Tie as tie
 
-look-requires : tie.Need-look-requires
-look-requires c κs = search needs
-
-refused-requires : tie.Need-refused-requires
-refused-requires c κs = search needs
-
 returns : tie.Need-returns
 returns c = c .refused .ensures ∙ looked-refused _ _ (c .before .before .look .ensures) (c .before .if1 .taken)
 
@@ -21,12 +15,6 @@ venue-told-requires c κs = looked-taken _ (sym (c .if1 .left) ∙ c .before .lo
 
 first-told-requires : tie.Need-first-told-requires
 first-told-requires c κs = looked-taken _ (sym (c .before .if1 .left) ∙ c .before .before .look .ensures)
-
-is-carried-requires : tie.Need-is-carried-requires
-is-carried-requires c κs = search needs
-
-refused-requires-2 : tie.Need-refused-requires-2
-refused-requires-2 c κs = search needs
 
 returns-2 : tie.Need-returns-2
 unfolding numberTold
@@ -40,12 +28,12 @@ pub read-set-spec : {M : Type 1} → statement M
 read-set-spec =
     tie.close
     (tie.spec
-    look-requires
-    refused-requires
+    (λ c κs. search needs)
+    (λ c κs. search needs)
     returns
     venue-told-requires
     first-told-requires
-    is-carried-requires
-    refused-requires-2
+    (λ c κs. search needs)
+    (λ c κs. search needs)
     returns-2
     returns-3)

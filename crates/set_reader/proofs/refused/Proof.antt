@@ -5,12 +5,9 @@ use borrow.Author.Needs.{needs}
 use Rattle.set_reader.proofs.refused.Statement.{statement}
 use Rattle.set_reader.proofs.refused.Tie as tie
 
-fresh-requires : tie.Need-fresh-requires
-fresh-requires c κs = search needs
-
 returns : tie.Need-returns
 unfolding notRead
 returns c = rw (c .fresh .ensures)
 
 pub refused-spec : {M : Type 1} → statement M
-refused-spec = tie.close (tie.spec fresh-requires returns)
+refused-spec = tie.close (tie.spec (λ c κs. search needs) returns)

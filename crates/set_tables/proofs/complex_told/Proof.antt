@@ -8,24 +8,9 @@ use borrow.Author.Needs.{needs}
 use Rattle.set_tables.proofs.complex_told.Statement.{statement}
 use Rattle.set_tables.proofs.complex_told.Tie as tie
 
-kind-of-requires : tie.Need-kind-of-requires
-kind-of-requires c κs = search needs
-
-u8-at-requires : tie.Need-u8-at-requires
-u8-at-requires c κs = search needs
-
-u8-at-requires-2 : tie.Need-u8-at-requires-2
-u8-at-requires-2 c κs = search needs
-
-two-leg-at-requires : tie.Need-two-leg-at-requires
-two-leg-at-requires c κs = search needs
-
 returns : tie.Need-returns
 unfolding complexTold
 returns c = rw (eq-eqb (kindField (c .before .before .before .before .before .before .args .r .now)) 10 (omega arith), ← (c .before .before .u8-at .ensures), ← (c .before .u8-at2 .ensures)) (c .two-leg-at .ensures)
-
-two-leg-at-requires-2 : tie.Need-two-leg-at-requires-2
-two-leg-at-requires-2 c κs = search needs
 
 returns-2 : tie.Need-returns-2
 unfolding complexTold
@@ -35,10 +20,10 @@ pub complex-told-spec : {M : Type 1} → statement M
 complex-told-spec =
     tie.close
     (tie.spec
-    kind-of-requires
-    u8-at-requires
-    u8-at-requires-2
-    two-leg-at-requires
+    (λ c κs. search needs)
+    (λ c κs. search needs)
+    (λ c κs. search needs)
+    (λ c κs. search needs)
     returns
-    two-leg-at-requires-2
+    (λ c κs. search needs)
     returns-2)

@@ -19,29 +19,14 @@ Inv-loop memory l₀ n₀ at₀ size₀ l n at size = Filling tellsComplex compl
 abbrev μ-loop : tie.MeasureT-loop
 μ-loop memory l₀ n₀ at₀ size₀ l n at size = length memory - at
 
-size-at-requires : tie.Need-size-at-requires Inv-loop μ-loop
-size-at-requires c κs = search needs
-
 loop-holds : tie.Need-loop-holds Inv-loop μ-loop
 loop-holds c = filling-start tellsComplex complexTold 32 noComplex _ _ (c .before .before .pre .framed) (set-counts _ (c .before .before .pre .ordered) .2) (c .size-at .ensures)
 
 add-at : tie.Need-add-at Inv-loop μ-loop
 add-at c = let s = walk-on _ _ _ (c .before .loop .inv .walk) (c .loop-test .taken) in let u = s .less in let v = s .fits in omega arith
 
-size-at-requires-2 : tie.Need-size-at-requires-2 Inv-loop μ-loop
-size-at-requires-2 c κs = search needs
-
-sub-tells-complex : tie.Need-sub-tells-complex Inv-loop μ-loop
-sub-tells-complex c = search needs
-
-part-tells-complex-start : tie.Need-part-tells-complex-start Inv-loop μ-loop
-part-tells-complex-start c = search needs
-
 part-tells-complex-end : tie.Need-part-tells-complex-end Inv-loop μ-loop
 part-tells-complex-end c = let s = walk-on _ _ _ (c .before .before .loop .inv .walk) (c .before .loop-test .taken) in let u = s .less in let v = s .fits in omega arith
-
-tells-complex-requires : tie.Need-tells-complex-requires Inv-loop μ-loop
-tells-complex-requires c κs = search needs
 
 loop-less : tie.Need-loop-less Inv-loop μ-loop
 loop-less c = let s = walk-on _ _ _ (c .before .before .before .before .before .loop .inv .walk) (c .before .before .before .before .loop-test .taken) in let u = s .less in let v = s .fits in omega arith
@@ -49,20 +34,11 @@ loop-less c = let s = walk-on _ _ _ (c .before .before .before .before .before .
 loop-again : tie.Need-loop-again Inv-loop μ-loop
 loop-again c = let s = walk-on _ _ _ (c .before .before .before .before .before .loop .inv .walk) (c .before .before .before .before .loop-test .taken) in let u = s .less in let v = s .fits in filling-skip _ _ _ _ _ _ _ _ _ (c .before .before .before .before .before .loop .inv) _ _ s (c .before .before .before .size-at2 .ensures) (sym (ap tellsComplex (s .lent)) ∙ sym (c .before .tells-complex .ensures) ∙ not-true _ (c .if1 .taken))
 
-sub-complex-told : tie.Need-sub-complex-told Inv-loop μ-loop
-sub-complex-told c = search needs
-
-part-complex-told-start : tie.Need-part-complex-told-start Inv-loop μ-loop
-part-complex-told-start c = search needs
-
 part-complex-told-end : tie.Need-part-complex-told-end Inv-loop μ-loop
 part-complex-told-end c = let s = walk-on _ _ _ (c .before .before .before .before .before .loop .inv .walk) (c .before .before .before .before .loop-test .taken) in let u = s .less in let v = s .fits in omega arith
 
 complex-told-requires : tie.Need-complex-told-requires Inv-loop μ-loop
 complex-told-requires c κs = let s = walk-on _ _ _ (c .before .before .before .before .before .before .loop .inv .walk) (c .before .before .before .before .before .loop-test .taken) in let u = s .less in let v = s .fits in let t = sym (ap tellsComplex (s .lent)) ∙ sym (c .before .before .tells-complex .ensures) ∙ not-false _ (c .before .if1 .left) in let y = ap length (s .lent) in let z = complex-long (s .bytes) (s .well) t in omega arith
-
-mul-l : tie.Need-mul-l Inv-loop μ-loop
-mul-l c = search needs
 
 array-set-from-l : tie.Need-array-set-from-l Inv-loop μ-loop
 array-set-from-l c = let s = walk-on _ _ _ (c .before .before .before .before .before .before .before .loop .inv .walk) (c .before .before .before .before .before .before .loop-test .taken) in let u = s .less in let v = s .fits in let t = sym (ap tellsComplex (s .lent)) ∙ sym (c .before .before .before .tells-complex .ensures) ∙ not-false _ (c .before .before .if1 .left) in let j = filling-room _ _ _ _ _ _ _ _ _ (c .before .before .before .before .before .before .before .loop .inv) _ _ s (c .before .before .before .before .before .size-at2 .ensures) t in let k = c .before .before .before .before .before .before .before .loop .inv .long in omega arith
@@ -86,21 +62,21 @@ complexes-told-spec =
     (tie.spec
     Inv-loop
     μ-loop
-    size-at-requires
+    (λ c κs. search needs)
     loop-holds
     add-at
-    size-at-requires-2
-    sub-tells-complex
-    part-tells-complex-start
+    (λ c κs. search needs)
+    (λ c. search needs)
+    (λ c. search needs)
     part-tells-complex-end
-    tells-complex-requires
+    (λ c κs. search needs)
     loop-less
     loop-again
-    sub-complex-told
-    part-complex-told-start
+    (λ c. search needs)
+    (λ c. search needs)
     part-complex-told-end
     complex-told-requires
-    mul-l
+    (λ c. search needs)
     array-set-from-l
     add-n
     loop-less-2

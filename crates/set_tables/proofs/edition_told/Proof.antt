@@ -8,33 +8,9 @@ use borrow.Author.Needs.{needs}
 use Rattle.set_tables.proofs.edition_told.Statement.{statement}
 use Rattle.set_tables.proofs.edition_told.Tie as tie
 
-kind-of-requires : tie.Need-kind-of-requires
-kind-of-requires c κs = search needs
-
-u32-at-requires : tie.Need-u32-at-requires
-u32-at-requires c κs = search needs
-
-u32-at-requires-2 : tie.Need-u32-at-requires-2
-u32-at-requires-2 c κs = search needs
-
-u8-at-requires : tie.Need-u8-at-requires
-u8-at-requires c κs = search needs
-
 returns : tie.Need-returns
 unfolding editionTold
 returns c = rw (eq-eqb (kindField (c .before .before .before .before .before .before .args .r .now)) 8 (omega arith), c .before .before .u32-at .ensures, c .before .u32-at2 .ensures, c .u8-at .ensures)
-
-u32-at-requires-3 : tie.Need-u32-at-requires-3
-u32-at-requires-3 c κs = search needs
-
-u32-at-requires-4 : tie.Need-u32-at-requires-4
-u32-at-requires-4 c κs = search needs
-
-u8-at-requires-2 : tie.Need-u8-at-requires-2
-u8-at-requires-2 c κs = search needs
-
-u8-at-requires-3 : tie.Need-u8-at-requires-3
-u8-at-requires-3 c κs = search needs
 
 returns-2 : tie.Need-returns-2
 unfolding editionTold
@@ -44,13 +20,13 @@ pub edition-told-spec : {M : Type 1} → statement M
 edition-told-spec =
     tie.close
     (tie.spec
-    kind-of-requires
-    u32-at-requires
-    u32-at-requires-2
-    u8-at-requires
+    (λ c κs. search needs)
+    (λ c κs. search needs)
+    (λ c κs. search needs)
+    (λ c κs. search needs)
     returns
-    u32-at-requires-3
-    u32-at-requires-4
-    u8-at-requires-2
-    u8-at-requires-3
+    (λ c κs. search needs)
+    (λ c κs. search needs)
+    (λ c κs. search needs)
+    (λ c κs. search needs)
     returns-2)

@@ -18,29 +18,14 @@ Inv-loop memory l₀ n₀ at₀ size₀ l n at size = Filling tellsEdition editi
 abbrev μ-loop : tie.MeasureT-loop
 μ-loop memory l₀ n₀ at₀ size₀ l n at size = length memory - at
 
-size-at-requires : tie.Need-size-at-requires Inv-loop μ-loop
-size-at-requires c κs = search needs
-
 loop-holds : tie.Need-loop-holds Inv-loop μ-loop
 loop-holds c = filling-start tellsEdition editionTold 32 noEdition _ _ (c .before .before .pre .framed) (set-counts _ (c .before .before .pre .ordered) .0) (c .size-at .ensures)
 
 add-at : tie.Need-add-at Inv-loop μ-loop
 add-at c = let s = walk-on _ _ _ (c .before .loop .inv .walk) (c .loop-test .taken) in let u = s .less in let v = s .fits in omega arith
 
-size-at-requires-2 : tie.Need-size-at-requires-2 Inv-loop μ-loop
-size-at-requires-2 c κs = search needs
-
-sub-tells-edition : tie.Need-sub-tells-edition Inv-loop μ-loop
-sub-tells-edition c = search needs
-
-part-tells-edition-start : tie.Need-part-tells-edition-start Inv-loop μ-loop
-part-tells-edition-start c = search needs
-
 part-tells-edition-end : tie.Need-part-tells-edition-end Inv-loop μ-loop
 part-tells-edition-end c = let s = walk-on _ _ _ (c .before .before .loop .inv .walk) (c .before .loop-test .taken) in let u = s .less in let v = s .fits in omega arith
-
-tells-edition-requires : tie.Need-tells-edition-requires Inv-loop μ-loop
-tells-edition-requires c κs = search needs
 
 loop-less : tie.Need-loop-less Inv-loop μ-loop
 loop-less c = let s = walk-on _ _ _ (c .before .before .before .before .before .loop .inv .walk) (c .before .before .before .before .loop-test .taken) in let u = s .less in let v = s .fits in omega arith
@@ -48,20 +33,8 @@ loop-less c = let s = walk-on _ _ _ (c .before .before .before .before .before .
 loop-again : tie.Need-loop-again Inv-loop μ-loop
 loop-again c = let s = walk-on _ _ _ (c .before .before .before .before .before .loop .inv .walk) (c .before .before .before .before .loop-test .taken) in let u = s .less in let v = s .fits in filling-skip _ _ _ _ _ _ _ _ _ (c .before .before .before .before .before .loop .inv) _ _ s (c .before .before .before .size-at2 .ensures) (sym (ap tellsEdition (s .lent)) ∙ sym (c .before .tells-edition .ensures) ∙ not-true _ (c .if1 .taken))
 
-sub-edition-told : tie.Need-sub-edition-told Inv-loop μ-loop
-sub-edition-told c = search needs
-
-part-edition-told-start : tie.Need-part-edition-told-start Inv-loop μ-loop
-part-edition-told-start c = search needs
-
 part-edition-told-end : tie.Need-part-edition-told-end Inv-loop μ-loop
 part-edition-told-end c = let s = walk-on _ _ _ (c .before .before .before .before .before .loop .inv .walk) (c .before .before .before .before .loop-test .taken) in let u = s .less in let v = s .fits in omega arith
-
-edition-told-requires : tie.Need-edition-told-requires Inv-loop μ-loop
-edition-told-requires c κs = search needs
-
-mul-l : tie.Need-mul-l Inv-loop μ-loop
-mul-l c = search needs
 
 array-set-from-l : tie.Need-array-set-from-l Inv-loop μ-loop
 array-set-from-l c = let s = walk-on _ _ _ (c .before .before .before .before .before .before .before .loop .inv .walk) (c .before .before .before .before .before .before .loop-test .taken) in let u = s .less in let v = s .fits in let t = sym (ap tellsEdition (s .lent)) ∙ sym (c .before .before .before .tells-edition .ensures) ∙ not-false _ (c .before .before .if1 .left) in let j = filling-room _ _ _ _ _ _ _ _ _ (c .before .before .before .before .before .before .before .loop .inv) _ _ s (c .before .before .before .before .before .size-at2 .ensures) t in let k = c .before .before .before .before .before .before .before .loop .inv .long in omega arith
@@ -85,21 +58,21 @@ editions-told-spec =
     (tie.spec
     Inv-loop
     μ-loop
-    size-at-requires
+    (λ c κs. search needs)
     loop-holds
     add-at
-    size-at-requires-2
-    sub-tells-edition
-    part-tells-edition-start
+    (λ c κs. search needs)
+    (λ c. search needs)
+    (λ c. search needs)
     part-tells-edition-end
-    tells-edition-requires
+    (λ c κs. search needs)
     loop-less
     loop-again
-    sub-edition-told
-    part-edition-told-start
+    (λ c. search needs)
+    (λ c. search needs)
     part-edition-told-end
-    edition-told-requires
-    mul-l
+    (λ c κs. search needs)
+    (λ c. search needs)
     array-set-from-l
     add-n
     loop-less-2

@@ -10,20 +10,8 @@ use borrow.Author.Needs.{needs}
 use Rattle.set_tables.proofs.first_told.Statement.{statement}
 use Rattle.set_tables.proofs.first_told.Tie as tie
 
-size-at-requires : tie.Need-size-at-requires
-size-at-requires c κs = search needs
-
-sub-u32-at : tie.Need-sub-u32-at
-sub-u32-at c = search needs
-
-part-u32-at-start : tie.Need-part-u32-at-start
-part-u32-at-start c = search needs
-
 part-u32-at-end : tie.Need-part-u32-at-end
 part-u32-at-end c = let s = first-step _ _ (c .before .before .pre) (c .size-at .ensures) in let v = s .fits in omega arith
-
-u32-at-requires : tie.Need-u32-at-requires
-u32-at-requires c κs = search needs
 
 returns : tie.Need-returns
 returns c = let s = first-step _ _ (c .before .before .before .before .pre) (c .before .before .size-at .ensures) in c .u32-at .ensures ∙ ap (λ (r : List ℕ). u32At r (c .before .before .before .before .args .at)) (s .lent ∙ sym (first-is _ _ s))
@@ -32,9 +20,9 @@ pub first-told-spec : {M : Type 1} → statement M
 first-told-spec =
     tie.close
     (tie.spec
-    size-at-requires
-    sub-u32-at
-    part-u32-at-start
+    (λ c κs. search needs)
+    (λ c. search needs)
+    (λ c. search needs)
     part-u32-at-end
-    u32-at-requires
+    (λ c κs. search needs)
     returns)

@@ -21,29 +21,14 @@ Inv-loop memory l₀ at₀ size₀ l at size = Legged memory l at size
 abbrev μ-loop : tie.MeasureT-loop
 μ-loop memory l₀ at₀ size₀ l at size = length memory - at
 
-size-at-requires : tie.Need-size-at-requires Inv-loop μ-loop
-size-at-requires c κs = search needs
-
 loop-holds : tie.Need-loop-holds Inv-loop μ-loop
 loop-holds c = legged-start _ _ (c .before .before .pre) (c .size-at .ensures)
 
 add-at : tie.Need-add-at Inv-loop μ-loop
 add-at c = let s = walk-on _ _ _ (c .before .loop .inv .walk) (c .loop-test .taken) in let u = s .less in let v = s .fits in omega arith
 
-size-at-requires-2 : tie.Need-size-at-requires-2 Inv-loop μ-loop
-size-at-requires-2 c κs = search needs
-
-sub-tells-legging : tie.Need-sub-tells-legging Inv-loop μ-loop
-sub-tells-legging c = search needs
-
-part-tells-legging-start : tie.Need-part-tells-legging-start Inv-loop μ-loop
-part-tells-legging-start c = search needs
-
 part-tells-legging-end : tie.Need-part-tells-legging-end Inv-loop μ-loop
 part-tells-legging-end c = let s = walk-on _ _ _ (c .before .before .loop .inv .walk) (c .before .loop-test .taken) in let u = s .less in let v = s .fits in omega arith
-
-tells-legging-requires : tie.Need-tells-legging-requires Inv-loop μ-loop
-tells-legging-requires c κs = search needs
 
 loop-less : tie.Need-loop-less Inv-loop μ-loop
 loop-less c = let s = walk-on _ _ _ (c .before .before .before .before .before .loop .inv .walk) (c .before .before .before .before .loop-test .taken) in let u = s .less in let v = s .fits in omega arith
@@ -51,35 +36,11 @@ loop-less c = let s = walk-on _ _ _ (c .before .before .before .before .before .
 loop-again : tie.Need-loop-again Inv-loop μ-loop
 loop-again c = let s = walk-on _ _ _ (c .before .before .before .before .before .loop .inv .walk) (c .before .before .before .before .loop-test .taken) in let u = s .less in let v = s .fits in legged-skip _ _ _ _ (c .before .before .before .before .before .loop .inv) _ _ s (c .before .before .before .size-at2 .ensures) (sym (ap tellsLegging (s .lent)) ∙ sym (c .before .tells-legging .ensures) ∙ not-true _ (c .if1 .taken))
 
-sub-place-of : tie.Need-sub-place-of Inv-loop μ-loop
-sub-place-of c = search needs
-
-part-place-of-start : tie.Need-part-place-of-start Inv-loop μ-loop
-part-place-of-start c = search needs
-
 part-place-of-end : tie.Need-part-place-of-end Inv-loop μ-loop
 part-place-of-end c = let s = walk-on _ _ _ (c .before .before .before .before .before .loop .inv .walk) (c .before .before .before .before .loop-test .taken) in let u = s .less in let v = s .fits in omega arith
 
-place-of-requires : tie.Need-place-of-requires Inv-loop μ-loop
-place-of-requires c κs = search needs
-
-cast-n : tie.Need-cast-n Inv-loop μ-loop
-cast-n c = search needs
-
-sub-legging-told : tie.Need-sub-legging-told Inv-loop μ-loop
-sub-legging-told c = search needs
-
-part-legging-told-start : tie.Need-part-legging-told-start Inv-loop μ-loop
-part-legging-told-start c = search needs
-
 part-legging-told-end : tie.Need-part-legging-told-end Inv-loop μ-loop
 part-legging-told-end c = let s = walk-on _ _ _ (c .before .before .before .before .before .before .before .loop .inv .walk) (c .before .before .before .before .before .before .loop-test .taken) in let u = s .less in let v = s .fits in omega arith
-
-legging-told-requires : tie.Need-legging-told-requires Inv-loop μ-loop
-legging-told-requires c κs = search needs
-
-mul-l : tie.Need-mul-l Inv-loop μ-loop
-mul-l c = search needs
 
 array-set-from-l : tie.Need-array-set-from-l Inv-loop μ-loop
 array-set-from-l c = let s = walk-on _ _ _ (c .before .before .before .before .before .before .before .before .before .loop .inv .walk) (c .before .before .before .before .before .before .before .before .loop-test .taken) in let u = s .less in let v = s .fits in let k = legged-room _ _ _ _ (c .before .before .before .before .before .before .before .before .before .loop .inv) _ _ s (c .before .before .before .before .before .before .before .size-at2 .ensures) (sym (ap tellsLegging (s .lent)) ∙ sym (c .before .before .before .before .before .tells-legging .ensures) ∙ not-false _ (c .before .before .before .before .if1 .left)) _ (c .before .before .place-of .ensures ∙ ap (λ (r : List ℕ). placeOf (u8At r 8) (u8At r 9)) (s .lent)) in let n = c .before .before .before .before .before .before .before .before .before .loop .inv .long in omega arith
@@ -100,26 +61,26 @@ leggings-told-spec =
     (tie.spec
     Inv-loop
     μ-loop
-    size-at-requires
+    (λ c κs. search needs)
     loop-holds
     add-at
-    size-at-requires-2
-    sub-tells-legging
-    part-tells-legging-start
+    (λ c κs. search needs)
+    (λ c. search needs)
+    (λ c. search needs)
     part-tells-legging-end
-    tells-legging-requires
+    (λ c κs. search needs)
     loop-less
     loop-again
-    sub-place-of
-    part-place-of-start
+    (λ c. search needs)
+    (λ c. search needs)
     part-place-of-end
-    place-of-requires
-    cast-n
-    sub-legging-told
-    part-legging-told-start
+    (λ c κs. search needs)
+    (λ c. search needs)
+    (λ c. search needs)
+    (λ c. search needs)
     part-legging-told-end
-    legging-told-requires
-    mul-l
+    (λ c κs. search needs)
+    (λ c. search needs)
     array-set-from-l
     loop-less-2
     loop-again-2

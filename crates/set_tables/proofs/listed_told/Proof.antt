@@ -5,18 +5,9 @@ use borrow.Author.Needs.{needs}
 use Rattle.set_tables.proofs.listed_told.Statement.{statement}
 use Rattle.set_tables.proofs.listed_told.Tie as tie
 
-u8-at-requires : tie.Need-u8-at-requires
-u8-at-requires c κs = search needs
-
-u32-at-requires : tie.Need-u32-at-requires
-u32-at-requires c κs = search needs
-
-u32-at-requires-2 : tie.Need-u32-at-requires-2
-u32-at-requires-2 c κs = search needs
-
 returns : tie.Need-returns
 unfolding listedOf
 returns c = rw (c .before .before .u8-at .ensures, c .before .u32-at .ensures, c .u32-at2 .ensures)
 
 pub listed-told-spec : {M : Type 1} → statement M
-listed-told-spec = tie.close (tie.spec u8-at-requires u32-at-requires u32-at-requires-2 returns)
+listed-told-spec = tie.close (tie.spec (λ c κs. search needs) (λ c κs. search needs) (λ c κs. search needs) returns)

@@ -16,26 +16,8 @@ abbrev μ-loop : tie.MeasureT-loop
 loop-holds : tie.Need-loop-holds Inv-loop μ-loop
 loop-holds c = record { many = omega arith; long = refl; moved = λ i h. absurd (omega arith) }
 
-add-messages : tie.Need-add-messages Inv-loop μ-loop
-add-messages c = search needs
-
-mul-messages : tie.Need-mul-messages Inv-loop μ-loop
-mul-messages c = search needs
-
-array-read-messages : tie.Need-array-read-messages Inv-loop μ-loop
-array-read-messages c = search needs
-
-mul-messages-2 : tie.Need-mul-messages-2 Inv-loop μ-loop
-mul-messages-2 c = search needs
-
 array-write-messages : tie.Need-array-write-messages Inv-loop μ-loop
 array-write-messages c = let n = c .before .loop .inv .long in omega arith
-
-add-k : tie.Need-add-k Inv-loop μ-loop
-add-k c = search needs
-
-loop-less : tie.Need-loop-less Inv-loop μ-loop
-loop-less c = search needs
 
 loop-again : tie.Need-loop-again Inv-loop μ-loop
 loop-again c = shifted-next _ _ _ (c .before .loop .inv) (c .loop-test .taken)
@@ -53,13 +35,13 @@ one-more-spec =
     Inv-loop
     μ-loop
     loop-holds
-    add-messages
-    mul-messages
-    array-read-messages
-    mul-messages-2
+    (λ c. search needs)
+    (λ c. search needs)
+    (λ c. search needs)
+    (λ c. search needs)
     array-write-messages
-    add-k
-    loop-less
+    (λ c. search needs)
+    (λ c. search needs)
     loop-again
     array-write-messages-2
     returns)

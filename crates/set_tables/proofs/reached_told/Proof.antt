@@ -19,41 +19,17 @@ Inv-loop memory at₀ size₀ at size = Walk memory at size × (reachedTold (row
 abbrev μ-loop : tie.MeasureT-loop
 μ-loop memory at₀ size₀ at size = length memory - at
 
-size-at-requires : tie.Need-size-at-requires Inv-loop μ-loop
-size-at-requires c κs = search needs
-
 loop-holds : tie.Need-loop-holds Inv-loop μ-loop
 loop-holds c = (walk-start _ _ (c .before .before .pre .framed) (c .size-at .ensures), refl)
 
 add-at : tie.Need-add-at Inv-loop μ-loop
 add-at c = let s = walk-on _ _ _ (c .before .loop .inv .0) (c .loop-test .taken) in let u = s .less in let v = s .fits in omega arith
 
-size-at-requires-2 : tie.Need-size-at-requires-2 Inv-loop μ-loop
-size-at-requires-2 c κs = search needs
-
-sub-kind-of : tie.Need-sub-kind-of Inv-loop μ-loop
-sub-kind-of c = search needs
-
-part-kind-of-start : tie.Need-part-kind-of-start Inv-loop μ-loop
-part-kind-of-start c = search needs
-
 part-kind-of-end : tie.Need-part-kind-of-end Inv-loop μ-loop
 part-kind-of-end c = let s = walk-on _ _ _ (c .before .before .loop .inv .0) (c .before .loop-test .taken) in let u = s .less in let v = s .fits in omega arith
 
-kind-of-requires : tie.Need-kind-of-requires Inv-loop μ-loop
-kind-of-requires c κs = search needs
-
-sub-u32-at : tie.Need-sub-u32-at Inv-loop μ-loop
-sub-u32-at c = search needs
-
-part-u32-at-start : tie.Need-part-u32-at-start Inv-loop μ-loop
-part-u32-at-start c = search needs
-
 part-u32-at-end : tie.Need-part-u32-at-end Inv-loop μ-loop
 part-u32-at-end c = let s = walk-on _ _ _ (c .before .before .before .before .before .loop .inv .0) (c .before .before .before .before .loop-test .taken) in let u = s .less in let v = s .fits in omega arith
-
-u32-at-requires : tie.Need-u32-at-requires Inv-loop μ-loop
-u32-at-requires c κs = search needs
 
 returns : tie.Need-returns Inv-loop μ-loop
 unfolding venueTold
@@ -75,18 +51,18 @@ reached-told-spec =
     (tie.spec
     Inv-loop
     μ-loop
-    size-at-requires
+    (λ c κs. search needs)
     loop-holds
     add-at
-    size-at-requires-2
-    sub-kind-of
-    part-kind-of-start
+    (λ c κs. search needs)
+    (λ c. search needs)
+    (λ c. search needs)
     part-kind-of-end
-    kind-of-requires
-    sub-u32-at
-    part-u32-at-start
+    (λ c κs. search needs)
+    (λ c. search needs)
+    (λ c. search needs)
     part-u32-at-end
-    u32-at-requires
+    (λ c κs. search needs)
     returns
     loop-less
     loop-again

@@ -7,15 +7,9 @@ use borrow.Author.Needs.{needs}
 use Rattle.set_tables.proofs.regular_told.Statement.{statement}
 use Rattle.set_tables.proofs.regular_told.Tie as tie
 
-shown-of-requires : tie.Need-shown-of-requires
-shown-of-requires c κs = search needs
-
-order-at-requires : tie.Need-order-at-requires
-order-at-requires c κs = search needs
-
 returns : tie.Need-returns
 unfolding regularTold orderAt
 returns c = c .order-at .ensures ∙ ap (λ (x : ℕ). orderAt x (c .before .before .before .args .r .now)) (c .before .shown-of .ensures)
 
 pub regular-told-spec : {M : Type 1} → statement M
-regular-told-spec = tie.close (tie.spec shown-of-requires order-at-requires returns)
+regular-told-spec = tie.close (tie.spec (λ c κs. search needs) (λ c κs. search needs) returns)

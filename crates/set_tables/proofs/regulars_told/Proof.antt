@@ -19,29 +19,14 @@ Inv-loop memory l₀ n₀ at₀ size₀ l n at size = Filling tellsRegular regul
 abbrev μ-loop : tie.MeasureT-loop
 μ-loop memory l₀ n₀ at₀ size₀ l n at size = length memory - at
 
-size-at-requires : tie.Need-size-at-requires Inv-loop μ-loop
-size-at-requires c κs = search needs
-
 loop-holds : tie.Need-loop-holds Inv-loop μ-loop
 loop-holds c = filling-start tellsRegular regularTold 128 noRegular _ _ (c .before .before .pre .framed) (set-counts _ (c .before .before .pre .ordered) .1) (c .size-at .ensures)
 
 add-at : tie.Need-add-at Inv-loop μ-loop
 add-at c = let s = walk-on _ _ _ (c .before .loop .inv .walk) (c .loop-test .taken) in let u = s .less in let v = s .fits in omega arith
 
-size-at-requires-2 : tie.Need-size-at-requires-2 Inv-loop μ-loop
-size-at-requires-2 c κs = search needs
-
-sub-tells-regular : tie.Need-sub-tells-regular Inv-loop μ-loop
-sub-tells-regular c = search needs
-
-part-tells-regular-start : tie.Need-part-tells-regular-start Inv-loop μ-loop
-part-tells-regular-start c = search needs
-
 part-tells-regular-end : tie.Need-part-tells-regular-end Inv-loop μ-loop
 part-tells-regular-end c = let s = walk-on _ _ _ (c .before .before .loop .inv .walk) (c .before .loop-test .taken) in let u = s .less in let v = s .fits in omega arith
-
-tells-regular-requires : tie.Need-tells-regular-requires Inv-loop μ-loop
-tells-regular-requires c κs = search needs
 
 loop-less : tie.Need-loop-less Inv-loop μ-loop
 loop-less c = let s = walk-on _ _ _ (c .before .before .before .before .before .loop .inv .walk) (c .before .before .before .before .loop-test .taken) in let u = s .less in let v = s .fits in omega arith
@@ -49,20 +34,11 @@ loop-less c = let s = walk-on _ _ _ (c .before .before .before .before .before .
 loop-again : tie.Need-loop-again Inv-loop μ-loop
 loop-again c = let s = walk-on _ _ _ (c .before .before .before .before .before .loop .inv .walk) (c .before .before .before .before .loop-test .taken) in let u = s .less in let v = s .fits in filling-skip _ _ _ _ _ _ _ _ _ (c .before .before .before .before .before .loop .inv) _ _ s (c .before .before .before .size-at2 .ensures) (sym (ap tellsRegular (s .lent)) ∙ sym (c .before .tells-regular .ensures) ∙ not-true _ (c .if1 .taken))
 
-sub-regular-told : tie.Need-sub-regular-told Inv-loop μ-loop
-sub-regular-told c = search needs
-
-part-regular-told-start : tie.Need-part-regular-told-start Inv-loop μ-loop
-part-regular-told-start c = search needs
-
 part-regular-told-end : tie.Need-part-regular-told-end Inv-loop μ-loop
 part-regular-told-end c = let s = walk-on _ _ _ (c .before .before .before .before .before .loop .inv .walk) (c .before .before .before .before .loop-test .taken) in let u = s .less in let v = s .fits in omega arith
 
 regular-told-requires : tie.Need-regular-told-requires Inv-loop μ-loop
 regular-told-requires c κs = let s = walk-on _ _ _ (c .before .before .before .before .before .before .loop .inv .walk) (c .before .before .before .before .before .loop-test .taken) in let u = s .less in let v = s .fits in let t = sym (ap tellsRegular (s .lent)) ∙ sym (c .before .before .tells-regular .ensures) ∙ not-false _ (c .before .if1 .left) in let y = ap length (s .lent) in let z = regular-long (s .bytes) (s .well) t in omega arith
-
-mul-l : tie.Need-mul-l Inv-loop μ-loop
-mul-l c = search needs
 
 array-set-from-l : tie.Need-array-set-from-l Inv-loop μ-loop
 array-set-from-l c = let s = walk-on _ _ _ (c .before .before .before .before .before .before .before .loop .inv .walk) (c .before .before .before .before .before .before .loop-test .taken) in let u = s .less in let v = s .fits in let t = sym (ap tellsRegular (s .lent)) ∙ sym (c .before .before .before .tells-regular .ensures) ∙ not-false _ (c .before .before .if1 .left) in let j = filling-room _ _ _ _ _ _ _ _ _ (c .before .before .before .before .before .before .before .loop .inv) _ _ s (c .before .before .before .before .before .size-at2 .ensures) t in let k = c .before .before .before .before .before .before .before .loop .inv .long in omega arith
@@ -86,21 +62,21 @@ regulars-told-spec =
     (tie.spec
     Inv-loop
     μ-loop
-    size-at-requires
+    (λ c κs. search needs)
     loop-holds
     add-at
-    size-at-requires-2
-    sub-tells-regular
-    part-tells-regular-start
+    (λ c κs. search needs)
+    (λ c. search needs)
+    (λ c. search needs)
     part-tells-regular-end
-    tells-regular-requires
+    (λ c κs. search needs)
     loop-less
     loop-again
-    sub-regular-told
-    part-regular-told-start
+    (λ c. search needs)
+    (λ c. search needs)
     part-regular-told-end
     regular-told-requires
-    mul-l
+    (λ c. search needs)
     array-set-from-l
     add-n
     loop-less-2

@@ -17,20 +17,11 @@ Inv-loop memory l₀ at₀ s₀ l at s = Listing memory l at s
 abbrev μ-loop : tie.MeasureT-loop
 μ-loop memory l₀ at₀ s₀ l at s = 8 - s
 
-size-at-requires : tie.Need-size-at-requires Inv-loop μ-loop
-size-at-requires c κs = search needs
-
 loop-holds : tie.Need-loop-holds Inv-loop μ-loop
 loop-holds c = listing-start _ _ _ (c .before .before .pre) (c .size-at .ensures) (length-replicate 8 notListed)
 
-size-at-requires-2 : tie.Need-size-at-requires-2 Inv-loop μ-loop
-size-at-requires-2 c κs = search needs
-
 add-away : tie.Need-add-away Inv-loop μ-loop
 add-away c = let a = status-step _ (c .before .before .before .before .before .pre) _ _ _ (c .before .before .loop .inv) (c .before .loop-test .taken) _ (c .size-at2 .ensures) in let u = a .less in let v = a .fits in omega arith
-
-size-at-requires-3 : tie.Need-size-at-requires-3 Inv-loop μ-loop
-size-at-requires-3 c κs = search needs
 
 add-next : tie.Need-add-next Inv-loop μ-loop
 add-next c = let a = status-step _ (c .before .before .before .before .before .before .pre) _ _ _ (c .before .before .before .loop .inv) (c .before .before .loop-test .taken) _ (c .before .size-at2 .ensures) in let u = a .less in let v = a .fits in let e = away-step _ (c .before .before .before .before .before .before .pre) _ _ _ (c .before .before .before .loop .inv) (c .before .before .loop-test .taken) _ a _ (c .size-at3 .ensures) in let x = e .less in let y = e .fits in omega arith
@@ -53,20 +44,8 @@ part-listed-told-start-2 c = let a = status-step _ (c .before .before .before .b
 part-listed-told-end-2 : tie.Need-part-listed-told-end-2 Inv-loop μ-loop
 part-listed-told-end-2 c = let a = status-step _ (c .before .before .before .before .before .before .before .pre) _ _ _ (c .before .before .before .before .loop .inv) (c .before .before .before .loop-test .taken) _ (c .before .before .size-at2 .ensures) in let u = a .less in let v = a .fits in let e = away-step _ (c .before .before .before .before .before .before .before .pre) _ _ _ (c .before .before .before .before .loop .inv) (c .before .before .before .loop-test .taken) _ a _ (c .before .size-at3 .ensures) in let x = e .less in let y = e .fits in omega arith
 
-listed-told-requires : tie.Need-listed-told-requires Inv-loop μ-loop
-listed-told-requires c κs = search needs
-
-mul-l : tie.Need-mul-l Inv-loop μ-loop
-mul-l c = search needs
-
 array-set-from-l : tie.Need-array-set-from-l Inv-loop μ-loop
 array-set-from-l c = let n = c .before .before .before .before .before .before .loop .inv .long in omega arith
-
-add-s : tie.Need-add-s Inv-loop μ-loop
-add-s c = search needs
-
-loop-less : tie.Need-loop-less Inv-loop μ-loop
-loop-less c = search needs
 
 loop-again : tie.Need-loop-again Inv-loop μ-loop
 loop-again c = let a = status-step _ (c .before .before .before .before .before .before .before .before .before .pre) _ _ _ (c .before .before .before .before .before .before .loop .inv) (c .before .before .before .before .before .loop-test .taken) _ (c .before .before .before .before .size-at2 .ensures) in let u = a .less in let v = a .fits in let e = away-step _ (c .before .before .before .before .before .before .before .before .before .pre) _ _ _ (c .before .before .before .before .before .before .loop .inv) (c .before .before .before .before .before .loop-test .taken) _ a _ (c .before .before .before .size-at3 .ensures) in let x = e .less in let y = e .fits in listing-next _ (c .before .before .before .before .before .before .before .before .before .pre) _ _ _ (c .before .before .before .before .before .before .loop .inv) (c .before .before .before .before .before .loop-test .taken) _ a _ e _ (c .listed-told .ensures ∙ ap₂ listedOf (a .lent) (e .lent))
@@ -81,11 +60,11 @@ series-told-spec =
     (tie.spec
     Inv-loop
     μ-loop
-    size-at-requires
+    (λ c κs. search needs)
     loop-holds
-    size-at-requires-2
+    (λ c κs. search needs)
     add-away
-    size-at-requires-3
+    (λ c κs. search needs)
     add-next
     sub-listed-told
     part-listed-told-start
@@ -93,10 +72,10 @@ series-told-spec =
     sub-listed-told-2
     part-listed-told-start-2
     part-listed-told-end-2
-    listed-told-requires
-    mul-l
+    (λ c κs. search needs)
+    (λ c. search needs)
     array-set-from-l
-    add-s
-    loop-less
+    (λ c. search needs)
+    (λ c. search needs)
     loop-again
     returns)

@@ -9,18 +9,9 @@ use borrow.Author.Needs.{needs}
 use Rattle.set_tables.proofs.shown_of.Statement.{statement}
 use Rattle.set_tables.proofs.shown_of.Tie as tie
 
-kind-of-requires : tie.Need-kind-of-requires
-kind-of-requires c κs = search needs
-
-u32-at-requires : tie.Need-u32-at-requires
-u32-at-requires c κs = search needs
-
 returns : tie.Need-returns
 unfolding regularTold orderAt
 returns c = rw (eq-eqb _ 9 (sym (c .before .before .kind-of .ensures) ∙ c .before .if1 .taken)) (c .u32-at .ensures)
-
-u32-at-requires-2 : tie.Need-u32-at-requires-2
-u32-at-requires-2 c κs = search needs
 
 returns-2 : tie.Need-returns-2
 unfolding regularTold orderAt
@@ -28,4 +19,4 @@ returns-2 c = rw (ne-eqb (kindField (c .before .before .before .before .args .r 
 
 pub shown-of-spec : {M : Type 1} → statement M
 shown-of-spec =
-    tie.close (tie.spec kind-of-requires u32-at-requires returns u32-at-requires-2 returns-2)
+    tie.close (tie.spec (λ c κs. search needs) (λ c κs. search needs) returns (λ c κs. search needs) returns-2)

@@ -5,14 +5,8 @@ use borrow.Author.Needs.{needs}
 use Rattle.set_tables.proofs.size_at.Statement.{statement}
 use Rattle.set_tables.proofs.size_at.Tie as tie
 
-u16-at-requires : tie.Need-u16-at-requires
-u16-at-requires c κs = search needs
-
-cast-result : tie.Need-cast-result
-cast-result c = search needs
-
 returns : tie.Need-returns
 returns c = c .u16-at .ensures ∙ sym (length-here _ _)
 
 pub size-at-spec : {M : Type 1} → statement M
-size-at-spec = tie.close (tie.spec u16-at-requires cast-result returns)
+size-at-spec = tie.close (tie.spec (λ c κs. search needs) (λ c. search needs) returns)

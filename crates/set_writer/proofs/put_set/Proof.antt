@@ -5,36 +5,6 @@ use Rattle.set_writer.proofs.Whole.{parts-joined}
 use Rattle.set_writer.proofs.put_set.Statement.{statement}
 use Rattle.set_writer.proofs.put_set.Tie as tie
 
-last-id-requires : tie.Need-last-id-requires
-last-id-requires c κs = search needs
-
-put-first-requires : tie.Need-put-first-requires
-put-first-requires c κs = search needs
-
-put-series-requires : tie.Need-put-series-requires
-put-series-requires c κs = search needs
-
-put-editions-requires : tie.Need-put-editions-requires
-put-editions-requires c κs = search needs
-
-put-orders-requires : tie.Need-put-orders-requires
-put-orders-requires c κs = search needs
-
-put-leggings-requires : tie.Need-put-leggings-requires
-put-leggings-requires c κs = search needs
-
-put-all-generations-requires : tie.Need-put-all-generations-requires
-put-all-generations-requires c κs = search needs
-
-reached-id-requires : tie.Need-reached-id-requires
-reached-id-requires c κs = search needs
-
-put-reached-requires : tie.Need-put-reached-requires
-put-reached-requires c κs = search needs
-
-same-length : tie.Need-same-length
-same-length c = search needs
-
 returns : tie.Need-returns
 returns c =
     let s = c .before .before .before .before .before .before .before .before .before .before .before .before .before .before .before .before .before .before .before .before .before .before .before .before .before .before .before .before .before .before .before .before in
@@ -46,14 +16,14 @@ pub put-set-spec : {M : Type 1} → statement M
 put-set-spec =
     tie.close
     (tie.spec
-    last-id-requires
-    put-first-requires
-    put-series-requires
-    put-editions-requires
-    put-orders-requires
-    put-leggings-requires
-    put-all-generations-requires
-    reached-id-requires
-    put-reached-requires
-    same-length
+    (λ c κs. search needs)
+    (λ c κs. search needs)
+    (λ c κs. search needs)
+    (λ c κs. search needs)
+    (λ c κs. search needs)
+    (λ c κs. search needs)
+    (λ c κs. search needs)
+    (λ c κs. search needs)
+    (λ c κs. search needs)
+    (λ c. search needs)
     returns)

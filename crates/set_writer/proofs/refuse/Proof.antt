@@ -9,12 +9,6 @@ use Rattle.sets.specs.Set.{notWritten}
 use Rattle.set_writer.proofs.refuse.Statement.{statement}
 use Rattle.set_writer.proofs.refuse.Tie as tie
 
-zero-from-requires : tie.Need-zero-from-requires
-zero-from-requires c κs = search needs
-
-same-length : tie.Need-same-length
-same-length c = search needs
-
 returns : tie.Need-returns
 unfolding notWritten
 returns c =
@@ -23,4 +17,4 @@ returns c =
     ap (λ (l : List ℕ). record { number = s .args .number; written = 0; memory = l }) (c .before .before .zero-from .ensures ∙ ap (λ (k : ℕ). replicate k 0) z)
 
 pub refuse-spec : {M : Type 1} → statement M
-refuse-spec = tie.close (tie.spec zero-from-requires same-length returns)
+refuse-spec = tie.close (tie.spec (λ c κs. search needs) (λ c. search needs) returns)

@@ -22,41 +22,14 @@ passed c = sym (c .before .before .load-ready .ensures .answer) ∙ not-false _ 
 put : (c : tie.After-put-set) → begun (c .put-set .last .1 .1 .0) (c .put-set .result) ≡ begun (c .before .before .before .before .before .before .before .before .args .memory .now) 0 adds joined (setOf (c .before .before .before .before .before .before .before .before .args .number) (c .before .before .before .before .before .before .before .before .args .venue))
 put c = adds-same _ _ _ _ (c .put-set .ensures) (ap (λ (v : Venue). joined (setOf (c .before .before .before .before .before .before .before .before .args .number) v)) (c .before .before .before .before .before .load-ready .ensures .loaded (not-false _ (c .before .before .before .if1 .left)) .venue))
 
-slice-aggregate-load-ready : tie.Need-slice-aggregate-load-ready
-slice-aggregate-load-ready c = search needs
-
-load-ready-requires : tie.Need-load-ready-requires
-load-ready-requires c κs = search needs
-
-refuse-requires : tie.Need-refuse-requires
-refuse-requires c κs = search needs
-
-same-length : tie.Need-same-length
-same-length c = search needs
-
 returns : tie.Need-returns
 returns c = let s = c .before .before .before .before .before .before .before .before .before in c .before .before .refuse .ensures ∙ not-carried (s .args .venue) (s .args .number) (s .args .memory .now) (sym (c .before .before .before .before .before .before .load-ready .ensures .answer) ∙ not-true _ (c .before .before .before .before .if1 .taken))
-
-slice-aggregate-put-set : tie.Need-slice-aggregate-put-set
-slice-aggregate-put-set c = search needs
 
 put-set-requires : tie.Need-put-set-requires
 put-set-requires c κs = (search needs, c .before .before .before .before .load-ready .ensures .loaded (not-false _ (c .before .before .if1 .left)) .dense)
 
-refuse-requires-2 : tie.Need-refuse-requires-2
-refuse-requires-2 c κs = search needs
-
-same-length-2 : tie.Need-same-length-2
-same-length-2 c = search needs
-
 returns-2 : tie.Need-returns-2
 returns-2 c = c .before .before .refuse2 .ensures ∙ no-room _ _ _ (passed (c .before .before .before .before .before .before .before .before .before .before)) _ _ (put (c .before .before .before .before .before .before .before)) (omega arith)
-
-zero-from-requires : tie.Need-zero-from-requires
-zero-from-requires c κs = search needs
-
-same-length-3 : tie.Need-same-length-3
-same-length-3 c = search needs
 
 returns-3 : tie.Need-returns-3
 returns-3 c = all-written _ _ _ (passed (c .before .before .before .before .before .before .before .before .before .before)) _ _ (put (c .before .before .before .before .before .before .before)) (omega arith) _ (c .before .before .zero-from .ensures)
@@ -65,16 +38,16 @@ pub write-set-spec : {M : Type 1} → statement M
 write-set-spec =
     tie.close
     (tie.spec
-    slice-aggregate-load-ready
-    load-ready-requires
-    refuse-requires
-    same-length
+    (λ c. search needs)
+    (λ c κs. search needs)
+    (λ c κs. search needs)
+    (λ c. search needs)
     returns
-    slice-aggregate-put-set
+    (λ c. search needs)
     put-set-requires
-    refuse-requires-2
-    same-length-2
+    (λ c κs. search needs)
+    (λ c. search needs)
     returns-2
-    zero-from-requires
-    same-length-3
+    (λ c κs. search needs)
+    (λ c. search needs)
     returns-3)

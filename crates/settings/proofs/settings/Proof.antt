@@ -6,20 +6,8 @@ use borrow.Author.Needs.{needs}
 use Rattle.settings.proofs.settings.Statement.{statement}
 use Rattle.settings.proofs.settings.Tie as tie
 
-slice-aggregate-load-sound : tie.Need-slice-aggregate-load-sound
-slice-aggregate-load-sound c = search needs
-
-load-sound-requires : tie.Need-load-sound-requires
-load-sound-requires c κs = search needs
-
 returns : tie.Need-returns
 returns c = let s = c .before .before .before .before in settings-not (s .args .venue) (s .args .number) (sym (c .before .before .load-sound .ensures .answer) ∙ not-true _ (c .if1 .taken))
-
-increments-at-requires : tie.Need-increments-at-requires
-increments-at-requires c κs = search needs
-
-value-at-requires : tie.Need-value-at-requires
-value-at-requires c κs = search needs
 
 returns-2 : tie.Need-returns-2
 returns-2 c = let s = c .before .before .before .before .before .before .before in settings-told (s .args .venue) (s .args .number) (sym (c .before .before .before .before .before .load-sound .ensures .answer) ∙ not-false _ (c .before .before .before .if1 .left)) _ _ (c .before .increments-at .ensures) (c .value-at .ensures)
@@ -28,9 +16,9 @@ pub settings-spec : {M : Type 1} → statement M
 settings-spec =
     tie.close
     (tie.spec
-    slice-aggregate-load-sound
-    load-sound-requires
+    (λ c. search needs)
+    (λ c κs. search needs)
     returns
-    increments-at-requires
-    value-at-requires
+    (λ c κs. search needs)
+    (λ c κs. search needs)
     returns-2)

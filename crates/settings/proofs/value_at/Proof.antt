@@ -15,26 +15,8 @@ Inv-loop number f editions x₀ i₀ x i = valueFrom number f x (drop i editions
 abbrev μ-loop : tie.MeasureT-loop
 μ-loop number f editions x₀ i₀ x i = 32 - i
 
-base-figure-requires : tie.Need-base-figure-requires Inv-loop μ-loop
-base-figure-requires c κs = search needs
-
 loop-holds : tie.Need-loop-holds Inv-loop μ-loop
 loop-holds c = value-first _ _ _ _ (c .base-figure .ensures)
-
-mul-e : tie.Need-mul-e Inv-loop μ-loop
-mul-e c = search needs
-
-array-copy-out-e : tie.Need-array-copy-out-e Inv-loop μ-loop
-array-copy-out-e c = search needs
-
-value-after-requires : tie.Need-value-after-requires Inv-loop μ-loop
-value-after-requires c κs = search needs
-
-add-i : tie.Need-add-i Inv-loop μ-loop
-add-i c = search needs
-
-loop-less : tie.Need-loop-less Inv-loop μ-loop
-loop-less c = search needs
 
 loop-again : tie.Need-loop-again Inv-loop μ-loop
 loop-again c =
@@ -55,12 +37,12 @@ value-at-spec =
     (tie.spec
     Inv-loop
     μ-loop
-    base-figure-requires
+    (λ c κs. search needs)
     loop-holds
-    mul-e
-    array-copy-out-e
-    value-after-requires
-    add-i
-    loop-less
+    (λ c. search needs)
+    (λ c. search needs)
+    (λ c κs. search needs)
+    (λ c. search needs)
+    (λ c. search needs)
     loop-again
     returns)

@@ -7,26 +7,8 @@ use borrow.Author.Needs.{needs}
 use Rattle.settling.proofs.can_pair.Statement.{statement}
 use Rattle.settling.proofs.can_pair.Tie as tie
 
-other-clear-requires : tie.Need-other-clear-requires
-other-clear-requires c κs = search needs
-
 returns : tie.Need-returns
 returns c = pair-none _ (c .before .before .before .args .c) _ _ _ _ _ (c .before .other-clear .ensures) (c .if1 .taken)
-
-other-leg-requires : tie.Need-other-leg-requires
-other-leg-requires c κs = search needs
-
-net-of-requires : tie.Need-net-of-requires
-net-of-requires c κs = search needs
-
-limit-of-requires : tie.Need-limit-of-requires
-limit-of-requires c κs = search needs
-
-other-level-requires : tie.Need-other-level-requires
-other-level-requires c κs = search needs
-
-cast-result : tie.Need-cast-result
-cast-result c = search needs
 
 returns-2 : tie.Need-returns-2
 returns-2 c =
@@ -49,12 +31,12 @@ pub can-pair-spec : {M : Type 1} → statement M
 can-pair-spec =
     tie.close
     (tie.spec
-    other-clear-requires
+    (λ c κs. search needs)
     returns
-    other-leg-requires
-    net-of-requires
-    limit-of-requires
-    other-level-requires
-    cast-result
+    (λ c κs. search needs)
+    (λ c κs. search needs)
+    (λ c κs. search needs)
+    (λ c κs. search needs)
+    (λ c. search needs)
     returns-2
     returns-3)

@@ -10,20 +10,8 @@ use borrow.Author.Needs.{needs}
 use Rattle.settling.proofs.judge.Statement.{statement}
 use Rattle.settling.proofs.judge.Tie as tie
 
-legging-at-requires : tie.Need-legging-at-requires
-legging-at-requires c κs = search needs
-
 returns : tie.Need-returns
 returns c = verdict-free _ _ (c .before .before .legging-at .result) _ (c .before .before .legging-at .ensures ∙ sym (legging-at (c .before .before .before .before .args .b .now) (c .before .before .before .before .args .n) (c .before .before .before .before .pre .2))) (c .if1 .taken)
-
-parent-of-requires : tie.Need-parent-of-requires
-parent-of-requires c κs = search needs
-
-cast-s : tie.Need-cast-s
-cast-s c = search needs
-
-cast-d : tie.Need-cast-d
-cast-d c = search needs
 
 sides-of-requires : tie.Need-sides-of-requires
 sides-of-requires c κs = (rw (c .parent-of .ensures) (parent-legs (c .before .before .before .before .before .args .b .now) (c .before .before .before .legging-at .result)), omega arith, omega arith)
@@ -43,11 +31,11 @@ pub judge-spec : {M : Type 1} → statement M
 judge-spec =
     tie.close
     (tie.spec
-    legging-at-requires
+    (λ c κs. search needs)
     returns
-    parent-of-requires
-    cast-s
-    cast-d
+    (λ c κs. search needs)
+    (λ c. search needs)
+    (λ c. search needs)
     sides-of-requires
     test-order-requires
     returns-2)

@@ -6,11 +6,8 @@ use borrow.Author.Needs.{needs}
 use Rattle.settling.proofs.none_stands.Statement.{statement}
 use Rattle.settling.proofs.none_stands.Tie as tie
 
-mask-of-requires : tie.Need-mask-of-requires
-mask-of-requires c κs = search needs
-
 returns : tie.Need-returns
 returns c = ap (λ (x : ℕ). eqb x 0) (c .mask-of .ensures)
 
 pub none-stands-spec : {M : Type 1} → statement M
-none-stands-spec = tie.close (tie.spec mask-of-requires returns)
+none-stands-spec = tie.close (tie.spec (λ c κs. search needs) returns)

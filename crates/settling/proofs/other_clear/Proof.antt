@@ -6,15 +6,6 @@ use borrow.Author.Needs.{needs}
 use Rattle.settling.proofs.other_clear.Statement.{statement}
 use Rattle.settling.proofs.other_clear.Tie as tie
 
-other-leg-requires : tie.Need-other-leg-requires
-other-leg-requires c κs = search needs
-
-other-level-requires : tie.Need-other-level-requires
-other-level-requires c κs = search needs
-
-opposite-of-requires : tie.Need-opposite-of-requires
-opposite-of-requires c κs = search needs
-
 clear-price-requires : tie.Need-clear-price-requires
 clear-price-requires c κs =
     let p = c .before .before .before .before .pre in
@@ -33,8 +24,8 @@ pub other-clear-spec : {M : Type 1} → statement M
 other-clear-spec =
     tie.close
     (tie.spec
-    other-leg-requires
-    other-level-requires
-    opposite-of-requires
+    (λ c κs. search needs)
+    (λ c κs. search needs)
+    (λ c κs. search needs)
     clear-price-requires
     returns)

@@ -17,20 +17,8 @@ abbrev μ-loop : tie.MeasureT-loop
 loop-holds : tie.Need-loop-holds Inv-loop μ-loop
 loop-holds c = (search needs, stand-all _ _)
 
-add-n : tie.Need-add-n Inv-loop μ-loop
-add-n c = search needs
-
-loop-less : tie.Need-loop-less Inv-loop μ-loop
-loop-less c = search needs
-
 loop-again : tie.Need-loop-again Inv-loop μ-loop
 loop-again c = (search needs, stand-own (c .before .before .before .before .args .b .now) (c .before .before .before .before .args .m) (c .before .before .loop .n) (c .before .loop-test .taken) (c .if1 .taken) ∙ c .before .before .loop .inv .1)
-
-legging-at-requires : tie.Need-legging-at-requires Inv-loop μ-loop
-legging-at-requires c κs = search needs
-
-loop-less-2 : tie.Need-loop-less-2 Inv-loop μ-loop
-loop-less-2 c = search needs
 
 loop-again-2 : tie.Need-loop-again-2 Inv-loop μ-loop
 loop-again-2 c = (
@@ -39,24 +27,12 @@ loop-again-2 c = (
       ∙ c .before .before .before .before .before .loop .inv .1,
 )
 
-judge-requires : tie.Need-judge-requires Inv-loop μ-loop
-judge-requires c κs = search needs
-
-enum-told : tie.Need-enum-told Inv-loop μ-loop
-enum-told c = search needs
-
-loop-less-3 : tie.Need-loop-less-3 Inv-loop μ-loop
-loop-less-3 c = search needs
-
 loop-again-3 : tie.Need-loop-again-3 Inv-loop μ-loop
 loop-again-3 c = (
   search needs,
   stand-past (c .before .before .before .before .before .before .before .before .before .before .args .b .now) (c .before .before .before .before .before .before .before .before .before .before .args .m) (c .before .before .before .before .before .before .before .before .loop .n) (c .before .before .before .before .before .before .before .loop-test .taken) (c .before .before .before .before .before .before .if1 .left) (c .before .before .judge .result) (c .before .before .judge .ensures) (c .enum-told .given .1)
       ∙ c .before .before .before .before .before .before .before .before .loop .inv .1,
 )
-
-enum-told-2 : tie.Need-enum-told-2 Inv-loop μ-loop
-enum-told-2 c = search needs
 
 returns : tie.Need-returns Inv-loop μ-loop
 returns c =
@@ -73,16 +49,16 @@ others-stand-spec =
     Inv-loop
     μ-loop
     loop-holds
-    add-n
-    loop-less
+    (λ c. search needs)
+    (λ c. search needs)
     loop-again
-    legging-at-requires
-    loop-less-2
+    (λ c κs. search needs)
+    (λ c. search needs)
     loop-again-2
-    judge-requires
-    enum-told
-    loop-less-3
+    (λ c κs. search needs)
+    (λ c. search needs)
+    (λ c. search needs)
     loop-again-3
-    enum-told-2
+    (λ c. search needs)
     returns
     returns-2)

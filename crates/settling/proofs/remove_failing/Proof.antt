@@ -12,12 +12,6 @@ use borrow.Author.Needs.{needs}
 use Rattle.settling.proofs.remove_failing.Statement.{statement}
 use Rattle.settling.proofs.remove_failing.Tie as tie
 
-none-stands-requires : tie.Need-none-stands-requires
-none-stands-requires c κs = search needs
-
-same-length : tie.Need-same-length
-same-length c = search needs
-
 returns : tie.Need-returns
 returns c =
     let p1 = c .before in
@@ -27,15 +21,6 @@ returns c =
           ∙ ap (λ (e : Effect). seen (a .out .now) (a .at) does e) (sym (remove-none (verdict v) v (eqb-true _ _ (sym (p1 .none-stands .ensures) ∙ c .if1 .taken)))),
       record { regulars = refl; complexes = refl; right = λ h. h },
     )
-
-levels-requires : tie.Need-levels-requires
-levels-requires c κs = search needs
-
-verdicts-requires : tie.Need-verdicts-requires
-verdicts-requires c κs = search needs
-
-same-length-2 : tie.Need-same-length-2
-same-length-2 c = search needs
 
 returns-2 : tie.Need-returns-2
 returns-2 c =
@@ -47,15 +32,6 @@ returns-2 c =
           ∙ ap (λ (e : Effect). seen (a .out .now) (a .at) does e) (unmarked (m .result) v (c .if2 .taken) ∙ marked-is (verdict v) (m .result) (a .b .now) (m .ensures)),
       record { regulars = refl; complexes = refl; right = λ h. h },
     )
-
-remove-marked-requires : tie.Need-remove-marked-requires
-remove-marked-requires c κs = search needs
-
-same-length-3 : tie.Need-same-length-3
-same-length-3 c = search needs
-
-same-length-4 : tie.Need-same-length-4
-same-length-4 c = search needs
 
 returns-3 : tie.Need-returns-3
 returns-3 c =
@@ -70,14 +46,14 @@ pub remove-failing-spec : {M : Type 1} → statement M
 remove-failing-spec =
     tie.close
     (tie.spec
-    none-stands-requires
-    same-length
+    (λ c κs. search needs)
+    (λ c. search needs)
     returns
-    levels-requires
-    verdicts-requires
-    same-length-2
+    (λ c κs. search needs)
+    (λ c κs. search needs)
+    (λ c. search needs)
     returns-2
-    remove-marked-requires
-    same-length-3
-    same-length-4
+    (λ c κs. search needs)
+    (λ c. search needs)
+    (λ c. search needs)
     returns-3)

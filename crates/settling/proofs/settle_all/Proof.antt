@@ -10,20 +10,11 @@ use borrow.Author.Needs.{needs}
 use Rattle.settling.proofs.settle_all.Statement.{statement}
 use Rattle.settling.proofs.settle_all.Tie as tie
 
-show-again-requires : tie.Need-show-again-requires
-show-again-requires c κs = search needs
-
 remove-failing-requires : tie.Need-remove-failing-requires
 remove-failing-requires c κs =
     let p4 = c .before .before .before .before in
     let s = p4 .before .before .before .before in
     (p4 .show-again .kept .0 ∙ s .pre .0, p4 .show-again .ensures .1 .right (s .pre .1))
-
-same-length : tie.Need-same-length
-same-length c = search needs
-
-same-length-2 : tie.Need-same-length-2
-same-length-2 c = search needs
 
 returns : tie.Need-returns
 unfolding settle
@@ -36,4 +27,4 @@ returns c =
     (w .0 ∙ ap (λ (v : Venue). seen (s .args .out .now) (s .args .at) does remove (verdict v) v) (e .0), counts-on _ _ _ (e .1) (w .1))
 
 pub settle-all-spec : {M : Type 1} → statement M
-settle-all-spec = tie.close (tie.spec show-again-requires remove-failing-requires same-length same-length-2 returns)
+settle-all-spec = tie.close (tie.spec (λ c κs. search needs) remove-failing-requires (λ c. search needs) (λ c. search needs) returns)

@@ -6,14 +6,8 @@ use borrow.Author.Needs.{needs}
 use Rattle.settling.proofs.shown_price.Statement.{statement}
 use Rattle.settling.proofs.shown_price.Tie as tie
 
-increment-of-requires : tie.Need-increment-of-requires
-increment-of-requires c κs = search needs
-
-displayed-price-requires : tie.Need-displayed-price-requires
-displayed-price-requires c κs = search needs
-
 returns : tie.Need-returns
 returns c = let a = c .before .before .before .args in c .displayed-price .ensures ∙ ap (λ (i : ℕ). displayed i (a .d) (a .p)) (c .before .increment-of .ensures .0)
 
 pub shown-price-spec : {M : Type 1} → statement M
-shown-price-spec = tie.close (tie.spec increment-of-requires displayed-price-requires returns)
+shown-price-spec = tie.close (tie.spec (λ c κs. search needs) (λ c κs. search needs) returns)

@@ -6,14 +6,8 @@ use borrow.Author.Needs.{needs}
 use Rattle.settling.proofs.shown_well.Statement.{statement}
 use Rattle.settling.proofs.shown_well.Tie as tie
 
-shown-price-requires : tie.Need-shown-price-requires
-shown-price-requires c κs = search needs
-
-is-better-wide-requires : tie.Need-is-better-wide-requires
-is-better-wide-requires c κs = search needs
-
 returns : tie.Need-returns
 returns c = let a = c .before .before .before .args in ap not (c .is-better-wide .ensures ∙ ap (better (a .d) (a .best)) (c .before .shown-price .ensures))
 
 pub shown-well-spec : {M : Type 1} → statement M
-shown-well-spec = tie.close (tie.spec shown-price-requires is-better-wide-requires returns)
+shown-well-spec = tie.close (tie.spec (λ c κs. search needs) (λ c κs. search needs) returns)

@@ -12,15 +12,9 @@ use borrow.Author.Needs.{needs}
 use Rattle.settling.proofs.test_order.Statement.{statement}
 use Rattle.settling.proofs.test_order.Tie as tie
 
-shown-well-requires : tie.Need-shown-well-requires
-shown-well-requires c κs = search needs
-
 returns : tie.Need-returns
 unfolding verdictOf
 returns c = simp (off _ _ (shown-is (venueOf (c .before .before .before .args .b .now)) _ _ _ _ _ (own-is _ (c .before .before .before .args .sides) (c .before .before .before .args .c) _ _ (c .before .before .before .pre .1)) (c .before .shown-well .ensures)) (c .if1 .taken))
-
-limit-of-requires : tie.Need-limit-of-requires
-limit-of-requires c κs = search needs
 
 in-band-requires : tie.Need-in-band-requires
 in-band-requires c κs =
@@ -40,9 +34,6 @@ returns-2 c =
       off _ _ (c .before .in-band .ensures ∙ ap (inBand (venueOf (a .b .now)) (a .c)) q) (c .if2 .taken),
     )
 
-can-pair-requires : tie.Need-can-pair-requires
-can-pair-requires c κs = search needs
-
 returns-3 : tie.Need-returns-3
 unfolding verdictOf
 returns-3 c =
@@ -54,9 +45,6 @@ returns-3 c =
       on _ _ (c .before .before .before .in-band .ensures ∙ ap (inBand (venueOf (a .b .now)) (a .c)) q) (c .before .before .if2 .left),
       off _ _ (c .before .can-pair .ensures) (c .if3 .taken),
     )
-
-both-open-requires : tie.Need-both-open-requires
-both-open-requires c κs = search needs
 
 returns-4 : tie.Need-returns-4
 unfolding verdictOf
@@ -88,13 +76,13 @@ pub test-order-spec : {M : Type 1} → statement M
 test-order-spec =
     tie.close
     (tie.spec
-    shown-well-requires
+    (λ c κs. search needs)
     returns
-    limit-of-requires
+    (λ c κs. search needs)
     in-band-requires
     returns-2
-    can-pair-requires
+    (λ c κs. search needs)
     returns-3
-    both-open-requires
+    (λ c κs. search needs)
     returns-4
     returns-5)

@@ -12,9 +12,6 @@ abbrev μ-loop : tie.MeasureT-loop
 arg-count-requires : tie.Need-arg-count-requires Inv-loop μ-loop
 arg-count-requires c κs = tt
 
-slice-aggregate-print-input : tie.Need-slice-aggregate-print-input Inv-loop μ-loop
-slice-aggregate-print-input c = search needs
-
 print-input-requires : tie.Need-print-input-requires Inv-loop μ-loop
 print-input-requires c κs = tt
 
@@ -30,12 +27,6 @@ print-file-requires c κs = tt
 returns-2 : tie.Need-returns-2 Inv-loop μ-loop
 returns-2 c = tt
 
-add-i : tie.Need-add-i Inv-loop μ-loop
-add-i c = search needs
-
-loop-less : tie.Need-loop-less Inv-loop μ-loop
-loop-less c = search needs
-
 loop-again : tie.Need-loop-again Inv-loop μ-loop
 loop-again c = tt
 
@@ -49,13 +40,13 @@ main-spec =
     Inv-loop
     μ-loop
     arg-count-requires
-    slice-aggregate-print-input
+    (λ c. search needs)
     print-input-requires
     returns
     loop-holds
     print-file-requires
     returns-2
-    add-i
-    loop-less
+    (λ c. search needs)
+    (λ c. search needs)
     loop-again
     returns-3)

@@ -9,15 +9,9 @@ returns : tie.Need-returns
 unfolding messageEnd
 returns c = rw (c .if1 .taken)
 
-u16-at-requires : tie.Need-u16-at-requires
-u16-at-requires c κs = search needs
-
-cast-result : tie.Need-cast-result
-cast-result c = search needs
-
 returns-2 : tie.Need-returns-2
 unfolding messageEnd lengthField
 returns-2 c = rw (ne-eqb (c .before .before .before .args .number) 1 (c .before .if1 .left)) (c .u16-at .ensures)
 
 pub message-end-spec : {M : Type 1} → statement M
-message-end-spec = tie.close (tie.spec returns u16-at-requires cast-result returns-2)
+message-end-spec = tie.close (tie.spec returns (λ c κs. search needs) (λ c. search needs) returns-2)

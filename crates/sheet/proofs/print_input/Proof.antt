@@ -18,27 +18,6 @@ read-within i n room e h = subst (λ (x : Input). ReadInto x room) e h
 taken-few : (n most : ℕ) (l : List ℕ) → n ≤ length l → length l ≤ most → length (take n l) ≤ most
 taken-few n most l h k = let e = length-take-le n l h in omega arith
 
-large-buffer-requires : tie.Need-large-buffer-requires
-large-buffer-requires c κs = search needs
-
-slice-aggregate-read-input : tie.Need-slice-aggregate-read-input
-slice-aggregate-read-input c = search needs
-
-read-input-requires : tie.Need-read-input-requires
-read-input-requires c κs = search needs
-
-enum-known-found : tie.Need-enum-known-found
-enum-known-found c = search needs
-
-enum-told : tie.Need-enum-told
-enum-told c = search needs
-
-fail-requires : tie.Need-fail-requires
-fail-requires c κs = search needs
-
-returns : tie.Need-returns
-returns c = search needs
-
 array-share-prefix-input : tie.Need-array-share-prefix-input
 array-share-prefix-input c = read-within _ _ _ (c .before .found .given .1) (c .before .before .before .before .read-input .ensures)
 
@@ -48,21 +27,18 @@ slice-aggregate-print-list c = sym (length-take-le _ _ (read-within _ _ _ (c .be
 print-list-requires : tie.Need-print-list-requires
 print-list-requires c κs = let e = c .before .before .before .before .before .read-input .kept .1 .0 in taken-few _ _ _ (read-within _ _ _ (c .before .before .found .given .1) (c .before .before .before .before .before .read-input .ensures)) (omega arith)
 
-returns-2 : tie.Need-returns-2
-returns-2 c = search needs
-
 pub print-input-spec : {M : Type 1} → statement M
 print-input-spec =
     tie.close
     (tie.spec
-    large-buffer-requires
-    slice-aggregate-read-input
-    read-input-requires
-    enum-known-found
-    enum-told
-    fail-requires
-    returns
+    (λ c κs. search needs)
+    (λ c. search needs)
+    (λ c κs. search needs)
+    (λ c. search needs)
+    (λ c. search needs)
+    (λ c κs. search needs)
+    (λ c. search needs)
     array-share-prefix-input
     slice-aggregate-print-list
     print-list-requires
-    returns-2)
+    (λ c. search needs))

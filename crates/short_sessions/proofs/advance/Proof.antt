@@ -9,41 +9,11 @@ use Rattle.short_sessions.proofs.advance.Tie as tie
 returns : tie.Need-returns
 returns c = other-length _ _ (c .if1 .taken)
 
-session-in-requires : tie.Need-session-in-requires
-session-in-requires c κs = search needs
-
-enum-known-here : tie.Need-enum-known-here
-enum-known-here c = search needs
-
-enum-told : tie.Need-enum-told
-enum-told c = search needs
-
-same-length : tie.Need-same-length
-same-length c = search needs
-
 returns-2 : tie.Need-returns-2
 returns-2 c = holds-none _ _ (sym (c .before .before .session-in .ensures) ∙ ap found (c .enum-told .given .1))
 
-next-requires : tie.Need-next-requires
-next-requires c κs = search needs
-
-enum-known-after : tie.Need-enum-known-after
-enum-known-after c = search needs
-
-enum-told-2 : tie.Need-enum-told-2
-enum-told-2 c = search needs
-
-same-length-2 : tie.Need-same-length-2
-same-length-2 c = search needs
-
 returns-3 : tie.Need-returns-3
 returns-3 c = none-after _ _ _ (sym (c .before .before .before .before .before .before .session-in .ensures) ∙ ap found (c .before .before .before .before .here .given .1)) (sym (c .before .before .next .ensures) ∙ ap found (c .enum-told2 .given .1))
-
-put-session-requires : tie.Need-put-session-requires
-put-session-requires c κs = search needs
-
-same-length-3 : tie.Need-same-length-3
-same-length-3 c = search needs
 
 returns-4 : tie.Need-returns-4
 returns-4 c = ap (moved _) (c .before .before .put-session .ensures) ∙ moved-on _ _ _ _ (sym (c .before .before .before .before .before .before .before .before .before .before .before .session-in .ensures) ∙ ap found (c .before .before .before .before .before .before .before .before .before .here .given .1)) (sym (c .before .before .before .before .before .before .before .next .ensures) ∙ ap found (c .before .before .before .before .before .after .given .1))
@@ -53,16 +23,16 @@ advance-spec =
     tie.close
     (tie.spec
     returns
-    session-in-requires
-    enum-known-here
-    enum-told
-    same-length
+    (λ c κs. search needs)
+    (λ c. search needs)
+    (λ c. search needs)
+    (λ c. search needs)
     returns-2
-    next-requires
-    enum-known-after
-    enum-told-2
-    same-length-2
+    (λ c κs. search needs)
+    (λ c. search needs)
+    (λ c. search needs)
+    (λ c. search needs)
     returns-3
-    put-session-requires
-    same-length-3
+    (λ c κs. search needs)
+    (λ c. search needs)
     returns-4)

@@ -6,9 +6,6 @@ use borrow.Author.Needs.{needs}
 use Rattle.short_sessions.proofs.after_one.Statement.{statement}
 use Rattle.short_sessions.proofs.after_one.Tie as tie
 
-add-t4 : tie.Need-add-t4
-add-t4 c = search needs
-
 returns : tie.Need-returns
 returns c = rw add-one (sym (same-length _ _ _ (goes-up _ _ _ (no-places _) (omega arith))))
 
@@ -16,4 +13,4 @@ returns-2 : tie.Need-returns-2
 returns-2 c = sym (longer _ _ (at-last _ _ _ (no-places _) (omega arith)) (omega arith) (omega arith))
 
 pub after-one-spec : {M : Type 1} → statement M
-after-one-spec = tie.close (tie.spec add-t4 returns returns-2)
+after-one-spec = tie.close (tie.spec (λ c. search needs) returns returns-2)

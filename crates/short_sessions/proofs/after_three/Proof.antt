@@ -6,20 +6,11 @@ use borrow.Author.Needs.{needs}
 use Rattle.short_sessions.proofs.after_three.Statement.{statement}
 use Rattle.short_sessions.proofs.after_three.Tie as tie
 
-add-t6 : tie.Need-add-t6
-add-t6 c = search needs
-
 returns : tie.Need-returns
 returns c = rw add-one (sym (same-length _ _ _ (stays _ _ _ _ (stays _ _ _ _ (goes-up _ _ _ (no-places _) (omega arith))))))
 
-add-t8 : tie.Need-add-t8
-add-t8 c = search needs
-
 returns-2 : tie.Need-returns-2
 returns-2 c = rw add-one (sym (same-length _ _ _ (stays _ _ _ _ (goes-up _ _ _ (at-last _ _ _ (no-places _) (omega arith)) (omega arith)))))
-
-add-t10 : tie.Need-add-t10
-add-t10 c = search needs
 
 returns-3 : tie.Need-returns-3
 returns-3 c = rw add-one (sym (same-length _ _ _ (goes-up _ _ _ (at-last _ _ _ (at-last _ _ _ (no-places _) (omega arith)) (omega arith)) (omega arith))))
@@ -28,4 +19,4 @@ returns-4 : tie.Need-returns-4
 returns-4 c = sym (longest _ _ (at-last _ _ _ (at-last _ _ _ (at-last _ _ _ (no-places _) (omega arith)) (omega arith)) (omega arith)) (omega arith))
 
 pub after-three-spec : {M : Type 1} → statement M
-after-three-spec = tie.close (tie.spec add-t6 returns add-t8 returns-2 add-t10 returns-3 returns-4)
+after-three-spec = tie.close (tie.spec (λ c. search needs) returns (λ c. search needs) returns-2 (λ c. search needs) returns-3 returns-4)

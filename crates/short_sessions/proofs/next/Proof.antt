@@ -8,30 +8,6 @@ use Rattle.short_sessions.proofs.next.Tie as tie
 returns : tie.Need-returns
 returns c = rw (c .if1 .taken) (sym (of-none _))
 
-sub-last : tie.Need-sub-last
-sub-last c = search needs
-
-enum-told : tie.Need-enum-told
-enum-told c = search needs
-
-enum-known-s : tie.Need-enum-known-s
-enum-known-s c = search needs
-
-after-one-requires : tie.Need-after-one-requires
-after-one-requires c κs = search needs
-
-enum-known-s-2 : tie.Need-enum-known-s-2
-enum-known-s-2 c = search needs
-
-after-two-requires : tie.Need-after-two-requires
-after-two-requires c κs = search needs
-
-enum-known-s-3 : tie.Need-enum-known-s-3
-enum-known-s-3 c = search needs
-
-after-three-requires : tie.Need-after-three-requires
-after-three-requires c κs = search needs
-
 returns-2 : tie.Need-returns-2
 returns-2 c = first-one _ _ (c .before .before .if1 .left) (ap placesOf (c .enum-told .given .1))
 
@@ -49,14 +25,14 @@ next-spec =
     tie.close
     (tie.spec
     returns
-    sub-last
-    enum-told
-    enum-known-s
-    after-one-requires
-    enum-known-s-2
-    after-two-requires
-    enum-known-s-3
-    after-three-requires
+    (λ c. search needs)
+    (λ c. search needs)
+    (λ c. search needs)
+    (λ c κs. search needs)
+    (λ c. search needs)
+    (λ c κs. search needs)
+    (λ c. search needs)
+    (λ c κs. search needs)
     returns-2
     returns-3
     returns-4

@@ -4,18 +4,6 @@ use borrow.Author.Needs.{needs}
 use Rattle.short_sessions.proofs.session_in.Statement.{statement}
 use Rattle.short_sessions.proofs.session_in.Tie as tie
 
-shared-slice-read-n : tie.Need-shared-slice-read-n
-shared-slice-read-n c = search needs
-
-shared-slice-read-a : tie.Need-shared-slice-read-a
-shared-slice-read-a c = search needs
-
-shared-slice-read-b : tie.Need-shared-slice-read-b
-shared-slice-read-b c = search needs
-
-shared-slice-read-c : tie.Need-shared-slice-read-c
-shared-slice-read-c c = search needs
-
 returns : tie.Need-returns
 returns c = is-none _ _ (omega arith) (omega arith)
 
@@ -44,10 +32,10 @@ pub session-in-spec : {M : Type 1} → statement M
 session-in-spec =
     tie.close
     (tie.spec
-    shared-slice-read-n
-    shared-slice-read-a
-    shared-slice-read-b
-    shared-slice-read-c
+    (λ c. search needs)
+    (λ c. search needs)
+    (λ c. search needs)
+    (λ c. search needs)
     returns
     returns-2
     returns-3

@@ -6,18 +6,9 @@ use borrow.Author.Needs.{needs}
 use Rattle.short_sheets.proofs.put_messages.Statement.{statement}
 use Rattle.short_sheets.proofs.put_messages.Tie as tie
 
-enum-told : tie.Need-enum-told
-enum-told c = search needs
-
-enum-known-s : tie.Need-enum-known-s
-enum-known-s c = search needs
-
 put-message-requires : tie.Need-put-message-requires
 unfolding Within
 put-message-requires c κs = subst (Within 12) (ap placesOf (c .before .before .s .given .1)) (c .before .before .before .before .before .pre .0) .0
-
-enum-known-s-2 : tie.Need-enum-known-s-2
-enum-known-s-2 c = search needs
 
 put-message-requires-2 : tie.Need-put-message-requires-2
 unfolding Within
@@ -26,9 +17,6 @@ put-message-requires-2 c κs = subst (Within 12) (ap placesOf (c .before .before
 put-message-requires-3 : tie.Need-put-message-requires-3
 unfolding Within
 put-message-requires-3 c κs = subst (Within 12) (ap placesOf (c .before .before .before .before .before .before .s2 .given .1)) (c .before .before .before .before .before .before .before .before .before .pre .0) .1 .0
-
-enum-known-s-3 : tie.Need-enum-known-s-3
-enum-known-s-3 c = search needs
 
 put-message-requires-4 : tie.Need-put-message-requires-4
 unfolding Within
@@ -45,20 +33,11 @@ put-message-requires-6 c κs = subst (Within 12) (ap placesOf (c .before .before
 returns : tie.Need-returns
 returns c = of-none _ _ (ap placesOf (c .enum-told .given .1)) (c .before .before .before .pre .1)
 
-same-length : tie.Need-same-length
-same-length c = search needs
-
 returns-2 : tie.Need-returns-2
 returns-2 c = of-one _ _ (c .before .before .before .before .before .before .before .before .pre .1) _ (ap placesOf (c .before .before .before .before .before .s .given .1)) (c .before .before .before .before .before .before .before .before .pre .0) _ _ (c .before .before .put-message .ensures)
 
-same-length-2 : tie.Need-same-length-2
-same-length-2 c = search needs
-
 returns-3 : tie.Need-returns-3
 returns-3 c = of-two _ _ (c .before .before .before .before .before .before .before .before .before .before .before .before .pre .1) _ _ (ap placesOf (c .before .before .before .before .before .before .before .before .before .s2 .given .1)) (c .before .before .before .before .before .before .before .before .before .before .before .before .pre .0) _ _ _ _ (c .before .before .before .before .before .before .put-message2 .ensures) (c .before .before .put-message3 .ensures)
-
-same-length-3 : tie.Need-same-length-3
-same-length-3 c = search needs
 
 returns-4 : tie.Need-returns-4
 returns-4 c = of-three _ _ (c .before .before .before .before .before .before .before .before .before .before .before .before .before .before .before .before .pre .1) _ _ _ (ap placesOf (c .before .before .before .before .before .before .before .before .before .before .before .before .before .s3 .given .1)) (c .before .before .before .before .before .before .before .before .before .before .before .before .before .before .before .before .pre .0) _ _ _ _ _ _ (c .before .before .before .before .before .before .before .before .before .before .put-message4 .ensures) (c .before .before .before .before .before .before .put-message5 .ensures) (c .before .before .put-message6 .ensures)
@@ -67,20 +46,20 @@ pub put-messages-spec : {M : Type 1} → statement M
 put-messages-spec =
     tie.close
     (tie.spec
-    enum-told
-    enum-known-s
+    (λ c. search needs)
+    (λ c. search needs)
     put-message-requires
-    enum-known-s-2
+    (λ c. search needs)
     put-message-requires-2
     put-message-requires-3
-    enum-known-s-3
+    (λ c. search needs)
     put-message-requires-4
     put-message-requires-5
     put-message-requires-6
     returns
-    same-length
+    (λ c. search needs)
     returns-2
-    same-length-2
+    (λ c. search needs)
     returns-3
-    same-length-3
+    (λ c. search needs)
     returns-4)

@@ -8,21 +8,6 @@ use borrow.Author.Needs.{needs}
 use Rattle.short_sheets.proofs.put_session.Statement.{statement}
 use Rattle.short_sheets.proofs.put_session.Tie as tie
 
-run-session-requires : tie.Need-run-session-requires
-run-session-requires c κs = search needs
-
-put-places-requires : tie.Need-put-places-requires
-put-places-requires c κs = search needs
-
-put-sheet-requires : tie.Need-put-sheet-requires
-put-sheet-requires c κs = search needs
-
-same-length : tie.Need-same-length
-same-length c = search needs
-
-same-length-2 : tie.Need-same-length-2
-same-length-2 c = search needs
-
 returns : tie.Need-returns
 returns c = let s = c .before .before .before .before .before .before .before .before .before .before .before .before .before .before .before in text-stands _ (short-enough (s .args .s)) (s .pre .0) _ _ _ _ _ _ (s .pre .2) (c .before .before .before .before .before .before .before .before .before .before .before .run-session .ensures ∙ ap (λ (n : ℕ). run n (messagesOf (placesOf (s .args .s))) .report) (s .pre .1)) (c .before .before .before .before .before .before .before .put-places .ensures) (c .before .before .put-sheet .ensures)
 
@@ -30,9 +15,9 @@ pub put-session-spec : {M : Type 1} → statement M
 put-session-spec =
     tie.close
     (tie.spec
-    run-session-requires
-    put-places-requires
-    put-sheet-requires
-    same-length
-    same-length-2
+    (λ c κs. search needs)
+    (λ c κs. search needs)
+    (λ c κs. search needs)
+    (λ c. search needs)
+    (λ c. search needs)
     returns)

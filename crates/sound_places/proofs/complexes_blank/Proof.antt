@@ -21,24 +21,9 @@ abbrev μ-loop : tie.MeasureT-loop
 loop-holds : tie.Need-loop-holds Inv-loop μ-loop
 loop-holds c = refl
 
-mul-c : tie.Need-mul-c Inv-loop μ-loop
-mul-c c = search needs
-
-array-copy-out-c : tie.Need-array-copy-out-c Inv-loop μ-loop
-array-copy-out-c c = search needs
-
-blank-complex-requires : tie.Need-blank-complex-requires Inv-loop μ-loop
-blank-complex-requires c κs = search needs
-
 returns : tie.Need-returns Inv-loop μ-loop
 returns c = let n : length (c .before .before .before .before .before .args .t1) ≡ 32 = search needs in
     rest-stop blankComplex noComplex (c .before .before .before .before .before .args .t1) (c .before .before .before .before .loop .i) (omega arith) (sym (c .before .blank-complex .ensures) ∙ not-true _ (c .if1 .taken)) ∙ c .before .before .before .before .loop .inv
-
-add-i : tie.Need-add-i Inv-loop μ-loop
-add-i c = search needs
-
-loop-less : tie.Need-loop-less Inv-loop μ-loop
-loop-less c = search needs
 
 loop-again : tie.Need-loop-again Inv-loop μ-loop
 loop-again c = let n : length (c .before .before .before .before .before .args .t1) ≡ 32 = search needs in
@@ -55,11 +40,11 @@ complexes-blank-spec =
     Inv-loop
     μ-loop
     loop-holds
-    mul-c
-    array-copy-out-c
-    blank-complex-requires
+    (λ c. search needs)
+    (λ c. search needs)
+    (λ c κs. search needs)
     returns
-    add-i
-    loop-less
+    (λ c. search needs)
+    (λ c. search needs)
     loop-again
     returns-2)

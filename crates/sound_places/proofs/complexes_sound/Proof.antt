@@ -23,15 +23,6 @@ abbrev μ-loop : tie.MeasureT-loop
 loop-holds : tie.Need-loop-holds Inv-loop μ-loop
 loop-holds c = refl
 
-mul-c : tie.Need-mul-c Inv-loop μ-loop
-mul-c c = search needs
-
-array-copy-out-c : tie.Need-array-copy-out-c Inv-loop μ-loop
-array-copy-out-c c = search needs
-
-complexes-blank-requires : tie.Need-complexes-blank-requires Inv-loop μ-loop
-complexes-blank-requires c κs = search needs
-
 returns : tie.Need-returns Inv-loop μ-loop
 unfolding complexesFrom
 returns c = let n : length (c .before .before .before .before .before .before .args .t1) ≡ 32 = search needs in
@@ -45,9 +36,6 @@ returns-2 c = let n : length (c .before .before .before .before .before .before 
     arranged-low holdsComplex (askedComplex (c .before .before .before .before .before .before .before .args .last)) blankComplex (λ x. x .id) noComplex (c .before .before .before .before .before .before .before .args .t1) (c .before .before .before .before .before .before .loop .low) (c .before .before .before .before .before .before .loop .i) (omega arith) (ap not (ne-eqb _ _ (c .before .before .if1 .left))) (c .if2 .taken)
     ∙ c .before .before .before .before .before .before .loop .inv
 
-complex-in-range-requires : tie.Need-complex-in-range-requires Inv-loop μ-loop
-complex-in-range-requires c κs = search needs
-
 returns-3 : tie.Need-returns-3 Inv-loop μ-loop
 unfolding complexesFrom
 returns-3 c = let n : length (c .before .before .before .before .before .before .before .before .before .args .t1) ≡ 32 = search needs in
@@ -59,12 +47,6 @@ unfolding complexesFrom
 returns-4 c = let n : length (c .before .before .before .before .before .before .before .before .before .before .before .args .t1) ≡ 32 = search needs in
     arranged-out-of holdsComplex (askedComplex (c .before .before .before .before .before .before .before .before .before .before .before .args .last)) blankComplex (λ x. x .id) noComplex (c .before .before .before .before .before .before .before .before .before .before .before .args .t1) (c .before .before .before .before .before .before .before .before .before .before .loop .low) (c .before .before .before .before .before .before .before .before .before .before .loop .i) (omega arith) (ap not (ne-eqb _ _ (c .before .before .before .before .before .before .if1 .left))) (above-last (complexInRange (getD (c .before .before .before .before .before .before .before .before .before .before .before .args .t1) (c .before .before .before .before .before .before .before .before .before .before .loop .i) noComplex)) (getD (c .before .before .before .before .before .before .before .before .before .before .before .args .t1) (c .before .before .before .before .before .before .before .before .before .before .loop .i) noComplex .id) (c .before .before .before .before .before .before .before .before .before .before .before .args .last) (c .if4 .taken))
     ∙ c .before .before .before .before .before .before .before .before .before .before .loop .inv
-
-add-i : tie.Need-add-i Inv-loop μ-loop
-add-i c = search needs
-
-loop-less : tie.Need-loop-less Inv-loop μ-loop
-loop-less c = search needs
 
 loop-again : tie.Need-loop-again Inv-loop μ-loop
 unfolding complexesFrom
@@ -85,15 +67,15 @@ complexes-sound-spec =
     Inv-loop
     μ-loop
     loop-holds
-    mul-c
-    array-copy-out-c
-    complexes-blank-requires
+    (λ c. search needs)
+    (λ c. search needs)
+    (λ c κs. search needs)
     returns
     returns-2
-    complex-in-range-requires
+    (λ c κs. search needs)
     returns-3
     returns-4
-    add-i
-    loop-less
+    (λ c. search needs)
+    (λ c. search needs)
     loop-again
     returns-5)

@@ -6,9 +6,6 @@ use Rattle.sound_places.proofs.Passes.{edition-range, figure-increment,
 use Rattle.sound_places.proofs.edition_in_range.Statement.{statement}
 use Rattle.sound_places.proofs.edition_in_range.Tie as tie
 
-is-increment-requires : tie.Need-is-increment-requires
-is-increment-requires c κs = search needs
-
 returns : tie.Need-returns
 returns c = let e = c .before .before .before .args .e in c .is-increment .ensures ∙ figure-increment e (c .before .if1 .taken) ∙ edition-range e (omega arith) (omega arith)
 
@@ -19,4 +16,4 @@ returns-3 : tie.Need-returns-3
 returns-3 c = let e = c .before .before .before .before .before .args .e in figure-percent e (c .before .if2 .left) ∙ edition-range e (omega arith) (omega arith)
 
 pub edition-in-range-spec : {M : Type 1} → statement M
-edition-in-range-spec = tie.close (tie.spec is-increment-requires returns returns-2 returns-3)
+edition-in-range-spec = tie.close (tie.spec (λ c κs. search needs) returns returns-2 returns-3)

@@ -20,15 +20,6 @@ abbrev μ-loop : tie.MeasureT-loop
 loop-holds : tie.Need-loop-holds Inv-loop μ-loop
 loop-holds c = refl
 
-mul-e : tie.Need-mul-e Inv-loop μ-loop
-mul-e c = search needs
-
-array-copy-out-e : tie.Need-array-copy-out-e Inv-loop μ-loop
-array-copy-out-e c = search needs
-
-editions-blank-requires : tie.Need-editions-blank-requires Inv-loop μ-loop
-editions-blank-requires c κs = search needs
-
 returns : tie.Need-returns Inv-loop μ-loop
 returns c = let n : length (c .before .before .before .before .before .before .args .t1) ≡ 32 = search needs in
     c .editions-blank .ensures
@@ -45,19 +36,10 @@ returns-3 c = let n : length (c .before .before .before .before .before .before 
     editions-late (c .before .before .before .before .before .before .before .before .before .args .t1) (c .before .before .before .before .before .before .before .before .loop .low) (c .before .before .before .before .before .before .before .before .loop .past) (c .before .before .before .before .before .before .before .before .loop .i) (omega arith) (ap not (ne-eqb _ _ (c .before .before .before .before .if1 .left))) (omega arith)
     ∙ c .before .before .before .before .before .before .before .before .loop .inv
 
-edition-in-range-requires : tie.Need-edition-in-range-requires Inv-loop μ-loop
-edition-in-range-requires c κs = search needs
-
 returns-4 : tie.Need-returns-4 Inv-loop μ-loop
 returns-4 c = let n : length (c .before .before .before .before .before .before .before .before .before .before .before .args .t1) ≡ 32 = search needs in
     editions-out (c .before .before .before .before .before .before .before .before .before .before .before .args .t1) (c .before .before .before .before .before .before .before .before .before .before .loop .low) (c .before .before .before .before .before .before .before .before .before .before .loop .past) (c .before .before .before .before .before .before .before .before .before .before .loop .i) (omega arith) (ap not (ne-eqb _ _ (c .before .before .before .before .before .before .if1 .left))) (sym (c .before .edition-in-range .ensures) ∙ not-true _ (c .if4 .taken))
     ∙ c .before .before .before .before .before .before .before .before .before .before .loop .inv
-
-add-i : tie.Need-add-i Inv-loop μ-loop
-add-i c = search needs
-
-loop-less : tie.Need-loop-less Inv-loop μ-loop
-loop-less c = search needs
 
 loop-again : tie.Need-loop-again Inv-loop μ-loop
 loop-again c = let n : length (c .before .before .before .before .before .before .before .before .before .before .before .args .t1) ≡ 32 = search needs in
@@ -76,15 +58,15 @@ editions-sound-spec =
     Inv-loop
     μ-loop
     loop-holds
-    mul-e
-    array-copy-out-e
-    editions-blank-requires
+    (λ c. search needs)
+    (λ c. search needs)
+    (λ c κs. search needs)
     returns
     returns-2
     returns-3
-    edition-in-range-requires
+    (λ c κs. search needs)
     returns-4
-    add-i
-    loop-less
+    (λ c. search needs)
+    (λ c. search needs)
     loop-again
     returns-5)

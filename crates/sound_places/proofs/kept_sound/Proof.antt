@@ -9,15 +9,9 @@ use Rattle.sound_places.proofs.Passes.{first-fails, second-fails, last-
 use Rattle.sound_places.proofs.kept_sound.Statement.{statement}
 use Rattle.sound_places.proofs.kept_sound.Tie as tie
 
-editions-sound-requires : tie.Need-editions-sound-requires
-editions-sound-requires c κs = search needs
-
 returns : tie.Need-returns
 unfolding keptSound editionsSound editionsFrom
 returns c = let v = c .before .before .before .args .v in first-fails (editionsSound v) (generationsSound v) (leb (v .reached) (v .last)) (sym (c .before .editions-sound .ensures) ∙ not-true _ (c .if1 .taken))
-
-generations-sound-requires : tie.Need-generations-sound-requires
-generations-sound-requires c κs = search needs
 
 returns-2 : tie.Need-returns-2
 unfolding keptSound generationsSound numbersSound numbersFrom
@@ -28,4 +22,4 @@ unfolding keptSound editionsSound editionsFrom generationsSound numbersSound num
 returns-3 c = let v = c .before .before .before .before .before .before .before .args .v in last-decides (editionsSound v) (generationsSound v) (leb (v .reached) (v .last)) (sym (c .before .before .before .before .before .editions-sound .ensures) ∙ not-false _ (c .before .before .before .before .if1 .left)) (sym (c .before .before .generations-sound .ensures) ∙ not-false _ (c .before .if2 .left))
 
 pub kept-sound-spec : {M : Type 1} → statement M
-kept-sound-spec = tie.close (tie.spec editions-sound-requires returns generations-sound-requires returns-2 returns-3)
+kept-sound-spec = tie.close (tie.spec (λ c κs. search needs) returns (λ c κs. search needs) returns-2 returns-3)

@@ -19,25 +19,10 @@ abbrev μ-loop : tie.MeasureT-loop
 loop-holds : tie.Need-loop-holds Inv-loop μ-loop
 loop-holds c = refl
 
-mul-n : tie.Need-mul-n Inv-loop μ-loop
-mul-n c = search needs
-
-array-read-n : tie.Need-array-read-n Inv-loop μ-loop
-array-read-n c = search needs
-
-is-unfallen-requires : tie.Need-is-unfallen-requires Inv-loop μ-loop
-is-unfallen-requires c κs = search needs
-
 returns : tie.Need-returns Inv-loop μ-loop
 returns c = let n : length (c .before .before .before .before .args .t1) ≡ 20 = search needs in
     numbers-fall (c .before .before .before .before .args .t1) (c .before .before .before .loop .low) (c .before .before .before .loop .i) (omega arith) (sym (c .before .is-unfallen .ensures) ∙ not-true _ (c .if1 .taken))
     ∙ c .before .before .before .loop .inv
-
-add-i : tie.Need-add-i Inv-loop μ-loop
-add-i c = search needs
-
-loop-less : tie.Need-loop-less Inv-loop μ-loop
-loop-less c = search needs
 
 loop-again : tie.Need-loop-again Inv-loop μ-loop
 loop-again c = let n : length (c .before .before .before .before .args .t1) ≡ 20 = search needs in
@@ -55,11 +40,11 @@ numbers-sound-spec =
     Inv-loop
     μ-loop
     loop-holds
-    mul-n
-    array-read-n
-    is-unfallen-requires
+    (λ c. search needs)
+    (λ c. search needs)
+    (λ c κs. search needs)
     returns
-    add-i
-    loop-less
+    (λ c. search needs)
+    (λ c. search needs)
     loop-again
     returns-2)

@@ -11,33 +11,21 @@ use Rattle.sound_places.proofs.Passes.{out-of-range, out-of-last, first
 use Rattle.sound_places.proofs.places_sound.Statement.{statement}
 use Rattle.sound_places.proofs.places_sound.Tie as tie
 
-regulars-sound-requires : tie.Need-regulars-sound-requires
-regulars-sound-requires c κs = search needs
-
 returns : tie.Need-returns
 unfolding placesSound
 returns c = let v = c .before .before .before .args .v in let r = regularsFrom (v .last) 0 (v .regular) in first-fails (r && complexesSound v) (all listedInRange (v .series)) (keptSound v) (out-of-range r (complexesSound v) (sym (c .before .regulars-sound .ensures) ∙ not-true _ (c .if1 .taken)))
-
-complexes-sound-requires : tie.Need-complexes-sound-requires
-complexes-sound-requires c κs = search needs
 
 returns-2 : tie.Need-returns-2
 unfolding placesSound complexesSound complexesFrom
 returns-2 c = let v = c .before .before .before .before .before .before .args .v in let r = regularsFrom (v .last) 0 (v .regular) in first-fails (r && complexesSound v) (all listedInRange (v .series)) (keptSound v) (out-of-last r (complexesSound v) (sym (c .before .complexes-sound .ensures) ∙ not-true _ (c .if2 .taken)))
 
-series-sound-requires : tie.Need-series-sound-requires
-series-sound-requires c κs = search needs
-
 returns-3 : tie.Need-returns-3
 unfolding placesSound
 returns-3 c = let v = c .before .before .before .before .before .before .before .before .before .args .v in let r = regularsFrom (v .last) 0 (v .regular) in second-fails (r && complexesSound v) (all listedInRange (v .series)) (keptSound v) (sym (c .before .series-sound .ensures) ∙ not-true _ (c .if3 .taken))
-
-kept-sound-requires : tie.Need-kept-sound-requires
-kept-sound-requires c κs = search needs
 
 returns-4 : tie.Need-returns-4
 unfolding placesSound complexesSound complexesFrom
 returns-4 c = let v = c .before .before .before .before .before .before .before .before .before .before .args .v in let r = regularsFrom (v .last) 0 (v .regular) in c .kept-sound .ensures ∙ last-decides (r && complexesSound v) (all listedInRange (v .series)) (keptSound v) (and-in r (complexesSound v) (sym (c .before .before .before .before .before .before .before .before .regulars-sound .ensures) ∙ not-false _ (c .before .before .before .before .before .before .before .if1 .left)) (sym (c .before .before .before .before .before .complexes-sound .ensures) ∙ not-false _ (c .before .before .before .before .if2 .left))) (sym (c .before .before .series-sound .ensures) ∙ not-false _ (c .before .if3 .left))
 
 pub places-sound-spec : {M : Type 1} → statement M
-places-sound-spec = tie.close (tie.spec regulars-sound-requires returns complexes-sound-requires returns-2 series-sound-requires returns-3 kept-sound-requires returns-4)
+places-sound-spec = tie.close (tie.spec (λ c κs. search needs) returns (λ c κs. search needs) returns-2 (λ c κs. search needs) returns-3 (λ c κs. search needs) returns-4)

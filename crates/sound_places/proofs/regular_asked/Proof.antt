@@ -8,9 +8,6 @@ use Rattle.sound_places.proofs.Passes.{display-in, shows-less, shows-al
 use Rattle.sound_places.proofs.regular_asked.Statement.{statement}
 use Rattle.sound_places.proofs.regular_asked.Tie as tie
 
-regular-in-range-requires : tie.Need-regular-in-range-requires
-regular-in-range-requires c κs = search needs
-
 returns : tie.Need-returns
 returns c = first-fails _ _ _ (sym (c .before .regular-in-range .ensures) ∙ not-true _ (c .if1 .taken))
 
@@ -29,4 +26,4 @@ returns-3 c =
     last-decides (regularInRange o) (showsFully o) _ (sym (i .before .regular-in-range .ensures) ∙ not-false _ (i .if1 .left)) (shows-all o (c .before .if2 .left))
 
 pub regular-asked-spec : {M : Type 1} → statement M
-regular-asked-spec = tie.close (tie.spec regular-in-range-requires returns sub-if2 returns-2 returns-3)
+regular-asked-spec = tie.close (tie.spec (λ c κs. search needs) returns sub-if2 returns-2 returns-3)

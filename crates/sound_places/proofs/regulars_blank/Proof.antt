@@ -21,24 +21,9 @@ abbrev μ-loop : tie.MeasureT-loop
 loop-holds : tie.Need-loop-holds Inv-loop μ-loop
 loop-holds c = refl
 
-mul-o : tie.Need-mul-o Inv-loop μ-loop
-mul-o c = search needs
-
-array-copy-out-o : tie.Need-array-copy-out-o Inv-loop μ-loop
-array-copy-out-o c = search needs
-
-blank-regular-requires : tie.Need-blank-regular-requires Inv-loop μ-loop
-blank-regular-requires c κs = search needs
-
 returns : tie.Need-returns Inv-loop μ-loop
 returns c = let n : length (c .before .before .before .before .before .args .t1) ≡ 128 = search needs in
     rest-stop blankRegular noRegular (c .before .before .before .before .before .args .t1) (c .before .before .before .before .loop .i) (omega arith) (sym (c .before .blank-regular .ensures) ∙ not-true _ (c .if1 .taken)) ∙ c .before .before .before .before .loop .inv
-
-add-i : tie.Need-add-i Inv-loop μ-loop
-add-i c = search needs
-
-loop-less : tie.Need-loop-less Inv-loop μ-loop
-loop-less c = search needs
 
 loop-again : tie.Need-loop-again Inv-loop μ-loop
 loop-again c = let n : length (c .before .before .before .before .before .args .t1) ≡ 128 = search needs in
@@ -55,11 +40,11 @@ regulars-blank-spec =
     Inv-loop
     μ-loop
     loop-holds
-    mul-o
-    array-copy-out-o
-    blank-regular-requires
+    (λ c. search needs)
+    (λ c. search needs)
+    (λ c κs. search needs)
     returns
-    add-i
-    loop-less
+    (λ c. search needs)
+    (λ c. search needs)
     loop-again
     returns-2)

@@ -22,15 +22,6 @@ abbrev μ-loop : tie.MeasureT-loop
 loop-holds : tie.Need-loop-holds Inv-loop μ-loop
 loop-holds c = refl
 
-mul-o : tie.Need-mul-o Inv-loop μ-loop
-mul-o c = search needs
-
-array-copy-out-o : tie.Need-array-copy-out-o Inv-loop μ-loop
-array-copy-out-o c = search needs
-
-regulars-blank-requires : tie.Need-regulars-blank-requires Inv-loop μ-loop
-regulars-blank-requires c κs = search needs
-
 returns : tie.Need-returns Inv-loop μ-loop
 unfolding regularsFrom
 returns c = let n : length (c .before .before .before .before .before .before .args .t1) ≡ 128 = search needs in
@@ -44,20 +35,11 @@ returns-2 c = let n : length (c .before .before .before .before .before .before 
     arranged-low holdsRegular (askedRegular (c .before .before .before .before .before .before .before .args .last)) blankRegular (λ x. x .id) noRegular (c .before .before .before .before .before .before .before .args .t1) (c .before .before .before .before .before .before .loop .low) (c .before .before .before .before .before .before .loop .i) (omega arith) (ap not (ne-eqb _ _ (c .before .before .if1 .left))) (omega arith)
     ∙ c .before .before .before .before .before .before .loop .inv
 
-regular-asked-requires : tie.Need-regular-asked-requires Inv-loop μ-loop
-regular-asked-requires c κs = search needs
-
 returns-3 : tie.Need-returns-3 Inv-loop μ-loop
 unfolding regularsFrom
 returns-3 c = let n : length (c .before .before .before .before .before .before .before .before .before .args .t1) ≡ 128 = search needs in
     arranged-out-of holdsRegular (askedRegular (c .before .before .before .before .before .before .before .before .before .args .last)) blankRegular (λ x. x .id) noRegular (c .before .before .before .before .before .before .before .before .before .args .t1) (c .before .before .before .before .before .before .before .before .loop .low) (c .before .before .before .before .before .before .before .before .loop .i) (omega arith) (ap not (ne-eqb _ _ (c .before .before .before .before .if1 .left))) (sym (c .before .regular-asked .ensures) ∙ not-true _ (c .if3 .taken))
     ∙ c .before .before .before .before .before .before .before .before .loop .inv
-
-add-i : tie.Need-add-i Inv-loop μ-loop
-add-i c = search needs
-
-loop-less : tie.Need-loop-less Inv-loop μ-loop
-loop-less c = search needs
 
 loop-again : tie.Need-loop-again Inv-loop μ-loop
 unfolding regularsFrom
@@ -77,14 +59,14 @@ regulars-sound-spec =
     Inv-loop
     μ-loop
     loop-holds
-    mul-o
-    array-copy-out-o
-    regulars-blank-requires
+    (λ c. search needs)
+    (λ c. search needs)
+    (λ c κs. search needs)
     returns
     returns-2
-    regular-asked-requires
+    (λ c κs. search needs)
     returns-3
-    add-i
-    loop-less
+    (λ c. search needs)
+    (λ c. search needs)
     loop-again
     returns-4)

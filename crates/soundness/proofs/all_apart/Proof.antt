@@ -26,12 +26,6 @@ is-apart-requires c κs = let s = c .before .before .before in (s .pre .0, s .pr
 returns : tie.Need-returns Inv-loop μ-loop
 returns c = scan-stop (apart (venueOf (c .before .before .before .before .before .args .b .now))) (λ n. n) (c .before .before .before .loop .s) 8 (c .before .before .loop-test .taken) (sym (c .before .is-apart .ensures) ∙ not-true _ (c .if1 .taken)) ∙ c .before .before .before .loop .inv .1
 
-add-s : tie.Need-add-s Inv-loop μ-loop
-add-s c = search needs
-
-loop-less : tie.Need-loop-less Inv-loop μ-loop
-loop-less c = search needs
-
 loop-again : tie.Need-loop-again Inv-loop μ-loop
 loop-again c = (search needs, scan-past (apart (venueOf (c .before .before .before .before .before .args .b .now))) (λ n. n) (c .before .before .before .loop .s) 8 (c .before .before .loop-test .taken) (sym (c .before .is-apart .ensures) ∙ not-false _ (c .if1 .left)) ∙ c .before .before .before .loop .inv .1)
 
@@ -47,7 +41,7 @@ all-apart-spec =
     loop-holds
     is-apart-requires
     returns
-    add-s
-    loop-less
+    (λ c. search needs)
+    (λ c. search needs)
     loop-again
     returns-2)

@@ -25,9 +25,6 @@ abbrev μ-loop : tie.MeasureT-loop
 loop-holds : tie.Need-loop-holds Inv-loop μ-loop
 loop-holds c = (search needs, editions-scan (c .before .args .b .now) (earlier (c .before .args .number)))
 
-edition-at-requires : tie.Need-edition-at-requires Inv-loop μ-loop
-edition-at-requires c κs = search needs
-
 returns : tie.Need-returns Inv-loop μ-loop
 returns c =
     let s = c .before .before .before .before .before .before in
@@ -35,12 +32,6 @@ returns c =
     scan-stop (earlier (s .args .number)) (editionIn (s .args .b .now)) (at .loop .i) 32 (c .before .before .before .loop-test .taken)
     (ap (earlier (s .args .number)) (sym (c .before .before .edition-at .ensures)) ∙ le-ltb (c .before .before .edition-at .result .message) (s .args .number) (omega arith))
     ∙ at .loop .inv .1
-
-add-i : tie.Need-add-i Inv-loop μ-loop
-add-i c = search needs
-
-loop-less : tie.Need-loop-less Inv-loop μ-loop
-loop-less c = search needs
 
 loop-again : tie.Need-loop-again Inv-loop μ-loop
 loop-again c =
@@ -64,9 +55,9 @@ follows-editions-spec =
     Inv-loop
     μ-loop
     loop-holds
-    edition-at-requires
+    (λ c κs. search needs)
     returns
-    add-i
-    loop-less
+    (λ c. search needs)
+    (λ c. search needs)
     loop-again
     returns-2)

@@ -29,21 +29,12 @@ abbrev μ-loop : tie.MeasureT-loop
 loop-holds : tie.Need-loop-holds Inv-loop μ-loop
 loop-holds c = refl
 
-follows-series-requires : tie.Need-follows-series-requires Inv-loop μ-loop
-follows-series-requires c κs = search needs
-
 returns : tie.Need-returns Inv-loop μ-loop
 returns c =
     let s = c .before .before .before .before .before in
     let n = generations-many (s .args .b .now) in
     rest-stop (earlier (s .args .number)) noGenerations (venueOf (s .args .b .now) .generations) (c .before .before .before .loop .s) (omega arith) (unfold generationsOf in (sym (c .before .follows-series .ensures) ∙ not-true _ (c .if1 .taken)))
     ∙ c .before .before .before .loop .inv
-
-add-s : tie.Need-add-s Inv-loop μ-loop
-add-s c = search needs
-
-loop-less : tie.Need-loop-less Inv-loop μ-loop
-loop-less c = search needs
 
 loop-again : tie.Need-loop-again Inv-loop μ-loop
 loop-again c =
@@ -65,9 +56,9 @@ follows-generations-spec =
     Inv-loop
     μ-loop
     loop-holds
-    follows-series-requires
+    (λ c κs. search needs)
     returns
-    add-s
-    loop-less
+    (λ c. search needs)
+    (λ c. search needs)
     loop-again
     returns-2)

@@ -27,9 +27,6 @@ abbrev μ-loop : tie.MeasureT-loop
 loop-holds : tie.Need-loop-holds Inv-loop μ-loop
 loop-holds c = refl
 
-generation-at-requires : tie.Need-generation-at-requires Inv-loop μ-loop
-generation-at-requires c κs = search needs
-
 returns : tie.Need-returns Inv-loop μ-loop
 returns c =
     let s = c .before .before .before .before .before in
@@ -38,12 +35,6 @@ returns c =
     let k = c .before .before .before .loop .k in
     rest-stop (earlier (s .args .number)) 0 l k (omega arith) (ap (earlier (s .args .number)) (sym (c .before .generation-at .ensures)) ∙ le-ltb (c .before .generation-at .result) (s .args .number) (c .if1 .taken))
     ∙ c .before .before .before .loop .inv
-
-add-k : tie.Need-add-k Inv-loop μ-loop
-add-k c = search needs
-
-loop-less : tie.Need-loop-less Inv-loop μ-loop
-loop-less c = search needs
 
 loop-again : tie.Need-loop-again Inv-loop μ-loop
 loop-again c =
@@ -67,9 +58,9 @@ follows-series-spec =
     Inv-loop
     μ-loop
     loop-holds
-    generation-at-requires
+    (λ c κs. search needs)
     returns
-    add-k
-    loop-less
+    (λ c. search needs)
+    (λ c. search needs)
     loop-again
     returns-2)

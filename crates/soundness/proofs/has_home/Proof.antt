@@ -7,19 +7,10 @@ use borrow.Author.Needs.{needs}
 use Rattle.soundness.proofs.has_home.Statement.{statement}
 use Rattle.soundness.proofs.has_home.Tie as tie
 
-parent-of-requires : tie.Need-parent-of-requires
-parent-of-requires c κs = search needs
-
-has-leg-requires : tie.Need-has-leg-requires
-has-leg-requires c κs = search needs
-
 returns : tie.Need-returns
 returns c =
     let s = c .before .before .before .before in
     home-none (venueOf (s .args .b .now)) (s .args .l) (s .args .s) (s .args .d) (c .before .before .parent-of .result) (c .before .before .parent-of .ensures) (sym (c .before .has-leg .ensures) ∙ not-true _ (c .if1 .taken))
-
-is-one-to-one-requires : tie.Need-is-one-to-one-requires
-is-one-to-one-requires c κs = search needs
 
 returns-2 : tie.Need-returns-2
 returns-2 c =
@@ -35,4 +26,4 @@ returns-3 c =
     home-open (venueOf (s .args .b .now)) (s .args .l) (s .args .s) (s .args .d) (h .before .before .parent-of .result) (h .before .before .parent-of .ensures) (sym (h .before .has-leg .ensures) ∙ not-false _ (h .if1 .left)) (sym (o .before .is-one-to-one .ensures) ∙ not-false _ (o .if2 .left))
 
 pub has-home-spec : {M : Type 1} → statement M
-has-home-spec = tie.close (tie.spec parent-of-requires has-leg-requires returns is-one-to-one-requires returns-2 returns-3)
+has-home-spec = tie.close (tie.spec (λ c κs. search needs) (λ c κs. search needs) returns (λ c κs. search needs) returns-2 returns-3)

@@ -18,26 +18,11 @@ Inv-loop b n i₀ i = (i ≤ n) × (all (isAlone (venueOf b)) (upto (regularIn b
 abbrev μ-loop : tie.MeasureT-loop
 μ-loop b n i₀ i = n - i
 
-regulars-used-requires : tie.Need-regulars-used-requires Inv-loop μ-loop
-regulars-used-requires c κs = search needs
-
 loop-holds : tie.Need-loop-holds Inv-loop μ-loop
 loop-holds c = let b = c .before .before .args .b .now in (search needs, ap (λ (k : ℕ). all (isAlone (venueOf b)) (upto (regularIn b) 0 k)) (sub-zero _ ∙ c .regulars-used .ensures .0) ∙ ids-scan b)
 
-regular-at-requires : tie.Need-regular-at-requires Inv-loop μ-loop
-regular-at-requires c κs = search needs
-
-is-alone-requires : tie.Need-is-alone-requires Inv-loop μ-loop
-is-alone-requires c κs = search needs
-
 returns : tie.Need-returns Inv-loop μ-loop
 returns c = let b = c .before .before .before .before .before .before .before .args .b .now in scan-stop (isAlone (venueOf b)) (regularIn b) (c .before .before .before .before .loop .i) _ (c .before .before .before .loop-test .taken) (ap (isAlone (venueOf b)) (sym (c .before .before .regular-at .ensures)) ∙ sym (c .before .is-alone .ensures) ∙ not-true _ (c .if1 .taken)) ∙ c .before .before .before .before .loop .inv .1
-
-add-i : tie.Need-add-i Inv-loop μ-loop
-add-i c = search needs
-
-loop-less : tie.Need-loop-less Inv-loop μ-loop
-loop-less c = search needs
 
 loop-again : tie.Need-loop-again Inv-loop μ-loop
 loop-again c = let b = c .before .before .before .before .before .before .before .args .b .now in (search needs, scan-past (isAlone (venueOf b)) (regularIn b) (c .before .before .before .before .loop .i) _ (c .before .before .before .loop-test .taken) (ap (isAlone (venueOf b)) (sym (c .before .before .regular-at .ensures)) ∙ sym (c .before .is-alone .ensures) ∙ not-false _ (c .if1 .left)) ∙ c .before .before .before .before .loop .inv .1)
@@ -51,12 +36,12 @@ ids-distinct-spec =
     (tie.spec
     Inv-loop
     μ-loop
-    regulars-used-requires
+    (λ c κs. search needs)
     loop-holds
-    regular-at-requires
-    is-alone-requires
+    (λ c κs. search needs)
+    (λ c κs. search needs)
     returns
-    add-i
-    loop-less
+    (λ c. search needs)
+    (λ c. search needs)
     loop-again
     returns-2)

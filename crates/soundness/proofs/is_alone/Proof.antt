@@ -8,15 +8,6 @@ use Rattle.soundness.proofs.is_alone.Tie as tie
 returns : tie.Need-returns
 returns c = alone-free (venueOf (c .before .before .before .args .b .now)) (c .before .before .before .args .o) (c .if1 .taken)
 
-complex-place-requires : tie.Need-complex-place-requires
-complex-place-requires c κs = search needs
-
-enum-told : tie.Need-enum-told
-enum-told c = search needs
-
-enum-told-2 : tie.Need-enum-told-2
-enum-told-2 c = search needs
-
 returns-2 : tie.Need-returns-2
 returns-2 c = alone-found (venueOf (c .before .before .before .before .before .before .args .b .now)) (c .before .before .before .before .before .before .args .o) (c .before .before .before .if1 .left) (c .before .before .complex-place .result) (c .before .before .complex-place .ensures) _ (c .enum-told2 .given .1)
 
@@ -25,4 +16,4 @@ returns-3 c = alone-none (venueOf (c .before .before .before .before .before .be
 
 pub is-alone-spec : {M : Type 1} → statement M
 is-alone-spec =
-    tie.close (tie.spec returns complex-place-requires enum-told enum-told-2 returns-2 returns-3)
+    tie.close (tie.spec returns (λ c κs. search needs) (λ c. search needs) (λ c. search needs) returns-2 returns-3)

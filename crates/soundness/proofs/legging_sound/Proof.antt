@@ -13,41 +13,14 @@ use borrow.Author.Needs.{needs}
 use Rattle.soundness.proofs.legging_sound.Statement.{statement}
 use Rattle.soundness.proofs.legging_sound.Tie as tie
 
-legging-at-requires : tie.Need-legging-at-requires
-legging-at-requires c κs = search needs
-
-blank-legging-requires : tie.Need-blank-legging-requires
-blank-legging-requires c κs = search needs
-
 returns : tie.Need-returns
 returns c = let v = venueOf (c .before .before .before .before .before .args .b .now) in let n = c .before .before .before .before .before .args .n in let l = c .before .before .before .legging-at .result in c .blank-legging .ensures ∙ sound-free v n l (c .before .if1 .taken) ∙ ap (leggingSound v n) (c .before .before .before .legging-at .ensures)
-
-legging-in-range-requires : tie.Need-legging-in-range-requires
-legging-in-range-requires c κs = search needs
 
 returns-2 : tie.Need-returns-2
 returns-2 c = let v = venueOf (c .before .before .before .before .before .before .args .b .now) in let n = c .before .before .before .before .before .before .args .n in let l = c .before .before .before .before .legging-at .result in first-fails (leggingInRange l) (hasHome v l (n / 2) (n % 2)) (stands (verdict v n l)) (sym (c .before .legging-in-range .ensures) ∙ not-true _ (c .if2 .taken)) ∙ sound-held v n l (c .before .before .if1 .left) ∙ ap (leggingSound v n) (c .before .before .before .before .legging-at .ensures)
 
-cast-has-home : tie.Need-cast-has-home
-cast-has-home c = search needs
-
-cast-has-home-2 : tie.Need-cast-has-home-2
-cast-has-home-2 c = search needs
-
-has-home-requires : tie.Need-has-home-requires
-has-home-requires c κs = search needs
-
 returns-3 : tie.Need-returns-3
 returns-3 c = let v = venueOf (c .before .before .before .before .before .before .before .before .args .b .now) in let n = c .before .before .before .before .before .before .before .before .args .n in let l = c .before .before .before .before .before .before .legging-at .result in second-fails (leggingInRange l) (hasHome v l (n / 2) (n % 2)) (stands (verdict v n l)) (sym (c .before .has-home .ensures) ∙ not-true _ (c .if3 .taken)) ∙ sound-held v n l (c .before .before .before .before .if1 .left) ∙ ap (leggingSound v n) (c .before .before .before .before .before .before .legging-at .ensures)
-
-judge-requires : tie.Need-judge-requires
-judge-requires c κs = search needs
-
-enum-told : tie.Need-enum-told
-enum-told c = search needs
-
-enum-told-2 : tie.Need-enum-told-2
-enum-told-2 c = search needs
 
 returns-4 : tie.Need-returns-4
 unfolding stands
@@ -61,17 +34,17 @@ pub legging-sound-spec : {M : Type 1} → statement M
 legging-sound-spec =
     tie.close
     (tie.spec
-    legging-at-requires
-    blank-legging-requires
+    (λ c κs. search needs)
+    (λ c κs. search needs)
     returns
-    legging-in-range-requires
+    (λ c κs. search needs)
     returns-2
-    cast-has-home
-    cast-has-home-2
-    has-home-requires
+    (λ c. search needs)
+    (λ c. search needs)
+    (λ c κs. search needs)
     returns-3
-    judge-requires
-    enum-told
-    enum-told-2
+    (λ c κs. search needs)
+    (λ c. search needs)
+    (λ c. search needs)
     returns-4
     returns-5)

@@ -18,17 +18,8 @@ abbrev μ-loop : tie.MeasureT-loop
 loop-holds : tie.Need-loop-holds Inv-loop μ-loop
 loop-holds c = (search needs, leggings-scan (c .before .args .b .now))
 
-legging-sound-requires : tie.Need-legging-sound-requires Inv-loop μ-loop
-legging-sound-requires c κs = search needs
-
 returns : tie.Need-returns Inv-loop μ-loop
 returns c = leggings-stop (c .before .before .before .before .before .args .b .now) (venueOf (c .before .before .before .before .before .args .b .now)) (c .before .before .before .loop .n) (c .before .before .loop-test .taken) (sym (c .before .legging-sound .ensures) ∙ not-true _ (c .if1 .taken)) ∙ c .before .before .before .loop .inv .1
-
-add-n : tie.Need-add-n Inv-loop μ-loop
-add-n c = search needs
-
-loop-less : tie.Need-loop-less Inv-loop μ-loop
-loop-less c = search needs
 
 loop-again : tie.Need-loop-again Inv-loop μ-loop
 loop-again c = (search needs, leggings-past (c .before .before .before .before .before .args .b .now) (venueOf (c .before .before .before .before .before .args .b .now)) (c .before .before .before .loop .n) (c .before .before .loop-test .taken) (sym (c .before .legging-sound .ensures) ∙ not-false _ (c .if1 .left)) ∙ c .before .before .before .loop .inv .1)
@@ -43,9 +34,9 @@ leggings-sound-spec =
     Inv-loop
     μ-loop
     loop-holds
-    legging-sound-requires
+    (λ c κs. search needs)
     returns
-    add-n
-    loop-less
+    (λ c. search needs)
+    (λ c. search needs)
     loop-again
     returns-2)

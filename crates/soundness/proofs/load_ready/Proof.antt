@@ -6,29 +6,11 @@ use borrow.Author.Needs.{needs}
 use Rattle.soundness.proofs.load_ready.Statement.{statement}
 use Rattle.soundness.proofs.load_ready.Tie as tie
 
-load-sound-requires : tie.Need-load-sound-requires
-load-sound-requires c κs = search needs
-
-same-length : tie.Need-same-length
-same-length c = search needs
-
 returns : tie.Need-returns
 returns c = let s = c .before .before .before .before .before .before in unready (s .args .venue) (s .args .before) _ (sym (c .before .before .before .load-sound .ensures .answer) ∙ not-true _ (c .if1 .taken))
 
-same-length-2 : tie.Need-same-length-2
-same-length-2 c = search needs
-
 returns-2 : tie.Need-returns-2
 returns-2 c = let s = c .before .before .before .before .before .before .before in let k = c .before .before .before .before .load-sound .ensures in let t = not-false _ (c .before .if1 .left) in ready-last (s .args .venue) (s .args .before) _ (sym (k .answer) ∙ t) (k .loaded t) (c .if2 .taken)
-
-add-follows-kept : tie.Need-add-follows-kept
-add-follows-kept c = search needs
-
-follows-kept-requires : tie.Need-follows-kept-requires
-follows-kept-requires c κs = search needs
-
-same-length-3 : tie.Need-same-length-3
-same-length-3 c = search needs
 
 returns-3 : tie.Need-returns-3
 returns-3 c = let s = c .before .before .before .before .before .before .before .before .before in let k = c .before .before .before .before .before .before .load-sound .ensures in let t = not-false _ (c .before .before .before .if1 .left) in ready-next (s .args .venue) (s .args .before) _ (sym (k .answer) ∙ t) (k .loaded t) _ (c .follows-kept .ensures)
@@ -37,12 +19,12 @@ pub load-ready-spec : {M : Type 1} → statement M
 load-ready-spec =
     tie.close
     (tie.spec
-    load-sound-requires
-    same-length
+    (λ c κs. search needs)
+    (λ c. search needs)
     returns
-    same-length-2
+    (λ c. search needs)
     returns-2
-    add-follows-kept
-    follows-kept-requires
-    same-length-3
+    (λ c. search needs)
+    (λ c κs. search needs)
+    (λ c. search needs)
     returns-3)

@@ -6,9 +6,6 @@ use borrow.Author.Needs.{needs}
 use Rattle.soundness.proofs.load_sound.Statement.{statement}
 use Rattle.soundness.proofs.load_sound.Tie as tie
 
-places-sound-requires : tie.Need-places-sound-requires
-places-sound-requires c κs = search needs
-
 returns : tie.Need-returns
 returns c = checked-not _ _ (sym (c .before .places-sound .ensures) ∙ not-true _ (c .if1 .taken))
 
@@ -21,9 +18,6 @@ orders-sound-requires c κs =
     let s = p3 .before .before .before .before .before in
     (p3 .load .kept .0 ∙ s .pre, p3 .load .ensures .dense .right)
 
-same-length : tie.Need-same-length
-same-length c = search needs
-
 returns-2 : tie.Need-returns-2
 returns-2 c = checked _ _ _ (sym (c .before .before .before .before .before .before .before .places-sound .ensures) ∙ not-false _ (c .before .before .before .before .before .before .if1 .left)) (c .before .before .before .before .load .ensures) (c .orders-sound .ensures)
 
@@ -31,9 +25,9 @@ pub load-sound-spec : {M : Type 1} → statement M
 load-sound-spec =
     tie.close
     (tie.spec
-    places-sound-requires
+    (λ c κs. search needs)
     returns
     load-requires
     orders-sound-requires
-    same-length
+    (λ c. search needs)
     returns-2)

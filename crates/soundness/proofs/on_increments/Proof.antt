@@ -17,26 +17,14 @@ Inv-loop b n i₀ i = (i ≤ n) × (all (pricedOn (venueOf b)) (upto (regularIn 
 abbrev μ-loop : tie.MeasureT-loop
 μ-loop b n i₀ i = n - i
 
-regulars-used-requires : tie.Need-regulars-used-requires Inv-loop μ-loop
-regulars-used-requires c κs = search needs
-
 loop-holds : tie.Need-loop-holds Inv-loop μ-loop
 loop-holds c = let b = c .before .before .args .b .now in (search needs, ap (λ (k : ℕ). all (pricedOn (venueOf b)) (upto (regularIn b) 0 k)) (sub-zero _ ∙ c .regulars-used .ensures .0) ∙ prices-scan b)
-
-regular-at-requires : tie.Need-regular-at-requires Inv-loop μ-loop
-regular-at-requires c κs = search needs
 
 on-increment-requires : tie.Need-on-increment-requires Inv-loop μ-loop
 on-increment-requires c κs = let s = c .before .before .before .before .before in (s .pre .0, rw (c .regular-at .ensures) (series-in (s .args .b .now) (c .before .before .loop .i)), s .pre .1)
 
 returns : tie.Need-returns Inv-loop μ-loop
 returns c = let b = c .before .before .before .before .before .before .before .args .b .now in scan-stop (pricedOn (venueOf b)) (regularIn b) (c .before .before .before .before .loop .i) _ (c .before .before .before .loop-test .taken) (ap (pricedOn (venueOf b)) (sym (c .before .before .regular-at .ensures)) ∙ sym (c .before .on-increment .ensures) ∙ not-true _ (c .if1 .taken)) ∙ c .before .before .before .before .loop .inv .1
-
-add-i : tie.Need-add-i Inv-loop μ-loop
-add-i c = search needs
-
-loop-less : tie.Need-loop-less Inv-loop μ-loop
-loop-less c = search needs
 
 loop-again : tie.Need-loop-again Inv-loop μ-loop
 loop-again c = let b = c .before .before .before .before .before .before .before .args .b .now in (search needs, scan-past (pricedOn (venueOf b)) (regularIn b) (c .before .before .before .before .loop .i) _ (c .before .before .before .loop-test .taken) (ap (pricedOn (venueOf b)) (sym (c .before .before .regular-at .ensures)) ∙ sym (c .before .on-increment .ensures) ∙ not-false _ (c .if1 .left)) ∙ c .before .before .before .before .loop .inv .1)
@@ -50,12 +38,12 @@ on-increments-spec =
     (tie.spec
     Inv-loop
     μ-loop
-    regulars-used-requires
+    (λ c κs. search needs)
     loop-holds
-    regular-at-requires
+    (λ c κs. search needs)
     on-increment-requires
     returns
-    add-i
-    loop-less
+    (λ c. search needs)
+    (λ c. search needs)
     loop-again
     returns-2)

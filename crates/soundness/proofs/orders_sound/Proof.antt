@@ -20,9 +20,6 @@ on-increments-requires c κs = let s = c .before in (s .pre .0, s .pre .1 .marke
 returns : tie.Need-returns
 returns c = let b = c .before .before .before .args .b .now in let v = venueOf b in first-fails (onIncrements v && idsDistinct v) (all (apart v) eight) (leggingsSound v 0 (v .legging)) (out-of-range (onIncrements v) (idsDistinct v) (sym (c .before .on-increments .ensures) ∙ not-true _ (c .if1 .taken))) ∙ orders-are b (omega (arith, c .before .before .shared-slice-known .given 778))
 
-ids-distinct-requires : tie.Need-ids-distinct-requires
-ids-distinct-requires c κs = search needs
-
 returns-2 : tie.Need-returns-2
 returns-2 c = let b = c .before .before .before .before .before .args .b .now in let v = venueOf b in first-fails (onIncrements v && idsDistinct v) (all (apart v) eight) (leggingsSound v 0 (v .legging)) (out-of-last (onIncrements v) (idsDistinct v) (sym (c .before .ids-distinct .ensures) ∙ not-true _ (c .if2 .taken))) ∙ orders-are b (omega (arith, c .before .before .before .before .shared-slice-known .given 778))
 
@@ -47,7 +44,7 @@ orders-sound-spec =
     (tie.spec
     on-increments-requires
     returns
-    ids-distinct-requires
+    (λ c κs. search needs)
     returns-2
     all-apart-requires
     returns-3

@@ -15,20 +15,11 @@ use borrow.Author.Needs.{needs}
 use Rattle.sweeps.proofs.generate_round.Statement.{statement}
 use Rattle.sweeps.proofs.generate_round.Tie as tie
 
-generate-places-requires : tie.Need-generate-places-requires
-generate-places-requires c κs = search needs
-
 generate-places-requires-2 : tie.Need-generate-places-requires-2
 generate-places-requires-2 c κs =
     let w = c .before .before .before .before .before .before .generate-places in
     let s = c .before .before .before .before .before .before .before .before .before .before .before in
     (w .kept .0 ∙ s .pre .0, w .ensures .1 .right (s .pre .1), omega (arith, s .pre .3, w .ensures .1 .complexes))
-
-same-length : tie.Need-same-length
-same-length c = search needs
-
-same-length-2 : tie.Need-same-length-2
-same-length-2 c = search needs
 
 returns : tie.Need-returns
 unfolding roundPlaces
@@ -44,4 +35,4 @@ returns c =
     )
 
 pub generate-round-spec : {M : Type 1} → statement M
-generate-round-spec = tie.close (tie.spec generate-places-requires generate-places-requires-2 same-length same-length-2 returns)
+generate-round-spec = tie.close (tie.spec (λ c κs. search needs) generate-places-requires-2 (λ c. search needs) (λ c. search needs) returns)

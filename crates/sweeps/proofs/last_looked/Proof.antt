@@ -8,9 +8,6 @@ use borrow.Author.Needs.{needs}
 use Rattle.sweeps.proofs.last_looked.Statement.{statement}
 use Rattle.sweeps.proofs.last_looked.Tie as tie
 
-sub-complex-at : tie.Need-sub-complex-at
-sub-complex-at c = search needs
-
 complex-at-requires : tie.Need-complex-at-requires
 complex-at-requires c κs = let s = c .before .before .before .before in (s .pre .0, omega (arith, c .before .if1 .taken, s .pre .2, complexes-few (s .args .b .now)))
 
@@ -23,9 +20,6 @@ returns c =
 add-complex-at : tie.Need-add-complex-at
 add-complex-at c = let s = c .before .before .before .before .before .before in omega (arith, s .pre .1, complexes-few (s .args .b .now))
 
-sub-complex-at-2 : tie.Need-sub-complex-at-2
-sub-complex-at-2 c = search needs
-
 complex-at-requires-2 : tie.Need-complex-at-requires-2
 complex-at-requires-2 c κs = let s = c .before .before .before .before .before .before in (s .pre .0, omega (arith, c .before .if2 .taken, s .pre .1, complexes-few (s .args .b .now)))
 
@@ -37,9 +31,6 @@ returns-2 c =
     let t = c .before .before .if2 .taken in
     last-above _ r _ (x .result) (x .ensures) (omega (arith, t, s .pre .1)) (r .above - 1) (omega (arith, t)) (omega (arith, t)) (omega (arith, c .before .before .before .before .if1 .left))
 
-reached-id-requires : tie.Need-reached-id-requires
-reached-id-requires c κs = search needs
-
 returns-3 : tie.Need-returns-3
 returns-3 c = c .reached-id .ensures ∙ last-none _ (c .before .before .before .before .before .before .args .r) (omega (arith, c .before .if2 .left)) (omega (arith, c .before .before .before .if1 .left))
 
@@ -47,12 +38,12 @@ pub last-looked-spec : {M : Type 1} → statement M
 last-looked-spec =
     tie.close
     (tie.spec
-    sub-complex-at
+    (λ c. search needs)
     complex-at-requires
     returns
     add-complex-at
-    sub-complex-at-2
+    (λ c. search needs)
     complex-at-requires-2
     returns-2
-    reached-id-requires
+    (λ c κs. search needs)
     returns-3)

@@ -9,23 +9,11 @@ use borrow.Author.Needs.{needs}
 use Rattle.sweeps.proofs.limited_sweep.Statement.{statement}
 use Rattle.sweeps.proofs.limited_sweep.Tie as tie
 
-round-of-requires : tie.Need-round-of-requires
-round-of-requires c κs = search needs
-
 add-looked : tie.Need-add-looked
 add-looked c = let r = c .before .round-of .ensures .1 in omega (arith, r .0, r .1, complexes-few (c .before .before .before .before .before .args .b .now))
 
 cast-looked : tie.Need-cast-looked
 cast-looked c = let r = c .before .round-of .ensures .1 in omega (arith, r .0, r .1, complexes-few (c .before .before .before .before .before .args .b .now))
-
-last-looked-requires : tie.Need-last-looked-requires
-last-looked-requires c κs = search needs
-
-put-reached-requires : tie.Need-put-reached-requires
-put-reached-requires c κs = search needs
-
-emit-looked-requires : tie.Need-emit-looked-requires
-emit-looked-requires c κs = search needs
 
 work-round-requires : tie.Need-work-round-requires
 work-round-requires c κs =
@@ -51,12 +39,6 @@ generate-round-requires c κs =
     let n = x .ensures .1 .complexes ∙ w .ensures .1 .complexes ∙ p .ensures .1 .complexes in
     (x .kept .0 ∙ w .kept .0 ∙ p .kept .0 ∙ s .pre .0, x .ensures .1 .right (w .ensures .1 .right (p .ensures .1 .right (s .pre .1 .right))), omega (arith, r .0, n), omega (arith, r .1, n))
 
-same-length : tie.Need-same-length
-same-length c = search needs
-
-same-length-2 : tie.Need-same-length-2
-same-length-2 c = search needs
-
 returns : tie.Need-returns
 returns c =
     let g = c .before .before .before .before .generate-round .ensures in
@@ -73,15 +55,15 @@ pub limited-sweep-spec : {M : Type 1} → statement M
 limited-sweep-spec =
     tie.close
     (tie.spec
-    round-of-requires
+    (λ c κs. search needs)
     add-looked
     cast-looked
-    last-looked-requires
-    put-reached-requires
-    emit-looked-requires
+    (λ c κs. search needs)
+    (λ c κs. search needs)
+    (λ c κs. search needs)
     work-round-requires
     settle-all-requires
     generate-round-requires
-    same-length
-    same-length-2
+    (λ c. search needs)
+    (λ c. search needs)
     returns)

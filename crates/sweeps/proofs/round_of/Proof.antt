@@ -10,15 +10,6 @@ use borrow.Author.Needs.{needs}
 use Rattle.sweeps.proofs.round_of.Statement.{statement}
 use Rattle.sweeps.proofs.round_of.Tie as tie
 
-complexes-used-requires : tie.Need-complexes-used-requires
-complexes-used-requires c κs = search needs
-
-round-start-requires : tie.Need-round-start-requires
-round-start-requires c κs = search needs
-
-sub-above : tie.Need-sub-above
-sub-above c = search needs
-
 returns : tie.Need-returns
 unfolding roundPlaces
 returns c =
@@ -28,12 +19,6 @@ returns c =
       round-within (c .before .before .before .before .args .n) _ _ _ (omega (arith, t, u)) ∙ ap (firsts (c .before .before .before .before .args .n)) (f .0),
       (omega (arith, t, u, f .1), omega arith),
     )
-
-sub-if2 : tie.Need-sub-if2
-sub-if2 c = search needs
-
-sub-t9 : tie.Need-sub-t9
-sub-t9 c = search needs
 
 returns-2 : tie.Need-returns-2
 unfolding roundPlaces
@@ -58,4 +43,4 @@ returns-3 c =
     )
 
 pub round-of-spec : {M : Type 1} → statement M
-round-of-spec = tie.close (tie.spec complexes-used-requires round-start-requires sub-above returns sub-if2 sub-t9 returns-2 returns-3)
+round-of-spec = tie.close (tie.spec (λ c κs. search needs) (λ c κs. search needs) (λ c. search needs) returns (λ c. search needs) (λ c. search needs) returns-2 returns-3)

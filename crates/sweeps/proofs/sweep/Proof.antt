@@ -20,12 +20,6 @@ generate-each-requires c κs =
     let s = c .before .before .before .before .before .before .before .before .before .before .before .before .before .before .before .before .before .before in
     (x .kept .0 ∙ w .kept .0 ∙ s .pre .0, x .ensures .1 .right (w .ensures .1 .right (s .pre .1)), swept-rising _ _ _ _ _ _ _ _ _ (w .ensures .0) (x .ensures .0) (s .pre .2))
 
-same-length : tie.Need-same-length
-same-length c = search needs
-
-same-length-2 : tie.Need-same-length-2
-same-length-2 c = search needs
-
 returns : tie.Need-returns
 returns c =
     let g = c .before .before .before .before .generate-each in
@@ -40,6 +34,6 @@ sweep-spec =
     work-each-requires
     settle-all-requires
     generate-each-requires
-    same-length
-    same-length-2
+    (λ c. search needs)
+    (λ c. search needs)
     returns)

@@ -14,20 +14,11 @@ use borrow.Author.Needs.{needs}
 use Rattle.sweeps.proofs.work_round.Statement.{statement}
 use Rattle.sweeps.proofs.work_round.Tie as tie
 
-work-places-requires : tie.Need-work-places-requires
-work-places-requires c κs = search needs
-
 work-places-requires-2 : tie.Need-work-places-requires-2
 work-places-requires-2 c κs =
     let w = c .before .before .before .before .before .before .work-places in
     let s = c .before .before .before .before .before .before .before .before .before .before .before in
     (w .kept .0 ∙ s .pre .0, w .ensures .1 .right (s .pre .1), omega (arith, s .pre .3, w .ensures .1 .complexes))
-
-same-length : tie.Need-same-length
-same-length c = search needs
-
-same-length-2 : tie.Need-same-length-2
-same-length-2 c = search needs
 
 returns : tie.Need-returns
 unfolding roundPlaces
@@ -43,4 +34,4 @@ returns c =
     )
 
 pub work-round-spec : {M : Type 1} → statement M
-work-round-spec = tie.close (tie.spec work-places-requires work-places-requires-2 same-length same-length-2 returns)
+work-round-spec = tie.close (tie.spec (λ c κs. search needs) work-places-requires-2 (λ c. search needs) (λ c. search needs) returns)

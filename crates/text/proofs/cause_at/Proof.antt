@@ -5,9 +5,6 @@ use borrow.Author.Needs.{needs}
 use Rattle.text.proofs.cause_at.Statement.{statement}
 use Rattle.text.proofs.cause_at.Tie as tie
 
-byte-at-requires : tie.Need-byte-at-requires
-byte-at-requires c κs = search needs
-
 returns : tie.Need-returns
 returns c = sym (cause-none _ (omega arith))
 
@@ -18,4 +15,4 @@ returns-3 : tie.Need-returns-3
 returns-3 c = c .before .before .byte-at .ensures ∙ sym (cause-same _ (omega arith) (omega arith))
 
 pub cause-at-spec : {M : Type 1} → statement M
-cause-at-spec = tie.close (tie.spec byte-at-requires returns returns-2 returns-3)
+cause-at-spec = tie.close (tie.spec (λ c κs. search needs) returns returns-2 returns-3)

@@ -3,21 +3,6 @@ use borrow.Author.Needs.{needs}
 use Rattle.text.proofs.put_cancelled.Statement.{statement}
 use Rattle.text.proofs.put_cancelled.Tie as tie
 
-u32-at-requires : tie.Need-u32-at-requires
-u32-at-requires c κs = search needs
-
-u32-at-requires-2 : tie.Need-u32-at-requires-2
-u32-at-requires-2 c κs = search needs
-
-slice-aggregate-put-fields : tie.Need-slice-aggregate-put-fields
-slice-aggregate-put-fields c = search needs
-
-put-fields-requires : tie.Need-put-fields-requires
-put-fields-requires c κs = search needs
-
-same-length : tie.Need-same-length
-same-length c = search needs
-
 returns : tie.Need-returns
 unfolding lineOf
 returns c = rw (c .before .before .before .before .before .before .u32-at .ensures, c .before .before .before .before .before .u32-at2 .ensures) at (c .before .before .put-fields .ensures)
@@ -26,9 +11,9 @@ pub put-cancelled-spec : {M : Type 1} → statement M
 put-cancelled-spec =
     tie.close
     (tie.spec
-    u32-at-requires
-    u32-at-requires-2
-    slice-aggregate-put-fields
-    put-fields-requires
-    same-length
+    (λ c κs. search needs)
+    (λ c κs. search needs)
+    (λ c. search needs)
+    (λ c κs. search needs)
+    (λ c. search needs)
     returns)

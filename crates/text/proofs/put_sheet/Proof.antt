@@ -21,15 +21,6 @@ abbrev μ-loop : tie.MeasureT-loop
 loop-holds : tie.Need-loop-holds Inv-loop μ-loop
 loop-holds c = (refl, left-start _ _)
 
-next-record-requires : tie.Need-next-record-requires Inv-loop μ-loop
-next-record-requires c κs = search needs
-
-enum-known-next : tie.Need-enum-known-next Inv-loop μ-loop
-enum-known-next c = search needs
-
-enum-told : tie.Need-enum-told Inv-loop μ-loop
-enum-told c = search needs
-
 same-length : tie.Need-same-length Inv-loop μ-loop
 same-length c = c .before .before .before .loop .inv .0
 
@@ -45,9 +36,6 @@ part-put-line-start c = let h = c .before .before .before .before .before .loop 
 part-put-line-end : tie.Need-part-put-line-end Inv-loop μ-loop
 part-put-line-end c = let h = c .before .before .before .before .before .loop .inv .1 .inside in omega arith
 
-put-line-requires : tie.Need-put-line-requires Inv-loop μ-loop
-put-line-requires c κs = search needs
-
 loop-less : tie.Need-loop-less Inv-loop μ-loop
 loop-less c = let h = next-follows _ _ _ _ (sym (c .before .before .before .before .before .before .before .before .next-record .ensures) ∙ c .before .before .before .before .before .before .next .given .1) in omega arith
 
@@ -61,14 +49,14 @@ put-sheet-spec =
     Inv-loop
     μ-loop
     loop-holds
-    next-record-requires
-    enum-known-next
-    enum-told
+    (λ c κs. search needs)
+    (λ c. search needs)
+    (λ c. search needs)
     same-length
     returns
     sub-put-line
     part-put-line-start
     part-put-line-end
-    put-line-requires
+    (λ c κs. search needs)
     loop-less
     loop-again)

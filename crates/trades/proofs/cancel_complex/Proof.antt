@@ -12,21 +12,6 @@ use Rattle.trades.proofs.cancel_complex.Tie as tie
 complex-at-requires : tie.Need-complex-at-requires
 complex-at-requires c κs = let s = c .before .before .before in let w = complexes-few (s .args .b .now) in (s .pre .0, omega arith)
 
-fill-complex-requires : tie.Need-fill-complex-requires
-fill-complex-requires c κs = search needs
-
-emit-cancelled-requires : tie.Need-emit-cancelled-requires
-emit-cancelled-requires c κs = search needs
-
-remove-of-requires : tie.Need-remove-of-requires
-remove-of-requires c κs = search needs
-
-same-length : tie.Need-same-length
-same-length c = search needs
-
-same-length-2 : tie.Need-same-length-2
-same-length-2 c = search needs
-
 returns : tie.Need-returns
 returns c =
     let p4 = c .before .before .before .before in
@@ -45,9 +30,9 @@ cancel-complex-spec =
     tie.close
     (tie.spec
     complex-at-requires
-    fill-complex-requires
-    emit-cancelled-requires
-    remove-of-requires
-    same-length
-    same-length-2
+    (λ c κs. search needs)
+    (λ c κs. search needs)
+    (λ c κs. search needs)
+    (λ c. search needs)
+    (λ c. search needs)
     returns)

@@ -11,18 +11,6 @@ use Rattle.trades.proofs.cancel_regular.Tie as tie
 regular-at-requires : tie.Need-regular-at-requires
 regular-at-requires c κs = let s = c .before .before .before in let w = regulars-few (s .args .b .now) in (s .pre .0, omega arith)
 
-fill-order-requires : tie.Need-fill-order-requires
-fill-order-requires c κs = search needs
-
-emit-cancelled-requires : tie.Need-emit-cancelled-requires
-emit-cancelled-requires c κs = search needs
-
-same-length : tie.Need-same-length
-same-length c = search needs
-
-same-length-2 : tie.Need-same-length-2
-same-length-2 c = search needs
-
 returns : tie.Need-returns
 returns c =
     let p2 = c .before .before in
@@ -39,8 +27,8 @@ cancel-regular-spec =
     tie.close
     (tie.spec
     regular-at-requires
-    fill-order-requires
-    emit-cancelled-requires
-    same-length
-    same-length-2
+    (λ c κs. search needs)
+    (λ c κs. search needs)
+    (λ c. search needs)
+    (λ c. search needs)
     returns)

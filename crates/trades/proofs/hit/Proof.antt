@@ -16,12 +16,6 @@ regular-at-requires c κs = let s = c .before .before .before in let w = regular
 pairing-of-requires : tie.Need-pairing-of-requires
 pairing-of-requires c κs = let s = c .before .before .before .before .before in (s .pre .0, s .pre .2)
 
-fill-order-requires : tie.Need-fill-order-requires
-fill-order-requires c κs = search needs
-
-emit-trade-requires : tie.Need-emit-trade-requires
-emit-trade-requires c κs = search needs
-
 take-requires : tie.Need-take-requires
 take-requires c κs =
     let p8 = c .before .before .before .before .before .before .before .before in
@@ -41,12 +35,6 @@ pair-off-requires c κs =
     let p18 = p9 .before .before .before .before .before .before .before .before .before in
     let p26 = p18 .before .before .before .before .before .before .before .before in
     p9 .take .kept .0 ∙ p18 .fill-order .kept .0 ∙ p26 .pre .0
-
-same-length : tie.Need-same-length
-same-length c = search needs
-
-same-length-2 : tie.Need-same-length-2
-same-length-2 c = search needs
 
 returns : tie.Need-returns
 returns c =
@@ -71,11 +59,11 @@ hit-spec =
     (tie.spec
     regular-at-requires
     pairing-of-requires
-    fill-order-requires
-    emit-trade-requires
+    (λ c κs. search needs)
+    (λ c κs. search needs)
     take-requires
     place-or-end-requires
     pair-off-requires
-    same-length
-    same-length-2
+    (λ c. search needs)
+    (λ c. search needs)
     returns)

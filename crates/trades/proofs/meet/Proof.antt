@@ -12,20 +12,11 @@ use Rattle.trades.proofs.meet.Tie as tie
 regular-at-requires : tie.Need-regular-at-requires
 regular-at-requires c κs = let s = c .before .before .before in let w = regulars-few (s .args .b .now) in (s .pre .0, omega (arith, s .pre .1))
 
-fill-order-requires : tie.Need-fill-order-requires
-fill-order-requires c κs = search needs
-
 trade-with-requires : tie.Need-trade-with-requires
 trade-with-requires c κs =
     let p4 = c .before .before .before .before in
     let p10 = p4 .before .before .before .before .before .before in
     (p4 .fill-order .kept .0 ∙ p10 .pre .0, rw (p4 .fill-order .ensures .1 .regulars) (p10 .pre .2))
-
-same-length : tie.Need-same-length
-same-length c = search needs
-
-same-length-2 : tie.Need-same-length-2
-same-length-2 c = search needs
 
 returns : tie.Need-returns
 returns c =
@@ -44,8 +35,8 @@ meet-spec =
     tie.close
     (tie.spec
     regular-at-requires
-    fill-order-requires
+    (λ c κs. search needs)
     trade-with-requires
-    same-length
-    same-length-2
+    (λ c. search needs)
+    (λ c. search needs)
     returns)

@@ -7,21 +7,6 @@ use borrow.Author.Needs.{needs}
 use Rattle.trades.proofs.pair_off.Statement.{statement}
 use Rattle.trades.proofs.pair_off.Tie as tie
 
-fill-pair-requires : tie.Need-fill-pair-requires
-fill-pair-requires c κs = search needs
-
-emit-pair-requires : tie.Need-emit-pair-requires
-emit-pair-requires c κs = search needs
-
-remove-of-requires : tie.Need-remove-of-requires
-remove-of-requires c κs = search needs
-
-same-length : tie.Need-same-length
-same-length c = search needs
-
-same-length-2 : tie.Need-same-length-2
-same-length-2 c = search needs
-
 returns : tie.Need-returns
 returns c =
     let p4 = c .before .before .before .before in
@@ -37,9 +22,9 @@ pub pair-off-spec : {M : Type 1} → statement M
 pair-off-spec =
     tie.close
     (tie.spec
-    fill-pair-requires
-    emit-pair-requires
-    remove-of-requires
-    same-length
-    same-length-2
+    (λ c κs. search needs)
+    (λ c κs. search needs)
+    (λ c κs. search needs)
+    (λ c. search needs)
+    (λ c. search needs)
     returns)

@@ -10,15 +10,6 @@ use borrow.Author.Needs.{needs}
 use Rattle.trades.proofs.pairing_of.Statement.{statement}
 use Rattle.trades.proofs.pairing_of.Tie as tie
 
-parent-of-requires : tie.Need-parent-of-requires
-parent-of-requires c κs = search needs
-
-other-leg-requires : tie.Need-other-leg-requires
-other-leg-requires c κs = search needs
-
-opposite-of-requires : tie.Need-opposite-of-requires
-opposite-of-requires c κs = search needs
-
 best-regular-requires : tie.Need-best-regular-requires
 best-regular-requires c κs =
     let p2 = c .before .before in
@@ -28,12 +19,6 @@ best-regular-requires c κs =
 
 clear-price-requires : tie.Need-clear-price-requires
 clear-price-requires c κs = let h = best-regular-requires (c .before) κs in (h .0, c .best-regular .ensures, h .2, h .3)
-
-opposite-of-requires-2 : tie.Need-opposite-of-requires-2
-opposite-of-requires-2 c κs = search needs
-
-net-of-requires : tie.Need-net-of-requires
-net-of-requires c κs = search needs
 
 returns : tie.Need-returns
 returns c =
@@ -52,11 +37,11 @@ pub pairing-of-spec : {M : Type 1} → statement M
 pairing-of-spec =
     tie.close
     (tie.spec
-    parent-of-requires
-    other-leg-requires
-    opposite-of-requires
+    (λ c κs. search needs)
+    (λ c κs. search needs)
+    (λ c κs. search needs)
     best-regular-requires
     clear-price-requires
-    opposite-of-requires-2
-    net-of-requires
+    (λ c κs. search needs)
+    (λ c κs. search needs)
     returns)

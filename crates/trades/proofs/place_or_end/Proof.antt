@@ -5,15 +5,6 @@ use borrow.Author.Needs.{needs}
 use Rattle.trades.proofs.place_or_end.Statement.{statement}
 use Rattle.trades.proofs.place_or_end.Tie as tie
 
-complex-place-requires : tie.Need-complex-place-requires
-complex-place-requires c κs = search needs
-
-enum-known-found : tie.Need-enum-known-found
-enum-known-found c = search needs
-
-enum-told : tie.Need-enum-told
-enum-told c = search needs
-
 returns : tie.Need-returns
 returns c =
     let p3 = c .before .before .before in
@@ -28,4 +19,4 @@ returns-2 c =
 
 pub place-or-end-spec : {M : Type 1} → statement M
 place-or-end-spec =
-    tie.close (tie.spec complex-place-requires enum-known-found enum-told returns returns-2)
+    tie.close (tie.spec (λ c κs. search needs) (λ c. search needs) (λ c. search needs) returns returns-2)

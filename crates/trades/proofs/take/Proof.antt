@@ -12,9 +12,6 @@ Inv-loop b₀ taker series side price quantity out₀ at other pos₀ left₀ b 
 abbrev μ-loop : tie.MeasureT-loop
 μ-loop b₀ taker series side price quantity out₀ at other pos₀ left₀ b out pos left = left
 
-opposite-of-requires : tie.Need-opposite-of-requires Inv-loop μ-loop
-opposite-of-requires c κs = search needs
-
 loop-holds : tie.Need-loop-holds Inv-loop μ-loop
 loop-holds c = taking-start _ _ _ _ _ _ _ _ (c .before .before .before .pre .0)
 
@@ -23,12 +20,6 @@ first-for-requires c κs =
     let p2 = c .before .before in
     let p6 = p2 .before .before .before .before in
     (p2 .loop .inv .whole, p2 .loop .inv .counts .right (p6 .pre .1))
-
-enum-known-found : tie.Need-enum-known-found Inv-loop μ-loop
-enum-known-found c = search needs
-
-enum-told : tie.Need-enum-told Inv-loop μ-loop
-enum-told c = search needs
 
 same-length : tie.Need-same-length Inv-loop μ-loop
 same-length c =
@@ -47,12 +38,6 @@ returns c =
     let p6 = p5 .before in
     taking-none (p5 .loop .inv) _ (p4 .loop-test .taken) (p6 .opposite-of .ensures) (sym (c .enum-told .given .1) ∙ p2 .first-for .ensures)
 
-shown-of-requires : tie.Need-shown-of-requires Inv-loop μ-loop
-shown-of-requires c κs = search needs
-
-at-most-requires : tie.Need-at-most-requires Inv-loop μ-loop
-at-most-requires c κs = search needs
-
 trade-with-requires : tie.Need-trade-with-requires Inv-loop μ-loop
 trade-with-requires c κs =
     let p2 = c .before .before in
@@ -66,9 +51,6 @@ trade-with-requires c κs =
       taking-used (p10 .loop .inv) _ _ _ _ (p9 .loop-test .taken) (p11 .opposite-of .ensures) (sym (p5 .found .given .1) ∙ p7 .first-for .ensures)
           _ (p3 .shown-of .ensures) (p2 .at-most .ensures),
     )
-
-cast-left : tie.Need-cast-left Inv-loop μ-loop
-cast-left c = search needs
 
 sub-left : tie.Need-sub-left Inv-loop μ-loop
 sub-left c = omega (arith, c .before .before .before .before .before .before .before .at-most .ensures)
@@ -113,18 +95,18 @@ take-spec =
     (tie.spec
     Inv-loop
     μ-loop
-    opposite-of-requires
+    (λ c κs. search needs)
     loop-holds
     first-for-requires
-    enum-known-found
-    enum-told
+    (λ c. search needs)
+    (λ c. search needs)
     same-length
     same-length-2
     returns
-    shown-of-requires
-    at-most-requires
+    (λ c κs. search needs)
+    (λ c κs. search needs)
     trade-with-requires
-    cast-left
+    (λ c. search needs)
     sub-left
     loop-less
     loop-again

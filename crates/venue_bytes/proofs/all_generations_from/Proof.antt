@@ -22,35 +22,8 @@ loop-holds : tie.Need-loop-holds Inv-loop μ-loop
 unfolding inUse upto
 loop-holds c = (omega arith, refl)
 
-mul-at : tie.Need-mul-at Inv-loop μ-loop
-mul-at c = search needs
-
-add-at : tie.Need-add-at Inv-loop μ-loop
-add-at c = search needs
-
-sub-generations-from : tie.Need-sub-generations-from Inv-loop μ-loop
-sub-generations-from c = search needs
-
-part-generations-from-start : tie.Need-part-generations-from-start Inv-loop μ-loop
-part-generations-from-start c = search needs
-
-part-generations-from-end : tie.Need-part-generations-from-end Inv-loop μ-loop
-part-generations-from-end c = search needs
-
-generations-from-requires : tie.Need-generations-from-requires Inv-loop μ-loop
-generations-from-requires c κs = search needs
-
-mul-r : tie.Need-mul-r Inv-loop μ-loop
-mul-r c = search needs
-
 array-set-from-r : tie.Need-array-set-from-r Inv-loop μ-loop
 array-set-from-r c = let h = c .before .before .before in let z = ap length (h .loop .inv .1) in let y = used-length (rowAt generationsFrom generationsAt 80 (c .before .before .before .before .before .args .bytes .now)) noGenerations (h .loop .i) 8 (omega arith) in omega arith
-
-add-i : tie.Need-add-i Inv-loop μ-loop
-add-i c = search needs
-
-loop-less : tie.Need-loop-less Inv-loop μ-loop
-loop-less c = search needs
 
 loop-again : tie.Need-loop-again Inv-loop μ-loop
 loop-again c = let h = c .before .before .before in (omega arith, used-next _ _ _ 8 _ _ (omega arith) (h .loop .inv .1) (row-read generationsFrom generationsAt 80 _ (h .loop .i) _ _ (omega arith) (c .generations-from .ensures)))
@@ -66,15 +39,15 @@ all-generations-from-spec =
     Inv-loop
     μ-loop
     loop-holds
-    mul-at
-    add-at
-    sub-generations-from
-    part-generations-from-start
-    part-generations-from-end
-    generations-from-requires
-    mul-r
+    (λ c. search needs)
+    (λ c. search needs)
+    (λ c. search needs)
+    (λ c. search needs)
+    (λ c. search needs)
+    (λ c κs. search needs)
+    (λ c. search needs)
     array-set-from-r
-    add-i
-    loop-less
+    (λ c. search needs)
+    (λ c. search needs)
     loop-again
     returns)

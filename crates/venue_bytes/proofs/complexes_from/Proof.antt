@@ -22,50 +22,8 @@ loop-holds : tie.Need-loop-holds Inv-loop μ-loop
 unfolding inUse upto
 loop-holds c = (omega arith, refl)
 
-mul-at : tie.Need-mul-at Inv-loop μ-loop
-mul-at c = search needs
-
-add-at : tie.Need-add-at Inv-loop μ-loop
-add-at c = search needs
-
-mul-ratio : tie.Need-mul-ratio Inv-loop μ-loop
-mul-ratio c = search needs
-
-add-ratio : tie.Need-add-ratio Inv-loop μ-loop
-add-ratio c = search needs
-
-sub-complex-from : tie.Need-sub-complex-from Inv-loop μ-loop
-sub-complex-from c = search needs
-
-part-complex-from-start : tie.Need-part-complex-from-start Inv-loop μ-loop
-part-complex-from-start c = search needs
-
-part-complex-from-end : tie.Need-part-complex-from-end Inv-loop μ-loop
-part-complex-from-end c = search needs
-
-sub-complex-from-2 : tie.Need-sub-complex-from-2 Inv-loop μ-loop
-sub-complex-from-2 c = search needs
-
-part-complex-from-start-2 : tie.Need-part-complex-from-start-2 Inv-loop μ-loop
-part-complex-from-start-2 c = search needs
-
-part-complex-from-end-2 : tie.Need-part-complex-from-end-2 Inv-loop μ-loop
-part-complex-from-end-2 c = search needs
-
-complex-from-requires : tie.Need-complex-from-requires Inv-loop μ-loop
-complex-from-requires c κs = search needs
-
-mul-r : tie.Need-mul-r Inv-loop μ-loop
-mul-r c = search needs
-
 array-set-from-r : tie.Need-array-set-from-r Inv-loop μ-loop
 array-set-from-r c = let h = c .before .before .before .before in let z = ap length (h .loop .inv .1) in let y = used-length (rowsAt complexFrom 1792 17 ratiosAt 2 (c .before .before .before .before .before .before .args .bytes .now)) noComplex (h .loop .i) 32 (omega arith) in omega arith
-
-add-i : tie.Need-add-i Inv-loop μ-loop
-add-i c = search needs
-
-loop-less : tie.Need-loop-less Inv-loop μ-loop
-loop-less c = search needs
 
 loop-again : tie.Need-loop-again Inv-loop μ-loop
 loop-again c = let h = c .before .before .before .before in (omega arith, used-next _ _ _ 32 _ _ (omega arith) (h .loop .inv .1) (rows-read complexFrom 1792 17 ratiosAt 2 _ (h .loop .i) _ _ _ (omega arith) (omega arith) (c .complex-from .ensures)))
@@ -81,20 +39,20 @@ complexes-from-spec =
     Inv-loop
     μ-loop
     loop-holds
-    mul-at
-    add-at
-    mul-ratio
-    add-ratio
-    sub-complex-from
-    part-complex-from-start
-    part-complex-from-end
-    sub-complex-from-2
-    part-complex-from-start-2
-    part-complex-from-end-2
-    complex-from-requires
-    mul-r
+    (λ c. search needs)
+    (λ c. search needs)
+    (λ c. search needs)
+    (λ c. search needs)
+    (λ c. search needs)
+    (λ c. search needs)
+    (λ c. search needs)
+    (λ c. search needs)
+    (λ c. search needs)
+    (λ c. search needs)
+    (λ c κs. search needs)
+    (λ c. search needs)
     array-set-from-r
-    add-i
-    loop-less
+    (λ c. search needs)
+    (λ c. search needs)
     loop-again
     returns)

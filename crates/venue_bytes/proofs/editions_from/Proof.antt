@@ -22,35 +22,8 @@ loop-holds : tie.Need-loop-holds Inv-loop μ-loop
 unfolding inUse upto
 loop-holds c = (omega arith, refl)
 
-mul-at : tie.Need-mul-at Inv-loop μ-loop
-mul-at c = search needs
-
-add-at : tie.Need-add-at Inv-loop μ-loop
-add-at c = search needs
-
-sub-edition-from : tie.Need-sub-edition-from Inv-loop μ-loop
-sub-edition-from c = search needs
-
-part-edition-from-start : tie.Need-part-edition-from-start Inv-loop μ-loop
-part-edition-from-start c = search needs
-
-part-edition-from-end : tie.Need-part-edition-from-end Inv-loop μ-loop
-part-edition-from-end c = search needs
-
-edition-from-requires : tie.Need-edition-from-requires Inv-loop μ-loop
-edition-from-requires c κs = search needs
-
-mul-r : tie.Need-mul-r Inv-loop μ-loop
-mul-r c = search needs
-
 array-set-from-r : tie.Need-array-set-from-r Inv-loop μ-loop
 array-set-from-r c = let h = c .before .before .before in let z = ap length (h .loop .inv .1) in let y = used-length (rowAt editionFrom editionsAt 10 (c .before .before .before .before .before .args .bytes .now)) noEdition (h .loop .i) 32 (omega arith) in omega arith
-
-add-i : tie.Need-add-i Inv-loop μ-loop
-add-i c = search needs
-
-loop-less : tie.Need-loop-less Inv-loop μ-loop
-loop-less c = search needs
 
 loop-again : tie.Need-loop-again Inv-loop μ-loop
 loop-again c = let h = c .before .before .before in (omega arith, used-next _ _ _ 32 _ _ (omega arith) (h .loop .inv .1) (row-read editionFrom editionsAt 10 _ (h .loop .i) _ _ (omega arith) (c .edition-from .ensures)))
@@ -66,15 +39,15 @@ editions-from-spec =
     Inv-loop
     μ-loop
     loop-holds
-    mul-at
-    add-at
-    sub-edition-from
-    part-edition-from-start
-    part-edition-from-end
-    edition-from-requires
-    mul-r
+    (λ c. search needs)
+    (λ c. search needs)
+    (λ c. search needs)
+    (λ c. search needs)
+    (λ c. search needs)
+    (λ c κs. search needs)
+    (λ c. search needs)
     array-set-from-r
-    add-i
-    loop-less
+    (λ c. search needs)
+    (λ c. search needs)
     loop-again
     returns)

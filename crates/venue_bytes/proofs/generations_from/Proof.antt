@@ -26,23 +26,8 @@ loop-holds : tie.Need-loop-holds Inv-loop μ-loop
 unfolding inUse upto
 loop-holds c = (omega arith, refl)
 
-mul-word-at : tie.Need-mul-word-at Inv-loop μ-loop
-mul-word-at c = search needs
-
-word-at-requires : tie.Need-word-at-requires Inv-loop μ-loop
-word-at-requires c κs = search needs
-
-mul-messages : tie.Need-mul-messages Inv-loop μ-loop
-mul-messages c = search needs
-
 array-write-messages : tie.Need-array-write-messages Inv-loop μ-loop
 array-write-messages c = let h = c .before .before in let z = ap length (h .loop .inv .1) in let y = used-length (at (h .before .before .args .row .now)) 0 (h .loop .k) 20 (omega arith) in omega arith
-
-add-k : tie.Need-add-k Inv-loop μ-loop
-add-k c = search needs
-
-loop-less : tie.Need-loop-less Inv-loop μ-loop
-loop-less c = search needs
 
 loop-again : tie.Need-loop-again Inv-loop μ-loop
 loop-again c = (omega arith, used-next _ _ _ 20 _ _ (omega arith) (c .before .before .loop .inv .1) (c .word-at .ensures))
@@ -60,11 +45,11 @@ generations-from-spec =
     Inv-loop
     μ-loop
     loop-holds
-    mul-word-at
-    word-at-requires
-    mul-messages
+    (λ c. search needs)
+    (λ c κs. search needs)
+    (λ c. search needs)
     array-write-messages
-    add-k
-    loop-less
+    (λ c. search needs)
+    (λ c. search needs)
     loop-again
     returns)

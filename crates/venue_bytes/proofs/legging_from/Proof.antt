@@ -4,19 +4,10 @@ use borrow.Author.Needs.{needs}
 use Rattle.venue_bytes.proofs.legging_from.Statement.{statement}
 use Rattle.venue_bytes.proofs.legging_from.Tie as tie
 
-word-at-requires : tie.Need-word-at-requires
-word-at-requires c κs = search needs
-
-word-at-requires-2 : tie.Need-word-at-requires-2
-word-at-requires-2 c κs = search needs
-
-word-at-requires-3 : tie.Need-word-at-requires-3
-word-at-requires-3 c κs = search needs
-
 returns : tie.Need-returns
 unfolding leggingFrom
 returns c = rw (c .before .before .word-at .ensures, c .before .word-at2 .ensures, c .word-at3 .ensures)
 
 pub legging-from-spec : {M : Type 1} → statement M
 legging-from-spec =
-    tie.close (tie.spec word-at-requires word-at-requires-2 word-at-requires-3 returns)
+    tie.close (tie.spec (λ c κs. search needs) (λ c κs. search needs) (λ c κs. search needs) returns)

@@ -22,35 +22,8 @@ loop-holds : tie.Need-loop-holds Inv-loop μ-loop
 unfolding inUse upto
 loop-holds c = (omega arith, refl)
 
-mul-at : tie.Need-mul-at Inv-loop μ-loop
-mul-at c = search needs
-
-add-at : tie.Need-add-at Inv-loop μ-loop
-add-at c = search needs
-
-sub-legging-from : tie.Need-sub-legging-from Inv-loop μ-loop
-sub-legging-from c = search needs
-
-part-legging-from-start : tie.Need-part-legging-from-start Inv-loop μ-loop
-part-legging-from-start c = search needs
-
-part-legging-from-end : tie.Need-part-legging-from-end Inv-loop μ-loop
-part-legging-from-end c = search needs
-
-legging-from-requires : tie.Need-legging-from-requires Inv-loop μ-loop
-legging-from-requires c κs = search needs
-
-mul-r : tie.Need-mul-r Inv-loop μ-loop
-mul-r c = search needs
-
 array-set-from-r : tie.Need-array-set-from-r Inv-loop μ-loop
 array-set-from-r c = let h = c .before .before .before in let z = ap length (h .loop .inv .1) in let y = used-length (rowAt leggingFrom 2336 12 (c .before .before .before .before .before .args .bytes .now)) noLegging (h .loop .i) 16 (omega arith) in omega arith
-
-add-i : tie.Need-add-i Inv-loop μ-loop
-add-i c = search needs
-
-loop-less : tie.Need-loop-less Inv-loop μ-loop
-loop-less c = search needs
 
 loop-again : tie.Need-loop-again Inv-loop μ-loop
 loop-again c = let h = c .before .before .before in (omega arith, used-next _ _ _ 16 _ _ (omega arith) (h .loop .inv .1) (row-read leggingFrom 2336 12 _ (h .loop .i) _ _ (omega arith) (c .legging-from .ensures)))
@@ -66,15 +39,15 @@ leggings-from-spec =
     Inv-loop
     μ-loop
     loop-holds
-    mul-at
-    add-at
-    sub-legging-from
-    part-legging-from-start
-    part-legging-from-end
-    legging-from-requires
-    mul-r
+    (λ c. search needs)
+    (λ c. search needs)
+    (λ c. search needs)
+    (λ c. search needs)
+    (λ c. search needs)
+    (λ c κs. search needs)
+    (λ c. search needs)
     array-set-from-r
-    add-i
-    loop-less
+    (λ c. search needs)
+    (λ c. search needs)
     loop-again
     returns)

@@ -22,47 +22,8 @@ loop-holds : tie.Need-loop-holds Inv-loop μ-loop
 unfolding inUse upto
 loop-holds c = (omega arith, refl)
 
-mul-at : tie.Need-mul-at Inv-loop μ-loop
-mul-at c = search needs
-
-mul-reserve : tie.Need-mul-reserve Inv-loop μ-loop
-mul-reserve c = search needs
-
-add-reserve : tie.Need-add-reserve Inv-loop μ-loop
-add-reserve c = search needs
-
-sub-regular-from : tie.Need-sub-regular-from Inv-loop μ-loop
-sub-regular-from c = search needs
-
-part-regular-from-start : tie.Need-part-regular-from-start Inv-loop μ-loop
-part-regular-from-start c = search needs
-
-part-regular-from-end : tie.Need-part-regular-from-end Inv-loop μ-loop
-part-regular-from-end c = search needs
-
-sub-regular-from-2 : tie.Need-sub-regular-from-2 Inv-loop μ-loop
-sub-regular-from-2 c = search needs
-
-part-regular-from-start-2 : tie.Need-part-regular-from-start-2 Inv-loop μ-loop
-part-regular-from-start-2 c = search needs
-
-part-regular-from-end-2 : tie.Need-part-regular-from-end-2 Inv-loop μ-loop
-part-regular-from-end-2 c = search needs
-
-regular-from-requires : tie.Need-regular-from-requires Inv-loop μ-loop
-regular-from-requires c κs = search needs
-
-mul-r : tie.Need-mul-r Inv-loop μ-loop
-mul-r c = search needs
-
 array-set-from-r : tie.Need-array-set-from-r Inv-loop μ-loop
 array-set-from-r c = let h = c .before .before .before .before in let z = ap length (h .loop .inv .1) in let y = used-length (rowsAt regularFrom 0 14 reservesAt 8 (c .before .before .before .before .before .before .args .bytes .now)) noRegular (h .loop .i) 128 (omega arith) in omega arith
-
-add-i : tie.Need-add-i Inv-loop μ-loop
-add-i c = search needs
-
-loop-less : tie.Need-loop-less Inv-loop μ-loop
-loop-less c = search needs
 
 loop-again : tie.Need-loop-again Inv-loop μ-loop
 loop-again c = let h = c .before .before .before .before in (omega arith, used-next _ _ _ 128 _ _ (omega arith) (h .loop .inv .1) (rows-read regularFrom 0 14 reservesAt 8 _ (h .loop .i) _ _ _ (omega arith) (omega arith) (c .regular-from .ensures)))
@@ -78,19 +39,19 @@ regulars-from-spec =
     Inv-loop
     μ-loop
     loop-holds
-    mul-at
-    mul-reserve
-    add-reserve
-    sub-regular-from
-    part-regular-from-start
-    part-regular-from-end
-    sub-regular-from-2
-    part-regular-from-start-2
-    part-regular-from-end-2
-    regular-from-requires
-    mul-r
+    (λ c. search needs)
+    (λ c. search needs)
+    (λ c. search needs)
+    (λ c. search needs)
+    (λ c. search needs)
+    (λ c. search needs)
+    (λ c. search needs)
+    (λ c. search needs)
+    (λ c. search needs)
+    (λ c κs. search needs)
+    (λ c. search needs)
     array-set-from-r
-    add-i
-    loop-less
+    (λ c. search needs)
+    (λ c. search needs)
     loop-again
     returns)

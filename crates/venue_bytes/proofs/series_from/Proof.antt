@@ -22,35 +22,8 @@ loop-holds : tie.Need-loop-holds Inv-loop μ-loop
 unfolding inUse upto
 loop-holds c = (omega arith, refl)
 
-mul-at : tie.Need-mul-at Inv-loop μ-loop
-mul-at c = search needs
-
-add-at : tie.Need-add-at Inv-loop μ-loop
-add-at c = search needs
-
-sub-listed-from : tie.Need-sub-listed-from Inv-loop μ-loop
-sub-listed-from c = search needs
-
-part-listed-from-start : tie.Need-part-listed-from-start Inv-loop μ-loop
-part-listed-from-start c = search needs
-
-part-listed-from-end : tie.Need-part-listed-from-end Inv-loop μ-loop
-part-listed-from-end c = search needs
-
-listed-from-requires : tie.Need-listed-from-requires Inv-loop μ-loop
-listed-from-requires c κs = search needs
-
-mul-r : tie.Need-mul-r Inv-loop μ-loop
-mul-r c = search needs
-
 array-set-from-r : tie.Need-array-set-from-r Inv-loop μ-loop
 array-set-from-r c = let h = c .before .before .before in let z = ap length (h .loop .inv .1) in let y = used-length (rowAt listedFrom 2528 9 (c .before .before .before .before .before .args .bytes .now)) notListed (h .loop .i) 8 (omega arith) in omega arith
-
-add-i : tie.Need-add-i Inv-loop μ-loop
-add-i c = search needs
-
-loop-less : tie.Need-loop-less Inv-loop μ-loop
-loop-less c = search needs
 
 loop-again : tie.Need-loop-again Inv-loop μ-loop
 loop-again c = let h = c .before .before .before in (omega arith, used-next _ _ _ 8 _ _ (omega arith) (h .loop .inv .1) (row-read listedFrom 2528 9 _ (h .loop .i) _ _ (omega arith) (c .listed-from .ensures)))
@@ -66,15 +39,15 @@ series-from-spec =
     Inv-loop
     μ-loop
     loop-holds
-    mul-at
-    add-at
-    sub-listed-from
-    part-listed-from-start
-    part-listed-from-end
-    listed-from-requires
-    mul-r
+    (λ c. search needs)
+    (λ c. search needs)
+    (λ c. search needs)
+    (λ c. search needs)
+    (λ c. search needs)
+    (λ c κs. search needs)
+    (λ c. search needs)
     array-set-from-r
-    add-i
-    loop-less
+    (λ c. search needs)
+    (λ c. search needs)
     loop-again
     returns)

@@ -6,20 +6,8 @@ use borrow.Author.Needs.{needs}
 use Rattle.venue_numbers.proofs.count_beside.Statement.{statement}
 use Rattle.venue_numbers.proofs.count_beside.Tie as tie
 
-count-mask-requires : tie.Need-count-mask-requires
-count-mask-requires c κs = search needs
-
-count-figures-requires : tie.Need-count-figures-requires
-count-figures-requires c κs = search needs
-
-slice-write-b : tie.Need-slice-write-b
-slice-write-b c = search needs
-
 slice-write-b-2 : tie.Need-slice-write-b-2
 slice-write-b-2 c = simp length-set (omega arith)
-
-cast-b : tie.Need-cast-b
-cast-b c = search needs
 
 slice-write-b-3 : tie.Need-slice-write-b-3
 slice-write-b-3 c = simp length-set (omega arith)
@@ -38,11 +26,11 @@ pub count-beside-spec : {M : Type 1} → statement M
 count-beside-spec =
     tie.close
     (tie.spec
-    count-mask-requires
-    count-figures-requires
-    slice-write-b
+    (λ c κs. search needs)
+    (λ c κs. search needs)
+    (λ c. search needs)
     slice-write-b-2
-    cast-b
+    (λ c. search needs)
     slice-write-b-3
     slice-write-b-4
     same-length

@@ -17,17 +17,8 @@ abbrev μ-loop : tie.MeasureT-loop
 loop-holds : tie.Need-loop-holds Inv-loop μ-loop
 loop-holds c = (search needs, mask-none (c .before .args .b .now))
 
-sub-i : tie.Need-sub-i Inv-loop μ-loop
-sub-i c = search needs
-
-legging-at-requires : tie.Need-legging-at-requires Inv-loop μ-loop
-legging-at-requires c κs = search needs
-
 mul-m : tie.Need-mul-m Inv-loop μ-loop
 mul-m c = let h = c .before .before in omega (arith, h .loop .inv .1, mask-small (h .before .before .args .b .now) (h .loop .i) (omega arith))
-
-bit-requires : tie.Need-bit-requires Inv-loop μ-loop
-bit-requires c κs = search needs
 
 add-m : tie.Need-add-m Inv-loop μ-loop
 add-m c =
@@ -35,9 +26,6 @@ add-m c =
     let h = p3 in
     omega
     (arith, h .loop .inv .1, mask-small (h .before .before .args .b .now) (h .loop .i) (omega arith), c .bit .ensures, bit-le (c .before .legging-at .result))
-
-loop-less : tie.Need-loop-less Inv-loop μ-loop
-loop-less c = search needs
 
 loop-again : tie.Need-loop-again Inv-loop μ-loop
 loop-again c =
@@ -59,11 +47,11 @@ count-mask-spec =
     Inv-loop
     μ-loop
     loop-holds
-    sub-i
-    legging-at-requires
+    (λ c. search needs)
+    (λ c κs. search needs)
     mul-m
-    bit-requires
+    (λ c κs. search needs)
     add-m
-    loop-less
+    (λ c. search needs)
     loop-again
     returns)

@@ -17,23 +17,8 @@ abbrev μ-loop : tie.MeasureT-loop
 loop-holds : tie.Need-loop-holds Inv-loop μ-loop
 loop-holds c = (omega arith, open-first)
 
-mul-b : tie.Need-mul-b Inv-loop μ-loop
-mul-b c = search needs
-
-add-b : tie.Need-add-b Inv-loop μ-loop
-add-b c = search needs
-
-mul-b-2 : tie.Need-mul-b-2 Inv-loop μ-loop
-mul-b-2 c = search needs
-
 array-write-b : tie.Need-array-write-b Inv-loop μ-loop
 array-write-b c = let e = ap length (c .before .loop .inv .1) ∙ open-length _ in omega arith
-
-add-s : tie.Need-add-s Inv-loop μ-loop
-add-s c = search needs
-
-loop-less : tie.Need-loop-less Inv-loop μ-loop
-loop-less c = search needs
 
 loop-again : tie.Need-loop-again Inv-loop μ-loop
 loop-again c = (omega arith, open-next _ _ (c .before .loop .inv .1))
@@ -54,12 +39,12 @@ fresh-numbers-spec =
     Inv-loop
     μ-loop
     loop-holds
-    mul-b
-    add-b
-    mul-b-2
+    (λ c. search needs)
+    (λ c. search needs)
+    (λ c. search needs)
     array-write-b
-    add-s
-    loop-less
+    (λ c. search needs)
+    (λ c. search needs)
     loop-again
     slice-aggregate-base-figures
     base-figures-requires

@@ -4,33 +4,6 @@ use borrow.Author.Needs.{needs}
 use Rattle.venue_numbers.proofs.load.Statement.{statement}
 use Rattle.venue_numbers.proofs.load.Tie as tie
 
-load-traffic-requires : tie.Need-load-traffic-requires
-load-traffic-requires c κs = search needs
-
-load-regulars-requires : tie.Need-load-regulars-requires
-load-regulars-requires c κs = search needs
-
-load-complexes-requires : tie.Need-load-complexes-requires
-load-complexes-requires c κs = search needs
-
-load-leggings-requires : tie.Need-load-leggings-requires
-load-leggings-requires c κs = search needs
-
-load-series-requires : tie.Need-load-series-requires
-load-series-requires c κs = search needs
-
-load-editions-requires : tie.Need-load-editions-requires
-load-editions-requires c κs = search needs
-
-put-last-requires : tie.Need-put-last-requires
-put-last-requires c κs = search needs
-
-count-beside-requires : tie.Need-count-beside-requires
-count-beside-requires c κs = search needs
-
-same-length : tie.Need-same-length
-same-length c = search needs
-
 returns : tie.Need-returns
 returns c = let m = c .before .before in
     let p = m .before .before .before .before in
@@ -49,13 +22,13 @@ pub load-spec : {M : Type 1} → statement M
 load-spec =
     tie.close
     (tie.spec
-    load-traffic-requires
-    load-regulars-requires
-    load-complexes-requires
-    load-leggings-requires
-    load-series-requires
-    load-editions-requires
-    put-last-requires
-    count-beside-requires
-    same-length
+    (λ c κs. search needs)
+    (λ c κs. search needs)
+    (λ c κs. search needs)
+    (λ c κs. search needs)
+    (λ c κs. search needs)
+    (λ c κs. search needs)
+    (λ c κs. search needs)
+    (λ c κs. search needs)
+    (λ c. search needs)
     returns)

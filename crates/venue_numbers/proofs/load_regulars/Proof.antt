@@ -21,15 +21,6 @@ abbrev μ-loop : tie.MeasureT-loop
 loop-holds : tie.Need-loop-holds Inv-loop μ-loop
 loop-holds c = (omega arith, regulars-first _ _ (c .before .pre .0))
 
-mul-o : tie.Need-mul-o Inv-loop μ-loop
-mul-o c = search needs
-
-array-copy-out-o : tie.Need-array-copy-out-o Inv-loop μ-loop
-array-copy-out-o c = search needs
-
-cast-b : tie.Need-cast-b Inv-loop μ-loop
-cast-b c = search needs
-
 slice-write-b : tie.Need-slice-write-b Inv-loop μ-loop
 slice-write-b c = let z = c .before .before .before .before .loop .inv .1 .long in omega arith
 
@@ -44,12 +35,6 @@ returns c = let h = c .before .before .before .before in
 
 write-regular-requires : tie.Need-write-regular-requires Inv-loop μ-loop
 write-regular-requires c κs = (c .before .before .before .before .before .loop .inv .1 .long, omega arith)
-
-add-i : tie.Need-add-i Inv-loop μ-loop
-add-i c = search needs
-
-loop-less : tie.Need-loop-less Inv-loop μ-loop
-loop-less c = search needs
 
 loop-again : tie.Need-loop-again Inv-loop μ-loop
 loop-again c = (omega arith, regulars-next _ _ _ _ _ (c .before .before .before .before .before .before .before .before .before .before .pre .1) (c .before .before .before .before .before .before .before .before .loop .inv .1) (c .before .before .before .before .before .before .before .loop-test .taken) _ refl (ap not (ne-eqb _ _ (c .before .before .before .before .if1 .left))) (c .before .before .write-regular .ensures))
@@ -74,15 +59,15 @@ load-regulars-spec =
     Inv-loop
     μ-loop
     loop-holds
-    mul-o
-    array-copy-out-o
-    cast-b
+    (λ c. search needs)
+    (λ c. search needs)
+    (λ c. search needs)
     slice-write-b
     same-length
     returns
     write-regular-requires
-    add-i
-    loop-less
+    (λ c. search needs)
+    (λ c. search needs)
     loop-again
     slice-write-b-2
     same-length-2

@@ -25,30 +25,12 @@ fits s = omega (arith, long s, s .pre)
 loop-holds : tie.Need-loop-holds Inv-loop μ-loop
 loop-holds c = written-none generationsBytes generationsAt _ _
 
-mul-g : tie.Need-mul-g Inv-loop μ-loop
-mul-g c = search needs
-
-array-copy-out-g : tie.Need-array-copy-out-g Inv-loop μ-loop
-array-copy-out-g c = search needs
-
-mul-put-generations : tie.Need-mul-put-generations Inv-loop μ-loop
-mul-put-generations c = search needs
-
-add-put-generations : tie.Need-add-put-generations Inv-loop μ-loop
-add-put-generations c = search needs
-
 put-generations-requires : tie.Need-put-generations-requires Inv-loop μ-loop
 put-generations-requires c κs =
     let h = c .before .before .before in
     let s = h .before .before in
     let r = written-room generationsBytes 80 generations-width generationsAt (s .args .t2) (s .args .out .now) (fits s) (h .loop .out) (h .loop .i) (h .loop .inv) in
     omega (arith, s .pre)
-
-add-i : tie.Need-add-i Inv-loop μ-loop
-add-i c = search needs
-
-loop-less : tie.Need-loop-less Inv-loop μ-loop
-loop-less c = search needs
 
 loop-again : tie.Need-loop-again Inv-loop μ-loop
 loop-again c = let s = c .before .before .before .before .before .before .before .before in let h = c .before .before .before .before .before .before in written-next generationsBytes 80 generations-width generationsAt (s .args .t2) (s .args .out .now) (fits s) (h .loop .out) (h .loop .i) (h .loop .inv) _ _ _ _ (omega (arith, long s)) refl (omega arith) (c .before .before .put-generations .ensures)
@@ -66,13 +48,13 @@ put-all-generations-spec =
     Inv-loop
     μ-loop
     loop-holds
-    mul-g
-    array-copy-out-g
-    mul-put-generations
-    add-put-generations
+    (λ c. search needs)
+    (λ c. search needs)
+    (λ c. search needs)
+    (λ c. search needs)
     put-generations-requires
-    add-i
-    loop-less
+    (λ c. search needs)
+    (λ c. search needs)
     loop-again
     same-length
     returns)

@@ -19,38 +19,8 @@ use Rattle.venue_writer.proofs.put_complex.Tie as tie
 limit-fits : (c : tie.After-struct-told) → SFits w32 (c .before .before .before .before .args .c .limit)
 limit-fits c = record { sfits = c .struct-told .given .1 .1 .1 .1 .1 .1 .0 .1 }
 
-bytes4-requires : tie.Need-bytes4-requires
-bytes4-requires c κs = search needs
-
-array-read-t10 : tie.Need-array-read-t10
-array-read-t10 c = search needs
-
-array-read-t13 : tie.Need-array-read-t13
-array-read-t13 c = search needs
-
-array-read-t16 : tie.Need-array-read-t16
-array-read-t16 c = search needs
-
-array-read-t19 : tie.Need-array-read-t19
-array-read-t19 c = search needs
-
 cast-bits : tie.Need-cast-bits
 cast-bits c = number-cast (limit-fits c)
-
-bits-requires : tie.Need-bits-requires
-bits-requires c κs = search needs
-
-slice-aggregate-put-words : tie.Need-slice-aggregate-put-words
-slice-aggregate-put-words c = search needs
-
-slice-aggregate-put-words-2 : tie.Need-slice-aggregate-put-words-2
-slice-aggregate-put-words-2 c = search needs
-
-put-words-requires : tie.Need-put-words-requires
-put-words-requires c κs = search needs
-
-same-length : tie.Need-same-length
-same-length c = search needs
 
 returns : tie.Need-returns
 unfolding complexBytes bytes wordBytes
@@ -66,15 +36,15 @@ pub put-complex-spec : {M : Type 1} → statement M
 put-complex-spec =
     tie.close
     (tie.spec
-    bytes4-requires
-    array-read-t10
-    array-read-t13
-    array-read-t16
-    array-read-t19
+    (λ c κs. search needs)
+    (λ c. search needs)
+    (λ c. search needs)
+    (λ c. search needs)
+    (λ c. search needs)
     cast-bits
-    bits-requires
-    slice-aggregate-put-words
-    slice-aggregate-put-words-2
-    put-words-requires
-    same-length
+    (λ c κs. search needs)
+    (λ c. search needs)
+    (λ c. search needs)
+    (λ c κs. search needs)
+    (λ c. search needs)
     returns)

@@ -25,32 +25,8 @@ fits s = omega (arith, messages-many (s .args .g), s .pre)
 loop-holds : tie.Need-loop-holds Inv-loop μ-loop
 loop-holds c = written-none u32 _ _ _
 
-mul-bytes4 : tie.Need-mul-bytes4 Inv-loop μ-loop
-mul-bytes4 c = search needs
-
-array-read-bytes4 : tie.Need-array-read-bytes4 Inv-loop μ-loop
-array-read-bytes4 c = search needs
-
-bytes4-requires : tie.Need-bytes4-requires Inv-loop μ-loop
-bytes4-requires c κs = search needs
-
-mul-put : tie.Need-mul-put Inv-loop μ-loop
-mul-put c = search needs
-
 add-put : tie.Need-add-put Inv-loop μ-loop
 add-put c = omega arith
-
-slice-aggregate-put : tie.Need-slice-aggregate-put Inv-loop μ-loop
-slice-aggregate-put c = search needs
-
-put-requires : tie.Need-put-requires Inv-loop μ-loop
-put-requires c κs = search needs
-
-add-k : tie.Need-add-k Inv-loop μ-loop
-add-k c = search needs
-
-loop-less : tie.Need-loop-less Inv-loop μ-loop
-loop-less c = search needs
 
 loop-again : tie.Need-loop-again Inv-loop μ-loop
 loop-again c =
@@ -79,15 +55,15 @@ put-generations-spec =
     Inv-loop
     μ-loop
     loop-holds
-    mul-bytes4
-    array-read-bytes4
-    bytes4-requires
-    mul-put
+    (λ c. search needs)
+    (λ c. search needs)
+    (λ c κs. search needs)
+    (λ c. search needs)
     add-put
-    slice-aggregate-put
-    put-requires
-    add-k
-    loop-less
+    (λ c. search needs)
+    (λ c κs. search needs)
+    (λ c. search needs)
+    (λ c. search needs)
     loop-again
     same-length
     returns)

@@ -25,27 +25,6 @@ fits s = omega (arith, long s, s .pre)
 loop-holds : tie.Need-loop-holds Inv-loop μ-loop
 loop-holds c = written-none leggingBytes 2336 _ _
 
-mul-x : tie.Need-mul-x Inv-loop μ-loop
-mul-x c = search needs
-
-array-copy-out-x : tie.Need-array-copy-out-x Inv-loop μ-loop
-array-copy-out-x c = search needs
-
-mul-put-legging : tie.Need-mul-put-legging Inv-loop μ-loop
-mul-put-legging c = search needs
-
-add-put-legging : tie.Need-add-put-legging Inv-loop μ-loop
-add-put-legging c = search needs
-
-put-legging-requires : tie.Need-put-legging-requires Inv-loop μ-loop
-put-legging-requires c κs = search needs
-
-add-i : tie.Need-add-i Inv-loop μ-loop
-add-i c = search needs
-
-loop-less : tie.Need-loop-less Inv-loop μ-loop
-loop-less c = search needs
-
 loop-again : tie.Need-loop-again Inv-loop μ-loop
 loop-again c = let s = c .before .before .before .before .before .before .before .before in let h = c .before .before .before .before .before .before in written-next leggingBytes 12 legging-width 2336 (s .args .t2) (s .args .out .now) (fits s) (h .loop .out) (h .loop .i) (h .loop .inv) _ _ _ _ (omega (arith, long s)) refl (omega arith) (c .before .before .put-legging .ensures)
 
@@ -62,13 +41,13 @@ put-leggings-spec =
     Inv-loop
     μ-loop
     loop-holds
-    mul-x
-    array-copy-out-x
-    mul-put-legging
-    add-put-legging
-    put-legging-requires
-    add-i
-    loop-less
+    (λ c. search needs)
+    (λ c. search needs)
+    (λ c. search needs)
+    (λ c. search needs)
+    (λ c κs. search needs)
+    (λ c. search needs)
+    (λ c. search needs)
     loop-again
     same-length
     returns)

@@ -7,15 +7,6 @@ use borrow.Author.Needs.{needs}
 use Rattle.venue_writer.proofs.put_ratio.Statement.{statement}
 use Rattle.venue_writer.proofs.put_ratio.Tie as tie
 
-slice-aggregate-put : tie.Need-slice-aggregate-put
-slice-aggregate-put c = search needs
-
-put-requires : tie.Need-put-requires
-put-requires c κs = search needs
-
-same-length : tie.Need-same-length
-same-length c = search needs
-
 returns : tie.Need-returns
 unfolding ratioBytes bytes
 returns c =
@@ -26,7 +17,7 @@ pub put-ratio-spec : {M : Type 1} → statement M
 put-ratio-spec =
     tie.close
     (tie.spec
-    slice-aggregate-put
-    put-requires
-    same-length
+    (λ c. search needs)
+    (λ c κs. search needs)
+    (λ c. search needs)
     returns)

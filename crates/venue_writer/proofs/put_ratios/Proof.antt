@@ -25,27 +25,6 @@ fits s = omega (arith, long s, s .pre)
 loop-holds : tie.Need-loop-holds Inv-loop μ-loop
 loop-holds c = written-none ratioBytes ratiosAt _ _
 
-mul-c : tie.Need-mul-c Inv-loop μ-loop
-mul-c c = search needs
-
-array-copy-out-c : tie.Need-array-copy-out-c Inv-loop μ-loop
-array-copy-out-c c = search needs
-
-mul-put-ratio : tie.Need-mul-put-ratio Inv-loop μ-loop
-mul-put-ratio c = search needs
-
-add-put-ratio : tie.Need-add-put-ratio Inv-loop μ-loop
-add-put-ratio c = search needs
-
-put-ratio-requires : tie.Need-put-ratio-requires Inv-loop μ-loop
-put-ratio-requires c κs = search needs
-
-add-i : tie.Need-add-i Inv-loop μ-loop
-add-i c = search needs
-
-loop-less : tie.Need-loop-less Inv-loop μ-loop
-loop-less c = search needs
-
 loop-again : tie.Need-loop-again Inv-loop μ-loop
 loop-again c = let s = c .before .before .before .before .before .before .before .before in let h = c .before .before .before .before .before .before in written-next ratioBytes 2 ratio-width ratiosAt (s .args .t2) (s .args .out .now) (fits s) (h .loop .out) (h .loop .i) (h .loop .inv) _ _ _ _ (omega (arith, long s)) refl (omega arith) (c .before .before .put-ratio .ensures)
 
@@ -62,13 +41,13 @@ put-ratios-spec =
     Inv-loop
     μ-loop
     loop-holds
-    mul-c
-    array-copy-out-c
-    mul-put-ratio
-    add-put-ratio
-    put-ratio-requires
-    add-i
-    loop-less
+    (λ c. search needs)
+    (λ c. search needs)
+    (λ c. search needs)
+    (λ c. search needs)
+    (λ c κs. search needs)
+    (λ c. search needs)
+    (λ c. search needs)
     loop-again
     same-length
     returns)

@@ -25,24 +25,6 @@ fits s = omega (arith, long s, s .pre)
 loop-holds : tie.Need-loop-holds Inv-loop μ-loop
 loop-holds c = written-none regularBytes 0 _ _
 
-mul-o : tie.Need-mul-o Inv-loop μ-loop
-mul-o c = search needs
-
-array-copy-out-o : tie.Need-array-copy-out-o Inv-loop μ-loop
-array-copy-out-o c = search needs
-
-mul-put-regular : tie.Need-mul-put-regular Inv-loop μ-loop
-mul-put-regular c = search needs
-
-put-regular-requires : tie.Need-put-regular-requires Inv-loop μ-loop
-put-regular-requires c κs = search needs
-
-add-i : tie.Need-add-i Inv-loop μ-loop
-add-i c = search needs
-
-loop-less : tie.Need-loop-less Inv-loop μ-loop
-loop-less c = search needs
-
 loop-again : tie.Need-loop-again Inv-loop μ-loop
 loop-again c = let s = c .before .before .before .before .before .before .before .before in let h = c .before .before .before .before .before .before in written-next regularBytes 14 regular-width 0 (s .args .t2) (s .args .out .now) (fits s) (h .loop .out) (h .loop .i) (h .loop .inv) _ _ _ _ (omega (arith, long s)) refl (omega arith) (c .before .before .put-regular .ensures)
 
@@ -59,12 +41,12 @@ put-regulars-spec =
     Inv-loop
     μ-loop
     loop-holds
-    mul-o
-    array-copy-out-o
-    mul-put-regular
-    put-regular-requires
-    add-i
-    loop-less
+    (λ c. search needs)
+    (λ c. search needs)
+    (λ c. search needs)
+    (λ c κs. search needs)
+    (λ c. search needs)
+    (λ c. search needs)
     loop-again
     same-length
     returns)

@@ -25,27 +25,6 @@ fits s = omega (arith, long s, s .pre)
 loop-holds : tie.Need-loop-holds Inv-loop μ-loop
 loop-holds c = written-none listedBytes 2528 _ _
 
-mul-x : tie.Need-mul-x Inv-loop μ-loop
-mul-x c = search needs
-
-array-copy-out-x : tie.Need-array-copy-out-x Inv-loop μ-loop
-array-copy-out-x c = search needs
-
-mul-put-listed : tie.Need-mul-put-listed Inv-loop μ-loop
-mul-put-listed c = search needs
-
-add-put-listed : tie.Need-add-put-listed Inv-loop μ-loop
-add-put-listed c = search needs
-
-put-listed-requires : tie.Need-put-listed-requires Inv-loop μ-loop
-put-listed-requires c κs = search needs
-
-add-i : tie.Need-add-i Inv-loop μ-loop
-add-i c = search needs
-
-loop-less : tie.Need-loop-less Inv-loop μ-loop
-loop-less c = search needs
-
 loop-again : tie.Need-loop-again Inv-loop μ-loop
 loop-again c = let s = c .before .before .before .before .before .before .before .before in let h = c .before .before .before .before .before .before in written-next listedBytes 9 listed-width 2528 (s .args .t2) (s .args .out .now) (fits s) (h .loop .out) (h .loop .i) (h .loop .inv) _ _ _ _ (omega (arith, long s)) refl (omega arith) (c .before .before .put-listed .ensures)
 
@@ -62,13 +41,13 @@ put-series-spec =
     Inv-loop
     μ-loop
     loop-holds
-    mul-x
-    array-copy-out-x
-    mul-put-listed
-    add-put-listed
-    put-listed-requires
-    add-i
-    loop-less
+    (λ c. search needs)
+    (λ c. search needs)
+    (λ c. search needs)
+    (λ c. search needs)
+    (λ c κs. search needs)
+    (λ c. search needs)
+    (λ c. search needs)
     loop-again
     same-length
     returns)

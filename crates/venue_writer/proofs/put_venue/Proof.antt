@@ -25,36 +25,6 @@ sized s =
       generations = long _ (s .args .v .generations) (s .good .1 .0 .1 .1 .1 .1 .1 .1 .1 .0 .1 .0 .1);
     }
 
-put-regulars-requires : tie.Need-put-regulars-requires
-put-regulars-requires c κs = search needs
-
-put-complexes-requires : tie.Need-put-complexes-requires
-put-complexes-requires c κs = search needs
-
-put-leggings-requires : tie.Need-put-leggings-requires
-put-leggings-requires c κs = search needs
-
-put-series-requires : tie.Need-put-series-requires
-put-series-requires c κs = search needs
-
-bytes4-requires : tie.Need-bytes4-requires
-bytes4-requires c κs = search needs
-
-slice-aggregate-put : tie.Need-slice-aggregate-put
-slice-aggregate-put c = search needs
-
-put-requires : tie.Need-put-requires
-put-requires c κs = search needs
-
-put-editions-requires : tie.Need-put-editions-requires
-put-editions-requires c κs = search needs
-
-put-reserves-requires : tie.Need-put-reserves-requires
-put-reserves-requires c κs = search needs
-
-put-ratios-requires : tie.Need-put-ratios-requires
-put-ratios-requires c κs = search needs
-
 -- what was known once the series were written, and at first
 abbrev series : tie.After-put-ratios → tie.After-put-series
 series t = t .before .before .before .before .before .before .before .before .before .before .before .before .before .before .before .before .before .before .before .before .before
@@ -75,15 +45,6 @@ room t =
 
 put-all-generations-requires : tie.Need-put-all-generations-requires
 put-all-generations-requires c κs = let t = c .before .before .before .before in room t ∙ start t .pre
-
-bytes4-requires-2 : tie.Need-bytes4-requires-2
-bytes4-requires-2 c κs = search needs
-
-slice-aggregate-put-2 : tie.Need-slice-aggregate-put-2
-slice-aggregate-put-2 c = search needs
-
-put-requires-2 : tie.Need-put-requires-2
-put-requires-2 c κs = search needs
 
 same-length : tie.Need-same-length
 same-length c =
@@ -113,19 +74,19 @@ pub put-venue-spec : {M : Type 1} → statement M
 put-venue-spec =
     tie.close
     (tie.spec
-    put-regulars-requires
-    put-complexes-requires
-    put-leggings-requires
-    put-series-requires
-    bytes4-requires
-    slice-aggregate-put
-    put-requires
-    put-editions-requires
-    put-reserves-requires
-    put-ratios-requires
+    (λ c κs. search needs)
+    (λ c κs. search needs)
+    (λ c κs. search needs)
+    (λ c κs. search needs)
+    (λ c κs. search needs)
+    (λ c. search needs)
+    (λ c κs. search needs)
+    (λ c κs. search needs)
+    (λ c κs. search needs)
+    (λ c κs. search needs)
     put-all-generations-requires
-    bytes4-requires-2
-    slice-aggregate-put-2
-    put-requires-2
+    (λ c κs. search needs)
+    (λ c. search needs)
+    (λ c κs. search needs)
     same-length
     returns)

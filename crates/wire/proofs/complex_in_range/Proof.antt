@@ -6,12 +6,6 @@ use borrow.Author.Needs.{needs}
 use Rattle.wire.proofs.complex_in_range.Statement.{statement}
 use Rattle.wire.proofs.complex_in_range.Tie as tie
 
-is-one-to-one-requires : tie.Need-is-one-to-one-requires
-is-one-to-one-requires c κs = search needs
-
-two-leg-in-range-requires : tie.Need-two-leg-in-range-requires
-two-leg-in-range-requires c κs = search needs
-
 returns : tie.Need-returns
 unfolding complexInRange
 returns c =
@@ -24,9 +18,6 @@ returns-2 c =
     let o = c .before .before .before .before .args .c in
     rw (sym (c .before .before .before .is-one-to-one .ensures) ∙ c .before .before .if1 .left, eq-eqb (o .ratio1) (o .ratio2) (c .if2 .taken)) (sym (and-false (twoLegInRange 600000 o)))
 
-two-leg-in-range-requires-2 : tie.Need-two-leg-in-range-requires-2
-two-leg-in-range-requires-2 c κs = search needs
-
 returns-3 : tie.Need-returns-3
 unfolding complexInRange
 returns-3 c =
@@ -38,9 +29,9 @@ pub complex-in-range-spec : {M : Type 1} → statement M
 complex-in-range-spec =
     tie.close
     (tie.spec
-    is-one-to-one-requires
-    two-leg-in-range-requires
+    (λ c κs. search needs)
+    (λ c κs. search needs)
     returns
     returns-2
-    two-leg-in-range-requires-2
+    (λ c κs. search needs)
     returns-3)

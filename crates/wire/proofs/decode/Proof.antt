@@ -15,20 +15,11 @@ use Rattle.wire.proofs.decode.Tie as tie
 returns : tie.Need-returns
 returns c = torn-short _ (c .if1 .taken)
 
-u16-at-requires : tie.Need-u16-at-requires
-u16-at-requires c κs = search needs
-
 returns-2 : tie.Need-returns-2
 returns-2 c = let s = c .before .before .before .before .args .s .now in torn-low s (omega arith)
 
-cast-if3 : tie.Need-cast-if3
-cast-if3 c = search needs
-
 returns-3 : tie.Need-returns-3
 returns-3 c = let s = c .before .before .before .before .before .args .s .now in torn-high s (omega arith)
-
-u16-at-requires-2 : tie.Need-u16-at-requires-2
-u16-at-requires-2 c κs = search needs
 
 returns-4 : tie.Need-returns-4
 unfolding isKind
@@ -37,9 +28,6 @@ returns-4 c = let s = c .before .before .before .before .before .before .before 
 returns-5 : tie.Need-returns-5
 unfolding isKind
 returns-5 c = let s = c .before .before .before .before .before .before .before .before .args .s .now in no-kind s (whole s (omega arith) (omega arith) (omega arith)) (above 1 11 (u16At s 2) (omega arith))
-
-length-of-requires : tie.Need-length-of-requires
-length-of-requires c κs = search needs
 
 returns-6 : tie.Need-returns-6
 unfolding isKind
@@ -52,9 +40,6 @@ message-of-requires : tie.Need-message-of-requires
 message-of-requires c κs =
     let n = c .before .length-of .ensures ∙ ap lengthOf (c .before .before .before .before .u16-at2 .ensures) in
     (omega arith, omega arith, omega arith, omega arith)
-
-in-range-requires : tie.Need-in-range-requires
-in-range-requires c κs = search needs
 
 -- what is known of the bytes and of the message once its fields are tested
 read : (c : tie.After-in-range) → let s = c .before .before .before .before .before .before .before .before .before .before .before .before .args .s .now in
@@ -70,9 +55,6 @@ returns-7 : tie.Need-returns-7
 returns-7 c =
     let (t, k, n, r) = read (c .before) in
     no-range _ _ (c .before .before .message-of .ensures) t k n (sym r ∙ not-true _ (c .if7 .taken))
-
-equal-ratios-requires : tie.Need-equal-ratios-requires
-equal-ratios-requires c κs = search needs
 
 -- and once its ratios are compared
 compared : (c : tie.After-equal-ratios) → c .equal-ratios .result ≡ equalRatios (c .before .before .before .before .before .before .before .before .before .before .before .before .before .before .args .s .now)
@@ -96,18 +78,18 @@ decode-spec =
     tie.close
     (tie.spec
     returns
-    u16-at-requires
+    (λ c κs. search needs)
     returns-2
-    cast-if3
+    (λ c. search needs)
     returns-3
-    u16-at-requires-2
+    (λ c κs. search needs)
     returns-4
     returns-5
-    length-of-requires
+    (λ c κs. search needs)
     returns-6
     message-of-requires
-    in-range-requires
+    (λ c κs. search needs)
     returns-7
-    equal-ratios-requires
+    (λ c κs. search needs)
     returns-8
     returns-9)

@@ -6,14 +6,8 @@ use Rattle.wire.proofs.equal_ratios.Tie as tie
 returns : tie.Need-returns
 returns c = rw (ne-eqb _ _ (c .if1 .taken))
 
-u8-at-requires : tie.Need-u8-at-requires
-u8-at-requires c κs = search needs
-
-u8-at-requires-2 : tie.Need-u8-at-requires-2
-u8-at-requires-2 c κs = search needs
-
 returns-2 : tie.Need-returns-2
 returns-2 c = rw (eq-eqb (c .before .before .before .before .args .kind) 10 (c .before .before .if1 .left), c .before .u8-at .ensures, c .u8-at2 .ensures)
 
 pub equal-ratios-spec : {M : Type 1} → statement M
-equal-ratios-spec = tie.close (tie.spec returns u8-at-requires u8-at-requires-2 returns-2)
+equal-ratios-spec = tie.close (tie.spec returns (λ c κs. search needs) (λ c κs. search needs) returns-2)

@@ -8,32 +8,8 @@ use borrow.Author.Needs.{needs}
 use Rattle.wire.proofs.in_range.Statement.{statement}
 use Rattle.wire.proofs.in_range.Tie as tie
 
-message-form-requires : tie.Need-message-form-requires
-message-form-requires c κs = search needs
-
-later-in-range-requires : tie.Need-later-in-range-requires
-later-in-range-requires c κs = search needs
-
 returns : tie.Need-returns
 returns c = c .later-in-range .ensures (c .before .before .before .args .kind)
-
-enum-known-m : tie.Need-enum-known-m
-enum-known-m c = search needs
-
-regular-in-range-requires : tie.Need-regular-in-range-requires
-regular-in-range-requires c κs = search needs
-
-enum-known-m-2 : tie.Need-enum-known-m-2
-enum-known-m-2 c = search needs
-
-far-of-requires : tie.Need-far-of-requires
-far-of-requires c κs = search needs
-
-two-leg-in-range-requires : tie.Need-two-leg-in-range-requires
-two-leg-in-range-requires c κs = search needs
-
-enum-known-m-3 : tie.Need-enum-known-m-3
-enum-known-m-3 c = search needs
 
 returns-2 : tie.Need-returns-2
 unfolding inRange
@@ -51,18 +27,6 @@ returns-4 c = id-is (c .before .m3 .given .0 .0) (omega arith) ∙ sym (ap (inRa
 
 returns-5 : tie.Need-returns-5
 returns-5 c = let k = kinds-left (c .before .before .before .before .args .m) (c .match .keys4) in let e = c .before .before .before .message-form .ensures in absurd (omega arith)
-
-enum-known-m-4 : tie.Need-enum-known-m-4
-enum-known-m-4 c = search needs
-
-away-in-range-requires : tie.Need-away-in-range-requires
-away-in-range-requires c κs = search needs
-
-enum-known-m-5 : tie.Need-enum-known-m-5
-enum-known-m-5 c = search needs
-
-status-in-range-requires : tie.Need-status-in-range-requires
-status-in-range-requires c κs = search needs
 
 returns-6 : tie.Need-returns-6
 unfolding inRange
@@ -83,23 +47,23 @@ pub in-range-spec : {M : Type 1} → statement M
 in-range-spec =
     tie.close
     (tie.spec
-    message-form-requires
-    later-in-range-requires
+    (λ c κs. search needs)
+    (λ c κs. search needs)
     returns
-    enum-known-m
-    regular-in-range-requires
-    enum-known-m-2
-    far-of-requires
-    two-leg-in-range-requires
-    enum-known-m-3
+    (λ c. search needs)
+    (λ c κs. search needs)
+    (λ c. search needs)
+    (λ c κs. search needs)
+    (λ c κs. search needs)
+    (λ c. search needs)
     returns-2
     returns-3
     returns-4
     returns-5
-    enum-known-m-4
-    away-in-range-requires
-    enum-known-m-5
-    status-in-range-requires
+    (λ c. search needs)
+    (λ c κs. search needs)
+    (λ c. search needs)
+    (λ c κs. search needs)
     returns-6
     returns-7
     returns-8)

@@ -10,9 +10,6 @@ use borrow.Author.Needs.{needs}
 use Rattle.wire.proofs.is_limit.Statement.{statement}
 use Rattle.wire.proofs.is_limit.Tie as tie
 
-cast-top : tie.Need-cast-top
-cast-top c = search needs
-
 cast-x : tie.Need-cast-x
 cast-x c = wide-fits (c .args .n) (c .fits .n)
 
@@ -35,4 +32,4 @@ returns-2 c =
     rw (leZ-not (negℤ (pos (s .args .far))) (s .args .n), h) (ap₂ leZ x (cast-of (s .args .far) (omega arith)))
 
 pub is-limit-spec : {M : Type 1} → statement M
-is-limit-spec = tie.close (tie.spec cast-top cast-x sub-if1 returns returns-2)
+is-limit-spec = tie.close (tie.spec (λ c. search needs) cast-x sub-if1 returns returns-2)

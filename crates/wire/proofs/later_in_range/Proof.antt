@@ -8,21 +8,6 @@ use borrow.Author.Needs.{needs}
 use Rattle.wire.proofs.later_in_range.Statement.{statement}
 use Rattle.wire.proofs.later_in_range.Tie as tie
 
-enum-known-m : tie.Need-enum-known-m
-enum-known-m c = search needs
-
-increment-in-range-requires : tie.Need-increment-in-range-requires
-increment-in-range-requires c κs = search needs
-
-enum-known-m-2 : tie.Need-enum-known-m-2
-enum-known-m-2 c = search needs
-
-enum-known-m-3 : tie.Need-enum-known-m-3
-enum-known-m-3 c = search needs
-
-sweep-in-range-requires : tie.Need-sweep-in-range-requires
-sweep-in-range-requires c κs = search needs
-
 returns : tie.Need-returns
 unfolding inRange
 returns c k =
@@ -46,11 +31,11 @@ pub later-in-range-spec : {M : Type 1} → statement M
 later-in-range-spec =
     tie.close
     (tie.spec
-    enum-known-m
-    increment-in-range-requires
-    enum-known-m-2
-    enum-known-m-3
-    sweep-in-range-requires
+    (λ c. search needs)
+    (λ c κs. search needs)
+    (λ c. search needs)
+    (λ c. search needs)
+    (λ c κs. search needs)
     returns
     returns-2
     returns-3

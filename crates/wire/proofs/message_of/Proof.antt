@@ -9,9 +9,6 @@ use borrow.Author.Needs.{needs}
 use Rattle.wire.proofs.message_of.Statement.{statement}
 use Rattle.wire.proofs.message_of.Tie as tie
 
-half-at-requires : tie.Need-half-at-requires
-half-at-requires c κs = search needs
-
 word-at-requires : tie.Need-word-at-requires
 unfolding lengthOf
 word-at-requires c κs = let s = c .before .before .before .args .s .now in let e : u16At s 2 ≡ 1 = omega arith in let n = of-length s 1 e (c .before .before .before .pre .3) in omega arith
@@ -138,7 +135,7 @@ pub message-of-spec : {M : Type 1} → statement M
 message-of-spec =
     tie.close
     (tie.spec
-    half-at-requires
+    (λ c κs. search needs)
     word-at-requires
     order-at-requires
     returns

@@ -21,15 +21,9 @@ returns-3 : tie.Need-returns-3
 unfolding regularInRange isSide
 returns-3 c = let o = c .before .before .before .before .before .before .args .o in simp (above 0 1 (o .side) (c .if3 .taken), and-false)
 
-is-price-requires : tie.Need-is-price-requires
-is-price-requires c κs = search needs
-
 returns-4 : tie.Need-returns-4
 unfolding regularInRange
 returns-4 c = simp (sym (c .before .is-price .ensures) ∙ not-true _ (c .if4 .taken), and-false)
-
-is-quantity-requires : tie.Need-is-quantity-requires
-is-quantity-requires c κs = search needs
 
 returns-5 : tie.Need-returns-5
 unfolding regularInRange
@@ -53,9 +47,9 @@ regular-in-range-spec =
     returns
     returns-2
     returns-3
-    is-price-requires
+    (λ c κs. search needs)
     returns-4
-    is-quantity-requires
+    (λ c κs. search needs)
     returns-5
     returns-6
     returns-7)

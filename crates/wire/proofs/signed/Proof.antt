@@ -12,18 +12,9 @@ use borrow.Author.Needs.{needs}
 use Rattle.wire.proofs.signed.Statement.{statement}
 use Rattle.wire.proofs.signed.Tie as tie
 
-cast-result : tie.Need-cast-result
-cast-result c = search needs
-
 returns : tie.Need-returns
 unfolding asSigned
 returns c = simp (lt-ltb _ _ (c .if1 .taken))
-
-sub-back : tie.Need-sub-back
-sub-back c = search needs
-
-cast-back : tie.Need-cast-back
-cast-back c = search needs
 
 sub-result : tie.Need-sub-result
 sub-result c =
@@ -39,4 +30,4 @@ returns-2 c =
     rw r (toZ-ofZ w32 (negsuc k) (record { sfits = omega arith }) ∙ simp (le-ltb _ _ (c .if1 .left)))
 
 pub signed-spec : {M : Type 1} → statement M
-signed-spec = tie.close (tie.spec cast-result returns sub-back cast-back sub-result returns-2)
+signed-spec = tie.close (tie.spec (λ c. search needs) returns (λ c. search needs) (λ c. search needs) sub-result returns-2)

@@ -15,9 +15,6 @@ returns : tie.Need-returns
 unfolding twoLegInRange isId
 returns c = rw (below 1 4294967295 (c .before .before .args .c .id) (omega arith))
 
-legs-in-range-requires : tie.Need-legs-in-range-requires
-legs-in-range-requires c κs = search needs
-
 returns-2 : tie.Need-returns-2
 returns-2 c =
     let s = c .before .before .before .before .args in
@@ -27,9 +24,6 @@ returns-3 : tie.Need-returns-3
 unfolding twoLegInRange isClass
 returns-3 c = simp (above 0 1 (c .before .before .before .before .before .before .args .c .class) (c .if3 .taken), and-false)
 
-is-limit-requires : tie.Need-is-limit-requires
-is-limit-requires c κs = search needs
-
 returns-4 : tie.Need-returns-4
 unfolding twoLegInRange
 returns-4 c =
@@ -38,22 +32,13 @@ returns-4 c =
     let e = c .before .is-limit .ensures ∙ ap (isLimit (s .far)) (toZ-ofZ w32 (s .c .limit) (record { sfits = told .1 .1 .1 .1 .1 .1 .0 .1 })) in
     simp (sym e ∙ not-true _ (c .if4 .taken), and-false)
 
-is-quantity-requires : tie.Need-is-quantity-requires
-is-quantity-requires c κs = search needs
-
 returns-5 : tie.Need-returns-5
 unfolding twoLegInRange
 returns-5 c = simp (sym (c .before .is-quantity .ensures) ∙ not-true _ (c .if5 .taken), and-false)
 
-is-ratio-requires : tie.Need-is-ratio-requires
-is-ratio-requires c κs = search needs
-
 returns-6 : tie.Need-returns-6
 unfolding twoLegInRange
 returns-6 c = simp (sym (c .before .is-ratio .ensures) ∙ not-true _ (c .if6 .taken), and-false)
-
-is-ratio-requires-2 : tie.Need-is-ratio-requires-2
-is-ratio-requires-2 c κs = search needs
 
 returns-7 : tie.Need-returns-7
 returns-7 c =
@@ -71,14 +56,14 @@ two-leg-in-range-spec =
     tie.close
     (tie.spec
     returns
-    legs-in-range-requires
+    (λ c κs. search needs)
     returns-2
     returns-3
-    is-limit-requires
+    (λ c κs. search needs)
     returns-4
-    is-quantity-requires
+    (λ c κs. search needs)
     returns-5
-    is-ratio-requires
+    (λ c κs. search needs)
     returns-6
-    is-ratio-requires-2
+    (λ c κs. search needs)
     returns-7)

@@ -15,17 +15,8 @@ returns-2 c = leg-none1 _ (c .before .before .before .before .args .c) _ _ (c .b
 returns-3 : tie.Need-returns-3
 returns-3 c = leg-none2 _ (c .before .before .before .before .before .args .c) _ _ (c .before .before .if1 .left) (c .before .if2 .left) (c .if3 .taken)
 
-net-of-requires : tie.Need-net-of-requires
-net-of-requires c κs = search needs
-
-limit-of-requires : tie.Need-limit-of-requires
-limit-of-requires c κs = search needs
-
 returns-4 : tie.Need-returns-4
 returns-4 c = leg-over _ (c .before .before .before .before .before .before .before .before .args .c) _ _ (c .before .before .before .before .before .if1 .left) (c .before .before .before .before .if2 .left) (c .before .before .before .if3 .left) _ _ (back {z = c .before .before .net-of .result} (record { sfits = c .before .before .net-of .ok }) ∙ c .before .before .net-of .ensures .0) (back {z = c .before .limit-of .result} (record { sfits = c .before .limit-of .ok }) ∙ c .before .limit-of .ensures .0) (c .if4 .taken)
-
-in-band-requires : tie.Need-in-band-requires
-in-band-requires c κs = search needs
 
 returns-5 : tie.Need-returns-5
 returns-5 c = leg-band _ (c .before .before .before .before .before .before .before .before .before .args .c) _ _ (c .before .before .before .before .before .before .if1 .left) (c .before .before .before .before .before .if2 .left) (c .before .before .before .before .if3 .left) _ _ (back {z = c .before .before .before .net-of .result} (record { sfits = c .before .before .before .net-of .ok }) ∙ c .before .before .before .net-of .ensures .0) (back {z = c .before .before .limit-of .result} (record { sfits = c .before .before .limit-of .ok }) ∙ c .before .before .limit-of .ensures .0) (c .before .if4 .left) _ (c .in-band .ensures)
@@ -37,8 +28,8 @@ can-leg-in-spec =
     returns
     returns-2
     returns-3
-    net-of-requires
-    limit-of-requires
+    (λ c κs. search needs)
+    (λ c κs. search needs)
     returns-4
-    in-band-requires
+    (λ c κs. search needs)
     returns-5)

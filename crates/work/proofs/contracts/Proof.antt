@@ -13,8 +13,5 @@ product r k r8 k32 = mul-le-mul {n₂ = 255} {m₂ = 4294967295} (omega arith) (
 mul-result : tie.Need-mul-result
 mul-result c = let m = product (c .args .ratio) (c .args .k) (omega arith) (omega arith) in search needs
 
-returns : tie.Need-returns
-returns c = search needs
-
 pub contracts-spec : {M : Type 1} → statement M
-contracts-spec = tie.close (tie.spec mul-result returns)
+contracts-spec = tie.close (tie.spec mul-result (λ c. search needs))

@@ -12,15 +12,6 @@ use Rattle.work.proofs.leg_in.Tie as tie
 complex-at-requires : tie.Need-complex-at-requires
 complex-at-requires c κs = let z = complexes-few (c .before .before .before .args .b .now) in (c .before .before .before .pre .0, omega (arith, c .before .before .before .pre .2))
 
-net-of-requires : tie.Need-net-of-requires
-net-of-requires c κs = search needs
-
-contracts-requires : tie.Need-contracts-requires
-contracts-requires c κs = search needs
-
-contracts-requires-2 : tie.Need-contracts-requires-2
-contracts-requires-2 c κs = search needs
-
 take-requires : tie.Need-take-requires
 take-requires c κs = let p = c .before .before .before .before .before .before .before .before .before .pre in (p .0, p .1)
 
@@ -30,15 +21,6 @@ take-requires-2 c κs =
     let t = p6 .take in
     let p = p6 .before .before .before .before .before .before .before .before .before .before .pre in
     (t .kept .0 ∙ p .0, t .ensures .1 .right (p .1))
-
-pair-off-requires : tie.Need-pair-off-requires
-pair-off-requires c κs = search needs
-
-same-length : tie.Need-same-length
-same-length c = search needs
-
-same-length-2 : tie.Need-same-length-2
-same-length-2 c = search needs
 
 returns : tie.Need-returns
 returns c =
@@ -61,12 +43,12 @@ leg-in-spec =
     tie.close
     (tie.spec
     complex-at-requires
-    net-of-requires
-    contracts-requires
-    contracts-requires-2
+    (λ c κs. search needs)
+    (λ c κs. search needs)
+    (λ c κs. search needs)
     take-requires
     take-requires-2
-    pair-off-requires
-    same-length
-    same-length-2
+    (λ c κs. search needs)
+    (λ c. search needs)
+    (λ c. search needs)
     returns)

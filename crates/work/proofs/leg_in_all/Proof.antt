@@ -23,9 +23,6 @@ abbrev μ-loop : tie.MeasureT-loop
 loop-holds : tie.Need-loop-holds Inv-loop μ-loop
 loop-holds c = doing-start _ _ _ _ _ (c .before .before .pre .0) refl
 
-sub-turns : tie.Need-sub-turns Inv-loop μ-loop
-sub-turns c = search needs
-
 complex-at-requires : tie.Need-complex-at-requires Inv-loop μ-loop
 complex-at-requires c κs = let z = complexes-few (c .before .before .loop .b) in (c .before .before .loop .inv .whole, omega (arith, c .before .before .loop .inv .counts .complexes, c .before .before .before .before .before .pre .2))
 
@@ -60,9 +57,6 @@ returns c =
       l .inv .counts,
     )
 
-units-in-requires : tie.Need-units-in-requires Inv-loop μ-loop
-units-in-requires c κs = search needs
-
 same-length-3 : tie.Need-same-length-3 Inv-loop μ-loop
 same-length-3 c =
     let p12 = c .before .before .before .before .before .before .before .before .before .before .before .before in
@@ -91,9 +85,6 @@ leg-in-requires c κs =
     let l = c .before .before .before .before .before .before .before .before .before .before .before .before .before .before .loop in
     let p = c .before .before .before .before .before .before .before .before .before .before .before .before .before .before .before .before .before .pre in
     (l .inv .whole, l .inv .counts .right (p .1), omega (arith, l .inv .counts .complexes, p .2))
-
-loop-less : tie.Need-loop-less Inv-loop μ-loop
-loop-less c = search needs
 
 loop-again : tie.Need-loop-again Inv-loop μ-loop
 loop-again c =
@@ -129,19 +120,19 @@ leg-in-all-spec =
     Inv-loop
     μ-loop
     loop-holds
-    sub-turns
+    (λ c. search needs)
     complex-at-requires
     taken-at-requires
     can-leg-in-requires
     same-length
     same-length-2
     returns
-    units-in-requires
+    (λ c κs. search needs)
     same-length-3
     same-length-4
     returns-2
     leg-in-requires
-    loop-less
+    (λ c. search needs)
     loop-again
     same-length-5
     same-length-6

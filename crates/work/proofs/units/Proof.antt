@@ -12,11 +12,5 @@ returns c = let n = c .before .args .n in sym (ap (λ (r : ℕ). n / r) (c .if1 
 returns-2 : tie.Need-returns-2
 returns-2 c = let n = c .before .before .args .n in sym (ap (λ (r : ℕ). n / r) (c .if2 .taken) ∙ div-zero n)
 
-div-result : tie.Need-div-result
-div-result c = search needs
-
-returns-3 : tie.Need-returns-3
-returns-3 c = search needs
-
 pub units-spec : {M : Type 1} → statement M
-units-spec = tie.close (tie.spec returns returns-2 div-result returns-3)
+units-spec = tie.close (tie.spec returns returns-2 (λ c. search needs) (λ c. search needs))

@@ -4,18 +4,6 @@ use borrow.Author.Needs.{needs}
 use Rattle.work.proofs.units_in.Statement.{statement}
 use Rattle.work.proofs.units_in.Tie as tie
 
-units-requires : tie.Need-units-requires
-units-requires c κs = search needs
-
-at-most-requires : tie.Need-at-most-requires
-at-most-requires c κs = search needs
-
-units-requires-2 : tie.Need-units-requires-2
-units-requires-2 c κs = search needs
-
-at-most-requires-2 : tie.Need-at-most-requires-2
-at-most-requires-2 c κs = search needs
-
 returns : tie.Need-returns
 returns c v h =
     let p2 = c .before .before in
@@ -26,4 +14,4 @@ returns c v h =
 pub units-in-spec : {M : Type 1} → statement M
 units-in-spec =
     tie.close
-    (tie.spec units-requires at-most-requires units-requires-2 at-most-requires-2 returns)
+    (tie.spec (λ c κs. search needs) (λ c κs. search needs) (λ c κs. search needs) (λ c κs. search needs) returns)

@@ -16,9 +16,6 @@ complex-at-requires c κs = let z = complexes-few (c .before .before .before .ar
 any-closed-requires : tie.Need-any-closed-requires
 any-closed-requires c κs = (c .before .before .before .before .before .pre .0, subst LegsIn (sym (c .before .complex-at .ensures)) (legs-in (c .before .before .before .before .before .args .b .now) (c .before .before .before .before .before .args .i)))
 
-same-length : tie.Need-same-length
-same-length c = search needs
-
 returns : tie.Need-returns
 returns c = (work-closed (c .before .before .before .before .before .before .before .args .i) _ _ (c .before .before .before .complex-at .ensures ∙ sym (complex-at (c .before .before .before .before .before .before .before .args .b .now) (c .before .before .before .before .before .before .before .args .i) (c .before .before .before .before .before .before .before .pre .2))) _ _ (sym (c .before .any-closed .ensures) ∙ c .if1 .taken), record { regulars = refl; complexes = refl; right = λ h. h })
 
@@ -38,12 +35,6 @@ leg-in-all-requires c κs =
     let s = c .before .before .before .before .before .before .before .before .before .before .before .before .before .before .before .before .before .before .before .before .before .before .before in
     (t .kept .0 ∙ x .kept .0 ∙ s .pre .0, t .ensures .1 .right (x .ensures .1 .right (s .pre .1)), omega (arith, t .ensures .1 .complexes, x .ensures .1 .complexes, s .pre .2))
 
-same-length-2 : tie.Need-same-length-2
-same-length-2 c = search needs
-
-same-length-3 : tie.Need-same-length-3
-same-length-3 c = search needs
-
 returns-2 : tie.Need-returns-2
 returns-2 c =
     let w = c .before .before .before .before .leg-in-all in
@@ -61,11 +52,11 @@ work-spec =
     (tie.spec
     complex-at-requires
     any-closed-requires
-    same-length
+    (λ c. search needs)
     returns
     cross-all-requires
     touch-requires
     leg-in-all-requires
-    same-length-2
-    same-length-3
+    (λ c. search needs)
+    (λ c. search needs)
     returns-2)
