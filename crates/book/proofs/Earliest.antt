@@ -75,7 +75,8 @@ module _ {A : Type 0} (d : A) (candidate : A → Bool) (before : A → A → Boo
       ∙ ap (λ (k : ℕ). picked k (getD l i d)) e in
       rw p (go (candidate a) refl)
     where
-      go : (t : Bool) → candidate a ≡ t → (if t then (if before (getD l i d) a then picked (n + suc i) (getD l i d) else picked n a) else picked (n + suc i) (getD l i d)) ≡ picked (n + suc i) (getD l i d)
+      go : (t : Bool) → candidate a ≡ t → (if t then (if before (getD l i d) a then picked (n + suc i) (getD l i d) else picked n a) else picked
+          (n + suc i) (getD l i d)) ≡ picked (n + suc i) (getD l i d)
       go true e = rw (f .early 0 (omega arith) e)
       go false e = refl
 

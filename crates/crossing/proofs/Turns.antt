@@ -39,7 +39,8 @@ cross-law i j k v v₁ v₂ v₃ v₄ l₀ l₁ l₂ l₃ a₀ a₁ a₂ a₃ c 
     ∙ ap (λ (w : Venue). seen l₀ a₀ does (report (crossed (c .id) (m .id) n k) w ⟫ removeOf (c .id) Executed ⟫ removeOf (m .id) Executed)) (e₂ ∙ ap (fillComplex j k) e₁)
     ∙ ap (λ (z : ℤ). seen l₀ a₀ does (report (crossed (c .id) (m .id) z k) (fillComplex j k (fillComplex i k v)) ⟫ removeOf (c .id) Executed ⟫ removeOf (m .id) Executed)) en
     ∙ ap (λ (x : Complex). seen l₀ a₀ does (report (crossed (x .id) (m .id) (negℤ (m .limit)) k) (fillComplex j k (fillComplex i k v)) ⟫ removeOf (x .id) Executed ⟫ removeOf (m .id) Executed)) ec
-    ∙ ap (λ (x : Complex). seen l₀ a₀ does (report (crossed (complexAt v i .id) (x .id) (negℤ (x .limit)) k) (fillComplex j k (fillComplex i k v)) ⟫ removeOf (complexAt v i .id) Executed ⟫ removeOf (x .id) Executed)) em
+    ∙ ap (λ (x : Complex). seen l₀ a₀ does (report (crossed (complexAt v i .id) (x .id) (negℤ (x .limit)) k) (fillComplex j k (fillComplex i k v))
+    ⟫ removeOf (complexAt v i .id) Executed ⟫ removeOf (x .id) Executed)) em
 
 -- Turns ---------------------------------------------------------------------------------------
 

@@ -206,7 +206,8 @@ module _ (m : List ℕ) (v : ℕ) (x : Serves m v) where
         unfolding headCalled
         lent-counted =
             let q : headCalled lent room .returned .done ≢ 0 = λ n. d (ap (λ (y : Call). y .returned .done) call ∙ n) in
-            let h = does (venueFrom (take venueSize lent)) (u32At lent doneAt) room (headCalled lent room) (ending (venueFrom (take venueSize lent)) (u32At lent doneAt) room (placeFrom lent 0)) q .counted in
+            let h = does (venueFrom (take venueSize lent)) (u32At lent doneAt) room (headCalled lent room)
+            (ending (venueFrom (take venueSize lent)) (u32At lent doneAt) room (placeFrom lent 0)) q .counted in
             omega arith
 
         pub turn-serves : (ys : List ℕ) → ys ≡ advancedBytes lent (r .number) (r .venue) →

@@ -51,7 +51,9 @@ lends m v size s h =
     }
   where
     few : waitSound (laneFrom (lanePart m v) .wait) ≡ true → length (laneFrom (lanePart m v) .wait) ≤ 8
-    few w = unfold waitSound in (leb-true (length (laneFrom (lanePart m v) .wait)) 8 (and-l (leb (length (laneFrom (lanePart m v) .wait)) 8) (all (λ (x : List ℕ). leb (length x) 32) (laneFrom (lanePart m v) .wait)) w))
+    few w = unfold waitSound in
+        (leb-true (length (laneFrom (lanePart m v) .wait)) 8
+        (and-l (leb (length (laneFrom (lanePart m v) .wait)) 8) (all (λ (x : List ℕ). leb (length x) 32) (laneFrom (lanePart m v) .wait)) w))
 
 -- the lane of the venue that a turn serves
 pub lends-next : (m : List ℕ) → length m ≡ layerSize → ((v : ℕ) → v < 4 → waitSound (laneAt (layerFrom m) v .wait) ≡ true) → next (layerFrom m) ≢ 4 →

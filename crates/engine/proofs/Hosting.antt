@@ -106,7 +106,14 @@ declared v s =
     let k = sound-out v s in
     let g = k .ranged in
     record {
-      sized = record { regular = s .shaped .regular; complex = s .shaped .complex; legging = s .shaped .legging; series = s .shaped .series; editions = s .shaped .editions; generations = s .shaped .generations };
+      sized = record {
+        regular = s .shaped .regular;
+        complex = s .shaped .complex;
+        legging = s .shaped .legging;
+        series = s .shaped .series;
+        editions = s .shaped .editions;
+        generations = s .shaped .generations;
+      };
       regular = λ i. let f = g .regular i in record {
         id = f .id;
         series = omega arith;
@@ -160,7 +167,15 @@ held-twenty memory s =
 -- what is held has the arrays of its type
 pub held-shaped : (memory : List ℕ) → Shaped (venueFrom memory)
 unfolding venueFrom
-held-shaped memory = record { regular = upto-length _ 0 128; complex = upto-length _ 0 32; legging = upto-length _ 0 16; series = upto-length _ 0 8; editions = upto-length _ 0 32; generations = upto-length _ 0 8; twenty = held-twenty memory }
+held-shaped memory = record {
+  regular = upto-length _ 0 128;
+  complex = upto-length _ 0 32;
+  legging = upto-length _ 0 16;
+  series = upto-length _ 0 8;
+  editions = upto-length _ 0 32;
+  generations = upto-length _ 0 8;
+  twenty = held-twenty memory;
+}
 
 module _ (memory : List ℕ) (room : ℕ) where
   -- what a call leaves in the memory is the venue that it returned

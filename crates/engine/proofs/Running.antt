@@ -28,7 +28,8 @@ use Rattle.messages.specs.declared.Stepped.{Stepped}
 use Rattle.messages.specs.Steps.{Tries}
 use Rattle.engine.specs.declared.Turn.{Turn}
 use Rattle.engine.specs.Runs.{goesOn, Turns, callOf}
-use Rattle.engine.proofs.Proceeding.{goes-on, goes-not, turn-ends, too-long, venue-kept, front-kept, length-is, venue-is, turn-does, Sofar, sofar-start, sofar-as, sofar-turn, Ended, sofar-ends, ended-call}
+use Rattle.engine.proofs.Proceeding.{goes-on, goes-not, turn-ends, too-long, venue-kept, front-kept, length-is, venue-is, turn-does, Sofar}
+use Rattle.engine.proofs.Proceeding.{sofar-start, sofar-as, sofar-turn, Ended, sofar-ends, ended-call}
 
 -- A turn --------------------------------------------------------------------------------------
 

@@ -29,7 +29,8 @@ use Rattle.feed.proofs.Ahead.{Ahead, ahead-start, ahead-moved, ahead-ready, adv
 use Rattle.feed_run.specs.declared.Fed.{Fed}
 use Rattle.engine.specs.Runs.{goesOn, callOf}
 use Rattle.feed_run.specs.Feeds.{stopsAt, Feeds}
-use Rattle.engine.proofs.Proceeding.{goes-on, goes-not, turn-ends, too-long, venue-kept, front-kept, length-is, venue-is, turn-does, Sofar, sofar-start, sofar-as, sofar-turn, Ended, sofar-ends, ended-call}
+use Rattle.engine.proofs.Proceeding.{goes-on, goes-not, turn-ends, too-long, venue-kept, front-kept, length-is, venue-is, turn-does, Sofar}
+use Rattle.engine.proofs.Proceeding.{sofar-start, sofar-as, sofar-turn, Ended, sofar-ends, ended-call}
 
 -- A line that is faulty -----------------------------------------------------------------------
 

@@ -13,8 +13,13 @@ pub returns-as-run : ReturnsAsRun
 unfolding feed numbered
 returns-as-run main spare held₁ held₂ e r₁ r₂ left₁ left₂ p q =
     let z : callOf r₁ left₁ ≡ numbered (handed main spare .number) (callOf r₂ left₂) =
-    p ∙ ap (λ (n : ℕ). numbered (handed main spare .number) (run n (joined (handed main spare .messages)))) e ∙ ap (numbered (handed main spare .number)) (sym q) in
-    (ap (λ (c : Call). c .returned .number) z, ap (λ (c : Call). c .returned .done) z, ap (λ (c : Call). c .returned .written) z, ap (λ (c : Call). c .returned .venue) z, ap (λ (c : Call). c .report) z)
+    p ∙ ap (λ (n : ℕ). numbered (handed main spare .number) (run n (joined (handed main spare .messages)))) e ∙ ap (numbered (handed main spare .number)) (sym q) in (
+      ap (λ (c : Call). c .returned .number) z,
+      ap (λ (c : Call). c .returned .done) z,
+      ap (λ (c : Call). c .returned .written) z,
+      ap (λ (c : Call). c .returned .venue) z,
+      ap (λ (c : Call). c .report) z,
+    )
 
 pub returns-as-list : ReturnsAsList
 returns-as-list sent few w none held₁ held₂ e r₁ r₂ left₁ left₂ p q =

@@ -298,7 +298,8 @@ module _ (v : Venue) (c : Complex) (s d : ℕ) where
     planned-shown = rw planned-is (leb-true _ _ (and-r (leb (increment v s) (displayed (increment v s) d (legPrice v c s d))) _ (priced-range asked-priced)))
 
     module _ (k : ℕ) (ek : k ≡ placeOf s d) where
-      others-is : othersStand (placed k l v) k 0 (placed k l v .legging) ≡ othersStand (placed (placeOf s d) (newLegging v c s d) v) (placeOf s d) 0 (placed (placeOf s d) (newLegging v c s d) v .legging)
+      others-is : othersStand (placed k l v) k 0 (placed k l v .legging) ≡ othersStand (placed (placeOf s d) (newLegging v c s d) v) (placeOf s d) 0
+          (placed (placeOf s d) (newLegging v c s d) v .legging)
       others-is = rw (ek, planned-is) refl
 
       pub made-alone : (number : ℕ) → othersStand (placed k l v) k 0 (placed k l v .legging) ≡ false → nothing v ≡ generateLeg number c s d v

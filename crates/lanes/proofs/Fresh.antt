@@ -67,7 +67,15 @@ module _ (l : Layer) (four : length (l .lanes) ≡ 4) (whole : Whole (l .lanes))
 -- The fresh layer -----------------------------------------------------------------------------
 
 fresh-sized : Sized freshVenue
-fresh-sized = let s = fresh-sound .venue .shaped in record { regular = s .regular; complex = s .complex; legging = s .legging; series = s .series; editions = s .editions; generations = s .generations }
+fresh-sized = let s = fresh-sound .venue .shaped in
+    record {
+      regular = s .regular;
+      complex = s .complex;
+      legging = s .legging;
+      series = s .series;
+      editions = s .editions;
+      generations = s .generations;
+    }
 
 pub fresh-bytes : laneBytes freshLane ≡ venueBytes freshVenue ++ replicate (laneSize - venueSize) 0
 unfolding laneBytes freshLane rows bytes

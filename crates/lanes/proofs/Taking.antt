@@ -151,7 +151,15 @@ module _ (bs : List ℕ) (room : ℕ) (size : length bs ≡ laneSize) (fine : wa
           sound-for-out (r .returned .venue) (suc (u32At bs doneAt)) (k .stays (sound-for-in v (u32At bs doneAt) (held-shaped (take venueSize bs)) (k .was))) .0
 
       go : (b : Bool) → length (if b then venueBytes (r .returned .venue) else take venueSize bs) ≡ venueSize
-      go true = venue-length (r .returned .venue) (record { regular = after .regular; complex = after .complex; legging = after .legging; series = after .series; editions = after .editions; generations = after .generations })
+      go true = venue-length (r .returned .venue)
+          (record {
+            regular = after .regular;
+            complex = after .complex;
+            legging = after .legging;
+            series = after .series;
+            editions = after .editions;
+            generations = after .generations;
+          })
       go false = front-size
 
   pub lane-advanced : r .returned .done ≢ 0 → laneFrom (advancedBytes bs (r .returned .number) (r .returned .venue)) ≡ advanced (laneFrom bs) (headCall (laneFrom bs) room)

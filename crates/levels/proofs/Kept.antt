@@ -18,7 +18,8 @@ use Rattle.rules.proofs.Tests.{held-pos, pos-held}
 use Rattle.rules.proofs.Better.{is-false}
 use Rattle.rules.proofs.Sizes.{shows-rests, rests-series, rests-side}
 use Rattle.places.specs.declared.Level.{Level}
-use Rattle.places.specs.Layout.{size, upto, regularsUsed, complexesUsed, regularIn, regularKey, venueOf, levelOf, levelIn, isUnmarked, Marked, Right, Beside, SameBeside, LevelPut, Counts, SameCounts, Orderly, Below, Laid, Loaded, Loadable}
+use Rattle.places.specs.Layout.{size, upto, regularsUsed, complexesUsed, regularIn, regularKey, venueOf, levelOf, levelIn, isUnmarked, Marked, Right}
+use Rattle.places.specs.Layout.{Beside, SameBeside, LevelPut, Counts, SameCounts, Orderly, Below, Laid, Loaded, Loadable}
 use Rattle.places.proofs.Parts.{regulars-few, regulars-many, regular-at, regular-past}
 use Rattle.place_writes.proofs.Closed.{regulars-filled, complexes-filled}
 use Rattle.rules.proofs.Filling.{reg, fill-fewer, filled-other, filled-same}
@@ -154,7 +155,14 @@ module _ (a b c : List ℕ) (n i : ℕ) (x : Making a b n i) (h : 0 < i) (o : Re
 
   size-of : (m : ℕ) → m < 16 → Dec (m ≡ k) → levelIn c m .size ≤ (n - (i - 1)) * 4294967295
   size-of m f (yes e) =
-      omega (arith, ap (λ (z : Level). z .size) (ap (levelIn c) e ∙ p .here ∙ er ∙ with-own o l), put-size (o .series) (o .side) o l, ap (λ (z : Level). z .size) (el ∙ ap (levelIn b) (sym e)), x .bound m f, x .below)
+      omega (
+        arith,
+        ap (λ (z : Level). z .size) (ap (levelIn c) e ∙ p .here ∙ er ∙ with-own o l),
+        put-size (o .series) (o .side) o l,
+        ap (λ (z : Level). z .size) (el ∙ ap (levelIn b) (sym e)),
+        x .bound m f,
+        x .below,
+      )
   size-of m f (no e) = omega (arith, ap (λ (z : Level). z .size) (p .others m f e), x .bound m f, x .below)
 
   pub making-turn : Making a c n (i - 1)
@@ -243,7 +251,8 @@ put-other : (s d : ℕ) (o : Regular) (l : Level) → (o .series ≡ s → o .si
 unfolding putIn
 put-other s d o l n = rw (is-false (showsAt s d o) (λ h. n (rests-series s d o (shows-rests s d o h)) (rests-side s d o (shows-rests s d o h))))
 
-module _ (a b c : List ℕ) (n : ℕ) (o : Regular) (l r : Level) (u : regularsUsed a < 128) (hs : o .series < 8) (hd : o .side < 2) (hp : held (o .price) ≡ true) (low : Below (o .id) (venueOf a .regular)) (hv : held (o .display) ≡ true)
+module _ (a b c : List ℕ) (n : ℕ) (o : Regular) (l r : Level) (u : regularsUsed a < 128) (hs : o .series < 8) (hd : o .side < 2)
+    (hp : held (o .price) ≡ true) (low : Below (o .id) (venueOf a .regular)) (hv : held (o .display) ≡ true)
     (en : n ≡ placeOf (o .series) (o .side)) (el : l ≡ levelIn a n) (er : r ≡ withOrder o l)
     (ev : venueOf b ≡ putRegular (regularsUsed a) o (venueOf a)) (x : Beside (suc (regularsUsed a)) (complexesUsed a) a b) (p : LevelPut n r b c) where
   book : venueOf c .regular ≡ set (venueOf a .regular) (regularsUsed a) o

@@ -81,8 +81,12 @@ module _ (i : ℕ) (v : Venue) (o : Regular) (eo : o ≡ regularAt v i) where
     turn-is : (x : Choice Regular) → first (isMet (o .series) (o .side) (o .price)) priceThenId (v .regular) ≡ x → by-pick i v o l x ≡ meetTurn i v
     turn-is x e =
         sym (turn-by i v
-        ∙ ap (λ (o : Regular). by-test i v (not (held (o .quantity))) (by-pick i v o (leggingAt v (o .series) (opposite (o .side))) (first (isMet (o .series) (o .side) (o .price)) priceThenId (v .regular)))) (sym eo)
-        ∙ ap (λ (t : Bool). by-test i v (not (not t)) (by-pick i v o (leggingAt v (o .series) (opposite (o .side))) (first (isMet (o .series) (o .side) (o .price)) priceThenId (v .regular)))) (ne-eqb _ _ n)
+        ∙ ap (λ (o : Regular). by-test i v (not (held (o .quantity)))
+        (by-pick i v o (leggingAt v (o .series) (opposite (o .side))) (first (isMet (o .series) (o .side) (o .price)) priceThenId (v .regular))))
+        (sym eo)
+        ∙ ap (λ (t : Bool). by-test i v (not (not t))
+        (by-pick i v o (leggingAt v (o .series) (opposite (o .side))) (first (isMet (o .series) (o .side) (o .price)) priceThenId (v .regular))))
+        (ne-eqb _ _ n)
         ∙ ap (λ (l : Legging). by-pick i v o l (first (isMet (o .series) (o .side) (o .price)) priceThenId (v .regular))) (sym el)
         ∙ ap (by-pick i v o l) e)
 

@@ -103,7 +103,9 @@ module _ (v : Venue) (o : Regular) (e : refusalOf v (Order o) ≡ 0) where
   unfolding regularsSound
   regulars-below h =
       let a = arranged-out noRegular holdsRegular _ blankRegular (λ o. o .id) blank-free (unfold blankRegular in refl) 0 (v .regular) h in
-      λ i q. let z = leb-true (getD (v .regular) i noRegular .id) (v .last) (and-r (regularInRange (getD (v .regular) i noRegular) && onIncrement v (getD (v .regular) i noRegular) && showsFully (getD (v .regular) i noRegular)) _ (a .asks i q)) in let w = order-last in omega arith
+      λ i q. let z = leb-true (getD (v .regular) i noRegular .id) (v .last)
+      (and-r (regularInRange (getD (v .regular) i noRegular) && onIncrement v (getD (v .regular) i noRegular) && showsFully
+      (getD (v .regular) i noRegular)) _ (a .asks i q)) in let w = order-last in omega arith
 
   pub order-below : sound v ≡ true → Below (o .id) (v .regular)
   unfolding sound

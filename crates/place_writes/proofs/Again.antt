@@ -14,7 +14,9 @@ use Rattle.rules.specs.Standing.{showsAgain, showAgain}
 use Rattle.rules.proofs.Again.{again-at, again-fewer}
 use Rattle.rules.proofs.Showing.{Showing, again-showing}
 use Rattle.places.specs.Layout.{size, regularsUsed, regularIn, venueOf, Fully, SameBeside}
-use Rattle.places.proofs.Parts.{Outside, stored, wider, joined, unmoved, regulars-few, regulars-many, regular-at, regular-past, regular-kept, count-kept, count-kept2, complexes-kept, leggings-kept, series-kept, editions-kept, generations-kept, last-kept, reached-kept, venue-is}
+use Rattle.places.proofs.Parts.{Outside, stored, wider, joined, unmoved, regulars-few, regulars-many, regular-at, regular-past, regular-kept}
+use Rattle.places.proofs.Parts.{count-kept, count-kept2, complexes-kept, leggings-kept, series-kept, editions-kept, generations-kept, last-kept}
+use Rattle.places.proofs.Parts.{reached-kept, venue-is}
 use Rattle.places.proofs.Beside.{levels-kept, regulars-marked, complexes-marked, legging-marked, figures-marked, beside-venue}
 
 -- the orders at the first i places show again
@@ -49,7 +51,8 @@ again-next a b i o x m h is e = record {
   long = length-set b (2 * i + 975) x ∙ m .long;
   outside = joined (m .outside) (wider (omega arith) (omega arith) one);
   done = λ k w f. elim (ℕ-discrete k i) [
-    | yes q ↦ ap (regularIn c) q ∙ here b i x (m .long) h (e ∙ ap (λ (y : Regular). y .quantity - y .display) is) ∙ ap showsAgain (m .rest i (omega arith) h) ∙ sym (ap (λ (j : ℕ). showsAgain (regularIn a j)) q)
+    | yes q ↦ ap (regularIn c) q ∙ here b i x (m .long) h (e ∙ ap (λ (y : Regular). y .quantity - y .display) is) ∙ ap showsAgain
+        (m .rest i (omega arith) h) ∙ sym (ap (λ (j : ℕ). showsAgain (regularIn a j)) q)
     | no q ↦ sym (regular-kept one k (inl (omega arith)) (near k q)) ∙ m .done k (omega arith) f
   ];
   rest = λ k w f. sym (regular-kept one k (inl (omega arith)) (inr (omega arith))) ∙ m .rest k (omega arith) f;

@@ -17,9 +17,14 @@ use Rattle.rules.specs.Prices.{bestRegular, bestSize}
 use Rattle.rules.specs.Base.{keep}
 use Rattle.rules.specs.Places.{holdsRegular, holdsComplex, closeGaps}
 use Rattle.rules.proofs.Closing.{best-closed, size-closed}
-use Rattle.places.specs.Layout.{size, inUse, regularsUsed, complexesUsed, regularIn, complexIn, venueOf, regularPut, complexRow, limitNumber, Kept, levelOf, levelIn, Fully, Figured, Orderly, Right, SameCounts, Filled, Dense, closeRegulars, closeComplexes, regularsHeld, complexesHeld, RegularsClosed, ComplexesClosed, GapsClosed}
-use Rattle.places.proofs.Parts.{Outside, OutsideRows, Halves, halves, stored, wider, regulars-few, complexes-few, regular-at, complex-at, rows-agree, holds-kept, complex-kept, count-kept, count-kept2, regulars-kept, complexes-kept, leggings-kept, series-kept, editions-kept, generations-kept, last-kept, reached-kept, venue-is, regulars-counted, complexes-counted}
-use Rattle.places.proofs.Beside.{RegularsMarked, ComplexesMarked, LeggingMarked, ShowsMarked, unmarked-as, levels-kept, regulars-marked, complexes-marked, legging-marked, figures-marked, shows-marked, beside-venue, right-on, right-kept}
+use Rattle.places.specs.Layout.{size, inUse, regularsUsed, complexesUsed, regularIn, complexIn, venueOf, regularPut, complexRow, limitNumber, Kept}
+use Rattle.places.specs.Layout.{levelOf, levelIn, Fully, Figured, Orderly, Right, SameCounts, Filled, Dense, closeRegulars, closeComplexes}
+use Rattle.places.specs.Layout.{regularsHeld, complexesHeld, RegularsClosed, ComplexesClosed, GapsClosed}
+use Rattle.places.proofs.Parts.{Outside, OutsideRows, Halves, halves, stored, wider, regulars-few, complexes-few, regular-at, complex-at, rows-agree}
+use Rattle.places.proofs.Parts.{holds-kept, complex-kept, count-kept, count-kept2, regulars-kept, complexes-kept, leggings-kept, series-kept}
+use Rattle.places.proofs.Parts.{editions-kept, generations-kept, last-kept, reached-kept, venue-is, regulars-counted, complexes-counted}
+use Rattle.places.proofs.Beside.{RegularsMarked, ComplexesMarked, LeggingMarked, ShowsMarked, unmarked-as, levels-kept, regulars-marked}
+use Rattle.places.proofs.Beside.{complexes-marked, legging-marked, figures-marked, shows-marked, beside-venue, right-on, right-kept}
 use Rattle.places.proofs.Orderly.{orderly-packed}
 use Rattle.places.proofs.Fully.{fully-packed}
 use Rattle.place_writes.proofs.Stores.{row-outside, reserve-outside, put-length, regular-back, complex-back, counted, counted2}

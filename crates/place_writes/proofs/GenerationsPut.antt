@@ -12,7 +12,8 @@ use Rattle.rules.specs.Words.{noGenerations, withGenerations, withReached}
 use Rattle.rules.specs.Generation.{generationsOf, oneMore, counted}
 use Rattle.places.specs.Layout.{size, upto, generationsIn, venueOf, SameCounts}
 use Rattle.places.proofs.Tables.{upto-length, upto-at, upto-along, upto-from, upto-set}
-use Rattle.places.proofs.Parts.{Outside, stored, count-kept, count-kept2, regulars-kept, complexes-kept, leggings-kept, series-kept, editions-kept, generation-kept, generations-kept, last-kept, reached-kept, venue-is}
+use Rattle.places.proofs.Parts.{Outside, stored, count-kept, count-kept2, regulars-kept, complexes-kept, leggings-kept, series-kept, editions-kept}
+use Rattle.places.proofs.Parts.{generation-kept, generations-kept, last-kept, reached-kept, venue-is}
 use Rattle.places.proofs.Beside.{shows-as, levels-kept, regulars-marked, complexes-marked, legging-marked, figures-marked, right-kept}
 use Rattle.places.proofs.Generations.{generations-at}
 

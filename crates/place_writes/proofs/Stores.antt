@@ -25,12 +25,18 @@ use Rattle.rules.specs.Sound.{showsFully}
 use Rattle.rules.specs.Step.{mask}
 use Rattle.rules.proofs.Showing.{less-fully, filled-fully}
 use Rattle.places.specs.declared.Level.{Level}
-use Rattle.places.specs.Layout.{size, inUse, regularsUsed, complexesUsed, regularIn, complexIn, leggingIn, listedIn, editionIn, venueOf, regularRow, reserveRow, regularPut, Bounded, editionRow, legsKey, ratiosNumber, limitNumber, complexRow, Kept, bitOf, levelIn, Fully, Marked, Beside, SameBeside, LevelPut, Counts, SameCounts}
+use Rattle.places.specs.Layout.{size, inUse, regularsUsed, complexesUsed, regularIn, complexIn, leggingIn, listedIn, editionIn, venueOf, regularRow}
+use Rattle.places.specs.Layout.{reserveRow, regularPut, Bounded, editionRow, legsKey, ratiosNumber, limitNumber, complexRow, Kept, bitOf, levelIn}
+use Rattle.places.specs.Layout.{Fully, Marked, Beside, SameBeside, LevelPut, Counts, SameCounts}
 use Rattle.places.proofs.Tables.{used-more}
-use Rattle.places.proofs.Parts.{Outside, stored, wider, joined, unmoved, regulars-few, regulars-many, complexes-few, regular-kept, other-kept, complex-kept, regulars-kept, regular-at, complex-at, regular-set, complex-set, legging-set, listed-set, last-set, regular-unused, complex-unused, regulars-counted, complexes-counted, count-kept, count-kept2}
+use Rattle.places.proofs.Parts.{Outside, stored, wider, joined, unmoved, regulars-few, regulars-many, complexes-few, regular-kept, other-kept}
+use Rattle.places.proofs.Parts.{complex-kept, regulars-kept, regular-at, complex-at, regular-set, complex-set, legging-set, listed-set, last-set}
+use Rattle.places.proofs.Parts.{regular-unused, complex-unused, regulars-counted, complexes-counted, count-kept, count-kept2}
 use Rattle.places.proofs.Masks.{mask-put}
 use Rattle.places.proofs.Fully.{fully-set, fully-bounded}
-use Rattle.places.proofs.Beside.{ShowsMarked, unmarked-as, shows-not, level-kept, levels-kept, regulars-marked, complexes-marked, legging-marked, figures-marked, shows-marked, regulars-lowered, complexes-lowered, regular-holds, complex-holds, beside-venue, right-kept}
+use Rattle.places.proofs.Beside.{ShowsMarked, unmarked-as, shows-not, level-kept, levels-kept, regulars-marked, complexes-marked, legging-marked}
+use Rattle.places.proofs.Beside.{figures-marked, shows-marked, regulars-lowered, complexes-lowered, regular-holds, complex-holds, beside-venue}
+use Rattle.places.proofs.Beside.{right-kept}
 
 -- A fill --------------------------------------------------------------------------------------
 
@@ -290,9 +296,12 @@ module _ (a : List ℕ) (i : ℕ) (o : Regular) where
       let m : length (sets a (4 * i) xs) ≡ size = sets-length a (4 * i) xs ∙ n in
       let p = sets-outside (sets a (4 * i) xs) (2 * i + 975) ys in
       let e0 : getD (sets (sets a (4 * i) xs) (2 * i + 975) ys) (4 * i) 0 ≡ o .id = p .same (4 * i) (inl (omega arith)) ∙ row-at a (4 * i) (4 * i) xs 0 (omega arith) (omega arith) (omega arith) in
-      let e1 : getD (sets (sets a (4 * i) xs) (2 * i + 975) ys) (4 * i + 1) 0 ≡ 2 * o .series + o .side = p .same (4 * i + 1) (inl (omega arith)) ∙ row-at a (4 * i) (4 * i + 1) xs 1 refl (omega arith) (omega arith) in
-      let e2 : getD (sets (sets a (4 * i) xs) (2 * i + 975) ys) (4 * i + 2) 0 ≡ o .price = p .same (4 * i + 2) (inl (omega arith)) ∙ row-at a (4 * i) (4 * i + 2) xs 2 refl (omega arith) (omega arith) in
-      let e3 : getD (sets (sets a (4 * i) xs) (2 * i + 975) ys) (4 * i + 3) 0 ≡ o .quantity = p .same (4 * i + 3) (inl (omega arith)) ∙ row-at a (4 * i) (4 * i + 3) xs 3 refl (omega arith) (omega arith) in
+      let e1 : getD (sets (sets a (4 * i) xs) (2 * i + 975) ys) (4 * i + 1) 0 ≡ 2 * o .series + o .side = p .same (4 * i + 1) (inl (omega arith))
+      ∙ row-at a (4 * i) (4 * i + 1) xs 1 refl (omega arith) (omega arith) in
+      let e2 : getD (sets (sets a (4 * i) xs) (2 * i + 975) ys) (4 * i + 2) 0 ≡ o .price = p .same (4 * i + 2) (inl (omega arith)) ∙ row-at a (4 * i)
+      (4 * i + 2) xs 2 refl (omega arith) (omega arith) in
+      let e3 : getD (sets (sets a (4 * i) xs) (2 * i + 975) ys) (4 * i + 3) 0 ≡ o .quantity = p .same (4 * i + 3) (inl (omega arith)) ∙ row-at a
+      (4 * i) (4 * i + 3) xs 3 refl (omega arith) (omega arith) in
       let e4 : getD (sets (sets a (4 * i) xs) (2 * i + 975) ys) (2 * i + 975) 0 ≡ o .reserve = row-at (sets a (4 * i) xs) (2 * i + 975) (2 * i + 975) ys 0 (omega arith) (omega arith) (omega arith) in
       let e5 : getD (sets (sets a (4 * i) xs) (2 * i + 975) ys) (2 * i + 976) 0 ≡ o .display = row-at (sets a (4 * i) xs) (2 * i + 975) (2 * i + 976) ys 1 (omega arith) (omega arith) (omega arith) in
       let f : (2 * o .series + o .side) % 16 / 2 ≡ o .series = omega arith in
@@ -375,7 +384,8 @@ added-regular a b c n o m h s d w z p q r = rw (r, q, p) (
       regulars = regulars-lowered a (lowered (more a o m h) 827 i) i (omega arith)
           (getD-set-same (more a o m h) 827 (min (getD (more a o m h) 827 0) i) 0 (omega (arith, length-set (regularPut a i o) 776 (i + 1), put-long a o m h))
           ∙ ap (λ (y : ℕ). min y i) (count .same 827 (inr (omega arith)) ∙ reserve .same 827 (inl (omega arith)) ∙ row .same 827 (inr (omega arith))))
-          (λ k w. other-kept row reserve h k (omega arith) (λ e. omega arith) ∙ regular-kept count k (inl (omega arith)) (inr (omega arith)) ∙ regular-kept mark k (inl (omega arith)) (inr (omega arith))) (x .regulars);
+          (λ k w. other-kept row reserve h k (omega arith) (λ e. omega arith) ∙ regular-kept count k (inl (omega arith)) (inr (omega arith))
+          ∙ regular-kept mark k (inl (omega arith)) (inr (omega arith))) (x .regulars);
       complexes = complexes-marked mark (inr (omega arith)) (inl (omega arith)) (inr (omega arith))
           (complexes-marked count (inr (omega arith)) (inr (omega arith)) (inr (omega arith))
           (complexes-marked reserve (inr (omega arith)) (inl (omega arith)) (inl (omega arith))
@@ -499,7 +509,8 @@ added-complex a b c n o m h s1 d1 s2 d2 k p q r = rw (r, q, p) (
     complexes = count-kept2 mark (inl (omega arith)) ∙ count-is2 a wrote m long h;
     right = right-kept a (lowered more 828 i)
         (λ x w. levels-kept mark (inl (omega arith)) x w ∙ levels-kept count (inr (omega arith)) x w ∙ levels-kept row (inr (omega arith)) x w)
-        (regulars-kept mark (omega arith) (inr (omega arith)) (inl (omega arith)) ∙ regulars-kept count (omega arith) (inr (omega arith)) (inl (omega arith)) ∙ regulars-kept row (omega arith) (inr (omega arith)) (inr (omega arith)))
+        (regulars-kept mark (omega arith) (inr (omega arith)) (inl (omega arith)) ∙ regulars-kept count (omega arith) (inr (omega arith))
+        (inl (omega arith)) ∙ regulars-kept row (omega arith) (inr (omega arith)) (inr (omega arith)))
         (λ x. record {
           regulars = regulars-marked mark (omega arith) (inl (omega arith)) (inl (omega arith))
               (regulars-marked count (omega arith) (inl (omega arith)) (inr (omega arith))
@@ -554,7 +565,8 @@ legging-put : (a : List ℕ) (n : ℕ) (l : Legging) → length a ≡ size → n
     venueOf (sets a (3 * n + 704) (l .parent ∷ l .price ∷ l .quantity ∷ [])) ≡ placed n l (venueOf a)
 unfolding placed
 legging-put a n l m h =
-    legging-set {a = a} {b = sets a (3 * n + 704) (l .parent ∷ l .price ∷ l .quantity ∷ [])} (wider (omega arith) (omega arith) (sets-outside a (3 * n + 704) (l .parent ∷ l .price ∷ l .quantity ∷ []))) h
+    legging-set {a = a} {b = sets a (3 * n + 704) (l .parent ∷ l .price ∷ l .quantity ∷ [])}
+    (wider (omega arith) (omega arith) (sets-outside a (3 * n + 704) (l .parent ∷ l .price ∷ l .quantity ∷ []))) h
     ∙ ap (λ (x : Legging). withLegging (venueOf a) (set (venueOf a .legging) n x)) (legging-back a n l m h)
 
 -- u is what the old order adds to the mask, and w what the new one does

@@ -14,7 +14,8 @@ use Rattle.rules.specs.Step.{mask}
 use Rattle.rules.specs.Settings.{figureNow}
 use Rattle.rules.proofs.Showing.{Showing}
 use Rattle.places.specs.Layout.{regularsUsed, complexesUsed, regularIn, complexIn, venueOf, Filled, levelOf, levelIn, isUnmarked, Fully, Marked, figureIn, Figured, Orderly, Right, SameCounts}
-use Rattle.places.proofs.Parts.{Outside, regulars-few, complexes-few, complex-kept, holds-kept, count-kept, count-kept2, regulars-kept, complexes-kept, leggings-kept, series-kept, editions-kept, generations-kept, last-kept, reached-kept, venue-is}
+use Rattle.places.proofs.Parts.{Outside, regulars-few, complexes-few, complex-kept, holds-kept, count-kept, count-kept2, regulars-kept}
+use Rattle.places.proofs.Parts.{complexes-kept, leggings-kept, series-kept, editions-kept, generations-kept, last-kept, reached-kept, venue-is}
 
 -- the places known to be held are
 abbrev pub RegularsMarked : List ℕ → Type 0

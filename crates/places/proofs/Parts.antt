@@ -169,7 +169,8 @@ module _ {low high : ℕ} {a b : List ℕ} (o : Outside low high a b) where
   pub regulars-kept : 512 ≤ low → (1231 ≤ low) ⊎ (high ≤ 975) → (776 < low) ⊎ (high ≤ 776) → venueOf b .regular ≡ venueOf a .regular
   unfolding venueOf
   regulars-kept h w k =
-      rw (count-kept k) (used-same (regularIn b) (regularIn a) noRegular (regularsUsed a) 128 (λ j q. let z = regulars-few a in sym (regular-kept o j (inl (omega arith)) (past-rows j (omega arith) w))))
+      rw (count-kept k) (used-same (regularIn b) (regularIn a) noRegular (regularsUsed a) 128
+      (λ j q. let z = regulars-few a in sym (regular-kept o j (inl (omega arith)) (past-rows j (omega arith) w))))
 
   pub complexes-kept : (high ≤ 512) ⊎ (704 ≤ low) → (777 < low) ⊎ (high ≤ 777) → venueOf b .complex ≡ venueOf a .complex
   unfolding venueOf
@@ -223,7 +224,8 @@ module _ {low high : ℕ} {a b : List ℕ} (o : Outside low high a b) where
 -- One place anew ------------------------------------------------------------------------------
 
 -- venues with the same parts are the same
-pub venue-is : (v w : Venue) → v .regular ≡ w .regular → v .complex ≡ w .complex → v .legging ≡ w .legging → v .series ≡ w .series → v .editions ≡ w .editions → v .generations ≡ w .generations → v .last ≡ w .last →
+pub venue-is : (v w : Venue) → v .regular ≡ w .regular → v .complex ≡ w .complex → v .legging ≡ w .legging → v .series ≡ w .series →
+    v .editions ≡ w .editions → v .generations ≡ w .generations → v .last ≡ w .last →
     v .reached ≡ w .reached → v ≡ w
 venue-is v w p q r s e g t k = rw (p, q, r, s, e, g, t, k)
 
@@ -258,7 +260,9 @@ module _ {i : ℕ} {a m b : List ℕ} (o : Outside (4 * i) (4 * i + 4) a m) (p :
   regular-set h = let z = regulars-few a in rest-kept (omega arith) (set (venueOf a .regular) i (regularIn b i)) (part (as-many (omega arith)))
     where
       part : regularsUsed b ≡ regularsUsed a → venueOf b .regular ≡ set (venueOf a .regular) i (regularIn b i)
-      part e = let z = regulars-few a in unfold venueOf in rw e (used-set (regularIn a) (regularIn b) noRegular i (regularsUsed a) 128 h (regulars-few a) (λ j q n. other-kept (omega arith) j (omega arith) n))
+      part e = let z = regulars-few a in unfold venueOf in
+          rw e (used-set (regularIn a) (regularIn b) noRegular i (regularsUsed a) 128 h (regulars-few a)
+          (λ j q n. other-kept (omega arith) j (omega arith) n))
 
   -- of a place that is not in use it changes nothing
   pub regular-unused : i < 128 → regularsUsed a ≤ i → venueOf b ≡ venueOf a

@@ -135,7 +135,8 @@ module _ (v : Venue) (c : Complex) (a f : ℕ) (ea : a ≡ marketBest v (c .seri
     unfolding inBand
     band-none2 t h = rw (← one, ← two) (simp (ne-eqb _ _ n, eq-eqb _ _ h))
 
-    pub band-near : (b ≡ 0 → ⊥) → (r : Bool) (x : ℕ) (o y u t : ℤ) → x ≡ figureNow v 8 → o ≡ y → y ≡ weighed (c .ratio1) (c .side1) a +ℤ weighed (c .ratio2) (c .side2) b → u ≡ t → r ≡ nearNet x o u → r ≡ inBand v c t
+    pub band-near : (b ≡ 0 → ⊥) → (r : Bool) (x : ℕ) (o y u t : ℤ) → x ≡ figureNow v 8 → o ≡ y → y ≡ weighed (c .ratio1) (c .side1) a +ℤ weighed
+        (c .ratio2) (c .side2) b → u ≡ t → r ≡ nearNet x o u → r ≡ inBand v c t
     unfolding inBand net percent
     band-near m r x o y u t ex eo ey eu h =
         rw (← one, ← two) (simp (ne-eqb _ _ n, ne-eqb _ _ m)

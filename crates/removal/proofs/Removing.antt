@@ -47,7 +47,9 @@ leggings-length b = upto-length (leggingIn b) 0 16
 module _ (n : ℕ) (v : Venue) (l : Legging) (e : getD (v .legging) n noLegging ≡ l) where
   pub clear-free : (c : Cause) → l .quantity ≡ 0 → nothing v ≡ clearAt n (Fails c) v
   unfolding clearAt nothing placed withLegging stay goes
-  clear-free c h = simp (e, eq-eqb _ _ h) (ap (λ (ls : List Legging). record { venue = withLegging v ls; reports = [] }) (sym (ap (λ (x : Legging). set (v .legging) n x) (sym e) ∙ set-getD (v .legging) n noLegging)))
+  clear-free c h = simp (e, eq-eqb _ _ h)
+      (ap (λ (ls : List Legging). record { venue = withLegging v ls; reports = [] })
+      (sym (ap (λ (x : Legging). set (v .legging) n x) (sym e) ∙ set-getD (v .legging) n noLegging)))
 
   pub clear-held : (c : Cause) → (l .quantity ≡ 0 → ⊥) → report (removed (l .parent) (n / 2) (n % 2) c) (placed n noLegging v) ≡ clearAt n (Fails c) v
   unfolding clearAt report stay goes

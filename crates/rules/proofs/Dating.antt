@@ -71,8 +71,11 @@ module _ {A : Type 0} (holds asked blank : A → Bool) (id : A → ℕ) (free : 
           holds x ≡ true → asked x ≡ true → arranged holds asked blank id (id y) (set l (placeWhere (λ z. not (holds z)) l) x) ≡ true) →
           arranged holds asked blank id low (set (y ∷ l) (if not t then 0 else suc (placeWhere (λ z. not (holds z)) l)) x) ≡ true
       go true e h p ih =
-          rw e (and-in (ltb low (id y) && asked y) (arranged holds asked blank id (id y) (set l (placeWhere (λ z. not (holds z)) l) x)) (and-l _ (arranged holds asked blank id (id y) l) h) (ih (and-r (ltb low (id y) && asked y) _ h) rest (omega arith) lower k a))
-      go false e h p ih = rw k (and-in (ltb low (id x) && asked x) (arranged holds asked blank id (id x) l) (and-in (ltb low (id x)) (asked x) (lt-ltb low (id x) lt) a) (blanks-arranged (id x) l (and-r (blank y) _ h)))
+          rw e (and-in (ltb low (id y) && asked y) (arranged holds asked blank id (id y) (set l (placeWhere (λ z. not (holds z)) l) x))
+          (and-l _ (arranged holds asked blank id (id y) l) h) (ih (and-r (ltb low (id y) && asked y) _ h) rest (omega arith) lower k a))
+      go false e h p ih = rw k
+          (and-in (ltb low (id x) && asked x) (arranged holds asked blank id (id x) l) (and-in (ltb low (id x)) (asked x) (lt-ltb low (id x) lt) a)
+          (blanks-arranged (id x) l (and-r (blank y) _ h)))
 
 -- The editions after a message ----------------------------------------------------------------
 

@@ -22,7 +22,8 @@ use Rattle.rules.specs.Order.{meet}
 use Rattle.rules.specs.Complex.{cancelComplex, cancelRegular, cross}
 use Rattle.rules.specs.Sums.{cancelledOf, contracts, crossedFor, openComplex, openRegular, paired, total}
 use Rattle.rules.proofs.Adding.{count-maker, count-neither, count-taker, open-fill, open-fillC}
-use Rattle.rules.proofs.Filling.{cx, fewer-refl, fewer-trans, fewerC-refl, fewerC-trans, fill-complex, fill-fewer, fill-fewerC, fill-last, fillC-last, fillC-regular, filled-other, reg, still-held}
+use Rattle.rules.proofs.Filling.{cx, fewer-refl, fewer-trans, fewerC-refl, fewerC-trans, fill-complex, fill-fewer, fill-fewerC, fill-last}
+use Rattle.rules.proofs.Filling.{fillC-last, fillC-regular, filled-other, reg, still-held}
 use Rattle.rules.proofs.Ledger.{ComplexId, Moves, RegularId, cx-kept, moves-removeOf, moves-then, reg-kept}
 use Rattle.rules.proofs.Sizes.{shown-most, shows-held}
 use Rattle.rules.proofs.Taking.{Chain, no-more, traded}

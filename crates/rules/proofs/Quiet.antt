@@ -22,7 +22,8 @@ use Rattle.rules.specs.Standing.{verdict, settle, showAgain}
 use Rattle.rules.specs.Trading.{fillRegular, tradeWith, take, pairOff}
 use Rattle.rules.specs.Order.{meet, hit, meetTurn, enterRegular, order}
 use Rattle.rules.specs.Generation.{makes, make, generateLeg, generate}
-use Rattle.rules.specs.Complex.{anyClosed, cross, crossTurn, touches, touch, legsIn, legIn, unitsIn, legInTurn, work, complex, each, sweep, eachOf, limitedSweep, cancelRegular, cancelComplex, restsRegular, cancel}
+use Rattle.rules.specs.Complex.{anyClosed, cross, crossTurn, touches, touch, legsIn, legIn, unitsIn, legInTurn, work, complex, each, sweep}
+use Rattle.rules.specs.Complex.{eachOf, limitedSweep, cancelRegular, cancelComplex, restsRegular, cancel}
 use Rattle.rules.specs.Places.{closeGaps}
 use Rattle.rules.specs.Step.{perform, accept}
 use Rattle.rules.proofs.Cases.{crossTurn-by, each-by, if-by, meetTurn-by, repeat-by, take-by}

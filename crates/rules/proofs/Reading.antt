@@ -9,7 +9,8 @@ use borrow.Author.Tests.{le-ltb, lt-ltb, ne-eqb}
 use Rattle.rules.specs.declared.Cause.{Cause}
 use Rattle.rules.specs.declared.Cause.the-variants.{Executed, NoUnit, NotOpen, OutOfBand, Replaced, Touched, Unpaired, Withdrawn, Worse}
 use Rattle.rules.specs.Bytes.{asSigned, asUnsigned, bytes, framed, kindField, lengthField, u16At, u32At, u8At}
-use Rattle.rules.specs.Records.{ForAll, Fits, FourSigned, Report, TwoBytes, FourBytes, OneByte, answer, cancelled, causeNumber, causeOf, crossed, encode, encodeAll, generated, looked, pair, recordOf, records, recordsFrom, removed, sheet, trade}
+use Rattle.rules.specs.Records.{ForAll, Fits, FourSigned, Report, TwoBytes, FourBytes, OneByte, answer, cancelled, causeNumber, causeOf}
+use Rattle.rules.specs.Records.{crossed, encode, encodeAll, generated, looked, pair, recordOf, records, recordsFrom, removed, sheet, trade}
 
 -- Fields --------------------------------------------------------------------------------------
 

@@ -17,7 +17,8 @@ use Rattle.rules.specs.Words.{within, isId, isSeries, isStatus, isAway, 
 use Rattle.rules.specs.Settings.{isIncrement, isPercent, isEdition}
 use Rattle.rules.specs.Bytes.{u8At, lengthField, kindField}
 use Rattle.rules.specs.Messages.{twoLegAt, messageOf}
-use Rattle.rules.specs.Refusals.{torn, isKind, isLength, regularInRange, twoLegInRange, farOf, inRange, equalRatios, decoded, complexInRange, offIncrement, editionTooLow, inUse, noEditionLeft, idTooLow, onClosed, full, unknown, refusalOf, refusal}
+use Rattle.rules.specs.Refusals.{torn, isKind, isLength, regularInRange, twoLegInRange, farOf, inRange, equalRatios, decoded, complexInRange}
+use Rattle.rules.specs.Refusals.{offIncrement, editionTooLow, inUse, noEditionLeft, idTooLow, onClosed, full, unknown, refusalOf, refusal}
 use Rattle.rules.proofs.Tests.{and-in, and-l, and-r, not-out, or-false-l, or-false-r}
 use Rattle.rules.proofs.Cases.{if-by}
 
@@ -138,7 +139,8 @@ pub refusal-own : (v : Venue) (bs : List ℕ) (k : ℕ) → 8 < k → k < 11 →
 unfolding refusal
 refusal-own v bs k low high =
     decoded-by (λ x. of v x ≢ k) bs (λ _ e. omega arith) (λ _ _ e. omega arith) (λ _ _ e. omega arith) (λ _ _ e. omega arith) (λ _ _ e. omega arith)
-    (λ _ _ _. refusalOf-by (λ x. x ≢ k) v (messageOf bs) (λ e. omega arith) (λ e. omega arith) (λ e. omega arith) (λ e. omega arith) (λ e. omega arith) (λ e. omega arith) (λ e. omega arith) (λ e. omega arith)
+    (λ _ _ _. refusalOf-by (λ x. x ≢ k) v (messageOf bs) (λ e. omega arith) (λ e. omega arith) (λ e. omega arith) (λ e. omega arith)
+    (λ e. omega arith) (λ e. omega arith) (λ e. omega arith) (λ e. omega arith)
     (λ _ _ _ _ _ _ _ _ e. omega arith))
 
 -- a message that is not torn has its length
@@ -151,8 +153,10 @@ not-torn v bs =
 pub whole : (bs : List ℕ) → torn bs ≡ false → (4 ≤ lengthField bs) × (lengthField bs ≤ length bs)
 unfolding torn
 whole bs h =
-    let x = or-false-l (ltb (length bs) 4 || ltb (lengthField bs) 4) (ltb (length bs) (lengthField bs)) h in
-    (ltb-false (lengthField bs) 4 (or-false-r (ltb (length bs) 4) _ x), ltb-false (length bs) (lengthField bs) (or-false-r (ltb (length bs) 4 || ltb (lengthField bs) 4) (ltb (length bs) (lengthField bs)) h))
+    let x = or-false-l (ltb (length bs) 4 || ltb (lengthField bs) 4) (ltb (length bs) (lengthField bs)) h in (
+      ltb-false (lengthField bs) 4 (or-false-r (ltb (length bs) 4) _ x),
+      ltb-false (length bs) (lengthField bs) (or-false-r (ltb (length bs) 4 || ltb (lengthField bs) 4) (ltb (length bs) (lengthField bs)) h),
+    )
 
 pub whole-in : (bs : List ℕ) → (4 ≤ lengthField bs) × (lengthField bs ≤ length bs) → torn bs ≡ false
 unfolding torn

@@ -42,15 +42,43 @@ module _ {r c l s e g : ℕ} where
   lasts : Lasts (Sized r c l s e g)
   unfolding fillRegular fillComplex remove showAgain withRegular withComplex withLegging
   lasts = record {
-    fillR = λ i k v z. record { regular = length-set (v .regular) i _ ∙ z .regular; complex = z .complex; legging = z .legging; series = z .series; editions = z .editions; generations = z .generations };
-    fillC = λ i k v z. record { regular = z .regular; complex = length-set (v .complex) i _ ∙ z .complex; legging = z .legging; series = z .series; editions = z .editions; generations = z .generations };
-    gone = λ f v z. record { regular = z .regular; complex = z .complex; legging = length-stayers f 0 (v .legging) ∙ z .legging; series = z .series; editions = z .editions; generations = z .generations };
+    fillR = λ i k v z. record {
+      regular = length-set (v .regular) i _ ∙ z .regular;
+      complex = z .complex;
+      legging = z .legging;
+      series = z .series;
+      editions = z .editions;
+      generations = z .generations;
+    };
+    fillC = λ i k v z. record {
+      regular = z .regular;
+      complex = length-set (v .complex) i _ ∙ z .complex;
+      legging = z .legging;
+      series = z .series;
+      editions = z .editions;
+      generations = z .generations;
+    };
+    gone = λ f v z. record {
+      regular = z .regular;
+      complex = z .complex;
+      legging = length-stayers f 0 (v .legging) ∙ z .legging;
+      series = z .series;
+      editions = z .editions;
+      generations = z .generations;
+    };
     again = λ v z. record { regular = again-fewer v .same ∙ z .regular; complex = z .complex; legging = z .legging; series = z .series; editions = z .editions; generations = z .generations };
   }
 
   placed-sized : (n : ℕ) (x : Legging) (v : Venue) → Sized r c l s e g v → Sized r c l s e g (placed n x v)
   unfolding placed withLegging
-  placed-sized n x v z = record { regular = z .regular; complex = z .complex; legging = length-set (v .legging) n x ∙ z .legging; series = z .series; editions = z .editions; generations = z .generations }
+  placed-sized n x v z = record {
+    regular = z .regular;
+    complex = z .complex;
+    legging = length-set (v .legging) n x ∙ z .legging;
+    series = z .series;
+    editions = z .editions;
+    generations = z .generations;
+  }
 
   counted-sized : (number t : ℕ) (v : Venue) → Sized r c l s e g v → Sized r c l s e g (counted number t v)
   unfolding counted withGenerations
@@ -65,7 +93,8 @@ module _ {r c l s e g : ℕ} where
 
   leg-sized : (number : ℕ) (x : Complex) (t d : ℕ) (v : Venue) → Sized r c l s e g v → Sized r c l s e g (generateLeg number x t d v .venue)
   unfolding generateLeg make report nothing _⟫_
-  leg-sized number x t d v z = if-by (λ (f : Effect). Sized r c l s e g (f .venue)) (held (x .quantity) && makes number v x t d) (λ _. counted-sized number t _ (placed-sized _ _ _ (lasts .gone _ v z))) (λ _. z)
+  leg-sized number x t d v z = if-by (λ (f : Effect). Sized r c l s e g (f .venue)) (held (x .quantity) && makes number v x t d)
+      (λ _. counted-sized number t _ (placed-sized _ _ _ (lasts .gone _ v z))) (λ _. z)
 
   generate-sized : (number i : ℕ) (v : Venue) → Sized r c l s e g v → Sized r c l s e g (generate number i v .venue)
   unfolding generate _⟫_
@@ -83,7 +112,8 @@ module _ {r c l s e g : ℕ} where
   }
 
   perform-sized : (number : ℕ) (m : Message) (v : Venue) → Sized r c l s e g v → Sized r c l s e g (perform number m v .venue)
-  unfolding perform order enterRegular putRegular complex putComplex sweep limitedSweep setAway setStatus setFigure enterEdition withRegular withComplex withSeries withEditions withLast withReached report _⟫_
+  unfolding perform order enterRegular putRegular complex putComplex sweep limitedSweep setAway setStatus setFigure enterEdition withRegular
+      withComplex withSeries withEditions withLast withReached report _⟫_
   perform-sized number (Order o) v z =
       keeps-settle lasts _ (keeps-matching lasts _ _ _
       (record { regular = length-set (v .regular) _ o ∙ z .regular; complex = z .complex; legging = z .legging; series = z .series; editions = z .editions; generations = z .generations }))
@@ -92,15 +122,45 @@ module _ {r c l s e g : ℕ} where
       (record { regular = z .regular; complex = length-set (v .complex) _ x ∙ z .complex; legging = z .legging; series = z .series; editions = z .editions; generations = z .generations })))
   perform-sized number (Cancel id) v z = keeps-cancel lasts id v z
   perform-sized number (Away t b o) v z =
-      keeps-settle lasts _ (record { regular = z .regular; complex = z .complex; legging = z .legging; series = length-set (v .series) t _ ∙ z .series; editions = z .editions; generations = z .generations })
+      keeps-settle lasts _ (record {
+        regular = z .regular;
+        complex = z .complex;
+        legging = z .legging;
+        series = length-set (v .series) t _
+            ∙ z .series;
+        editions = z .editions;
+        generations = z .generations;
+      })
   perform-sized number (Status t x) v z =
-      keeps-settle lasts _ (record { regular = z .regular; complex = z .complex; legging = z .legging; series = length-set (v .series) t _ ∙ z .series; editions = z .editions; generations = z .generations })
+      keeps-settle lasts _ (record {
+        regular = z .regular;
+        complex = z .complex;
+        legging = z .legging;
+        series = length-set (v .series) t _
+            ∙ z .series;
+        editions = z .editions;
+        generations = z .generations;
+      })
   perform-sized number Sweep v z =
       keeps-each (Sized r c l s e g) (generate number) (generate-sized number) 32 0 _ (keeps-settle lasts _ (keeps-each (Sized r c l s e g) work (keeps-work lasts) 32 0 v z))
   perform-sized number (Increment t i k) v z =
-      keeps-settle lasts _ (record { regular = z .regular; complex = z .complex; legging = z .legging; series = z .series; editions = length-set (v .editions) _ _ ∙ z .editions; generations = z .generations })
+      keeps-settle lasts _ (record {
+        regular = z .regular;
+        complex = z .complex;
+        legging = z .legging;
+        series = z .series;
+        editions = length-set (v .editions) _ _ ∙ z .editions;
+        generations = z .generations;
+      })
   perform-sized number (Percent x k) v z =
-      keeps-settle lasts _ (record { regular = z .regular; complex = z .complex; legging = z .legging; series = z .series; editions = length-set (v .editions) _ _ ∙ z .editions; generations = z .generations })
+      keeps-settle lasts _ (record {
+        regular = z .regular;
+        complex = z .complex;
+        legging = z .legging;
+        series = z .series;
+        editions = length-set (v .editions) _ _ ∙ z .editions;
+        generations = z .generations;
+      })
   perform-sized number (LimitedSweep n) v z =
       keeps-eachOf (Sized r c l s e g) (generate number) (generate-sized number) _ _
       (keeps-settle lasts _ (keeps-eachOf (Sized r c l s e g) work (keeps-work lasts) _ _

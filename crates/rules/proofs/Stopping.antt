@@ -64,7 +64,8 @@ lesser-shows s d {a} {b} l dim h =
     rests-shows s d b (pos-held (shown b) (omega arith)) (rw (x, y, z))
 
 -- while size is left at the best price, it is the best
-best-still : (s d : ℕ) (os ps : List Regular) → Fewer ps os → ((j : ℕ) → shown (getD ps j noRegular) ≤ shown (getD os j noRegular)) → held (bestIn s d os) ≡ true → 0 < sizeIn s d (bestIn s d os) ps → bestIn s d ps ≡ bestIn s d os
+best-still : (s d : ℕ) (os ps : List Regular) → Fewer ps os → ((j : ℕ) → shown (getD ps j noRegular) ≤ shown (getD os j noRegular)) → held
+    (bestIn s d os) ≡ true → 0 < sizeIn s d (bestIn s d os) ps → bestIn s d ps ≡ bestIn s d os
 best-still s d os ps f dims h n = go (held (bestIn s d ps)) refl
   where
     p : ℕ
@@ -156,7 +157,8 @@ module _ (i : ℕ) (v : Venue) where
   module _ (holds : held (c .quantity) ≡ true) (apart : c .series1 ≢ c .series2) (ha : held a ≡ true) (hb : held b ≡ true)
       (some : 0 < k) (part : k < c .quantity) (more1 : c .ratio1 * k < s₁) (more2 : c .ratio2 * k < s₂) where
     fewer : Fewer (w .regular) (v .regular)
-    fewer = fewer-trans (chain-fewer (take-chain (c .id) (c .series2) (c .side2) b (c .ratio2 * k) (c .ratio2 * k) (first .venue))) (chain-fewer (take-chain (c .id) (c .series1) (c .side1) a (c .ratio1 * k) (c .ratio1 * k) v))
+    fewer = fewer-trans (chain-fewer (take-chain (c .id) (c .series2) (c .side2) b (c .ratio2 * k) (c .ratio2 * k) (first .venue)))
+        (chain-fewer (take-chain (c .id) (c .series1) (c .side1) a (c .ratio1 * k) (c .ratio1 * k) v))
 
     dims : (j : ℕ) → shown (reg w j) ≤ shown (reg v j)
     dims j =

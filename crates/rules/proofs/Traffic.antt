@@ -108,7 +108,8 @@ tracks-then n v e f a b = record {
       (b .pushes s (rw (a .size) h));
   allowed = λ s h.
       rw (total-append (generatedOf s) (e .reports) (f (e .venue) .reports))
-      (allowed-add n (total (generatedOf s) (e .reports)) (total (generatedOf s) (f (e .venue) .reports)) (generationsOf v s) (a .allowed s h) (subst (λ l. Allowed n (total (generatedOf s) (f (e .venue) .reports)) l) (a .pushes s h) (b .allowed s (rw (a .size) h))));
+      (allowed-add n (total (generatedOf s) (e .reports)) (total (generatedOf s) (f (e .venue) .reports)) (generationsOf v s) (a .allowed s h)
+      (subst (λ l. Allowed n (total (generatedOf s) (f (e .venue) .reports)) l) (a .pushes s h) (b .allowed s (rw (a .size) h))));
 }
 
 -- Generation ----------------------------------------------------------------------------------
@@ -446,7 +447,8 @@ ends-low h e = let a = e .reached in let b = e .last in omega arith
 
 perform-reached : (n : ℕ) (m : Message) (v : Venue) → Passed v m → ((j : ℕ) → held (cx v j .quantity) ≡ true → cx v j .id ≤ v .last) →
     v .reached ≤ v .last → perform n m v .venue .reached ≤ perform n m v .venue .last
-unfolding perform order enterRegular putRegular complex putComplex sweep limitedSweep setAway setStatus setFigure enterEdition withRegular withComplex withSeries withEditions withLast withReached report _⟫_ idTooLow
+unfolding perform order enterRegular putRegular complex putComplex sweep limitedSweep setAway setStatus setFigure enterEdition withRegular withComplex
+    withSeries withEditions withLast withReached report _⟫_ idTooLow
 perform-reached n (Order o) v p x h =
     ends-low (let z = leb-false (o .id) (v .last) (p .fresh-id) in omega arith)
     (keeps-settle ends-lasts _ (keeps-matching ends-lasts _ _ _ (record { reached = refl; last = refl })))

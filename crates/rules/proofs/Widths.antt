@@ -17,7 +17,9 @@ use Rattle.rules.specs.declared.Message.the-variants.{Away, Increment, P
 use Rattle.rules.specs.declared.Regular.{Regular}
 use Rattle.rules.specs.declared.Venue.{Venue}
 use Rattle.rules.specs.Base.{held, if_then_else_}
-use Rattle.rules.specs.Words.{complexAt, isAway, isClass, isId, isLimit, isPrice, isQuantity, isRatio, isSeries, isSide, isStatus, noComplex, noEdition, noLegging, noRegular, notListed, oneToOne, regularAt, statusOf, withComplex, withEditions, withGenerations, withLast, withReached, withLegging, withRegular, withSeries, within}
+use Rattle.rules.specs.Words.{complexAt, isAway, isClass, isId, isLimit, isPrice, isQuantity, isRatio, isSeries, isSide, isStatus, noComplex}
+use Rattle.rules.specs.Words.{noEdition, noLegging, noRegular, notListed, oneToOne, regularAt, statusOf, withComplex, withEditions}
+use Rattle.rules.specs.Words.{withGenerations, withLast, withReached, withLegging, withRegular, withSeries, within}
 use Rattle.rules.specs.Settings.{enterEdition, freeEdition, isIncrement, percentage}
 use Rattle.rules.specs.Records.{ForAll, Report, FourBytes}
 use Rattle.rules.specs.Standing.{showAgain, showsAgain}
@@ -83,7 +85,19 @@ pub record Ranged (v : Venue) : Type 0 where
 
 pub no-cx : CxFits noComplex
 unfolding plus minus
-no-cx = record { id = omega arith; series1 = omega arith; side1 = omega arith; series2 = omega arith; side2 = omega arith; high = omega arith; low = omega arith; quantity = omega arith; ratio1 = omega arith; ratio2 = omega arith; ok = λ h. absurd (false≢true h) }
+no-cx = record {
+  id = omega arith;
+  series1 = omega arith;
+  side1 = omega arith;
+  series2 = omega arith;
+  side2 = omega arith;
+  high = omega arith;
+  low = omega arith;
+  quantity = omega arith;
+  ratio1 = omega arith;
+  ratio2 = omega arith;
+  ok = λ h. absurd (false≢true h);
+}
 
 pub no-lg : LgFits noLegging
 no-lg = record { parent = omega arith; price = omega arith; quantity = omega arith; ok = λ h. absurd (false≢true h); zero = λ h. unfold blankLegging in refl }

@@ -31,7 +31,9 @@ use Rattle.rules.specs.Standing.{findComplex, otherClear, otherLeg, pare
 use Rattle.rules.specs.Trading.{pairOff, putComplex, putRegular, take, tradeWith}
 use Rattle.rules.specs.Order.{enterRegular, hit, meet, meetTurn, order}
 use Rattle.rules.specs.Generation.{generate, generateLeg, legPrice, make, makes, newLegging}
-use Rattle.rules.specs.Complex.{anyClosed, cancel, cancelComplex, cancelRegular, complex, complexPlace, cross, crossTurn, each, eachOf, examined, legIn, legInTurn, legsIn, regularPlace, limitedSweep, restsRegular, sweep, touch, touches, unitsIn, work}
+use Rattle.rules.specs.Complex.{anyClosed, cancel, cancelComplex, cancelRegular, complex, complexPlace, cross, crossTurn, each, eachOf}
+use Rattle.rules.specs.Complex.{examined, legIn, legInTurn, legsIn, regularPlace, limitedSweep, restsRegular, sweep, touch, touches, unitsIn}
+use Rattle.rules.specs.Complex.{work}
 use Rattle.rules.specs.Step.{accept, perform}
 use Rattle.rules.proofs.Bounds.{band-first, band-second, clear-small, neg-i32, net-i32, new-fits, regular-small, shown-small}
 use Rattle.rules.proofs.Cases.{crossTurn-by, each-by, if-by, meetTurn-by, repeat-by, take-by}
@@ -42,7 +44,9 @@ use Rattle.rules.proofs.Settling.{Kept, stayers-kept}
 use Rattle.rules.proofs.Tests.{and-l, and-r}
 use Rattle.rules.proofs.Refusing.{wellFormed}
 use Rattle.rules.proofs.Units.{units-open}
-use Rattle.rules.proofs.Widths.{again-ranged, CxFits, LgFits, Ranged, away-ranged, closed-ranged, complex-fits, counted-ranged, each-append, fill-ranged, fillC-ranged, increment-ranged, last-ranged, no-cx, no-lg, order-fits, percent-ranged, placed-ranged, put-ranged, putC-ranged, reached-ranged, status-ranged, with-legging}
+use Rattle.rules.proofs.Widths.{again-ranged, CxFits, LgFits, Ranged, away-ranged, closed-ranged, complex-fits, counted-ranged, each-append}
+use Rattle.rules.proofs.Widths.{fill-ranged, fillC-ranged, increment-ranged, last-ranged, no-cx, no-lg, order-fits, percent-ranged}
+use Rattle.rules.proofs.Widths.{placed-ranged, put-ranged, putC-ranged, reached-ranged, status-ranged, with-legging}
 
 -- an effect that writes records that fit and leaves the fields in range
 pub record Writes (e : Effect) : Type 0 where
@@ -159,7 +163,9 @@ writes-hit i l k v f q r =
     (writes-then _ _
     (writes-report _ _ (omega arith, omega arith, omega arith, omega arith, rf .id, cf .id) (fill-ranged i k v r))
     (writes-take (c .id) (other .series) (other .side) clear k k (cf .id) (other-side c cf (o .series)) (omega arith)))
-    (λ w x. writes-pairOff _ (c .id) _ k (cf .id) (net-i32 (opposite (o .side)) (other .side) (l .price) clear (omega arith) (omega (arith, clear-small v r (other .series) (opposite (other .side))))) q w x)
+    (λ w x. writes-pairOff _ (c .id) _ k (cf .id)
+    (net-i32 (opposite (o .side)) (other .side) (l .price) clear (omega arith)
+    (omega (arith, clear-small v r (other .series) (opposite (other .side))))) q w x)
 
 -- Turns ---------------------------------------------------------------------------------------
 
@@ -231,7 +237,8 @@ writes-work i v r =
 
 -- Generation ----------------------------------------------------------------------------------
 
-writes-make : (number : ℕ) (c : Complex) (s d : ℕ) (v : Venue) → CxFits c → held (c .quantity) ≡ true → s < 8 → d < 2 → Makes number v c s d → held (marketBest v s (opposite d)) ≡ true → Ranged v → Writes (make number c s d v)
+writes-make : (number : ℕ) (c : Complex) (s d : ℕ) (v : Venue) → CxFits c → held (c .quantity) ≡ true → s < 8 → d < 2 → Makes number v c s d → held
+    (marketBest v s (opposite d)) ≡ true → Ranged v → Writes (make number c s d v)
 unfolding make newLegging
 writes-make number c s d v f h s8 d2 m t r =
     let n = new-fits v c s d f h s8 d2 m t r in
@@ -241,7 +248,8 @@ writes-make number c s d v f h s8 d2 m t r =
     writes-then _ _ (writes-remove _ v r)
     (λ w x. writes-report _ _ (f .id, omega arith, omega arith, omega arith, omega arith, omega arith) (counted-ranged number s _ (placed-ranged _ _ w n x)))
 
-pub writes-leg : (number : ℕ) (c : Complex) (s d : ℕ) (v : Venue) → CxFits c → s < 8 → d < 2 → (inBand v c (c .limit) ≡ true → held (marketBest v s (opposite d)) ≡ true) → Ranged v → Writes (generateLeg number c s d v)
+pub writes-leg : (number : ℕ) (c : Complex) (s d : ℕ) (v : Venue) → CxFits c → s < 8 → d < 2 →
+    (inBand v c (c .limit) ≡ true → held (marketBest v s (opposite d)) ≡ true) → Ranged v → Writes (generateLeg number c s d v)
 unfolding generateLeg
 writes-leg number c s d v f s8 d2 t r =
     if-by Writes (held (c .quantity) && makes number v c s d)
@@ -289,7 +297,9 @@ unfolding perform order enterRegular putRegular complex putComplex sweep limited
 writes-perform number (Order o) v h r =
     writes-then _ _ (writes-repeat _ (writes-meetTurn _) (o .quantity) _ (let f = order-fits o (unfold wellFormed in h) in put-ranged _ o _ f (last-ranged (o .id) v (f .id) r))) writes-settle
 writes-perform number (TwoLeg c) v h r =
-    writes-then _ _ (writes-then _ _ (writes-work _ _ (let f = complex-fits c (unfold wellFormed in h) in putC-ranged _ c _ f (last-ranged (c .id) v (f .id) r))) writes-settle) (writes-generate number _)
+    writes-then _ _ (writes-then _ _
+    (writes-work _ _ (let f = complex-fits c (unfold wellFormed in h) in putC-ranged _ c _ f (last-ranged (c .id) v (f .id) r))) writes-settle)
+    (writes-generate number _)
 writes-perform number (Cancel id) v h r = writes-cancel id v r
 writes-perform number (Away s b o) v h r = writes-settle _ (away-ranged s b o v h r)
 writes-perform number (Status s x) v h r = writes-settle _ (status-ranged s x v h r)

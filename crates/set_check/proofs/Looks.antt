@@ -278,7 +278,13 @@ module _ (st : Standing) where
 
   pub few-in : Few → few st ≡ true
   unfolding few
-  few-in f = rw (le-leb (st .editions) 32 (f .editions), le-leb (st .regulars) 128 (f .regulars), le-leb (st .complexes) 32 (f .complexes), le-leb (st .leggings) 16 (f .leggings), le-leb (st .run) 20 (f .run))
+  few-in f = rw (
+    le-leb (st .editions) 32 (f .editions),
+    le-leb (st .regulars) 128 (f .regulars),
+    le-leb (st .complexes) 32 (f .complexes),
+    le-leb (st .leggings) 16 (f .leggings),
+    le-leb (st .run) 20 (f .run),
+  )
 
   pub few-out : few st ≡ true → Few
   unfolding few

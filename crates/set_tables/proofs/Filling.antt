@@ -74,7 +74,13 @@ module _ (bs : List ℕ) (framed : heldIn bs ≡ row (rowIn bs)) where
       go (row rs) e =
           let all : heldIn bs ≡ row (take n bs ∷ rs) = ahead .held ∙ ap (behind (take n bs)) e ∙ (unfold behind in refl) in
           let i : rowIn (drop n bs) ≡ rs = row-in (drop n bs) rs e in
-          record { four = ahead .four; fits = ahead .fits; rows = row-in bs (take n bs ∷ rs) all ∙ ap (λ (x : List (List ℕ)). take n bs ∷ x) (sym i); others = e ∙ ap row (sym i); well = wells (take n bs ∷ rs) all .0 }
+          record {
+            four = ahead .four;
+            fits = ahead .fits;
+            rows = row-in bs (take n bs ∷ rs) all ∙ ap (λ (x : List (List ℕ)). take n bs ∷ x) (sym i);
+            others = e ∙ ap row (sym i);
+            well = wells (take n bs ∷ rs) all .0;
+          }
 
 -- at a position of a memory, where a record of this length stands, or the set ends
 pub record Walk (m : List ℕ) (at size : ℕ) : Type 0 where
@@ -130,7 +136,8 @@ places-put : {A : Type 0} (count : ℕ) (none : A) (xs : List A) → length xs �
 unfolding places
 places-put count none xs h =
     let l = length-replicate count none in
-    sets-eq xs (replicate count none) 0 (omega arith) ∙ ap (λ y. xs ++ y) (let z : 0 + length xs ≡ length xs = omega arith in ap (λ (k : ℕ). drop k (replicate count none)) z ∙ free-left none count (length xs))
+    sets-eq xs (replicate count none) 0 (omega arith) ∙ ap (λ y. xs ++ y)
+    (let z : 0 + length xs ≡ length xs = omega arith in ap (λ (k : ℕ). drop k (replicate count none)) z ∙ free-left none count (length xs))
 
 module _ {A : Type 0} (tells : List ℕ → Bool) (told : List ℕ → A) (count : ℕ) (none : A) (m : List ℕ) where
   -- what the records from a position on tell

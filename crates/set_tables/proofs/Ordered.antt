@@ -11,7 +11,8 @@ use borrow.Author.Tests.{eqb-true, eqb-false, eq-eqb, ne-eqb, lt-ltb, le-ltb, lt
 use Rattle.rules.specs.Base.{if_then_else_, all, keep}
 use Rattle.rules.specs.Bytes.{u8At, kindField}
 use Rattle.rules.proofs.Tests.{and-in, and-l, and-r, and-false, or-false-l, or-false-r}
-use Rattle.sets.specs.Set.{part, mark, generationTold, mayFollow, inOrder, countOf, ofSeries, fewEnough, ofWhole, ofShort, seriesThen, isSet, tellsEdition, tellsRegular, tellsComplex, tellsLegging, tellsGeneration}
+use Rattle.sets.specs.Set.{part, mark, generationTold, mayFollow, inOrder, countOf, ofSeries, fewEnough, ofWhole, ofShort, seriesThen, isSet}
+use Rattle.sets.specs.Set.{tellsEdition, tellsRegular, tellsComplex, tellsLegging, tellsGeneration}
 use Rattle.sets.proofs.Parts.{sort, sort-of, whether}
 use Rattle.set_check.specs.declared.Standing.{Standing}
 use Rattle.set_check.specs.Order.{opening, noneRead, opens, ofThis, sameSeries, mayStand, isNext, oneIf, nextStage, isWhole, runWith, onward, few, goesOn}
@@ -336,7 +337,8 @@ all-so f (x ∷ l) h = and-in (f x) (all f l) (h x) (all-so f l h)
 few-any : (F : ℕ → ℕ) (rs : List (List ℕ)) → all (λ r. not (tellsGeneration r) || leb (F (u8At r 4)) 20) rs ≡ true → (x : ℕ) → (F x ≤ 20) ⊎ (countOf (ofSeries x) rs ≡ 0)
 unfolding all
 few-any F [] h x = inr (unfold countOf keep in refl)
-few-any F (r ∷ rs) h x = go (tellsGeneration r) (eqb (u8At r 4) x) refl refl (and-l (not (tellsGeneration r) || leb (F (u8At r 4)) 20) _ h) (few-any F rs (and-r (not (tellsGeneration r) || leb (F (u8At r 4)) 20) _ h) x)
+few-any F (r ∷ rs) h x = go (tellsGeneration r) (eqb (u8At r 4) x) refl refl (and-l (not (tellsGeneration r) || leb (F (u8At r 4)) 20) _ h)
+    (few-any F rs (and-r (not (tellsGeneration r) || leb (F (u8At r 4)) 20) _ h) x)
   where
     none : ofSeries x r ≡ false → (F x ≤ 20) ⊎ (countOf (ofSeries x) rs ≡ 0) → (F x ≤ 20) ⊎ (countOf (ofSeries x) (r ∷ rs) ≡ 0)
     none e (inl a) = inl a
@@ -453,7 +455,9 @@ module _ (st : Standing) (b : Blank st) where
         (λ g. let h = goes-fine rs st after blank-few g in
         and-in (all (kindsOf (st .whole)) rs && inOrder rs) (fewEnough rs) (and-in (all (kindsOf (st .whole)) rs) (inOrder rs) (h .kinds) (order-whole (h .order))) (fine-few h))
         (λ z. fine-goes rs st after blank-few
-        (few-fine (and-l (all (kindsOf (st .whole)) rs) (inOrder rs) (and-l _ (fewEnough rs) z)) (and-r (all (kindsOf (st .whole)) rs) (inOrder rs) (and-l _ (fewEnough rs) z)) (and-r (all (kindsOf (st .whole)) rs && inOrder rs) (fewEnough rs) z)))
+        (few-fine (and-l (all (kindsOf (st .whole)) rs) (inOrder rs) (and-l _ (fewEnough rs) z))
+        (and-r (all (kindsOf (st .whole)) rs) (inOrder rs) (and-l _ (fewEnough rs) z))
+        (and-r (all (kindsOf (st .whole)) rs && inOrder rs) (fewEnough rs) z)))
 
 -- The first records -----------------------------------------------------------------------------
 
@@ -594,7 +598,8 @@ series-goes (suc count) s st (q ∷ r ∷ rs) at =
     deep e true true f g ih = ih (rw (f, g)) ∙ ap (λ (w : Bool). seriesThen count (suc s) (kindsOf w) rs) (whole-same st s count at q e r)
 
     go : (t : Bool) → (eqb (kindField q) 5 && eqb (u8At q 4) s) ≡ t →
-        ((eqb (kindField q) 5 && eqb (u8At q 4) s) ≡ true → (eqb (kindField r) 4 && eqb (u8At r 4) s) ≡ true → goesOn (onward (onward st q) r) rs ≡ seriesThen count (suc s) (kindsOf (onward (onward st q) r .whole)) rs) →
+        ((eqb (kindField q) 5 && eqb (u8At q 4) s) ≡ true → (eqb (kindField r) 4 && eqb (u8At r 4) s) ≡ true → goesOn (onward (onward st q) r)
+        rs ≡ seriesThen count (suc s) (kindsOf (onward (onward st q) r .whole)) rs) →
         (t && goesOn (onward st q) (r ∷ rs)) ≡ (t && eqb (kindField r) 4 && eqb (u8At r 4) s && seriesThen count (suc s) (kindsOf (st .whole)) rs)
     go false e ih = refl
     go true e ih = away-goes st s count at q e r rs ∙ deep e (eqb (kindField r) 4) (eqb (u8At r 4) s) refl refl (ih e)

@@ -65,7 +65,15 @@ pub record Tail (rs : List (List ℕ)) : Type 0 where
   pub fine : Fine before tail
 
 tail-of : (rs : List (List ℕ)) (st : Standing) → Blank st → st .stage ≤ 17 → goesOn st rs ≡ true → Tail rs
-tail-of [] st b s h = record { front = []; tail = []; split = refl; none = tt; before = st; blank = b; fine = goes-fine [] st (ended (ltb (st .stage) 17) refl (unfold goesOn in h)) (blank-few st b) h }
+tail-of [] st b s h = record {
+  front = [];
+  tail = [];
+  split = refl;
+  none = tt;
+  before = st;
+  blank = b;
+  fine = goes-fine [] st (ended (ltb (st .stage) 17) refl (unfold goesOn in h)) (blank-few st b) h;
+}
   where
     ended : (t : Bool) → ltb (st .stage) 17 ≡ t → not t ≡ true → st .stage ≡ 17
     ended true e k = absurd (true≢false (sym k))

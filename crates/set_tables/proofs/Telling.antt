@@ -19,7 +19,8 @@ use Rattle.rules.specs.Words.{within, isSeries, isSide, placeOf, noLegging, not
 use Rattle.rules.specs.Bytes.{lengthField, kindField, u8At, u32At}
 use Rattle.rules.specs.Generation.{oneMore}
 use Rattle.rules.proofs.Tests.{and-l, and-r}
-use Rattle.sets.specs.Set.{Held, row, heldIn, countOf, part, mark, ofSeries, tellsRegular, tellsComplex, tellsLegging, tellsGeneration, hasPlace, leggingTold, listedTold, generationTold, generationsTold, reachedTold, upward, isSet}
+use Rattle.sets.specs.Set.{Held, row, heldIn, countOf, part, mark, ofSeries, tellsRegular, tellsComplex, tellsLegging, tellsGeneration, hasPlace}
+use Rattle.sets.specs.Set.{leggingTold, listedTold, generationTold, generationsTold, reachedTold, upward, isSet}
 use Rattle.sets.proofs.Lists.{Each}
 use Rattle.sets.proofs.Parts.{sort}
 use Rattle.sets.proofs.ReadBack.{upward-is}
@@ -135,7 +136,14 @@ module _ (m : List ℕ) (t : Taken m) (l : List Listed) (at s : ℕ) (g : Listin
       listing-next x e =
           let y : x ≡ listedTold rs s = e ∙ ap₂ listedOf status-is away-is ∙ (unfold listedOf listedTold in refl) in
           let n = g .long in
-          record { many = omega arith; long = length-set l s x ∙ n; framed = b .framed; rows = away-left; told = λ i lt. set-told l s x notListed (listedTold rs) i (omega arith) y (λ p. g .told i (below i lt p)) }
+          record {
+            many = omega arith;
+            long = length-set l s x ∙ n;
+            framed = b .framed;
+            rows = away-left;
+            told = λ i lt. set-told l s x notListed
+                (listedTold rs) i (omega arith) y (λ p. g .told i (below i lt p));
+          }
         where
           below : (i : ℕ) → i < s + 1 → (i ≡ s → ⊥) → i < s
           below i lt p = omega arith
@@ -308,7 +316,8 @@ numbered-start m size t e =
       walk = walk-start m size (t .framed) e;
       long = length-replicate 8 noGenerations;
       placed = t .placed;
-      left = λ s h. ap (λ (g : Generations). pushed (g .messages) (numbers s (rowIn m))) (getD-replicate 8 s noGenerations noGenerations h) ∙ pushed-none (rowIn m) s (set-series (rowIn m) (t .ordered) s);
+      left = λ s h. ap (λ (g : Generations). pushed (g .messages) (numbers s (rowIn m))) (getD-replicate 8 s noGenerations noGenerations h)
+          ∙ pushed-none (rowIn m) s (set-series (rowIn m) (t .ordered) s);
     }
 
 module _ (m : List ℕ) (l : List Generations) (at size : ℕ) (g : Numbered m l at size) (next more : ℕ) (p : Step m at next) (e : more ≡ lengthField (drop next m)) where
@@ -322,7 +331,8 @@ module _ (m : List ℕ) (l : List Generations) (at size : ℕ) (g : Numbered m l
   unfolding all
   has-both = sym (ap (all hasPlace) (p .rows)) ∙ g .placed
 
-  numbers-both : (s : ℕ) → s < 8 → pushed (getD l s noGenerations .messages) (map generationTold (if ofSeries s q then q ∷ keep (ofSeries s) others else keep (ofSeries s) others)) ≡ generationsTold (rowIn m) s .messages
+  numbers-both : (s : ℕ) → s < 8 → pushed (getD l s noGenerations .messages)
+      (map generationTold (if ofSeries s q then q ∷ keep (ofSeries s) others else keep (ofSeries s) others)) ≡ generationsTold (rowIn m) s .messages
   unfolding keep
   numbers-both s h = sym (ap (λ (rs : List (List ℕ)). pushed (getD l s noGenerations .messages) (numbers s rs)) (p .rows)) ∙ g .left s h
 

@@ -81,7 +81,8 @@ same (suc f) zero v n r s bs is few a b c d = none (suc f) v n r bs (omega arith
 same (suc f) (suc g) v n r s bs is few a b c d =
     go (eqb (length bs) 0) refl (eqb (step v (suc n) bs .refused) 1) refl
     (λ some t.
-    same f g (step v (suc n) bs .effect .venue) (suc n) _ _ (drop (lengthField bs) bs) (kept v (suc n) (omega arith) is bs) (fewer v n bs is some few t) (shorter v n bs is some few t f a) (shorter v n bs is some few t g b)
+    same f g (step v (suc n) bs .effect .venue) (suc n) _ _ (drop (lengthField bs) bs) (kept v (suc n) (omega arith) is bs)
+    (fewer v n bs is some few t) (shorter v n bs is some few t f a) (shorter v n bs is some few t g b)
     (roomy v n bs is some few t r c) (roomy v n bs is some few t s d))
   where
     rest : (fuel room : ℕ) → List Report

@@ -44,7 +44,22 @@ each-at P from (suc count) p x low high = go (eqb from p) refl (λ h. each-at P 
 
 stood : Each Stood 0 12
 unfolding list messageAt messagesOf opened-rules decimal digits
-stood = ((refl, refl), ((refl, refl), ((refl, refl), ((refl, refl), ((refl, refl), ((refl, refl), ((refl, refl), ((refl, refl), ((refl, refl), ((refl, refl), ((refl, refl), ((refl, refl), tt))))))))))))
+stood = (
+  (refl, refl),
+  (
+    (refl, refl),
+    (
+      (refl, refl),
+      (
+        (refl, refl),
+        (
+          (refl, refl),
+          ((refl, refl), ((refl, refl), ((refl, refl), ((refl, refl), ((refl, refl), ((refl, refl), ((refl, refl), tt))))))),
+        ),
+      ),
+    ),
+  ),
+)
 
 pub record Listed (p : ℕ) : Type 0 where
   pub in-order : getD starts p 0 ≤ getD starts (p + 1) 0

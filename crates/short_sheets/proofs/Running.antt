@@ -40,7 +40,8 @@ unfolding step answered refusal
 not-refused v n bs w =
     decoded-by (λ x. of v x ≢ 1) bs
     (λ t _. true≢false (sym t ∙ whole-in bs w)) (λ _ _ e. omega arith) (λ _ _ e. omega arith) (λ _ _ e. omega arith) (λ _ _ e. omega arith)
-    (λ _ _ _. refusalOf-by (λ x. x ≢ 1) v (messageOf bs) (λ e. omega arith) (λ e. omega arith) (λ e. omega arith) (λ e. omega arith) (λ e. omega arith) (λ e. omega arith) (λ e. omega arith) (λ e. omega arith)
+    (λ _ _ _. refusalOf-by (λ x. x ≢ 1) v (messageOf bs) (λ e. omega arith) (λ e. omega arith) (λ e. omega arith) (λ e. omega arith)
+    (λ e. omega arith) (λ e. omega arith) (λ e. omega arith) (λ e. omega arith)
     (λ _ _ _ _ _ _ _ _ e. omega arith))
 
 -- a run that did all its messages

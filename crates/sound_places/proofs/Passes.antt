@@ -155,12 +155,15 @@ and-same false = refl
 module _ (l : List Edition) (low past i : ℕ) where
   pub editions-none : length l ≤ i → true ≡ editionsFrom low past (drop i l)
   unfolding editionsFrom
-  editions-none le = ap₂ (λ (a b : Bool). a && b) (arranged-none holdsEdition editionInRange blankEdition (λ e. e .edition) noEdition l low i le) (arranged-none holdsEdition (λ _. true) blankEdition (λ e. e .message) noEdition l past i le)
+  editions-none le = ap₂ (λ (a b : Bool). a && b) (arranged-none holdsEdition editionInRange blankEdition (λ e. e .edition) noEdition l low i le)
+      (arranged-none holdsEdition (λ _. true) blankEdition (λ e. e .message) noEdition l past i le)
 
   module _ (lt : i < length l) where
     pub editions-free : holdsEdition (getD l i noEdition) ≡ false → all blankEdition (drop i l) ≡ editionsFrom low past (drop i l)
     unfolding editionsFrom
-    editions-free h = and-same _ ∙ ap₂ (λ (a b : Bool). a && b) (arranged-free holdsEdition editionInRange blankEdition (λ e. e .edition) noEdition l low i lt h) (arranged-free holdsEdition (λ _. true) blankEdition (λ e. e .message) noEdition l past i lt h)
+    editions-free h = and-same _ ∙ ap₂ (λ (a b : Bool). a && b)
+        (arranged-free holdsEdition editionInRange blankEdition (λ e. e .edition) noEdition l low i lt h)
+        (arranged-free holdsEdition (λ _. true) blankEdition (λ e. e .message) noEdition l past i lt h)
 
     module _ (h : holdsEdition (getD l i noEdition) ≡ true) where
       pub editions-low : getD l i noEdition .edition ≤ low → false ≡ editionsFrom low past (drop i l)
@@ -169,7 +172,8 @@ module _ (l : List Edition) (low past i : ℕ) where
 
       pub editions-late : getD l i noEdition .message ≤ past → false ≡ editionsFrom low past (drop i l)
       unfolding editionsFrom
-      editions-late q = rw (sym (arranged-low holdsEdition (λ _. true) blankEdition (λ e. e .message) noEdition l past i lt h q)) (sym (and-false (arranged holdsEdition editionInRange blankEdition (λ e. e .edition) low (drop i l))))
+      editions-late q = rw (sym (arranged-low holdsEdition (λ _. true) blankEdition (λ e. e .message) noEdition l past i lt h q))
+          (sym (and-false (arranged holdsEdition editionInRange blankEdition (λ e. e .edition) low (drop i l))))
 
       pub editions-out : editionInRange (getD l i noEdition) ≡ false → false ≡ editionsFrom low past (drop i l)
       unfolding editionsFrom
@@ -178,7 +182,9 @@ module _ (l : List Edition) (low past i : ℕ) where
       pub editions-past : low < getD l i noEdition .edition → past < getD l i noEdition .message → editionInRange (getD l i noEdition) ≡ true →
           editionsFrom (getD l i noEdition .edition) (getD l i noEdition .message) (drop (i + 1) l) ≡ editionsFrom low past (drop i l)
       unfolding editionsFrom
-      editions-past q k a = ap₂ (λ (a b : Bool). a && b) (arranged-past holdsEdition editionInRange blankEdition (λ e. e .edition) noEdition l low i lt h q a) (arranged-past holdsEdition (λ _. true) blankEdition (λ e. e .message) noEdition l past i lt h k refl)
+      editions-past q k a = ap₂ (λ (a b : Bool). a && b)
+          (arranged-past holdsEdition editionInRange blankEdition (λ e. e .edition) noEdition l low i lt h q a)
+          (arranged-past holdsEdition (λ _. true) blankEdition (λ e. e .message) noEdition l past i lt h k refl)
 
 -- the figure that it sets
 module _ (e : Edition) where
@@ -215,7 +221,8 @@ module _ (l : List ℕ) (low i : ℕ) where
   module _ (lt : i < length l) where
     numbers-on : numbersFrom low (drop i l) ≡ ((leb low (getD l i 0) && leb (getD l i 0) 4294967295) && numbersFrom (getD l i 0) (drop (i + 1) l))
     unfolding numbersFrom unfallen all
-    numbers-on = ap (numbersFrom low) (drop-on l 0 i lt) ∙ swapped (leb low (getD l i 0)) (unfallen (getD l i 0) (drop (i + 1) l)) (leb (getD l i 0) 4294967295) (all (λ n. leb n 4294967295) (drop (i + 1) l))
+    numbers-on = ap (numbersFrom low) (drop-on l 0 i lt) ∙ swapped (leb low (getD l i 0)) (unfallen (getD l i 0) (drop (i + 1) l))
+        (leb (getD l i 0) 4294967295) (all (λ n. leb n 4294967295) (drop (i + 1) l))
 
     pub numbers-fall : (leb low (getD l i 0) && leb (getD l i 0) 4294967295) ≡ false → false ≡ numbersFrom low (drop i l)
     numbers-fall h = sym (numbers-on ∙ rw h)

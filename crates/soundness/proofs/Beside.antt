@@ -182,7 +182,8 @@ module _ (v : Venue) (n : ℕ) (l : Legging) (h : l .quantity ≡ 0 → ⊥) whe
   sound-held =
       rw (ne-eqb (l .quantity) 0 h)
       (ap (λ (t : Bool). t && stands (verdict v n l))
-      (sym (and-assoc (isId (l .parent) && isPrice (l .price) && isQuantity (l .quantity)) (hasLeg (parentOf v l) (n / 2) (n % 2)) (oneToOne (parentOf v l)) (leb (l .quantity) (parentOf v l .quantity)))))
+      (sym (and-assoc (isId (l .parent) && isPrice (l .price) && isQuantity (l .quantity)) (hasLeg (parentOf v l) (n / 2) (n % 2))
+      (oneToOne (parentOf v l)) (leb (l .quantity) (parentOf v l .quantity)))))
 
 leggings-on : (b : List ℕ) (v : Venue) (n : ℕ) → n < 16 → leggingsSound v n (upto (leggingIn b) n (16 - n)) ≡
     (leggingSound v n (leggingIn b n) && leggingsSound v (n + 1) (upto (leggingIn b) (n + 1) (16 - (n + 1))))

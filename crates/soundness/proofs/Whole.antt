@@ -126,10 +126,12 @@ sound-is : (v : Venue) → sound v ≡ (placesSound v && ordersSound v)
 unfolding sound placesSound keptSound ordersSound
 sound-is v =
     let r = regularsFrom (v .last) 0 (v .regular) && onIncrements v in
-    ap (λ (t : Bool). t && complexesSound v && all listedInRange (v .series) && editionsSound v && generationsSound v && leb (v .reached) (v .last) && leb (v .last) 4294967295 && idsDistinct v && all (apart v) eight && leggingsSound v 0 (v .legging)) (regulars-are v)
+    ap (λ (t : Bool). t && complexesSound v && all listedInRange (v .series) && editionsSound v && generationsSound v && leb (v .reached) (v .last)
+    && leb (v .last) 4294967295 && idsDistinct v && all (apart v) eight && leggingsSound v 0 (v .legging)) (regulars-are v)
     ∙ ap (λ (t : Bool). t && leb (v .last) 4294967295 && idsDistinct v && all (apart v) eight && leggingsSound v 0 (v .legging))
     (and-assoc (r && complexesSound v && all listedInRange (v .series)) (editionsSound v) (generationsSound v) (leb (v .reached) (v .last)))
-    ∙ regroup (regularsFrom (v .last) 0 (v .regular)) (onIncrements v) (complexesSound v) (all listedInRange (v .series)) (keptSound v) (leb (v .last) 4294967295) (idsDistinct v) (all (apart v) eight) (leggingsSound v 0 (v .legging))
+    ∙ regroup (regularsFrom (v .last) 0 (v .regular)) (onIncrements v) (complexesSound v) (all listedInRange (v .series)) (keptSound v)
+    (leb (v .last) 4294967295) (idsDistinct v) (all (apart v) eight) (leggingsSound v 0 (v .legging))
 
 pub checked-not : (v : Venue) (b : List ℕ) → placesSound v ≡ false → Checked v false b
 checked-not v b h = record { answer = sym (sound-is v ∙ rw h); loaded = λ e. absurd (true≢false (sym e)) }

@@ -124,7 +124,16 @@ cause-none n e = rw e
 pub cause-large : (n : ℕ) → 8 < n → causeNumber (causeOf n) ≡ 10
 unfolding causeOf
 cause-large n h =
-    rw (ne-eqb n 1 (λ e. omega arith), ne-eqb n 2 (λ e. omega arith), ne-eqb n 3 (λ e. omega arith), ne-eqb n 4 (λ e. omega arith), ne-eqb n 5 (λ e. omega arith), ne-eqb n 6 (λ e. omega arith), ne-eqb n 7 (λ e. omega arith), ne-eqb n 8 (λ e. omega arith))
+    rw (
+      ne-eqb n 1 (λ e. omega arith),
+      ne-eqb n 2 (λ e. omega arith),
+      ne-eqb n 3 (λ e. omega arith),
+      ne-eqb n 4 (λ e. omega arith),
+      ne-eqb n 5 (λ e. omega arith),
+      ne-eqb n 6 (λ e. omega arith),
+      ne-eqb n 7 (λ e. omega arith),
+      ne-eqb n 8 (λ e. omega arith),
+    )
 
 pub cause-same : (n : ℕ) → 0 < n → n ≤ 8 → causeNumber (causeOf n) ≡ n
 unfolding causeOf

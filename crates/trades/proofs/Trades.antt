@@ -89,7 +89,14 @@ module _ (taker s d p : ℕ) where
         (elim t [ false ↦ nothing v | true ↦ elim x [ nobody ↦ nothing v | picked i o ↦ tradeWith taker d i (min k (shown o)) v ⟫ take f taker s d p (k - min k (shown o)) ] ])
     unfolding take
     take-by f k t x e h =
-        ap₂ (λ (t : Bool) (x : Choice Regular). elim t [ false ↦ nothing v | true ↦ elim x [ nobody ↦ nothing v | picked i o ↦ tradeWith taker d i (min k (shown o)) v ⟫ take f taker s d p (k - min k (shown o)) ] ]) e h
+        ap₂ (λ (t : Bool) (x : Choice Regular). elim t [
+          | false ↦ nothing v
+          | true ↦ elim x [
+            | nobody ↦ nothing v
+            | picked i o ↦ tradeWith taker d i (min k (shown o)) v ⟫ take f taker s d p
+                (k - min k (shown o))
+          ]
+        ]) e h
 
     pub take-out : (k : ℕ) → 0 < k → pick.Nobody ≡ pickOf (wanted v) → nothing v ≡ take k taker s d p k v
     take-out zero n e = absurd (omega arith)

@@ -17,7 +17,8 @@ use Rattle.rules.specs.declared.Legging.{Legging}
 use Rattle.rules.specs.declared.Listed.{Listed}
 use Rattle.rules.specs.declared.Edition.{Edition}
 use Rattle.rules.specs.declared.Venue.{Venue}
-use Rattle.rules.specs.Words.{noRegular, noComplex, noLegging, notListed, noEdition, withRegular, withComplex, withLegging, withSeries, withEditions, withGenerations, withLast, withReached, isSeries, isSide, within}
+use Rattle.rules.specs.Words.{noRegular, noComplex, noLegging, notListed, noEdition, withRegular, withComplex, withLegging, withSeries, withEditions}
+use Rattle.rules.specs.Words.{withGenerations, withLast, withReached, isSeries, isSide, within}
 use Rattle.rules.specs.Places.{holdsRegular, holdsComplex, holdsEdition, blankRegular, blankComplex, blankEdition, packed, closeGaps}
 use Rattle.rules.specs.Step.{mask}
 use Rattle.rules.specs.Settings.{figureNow, increment}
@@ -30,9 +31,12 @@ use Rattle.rules.proofs.Closing.{packed-free}
 use Rattle.rules.proofs.Arranging.{arranged-out, blank-free, blank-freeC, closed-same}
 use Rattle.places.proofs.Orderly.{sound-orderly}
 use Rattle.places.proofs.Fully.{range-bounded, sound-fully}
-use Rattle.places.specs.Layout.{size, inUse, regularIn, complexIn, listedIn, editionIn, venueOf, regularPut, Bounded, editionRow, Fully, Figured, FiguresCounted, Kept, SameCounts, Filled, Placed, OnSide, RegularsPlaced, ComplexesPlaced, Loadable, RegularsLoaded, ComplexesLoaded, EditionsLoaded, BesideCounted, Laid}
+use Rattle.places.specs.Layout.{size, inUse, regularIn, complexIn, listedIn, editionIn, venueOf, regularPut, Bounded, editionRow, Fully, Figured}
+use Rattle.places.specs.Layout.{FiguresCounted, Kept, SameCounts, Filled, Placed, OnSide, RegularsPlaced, ComplexesPlaced, Loadable, RegularsLoaded}
+use Rattle.places.specs.Layout.{ComplexesLoaded, EditionsLoaded, BesideCounted, Laid}
 use Rattle.places.proofs.Tables.{upto-length, used-length, used-at, used-free, whole}
-use Rattle.places.proofs.Parts.{Outside, OutsideRows, halves, stored, wider, edition-kept, count-kept, count-kept2, regulars-kept, complexes-kept, leggings-kept, series-kept, generations-kept, last-kept, reached-kept, venue-is}
+use Rattle.places.proofs.Parts.{Outside, OutsideRows, halves, stored, wider, edition-kept, count-kept, count-kept2, regulars-kept, complexes-kept}
+use Rattle.places.proofs.Parts.{leggings-kept, series-kept, generations-kept, last-kept, reached-kept, venue-is}
 use Rattle.places.proofs.Masks.{legging-many}
 use Rattle.places.proofs.Beside.{figures-marked, beside-venue}
 use Rattle.place_writes.proofs.Figures.{counted-outside}
@@ -285,11 +289,14 @@ figures-some : (v : Venue) (s : ℕ) → 0 < increment v s → 0 < figureNow v s
 unfolding increment
 figures-some v s h = h
 
-pub beside-counted : (h f : List ℕ) (x : ℕ) → length h ≡ size → x ≡ mask (venueOf h .legging) → length f ≡ length h → FiguresCounted h f → BesideCounted h (set (set (set (set f 827 0) 828 0) 829 x) 1231 0)
+pub beside-counted : (h f : List ℕ) (x : ℕ) → length h ≡ size → x ≡ mask (venueOf h .legging) → length f ≡ length h → FiguresCounted h f →
+    BesideCounted h (set (set (set (set f 827 0) 828 0) 829 x) 1231 0)
 beside-counted h f x wide count even figs = record {
   venue = same;
-  regulars = count-kept four (inl (omega arith)) ∙ count-kept three (inl (omega arith)) ∙ count-kept two (inl (omega arith)) ∙ count-kept one (inl (omega arith)) ∙ count-kept aside (inl (omega arith));
-  complexes = count-kept2 four (inl (omega arith)) ∙ count-kept2 three (inl (omega arith)) ∙ count-kept2 two (inl (omega arith)) ∙ count-kept2 one (inl (omega arith)) ∙ count-kept2 aside (inl (omega arith));
+  regulars = count-kept four (inl (omega arith)) ∙ count-kept three (inl (omega arith)) ∙ count-kept two (inl (omega arith)) ∙ count-kept one
+      (inl (omega arith)) ∙ count-kept aside (inl (omega arith));
+  complexes = count-kept2 four (inl (omega arith)) ∙ count-kept2 three (inl (omega arith)) ∙ count-kept2 two (inl (omega arith)) ∙ count-kept2 one
+      (inl (omega arith)) ∙ count-kept2 aside (inl (omega arith));
   marked = λ steps shown. record {
     regulars = λ k w. absurd (omega (arith, four .same 827 (inl (omega arith)), three .same 827 (inl (omega arith)), two .same 827 (inl (omega arith)), getD-set-same f 827 0 0 (omega (arith, long))));
     complexes = λ k w. absurd (omega (arith, four .same 828 (inl (omega arith)), three .same 828 (inl (omega arith)), getD-set-same (set f 827 0) 828 0 0 (omega (arith, long, length-set f 827 0))));
@@ -325,7 +332,9 @@ beside-counted h f x wide count even figs = record {
     beside = beside-venue aside (omega arith) (inr (omega arith)) (inr (omega arith)) (omega arith)
 
     same : venueOf (set y 1231 0) ≡ venueOf h
-    same = beside-venue four (omega arith) (inr (omega arith)) (inl (omega arith)) (omega arith) ∙ beside-venue three (omega arith) (inl (omega arith)) (inr (omega arith)) (omega arith) ∙ beside-venue two (omega arith) (inl (omega arith)) (inr (omega arith)) (omega arith) ∙ beside-venue one (omega arith) (inl (omega arith)) (inr (omega arith)) (omega arith) ∙ beside
+    same = beside-venue four (omega arith) (inr (omega arith)) (inl (omega arith)) (omega arith) ∙ beside-venue three (omega arith)
+        (inl (omega arith)) (inr (omega arith)) (omega arith) ∙ beside-venue two (omega arith) (inl (omega arith)) (inr (omega arith)) (omega arith)
+        ∙ beside-venue one (omega arith) (inl (omega arith)) (inr (omega arith)) (omega arith) ∙ beside
 
     figured : ((s : ℕ) → s < 8 → 0 < increment (venueOf h) s) → Figured f
     figured steps = record { so = figs .figures; some = λ s w. rw (figs .figures s (omega arith), beside) (figures-some (venueOf h) s (steps s w)) }
@@ -336,7 +345,11 @@ pub loaded : (v : Venue) (k a b c d e g h y : List ℕ) → venueOf a ≡ withRe
     BesideCounted h y → ((s : ℕ) → s < 8 → 0 < increment v s) → Fully (v .regular) → Laid v y
 unfolding withRegular withComplex withLegging withSeries withEditions withGenerations withLast withReached
 loaded v k a b c d e g h y t rs cs ls n ss o es lt p beside steps shown =
-    let is : venueOf h ≡ v = lt ∙ ap (λ (w : Venue). withLast w (v .last)) (es .venue ∙ ap (λ (w : Venue). withEditions w (v .editions)) (ss ∙ ap (λ (w : Venue). withSeries w (v .series)) (ls ∙ ap (λ (w : Venue). withLegging w (v .legging)) (cs .venue ∙ ap (λ (w : Venue). withComplex w (v .complex)) (rs .venue ∙ ap (λ (w : Venue). withRegular w (v .regular)) t))))) in
+    let is : venueOf h ≡ v = lt ∙ ap (λ (w : Venue). withLast w (v .last))
+    (es .venue ∙ ap (λ (w : Venue). withEditions w (v .editions))
+    (ss ∙ ap (λ (w : Venue). withSeries w (v .series))
+    (ls ∙ ap (λ (w : Venue). withLegging w (v .legging))
+    (cs .venue ∙ ap (λ (w : Venue). withComplex w (v .complex)) (rs .venue ∙ ap (λ (w : Venue). withRegular w (v .regular)) t))))) in
     record {
       venue = beside .venue ∙ is;
       regulars = regulars-filled h y (ap (λ (w : Venue). w .regular) (beside .venue)) (beside .regulars)

@@ -19,11 +19,13 @@ use Rattle.wire.proofs.Numbers.{u32-here}
 use Rattle.places.specs.Layout.{upto}
 use Rattle.places.proofs.Tables.{upto-length, upto-at}
 use Rattle.places.proofs.Parts.{venue-is}
-use Rattle.venue_bytes.specs.Held.{editionsAt, reservesAt, ratiosAt, generationsAt, reachedAt, regularBytes, complexBytes, leggingBytes, listedBytes, editionBytes, reserveBytes, ratioBytes, messagesOf, generationsBytes, rows, venueBytes}
+use Rattle.venue_bytes.specs.Held.{editionsAt, reservesAt, ratiosAt, generationsAt, reachedAt, regularBytes, complexBytes, leggingBytes, listedBytes}
+use Rattle.venue_bytes.specs.Held.{editionBytes, reserveBytes, ratioBytes, messagesOf, generationsBytes, rows, venueBytes}
 use Rattle.venue_bytes.specs.Held.{rowAt, rowsAt, venueFrom, regularFrom, complexFrom, leggingFrom, listedFrom, editionFrom, generationsFrom}
 use Rattle.venue_bytes.specs.Held.{RegularFits, ComplexFits, LeggingFits, ListedFits, EditionFits, GenerationsFits, HeldWhole}
 use Rattle.venue_bytes.proofs.Rows.{rows-append, rows-length}
-use Rattle.venue_writer.proofs.Widths.{regular-width, complex-width, legging-width, listed-width, edition-width, reserve-width, ratio-width, number-width, messages-many, message-at, generations-width}
+use Rattle.venue_writer.proofs.Widths.{regular-width, complex-width, legging-width, listed-width, edition-width, reserve-width, ratio-width}
+use Rattle.venue_writer.proofs.Widths.{number-width, messages-many, message-at, generations-width}
 use Rattle.venue_writer.proofs.Whole.{regular-part, complex-part, legging-part, series-part, last-part, editions-part, reserves-part, ratios-part, generations-part}
 
 -- A row ---------------------------------------------------------------------------------------
@@ -162,17 +164,21 @@ held-whole v d =
     let s = d .sized in
     let split : venueBytes v ≡ R ++ C ++ L ++ S ++ (Z ++ (E ++ H ++ Q ++ N ++ P)) = simp append-assoc in
     venue-is _ _
-    (tables-back regularBytes reserveBytes 14 8 regular-width reserve-width noRegular regularFrom 0 reservesAt 128 (venueBytes v) [] (C ++ L ++ S ++ Z ++ E ++ H ++ Q ++ N ++ P) (R ++ C ++ L ++ S ++ Z ++ E) (Q ++ N ++ P) (v .regular)
+    (tables-back regularBytes reserveBytes 14 8 regular-width reserve-width noRegular regularFrom 0 reservesAt 128 (venueBytes v) []
+    (C ++ L ++ S ++ Z ++ E ++ H ++ Q ++ N ++ P) (R ++ C ++ L ++ S ++ Z ++ E) (Q ++ N ++ P) (v .regular)
     (simp append-assoc) refl (simp append-assoc) (editions-part v s) (s .regular) (λ i r t. regular-back _ (d .regular i) r t))
-    (tables-back complexBytes ratioBytes 17 2 complex-width ratio-width noComplex complexFrom 1792 ratiosAt 32 (venueBytes v) R (L ++ S ++ Z ++ E ++ H ++ Q ++ N ++ P) (R ++ C ++ L ++ S ++ Z ++ E ++ H) (N ++ P) (v .complex)
+    (tables-back complexBytes ratioBytes 17 2 complex-width ratio-width noComplex complexFrom 1792 ratiosAt 32 (venueBytes v) R
+    (L ++ S ++ Z ++ E ++ H ++ Q ++ N ++ P) (R ++ C ++ L ++ S ++ Z ++ E ++ H) (N ++ P) (v .complex)
     (simp append-assoc) (regular-part v s) (simp append-assoc) (reserves-part v s) (s .complex) (λ i r t. complex-back _ (d .complex i) r t))
     (table-back leggingBytes 12 legging-width noLegging leggingFrom 2336 16 (venueBytes v) (R ++ C) (S ++ Z ++ E ++ H ++ Q ++ N ++ P) (v .legging) (simp append-assoc) (complex-part v s) (s .legging)
     (λ i r. legging-back _ (d .legging i) r))
     (table-back listedBytes 9 listed-width notListed listedFrom 2528 8 (venueBytes v) (R ++ C ++ L) (Z ++ E ++ H ++ Q ++ N ++ P) (v .series) (simp append-assoc) (legging-part v s) (s .series)
     (λ i r. listed-back _ (d .series i) r))
-    (table-back editionBytes 10 edition-width noEdition editionFrom editionsAt 32 (venueBytes v) (R ++ C ++ L ++ S ++ Z) (H ++ Q ++ N ++ P) (v .editions) (simp append-assoc) (last-part v s) (s .editions)
+    (table-back editionBytes 10 edition-width noEdition editionFrom editionsAt 32 (venueBytes v) (R ++ C ++ L ++ S ++ Z) (H ++ Q ++ N ++ P)
+    (v .editions) (simp append-assoc) (last-part v s) (s .editions)
     (λ i r. edition-back _ (d .editions i) r))
-    (table-back generationsBytes 80 generations-width noGenerations generationsFrom generationsAt 8 (venueBytes v) (R ++ C ++ L ++ S ++ Z ++ E ++ H ++ Q) P (v .generations) refl (ratios-part v s) (s .generations)
+    (table-back generationsBytes 80 generations-width noGenerations generationsFrom generationsAt 8 (venueBytes v)
+    (R ++ C ++ L ++ S ++ Z ++ E ++ H ++ Q) P (v .generations) refl (ratios-part v s) (s .generations)
     (λ i r. generations-back _ (d .generations i) r))
     (u32-here 2600 (venueBytes v)
     ∙ ap (λ (x : List ℕ). u32At (drop 2600 x) 0) split

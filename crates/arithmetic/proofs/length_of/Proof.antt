@@ -59,7 +59,19 @@ returns-13 : tie.Need-returns-13
 unfolding lengthOf
 returns-13 c =
     let k = c .before .before .before .before .before .before .before .before .before .before .before .before .args .kind in
-    rw (ne-eqb k 1 (λ e. omega arith), ne-eqb k 2 (λ e. omega arith), ne-eqb k 3 (λ e. omega arith), ne-eqb k 4 (λ e. omega arith), ne-eqb k 5 (λ e. omega arith), ne-eqb k 6 (λ e. omega arith), ne-eqb k 7 (λ e. omega arith), ne-eqb k 8 (λ e. omega arith), ne-eqb k 9 (λ e. omega arith), ne-eqb k 10 (λ e. omega arith), ne-eqb k 11 (λ e. omega arith))
+    rw (
+      ne-eqb k 1 (λ e. omega arith),
+      ne-eqb k 2 (λ e. omega arith),
+      ne-eqb k 3 (λ e. omega arith),
+      ne-eqb k 4 (λ e. omega arith),
+      ne-eqb k 5 (λ e. omega arith),
+      ne-eqb k 6 (λ e. omega arith),
+      ne-eqb k 7 (λ e. omega arith),
+      ne-eqb k 8 (λ e. omega arith),
+      ne-eqb k 9 (λ e. omega arith),
+      ne-eqb k 10 (λ e. omega arith),
+      ne-eqb k 11 (λ e. omega arith),
+    )
 
 pub length-of-spec : {M : Type 1} → statement M
 length-of-spec =

@@ -32,7 +32,10 @@ loop-again c =
     let a = c .before .before .before .before .before .before .before .before .args in (
       omega (arith, l .inv .0),
       met-past (a .b .now) (a .series) (a .side) (a .price) _ _ (c .before .before .loop-test .taken) (l .inv .0) (l .inv .1)
-          (met-key (a .series) (a .side) (a .price) _ (λ e. c .if1 .taken (c .before .key-at .ensures ∙ e ∙ ap (placeOf (a .series)) (sym (c .before .before .before .before .before .before .opposite-of .ensures)) ∙ sym (c .before .before .before .before .before .place-of .ensures)))),
+          (met-key (a .series) (a .side) (a .price) _
+          (λ e. c .if1 .taken (c .before .key-at .ensures ∙ e ∙ ap (placeOf (a .series))
+          (sym (c .before .before .before .before .before .before .opposite-of .ensures))
+          ∙ sym (c .before .before .before .before .before .place-of .ensures)))),
     )
 
 regular-at-requires : tie.Need-regular-at-requires Inv-loop μ-loop
@@ -52,7 +55,8 @@ loop-again-3 c =
     let l = c .before .before .before .before .before .before .before .loop in
     let a = c .before .before .before .before .before .before .before .before .before .before .before .before .args in (
       omega (arith, l .inv .0),
-      met-join (a .b .now) (a .series) (a .side) (a .price) _ _ (c .before .before .before .before .before .before .loop-test .taken) (l .inv .0) (l .inv .1) _ (c .before .before .before .regular-at .ensures)
+      met-join (a .b .now) (a .series) (a .side) (a .price) _ _ (c .before .before .before .before .before .before .loop-test .taken) (l .inv .0)
+          (l .inv .1) _ (c .before .before .before .regular-at .ensures)
           (sym (c .before .before .is-met .ensures) ∙ not-false _ (c .before .if2 .left)) _ (c .better-pick .ensures),
     )
 

@@ -29,13 +29,17 @@ some r u i h = fully-some _ h (r .orders .displayed i h) (r .marked .shows u i)
 -- the best price of the other side, as it is asked
 best-asked : (c : tie.After-reaches-any) →
     c .reaches-any .result
-    ≡ reachesAny (c .before .before .before .before .args .side) (c .before .before .before .before .args .price) (bestIn (c .before .before .before .before .args .series) (opposite (c .before .before .before .before .args .side)) (venueOf (c .before .before .before .before .args .b .now) .regular))
+    ≡ reachesAny (c .before .before .before .before .args .side) (c .before .before .before .before .args .price)
+    (bestIn (c .before .before .before .before .args .series) (opposite (c .before .before .before .before .args .side))
+    (venueOf (c .before .before .before .before .args .b .now) .regular))
 unfolding bestRegular
 best-asked c =
     let p1 = c .before in
     let p4 = p1 .before .before .before in
     c .reaches-any .ensures
-    ∙ ap (reachesAny (p4 .args .side) (p4 .args .price)) (p1 .best-regular .ensures ∙ ap (λ (d : ℕ). bestIn (p4 .args .series) d (venueOf (p4 .args .b .now) .regular)) (p1 .before .opposite-of .ensures))
+    ∙ ap (reachesAny (p4 .args .side) (p4 .args .price))
+    (p1 .best-regular .ensures ∙ ap (λ (d : ℕ). bestIn (p4 .args .series) d (venueOf (p4 .args .b .now) .regular))
+    (p1 .before .opposite-of .ensures))
 
 returns : tie.Need-returns
 unfolding pickOf
@@ -56,7 +60,8 @@ returns-2 c =
     ∙ ap (λ (d : ℕ). pickOf (first (showsFor (p6 .args .series) d (p3 .best-regular .result)) earlier os)) (p4 .opposite-of .ensures)
     ∙ ap (λ (p : ℕ). pickOf (first (showsFor (p6 .args .series) (opposite (p6 .args .side)) p) earlier os))
     (p3 .best-regular .ensures ∙ ap (λ (d : ℕ). bestIn (p6 .args .series) d os) (p4 .opposite-of .ensures))
-    ∙ sym (ap pickOf (met-earliest (p6 .args .series) (p6 .args .side) (p6 .args .price) os (p6 .pre .1 .orders) (some (p6 .pre .1) (p6 .pre .3)) (sym (best-asked p2) ∙ not-false _ (c .before .if1 .left))))
+    ∙ sym (ap pickOf (met-earliest (p6 .args .series) (p6 .args .side) (p6 .args .price) os (p6 .pre .1 .orders) (some (p6 .pre .1) (p6 .pre .3))
+    (sym (best-asked p2) ∙ not-false _ (c .before .if1 .left))))
 
 pub first-shown-spec : {M : Type 1} → statement M
 first-shown-spec =

@@ -14,7 +14,8 @@ returns-3 : tie.Need-returns-3
 returns-3 c = met-own _ _ _ _ (c .before .before .before .before .before .if1 .left) (c .before .before .before .if2 .left) _ (c .before .before .opposite-of .ensures) (c .if3 .taken)
 
 returns-4 : tie.Need-returns-4
-returns-4 c = met-reached _ _ _ _ (c .before .before .before .before .before .before .if1 .left) (c .before .before .before .before .if2 .left) _ (c .before .before .before .opposite-of .ensures) (c .before .if3 .left) _ (c .reaches-price .ensures)
+returns-4 c = met-reached _ _ _ _ (c .before .before .before .before .before .before .if1 .left) (c .before .before .before .before .if2 .left) _
+    (c .before .before .before .opposite-of .ensures) (c .before .if3 .left) _ (c .reaches-price .ensures)
 
 pub is-met-spec : {M : Type 1} → statement M
 is-met-spec =

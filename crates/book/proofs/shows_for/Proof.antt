@@ -14,7 +14,8 @@ returns-3 : tie.Need-returns-3
 returns-3 c = shows-facing _ _ _ _ _ (c .before .before .before .before .before .shown-of .ensures) (c .before .before .before .before .if1 .left) (c .before .before .if2 .left) (c .if3 .taken)
 
 returns-4 : tie.Need-returns-4
-returns-4 c = shows-price _ _ _ _ _ (c .before .before .before .before .before .before .shown-of .ensures) (c .before .before .before .before .before .if1 .left) (c .before .before .before .if2 .left) (c .before .if3 .left)
+returns-4 c = shows-price _ _ _ _ _ (c .before .before .before .before .before .before .shown-of .ensures)
+    (c .before .before .before .before .before .if1 .left) (c .before .before .before .if2 .left) (c .before .if3 .left)
 
 pub shows-for-spec : {M : Type 1} → statement M
 shows-for-spec = tie.close (tie.spec (λ c κs. search needs) returns returns-2 returns-3 returns-4)

@@ -8,7 +8,8 @@ returns : tie.Need-returns
 returns c = none-begun _ (c .if1 .taken)
 
 returns-2 : tie.Need-returns-2
-returns-2 c = let k = c .before .before .before .before .fresh in fresh-begun _ _ (k .result) (c .before .before .before .before .before .if1 .left) (k .ensures) (c .before .before .put-venue .ensures)
+returns-2 c = let k = c .before .before .before .before .fresh in fresh-begun _ _ (k .result) (c .before .before .before .before .before .if1 .left)
+    (k .ensures) (c .before .before .put-venue .ensures)
 
 pub legging-fresh-spec : {M : Type 1} → statement M
 legging-fresh-spec = tie.close (tie.spec returns (λ c κs. search needs) (λ c κs. search needs) (λ c. search needs) returns-2)

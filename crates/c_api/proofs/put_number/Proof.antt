@@ -5,7 +5,8 @@ use Rattle.c_api.proofs.put_number.Statement.{statement}
 use Rattle.c_api.proofs.put_number.Tie as tie
 
 returns : tie.Need-returns
-returns c = let s = c .before .before .before .before .before .before .before in number-put (s .args .out .now) _ _ (s .args .x) _ (s .pre) (c .before .before .before .before .before .bytes4 .ensures) (c .before .before .put .ensures)
+returns c = let s = c .before .before .before .before .before .before .before in number-put (s .args .out .now) _ _ (s .args .x) _ (s .pre)
+    (c .before .before .before .before .before .bytes4 .ensures) (c .before .before .put .ensures)
 
 pub put-number-spec : {M : Type 1} → statement M
 put-number-spec =

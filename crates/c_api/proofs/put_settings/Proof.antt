@@ -10,7 +10,9 @@ use Rattle.c_api.proofs.put_settings.Tie as tie
 
 returns : tie.Need-returns
 unfolding settingsBytes
-returns c = let n : length (c .before .before .before .before .before .before .before .before .before .before .before .before .args .s .increments) ≡ 8 = search needs in put-both _ _ _ _ _ _ _ (omega arith) (c .before .before .before .before .before .before .before .put .ensures) (c .before .before .put2 .ensures)
+returns c = let n : length (c .before .before .before .before .before .before .before .before .before .before .before .before .args .s .increments) ≡
+    8 = search needs in put-both _ _ _ _ _ _ _ (omega arith) (c .before .before .before .before .before .before .before .put .ensures)
+    (c .before .before .put2 .ensures)
 
 pub put-settings-spec : {M : Type 1} → statement M
 put-settings-spec =

@@ -14,10 +14,13 @@ returns : tie.Need-returns
 returns c = cross-free _ (c .before .before .before .args .c) (c .before .before .before .args .m) (c .if1 .taken)
 
 returns-2 : tie.Need-returns-2
-returns-2 c = cross-aside _ (c .before .before .before .before .before .args .c) (c .before .before .before .before .before .args .m) (c .before .before .if1 .left) (off _ _ (c .before .is-reversed .ensures) (c .if2 .taken))
+returns-2 c = let start = c .before .before .before .before .before in cross-aside _ (start .args .c) (start .args .m) (c .before .before .if1 .left)
+    (off _ _ (c .before .is-reversed .ensures) (c .if2 .taken))
 
 returns-3 : tie.Need-returns-3
-returns-3 c = cross-apart _ (c .before .before .before .before .before .before .before .args .c) (c .before .before .before .before .before .before .before .args .m) (c .before .before .before .before .if1 .left) (on _ _ (c .before .before .before .is-reversed .ensures) (c .before .before .if2 .left)) (off _ _ (c .before .limits-meet .ensures) (c .if3 .taken))
+returns-3 c = let start = c .before .before .before .before .before .before .before in cross-apart _ (start .args .c) (start .args .m)
+    (c .before .before .before .before .if1 .left) (on _ _ (c .before .before .before .is-reversed .ensures) (c .before .before .if2 .left))
+    (off _ _ (c .before .limits-meet .ensures) (c .if3 .taken))
 
 taken-at-requires : tie.Need-taken-at-requires
 taken-at-requires c κs = let p = c .before .before .before .before .before .before .before .before .pre in (p .0, p .1, p .2)
@@ -32,7 +35,10 @@ returns-4 : tie.Need-returns-4
 returns-4 c =
     let a = c .before .before .before .before .before .before .before .before .before .before .before .args in
     let u = c .before .before .before .net-against in
-    cross-out _ (a .c) (a .m) (c .before .before .before .before .before .before .before .before .if1 .left) (on _ _ (c .before .before .before .before .before .before .before .is-reversed .ensures) (c .before .before .before .before .before .before .if2 .left)) (on _ _ (c .before .before .before .before .before .limits-meet .ensures) (c .before .before .before .before .if3 .left))
+    cross-out _ (a .c) (a .m) (c .before .before .before .before .before .before .before .before .if1 .left)
+    (on _ _ (c .before .before .before .before .before .before .before .is-reversed .ensures)
+    (c .before .before .before .before .before .before .if2 .left))
+    (on _ _ (c .before .before .before .before .before .limits-meet .ensures) (c .before .before .before .before .if3 .left))
     (off _ _ (c .before .in-band .ensures ∙ ap (inBand _ (a .c)) (back {z = u .result} (record { sfits = u .ok }) ∙ u .ensures .0)) (c .if4 .taken))
 
 taken-at-requires-2 : tie.Need-taken-at-requires-2
@@ -49,8 +55,13 @@ returns-5 c =
     let a = c .before .before .before .before .before .before .before .before .before .before .before .before .before .before .before .args in
     let u = c .before .before .before .before .before .before .before .net-against in
     let w = c .before .before .before .limit-of in
-    cross-far _ (a .c) (a .m) (c .before .before .before .before .before .before .before .before .before .before .before .before .if1 .left) (on _ _ (c .before .before .before .before .before .before .before .before .before .before .before .is-reversed .ensures) (c .before .before .before .before .before .before .before .before .before .before .if2 .left)) (on _ _ (c .before .before .before .before .before .before .before .before .before .limits-meet .ensures) (c .before .before .before .before .before .before .before .before .if3 .left))
-    (on _ _ (c .before .before .before .before .before .in-band .ensures ∙ ap (inBand _ (a .c)) (back {z = u .result} (record { sfits = u .ok }) ∙ u .ensures .0)) (c .before .before .before .before .if4 .left))
+    cross-far _ (a .c) (a .m) (c .before .before .before .before .before .before .before .before .before .before .before .before .if1 .left)
+    (on _ _ (c .before .before .before .before .before .before .before .before .before .before .before .is-reversed .ensures)
+    (c .before .before .before .before .before .before .before .before .before .before .if2 .left))
+    (on _ _ (c .before .before .before .before .before .before .before .before .before .limits-meet .ensures)
+    (c .before .before .before .before .before .before .before .before .if3 .left))
+    (on _ _ (c .before .before .before .before .before .in-band .ensures ∙ ap (inBand _ (a .c))
+    (back {z = u .result} (record { sfits = u .ok }) ∙ u .ensures .0)) (c .before .before .before .before .if4 .left))
     (off _ _ (c .before .in-band2 .ensures ∙ ap (inBand _ (a .m)) (back {z = w .result} (record { sfits = w .ok }) ∙ w .ensures .0)) (c .if5 .taken))
 
 returns-6 : tie.Need-returns-6
@@ -58,20 +69,35 @@ returns-6 c =
     let a = c .before .before .before .before .before .before .before .before .before .before .before .before .before .before .before .before .before .args in
     let u = c .before .before .before .before .before .before .before .before .before .net-against in
     let w = c .before .before .before .before .before .limit-of in
-    cross-above _ (a .c) (a .m) (c .before .before .before .before .before .before .before .before .before .before .before .before .before .before .if1 .left) (on _ _ (c .before .before .before .before .before .before .before .before .before .before .before .before .before .is-reversed .ensures) (c .before .before .before .before .before .before .before .before .before .before .before .before .if2 .left)) (on _ _ (c .before .before .before .before .before .before .before .before .before .before .before .limits-meet .ensures) (c .before .before .before .before .before .before .before .before .before .before .if3 .left))
-    (on _ _ (c .before .before .before .before .before .before .before .in-band .ensures ∙ ap (inBand _ (a .c)) (back {z = u .result} (record { sfits = u .ok }) ∙ u .ensures .0)) (c .before .before .before .before .before .before .if4 .left))
+    cross-above _ (a .c) (a .m)
+    (c .before .before .before .before .before .before .before .before .before .before .before .before .before .before .if1 .left)
+    (on _ _ (c .before .before .before .before .before .before .before .before .before .before .before .before .before .is-reversed .ensures)
+    (c .before .before .before .before .before .before .before .before .before .before .before .before .if2 .left))
+    (on _ _ (c .before .before .before .before .before .before .before .before .before .before .before .limits-meet .ensures)
+    (c .before .before .before .before .before .before .before .before .before .before .if3 .left))
+    (on _ _ (c .before .before .before .before .before .before .before .in-band .ensures ∙ ap (inBand _ (a .c))
+    (back {z = u .result} (record { sfits = u .ok }) ∙ u .ensures .0)) (c .before .before .before .before .before .before .if4 .left))
     (on _ _ (c .before .before .before .in-band2 .ensures ∙ ap (inBand _ (a .m)) (back {z = w .result} (record { sfits = w .ok }) ∙ w .ensures .0)) (c .before .before .if5 .left))
-    (off _ _ (c .before .respects-legs .ensures _ (c .before .before .before .before .before .before .before .before .taken-at .ensures) ∙ ap (respectsLegs _ (a .c)) (back {z = u .result} (record { sfits = u .ok }) ∙ u .ensures .0)) (c .if6 .taken))
+    (off _ _ (c .before .respects-legs .ensures _ (c .before .before .before .before .before .before .before .before .taken-at .ensures)
+    ∙ ap (respectsLegs _ (a .c)) (back {z = u .result} (record { sfits = u .ok }) ∙ u .ensures .0)) (c .if6 .taken))
 
 returns-7 : tie.Need-returns-7
 returns-7 c =
     let a = c .before .before .before .before .before .before .before .before .before .before .before .before .before .before .before .before .before .before .args in
     let u = c .before .before .before .before .before .before .before .before .before .before .net-against in
     let w = c .before .before .before .before .before .before .limit-of in
-    cross-last _ (a .c) (a .m) (c .before .before .before .before .before .before .before .before .before .before .before .before .before .before .before .if1 .left) (on _ _ (c .before .before .before .before .before .before .before .before .before .before .before .before .before .before .is-reversed .ensures) (c .before .before .before .before .before .before .before .before .before .before .before .before .before .if2 .left)) (on _ _ (c .before .before .before .before .before .before .before .before .before .before .before .before .limits-meet .ensures) (c .before .before .before .before .before .before .before .before .before .before .before .if3 .left))
-    (on _ _ (c .before .before .before .before .before .before .before .before .in-band .ensures ∙ ap (inBand _ (a .c)) (back {z = u .result} (record { sfits = u .ok }) ∙ u .ensures .0)) (c .before .before .before .before .before .before .before .if4 .left))
+    cross-last _ (a .c) (a .m)
+    (c .before .before .before .before .before .before .before .before .before .before .before .before .before .before .before .if1 .left)
+    (on _ _ (c .before .before .before .before .before .before .before .before .before .before .before .before .before .before .is-reversed
+    .ensures) (c .before .before .before .before .before .before .before .before .before .before .before .before .before .if2 .left))
+    (on _ _ (c .before .before .before .before .before .before .before .before .before .before .before .before .limits-meet .ensures)
+    (c .before .before .before .before .before .before .before .before .before .before .before .if3 .left))
+    (on _ _ (c .before .before .before .before .before .before .before .before .in-band .ensures ∙ ap (inBand _ (a .c))
+    (back {z = u .result} (record { sfits = u .ok }) ∙ u .ensures .0)) (c .before .before .before .before .before .before .before .if4 .left))
     (on _ _ (c .before .before .before .before .in-band2 .ensures ∙ ap (inBand _ (a .m)) (back {z = w .result} (record { sfits = w .ok }) ∙ w .ensures .0)) (c .before .before .before .if5 .left))
-    (on _ _ (c .before .before .respects-legs .ensures _ (c .before .before .before .before .before .before .before .before .before .taken-at .ensures) ∙ ap (respectsLegs _ (a .c)) (back {z = u .result} (record { sfits = u .ok }) ∙ u .ensures .0)) (c .before .if6 .left)) _
+    (on _ _ (c .before .before .respects-legs .ensures _
+    (c .before .before .before .before .before .before .before .before .before .taken-at .ensures) ∙ ap (respectsLegs _ (a .c))
+    (back {z = u .result} (record { sfits = u .ok }) ∙ u .ensures .0)) (c .before .if6 .left)) _
     (c .respects-legs2 .ensures _ (c .before .before .before .before .before .taken-at2 .ensures) ∙ ap (respectsLegs _ (a .m)) (back {z = w .result} (record { sfits = w .ok }) ∙ w .ensures .0))
 
 pub can-cross-spec : {M : Type 1} → statement M

@@ -40,15 +40,18 @@ loop-again c =
     let h = c .before .before .before .loop-test .taken in (
       omega (arith, l .inv .0),
       scan-past (crosses (venueOf (a .b .now)) (a .c)) limitThenId (complexIn (a .b .now)) (l .i) (complexesUsed (a .b .now)) h (l .inv .0) _ (l .inv .1)
-          (cross-key (a .c) (complexIn (a .b .now) (l .i - 1)) (legs-in (a .b .now) (l .i - 1)) _ _ _ (c .before .before .legs-at .ensures) (c .before .before .before .before .before .before .before .facing-key .ensures)
+          (cross-key (a .c) (complexIn (a .b .now) (l .i - 1)) (legs-in (a .b .now) (l .i - 1)) _ _ _ (c .before .before .legs-at .ensures)
+          (c .before .before .before .before .before .before .before .facing-key .ensures)
           (c .before .before .before .before .before .before .facing-key2 .ensures) (off _ _ (c .before .is-either .ensures) (c .if1 .taken)) (venueOf (a .b .now))),
     )
 
 complex-at-requires : tie.Need-complex-at-requires Inv-loop μ-loop
-complex-at-requires c κs = let z = complexes-few (c .before .before .before .before .before .before .before .before .before .args .b .now) in (c .before .before .before .before .before .before .before .before .before .pre .0, omega arith)
+complex-at-requires c κs = let z = complexes-few (c .before .before .before .before .before .before .before .before .before .args .b .now) in
+    (c .before .before .before .before .before .before .before .before .before .pre .0, omega arith)
 
 can-cross-requires : tie.Need-can-cross-requires Inv-loop μ-loop
-can-cross-requires c κs = let p = c .before .before .before .before .before .before .before .before .before .before .pre in (p .0, p .1, p .2, subst LegsIn (sym (c .complex-at .ensures)) (legs-in (c .before .before .before .before .before .before .before .before .before .before .args .b .now) _))
+can-cross-requires c κs = let start = c .before .before .before .before .before .before .before .before .before .before in let p = start .pre in
+    (p .0, p .1, p .2, subst LegsIn (sym (c .complex-at .ensures)) (legs-in (start .args .b .now) _))
 
 loop-again-2 : tie.Need-loop-again-2 Inv-loop μ-loop
 loop-again-2 c =

@@ -7,13 +7,27 @@ use Rattle.cross_makers.proofs.ranks_before.Reads as reads
 use Rattle.cross_makers.proofs.ranks_before.Lts as lts
 
 returns : tie.Need-returns
-returns c = rank-higher (c .before .before .before .args .a) (c .before .before .before .args .m) (test-is (c .before .before .before .args .m .limit) (c .before .before .before .args .a .limit) (record { sfits = c .before .struct-told2 .given .1 .1 .1 .1 .1 .1 .0 .1 }) (record { sfits = c .before .before .struct-told .given .1 .1 .1 .1 .1 .1 .0 .1 }) _ (c .if1 .taken))
+returns c = let start = c .before .before .before in rank-higher (start .args .a) (start .args .m)
+    (test-is (start .args .m .limit) (start .args .a .limit) (record { sfits = c .before .struct-told2 .given .1 .1 .1 .1 .1 .1 .0 .1 })
+    (record { sfits = c .before .before .struct-told .given .1 .1 .1 .1 .1 .1 .0 .1 }) _ (c .if1 .taken))
 
 returns-2 : tie.Need-returns-2
-returns-2 c = rank-lower (c .before .before .before .before .args .a) (c .before .before .before .before .args .m) (test-is (c .before .before .before .before .args .m .limit) (c .before .before .before .before .args .a .limit) (record { sfits = c .before .before .struct-told2 .given .1 .1 .1 .1 .1 .1 .0 .1 }) (record { sfits = c .before .before .before .struct-told .given .1 .1 .1 .1 .1 .1 .0 .1 }) _ (c .before .if1 .left)) (test-is (c .before .before .before .before .args .a .limit) (c .before .before .before .before .args .m .limit) (record { sfits = c .before .before .before .struct-told .given .1 .1 .1 .1 .1 .1 .0 .1 }) (record { sfits = c .before .before .struct-told2 .given .1 .1 .1 .1 .1 .1 .0 .1 }) _ (c .if2 .taken))
+returns-2 c = let start = c .before .before .before .before in rank-lower (start .args .a) (start .args .m)
+    (test-is (start .args .m .limit) (start .args .a .limit) (record { sfits = c .before .before .struct-told2 .given .1 .1 .1 .1 .1 .1 .0 .1 })
+    (record { sfits = c .before .before .before .struct-told .given .1 .1 .1 .1 .1 .1 .0 .1 }) _ (c .before .if1 .left))
+    (test-is (start .args .a .limit) (start .args .m .limit)
+    (record { sfits = c .before .before .before .struct-told .given .1 .1 .1 .1 .1 .1 .0 .1 })
+    (record { sfits = c .before .before .struct-told2 .given .1 .1 .1 .1 .1 .1 .0 .1 }) _ (c .if2 .taken))
 
 returns-3 : tie.Need-returns-3
-returns-3 c = rank-equal (c .before .before .before .before .before .before .args .a) (c .before .before .before .before .before .before .args .m) (test-is (c .before .before .before .before .before .before .args .m .limit) (c .before .before .before .before .before .before .args .a .limit) (record { sfits = c .before .before .before .before .struct-told2 .given .1 .1 .1 .1 .1 .1 .0 .1 }) (record { sfits = c .before .before .before .before .before .struct-told .given .1 .1 .1 .1 .1 .1 .0 .1 }) _ (c .before .before .before .if1 .left)) (test-is (c .before .before .before .before .before .before .args .a .limit) (c .before .before .before .before .before .before .args .m .limit) (record { sfits = c .before .before .before .before .before .struct-told .given .1 .1 .1 .1 .1 .1 .0 .1 }) (record { sfits = c .before .before .before .before .struct-told2 .given .1 .1 .1 .1 .1 .1 .0 .1 }) _ (c .before .before .if2 .left))
+returns-3 c = let start = c .before .before .before .before .before .before in rank-equal (start .args .a) (start .args .m)
+    (test-is (start .args .m .limit) (start .args .a .limit)
+    (record { sfits = c .before .before .before .before .struct-told2 .given .1 .1 .1 .1 .1 .1 .0 .1 })
+    (record { sfits = c .before .before .before .before .before .struct-told .given .1 .1 .1 .1 .1 .1 .0 .1 }) _
+    (c .before .before .before .if1 .left))
+    (test-is (start .args .a .limit) (start .args .m .limit)
+    (record { sfits = c .before .before .before .before .before .struct-told .given .1 .1 .1 .1 .1 .1 .0 .1 })
+    (record { sfits = c .before .before .before .before .struct-told2 .given .1 .1 .1 .1 .1 .1 .0 .1 }) _ (c .before .before .if2 .left))
 
 pub ranks-before-spec : {M : Type 1} → statement M
 ranks-before-spec = tie.close (tie.spec returns returns-2 returns-3)

@@ -18,7 +18,8 @@ best-own-requires c κs =
     (p .0, first-best (venueOf (a .b .now)) (a .taken) (a .c) (p .1) _ (c .opposite-of .ensures), p .2 .first, rw (c .opposite-of .ensures) (opposite-in _))
 
 returns-2 : tie.Need-returns-2
-returns-2 c = touch-none1 _ (c .before .before .before .before .before .before .before .args .c) (c .before .before .before .before .if1 .left) _ _ (c .before .before .opposite-of .ensures) (c .before .best-own .ensures) (c .if2 .taken)
+returns-2 c = touch-none1 _ (c .before .before .before .before .before .before .before .args .c) (c .before .before .before .before .if1 .left) _ _
+    (c .before .before .opposite-of .ensures) (c .before .best-own .ensures) (c .if2 .taken)
 
 best-own-requires-2 : tie.Need-best-own-requires-2
 best-own-requires-2 c κs =
@@ -28,14 +29,21 @@ best-own-requires-2 c κs =
 
 returns-3 : tie.Need-returns-3
 returns-3 c =
-    touch-none2 _ (c .before .before .before .before .before .before .before .before .before .before .before .args .c) (c .before .before .before .before .before .before .before .before .if1 .left) _ _ (c .before .before .before .before .before .before .opposite-of .ensures) (c .before .before .before .before .before .best-own .ensures) (c .before .before .before .before .if2 .left) _ _
+    touch-none2 _ (c .before .before .before .before .before .before .before .before .before .before .before .args .c)
+    (c .before .before .before .before .before .before .before .before .if1 .left) _ _
+    (c .before .before .before .before .before .before .opposite-of .ensures) (c .before .before .before .before .before .best-own .ensures)
+    (c .before .before .before .before .if2 .left) _ _
     (c .before .before .opposite-of2 .ensures) (c .before .best-own2 .ensures) (c .if3 .taken)
 
 returns-4 : tie.Need-returns-4
 returns-4 c =
     let u = c .before .net-of in
     let w = c .limit-of in
-    touch-net _ (c .before .before .before .before .before .before .before .before .before .before .before .before .before .args .c) (c .before .before .before .before .before .before .before .before .before .before .if1 .left) _ _ (c .before .before .before .before .before .before .before .before .opposite-of .ensures) (c .before .before .before .before .before .before .before .best-own .ensures) (c .before .before .before .before .before .before .if2 .left) _ _
+    touch-net _ (c .before .before .before .before .before .before .before .before .before .before .before .before .before .args .c)
+    (c .before .before .before .before .before .before .before .before .before .before .if1 .left) _ _
+    (c .before .before .before .before .before .before .before .before .opposite-of .ensures)
+    (c .before .before .before .before .before .before .before .best-own .ensures) (c .before .before .before .before .before .before .if2 .left)
+    _ _
     (c .before .before .before .before .opposite-of2 .ensures) (c .before .before .before .best-own2 .ensures) (c .before .before .if3 .left) _ _
     (back {z = u .result} (record { sfits = u .ok }) ∙ u .ensures .0) (back {z = w .result} (record { sfits = w .ok }) ∙ w .ensures .0)
 

@@ -20,13 +20,49 @@ complex-at-requires : tie.Need-complex-at-requires
 complex-at-requires c κs = let z = complexes-few (c .before .before .before .args .b .now) in (c .before .before .before .pre .0, omega (arith, c .before .before .before .pre .1))
 
 complex-at-requires-2 : tie.Need-complex-at-requires-2
-complex-at-requires-2 c κs = let z = complexes-few (c .before .before .before .before .before .args .b .now) in (c .before .before .before .before .before .pre .0, omega (arith, c .before .before .before .before .before .pre .2))
+complex-at-requires-2 c κs = let z = complexes-few (c .before .before .before .before .before .args .b .now) in
+    (c .before .before .before .before .before .pre .0, omega (arith, c .before .before .before .before .before .pre .2))
 
 remove-of-requires-2 : tie.Need-remove-of-requires-2
-remove-of-requires-2 c κs = c .before .before .before .before .before .before .remove-of .kept .0 ∙ c .before .before .before .before .before .before .before .before .before .before .before .before .before .before .before .before .fill-complex2 .kept .0 ∙ c .before .before .before .before .before .before .before .before .before .before .before .before .before .before .before .before .before .before .before .before .fill-complex .kept .0 ∙ c .before .before .before .before .before .before .before .before .before .before .before .before .before .before .before .before .before .before .before .before .before .before .before .before .before .before .before .before .pre .0
+remove-of-requires-2 c κs = c .before .before .before .before .before .before .remove-of .kept .0
+    ∙ c .before .before .before .before .before .before .before .before .before .before .before .before .before .before .before .before .fill-complex2
+    .kept .0 ∙ c .before .before .before .before .before .before .before .before .before .before .before .before .before .before .before .before
+    .before .before .before .before .fill-complex .kept .0
+    ∙ c .before .before .before .before .before .before .before .before .before .before .before .before .before .before .before .before .before
+    .before .before .before .before .before .before .before .before .before .before .before .pre .0
 
 returns : tie.Need-returns
-returns c = (cross-law (c .before .before .before .before .before .before .before .before .before .before .before .before .before .before .before .before .before .before .before .before .before .before .before .before .before .before .before .before .before .before .before .before .before .args .i) (c .before .before .before .before .before .before .before .before .before .before .before .before .before .before .before .before .before .before .before .before .before .before .before .before .before .before .before .before .before .before .before .before .before .args .j) (c .before .before .before .before .before .before .before .before .before .before .before .before .before .before .before .before .before .before .before .before .before .before .before .before .before .before .before .before .before .before .before .before .before .args .k) _ _ _ _ _ _ _ _ _ _ _ _ _ _ _ _ (c .before .before .before .before .before .before .before .before .before .before .before .before .before .before .before .before .before .before .before .before .before .before .before .before .before .before .before .before .before .complex-at .ensures ∙ sym (complex-at (c .before .before .before .before .before .before .before .before .before .before .before .before .before .before .before .before .before .before .before .before .before .before .before .before .before .before .before .before .before .before .before .before .before .args .b .now) (c .before .before .before .before .before .before .before .before .before .before .before .before .before .before .before .before .before .before .before .before .before .before .before .before .before .before .before .before .before .before .before .before .before .args .i) (c .before .before .before .before .before .before .before .before .before .before .before .before .before .before .before .before .before .before .before .before .before .before .before .before .before .before .before .before .before .before .before .before .before .pre .1))) (c .before .before .before .before .before .before .before .before .before .before .before .before .before .before .before .before .before .before .before .before .before .before .before .before .before .before .before .complex-at2 .ensures ∙ sym (complex-at (c .before .before .before .before .before .before .before .before .before .before .before .before .before .before .before .before .before .before .before .before .before .before .before .before .before .before .before .before .before .before .before .before .before .args .b .now) (c .before .before .before .before .before .before .before .before .before .before .before .before .before .before .before .before .before .before .before .before .before .before .before .before .before .before .before .before .before .before .before .before .before .args .j) (c .before .before .before .before .before .before .before .before .before .before .before .before .before .before .before .before .before .before .before .before .before .before .before .before .before .before .before .before .before .before .before .before .before .pre .2))) (back {z = c .before .before .before .before .before .before .before .before .before .before .before .before .before .before .before .before .before .net-against .result} (record { sfits = c .before .before .before .before .before .before .before .before .before .before .before .before .before .before .before .before .before .net-against .ok }) ∙ c .before .before .before .before .before .before .before .before .before .before .before .before .before .before .before .before .before .net-against .ensures .0) (c .before .before .before .before .before .before .before .before .before .before .before .before .before .before .before .before .before .before .before .before .before .before .before .before .before .fill-complex .ensures .0) (c .before .before .before .before .before .before .before .before .before .before .before .before .before .before .before .before .before .before .before .before .before .fill-complex2 .ensures .0) (c .before .before .before .before .before .before .before .before .before .before .before .before .before .before .before .before .emit-crossed .ensures) (c .before .before .before .before .before .before .before .before .before .before .before .remove-of .ensures .0) (c .before .before .before .before .remove-of2 .ensures .0), counts-on _ _ _ (counts-on _ _ _ (c .before .before .before .before .before .before .before .before .before .before .before .before .before .before .before .before .before .before .before .before .before .before .before .before .before .fill-complex .ensures .1) (c .before .before .before .before .before .before .before .before .before .before .before .before .before .before .before .before .before .before .before .before .before .fill-complex2 .ensures .1)) (counts-on _ _ _ (c .before .before .before .before .before .before .before .before .before .before .before .remove-of .ensures .1) (c .before .before .before .before .remove-of2 .ensures .1)))
+returns c = let start = c .before .before .before .before .before .before .before .before .before .before .before .before .before .before .before
+    .before .before .before .before .before .before .before .before .before .before .before .before .before .before .before .before .before .before in (
+      cross-law (start .args .i) (start .args .j) (start .args .k) _ _ _ _ _ _ _ _ _ _ _ _ _ _ _ _
+          (c .before .before .before .before .before .before .before .before .before .before .before .before .before .before .before .before .before .before
+          .before .before .before .before .before .before .before .before .before .before .before .complex-at .ensures
+          ∙ sym (complex-at (start .args .b .now) (start .args .i) (start .pre .1)))
+          (c .before .before .before .before .before .before .before .before .before .before .before .before .before .before .before .before .before .before
+          .before .before .before .before .before .before .before .before .before .complex-at2 .ensures
+          ∙ sym (complex-at (start .args .b .now) (start .args .j) (start .pre .2)))
+          (back {z = c .before .before .before .before .before .before .before .before .before .before .before .before .before .before .before .before
+          .before .net-against .result}
+          (record {
+            sfits = c .before .before .before .before .before .before .before .before .before .before .before .before .before .before .before
+                .before .before .net-against .ok;
+          }) ∙ c .before .before .before .before .before .before .before .before .before .before .before .before .before
+          .before .before .before .before .net-against .ensures .0)
+          (c .before .before .before .before .before .before .before .before .before .before .before .before .before .before .before .before .before .before
+          .before .before .before .before .before .before .before .fill-complex .ensures .0)
+          (c .before .before .before .before .before .before .before .before .before .before .before .before .before .before .before .before .before .before
+          .before .before .before .fill-complex2 .ensures .0)
+          (c .before .before .before .before .before .before .before .before .before .before .before .before .before .before .before .before .emit-crossed
+          .ensures) (c .before .before .before .before .before .before .before .before .before .before .before .remove-of .ensures .0)
+          (c .before .before .before .before .remove-of2 .ensures .0),
+      counts-on _ _ _ (counts-on _ _ _
+          (c .before .before .before .before .before .before .before .before .before .before .before .before .before .before .before .before .before .before
+          .before .before .before .before .before .before .before .fill-complex .ensures .1)
+          (c .before .before .before .before .before .before .before .before .before .before .before .before .before .before .before .before .before .before
+          .before .before .before .fill-complex2 .ensures .1))
+          (counts-on _ _ _ (c .before .before .before .before .before .before .before .before .before .before .before .remove-of .ensures .1)
+          (c .before .before .before .before .remove-of2 .ensures .1)),
+    )
 
 pub cross-spec : {M : Type 1} → statement M
 cross-spec =

@@ -31,10 +31,15 @@ complex-at-requires : tie.Need-complex-at-requires Inv-loop μ-loop
 complex-at-requires c κs = let z = complexes-few (c .before .before .before .args .b .now) in (c .before .before .before .pre .0, omega (arith, c .before .before .before .pre .2))
 
 loop-holds : tie.Need-loop-holds Inv-loop μ-loop
-loop-holds c = doing-start _ _ _ _ _ (c .before .before .before .before .pre .0) (ap (λ (x : Complex). repeat (x .quantity) (crossTurn (c .before .before .before .before .args .i)) (venueOf (c .before .before .before .before .args .b .now))) (c .complex-at .ensures ∙ sym (complex-at (c .before .before .before .before .args .b .now) (c .before .before .before .before .args .i) (c .before .before .before .before .pre .2))))
+loop-holds c = let start = c .before .before .before .before in
+    doing-start _ _ _ _ _ (start .pre .0) (ap (λ (x : Complex). repeat (x .quantity) (crossTurn (start .args .i)) (venueOf (start .args .b .now)))
+    (c .complex-at .ensures ∙ sym (complex-at (start .args .b .now) (start .args .i) (start .pre .2))))
 
 complex-at-requires-2 : tie.Need-complex-at-requires-2 Inv-loop μ-loop
-complex-at-requires-2 c κs = let z = complexes-few (c .before .before .loop .b) in (c .before .before .loop .inv .whole, omega (arith, c .before .before .loop .inv .counts .complexes, c .before .before .before .before .before .before .before .pre .2))
+complex-at-requires-2 c κs = let z = complexes-few (c .before .before .loop .b) in (
+  c .before .before .loop .inv .whole,
+  omega (arith, c .before .before .loop .inv .counts .complexes, c .before .before .before .before .before .before .before .pre .2),
+)
 
 same-length : tie.Need-same-length Inv-loop μ-loop
 same-length c = c .before .before .before .before .before .loop .inv .whole ∙ sym (c .before .before .before .before .before .before .before .before .before .before .pre .0)
@@ -43,28 +48,100 @@ same-length-2 : tie.Need-same-length-2 Inv-loop μ-loop
 same-length-2 c = doing-room (c .before .before .before .before .before .loop .inv)
 
 returns : tie.Need-returns Inv-loop μ-loop
-returns c = (doing-end (c .before .before .before .before .before .loop .inv) (repeat-stop _ _ _ (cross-idle (c .before .before .before .before .before .before .before .before .before .before .args .i) _ _ (c .before .before .complex-at2 .ensures ∙ sym (complex-at (c .before .before .before .before .before .loop .b) (c .before .before .before .before .before .before .before .before .before .before .args .i) (omega (arith, c .before .before .before .before .before .loop .inv .counts .complexes, c .before .before .before .before .before .before .before .before .before .before .pre .2)))) (c .if1 .taken))), c .before .before .before .before .before .loop .inv .counts)
+returns c = (
+  doing-end (c .before .before .before .before .before .loop .inv)
+      (repeat-stop _ _ _ (cross-idle (c .before .before .before .before .before .before .before .before .before .before .args .i) _ _
+      (c .before .before .complex-at2 .ensures
+      ∙ sym (complex-at (c .before .before .before .before .before .loop .b)
+      (c .before .before .before .before .before .before .before .before .before .before .args .i)
+      (omega (
+        arith,
+        c .before .before .before .before .before .loop .inv .counts .complexes,
+        c .before .before .before .before .before .before .before .before .before .before .pre .2,
+      )))) (c .if1 .taken))),
+  c .before .before .before .before .before .loop .inv .counts,
+)
 
 first-cross-requires : tie.Need-first-cross-requires Inv-loop μ-loop
-first-cross-requires c κs = (c .before .before .before .before .before .before .loop .inv .whole, c .before .before .before .before .before .before .loop .inv .counts .right (c .before .before .before .before .before .before .before .before .before .before .before .pre .1), subst LegsIn (sym (c .before .before .before .complex-at2 .ensures)) (legs-in (c .before .before .before .before .before .before .loop .b) (c .before .before .before .before .before .before .before .before .before .before .before .args .i)))
+first-cross-requires c κs = let start = c .before .before .before .before .before .before .before .before .before .before .before in (
+  c .before .before .before .before .before .before .loop .inv .whole,
+  c .before .before .before .before .before .before .loop .inv .counts .right
+      (start .pre .1),
+  subst LegsIn (sym (c .before .before .before .complex-at2 .ensures))
+      (legs-in (c .before .before .before .before .before .before .loop .b) (start .args .i)),
+)
 
 same-length-3 : tie.Need-same-length-3 Inv-loop μ-loop
-same-length-3 c = c .before .before .before .before .before .before .before .before .before .loop .inv .whole ∙ sym (c .before .before .before .before .before .before .before .before .before .before .before .before .before .before .pre .0)
+same-length-3 c = c .before .before .before .before .before .before .before .before .before .loop .inv .whole
+    ∙ sym (c .before .before .before .before .before .before .before .before .before .before .before .before .before .before .pre .0)
 
 same-length-4 : tie.Need-same-length-4 Inv-loop μ-loop
 same-length-4 c = doing-room (c .before .before .before .before .before .before .before .before .before .loop .inv)
 
 returns-2 : tie.Need-returns-2 Inv-loop μ-loop
 unfolding pickedOf
-returns-2 c = (doing-end (c .before .before .before .before .before .before .before .before .before .loop .inv) (repeat-stop _ _ _ (cross-nobody (c .before .before .before .before .before .before .before .before .before .before .before .before .before .before .args .i) _ _ (c .before .before .before .before .before .before .complex-at2 .ensures ∙ sym (complex-at (c .before .before .before .before .before .before .before .before .before .loop .b) (c .before .before .before .before .before .before .before .before .before .before .before .before .before .before .args .i) (omega (arith, c .before .before .before .before .before .before .before .before .before .loop .inv .counts .complexes, c .before .before .before .before .before .before .before .before .before .before .before .before .before .before .pre .2)))) (c .before .before .before .before .if1 .left) (sym (ap pickedOf (c .enum-told .given .1)) ∙ c .before .before .first-cross .ensures))), c .before .before .before .before .before .before .before .before .before .loop .inv .counts)
+returns-2 c = (
+  doing-end (c .before .before .before .before .before .before .before .before .before .loop .inv)
+      (repeat-stop _ _ _ (cross-nobody
+      (c .before .before .before .before .before .before .before .before .before .before .before .before .before .before .args .i) _ _
+      (c .before .before .before .before .before .before .complex-at2 .ensures
+      ∙ sym (complex-at (c .before .before .before .before .before .before .before .before .before .loop .b)
+      (c .before .before .before .before .before .before .before .before .before .before .before .before .before .before .args .i)
+      (omega (
+        arith,
+        c .before .before .before .before .before .before .before .before .before .loop .inv .counts .complexes,
+        c .before .before .before .before .before .before .before .before .before .before .before .before .before .before .pre .2,
+      ))))
+      (c .before .before .before .before .if1 .left) (sym (ap pickedOf (c .enum-told .given .1)) ∙ c .before .before .first-cross .ensures))),
+  c .before .before .before .before .before .before .before .before .before .loop .inv .counts,
+)
 
 cross-requires : tie.Need-cross-requires Inv-loop μ-loop
 unfolding pickedOf
-cross-requires c κs = (c .before .before .before .before .before .before .before .before .before .before .before .before .before .loop .inv .whole, (omega (arith, c .before .before .before .before .before .before .before .before .before .before .before .before .before .loop .inv .counts .complexes, c .before .before .before .before .before .before .before .before .before .before .before .before .before .before .before .before .before .before .pre .2)), picked-used (c .before .before .before .before .before .before .before .before .before .before .before .before .before .loop .b) _ _ _ (sym (ap pickedOf (c .before .before .before .before .found .given .1)) ∙ c .before .before .before .before .before .before .first-cross .ensures))
+cross-requires c κs = (
+  c .before .before .before .before .before .before .before .before .before .before .before .before .before .loop .inv .whole,
+  (omega (
+    arith,
+    c .before .before .before .before .before .before .before .before .before .before .before .before .before .loop .inv .counts
+        .complexes,
+    c .before .before .before .before .before .before .before .before .before .before .before .before .before .before .before .before
+        .before .before .pre .2,
+  )),
+  picked-used (c .before .before .before .before .before .before .before .before .before .before .before .before .before .loop .b) _ _ _
+      (sym (ap pickedOf (c .before .before .before .before .found .given .1))
+      ∙ c .before .before .before .before .before .before .first-cross .ensures),
+)
 
 loop-again : tie.Need-loop-again Inv-loop μ-loop
 unfolding pickedOf
-loop-again c = doing-turn (c .before .before .before .before .before .before .before .before .before .before .before .before .before .before .before .before .before .before .loop .inv) _ _ _ _ _ (repeat-turn _ _ _ _ _ (omega (arith, c .before .before .before .before .before .before .before .before .before .before .before .before .before .before .before .before .before .loop-test .taken)) (cross-some (c .before .before .before .before .before .before .before .before .before .before .before .before .before .before .before .before .before .before .before .before .before .before .before .args .i) _ _ (c .before .before .before .before .before .before .before .before .before .before .before .before .before .before .before .complex-at2 .ensures ∙ sym (complex-at (c .before .before .before .before .before .before .before .before .before .before .before .before .before .before .before .before .before .before .loop .b) (c .before .before .before .before .before .before .before .before .before .before .before .before .before .before .before .before .before .before .before .before .before .before .before .args .i) (omega (arith, c .before .before .before .before .before .before .before .before .before .before .before .before .before .before .before .before .before .before .loop .inv .counts .complexes, c .before .before .before .before .before .before .before .before .before .before .before .before .before .before .before .before .before .before .before .before .before .before .before .pre .2)))) (c .before .before .before .before .before .before .before .before .before .before .before .before .before .if1 .left) _ _ _ (sym (ap pickedOf (c .before .before .before .before .before .before .before .before .before .found .given .1)) ∙ c .before .before .before .before .before .before .before .before .before .before .before .first-cross .ensures) (c .before .before .before .before .before .before .lesser .ensures))) (c .before .before .before .before .cross .kept .0) (c .before .before .before .before .cross .ensures .0) (c .before .before .before .before .cross .ensures .1)
+loop-again c = doing-turn
+    (c .before .before .before .before .before .before .before .before .before .before .before .before .before .before .before .before .before .before
+    .loop .inv) _ _ _ _ _
+    (repeat-turn _ _ _ _ _
+    (omega (
+      arith,
+      c .before .before .before .before .before .before .before .before .before .before .before .before .before .before .before .before
+          .before .loop-test .taken,
+    ))
+    (cross-some (c .before .before .before .before .before .before .before .before .before .before .before .before .before .before .before .before
+    .before .before .before .before .before .before .before .args .i) _ _
+    (c .before .before .before .before .before .before .before .before .before .before .before .before .before .before .before .complex-at2 .ensures
+    ∙ sym (complex-at (c .before .before .before .before .before .before .before .before .before .before .before .before .before .before .before
+    .before .before .before .loop .b)
+    (c .before .before .before .before .before .before .before .before .before .before .before .before .before .before .before .before .before .before
+    .before .before .before .before .before .args .i)
+    (omega (
+      arith,
+      c .before .before .before .before .before .before .before .before .before .before .before .before .before .before .before .before
+          .before .before .loop .inv .counts .complexes,
+      c .before .before .before .before .before .before .before .before .before .before .before .before .before .before .before .before .before .before
+          .before .before .before .before .before .pre .2,
+    ))))
+    (c .before .before .before .before .before .before .before .before .before .before .before .before .before .if1 .left) _ _ _
+    (sym (ap pickedOf (c .before .before .before .before .before .before .before .before .before .found .given .1))
+    ∙ c .before .before .before .before .before .before .before .before .before .before .before .first-cross .ensures)
+    (c .before .before .before .before .before .before .lesser .ensures))) (c .before .before .before .before .cross .kept .0)
+    (c .before .before .before .before .cross .ensures .0) (c .before .before .before .before .cross .ensures .1)
 
 same-length-5 : tie.Need-same-length-5 Inv-loop μ-loop
 same-length-5 c = c .before .loop .inv .whole ∙ sym (c .before .before .before .before .before .before .pre .0)

@@ -19,7 +19,15 @@ venue-from-requires : tie.Need-venue-from-requires
 venue-from-requires c κs = let p = c .before .before .before .pre .0 in length-take-le venueSize (c .before .before .before .args .lane .now) (omega arith)
 
 returns : tie.Need-returns
-returns c = let s = c .before .before .before .before .before .before .before .before .before .before .before in let bs = s .args .lane .now in let p = s .pre in let n = c .before .before .before .before .before .u8-at .result in let e = c .before .before .before .before .before .u8-at .ensures in let k = c .before .before .one-message in called-head bs (take (placesAt + 1 + n - (placesAt + 1)) (drop (placesAt + 1) bs)) (k .last .1 .1 .1 .0) _ (c .before .before .before .before .before .before .u32-at .result) (c .before .before .before .before .before .before .before .venue-from .result) (k .result) (c .before .before .before .before .before .before .before .venue-from .ensures) (c .before .before .before .before .before .before .u32-at .ensures) (head-lent bs n (placesAt + 1 + n - (placesAt + 1)) e (omega arith) (omega arith)) (k .ensures)
+returns c = let s = c .before .before .before .before .before .before .before .before .before .before .before in let bs = s .args .lane .now in
+    let p = s .pre in let n = c .before .before .before .before .before .u8-at .result in
+    let e = c .before .before .before .before .before .u8-at .ensures in let k = c .before .before .one-message in
+    called-head bs (take (placesAt + 1 + n - (placesAt + 1)) (drop (placesAt + 1) bs)) (k .last .1 .1 .1 .0) _
+    (c .before .before .before .before .before .before .u32-at .result)
+    (c .before .before .before .before .before .before .before .venue-from .result) (k .result)
+    (c .before .before .before .before .before .before .before .venue-from .ensures)
+    (c .before .before .before .before .before .before .u32-at .ensures)
+    (head-lent bs n (placesAt + 1 + n - (placesAt + 1)) e (omega arith) (omega arith)) (k .ensures)
 
 pub call-head-spec : {M : Type 1} → statement M
 call-head-spec =

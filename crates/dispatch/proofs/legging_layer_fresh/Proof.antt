@@ -30,10 +30,15 @@ part-fresh-lane-end : tie.Need-part-fresh-lane-end Inv-loop μ-loop
 part-fresh-lane-end c = omega (arith, c .before .before .if1 .left, fresh-room _ (c .before .before .if1 .left) _ (c .before .loop .i) (c .before .loop .inv))
 
 fresh-lane-requires : tie.Need-fresh-lane-requires Inv-loop μ-loop
-fresh-lane-requires c κs = let i = c .before .before .loop .i in let r = fresh-room _ (c .before .before .before .if1 .left) _ i (c .before .before .loop .inv) in let e = c .before .before .before .if1 .left in part-length (c .before .before .loop .layer) (laneSize * i) (laneSize * i + laneSize - laneSize * i) (omega arith) ∙ omega arith
+fresh-lane-requires c κs = let i = c .before .before .loop .i in let r = fresh-room _ (c .before .before .before .if1 .left) _ i
+    (c .before .before .loop .inv) in let e = c .before .before .before .if1 .left in part-length (c .before .before .loop .layer) (laneSize * i)
+    (laneSize * i + laneSize - laneSize * i) (omega arith) ∙ omega arith
 
 loop-again : tie.Need-loop-again Inv-loop μ-loop
-loop-again c = let i = c .before .before .before .before .before .loop .i in fresh-next _ (c .before .before .before .before .before .before .if1 .left) (c .before .before .before .before .before .loop .layer) i (c .before .before .before .before .before .loop .inv) (c .before .before .fresh-lane .last .0) (laneSize * i + laneSize - laneSize * i) (c .before .before .before .before .loop-test .taken) (omega arith) (c .before .before .fresh-lane .ensures)
+loop-again c = let i = c .before .before .before .before .before .loop .i in
+    fresh-next _ (c .before .before .before .before .before .before .if1 .left) (c .before .before .before .before .before .loop .layer) i
+    (c .before .before .before .before .before .loop .inv) (c .before .before .fresh-lane .last .0) (laneSize * i + laneSize - laneSize * i)
+    (c .before .before .before .before .loop-test .taken) (omega arith) (c .before .before .fresh-lane .ensures)
 
 slice-write-layer : tie.Need-slice-write-layer Inv-loop μ-loop
 slice-write-layer c = omega (arith, c .before .before .if1 .left, fresh-room _ (c .before .before .if1 .left) _ (c .before .loop .i) (c .before .loop .inv))

@@ -18,21 +18,41 @@ numbered : (c : tie.Else2) → c .before .before .before .before .before .before
 numbered c = omega arith
 
 -- the venue is sound, and its editions and generations are followed
-passed : (c : tie.Else3) → (sound (c .before .before .before .before .before .before .before .before .before .before .args .venue) && follows (suc (c .before .before .before .before .before .before .before .before .before .before .args .before)) (c .before .before .before .before .before .before .before .before .before .before .args .venue)) ≡ true
-passed c = let k = c .before .before .before .before .before .before .load-sound .ensures in let t = not-false _ (c .before .before .before .before .if1 .left) in sym (ready-next (c .before .before .before .before .before .before .before .before .before .before .args .venue) (c .before .before .before .before .before .before .before .before .before .before .args .before) _ (sym (k .answer) ∙ t) (k .loaded t) _ (c .before .follows-kept .ensures) .answer) ∙ not-false _ (c .if3 .left)
+passed : (c : tie.Else3) → (sound (c .before .before .before .before .before .before .before .before .before .before .args .venue) && follows
+    (suc (c .before .before .before .before .before .before .before .before .before .before .args .before))
+    (c .before .before .before .before .before .before .before .before .before .before .args .venue)) ≡ true
+passed c = let start = c .before .before .before .before .before .before .before .before .before .before in
+    let k = c .before .before .before .before .before .before .load-sound .ensures in
+    let t = not-false _ (c .before .before .before .before .if1 .left) in
+    sym (ready-next (start .args .venue) (start .args .before) _ (sym (k .answer) ∙ t) (k .loaded t) _ (c .before .follows-kept .ensures) .answer)
+    ∙ not-false _ (c .if3 .left)
 
 -- so the slice stands for it
-stands : (c : tie.Else3) → Loaded (c .before .before .before .before .before .before .before .before .before .before .args .venue) (c .before .before .before .before .before .before .load-sound .last .0)
+stands : (c : tie.Else3) → Loaded (c .before .before .before .before .before .before .before .before .before .before .args .venue)
+    (c .before .before .before .before .before .before .load-sound .last .0)
 stands c = let k = c .before .before .before .before .before .before .load-sound .ensures in let t = not-false _ (c .before .before .before .before .if1 .left) in k .loaded t
 
 returns : tie.Need-returns
-returns c = let s = c .before .before .before .before .before .before .before .before .before .before in c .before .before .end-call .ensures ∙ one-unready (s .args .venue) (s .args .before) _ (s .args .message .now) (sym (unready (s .args .venue) (s .args .before) (c .before .before .before .before .before .before .load-sound .last .0) (sym (c .before .before .before .before .before .before .load-sound .ensures .answer) ∙ not-true _ (c .before .before .before .before .if1 .taken)) .answer))
+returns c = let s = c .before .before .before .before .before .before .before .before .before .before in c .before .before .end-call .ensures
+    ∙ one-unready (s .args .venue) (s .args .before) _ (s .args .message .now)
+    (sym (unready (s .args .venue) (s .args .before) (c .before .before .before .before .before .before .load-sound .last .0)
+    (sym (c .before .before .before .before .before .before .load-sound .ensures .answer) ∙ not-true _
+    (c .before .before .before .before .if1 .taken)) .answer))
 
 returns-2 : tie.Need-returns-2
-returns-2 c = let s = c .before .before .before .before .before .before .before .before .before .before .before in let k = c .before .before .before .before .before .before .before .load-sound .ensures in let t = not-false _ (c .before .before .before .before .before .if1 .left) in let last = c .before .before .before .before .if2 .taken in c .before .before .end-call2 .ensures ∙ one-no-number (s .args .venue) (s .args .before) _ (s .args .message .now) (sym (ready-last (s .args .venue) (s .args .before) _ (sym (k .answer) ∙ t) (k .loaded t) last .answer)) last
+returns-2 c = let s = c .before .before .before .before .before .before .before .before .before .before .before in
+    let k = c .before .before .before .before .before .before .before .load-sound .ensures in
+    let t = not-false _ (c .before .before .before .before .before .if1 .left) in let last = c .before .before .before .before .if2 .taken in
+    c .before .before .end-call2 .ensures ∙ one-no-number (s .args .venue) (s .args .before) _ (s .args .message .now)
+    (sym (ready-last (s .args .venue) (s .args .before) _ (sym (k .answer) ∙ t) (k .loaded t) last .answer)) last
 
 returns-3 : tie.Need-returns-3
-returns-3 c = let s = c .before .before .before .before .before .before .before .before .before .before .before .before .before .before in let k = c .before .before .before .before .before .before .before .before .before .before .load-sound .ensures in let t = not-false _ (c .before .before .before .before .before .before .before .before .if1 .left) in c .before .before .end-call3 .ensures ∙ one-unready (s .args .venue) (s .args .before) _ (s .args .message .now) (sym (ready-next (s .args .venue) (s .args .before) _ (sym (k .answer) ∙ t) (k .loaded t) _ (c .before .before .before .before .before .follows-kept .ensures) .answer) ∙ not-true _ (c .before .before .before .before .if3 .taken))
+returns-3 c = let s = c .before .before .before .before .before .before .before .before .before .before .before .before .before .before in
+    let k = c .before .before .before .before .before .before .before .before .before .before .load-sound .ensures in
+    let t = not-false _ (c .before .before .before .before .before .before .before .before .if1 .left) in c .before .before .end-call3 .ensures
+    ∙ one-unready (s .args .venue) (s .args .before) _ (s .args .message .now)
+    (sym (ready-next (s .args .venue) (s .args .before) _ (sym (k .answer) ∙ t) (k .loaded t) _
+    (c .before .before .before .before .before .follows-kept .ensures) .answer) ∙ not-true _ (c .before .before .before .before .if3 .taken))
 
 step-requires : tie.Need-step-requires
 step-requires c κs =
@@ -40,10 +60,24 @@ step-requires c κs =
     (search needs, l .dense, laid-sound _ _ (and-l _ _ (passed (c .before .before))) (l .venue))
 
 returns-4 : tie.Need-returns-4
-returns-4 c = let s = c .before .before .before .before .before .before .before .before .before .before .before .before .before .before .before .before .before .before .before .before .before in let k = c .before .before .before .before .before .before .before .before .step in c .before .before .end-call4 .ensures ∙ one-no-room (s .args .venue) (s .args .before) (s .args .message .now) _ (k .last .0) (s .args .report .now) (k .last .1 .1 .1 .0) (k .result) (passed (c .before .before .before .before .before .before .before .before .before .before .before)) (stands (c .before .before .before .before .before .before .before .before .before .before .before) .venue) (numbered (c .before .before .before .before .before .before .before .before .before .before .before .before .before .before)) (k .ensures) (omega arith)
+returns-4 c = let s = c .before .before .before .before .before .before .before .before .before .before .before .before .before .before .before
+    .before .before .before .before .before .before in let k = c .before .before .before .before .before .before .before .before .step in
+    c .before .before .end-call4 .ensures ∙ one-no-room (s .args .venue) (s .args .before) (s .args .message .now) _ (k .last .0)
+    (s .args .report .now) (k .last .1 .1 .1 .0) (k .result)
+    (passed (c .before .before .before .before .before .before .before .before .before .before .before))
+    (stands (c .before .before .before .before .before .before .before .before .before .before .before) .venue)
+    (numbered (c .before .before .before .before .before .before .before .before .before .before .before .before .before .before)) (k .ensures)
+    (omega arith)
 
 returns-5 : tie.Need-returns-5
-returns-5 c = let s = c .before .before .before .before .before .before .before .before .before .before .before .before .before .before .before .before .before .before .before .before .before .before .before in let k = c .before .before .before .before .before .before .before .before .before .before .step in one-done (s .args .venue) (s .args .before) (s .args .message .now) _ (k .last .0) (s .args .report .now) (k .last .1 .1 .1 .0) (k .result) (passed (c .before .before .before .before .before .before .before .before .before .before .before .before .before)) (stands (c .before .before .before .before .before .before .before .before .before .before .before .before .before) .venue) (numbered (c .before .before .before .before .before .before .before .before .before .before .before .before .before .before .before .before)) (k .ensures) _ _ (omega arith) (c .before .before .before .before .zero-from .ensures) (c .venue-of .ensures)
+returns-5 c = let s = c .before .before .before .before .before .before .before .before .before .before .before .before .before .before .before
+    .before .before .before .before .before .before .before .before in
+    let k = c .before .before .before .before .before .before .before .before .before .before .step in one-done (s .args .venue) (s .args .before)
+    (s .args .message .now) _ (k .last .0) (s .args .report .now) (k .last .1 .1 .1 .0) (k .result)
+    (passed (c .before .before .before .before .before .before .before .before .before .before .before .before .before))
+    (stands (c .before .before .before .before .before .before .before .before .before .before .before .before .before) .venue)
+    (numbered (c .before .before .before .before .before .before .before .before .before .before .before .before .before .before .before .before))
+    (k .ensures) _ _ (omega arith) (c .before .before .before .before .zero-from .ensures) (c .venue-of .ensures)
 
 pub one-message-spec : {M : Type 1} → statement M
 one-message-spec =

@@ -40,21 +40,27 @@ slice-aggregate-advance : tie.Need-slice-aggregate-advance Inv-loop μ-loop
 slice-aggregate-advance c = let e = c .before .before .before .loop .inv .sofar .slice in search needs
 
 advance-requires : tie.Need-advance-requires Inv-loop μ-loop
-advance-requires c κs = let g = c .before .before .before .before .loop .inv in let w = g .sofar .within in let e = g .sofar .len in (g .sofar .slice, g .dense, g .sound, ahead (c .before .before), omega arith, c .before .before .before .message-head .ensures)
+advance-requires c κs = let g = c .before .before .before .before .loop .inv in let w = g .sofar .within in let e = g .sofar .len in
+    (g .sofar .slice, g .dense, g .sound, ahead (c .before .before), omega arith, c .before .before .before .message-head .ensures)
 
 loop-less : tie.Need-loop-less Inv-loop μ-loop
 loop-less c = let v = c .before .before .before .before .before .advance .ensures .moved (c .if1 .left) in let p = v .0 in let q = v .1 in omega arith
 
 loop-again : tie.Need-loop-again Inv-loop μ-loop
-loop-again c = let k = c .before .before .before .before .before .advance in running-again _ _ _ _ _ (c .before .before .before .before .before .before .before .before .before .before .loop .inv) (k .result) (k .last .1 .1 .0) (k .last .1 .1 .1 .1 .0) (ahead (c .before .before .before .before .before .before .before .before)) (k .kept .1 .1 .0) (k .kept .1 .1 .1 .1 .0) (k .ensures) (c .if1 .left)
+loop-again c = let k = c .before .before .before .before .before .advance in
+    running-again _ _ _ _ _ (c .before .before .before .before .before .before .before .before .before .before .loop .inv) (k .result)
+    (k .last .1 .1 .0) (k .last .1 .1 .1 .1 .0) (ahead (c .before .before .before .before .before .before .before .before)) (k .kept .1 .1 .0)
+    (k .kept .1 .1 .1 .1 .0) (k .ensures) (c .if1 .left)
 
 -- either way out of the loop
-ended : (c : tie.At-match-came Inv-loop μ-loop) → let a = c .before .before .before .before .before .before .args in RunEnded (a .messages .now) (a .report .now) (c .match .b) (c .match .report) (c .match .t)
+ended : (c : tie.At-match-came Inv-loop μ-loop) → let a = c .before .before .before .before .before .before .args in
+    RunEnded (a .messages .now) (a .report .now) (c .match .b) (c .match .report) (c .match .t)
 ended c =
     let top = c .before .before in
     ⊎-elim
     (λ w. rw (w .2, w .3, w .4) (running-end _ _ _ _ _ (top .loop .inv) (at-none _ _ (sym (c .before .message-head .ensures) ∙ w .1 .given .1))))
-    (λ w. rw (w .9, w .10, w .11) (running-stop _ _ _ _ _ (top .loop .inv) (w .3 .result) (w .3 .last .1 .1 .0) (w .3 .last .1 .1 .1 .1 .0) (ahead (record { before = c .before; match = w .0 })) (w .3 .kept .1 .1 .0) (w .3 .kept .1 .1 .1 .1 .0) (w .3 .ensures) (w .8 .taken)))
+    (λ w. rw (w .9, w .10, w .11) (running-stop _ _ _ _ _ (top .loop .inv) (w .3 .result) (w .3 .last .1 .1 .0) (w .3 .last .1 .1 .1 .1 .0)
+    (ahead (record { before = c .before; match = w .0 })) (w .3 .kept .1 .1 .0) (w .3 .kept .1 .1 .1 .1 .0) (w .3 .ensures) (w .8 .taken)))
     (c .match .came)
 
 zero-from-requires : tie.Need-zero-from-requires Inv-loop μ-loop
@@ -70,7 +76,10 @@ same-length : tie.Need-same-length Inv-loop μ-loop
 same-length c = c .before .before .before .before .zero-from .kept .0 ∙ ended (c .before .before .before .before .before .before) .len
 
 returns : tie.Need-returns Inv-loop μ-loop
-returns c = let s = c .before .before .before .before .before .before .before .before .before .before .before .before in let j = c .before .before .before .before .before .before in ran (s .args .messages .now) (s .args .report .now) (j .match .b) (j .match .report) (c .before .before .before .before .zero-from .last .0) (j .match .t) (c .venue-of .result) (ended j) (c .before .before .before .before .zero-from .ensures) (c .venue-of .ensures)
+returns c = let s = c .before .before .before .before .before .before .before .before .before .before .before .before in
+    let j = c .before .before .before .before .before .before in ran (s .args .messages .now) (s .args .report .now) (j .match .b) (j .match .report)
+    (c .before .before .before .before .zero-from .last .0) (j .match .t) (c .venue-of .result) (ended j)
+    (c .before .before .before .before .zero-from .ensures) (c .venue-of .ensures)
 
 pub run-spec : {M : Type 1} → statement M
 run-spec =

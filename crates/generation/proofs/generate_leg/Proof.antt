@@ -19,7 +19,9 @@ use Rattle.generation.proofs.generate_leg.Tie as tie
 returns : tie.Need-returns
 returns c = let a = c .before .before .before .before .before .before .args in let p = c .before .before .before .before .before .before .pre in (
   does-nothing (venueOf (a .b .now)) (a .out .now) (a .at)
-      ∙ ap (λ (e : Effect). seen (a .out .now) (a .at) does e) (made-none _ (a .c) _ _ (a .number) (steps-some _ _ (p .1 .marked .figures) (p .3)) (c .before .before .plan-leg .result) (c .before .before .plan-leg .ensures) (c .if1 .taken)),
+      ∙ ap (λ (e : Effect). seen (a .out .now) (a .at) does e)
+      (made-none _ (a .c) _ _ (a .number) (steps-some _ _ (p .1 .marked .figures) (p .3)) (c .before .before .plan-leg .result)
+      (c .before .before .plan-leg .ensures) (c .if1 .taken)),
   record { regulars = refl; complexes = refl; right = λ h. h },
 )
 
@@ -31,7 +33,10 @@ returns-2 : tie.Need-returns-2
 returns-2 c = let a = c .before .before .before .before .before .before .before .before .before .before .before .before .args in let w = c .before .before .before .others-stand-with in (
   does-nothing _ (a .out .now) (a .at) ∙ ap (λ (v : Venue). seen (a .out .now) (a .at) does nothing v) (w .ensures .1 .0)
       ∙ ap (λ (e : Effect). seen (a .out .now) (a .at) does e)
-      (made-alone _ (a .c) _ _ (c .before .before .before .before .before .before .before .before .plan-leg .result) (c .before .before .before .before .before .before .before .before .plan-leg .ensures) (c .before .before .before .before .before .before .if1 .left) _ (c .before .before .before .before .place-of .ensures) (a .number) (off _ _ (w .ensures .0) (c .if2 .taken))),
+      (made-alone _ (a .c) _ _ (c .before .before .before .before .before .before .before .before .plan-leg .result)
+      (c .before .before .before .before .before .before .before .before .plan-leg .ensures)
+      (c .before .before .before .before .before .before .if1 .left) _ (c .before .before .before .before .place-of .ensures) (a .number)
+      (off _ _ (w .ensures .0) (c .if2 .taken))),
   w .ensures .1 .1,
 )
 
@@ -44,7 +49,9 @@ returns-3 c =
     let w = c .before .before .before .before .before .before .others-stand-with .ensures .1 in (
       does-nothing _ (a .out .now) (a .at) ∙ ap (λ (v : Venue). seen (a .out .now) (a .at) does nothing v) (w .0)
           ∙ ap (λ (e : Effect). seen (a .out .now) (a .at) does e)
-          (made-over _ (a .c) (a .s) _ (a .number) (ap (λ (v : Venue). underCeiling (a .number) (generationsOf v (a .s))) (sym (w .0)) ∙ off _ _ (c .before .is-under-ceiling .ensures) (c .if3 .taken))),
+          (made-over _ (a .c) (a .s) _ (a .number)
+          (ap (λ (v : Venue). underCeiling (a .number) (generationsOf v (a .s))) (sym (w .0)) ∙ off _ _ (c .before .is-under-ceiling .ensures)
+          (c .if3 .taken))),
       w .1,
     )
 
@@ -52,8 +59,14 @@ make-leg-requires : tie.Need-make-leg-requires
 make-leg-requires c κs =
     let p = c .before .before .before .before .before .before .before .before .before .before .before .before .before .plan-leg in
     let s = c .before .before .before .before .before .before .before .before .before .before .before .before .before .before .before .before .before in
-    let w = c .before .before .before .before .before .before .before .before .others-stand-with .ensures .1 in
-    (search needs, s .pre .3, s .pre .4, rw (w .0) (planned-shown _ (s .args .c) _ _ (p .result) (p .ensures) (c .before .before .before .before .before .before .before .before .before .before .before .if1 .left)), w .1 .right (s .pre .1) .marked .figures)
+    let w = c .before .before .before .before .before .before .before .before .others-stand-with .ensures .1 in (
+      search needs,
+      s .pre .3,
+      s .pre .4,
+      rw (w .0) (planned-shown _ (s .args .c) _ _ (p .result) (p .ensures)
+          (c .before .before .before .before .before .before .before .before .before .before .before .if1 .left)),
+      w .1 .right (s .pre .1) .marked .figures,
+    )
 
 returns-4 : tie.Need-returns-4
 returns-4 c =
@@ -63,8 +76,13 @@ returns-4 c =
     let m = c .before .before .before .before .make-leg .ensures in (
       m .0 ∙ ap (λ (v : Venue). seen (a .out .now) (a .at) does madeBy (a .number) (a .c .id) (a .s) (a .d) (p .result) v) (w .1 .0)
           ∙ ap (λ (e : Effect). seen (a .out .now) (a .at) does e)
-          (made-is _ (a .c) _ _ (p .result) (p .ensures) (c .before .before .before .before .before .before .before .before .before .before .before .before .before .before .before .before .if1 .left) _ (c .before .before .before .before .before .before .before .before .before .before .before .before .before .before .place-of .ensures) (a .number) (on _ _ (w .0) (c .before .before .before .before .before .before .before .before .before .before .if2 .left))
-          (ap (λ (v : Venue). underCeiling (a .number) (generationsOf v (a .s))) (sym (w .1 .0)) ∙ on _ _ (c .before .before .before .before .before .before .before .before .is-under-ceiling .ensures) (c .before .before .before .before .before .before .before .if3 .left))),
+          (made-is _ (a .c) _ _ (p .result) (p .ensures)
+          (c .before .before .before .before .before .before .before .before .before .before .before .before .before .before .before .before .if1
+          .left) _ (c .before .before .before .before .before .before .before .before .before .before .before .before .before .before .place-of
+          .ensures) (a .number) (on _ _ (w .0) (c .before .before .before .before .before .before .before .before .before .before .if2 .left))
+          (ap (λ (v : Venue). underCeiling (a .number) (generationsOf v (a .s))) (sym (w .1 .0))
+          ∙ on _ _ (c .before .before .before .before .before .before .before .before .is-under-ceiling .ensures)
+          (c .before .before .before .before .before .before .before .if3 .left))),
       counts-on _ _ _ (w .1 .1) (m .1),
     )
 

@@ -105,7 +105,8 @@ returns-4 c =
     let a = p20 .before .before .before .before .before .before .before .args in
     let first = p11 .generate-leg .ensures in
     let second = p4 .generate-leg2 .ensures in (
-      follow _ (generateLeg (a .number) (x .result) (x .result .series1) (x .result .side1) (venueOf (a .b .now))) (generateLeg (a .number) (x .result) (x .result .series2) (x .result .side2)) _ _ _ _ _ _ (first .0) (second .0)
+      follow _ (generateLeg (a .number) (x .result) (x .result .series1) (x .result .side1) (venueOf (a .b .now)))
+          (generateLeg (a .number) (x .result) (x .result .series2) (x .result .side2)) _ _ _ _ _ _ (first .0) (second .0)
           ∙ ap (λ (e : Effect). seen (a .out .now) (a .at) does e) (generate-is (a .b .now) (a .i) (x .result) (x .ensures) (a .number) (used p20)),
       counts-on _ _ _ (first .1) (second .1),
     )

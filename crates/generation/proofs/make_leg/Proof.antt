@@ -15,8 +15,13 @@ returns c =
     let count = c .before .before .before .before .before .before .count-generation .ensures in
     let put = c .before .before .before .before .before .before .before .before .before .before .put-legging .ensures in
     let gone = c .before .before .before .before .before .before .before .before .before .before .before .before .before .before .before .before .remove-at .ensures in
-    let s = c .before .before .before .before .before .before .before .before .before .before .before .before .before .before .before .before .before .before .before .before .before .before .before .before in (
-      made-law _ _ _ _ _ _ (s .args .l) _ _ _ _ _ _ _ _ _ _ (c .before .before .before .before .before .before .before .before .before .before .before .before .before .before .before .before .before .before .before .place-of .ensures) (c .before .before .before .before .before .before .before .before .before .before .before .before .before .before .before .before .before .before .before .before .shown-price .ensures) (gone .0) (put .0) (count .0) (c .before .before .emit-generated .ensures),
+    let s = c .before .before .before .before .before .before .before .before .before .before .before .before .before .before .before .before .before
+    .before .before .before .before .before .before .before in (
+      made-law _ _ _ _ _ _ (s .args .l) _ _ _ _ _ _ _ _ _ _
+          (c .before .before .before .before .before .before .before .before .before .before .before .before .before .before .before .before .before
+          .before .before .place-of .ensures)
+          (c .before .before .before .before .before .before .before .before .before .before .before .before .before .before .before .before .before
+          .before .before .before .shown-price .ensures) (gone .0) (put .0) (count .0) (c .before .before .emit-generated .ensures),
       counts-on _ _ _ (counts-on _ _ _ (gone .1) (put .1)) (count .1),
     )
 

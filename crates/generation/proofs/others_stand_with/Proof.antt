@@ -11,8 +11,11 @@ use Rattle.generation.proofs.others_stand_with.Tie as tie
 others-stand-requires : tie.Need-others-stand-requires
 others-stand-requires c κs =
     let p3 = c .before .before .before in
-    let g = p3 .before .before .before .before .levels in
-    (search needs, grid-kept (g .result) _ _ (ap (λ (w : Venue). w .regular) (p3 .put-legging .ensures .0) ∙ placed-regular _ _ _) (g .ensures), p3 .put-legging .ensures .1 .right (p3 .before .before .before .before .before .before .before .pre .1) .marked .figures)
+    let g = p3 .before .before .before .before .levels in (
+      search needs,
+      grid-kept (g .result) _ _ (ap (λ (w : Venue). w .regular) (p3 .put-legging .ensures .0) ∙ placed-regular _ _ _) (g .ensures),
+      p3 .put-legging .ensures .1 .right (p3 .before .before .before .before .before .before .before .pre .1) .marked .figures,
+    )
 
 returns : tie.Need-returns
 returns c =

@@ -27,13 +27,20 @@ best-own-requires c κs =
 
 returns-2 : tie.Need-returns-2
 returns-2 c =
-    clear-own _ _ _ _ _ (c .before .before .before .opposite-of .ensures) (on _ _ (shown-is (venueOf (c .before .before .before .before .before .before .before .args .b .now)) _ _ _ _ _ (c .before .before .before .before .before .before .before .pre .1) (c .before .before .before .before .before .shown-well .ensures)) (c .before .before .before .before .if1 .left)) _
+    clear-own _ _ _ _ _ (c .before .before .before .opposite-of .ensures)
+    (on _ _ (shown-is (venueOf (c .before .before .before .before .before .before .before .args .b .now)) _ _ _ _ _
+    (c .before .before .before .before .before .before .before .pre .1) (c .before .before .before .before .before .shown-well .ensures))
+    (c .before .before .before .before .if1 .left)) _
     (c .before .before .best-own .ensures) (sym (c .before .reaches-any .ensures) ∙ c .if2 .taken)
 
 returns-3 : tie.Need-returns-3
 returns-3 c =
     ap not (c .reaches-any2 .ensures)
-    ∙ clear-away _ _ _ _ _ (c .before .before .before .before .before .opposite-of .ensures) (on _ _ (shown-is (venueOf (c .before .before .before .before .before .before .before .before .before .args .b .now)) _ _ _ _ _ (c .before .before .before .before .before .before .before .before .before .pre .1) (c .before .before .before .before .before .before .before .shown-well .ensures)) (c .before .before .before .before .before .before .if1 .left)) _
+    ∙ clear-away _ _ _ _ _ (c .before .before .before .before .before .opposite-of .ensures)
+    (on _ _ (shown-is (venueOf (c .before .before .before .before .before .before .before .before .before .args .b .now)) _ _ _ _ _
+    (c .before .before .before .before .before .before .before .before .before .pre .1)
+    (c .before .before .before .before .before .before .before .shown-well .ensures))
+    (c .before .before .before .before .before .before .if1 .left)) _
     (c .before .before .before .before .best-own .ensures) (sym (c .before .before .before .reaches-any .ensures) ∙ c .before .before .if2 .left) _ (c .before .away-price .ensures)
 
 pub stands-clear-spec : {M : Type 1} → statement M

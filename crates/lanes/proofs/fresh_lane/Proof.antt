@@ -15,7 +15,11 @@ put-venue-requires : tie.Need-put-venue-requires
 put-venue-requires c κs = let p = c .before .before .before .pre in length-take-le venueSize (c .before .before .before .args .lane .now) (omega arith)
 
 returns : tie.Need-returns
-returns c = let s = c .before .before .before .before .before .before .before .before .before .before in let p = s .pre in let bs = s .args .lane .now in let k = c .before .before .before .before .before .before .put-venue in c .before .before .zero-from .ensures ∙ fresh-put bs (k .last .0) (c .before .before .before .before .before .before .before .before .fresh .result) p (k .kept .0 ∙ length-take-le venueSize bs (omega arith)) (c .before .before .before .before .before .before .before .before .fresh .ensures) (k .ensures)
+returns c = let s = c .before .before .before .before .before .before .before .before .before .before in let p = s .pre in
+    let bs = s .args .lane .now in let k = c .before .before .before .before .before .before .put-venue in c .before .before .zero-from .ensures
+    ∙ fresh-put bs (k .last .0) (c .before .before .before .before .before .before .before .before .fresh .result) p
+    (k .kept .0 ∙ length-take-le venueSize bs (omega arith)) (c .before .before .before .before .before .before .before .before .fresh .ensures)
+    (k .ensures)
 
 pub fresh-lane-spec : {M : Type 1} → statement M
 fresh-lane-spec =

@@ -22,7 +22,10 @@ venue-from-requires : tie.Need-venue-from-requires
 venue-from-requires c κs = let p = c .before .before .before .before .before .pre in length-take-le venueSize (c .before .before .before .before .before .args .lane .now) (omega arith)
 
 returns-3 : tie.Need-returns-3
-returns-3 c = lane-checked _ _ _ _ (c .before .before .before .before .before .before .before .before .wait-sound .ensures) _ _ _ (not-false _ (c .before .before .before .before .before .before .before .if1 .left)) (c .before .before .before .before .before .before .if2 .left) (c .before .before .before .before .venue-from .ensures) (c .before .before .before .u32-at .ensures) (c .before .load-ready .ensures .answer)
+returns-3 c = lane-checked _ _ _ _ (c .before .before .before .before .before .before .before .before .wait-sound .ensures) _ _ _
+    (not-false _ (c .before .before .before .before .before .before .before .if1 .left))
+    (c .before .before .before .before .before .before .if2 .left) (c .before .before .before .before .venue-from .ensures)
+    (c .before .before .before .u32-at .ensures) (c .before .load-ready .ensures .answer)
 
 pub lane-sound-spec : {M : Type 1} → statement M
 lane-sound-spec =

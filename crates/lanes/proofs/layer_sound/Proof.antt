@@ -23,13 +23,24 @@ loop-holds : tie.Need-loop-holds Inv-loop μ-loop
 loop-holds c = (search needs, passed-none _ _)
 
 lane-sound-requires : tie.Need-lane-sound-requires Inv-loop μ-loop
-lane-sound-requires c κs = let p = c .before .before .before .before .before .before .pre in part-length (c .before .before .before .before .before .before .args .layer .now) (laneSize * c .before .before .loop .i) (laneSize * c .before .before .loop .i + laneSize - laneSize * c .before .before .loop .i) (omega arith) ∙ omega arith
+lane-sound-requires c κs = let p = c .before .before .before .before .before .before .pre in
+    part-length (c .before .before .before .before .before .before .args .layer .now) (laneSize * c .before .before .loop .i)
+    (laneSize * c .before .before .loop .i + laneSize - laneSize * c .before .before .loop .i) (omega arith) ∙ omega arith
 
 returns-2 : tie.Need-returns-2 Inv-loop μ-loop
-returns-2 c = lane-fails _ _ (c .before .before .before .before .loop .i) (c .before .before .before .loop-test .taken) (sym (lent _ _ (c .before .before .before .before .loop .i) (laneSize * c .before .before .before .before .loop .i) (laneSize * c .before .before .before .before .loop .i + laneSize - laneSize * c .before .before .before .before .loop .i) _ refl (omega arith) (c .before .before .before .loop-test .taken) (c .before .lane-sound .ensures)) ∙ not-true _ (c .if2 .taken))
+returns-2 c = lane-fails _ _ (c .before .before .before .before .loop .i) (c .before .before .before .loop-test .taken)
+    (sym (lent _ _ (c .before .before .before .before .loop .i) (laneSize * c .before .before .before .before .loop .i)
+    (laneSize * c .before .before .before .before .loop .i + laneSize - laneSize * c .before .before .before .before .loop .i) _ refl (omega arith)
+    (c .before .before .before .loop-test .taken) (c .before .lane-sound .ensures)) ∙ not-true _ (c .if2 .taken))
 
 loop-again : tie.Need-loop-again Inv-loop μ-loop
-loop-again c = (search needs, passed-next _ _ (c .before .before .before .before .loop .i) (c .before .before .before .before .loop .inv .1) (sym (lent _ _ (c .before .before .before .before .loop .i) (laneSize * c .before .before .before .before .loop .i) (laneSize * c .before .before .before .before .loop .i + laneSize - laneSize * c .before .before .before .before .loop .i) _ refl (omega arith) (c .before .before .before .loop-test .taken) (c .before .lane-sound .ensures)) ∙ not-false _ (c .if2 .left)))
+loop-again c = (
+  search needs,
+  passed-next _ _ (c .before .before .before .before .loop .i) (c .before .before .before .before .loop .inv .1)
+      (sym (lent _ _ (c .before .before .before .before .loop .i) (laneSize * c .before .before .before .before .loop .i)
+      (laneSize * c .before .before .before .before .loop .i + laneSize - laneSize * c .before .before .before .before .loop .i) _ refl (omega arith)
+      (c .before .before .before .loop-test .taken) (c .before .lane-sound .ensures)) ∙ not-false _ (c .if2 .left)),
+)
 
 returns-3 : tie.Need-returns-3 Inv-loop μ-loop
 returns-3 c = all-pass _ _ (c .before .loop .i) (omega arith) (c .before .loop .inv .1) (omega arith)

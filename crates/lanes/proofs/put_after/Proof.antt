@@ -18,7 +18,9 @@ put-venue-requires : tie.Need-put-venue-requires
 put-venue-requires c κs = let p = c .before .before .before .pre in length-take-le venueSize (c .before .before .before .args .lane .now) (omega arith)
 
 returns-2 : tie.Need-returns-2
-returns-2 c = let h = c .before .before .before .before .if1 .left in let s = c .before .before .before .before .before .before in after-accepted (s .args .lane .now) (s .args .number) (s .args .venue) (c .before .before .put-venue .last .0) (omega arith) (c .before .before .put-venue .ensures)
+returns-2 c = let h = c .before .before .before .before .if1 .left in let s = c .before .before .before .before .before .before in
+    after-accepted (s .args .lane .now) (s .args .number) (s .args .venue) (c .before .before .put-venue .last .0) (omega arith)
+    (c .before .before .put-venue .ensures)
 
 pub put-after-spec : {M : Type 1} → statement M
 put-after-spec =

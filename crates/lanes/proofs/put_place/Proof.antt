@@ -7,10 +7,13 @@ use Rattle.lanes.proofs.put_place.Statement.{statement}
 use Rattle.lanes.proofs.put_place.Tie as tie
 
 same-length : tie.Need-same-length
-same-length c = c .before .before .zero-from .kept .0 ∙ c .before .before .before .before .before .before .put .kept .0 ∙ length-set (c .before .before .before .before .before .before .before .before .before .before .args .place .now) 0 (length (c .before .before .before .before .before .before .before .before .before .before .args .message .now))
+same-length c = let start = c .before .before .before .before .before .before .before .before .before .before in c .before .before .zero-from .kept .0
+    ∙ c .before .before .before .before .before .before .put .kept .0 ∙ length-set (start .args .place .now) 0 (length (start .args .message .now))
 
 returns : tie.Need-returns
-returns c = let s = c .before .before .before .before .before .before .before .before .before .before in let k = c .before .before .before .before .before .before .put in c .before .before .zero-from .ensures ∙ place-put (s .args .place .now) (s .args .message .now) _ (k .last .0) (k .result) (s .pre .0) (s .pre .1) refl (k .ensures)
+returns c = let s = c .before .before .before .before .before .before .before .before .before .before in
+    let k = c .before .before .before .before .before .before .put in c .before .before .zero-from .ensures ∙ place-put (s .args .place .now)
+    (s .args .message .now) _ (k .last .0) (k .result) (s .pre .0) (s .pre .1) refl (k .ensures)
 
 pub put-place-spec : {M : Type 1} → statement M
 put-place-spec =

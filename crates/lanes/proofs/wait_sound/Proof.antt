@@ -19,7 +19,8 @@ loop-holds : tie.Need-loop-holds Inv-loop μ-loop
 loop-holds c = (search needs, short-none _)
 
 returns-2 : tie.Need-returns-2 Inv-loop μ-loop
-returns-2 c = wait-long _ _ (c .before .before .before .before .before .u8-at .ensures) (c .before .before .before .loop .i) _ (c .before .before .loop-test .taken) (c .before .u8-at2 .ensures) (c .if2 .taken)
+returns-2 c = wait-long _ _ (c .before .before .before .before .before .u8-at .ensures) (c .before .before .before .loop .i) _
+    (c .before .before .loop-test .taken) (c .before .u8-at2 .ensures) (c .if2 .taken)
 
 loop-again : tie.Need-loop-again Inv-loop μ-loop
 loop-again c = (search needs, short-next _ (c .before .before .before .loop .i) _ (c .before .before .before .loop .inv .1) (c .before .u8-at2 .ensures) (omega arith))

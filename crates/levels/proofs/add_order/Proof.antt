@@ -10,13 +10,24 @@ level-at-requires : tie.Need-level-at-requires
 level-at-requires c κs = let p = c .before .before .before .pre in (p .0, place-low _ _ _ (p .3) (p .4) (c .before .place-of .ensures))
 
 with-order-requires : tie.Need-with-order-requires
-with-order-requires c κs = let p = c .before .before .before .before .before .before .before .before .before .pre in level-small (c .before .before .before .before .before .before .before .before .before .args .b .now) (λ k. omega (arith, c .before .before .before .before .before .before .before .before .slice-known .given k)) _ _ _ _ (p .1) (p .3) (p .4) (c .before .before .before .before .before .before .before .place-of .ensures) (c .before .before .before .before .before .level-at .ensures)
+with-order-requires c κs = let p = c .before .before .before .before .before .before .before .before .before .pre in
+    level-small (c .before .before .before .before .before .before .before .before .before .args .b .now)
+    (λ k. omega (arith, c .before .before .before .before .before .before .before .before .slice-known .given k)) _ _ _ _ (p .1) (p .3) (p .4)
+    (c .before .before .before .before .before .before .before .place-of .ensures) (c .before .before .before .before .before .level-at .ensures)
 
 put-level-requires : tie.Need-put-level-requires
-put-level-requires c κs = let p = c .before .before .before .before .before .before .before .before .before .before .pre in (c .before .before .before .before .add-regular .kept .0 ∙ p .0, place-low _ _ _ (p .3) (p .4) (c .before .before .before .before .before .before .before .before .place-of .ensures))
+put-level-requires c κs = let p = c .before .before .before .before .before .before .before .before .before .before .pre in (
+  c .before .before .before .before .add-regular .kept .0 ∙ p .0,
+  place-low _ _ _ (p .3) (p .4) (c .before .before .before .before .before .before .before .before .place-of .ensures),
+)
 
 returns : tie.Need-returns
-returns c = let s = c .before .before .before .before .before .before .before .before .before .before .before .before .before in let p = s .pre in added (s .args .b .now) _ _ _ (s .args .o) _ _ (p .2) (p .3) (p .4) (p .5) (p .6) (p .7) (c .before .before .before .before .before .before .before .before .before .before .before .place-of .ensures) (c .before .before .before .before .before .before .before .before .before .level-at .ensures) (c .before .before .before .with-order .ensures) (c .before .before .before .before .before .before .before .add-regular .ensures .0) (c .before .before .before .before .before .before .before .add-regular .ensures .1) (c .before .before .put-level .ensures)
+returns c = let s = c .before .before .before .before .before .before .before .before .before .before .before .before .before in let p = s .pre in
+    added (s .args .b .now) _ _ _ (s .args .o) _ _ (p .2) (p .3) (p .4) (p .5) (p .6) (p .7)
+    (c .before .before .before .before .before .before .before .before .before .before .before .place-of .ensures)
+    (c .before .before .before .before .before .before .before .before .before .level-at .ensures) (c .before .before .before .with-order .ensures)
+    (c .before .before .before .before .before .before .before .add-regular .ensures .0)
+    (c .before .before .before .before .before .before .before .add-regular .ensures .1) (c .before .before .put-level .ensures)
 
 pub add-order-spec : {M : Type 1} → statement M
 add-order-spec =

@@ -20,7 +20,8 @@ put-level-requires : tie.Need-put-level-requires Inv-loop μ-loop
 put-level-requires c κs = (c .before .before .loop .inv .long, c .before .loop-test .taken)
 
 loop-again : tie.Need-loop-again Inv-loop μ-loop
-loop-again c = clearing-turn _ _ _ _ (c .before .before .before .before .before .loop .inv) (c .before .before .before .before .loop-test .taken) (c .before .before .put-level .kept .0) (c .before .before .put-level .ensures)
+loop-again c = clearing-turn _ _ _ _ (c .before .before .before .before .before .loop .inv) (c .before .before .before .before .loop-test .taken)
+    (c .before .before .put-level .kept .0) (c .before .before .put-level .ensures)
 
 same-length : tie.Need-same-length Inv-loop μ-loop
 same-length c = c .before .loop .inv .long ∙ sym (c .before .before .before .pre)

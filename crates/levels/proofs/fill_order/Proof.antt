@@ -19,22 +19,98 @@ level-at-requires : tie.Need-level-at-requires
 level-at-requires c κs = (c .before .before .before .before .before .before .pre .0, key-few _ _ _ (c .before .key-at .ensures))
 
 returns : tie.Need-returns
-returns c = (c .before .before .before .before .before .fill-regular .ensures .0, filled-off (c .before .before .before .before .before .before .before .before .before .before .before .before .before .before .args .b .now) _ (c .before .before .before .before .before .before .before .before .before .before .before .before .before .before .args .i) (c .before .before .before .before .before .before .before .before .before .before .before .before .before .before .args .k) _ (c .before .before .before .before .before .before .before .before .before .before .before .regular-at .result) (c .before .before .before .before .before .before .before .level-at .result) (c .before .before .before .before .before .before .before .before .before .before .before .before .before .before .pre .1) (c .before .before .before .before .before .before .before .before .before .before .before .regular-at .ensures) (c .before .before .before .before .before .before .before .before .before .key-at .ensures) (c .before .before .before .before .before .before .before .level-at .ensures) (c .before .before .before .before .before .fill-regular .ensures .0) (c .before .before .before .before .before .fill-regular .ensures .1) (c .if1 .taken))
+returns c = let start = c .before .before .before .before .before .before .before .before .before .before .before .before .before .before in (
+  c .before .before .before .before .before .fill-regular .ensures .0,
+  filled-off (start .args .b .now) _ (start .args .i) (start .args .k) _
+      (c .before .before .before .before .before .before .before .before .before .before .before .regular-at .result)
+      (c .before .before .before .before .before .before .before .level-at .result) (start .pre .1)
+      (c .before .before .before .before .before .before .before .before .before .before .before .regular-at .ensures)
+      (c .before .before .before .before .before .before .before .before .before .key-at .ensures)
+      (c .before .before .before .before .before .before .before .level-at .ensures)
+      (c .before .before .before .before .before .fill-regular .ensures .0) (c .before .before .before .before .before .fill-regular .ensures .1)
+      (c .if1 .taken),
+)
 
 put-level-requires : tie.Need-put-level-requires
-put-level-requires c κs = (c .before .before .before .before .before .before .before .before .before .before .before .fill-regular .kept .0 ∙ c .before .before .before .before .before .before .before .before .before .before .before .before .before .before .before .before .before .before .before .before .pre .0, key-few _ _ _ (c .before .before .before .before .before .before .before .before .before .before .before .before .before .before .before .key-at .ensures))
+put-level-requires c κs = (
+  c .before .before .before .before .before .before .before .before .before .before .before .fill-regular .kept .0
+      ∙ c .before .before .before .before .before .before .before .before .before .before .before .before .before .before .before .before .before
+      .before .before .before .pre .0,
+  key-few _ _ _ (c .before .before .before .before .before .before .before .before .before .before .before .before .before .before .before .key-at
+      .ensures),
+)
 
 returns-2 : tie.Need-returns-2
-returns-2 c = filled-on (c .before .before .before .before .before .before .before .before .before .before .before .before .before .before .before .before .before .before .before .before .before .before .before .args .b .now) _ (c .before .before .before .before .before .before .before .before .before .before .before .before .before .before .before .before .before .before .before .before .before .before .before .args .i) (c .before .before .before .before .before .before .before .before .before .before .before .before .before .before .before .before .before .before .before .before .before .before .before .args .k) _ (c .before .before .before .before .before .before .before .before .before .before .before .before .before .before .before .before .before .before .before .before .regular-at .result) (c .before .before .before .before .before .before .before .before .before .before .before .before .before .before .before .before .level-at .result) (c .before .before .before .before .before .before .before .before .before .before .before .before .before .before .before .before .before .before .before .before .before .before .before .pre .1) (c .before .before .before .before .before .before .before .before .before .before .before .before .before .before .before .before .before .before .before .before .regular-at .ensures) (c .before .before .before .before .before .before .before .before .before .before .before .before .before .before .before .before .before .before .key-at .ensures) (c .before .before .before .before .before .before .before .before .before .before .before .before .before .before .before .before .level-at .ensures) (c .before .before .before .before .before .before .before .before .before .before .before .before .before .before .fill-regular .ensures .0) (c .before .before .before .before .before .before .before .before .before .before .before .before .before .before .fill-regular .ensures .1) _ _ (c .before .before .put-level .ensures) (filled-rest (c .before .before .before .before .before .before .before .before .before .before .before .before .before .before .before .before .before .before .before .before .before .before .before .args .b .now) _ (c .before .before .before .before .before .before .before .before .before .before .before .before .before .before .before .before .before .before .before .before .before .before .before .args .i) (c .before .before .before .before .before .before .before .before .before .before .before .before .before .before .before .before .before .before .before .before .before .before .before .args .k) _ (c .before .before .before .before .before .before .before .before .before .before .before .before .before .before .before .before .before .before .before .before .regular-at .result) (c .before .before .before .before .before .before .before .before .before .before .before .before .before .before .before .before .level-at .result) (c .before .before .before .before .before .before .before .before .before .before .before .before .before .before .before .before .before .before .before .before .before .before .before .pre .1) (c .before .before .before .before .before .before .before .before .before .before .before .before .before .before .before .before .before .before .before .before .regular-at .ensures) (c .before .before .before .before .before .before .before .before .before .before .before .before .before .before .before .before .before .before .key-at .ensures) (c .before .before .before .before .before .before .before .before .before .before .before .before .before .before .before .before .level-at .ensures) (c .before .before .before .before .before .before .before .before .before .before .before .before .before .before .fill-regular .ensures .0) (c .before .before .before .before .before .before .before .before .before .before .before .before .before .before .fill-regular .ensures .1) _ (c .before .before .before .before .before .before .before .lesser .ensures ∙ ap (min (c .before .before .before .before .before .before .before .before .before .before .before .before .before .before .before .before .before .before .before .before .before .before .before .args .k)) (c .before .before .before .before .before .before .before .before .shown-of .ensures)) (c .before .before .before .before .before .before .before .before .before .if1 .left) (c .before .before .before .before .before .if2 .taken) _ refl)
+returns-2 c = let start = c .before .before .before .before .before .before .before .before .before .before .before .before .before .before .before
+    .before .before .before .before .before .before .before .before in filled-on (start .args .b .now) _ (start .args .i) (start .args .k) _
+    (c .before .before .before .before .before .before .before .before .before .before .before .before .before .before .before .before .before .before
+    .before .before .regular-at .result)
+    (c .before .before .before .before .before .before .before .before .before .before .before .before .before .before .before .before .level-at
+    .result) (start .pre .1)
+    (c .before .before .before .before .before .before .before .before .before .before .before .before .before .before .before .before .before .before
+    .before .before .regular-at .ensures)
+    (c .before .before .before .before .before .before .before .before .before .before .before .before .before .before .before .before .before .before
+    .key-at .ensures) (c .before .before .before .before .before .before .before .before .before .before .before .before .before .before .before
+    .before .level-at .ensures)
+    (c .before .before .before .before .before .before .before .before .before .before .before .before .before .before .fill-regular .ensures .0)
+    (c .before .before .before .before .before .before .before .before .before .before .before .before .before .before .fill-regular .ensures .1) _ _
+    (c .before .before .put-level .ensures)
+    (filled-rest (start .args .b .now) _ (start .args .i) (start .args .k) _
+    (c .before .before .before .before .before .before .before .before .before .before .before .before .before .before .before .before .before .before
+    .before .before .regular-at .result)
+    (c .before .before .before .before .before .before .before .before .before .before .before .before .before .before .before .before .level-at
+    .result) (start .pre .1)
+    (c .before .before .before .before .before .before .before .before .before .before .before .before .before .before .before .before .before .before
+    .before .before .regular-at .ensures)
+    (c .before .before .before .before .before .before .before .before .before .before .before .before .before .before .before .before .before .before
+    .key-at .ensures) (c .before .before .before .before .before .before .before .before .before .before .before .before .before .before .before
+    .before .level-at .ensures)
+    (c .before .before .before .before .before .before .before .before .before .before .before .before .before .before .fill-regular .ensures .0)
+    (c .before .before .before .before .before .before .before .before .before .before .before .before .before .before .fill-regular .ensures .1) _
+    (c .before .before .before .before .before .before .before .lesser .ensures ∙ ap (min (start .args .k))
+    (c .before .before .before .before .before .before .before .before .shown-of .ensures))
+    (c .before .before .before .before .before .before .before .before .before .if1 .left) (c .before .before .before .before .before .if2 .taken) _
+    refl)
 
 level-of-requires : tie.Need-level-of-requires
-level-of-requires c κs = (c .before .before .before .before .before .before .before .before .before .before .fill-regular .kept .0 ∙ c .before .before .before .before .before .before .before .before .before .before .before .before .before .before .before .before .before .before .before .pre .0, series-in (c .before .before .before .before .before .before .before .before .before .before .before .before .before .before .before .before .before .before .before .args .b .now) (c .before .before .before .before .before .before .before .before .before .before .before .before .before .before .before .before .before .before .before .args .i) (c .before .before .before .before .before .before .before .before .before .before .before .before .before .before .before .before .regular-at .result) (c .before .before .before .before .before .before .before .before .before .before .before .before .before .before .before .before .regular-at .ensures), side-in (c .before .before .before .before .before .before .before .before .before .before .before .before .before .before .before .before .before .before .before .args .b .now) (c .before .before .before .before .before .before .before .before .before .before .before .before .before .before .before .before .before .before .before .args .i) (c .before .before .before .before .before .before .before .before .before .before .before .before .before .before .before .before .regular-at .result) (c .before .before .before .before .before .before .before .before .before .before .before .before .before .before .before .before .regular-at .ensures))
+level-of-requires c κs = let start = c .before .before .before .before .before .before .before .before .before .before .before .before .before .before
+    .before .before .before .before .before in (
+      c .before .before .before .before .before .before .before .before .before .before .fill-regular .kept .0 ∙ start .pre .0,
+      series-in (start .args .b .now) (start .args .i)
+          (c .before .before .before .before .before .before .before .before .before .before .before .before .before .before .before .before .regular-at
+          .result) (c .before .before .before .before .before .before .before .before .before .before .before .before .before .before .before .before
+          .regular-at .ensures),
+      side-in (start .args .b .now) (start .args .i)
+          (c .before .before .before .before .before .before .before .before .before .before .before .before .before .before .before .before .regular-at
+          .result) (c .before .before .before .before .before .before .before .before .before .before .before .before .before .before .before .before
+          .regular-at .ensures),
+    )
 
 put-level-requires-2 : tie.Need-put-level-requires-2
-put-level-requires-2 c κs = (c .before .before .before .before .before .before .before .before .before .before .before .before .fill-regular .kept .0 ∙ c .before .before .before .before .before .before .before .before .before .before .before .before .before .before .before .before .before .before .before .before .before .pre .0, key-few _ _ _ (c .before .before .before .before .before .before .before .before .before .before .before .before .before .before .before .before .key-at .ensures))
+put-level-requires-2 c κs = (
+  c .before .before .before .before .before .before .before .before .before .before .before .before .fill-regular .kept .0
+      ∙ c .before .before .before .before .before .before .before .before .before .before .before .before .before .before .before .before .before
+      .before .before .before .before .pre .0,
+  key-few _ _ _ (c .before .before .before .before .before .before .before .before .before .before .before .before .before .before .before .before
+      .key-at .ensures),
+)
 
 returns-3 : tie.Need-returns-3
-returns-3 c = filled-on (c .before .before .before .before .before .before .before .before .before .before .before .before .before .before .before .before .before .before .before .before .before .before .before .before .args .b .now) _ (c .before .before .before .before .before .before .before .before .before .before .before .before .before .before .before .before .before .before .before .before .before .before .before .before .args .i) (c .before .before .before .before .before .before .before .before .before .before .before .before .before .before .before .before .before .before .before .before .before .before .before .before .args .k) _ (c .before .before .before .before .before .before .before .before .before .before .before .before .before .before .before .before .before .before .before .before .before .regular-at .result) (c .before .before .before .before .before .before .before .before .before .before .before .before .before .before .before .before .before .level-at .result) (c .before .before .before .before .before .before .before .before .before .before .before .before .before .before .before .before .before .before .before .before .before .before .before .before .pre .1) (c .before .before .before .before .before .before .before .before .before .before .before .before .before .before .before .before .before .before .before .before .before .regular-at .ensures) (c .before .before .before .before .before .before .before .before .before .before .before .before .before .before .before .before .before .before .before .key-at .ensures) (c .before .before .before .before .before .before .before .before .before .before .before .before .before .before .before .before .before .level-at .ensures) (c .before .before .before .before .before .before .before .before .before .before .before .before .before .before .before .fill-regular .ensures .0) (c .before .before .before .before .before .before .before .before .before .before .before .before .before .before .before .fill-regular .ensures .1) _ _ (c .before .before .put-level2 .ensures) (λ _. c .before .before .before .before .level-of .ensures)
+returns-3 c = let start = c .before .before .before .before .before .before .before .before .before .before .before .before .before .before .before
+    .before .before .before .before .before .before .before .before .before in filled-on (start .args .b .now) _ (start .args .i) (start .args .k) _
+    (c .before .before .before .before .before .before .before .before .before .before .before .before .before .before .before .before .before .before
+    .before .before .before .regular-at .result)
+    (c .before .before .before .before .before .before .before .before .before .before .before .before .before .before .before .before .before
+    .level-at .result) (start .pre .1)
+    (c .before .before .before .before .before .before .before .before .before .before .before .before .before .before .before .before .before .before
+    .before .before .before .regular-at .ensures)
+    (c .before .before .before .before .before .before .before .before .before .before .before .before .before .before .before .before .before .before
+    .before .key-at .ensures)
+    (c .before .before .before .before .before .before .before .before .before .before .before .before .before .before .before .before .before
+    .level-at .ensures) (c .before .before .before .before .before .before .before .before .before .before .before .before .before .before .before
+    .fill-regular .ensures .0)
+    (c .before .before .before .before .before .before .before .before .before .before .before .before .before .before .before .fill-regular .ensures
+    .1) _ _ (c .before .before .put-level2 .ensures) (λ _. c .before .before .before .before .level-of .ensures)
 
 pub fill-order-spec : {M : Type 1} → statement M
 fill-order-spec =

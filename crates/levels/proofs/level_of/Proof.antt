@@ -22,16 +22,29 @@ key-at-requires : tie.Need-key-at-requires Inv-loop μ-loop
 key-at-requires c κs = (c .before .before .before .before .before .pre .0, omega (arith, c .before .loop .inv .below, c .before .before .regulars-used .ensures .1))
 
 loop-again : tie.Need-loop-again Inv-loop μ-loop
-loop-again c = scanned-past _ _ _ _ _ _ (c .before .before .before .loop .inv) (omega (arith, c .before .before .loop-test .taken)) (λ e. c .if1 .taken (c .before .key-at .ensures ∙ e ∙ sym (c .before .before .before .before .before .place-of .ensures)))
+loop-again c = scanned-past _ _ _ _ _ _ (c .before .before .before .loop .inv) (omega (arith, c .before .before .loop-test .taken))
+    (λ e. c .if1 .taken (c .before .key-at .ensures ∙ e ∙ sym (c .before .before .before .before .before .place-of .ensures)))
 
 regular-at-requires : tie.Need-regular-at-requires Inv-loop μ-loop
-regular-at-requires c κs = (c .before .before .before .before .before .before .before .pre .0, omega (arith, c .before .before .before .loop .inv .below, c .before .before .before .before .regulars-used .ensures .1))
+regular-at-requires c κs = (
+  c .before .before .before .before .before .before .before .pre .0,
+  omega (arith, c .before .before .before .loop .inv .below, c .before .before .before .before .regulars-used .ensures .1),
+)
 
 with-order-requires : tie.Need-with-order-requires Inv-loop μ-loop
-with-order-requires c κs = omega (arith, c .before .before .before .before .loop .inv .bound, c .before .before .before .before .loop .inv .below, c .before .before .before .before .before .regulars-used .ensures .1)
+with-order-requires c κs = omega (
+  arith,
+  c .before .before .before .before .loop .inv .bound,
+  c .before .before .before .before .loop .inv .below,
+  c .before .before .before .before .before .regulars-used .ensures .1,
+)
 
 loop-again-2 : tie.Need-loop-again-2 Inv-loop μ-loop
-loop-again-2 c = scanned-on _ _ _ _ _ _ (c .before .before .before .before .before .loop .inv) (omega (arith, c .before .before .before .before .loop-test .taken)) (c .before .regular-at .result) (c .before .regular-at .ensures) (sym (c .before .before .before .key-at .ensures) ∙ c .before .before .if1 .left ∙ c .before .before .before .before .before .before .before .place-of .ensures) (c .before .before .before .before .before .before .before .before .before .pre .2) (search needs) _ (c .with-order .ensures)
+loop-again-2 c = scanned-on _ _ _ _ _ _ (c .before .before .before .before .before .loop .inv)
+    (omega (arith, c .before .before .before .before .loop-test .taken)) (c .before .regular-at .result) (c .before .regular-at .ensures)
+    (sym (c .before .before .before .key-at .ensures) ∙ c .before .before .if1 .left
+    ∙ c .before .before .before .before .before .before .before .place-of .ensures)
+    (c .before .before .before .before .before .before .before .before .before .pre .2) (search needs) _ (c .with-order .ensures)
 
 returns : tie.Need-returns Inv-loop μ-loop
 returns c = scanned-all _ _ _ _ _ _ (c .before .loop .inv) (c .before .before .regulars-used .ensures .0) (omega (arith, c .loop-test .left))

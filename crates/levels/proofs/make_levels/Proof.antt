@@ -20,25 +20,39 @@ regulars-used-requires : tie.Need-regulars-used-requires Inv-loop μ-loop
 regulars-used-requires c κs = c .before .before .before .clear-levels .kept .0 ∙ c .before .before .before .before .before .before .pre
 
 loop-holds : tie.Need-loop-holds Inv-loop μ-loop
-loop-holds c = making-start _ _ _ (c .regulars-used .ensures .0) (c .before .before .before .before .clear-levels .kept .0 ∙ c .before .before .before .before .before .before .before .pre) (c .before .before .before .before .clear-levels .ensures)
+loop-holds c = making-start _ _ _ (c .regulars-used .ensures .0)
+    (c .before .before .before .before .clear-levels .kept .0 ∙ c .before .before .before .before .before .before .before .pre)
+    (c .before .before .before .before .clear-levels .ensures)
 
 regular-at-requires : tie.Need-regular-at-requires Inv-loop μ-loop
-regular-at-requires c κs = let f = regulars-few (c .before .before .before .before .before .before .before .before .before .before .args .b .now) in (c .before .before .loop .inv .long, omega (arith, c .before .before .loop .inv .below, c .before .before .loop .inv .used))
+regular-at-requires c κs = let f = regulars-few (c .before .before .before .before .before .before .before .before .before .before .args .b .now) in
+    (c .before .before .loop .inv .long, omega (arith, c .before .before .loop .inv .below, c .before .before .loop .inv .used))
 
 key-at-requires : tie.Need-key-at-requires Inv-loop μ-loop
-key-at-requires c κs = let f = regulars-few (c .before .before .before .before .before .before .before .before .before .before .before .before .args .b .now) in (c .before .before .before .before .loop .inv .long, omega (arith, c .before .before .before .before .loop .inv .below, c .before .before .before .before .loop .inv .used))
+key-at-requires c κs = let f = regulars-few
+    (c .before .before .before .before .before .before .before .before .before .before .before .before .args .b .now) in (
+      c .before .before .before .before .loop .inv .long,
+      omega (arith, c .before .before .before .before .loop .inv .below, c .before .before .before .before .loop .inv .used),
+    )
 
 level-at-requires : tie.Need-level-at-requires Inv-loop μ-loop
 level-at-requires c κs = (c .before .before .before .before .before .before .loop .inv .long, key-few _ _ _ (c .before .key-at .ensures))
 
 with-order-requires : tie.Need-with-order-requires Inv-loop μ-loop
-with-order-requires c κs = rw (c .before .level-at .ensures) (making-bound _ _ _ _ _ (c .before .before .before .before .before .before .before .before .loop .inv) (key-few _ _ _ (c .before .before .before .key-at .ensures)))
+with-order-requires c κs = rw (c .before .level-at .ensures)
+    (making-bound _ _ _ _ _ (c .before .before .before .before .before .before .before .before .loop .inv)
+    (key-few _ _ _ (c .before .before .before .key-at .ensures)))
 
 put-level-requires : tie.Need-put-level-requires Inv-loop μ-loop
 put-level-requires c κs = (c .before .before .before .before .before .before .before .before .before .loop .inv .long, key-few _ _ _ (c .before .before .before .before .key-at .ensures))
 
 loop-again : tie.Need-loop-again Inv-loop μ-loop
-loop-again c = making-turn _ _ _ _ _ (c .before .before .before .before .before .before .before .before .before .before .before .before .loop .inv) (c .before .before .before .before .before .before .before .before .before .before .before .loop-test .taken) (c .before .before .before .before .before .before .before .before .before .regular-at .result) (c .before .before .before .before .before .before .before .before .before .regular-at .ensures) _ (c .before .before .before .before .before .before .before .key-at .ensures) _ _ (c .before .before .before .before .before .level-at .ensures) (c .before .before .before .with-order .ensures) (search needs) (c .before .before .put-level .kept .0) (c .before .before .put-level .ensures)
+loop-again c = making-turn _ _ _ _ _ (c .before .before .before .before .before .before .before .before .before .before .before .before .loop .inv)
+    (c .before .before .before .before .before .before .before .before .before .before .before .loop-test .taken)
+    (c .before .before .before .before .before .before .before .before .before .regular-at .result)
+    (c .before .before .before .before .before .before .before .before .before .regular-at .ensures) _
+    (c .before .before .before .before .before .before .before .key-at .ensures) _ _ (c .before .before .before .before .before .level-at .ensures)
+    (c .before .before .before .with-order .ensures) (search needs) (c .before .before .put-level .kept .0) (c .before .before .put-level .ensures)
 
 same-length : tie.Need-same-length Inv-loop μ-loop
 same-length c = c .before .loop .inv .long ∙ sym (c .before .before .before .before .before .before .before .before .before .pre)

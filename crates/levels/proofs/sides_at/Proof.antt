@@ -12,7 +12,13 @@ best-regular-requires-2 c κs = let p = c .before .before .before .pre in (p .0,
 
 returns : tie.Need-returns
 unfolding bestRegular
-returns c = let k = c .before .before .before .before .before .args in record { own = c .before .before .before .best-regular .ensures; facing = c .before .best-regular2 .ensures ∙ ap (bestRegular (venueOf (k .b .now)) (k .s)) (c .before .before .opposite-of .ensures); taken = c .taken-at .ensures }
+returns c = let k = c .before .before .before .before .before .args in
+    record {
+      own = c .before .before .before .best-regular .ensures;
+      facing = c .before .best-regular2 .ensures
+          ∙ ap (bestRegular (venueOf (k .b .now)) (k .s)) (c .before .before .opposite-of .ensures);
+      taken = c .taken-at .ensures;
+    }
 
 pub sides-at-spec : {M : Type 1} → statement M
 sides-at-spec =

@@ -13,7 +13,12 @@ close-gaps-requires c κs =
     (p5 .perform .kept .0 ∙ s .pre .0, p5 .perform .ensures .1)
 
 returns : tie.Need-returns
-returns c = let s = c .before .before .before .before .before .before .before .before .before .before .before .before .before in let g = c .before .before .close-gaps .ensures in (accept-law _ (s .args .number) (s .args .m) (venueOf (s .args .b .now)) _ _ _ _ (c .before .before .before .before .before .before .before .before .perform .ensures .0) (g .venue), g .dense)
+returns c = let s = c .before .before .before .before .before .before .before .before .before .before .before .before .before in
+    let g = c .before .before .close-gaps .ensures in (
+      accept-law _ (s .args .number) (s .args .m) (venueOf (s .args .b .now)) _ _ _ _
+          (c .before .before .before .before .before .before .before .before .perform .ensures .0) (g .venue),
+      g .dense,
+    )
 
 pub accept-spec : {M : Type 1} → statement M
 accept-spec =

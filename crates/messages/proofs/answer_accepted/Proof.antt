@@ -15,7 +15,17 @@ mask-of-requires c κs =
 
 returns : tie.Need-returns
 unfolding answered
-returns c = let s = c .before .before .before .before .before .before .before .before .before .before .before .before .before .before .before .before .before .before .before .before in let a = c .before .before .before .before .before .before .before .before .before .before .before .accept .ensures in record { refused = refl; staged = accepted-law _ (accept (s .args .number) (s .args .m) (venueOf (s .args .b .now))) _ _ _ _ _ _ _ _ _ (c .before .before .before .before .before .before .before .before .before .before .before .before .before .before .before .before .emit-answer .ensures) (a .0) (c .before .before .before .before .before .mask-of .ensures) (c .before .before .before .before .count-of .ensures) (c .before .before .set-answer .ensures); dense = a .1 }
+returns c = let s = c .before .before .before .before .before .before .before .before .before .before .before .before .before .before .before .before
+    .before .before .before .before in
+    let a = c .before .before .before .before .before .before .before .before .before .before .before .accept .ensures in
+    record {
+      refused = refl;
+      staged = accepted-law _ (accept (s .args .number) (s .args .m) (venueOf (s .args .b .now))) _ _ _ _ _ _ _ _ _
+          (c .before .before .before .before .before .before .before .before .before .before .before .before .before .before .before .before .emit-answer
+          .ensures) (a .0) (c .before .before .before .before .before .mask-of .ensures) (c .before .before .before .before .count-of .ensures)
+          (c .before .before .set-answer .ensures);
+      dense = a .1;
+    }
 
 pub answer-accepted-spec : {M : Type 1} → statement M
 answer-accepted-spec =

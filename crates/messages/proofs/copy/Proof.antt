@@ -34,7 +34,14 @@ loop-less : tie.Need-loop-less Inv-loop μ-loop
 loop-less c = omega arith
 
 loop-again : tie.Need-loop-again Inv-loop μ-loop
-loop-again c = let g = c .before .before .loop .inv in let s = c .before .before .before in (omega arith, (rw (g .1 .0) (copy-next (s .args .to .now) (s .args .from .now) (c .before .before .loop .i) (s .pre) (c .before .loop-test .taken)), simp length-set (g .1 .1)))
+loop-again c = let g = c .before .before .loop .inv in let s = c .before .before .before in (
+  omega arith,
+  (
+    rw (g .1 .0)
+        (copy-next (s .args .to .now) (s .args .from .now) (c .before .before .loop .i) (s .pre) (c .before .loop-test .taken)),
+    simp length-set (g .1 .1),
+  ),
+)
 
 same-length : tie.Need-same-length Inv-loop μ-loop
 same-length c = c .before .loop .inv .1 .1

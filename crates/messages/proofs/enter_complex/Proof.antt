@@ -12,7 +12,9 @@ use Rattle.messages.proofs.enter_complex.Statement.{statement}
 use Rattle.messages.proofs.enter_complex.Tie as tie
 
 complex-order-requires : tie.Need-complex-order-requires
-complex-order-requires c κs = let s = c .before .before .before .before .before .before .before .before in let p = c .before .before .before .before .put-last .ensures in let k = p .1 .complexes in let h = s .pre .2 in (c .before .before .before .before .put-last .kept .0 ∙ s .pre .0, last-dense _ _ _ (p .0) (p .1) (s .pre .1), omega arith, s .pre .3)
+complex-order-requires c κs = let s = c .before .before .before .before .before .before .before .before in
+    let p = c .before .before .before .before .put-last .ensures in let k = p .1 .complexes in let h = s .pre .2 in
+    (c .before .before .before .before .put-last .kept .0 ∙ s .pre .0, last-dense _ _ _ (p .0) (p .1) (s .pre .1), omega arith, s .pre .3)
 
 returns : tie.Need-returns
 returns c =

@@ -18,10 +18,12 @@ use Rattle.messages.proofs.perform.Statement.{statement}
 use Rattle.messages.proofs.perform.Tie as tie
 
 perform-later-requires : tie.Need-perform-later-requires
-perform-later-requires c κs = let s = c .before .before .before .before .before .before in let e = c .before .before .before .message-form .ensures in (s .pre .0, omega arith, s .pre .2, s .pre .3, s .pre .1, s .pre .4)
+perform-later-requires c κs = let s = c .before .before .before .before .before .before in let e = c .before .before .before .message-form .ensures in
+    (s .pre .0, omega arith, s .pre .2, s .pre .3, s .pre .1, s .pre .4)
 
 returns : tie.Need-returns
-returns c = let s = c .before .before .before .before .before .before .before .before .before .before .before in let k = c .before .before .before .before .perform-later .ensures in (k .0, k .1 .right (s .pre .1 .right))
+returns c = let s = c .before .before .before .before .before .before .before .before .before .before .before in
+    let k = c .before .before .before .before .perform-later .ensures in (k .0, k .1 .right (s .pre .1 .right))
 
 enter-order-requires : tie.Need-enter-order-requires
 unfolding wellFormed Shows
@@ -33,46 +35,87 @@ enter-order-requires c κs =
 
 enter-complex-requires : tie.Need-enter-complex-requires
 unfolding wellFormed
-enter-complex-requires c κs = let s = c .before .before .before .before .before .before .before .before .before .before in let e = c .before .before .before .m2 .given .1 in (s .pre .0, s .pre .1, complex-room _ (s .pre .1) _ (sym (ap (refusalOf (venueOf (s .args .b .now))) e) ∙ s .pre .3), legs-in _ (sym (ap wellFormed e) ∙ s .pre .2))
+enter-complex-requires c κs = let s = c .before .before .before .before .before .before .before .before .before .before in
+    let e = c .before .before .before .m2 .given .1 in (
+      s .pre .0,
+      s .pre .1,
+      complex-room _ (s .pre .1) _ (sym (ap (refusalOf (venueOf (s .args .b .now))) e) ∙ s .pre .3),
+      legs-in _ (sym (ap wellFormed e) ∙ s .pre .2),
+    )
 
 cancel-requires : tie.Need-cancel-requires
-cancel-requires c κs = let s = c .before .before .before .before .before .before .before .before .before .before in let e = c .before .before .before .m3 .given .1 in (s .pre .0, s .pre .1, cancel-known _ _ (sym (ap (refusalOf (venueOf (s .args .b .now))) e) ∙ s .pre .3))
+cancel-requires c κs = let s = c .before .before .before .before .before .before .before .before .before .before in
+    let e = c .before .before .before .m3 .given .1 in
+    (s .pre .0, s .pre .1, cancel-known _ _ (sym (ap (refusalOf (venueOf (s .args .b .now))) e) ∙ s .pre .3))
 
 returns-2 : tie.Need-returns-2
 unfolding perform
-returns-2 c = let s = c .before .before .before .before .before .before .before .before .before .before .before .before .before .before .before in let k = c .before .before .before .before .enter-order .ensures in (k .0 ∙ ap (λ (x : Message). seen (s .args .out .now) (s .args .at) does perform (s .args .number) x (venueOf (s .args .b .now))) (sym (c .before .before .before .before .before .before .before .before .m .given .1)), k .1)
+returns-2 c = let s = c .before .before .before .before .before .before .before .before .before .before .before .before .before .before .before in
+    let k = c .before .before .before .before .enter-order .ensures in (
+      k .0 ∙ ap (λ (x : Message). seen (s .args .out .now) (s .args .at) does perform (s .args .number) x (venueOf (s .args .b .now)))
+          (sym (c .before .before .before .before .before .before .before .before .m .given .1)),
+      k .1,
+    )
 
 returns-3 : tie.Need-returns-3
 unfolding perform
-returns-3 c = let s = c .before .before .before .before .before .before .before .before .before .before .before .before .before .before .before in let k = c .before .before .before .before .enter-complex .ensures in (k .0 ∙ ap (λ (x : Message). seen (s .args .out .now) (s .args .at) does perform (s .args .number) x (venueOf (s .args .b .now))) (sym (c .before .before .before .before .before .before .before .before .m2 .given .1)), k .1)
+returns-3 c = let s = c .before .before .before .before .before .before .before .before .before .before .before .before .before .before .before in
+    let k = c .before .before .before .before .enter-complex .ensures in (
+      k .0 ∙ ap (λ (x : Message). seen (s .args .out .now) (s .args .at) does perform (s .args .number) x (venueOf (s .args .b .now)))
+          (sym (c .before .before .before .before .before .before .before .before .m2 .given .1)),
+      k .1,
+    )
 
 returns-4 : tie.Need-returns-4
 unfolding perform
-returns-4 c = let s = c .before .before .before .before .before .before .before .before .before .before .before .before .before .before .before in let k = c .before .before .before .before .cancel .ensures in (k .0 ∙ ap (λ (x : Message). seen (s .args .out .now) (s .args .at) does perform (s .args .number) x (venueOf (s .args .b .now))) (sym (c .before .before .before .before .before .before .before .before .m3 .given .1)), k .1 .right (s .pre .1 .right))
+returns-4 c = let s = c .before .before .before .before .before .before .before .before .before .before .before .before .before .before .before in
+    let k = c .before .before .before .before .cancel .ensures in (
+      k .0 ∙ ap (λ (x : Message). seen (s .args .out .now) (s .args .at) does perform (s .args .number) x (venueOf (s .args .b .now)))
+          (sym (c .before .before .before .before .before .before .before .before .m3 .given .1)),
+      k .1 .right (s .pre .1 .right),
+    )
 
 returns-5 : tie.Need-returns-5
 returns-5 c = let k = kinds-left (c .before .before .before .before .before .before .args .m) (c .match .keys4) in let e = c .before .before .before .message-form .ensures in absurd (omega arith)
 
 set-away-requires : tie.Need-set-away-requires
-set-away-requires c κs = let s = c .before .before .before .before .before .before .before .before .before .before in let e = c .before .before .before .m4 .given .1 in (s .pre .0, away-series _ _ _ (sym (ap wellFormed e) ∙ s .pre .2), s .pre .1 .right)
+set-away-requires c κs = let s = c .before .before .before .before .before .before .before .before .before .before in
+    let e = c .before .before .before .m4 .given .1 in (s .pre .0, away-series _ _ _ (sym (ap wellFormed e) ∙ s .pre .2), s .pre .1 .right)
 
 set-status-requires : tie.Need-set-status-requires
-set-status-requires c κs = let s = c .before .before .before .before .before .before .before .before .before .before in let e = c .before .before .before .m5 .given .1 in (s .pre .0, status-series _ _ (sym (ap wellFormed e) ∙ s .pre .2), s .pre .1 .right)
+set-status-requires c κs = let s = c .before .before .before .before .before .before .before .before .before .before in
+    let e = c .before .before .before .m5 .given .1 in (s .pre .0, status-series _ _ (sym (ap wellFormed e) ∙ s .pre .2), s .pre .1 .right)
 
 sweep-requires : tie.Need-sweep-requires
 sweep-requires c κs = let s = c .before .before .before .before .before .before .before .before in (s .pre .0, s .pre .1 .right, sound-rising _ (s .pre .4 .is))
 
 returns-6 : tie.Need-returns-6
 unfolding perform
-returns-6 c = let s = c .before .before .before .before .before .before .before .before .before .before .before .before .before .before .before in let k = c .before .before .before .before .set-away .ensures in (k .0 ∙ ap (λ (x : Message). seen (s .args .out .now) (s .args .at) does perform (s .args .number) x (venueOf (s .args .b .now))) (sym (c .before .before .before .before .before .before .before .before .m4 .given .1)), k .1 .right (s .pre .1 .right))
+returns-6 c = let s = c .before .before .before .before .before .before .before .before .before .before .before .before .before .before .before in
+    let k = c .before .before .before .before .set-away .ensures in (
+      k .0 ∙ ap (λ (x : Message). seen (s .args .out .now) (s .args .at) does perform (s .args .number) x (venueOf (s .args .b .now)))
+          (sym (c .before .before .before .before .before .before .before .before .m4 .given .1)),
+      k .1 .right (s .pre .1 .right),
+    )
 
 returns-7 : tie.Need-returns-7
 unfolding perform
-returns-7 c = let s = c .before .before .before .before .before .before .before .before .before .before .before .before .before .before .before in let k = c .before .before .before .before .set-status .ensures in (k .0 ∙ ap (λ (x : Message). seen (s .args .out .now) (s .args .at) does perform (s .args .number) x (venueOf (s .args .b .now))) (sym (c .before .before .before .before .before .before .before .before .m5 .given .1)), k .1 .right (s .pre .1 .right))
+returns-7 c = let s = c .before .before .before .before .before .before .before .before .before .before .before .before .before .before .before in
+    let k = c .before .before .before .before .set-status .ensures in (
+      k .0 ∙ ap (λ (x : Message). seen (s .args .out .now) (s .args .at) does perform (s .args .number) x (venueOf (s .args .b .now)))
+          (sym (c .before .before .before .before .before .before .before .before .m5 .given .1)),
+      k .1 .right (s .pre .1 .right),
+    )
 
 returns-8 : tie.Need-returns-8
 unfolding perform
-returns-8 c = let s = c .before .before .before .before .before .before .before .before .before .before .before .before .before in let e = c .before .before .before .before .before .before .before .before .before .before .message-form .ensures in let sweeps = sweep-left (s .args .m) (c .before .before .before .before .before .before .before .match2 .keys3) (omega arith) (omega arith) in let k = c .before .before .before .before .sweep .ensures in (k .0 ∙ ap (λ (x : Message). seen (s .args .out .now) (s .args .at) does perform (s .args .number) x (venueOf (s .args .b .now))) (sym sweeps), k .1 .right (s .pre .1 .right))
+returns-8 c = let s = c .before .before .before .before .before .before .before .before .before .before .before .before .before in
+    let e = c .before .before .before .before .before .before .before .before .before .before .message-form .ensures in
+    let sweeps = sweep-left (s .args .m) (c .before .before .before .before .before .before .before .match2 .keys3) (omega arith) (omega arith) in
+    let k = c .before .before .before .before .sweep .ensures in (
+      k .0 ∙ ap (λ (x : Message). seen (s .args .out .now) (s .args .at) does perform (s .args .number) x (venueOf (s .args .b .now))) (sym sweeps),
+      k .1 .right (s .pre .1 .right),
+    )
 
 pub perform-spec : {M : Type 1} → statement M
 perform-spec =

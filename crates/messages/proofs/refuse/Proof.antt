@@ -12,7 +12,14 @@ mask-of-requires c κs = let s = c .before .before in (s .pre .0, s .pre .1 .rig
 
 returns : tie.Need-returns
 unfolding answered
-returns c = let s = c .before .before .before .before .before .before .before .before in record { refused = refl; staged = refuse-law (venueOf (s .args .b .now)) _ _ _ _ _ _ _ (c .before .before .before .before .before .mask-of .ensures) (c .before .before .before .before .count-of .ensures) (c .before .before .emit-answer .ensures); dense = s .pre .1 }
+returns c = let s = c .before .before .before .before .before .before .before .before in
+    record {
+      refused = refl;
+      staged = refuse-law (venueOf (s .args .b .now)) _ _ _ _ _ _ _
+          (c .before .before .before .before .before .mask-of .ensures) (c .before .before .before .before .count-of .ensures)
+          (c .before .before .emit-answer .ensures);
+      dense = s .pre .1;
+    }
 
 pub refuse-spec : {M : Type 1} → statement M
 refuse-spec =

@@ -10,7 +10,11 @@ returns : tie.Need-returns
 returns c = tries-done _ _ _ _ _ _ (c .before .before .before .before .before .before .step .ensures) (omega arith)
 
 returns-2 : tie.Need-returns-2
-returns-2 c = let s = c .before .before .before .before .before .before .before .before .before .before .before .before .before .before .before .before .before .before .before .before .before in tries-left _ _ _ _ _ _ (c .before .before .before .before .before .before .before .before .before .before .before .step .ensures) _ (omega arith) (c .before .before .copy2 .ensures ∙ c .before .before .before .before .before .before .before .before .before .before .before .before .before .before .before .copy .ensures) (s .pre .1)
+returns-2 c = let s = c .before .before .before .before .before .before .before .before .before .before .before .before .before .before .before
+    .before .before .before .before .before .before in
+    tries-left _ _ _ _ _ _ (c .before .before .before .before .before .before .before .before .before .before .before .step .ensures) _ (omega arith)
+    (c .before .before .copy2 .ensures ∙ c .before .before .before .before .before .before .before .before .before .before .before .before .before
+    .before .before .copy .ensures) (s .pre .1)
 
 pub step-or-leave-spec : {M : Type 1} → statement M
 step-or-leave-spec =

@@ -15,11 +15,20 @@ use Rattle.orders.proofs.withdraw.Reads as withdraw-reads
 use Rattle.settling.proofs.settle_all.Reads as settle-all-reads
 
 settle-all-requires : tie.Need-settle-all-requires
-settle-all-requires c κs = let w = c .before .before .before .before .before .before .withdraw in let s = c .before .before .before .before .before .before .before .before .before .before .before in (w .kept .0 ∙ s .pre .0, w .ensures .1 .right (s .pre .1 .right))
+settle-all-requires c κs = let w = c .before .before .before .before .before .before .withdraw in
+    let s = c .before .before .before .before .before .before .before .before .before .before .before in
+    (w .kept .0 ∙ s .pre .0, w .ensures .1 .right (s .pre .1 .right))
 
 returns : tie.Need-returns
 unfolding cancel withdrawn
-returns c = (follow _ (withdrawn (c .before .before .before .before .before .before .before .before .before .before .before .before .before .before .before .before .args .id) (venueOf (c .before .before .before .before .before .before .before .before .before .before .before .before .before .before .before .before .args .b .now))) settle _ _ _ _ _ _ (c .before .before .before .before .before .before .before .before .before .before .before .withdraw .ensures .0) (c .before .before .before .before .settle-all .ensures .0), counts-on _ _ _ (c .before .before .before .before .before .before .before .before .before .before .before .withdraw .ensures .1) (c .before .before .before .before .settle-all .ensures .1))
+returns c = let start = c .before .before .before .before .before .before .before .before .before .before .before .before .before .before .before
+    .before in (
+      follow _ (withdrawn (start .args .id) (venueOf (start .args .b .now))) settle _ _ _ _ _ _
+          (c .before .before .before .before .before .before .before .before .before .before .before .withdraw .ensures .0)
+          (c .before .before .before .before .settle-all .ensures .0),
+      counts-on _ _ _ (c .before .before .before .before .before .before .before .before .before .before .before .withdraw .ensures .1)
+          (c .before .before .before .before .settle-all .ensures .1),
+    )
 
 pub cancel-spec : {M : Type 1} → statement M
 cancel-spec =

@@ -29,7 +29,8 @@ generate-order-requires c κs =
     let x = c .before .before .before .before .before .before .settle-all in
     let w = c .before .before .before .before .before .before .before .before .before .before .before .before .before .work in
     let a = c .before .before .before .before .before .before .before .before .before .before .before .before .before .before .before .before .before .before .add-complex in
-    let s = c .before .before .before .before .before .before .before .before .before .before .before .before .before .before .before .before .before .before .before .before .before .before .before .before in
+    let s = c .before .before .before .before .before .before .before .before .before .before .before .before .before .before .before .before .before
+    .before .before .before .before .before .before .before in
     (x .kept .0 ∙ w .kept .0 ∙ a .kept .0 ∙ s .pre .0, x .ensures .1 .right (w .ensures .1 .right (a .ensures .1 .right (s .pre .1 .right))))
 
 returns : tie.Need-returns
@@ -37,9 +38,12 @@ returns c =
     let g = c .before .before .before .before .generate-order in
     let x = c .before .before .before .before .before .before .before .before .before .before .before .settle-all in
     let w = c .before .before .before .before .before .before .before .before .before .before .before .before .before .before .before .before .before .before .work in
-    let a = c .before .before .before .before .before .before .before .before .before .before .before .before .before .before .before .before .before .before .before .before .before .before .before .add-complex in
-    let u = c .before .before .before .before .before .before .before .before .before .before .before .before .before .before .before .before .before .before .before .before .before .before .before .before .before .complexes-used in
-    let s = c .before .before .before .before .before .before .before .before .before .before .before .before .before .before .before .before .before .before .before .before .before .before .before .before .before .before .before .before .before in (
+    let a = c .before .before .before .before .before .before .before .before .before .before .before .before .before .before .before .before .before
+    .before .before .before .before .before .before .add-complex in
+    let u = c .before .before .before .before .before .before .before .before .before .before .before .before .before .before .before .before .before
+    .before .before .before .before .before .before .before .before .complexes-used in
+    let s = c .before .before .before .before .before .before .before .before .before .before .before .before .before .before .before .before .before
+    .before .before .before .before .before .before .before .before .before .before .before .before in (
       complex-law (s .args .number) (s .args .c) _ _ _ _ _ _ _ _ _ _ _ _ _ _ (u .ensures .0 ∙ sym (dense-complex (s .args .b .now) (s .pre .1)))
           (a .ensures .0 ∙ ap (λ (k : ℕ). putComplex k (s .args .c) (venueOf (s .args .b .now))) (sym (u .ensures .0))) (w .ensures .0) (x .ensures .0) (g .ensures .0),
       counts-more _ _ _ _ _ (a .ensures .1) (counts-on _ _ _ (counts-on _ _ _ (w .ensures .1) (x .ensures .1)) (g .ensures .1)),

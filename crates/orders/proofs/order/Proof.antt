@@ -17,11 +17,20 @@ enter-regular-requires : tie.Need-enter-regular-requires
 enter-regular-requires c κs = c .before .before .before .before .pre
 
 settle-all-requires : tie.Need-settle-all-requires
-settle-all-requires c κs = let w = c .before .before .before .before .before .before .enter-regular in let s = c .before .before .before .before .before .before .before .before .before .before .before in (w .kept .0 ∙ s .pre .0, w .ensures .1 .right (s .pre .1 .right))
+settle-all-requires c κs = let w = c .before .before .before .before .before .before .enter-regular in
+    let s = c .before .before .before .before .before .before .before .before .before .before .before in
+    (w .kept .0 ∙ s .pre .0, w .ensures .1 .right (s .pre .1 .right))
 
 returns : tie.Need-returns
 unfolding order
-returns c = (follow _ (enterRegular (c .before .before .before .before .before .before .before .before .before .before .before .before .before .before .before .before .args .o) (venueOf (c .before .before .before .before .before .before .before .before .before .before .before .before .before .before .before .before .args .b .now))) settle _ _ _ _ _ _ (c .before .before .before .before .before .before .before .before .before .before .before .enter-regular .ensures .0) (c .before .before .before .before .settle-all .ensures .0), counts-more _ _ _ _ _ (c .before .before .before .before .before .before .before .before .before .before .before .enter-regular .ensures .1) (c .before .before .before .before .settle-all .ensures .1))
+returns c = let start = c .before .before .before .before .before .before .before .before .before .before .before .before .before .before .before
+    .before in (
+      follow _ (enterRegular (start .args .o) (venueOf (start .args .b .now))) settle _ _ _ _ _ _
+          (c .before .before .before .before .before .before .before .before .before .before .before .enter-regular .ensures .0)
+          (c .before .before .before .before .settle-all .ensures .0),
+      counts-more _ _ _ _ _ (c .before .before .before .before .before .before .before .before .before .before .before .enter-regular .ensures .1)
+          (c .before .before .before .before .settle-all .ensures .1),
+    )
 
 pub order-spec : {M : Type 1} → statement M
 order-spec =

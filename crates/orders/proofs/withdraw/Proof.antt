@@ -17,16 +17,39 @@ use Rattle.orders.proofs.withdraw_complex.Reads as withdraw-complex-rea
 use Rattle.trades.proofs.cancel_regular.Reads as cancel-regular-reads
 
 withdraw-complex-requires : tie.Need-withdraw-complex-requires
-withdraw-complex-requires c κs = (c .before .before .before .before .before .before .before .before .pre .0, or-r (restsRegular (venueOf (c .before .before .before .before .before .before .before .before .args .b .now)) (c .before .before .before .before .before .before .before .before .args .id)) (restsComplex (venueOf (c .before .before .before .before .before .before .before .before .args .b .now)) (c .before .before .before .before .before .before .before .before .args .id)) (regular-not (c .before .before .before .before .before .before .before .before .args .b .now) (c .before .before .before .before .before .before .before .before .args .id) (sym (c .before .before .enum-told .given .1) ∙ c .before .before .before .before .regular-place .ensures)) (c .before .before .before .before .before .before .before .before .pre .2))
+withdraw-complex-requires c κs = let start = c .before .before .before .before .before .before .before .before in (
+  start .pre .0,
+  or-r (restsRegular (venueOf (start .args .b .now)) (start .args .id))
+      (restsComplex (venueOf (start .args .b .now)) (start .args .id))
+      (regular-not (start .args .b .now) (start .args .id)
+      (sym (c .before .before .enum-told .given .1) ∙ c .before .before .before .before .regular-place .ensures)) (start .pre .2),
+)
 
 returns : tie.Need-returns
-returns c = (c .before .before .before .before .withdraw-complex .ensures .0 ∙ ap (λ (e : Effect). seen (c .before .before .before .before .before .before .before .before .before .before .before .before .before .args .out .now) (c .before .before .before .before .before .before .before .before .before .before .before .before .before .args .at) does e) (withdraw-other _ _ (regular-not (c .before .before .before .before .before .before .before .before .before .before .before .before .before .args .b .now) (c .before .before .before .before .before .before .before .before .before .before .before .before .before .args .id) (sym (c .before .before .before .before .before .before .before .enum-told .given .1) ∙ c .before .before .before .before .before .before .before .before .before .regular-place .ensures))), c .before .before .before .before .withdraw-complex .ensures .1)
+returns c = let start = c .before .before .before .before .before .before .before .before .before .before .before .before .before in (
+  c .before .before .before .before .withdraw-complex .ensures .0 ∙ ap (λ (e : Effect). seen (start .args .out .now) (start .args .at) does e)
+      (withdraw-other _ _ (regular-not (start .args .b .now) (start .args .id)
+      (sym (c .before .before .before .before .before .before .before .enum-told .given .1)
+      ∙ c .before .before .before .before .before .before .before .before .before .regular-place .ensures))),
+  c .before .before .before .before .withdraw-complex .ensures .1,
+)
 
 cancel-regular-requires : tie.Need-cancel-regular-requires
-cancel-regular-requires c κs = (c .before .before .before .before .before .before .before .before .before .pre .0, regular-used (c .before .before .before .before .before .before .before .before .before .args .b .now) (c .before .before .before .before .before .before .before .before .before .args .id) _ (sym (c .before .before .before .found .given .1) ∙ c .before .before .before .before .before .regular-place .ensures))
+cancel-regular-requires c κs = let start = c .before .before .before .before .before .before .before .before .before in (
+  start .pre .0,
+  regular-used (start .args .b .now) (start .args .id) _
+      (sym (c .before .before .before .found .given .1) ∙ c .before .before .before .before .before .regular-place .ensures),
+)
 
 returns-2 : tie.Need-returns-2
-returns-2 c = (c .before .before .before .before .cancel-regular .ensures .0 ∙ ap (λ (e : Effect). seen (c .before .before .before .before .before .before .before .before .before .before .before .before .before .before .args .out .now) (c .before .before .before .before .before .before .before .before .before .before .before .before .before .before .args .at) does e) (withdraw-regular _ _ _ (regular-found (c .before .before .before .before .before .before .before .before .before .before .before .before .before .before .args .b .now) (c .before .before .before .before .before .before .before .before .before .before .before .before .before .before .args .id) _ (sym (c .before .before .before .before .before .before .before .before .found .given .1) ∙ c .before .before .before .before .before .before .before .before .before .before .regular-place .ensures))), c .before .before .before .before .cancel-regular .ensures .1)
+returns-2 c = let start = c .before .before .before .before .before .before .before .before .before .before .before .before .before .before in (
+  c .before .before .before .before .cancel-regular .ensures .0 ∙ ap (λ (e : Effect). seen (start .args .out .now) (start .args .at) does e)
+      (withdraw-regular _ _ _
+      (regular-found (start .args .b .now) (start .args .id) _
+      (sym (c .before .before .before .before .before .before .before .before .found .given .1)
+      ∙ c .before .before .before .before .before .before .before .before .before .before .regular-place .ensures))),
+  c .before .before .before .before .cancel-regular .ensures .1,
+)
 
 pub withdraw-spec : {M : Type 1} → statement M
 withdraw-spec =

@@ -16,13 +16,26 @@ use Rattle.book.proofs.complex_place.Reads as complex-place-reads
 use Rattle.trades.proofs.cancel_complex.Reads as cancel-complex-reads
 
 returns : tie.Need-returns
-returns c = absurd (true≢false (sym (c .before .before .before .before .before .before .pre .1) ∙ complex-not (c .before .before .before .before .before .before .args .b .now) (c .before .before .before .before .before .before .args .id) (sym (c .enum-told .given .1) ∙ c .before .before .complex-place .ensures)))
+returns c = let start = c .before .before .before .before .before .before in
+    absurd (true≢false (sym (start .pre .1) ∙ complex-not (start .args .b .now) (start .args .id)
+    (sym (c .enum-told .given .1) ∙ c .before .before .complex-place .ensures)))
 
 cancel-complex-requires : tie.Need-cancel-complex-requires
-cancel-complex-requires c κs = (c .before .before .before .before .before .before .before .before .before .pre .0, complex-used (c .before .before .before .before .before .before .before .before .before .args .b .now) (c .before .before .before .before .before .before .before .before .before .args .id) _ (sym (c .before .before .before .found .given .1) ∙ c .before .before .before .before .before .complex-place .ensures))
+cancel-complex-requires c κs = let start = c .before .before .before .before .before .before .before .before .before in (
+  start .pre .0,
+  complex-used (start .args .b .now) (start .args .id) _
+      (sym (c .before .before .before .found .given .1) ∙ c .before .before .before .before .before .complex-place .ensures),
+)
 
 returns-2 : tie.Need-returns-2
-returns-2 c = (c .before .before .before .before .cancel-complex .ensures .0 ∙ ap (λ (k : ℕ). seen (c .before .before .before .before .before .before .before .before .before .before .before .before .before .before .args .out .now) (c .before .before .before .before .before .before .before .before .before .before .before .before .before .before .args .at) does cancelComplex k (venueOf (c .before .before .before .before .before .before .before .before .before .before .before .before .before .before .args .b .now))) (sym (complex-found (c .before .before .before .before .before .before .before .before .before .before .before .before .before .before .args .b .now) (c .before .before .before .before .before .before .before .before .before .before .before .before .before .before .args .id) _ (sym (c .before .before .before .before .before .before .before .before .found .given .1) ∙ c .before .before .before .before .before .before .before .before .before .before .complex-place .ensures) .1)), c .before .before .before .before .cancel-complex .ensures .1)
+returns-2 c = let start = c .before .before .before .before .before .before .before .before .before .before .before .before .before .before in (
+  c .before .before .before .before .cancel-complex .ensures .0
+      ∙ ap (λ (k : ℕ). seen (start .args .out .now) (start .args .at) does cancelComplex k (venueOf (start .args .b .now)))
+      (sym (complex-found (start .args .b .now) (start .args .id) _
+      (sym (c .before .before .before .before .before .before .before .before .found .given .1)
+      ∙ c .before .before .before .before .before .before .before .before .before .before .complex-place .ensures) .1)),
+  c .before .before .before .before .cancel-complex .ensures .1,
+)
 
 pub withdraw-complex-spec : {M : Type 1} → statement M
 withdraw-complex-spec =

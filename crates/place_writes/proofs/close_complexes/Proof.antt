@@ -39,7 +39,9 @@ add-j c = let q = c .before .before .before .before .before .before .before .bef
 
 loop-again-2 : tie.Need-loop-again-2 Inv-loop μ-loop
 loop-again-2 c = let h = c .before .before .before .before .before .before .before .before .before in
-    complexes-keep _ _ _ _ _ (h .loop .inv) (omega arith) (c .before .before .before .before .before .before .before .before .loop-test .taken) _ (c .before .before .before .before .before .before .complex-at .ensures) _ (ap not (ne-eqb _ _ (c .before .before .before .before .if2 .left))) (c .before .before .write-complex .ensures .0)
+    complexes-keep _ _ _ _ _ (h .loop .inv) (omega arith) (c .before .before .before .before .before .before .before .before .loop-test .taken) _
+    (c .before .before .before .before .before .before .complex-at .ensures) _
+    (ap not (ne-eqb _ _ (c .before .before .before .before .if2 .left))) (c .before .before .write-complex .ensures .0)
 
 cast-b-2 : tie.Need-cast-b-2 Inv-loop μ-loop
 cast-b-2 c = let q = c .before .loop .inv .places .fewer in let p = c .before .loop .inv .places .read in record { fits = omega arith }

@@ -11,7 +11,8 @@ close-complexes-requires c κs = let r = c .before .before .before .close-regula
 
 returns : tie.Need-returns
 returns c =
-    both-closed _ _ _ (c .before .before .before .before .before .before .before .before .before .pre .1) (c .before .before .before .before .before .before .close-regulars .ensures) (c .before .before .close-complexes .ensures)
+    both-closed _ _ _ (c .before .before .before .before .before .before .before .before .before .pre .1)
+    (c .before .before .before .before .before .before .close-regulars .ensures) (c .before .before .close-complexes .ensures)
 
 pub close-gaps-spec : {M : Type 1} → statement M
 close-gaps-spec =

@@ -39,7 +39,9 @@ add-j c = let q = c .before .before .before .before .before .before .before .bef
 
 loop-again-2 : tie.Need-loop-again-2 Inv-loop μ-loop
 loop-again-2 c = let h = c .before .before .before .before .before .before .before .before .before in
-    regulars-keep _ _ _ _ _ (h .loop .inv) (omega arith) (c .before .before .before .before .before .before .before .before .loop-test .taken) _ (c .before .before .before .before .before .before .regular-at .ensures) _ (ap not (ne-eqb _ _ (c .before .before .before .before .if2 .left))) (c .before .before .write-regular .ensures)
+    regulars-keep _ _ _ _ _ (h .loop .inv) (omega arith) (c .before .before .before .before .before .before .before .before .loop-test .taken) _
+    (c .before .before .before .before .before .before .regular-at .ensures) _
+    (ap not (ne-eqb _ _ (c .before .before .before .before .if2 .left))) (c .before .before .write-regular .ensures)
 
 cast-b-2 : tie.Need-cast-b-2 Inv-loop μ-loop
 cast-b-2 c = let q = c .before .loop .inv .places .fewer in let p = c .before .loop .inv .places .read in record { fits = omega arith }
@@ -57,7 +59,8 @@ same-length-2 : tie.Need-same-length-2 Inv-loop μ-loop
 same-length-2 c = simp length-set (c .before .loop .inv .long ∙ sym (c .before .before .before .before .before .before .before .before .pre .0))
 
 returns-2 : tie.Need-returns-2 Inv-loop μ-loop
-returns-2 c = regulars-end _ _ _ _ _ (c .before .before .before .before .before .before .before .before .pre .0) (c .before .before .before .before .before .regulars-used .ensures .0) (omega arith) (c .before .loop .inv)
+returns-2 c = regulars-end _ _ _ _ _ (c .before .before .before .before .before .before .before .before .pre .0)
+    (c .before .before .before .before .before .regulars-used .ensures .0) (omega arith) (c .before .loop .inv)
 
 pub close-regulars-spec : {M : Type 1} → statement M
 close-regulars-spec =

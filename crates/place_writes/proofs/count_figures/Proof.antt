@@ -20,7 +20,9 @@ loop-holds c = let n = c .before .before .base-figures .kept .0 ∙ c .before .b
     (omega arith, n, counting-first _ _ n (c .before .before .base-figures .ensures))
 
 loop-again : tie.Need-loop-again Inv-loop μ-loop
-loop-again c = let m = counting-next _ _ _ _ _ (c .before .before .set-figure .kept .0) (c .before .before .before .before .before .before .before .loop .inv .2) (c .before .before .before .before .before .before .loop-test .taken) (c .before .before .before .before .edition-at .ensures) (c .before .before .set-figure .ensures) in
+loop-again c = let m = counting-next _ _ _ _ _ (c .before .before .set-figure .kept .0)
+    (c .before .before .before .before .before .before .before .loop .inv .2) (c .before .before .before .before .before .before .loop-test .taken)
+    (c .before .before .before .before .edition-at .ensures) (c .before .before .set-figure .ensures) in
     (omega arith, m .aside .long, m)
 
 same-length : tie.Need-same-length Inv-loop μ-loop

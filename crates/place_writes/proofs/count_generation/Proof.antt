@@ -26,7 +26,8 @@ slice-write-b : tie.Need-slice-write-b Inv-loop μ-loop
 slice-write-b c = omega arith
 
 loop-again : tie.Need-loop-again Inv-loop μ-loop
-loop-again c = let m = written-next _ _ _ _ _ _ _ (c .before .before .loop .inv .3) (omega arith) (omega arith) refl (c .before .before .loop .inv .3 .rest _ (inr (omega arith))) in (omega arith, omega arith, m .long, m)
+loop-again c = let m = written-next _ _ _ _ _ _ _ (c .before .before .loop .inv .3) (omega arith) (omega arith) refl
+    (c .before .before .loop .inv .3 .rest _ (inr (omega arith))) in (omega arith, omega arith, m .long, m)
 
 slice-write-b-2 : tie.Need-slice-write-b-2 Inv-loop μ-loop
 slice-write-b-2 c = omega arith

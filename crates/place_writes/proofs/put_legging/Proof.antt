@@ -23,7 +23,8 @@ returns c = let s = c .before .before .before .before .before .before .before in
     let p1 : 3 * n + 705 ≡ suc (3 * n + 704) = omega arith in
     let p2 : 3 * n + 706 ≡ suc (suc (3 * n + 704)) = omega arith in
     rw (p1, p2)
-    (put-legging (s .args .b .now) n (c .before .less .result) (c .before .before .weight .result) (c .weight2 .result) (c .before .before .before .before .legging-at .result) (s .args .l) (s .pre .0) (s .pre .1)
+    (put-legging (s .args .b .now) n (c .before .less .result) (c .before .before .weight .result) (c .weight2 .result)
+    (c .before .before .before .before .legging-at .result) (s .args .l) (s .pre .0) (s .pre .1)
     (c .before .before .before .before .legging-at .ensures) (c .before .less .ensures) (c .before .before .weight .ensures .0) (c .weight2 .ensures .0))
 
 pub put-legging-spec : {M : Type 1} → statement M

@@ -15,7 +15,8 @@ returns-2 : tie.Need-returns-2
 returns-2 c = past-set _ _ (c .if2 .taken)
 
 returns-3 : tie.Need-returns-3
-returns-3 c = figure-set _ _ (c .before .before .before .before .before .before .pre) (ap not (ne-eqb _ _ (c .before .before .before .before .if1 .left))) (omega arith) (c .struct-known4 .given .1 .1 .1 .0 .fits)
+returns-3 c = figure-set _ _ (c .before .before .before .before .before .before .pre)
+    (ap not (ne-eqb _ _ (c .before .before .before .before .if1 .left))) (omega arith) (c .struct-known4 .given .1 .1 .1 .0 .fits)
 
 pub set-figure-spec : {M : Type 1} → statement M
 set-figure-spec =

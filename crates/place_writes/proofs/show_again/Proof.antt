@@ -25,7 +25,8 @@ slice-write-b : tie.Need-slice-write-b Inv-loop μ-loop
 slice-write-b c = omega arith
 
 loop-again : tie.Need-loop-again Inv-loop μ-loop
-loop-again c = let m = again-next _ _ _ (c .before .regular-at .result) _ (c .before .before .before .before .loop .inv .2) (omega arith) (c .before .regular-at .ensures) (c .less .ensures) in (omega arith, m .long, m)
+loop-again c = let m = again-next _ _ _ (c .before .regular-at .result) _ (c .before .before .before .before .loop .inv .2) (omega arith)
+    (c .before .regular-at .ensures) (c .less .ensures) in (omega arith, m .long, m)
 
 slice-write-b-2 : tie.Need-slice-write-b-2 Inv-loop μ-loop
 slice-write-b-2 c = omega arith

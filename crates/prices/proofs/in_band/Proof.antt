@@ -17,21 +17,32 @@ returns c = band-none1 _ (c .before .before .before .before .before .args .c) _ 
 
 market-best-requires-2 : tie.Need-market-best-requires-2
 market-best-requires-2 c κs =
-    let a = c .before .before .before .before .before .before .before .args in
-    (c .before .before .before .before .before .before .before .pre .0, second-best (venueOf (a .b .now)) (a .taken) (a .c) (c .before .before .before .before .before .before .before .pre .1) _ (c .opposite-of2 .ensures), c .before .before .before .before .before .before .before .pre .2 .second)
+    let a = c .before .before .before .before .before .before .before .args in (
+      c .before .before .before .before .before .before .before .pre .0,
+      second-best (venueOf (a .b .now)) (a .taken) (a .c)
+          (c .before .before .before .before .before .before .before .pre .1) _ (c .opposite-of2 .ensures),
+      c .before .before .before .before .before .before .before .pre .2 .second,
+    )
 
 returns-2 : tie.Need-returns-2
 returns-2 c =
-    band-none2 _ (c .before .before .before .before .before .before .before .before .before .args .c) _ _ (c .before .before .before .before .before .market-best .ensures) (c .before .before .before .before .before .before .opposite-of .ensures) (c .before .before .before .before .if1 .left) _ _
+    band-none2 _ (c .before .before .before .before .before .before .before .before .before .args .c) _ _
+    (c .before .before .before .before .before .market-best .ensures) (c .before .before .before .before .before .before .opposite-of .ensures)
+    (c .before .before .before .before .if1 .left) _ _
     (c .before .market-best2 .ensures) (c .before .before .opposite-of2 .ensures) _ (c .if2 .taken)
 
 returns-3 : tie.Need-returns-3
 returns-3 c =
     let a = c .before .before .before .before .before .before .before .before .before .before .before .before .args in
     let u = c .before .before .net-of in
-    band-near _ (a .c) _ _ (c .before .before .before .before .before .before .before .before .market-best .ensures) (c .before .before .before .before .before .before .before .before .before .opposite-of .ensures) (c .before .before .before .before .before .before .before .if1 .left) _ _
-    (c .before .before .before .before .market-best2 .ensures) (c .before .before .before .before .before .opposite-of2 .ensures) (c .before .before .before .if2 .left) _ _ _ _ _ _ (c .before .figure-at .ensures)
-    (back {z = u .result} (record { sfits = u .ok })) (u .ensures .0) (back {z = a .t} (c .before .before .before .before .before .before .before .before .before .before .before .before .fits .t)) (c .near-net .ensures)
+    band-near _ (a .c) _ _ (c .before .before .before .before .before .before .before .before .market-best .ensures)
+    (c .before .before .before .before .before .before .before .before .before .opposite-of .ensures)
+    (c .before .before .before .before .before .before .before .if1 .left) _ _
+    (c .before .before .before .before .market-best2 .ensures) (c .before .before .before .before .before .opposite-of2 .ensures)
+    (c .before .before .before .if2 .left) _ _ _ _ _ _ (c .before .figure-at .ensures)
+    (back {z = u .result} (record { sfits = u .ok })) (u .ensures .0)
+    (back {z = a .t} (c .before .before .before .before .before .before .before .before .before .before .before .before .fits .t))
+    (c .near-net .ensures)
 
 pub in-band-spec : {M : Type 1} → statement M
 in-band-spec =

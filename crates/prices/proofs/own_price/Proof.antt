@@ -10,10 +10,14 @@ unfolding placeOf
 legging-at-requires c κs = search needs
 
 returns : tie.Need-returns
-returns c = own-free _ _ (legging-read _ _ _ _ (c .before .before .legging-at .result) (search needs) (search needs) (c .before .before .before .place-of .ensures) (c .before .before .legging-at .ensures)) (c .if1 .taken)
+returns c = own-free _ _
+    (legging-read _ _ _ _ (c .before .before .legging-at .result) (search needs) (search needs) (c .before .before .before .place-of .ensures)
+    (c .before .before .legging-at .ensures)) (c .if1 .taken)
 
 returns-2 : tie.Need-returns-2
-returns-2 c = own-held _ _ (legging-read _ _ _ _ (c .before .before .legging-at .result) (search needs) (search needs) (c .before .before .before .place-of .ensures) (c .before .before .legging-at .ensures)) (c .if1 .left)
+returns-2 c = own-held _ _
+    (legging-read _ _ _ _ (c .before .before .legging-at .result) (search needs) (search needs) (c .before .before .before .place-of .ensures)
+    (c .before .before .legging-at .ensures)) (c .if1 .left)
 
 pub own-price-spec : {M : Type 1} → statement M
 own-price-spec = tie.close (tie.spec (λ c κs. search needs) legging-at-requires returns returns-2)

@@ -29,19 +29,23 @@ returns-2 : tie.Need-returns-2
 returns-2 c =
     let k = c .before .before .before .before .before .before .before in
     let p = k .before .before .before .pre in
-    size-same _ _ _ _ (p .1) _ (legging-read _ _ _ _ (k .legging-at .result) (p .2) (p .3) (k .before .place-of .ensures) (k .legging-at .ensures)) (c .before .before .before .before .before .if1 .left) (c .before .if2 .taken)
+    size-same _ _ _ _ (p .1) _ (legging-read _ _ _ _ (k .legging-at .result) (p .2) (p .3) (k .before .place-of .ensures) (k .legging-at .ensures))
+    (c .before .before .before .before .before .if1 .left) (c .before .if2 .taken)
 
 returns-3 : tie.Need-returns-3
 returns-3 c =
     let k = c .before .before .before .before .before .before .before .before in
     let p = k .before .before .before .pre in
-    size-better _ _ _ _ (p .1) _ (legging-read _ _ _ _ (k .legging-at .result) (p .2) (p .3) (k .before .place-of .ensures) (k .legging-at .ensures)) (c .before .before .before .before .before .before .if1 .left) (sym (c .before .is-better .ensures) ∙ c .if3 .taken)
+    size-better _ _ _ _ (p .1) _ (legging-read _ _ _ _ (k .legging-at .result) (p .2) (p .3) (k .before .place-of .ensures) (k .legging-at .ensures))
+    (c .before .before .before .before .before .before .if1 .left) (sym (c .before .is-better .ensures) ∙ c .if3 .taken)
 
 returns-4 : tie.Need-returns-4
 returns-4 c =
     let k = c .before .before .before .before .before .before .before .before in
     let p = k .before .before .before .pre in
-    size-worse _ _ _ _ (p .1) _ (legging-read _ _ _ _ (k .legging-at .result) (p .2) (p .3) (k .before .place-of .ensures) (k .legging-at .ensures)) (c .before .before .before .before .before .before .if1 .left) (c .before .before .if2 .left) (sym (c .before .is-better .ensures) ∙ c .if3 .left)
+    size-worse _ _ _ _ (p .1) _ (legging-read _ _ _ _ (k .legging-at .result) (p .2) (p .3) (k .before .place-of .ensures) (k .legging-at .ensures))
+    (c .before .before .before .before .before .before .if1 .left) (c .before .before .if2 .left)
+    (sym (c .before .is-better .ensures) ∙ c .if3 .left)
 
 pub own-size-spec : {M : Type 1} → statement M
 own-size-spec =

@@ -18,7 +18,11 @@ unfolding opposite
 index-2-facing c = search needs
 
 returns : tie.Need-returns
-returns c = rw (← c .before .before .before .before .before .before .before .opposite-of .ensures, ← c .before .before .before .before .before .opposite-of2 .ensures, ← c .before .before .opposite-of3 .ensures) refl
+returns c = rw (
+  ← c .before .before .before .before .before .before .before .opposite-of .ensures,
+  ← c .before .before .before .before .before .opposite-of2 .ensures,
+  ← c .before .before .opposite-of3 .ensures,
+) refl
 
 pub sides-of-spec : {M : Type 1} → statement M
 sides-of-spec =

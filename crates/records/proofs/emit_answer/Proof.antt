@@ -11,7 +11,12 @@ unfolding encode framed bytes
 returns c =
     let s = c .before .before .before .before .before .before .before .before in
     emitted _ _ _ (answer (s .args .number) (s .args .refusal) (s .args .mask) (s .args .count)) (c .before .before .put .ensures)
-    (rw (c .before .before .before .before .before .bytes2 .ensures, c .before .before .before .before .before .before .bytes4 .ensures, byte (s .args .refusal) (s .fits .refusal .fits), byte (s .args .count) (s .fits .count .fits)))
+    (rw (
+      c .before .before .before .before .before .bytes2 .ensures,
+      c .before .before .before .before .before .before .bytes4 .ensures,
+      byte (s .args .refusal) (s .fits .refusal .fits),
+      byte (s .args .count) (s .fits .count .fits),
+    ))
 
 pub emit-answer-spec : {M : Type 1} → statement M
 emit-answer-spec =

@@ -11,7 +11,13 @@ unfolding encode framed bytes
 returns c =
     let s = c .before .before .before .before .before .before .before .before in
     emitted _ _ _ (removed (s .args .id) (s .args .series) (s .args .side) (s .args .cause)) (c .before .before .put .ensures)
-    (rw (c .before .before .before .before .before .cause-number .ensures, c .before .before .before .before .before .before .bytes4 .ensures, byte (s .args .series) (s .fits .series .fits), byte (s .args .side) (s .fits .side .fits), byte (causeNumber (s .args .cause)) (cause-small (s .args .cause))))
+    (rw (
+      c .before .before .before .before .before .cause-number .ensures,
+      c .before .before .before .before .before .before .bytes4 .ensures,
+      byte (s .args .series) (s .fits .series .fits),
+      byte (s .args .side) (s .fits .side .fits),
+      byte (causeNumber (s .args .cause)) (cause-small (s .args .cause)),
+    ))
 
 pub emit-removed-spec : {M : Type 1} → statement M
 emit-removed-spec =

@@ -12,13 +12,18 @@ returns-2 : tie.Need-returns-2
 returns-2 c = let s = c .before .before .before .before .before .args in rw add-one (words-out (s .out .now) (s .head .now) (s .words .now) (s .at) (omega arith))
 
 store-words-requires : tie.Need-store-words-requires
-store-words-requires c κs = let s = c .before .before .before .before .before .before .before .before .before .before .args in head-room (s .out .now) (s .head .now) (s .words .now) (s .at) _ _ (omega arith) (c .before .before .before .put .ensures)
+store-words-requires c κs = let s = c .before .before .before .before .before .before .before .before .before .before .args in
+    head-room (s .out .now) (s .head .now) (s .words .now) (s .at) _ _ (omega arith) (c .before .before .before .put .ensures)
 
 add-result-3 : tie.Need-add-result-3
-add-result-3 c = let s = c .before .before .before .before .before .before .before .before .before .before .before .before .before .args in let r = head-room (s .out .now) (s .head .now) (s .words .now) (s .at) _ _ (omega arith) (c .before .before .before .before .before .before .put .ensures) in omega arith
+add-result-3 c = let s = c .before .before .before .before .before .before .before .before .before .before .before .before .before .args in
+    let r = head-room (s .out .now) (s .head .now) (s .words .now) (s .at) _ _ (omega arith)
+    (c .before .before .before .before .before .before .put .ensures) in omega arith
 
 returns-3 : tie.Need-returns-3
-returns-3 c = let s = c .before .before .before .before .before .before .before .before .before .before .before .before .before .args in head-words (s .out .now) (s .head .now) (s .words .now) (s .at) _ _ _ (omega arith) (c .before .before .before .before .before .before .put .ensures) (c .before .before .store-words .ensures)
+returns-3 c = let s = c .before .before .before .before .before .before .before .before .before .before .before .before .before .args in
+    head-words (s .out .now) (s .head .now) (s .words .now) (s .at) _ _ _ (omega arith)
+    (c .before .before .before .before .before .before .put .ensures) (c .before .before .store-words .ensures)
 
 pub put-words-spec : {M : Type 1} → statement M
 put-words-spec =

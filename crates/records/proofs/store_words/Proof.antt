@@ -27,7 +27,9 @@ shared-slice-read-store4 : tie.Need-shared-slice-read-store4 Inv-loop μ-loop
 shared-slice-read-store4 c = omega arith
 
 store4-requires : tie.Need-store4-requires Inv-loop μ-loop
-store4-requires c κs = let s = c .before .before .before .before .before .before .args in let r = laid-room (s .out .now) (s .words .now) (s .at) (c .before .before .before .before .before .before .pre) (c .before .before .before .loop .out) (c .before .before .before .loop .i) (c .before .before .before .loop .inv) in omega arith
+store4-requires c κs = let s = c .before .before .before .before .before .before .args in let r = laid-room (s .out .now) (s .words .now) (s .at)
+    (c .before .before .before .before .before .before .pre) (c .before .before .before .loop .out) (c .before .before .before .loop .i)
+    (c .before .before .before .loop .inv) in omega arith
 
 add-i : tie.Need-add-i Inv-loop μ-loop
 add-i c = omega arith
@@ -36,13 +38,18 @@ loop-less : tie.Need-loop-less Inv-loop μ-loop
 loop-less c = omega arith
 
 loop-again : tie.Need-loop-again Inv-loop μ-loop
-loop-again c = let s = c .before .before .before .before .before .before .before .before .before .args in laid-next (s .out .now) (s .words .now) (s .at) (c .before .before .before .before .before .before .before .before .before .pre) (c .before .before .before .before .before .before .loop .out) (c .before .before .before .before .before .before .loop .i) (c .before .before .before .before .before .before .loop .inv) _ (c .before .before .before .before .before .loop-test .taken) (c .before .before .store4 .ensures)
+loop-again c = let start = c .before .before .before .before .before .before .before .before .before in let s = start .args in
+    laid-next (s .out .now) (s .words .now) (s .at) (start .pre) (c .before .before .before .before .before .before .loop .out)
+    (c .before .before .before .before .before .before .loop .i) (c .before .before .before .before .before .before .loop .inv) _
+    (c .before .before .before .before .before .loop-test .taken) (c .before .before .store4 .ensures)
 
 same-length : tie.Need-same-length Inv-loop μ-loop
-same-length c = let s = c .before .before .before .before .args in laid-room (s .out .now) (s .words .now) (s .at) (c .before .before .before .before .pre) (c .before .loop .out) (c .before .loop .i) (c .before .loop .inv)
+same-length c = let start = c .before .before .before .before in let s = start .args in laid-room (s .out .now) (s .words .now) (s .at) (start .pre)
+    (c .before .loop .out) (c .before .loop .i) (c .before .loop .inv)
 
 returns : tie.Need-returns Inv-loop μ-loop
-returns c = let s = c .before .before .before .before .args in laid-end (s .out .now) (s .words .now) (s .at) (c .before .before .before .before .pre) (c .before .loop .out) (c .before .loop .i) (c .before .loop .inv) (c .loop-test .left)
+returns c = let start = c .before .before .before .before in let s = start .args in laid-end (s .out .now) (s .words .now) (s .at) (start .pre)
+    (c .before .loop .out) (c .before .loop .i) (c .before .loop .inv) (c .loop-test .left)
 
 pub store-words-spec : {M : Type 1} → statement M
 store-words-spec =

@@ -27,22 +27,39 @@ returns c = refuses-off (venueOf (c .before .before .before .args .b .now)) (Ord
 
 returns-2 : tie.Need-returns-2
 unfolding editionTooLow inUse noEditionLeft idTooLow
-returns-2 c = refuses-low (venueOf (c .before .before .before .before .before .before .args .b .now)) (Order (c .before .before .before .before .before .before .args .o)) (on-increment (c .before .before .before)) refl refl refl (ap (leb (c .before .before .before .before .before .before .args .o .id)) (sym (c .before .before .last-id .ensures)) ∙ le-leb _ _ (c .if2 .taken))
+returns-2 c = let start = c .before .before .before .before .before .before in refuses-low (venueOf (start .args .b .now)) (Order (start .args .o))
+    (on-increment (c .before .before .before)) refl refl refl
+    (ap (leb (start .args .o .id)) (sym (c .before .before .last-id .ensures)) ∙ le-leb _ _ (c .if2 .taken))
 
 status-of-requires : tie.Need-status-of-requires
 status-of-requires c κs = let s = c .before .before .before .before .before .before in (s .pre .0, regular-side (s .args .o) (s .pre .2) .series)
 
 returns-3 : tie.Need-returns-3
 unfolding editionTooLow inUse noEditionLeft idTooLow onClosed
-returns-3 c = refuses-closed (venueOf (c .before .before .before .before .before .before .before .before .args .b .now)) (Order (c .before .before .before .before .before .before .before .before .args .o)) (on-increment (c .before .before .before .before .before)) refl refl refl (ap (leb (c .before .before .before .before .before .before .before .before .args .o .id)) (sym (c .before .before .before .before .last-id .ensures)) ∙ lt-leb _ _ (c .before .before .if2 .left)) (ap (λ (x : ℕ). eqb x closed) (sym (c .before .status-of .ensures)) ∙ eq-eqb _ _ (c .if3 .taken))
+returns-3 c = let start = c .before .before .before .before .before .before .before .before in refuses-closed (venueOf (start .args .b .now))
+    (Order (start .args .o)) (on-increment (c .before .before .before .before .before)) refl refl refl
+    (ap (leb (start .args .o .id)) (sym (c .before .before .before .before .last-id .ensures)) ∙ lt-leb _ _ (c .before .before .if2 .left))
+    (ap (λ (x : ℕ). eqb x closed) (sym (c .before .status-of .ensures)) ∙ eq-eqb _ _ (c .if3 .taken))
 
 returns-4 : tie.Need-returns-4
 unfolding editionTooLow inUse noEditionLeft idTooLow onClosed full
-returns-4 c = let s = c .before .before .before .before .before .before .before .before .before .before in refuses-full (venueOf (c .before .before .before .before .before .before .before .before .before .before .args .b .now)) (Order (c .before .before .before .before .before .before .before .before .before .before .args .o)) (on-increment (c .before .before .before .before .before .before .before)) refl refl refl (ap (leb (c .before .before .before .before .before .before .before .before .before .before .args .o .id)) (sym (c .before .before .before .before .before .before .last-id .ensures)) ∙ lt-leb _ _ (c .before .before .before .before .if2 .left)) (ap (λ (x : ℕ). eqb x closed) (sym (c .before .before .before .status-of .ensures)) ∙ ne-eqb _ _ (c .before .before .if3 .left)) (ap (leb 128) (dense-regular (s .args .b .now) (s .pre .1) ∙ sym (c .before .regulars-used .ensures .0)) ∙ le-leb _ _ (c .if4 .taken))
+returns-4 c = let start = c .before .before .before .before .before .before .before .before .before .before in
+    let s = c .before .before .before .before .before .before .before .before .before .before in refuses-full (venueOf (start .args .b .now))
+    (Order (start .args .o)) (on-increment (c .before .before .before .before .before .before .before)) refl refl refl
+    (ap (leb (start .args .o .id)) (sym (c .before .before .before .before .before .before .last-id .ensures)) ∙ lt-leb _ _
+    (c .before .before .before .before .if2 .left))
+    (ap (λ (x : ℕ). eqb x closed) (sym (c .before .before .before .status-of .ensures)) ∙ ne-eqb _ _ (c .before .before .if3 .left))
+    (ap (leb 128) (dense-regular (s .args .b .now) (s .pre .1) ∙ sym (c .before .regulars-used .ensures .0)) ∙ le-leb _ _ (c .if4 .taken))
 
 returns-5 : tie.Need-returns-5
 unfolding editionTooLow inUse noEditionLeft idTooLow onClosed full unknown
-returns-5 c = let s = c .before .before .before .before .before .before .before .before .before .before in accepts (venueOf (c .before .before .before .before .before .before .before .before .before .before .args .b .now)) (Order (c .before .before .before .before .before .before .before .before .before .before .args .o)) (on-increment (c .before .before .before .before .before .before .before)) refl refl refl (ap (leb (c .before .before .before .before .before .before .before .before .before .before .args .o .id)) (sym (c .before .before .before .before .before .before .last-id .ensures)) ∙ lt-leb _ _ (c .before .before .before .before .if2 .left)) (ap (λ (x : ℕ). eqb x closed) (sym (c .before .before .before .status-of .ensures)) ∙ ne-eqb _ _ (c .before .before .if3 .left)) (ap (leb 128) (dense-regular (s .args .b .now) (s .pre .1) ∙ sym (c .before .regulars-used .ensures .0)) ∙ lt-leb _ _ (c .if4 .left)) refl
+returns-5 c = let start = c .before .before .before .before .before .before .before .before .before .before in
+    let s = c .before .before .before .before .before .before .before .before .before .before in
+    accepts (venueOf (start .args .b .now)) (Order (start .args .o)) (on-increment (c .before .before .before .before .before .before .before)) refl
+    refl refl (ap (leb (start .args .o .id)) (sym (c .before .before .before .before .before .before .last-id .ensures)) ∙ lt-leb _ _
+    (c .before .before .before .before .if2 .left))
+    (ap (λ (x : ℕ). eqb x closed) (sym (c .before .before .before .status-of .ensures)) ∙ ne-eqb _ _ (c .before .before .if3 .left))
+    (ap (leb 128) (dense-regular (s .args .b .now) (s .pre .1) ∙ sym (c .before .regulars-used .ensures .0)) ∙ lt-leb _ _ (c .if4 .left)) refl
 
 pub order-refusal-spec : {M : Type 1} → statement M
 order-refusal-spec =

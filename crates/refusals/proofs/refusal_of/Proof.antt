@@ -31,10 +31,12 @@ returns-3 : tie.Need-returns-3
 returns-3 c = let s = c .before .before .before .before .before .before .before .before in c .order-refusal .ensures ∙ sym (ap (refusalOf (venueOf (s .args .b .now))) (c .before .before .m .given .1))
 
 returns-4 : tie.Need-returns-4
-returns-4 c = let s = c .before .before .before .before .before .before .before .before in c .complex-refusal .ensures ∙ sym (ap (refusalOf (venueOf (s .args .b .now))) (c .before .before .m2 .given .1))
+returns-4 c = let s = c .before .before .before .before .before .before .before .before in
+    c .complex-refusal .ensures ∙ sym (ap (refusalOf (venueOf (s .args .b .now))) (c .before .before .m2 .given .1))
 
 returns-5 : tie.Need-returns-5
-returns-5 c = let s = c .before .before .before .before .before .before .before .before in c .cancel-refusal .ensures ∙ sym (ap (refusalOf (venueOf (s .args .b .now))) (c .before .before .m3 .given .1))
+returns-5 c = let s = c .before .before .before .before .before .before .before .before in
+    c .cancel-refusal .ensures ∙ sym (ap (refusalOf (venueOf (s .args .b .now))) (c .before .before .m3 .given .1))
 
 returns-6 : tie.Need-returns-6
 returns-6 c = let s = c .before .before .before .before .before in let k = kinds-left (s .args .m) (c .match .keys4) in let e = c .before .before .before .message-form .ensures in absurd (omega arith)

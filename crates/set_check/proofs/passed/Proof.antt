@@ -23,7 +23,22 @@ run-with-requires : tie.Need-run-with-requires
 run-with-requires c κs = c .before .before .before .before .before .before .before .before .before .before .before .before .before .before .before .before .before .before .pre
 
 returns : tie.Need-returns
-returns c = onward-made _ _ _ _ _ _ _ _ _ _ _ _ _ (c .before .before .before .before .before .before .before .before .before .before .before .before .before .before .before .before .before .before .next-stage .ensures) (c .before .before .before .before .before .before .before .before .before .before .before .before .before .before .before .before .before .is-whole .ensures) (c .before .before .before .before .before .before .before .before .before .before .before .before .before .before .before .before .part-of .ensures) (c .before .before .before .before .before .before .before .before .before .before .before .before .before .before .before .mark-of .ensures) (c .before .before .before .before .before .before .before .before .before .before .before .before .before .before .told-of .ensures) (c .before .before .before .before .before .before .before .before .before .before .before .before .one-if .ensures .0 ∙ ap oneIf (c .before .before .before .before .before .before .before .before .before .before .before .before .before .tells-edition .ensures)) (c .before .before .before .before .before .before .before .before .before .one-if2 .ensures .0 ∙ ap oneIf (c .before .before .before .before .before .before .before .before .before .before .tells-regular .ensures)) (c .before .before .before .before .before .before .one-if3 .ensures .0 ∙ ap oneIf (c .before .before .before .before .before .before .before .tells-complex .ensures)) (c .before .before .before .one-if4 .ensures .0 ∙ ap oneIf (c .before .before .before .before .tells-legging .ensures)) (c .before .run-with .ensures) (c .still-placed .ensures)
+returns c = onward-made _ _ _ _ _ _ _ _ _ _ _ _ _
+    (c .before .before .before .before .before .before .before .before .before .before .before .before .before .before .before .before .before .before
+    .next-stage .ensures)
+    (c .before .before .before .before .before .before .before .before .before .before .before .before .before .before .before .before .before
+    .is-whole .ensures) (c .before .before .before .before .before .before .before .before .before .before .before .before .before .before .before
+    .before .part-of .ensures)
+    (c .before .before .before .before .before .before .before .before .before .before .before .before .before .before .before .mark-of .ensures)
+    (c .before .before .before .before .before .before .before .before .before .before .before .before .before .before .told-of .ensures)
+    (c .before .before .before .before .before .before .before .before .before .before .before .before .one-if .ensures .0 ∙ ap oneIf
+    (c .before .before .before .before .before .before .before .before .before .before .before .before .before .tells-edition .ensures))
+    (c .before .before .before .before .before .before .before .before .before .one-if2 .ensures .0 ∙ ap oneIf
+    (c .before .before .before .before .before .before .before .before .before .before .tells-regular .ensures))
+    (c .before .before .before .before .before .before .one-if3 .ensures .0 ∙ ap oneIf
+    (c .before .before .before .before .before .before .before .tells-complex .ensures))
+    (c .before .before .before .one-if4 .ensures .0 ∙ ap oneIf (c .before .before .before .before .tells-legging .ensures))
+    (c .before .run-with .ensures) (c .still-placed .ensures)
 
 pub passed-spec : {M : Type 1} → statement M
 passed-spec =

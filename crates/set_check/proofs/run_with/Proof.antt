@@ -11,7 +11,8 @@ add-result : tie.Need-add-result
 add-result c = omega (arith, few-out _ (c .before .before .before .before .before .before .pre) .run)
 
 returns : tie.Need-returns
-returns c = run-same _ _ _ (sym (c .before .before .same-series .ensures) ∙ c .before .if1 .taken) (c .before .before .before .one-if .ensures .0 ∙ ap oneIf (c .before .before .before .before .tells-generation .ensures))
+returns c = run-same _ _ _ (sym (c .before .before .same-series .ensures) ∙ c .before .if1 .taken)
+    (c .before .before .before .one-if .ensures .0 ∙ ap oneIf (c .before .before .before .before .tells-generation .ensures))
 
 returns-2 : tie.Need-returns-2
 returns-2 c = run-other _ _ _ (sym (c .before .same-series .ensures) ∙ c .if1 .left) (c .before .before .one-if .ensures .0 ∙ ap oneIf (c .before .before .before .tells-generation .ensures))

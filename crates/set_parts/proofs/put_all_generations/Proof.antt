@@ -22,7 +22,9 @@ loop-holds : tie.Need-loop-holds Inv-loop μ-loop
 loop-holds c = refl
 
 loop-again : tie.Need-loop-again Inv-loop μ-loop
-loop-again c = let s = c .before .before .before .before .before .before .before .before in left-next _ _ _ _ _ _ _ _ _ _ (c .before .before .before .before .before .loop .inv) (generations-next (venueOf (s .args .b .now)) _ (omega (arith, generations-many (s .args .b .now)))) (c .before .before .put-generations .ensures)
+loop-again c = let s = c .before .before .before .before .before .before .before .before in
+    left-next _ _ _ _ _ _ _ _ _ _ (c .before .before .before .before .before .loop .inv)
+    (generations-next (venueOf (s .args .b .now)) _ (omega (arith, generations-many (s .args .b .now)))) (c .before .before .put-generations .ensures)
 
 same-length : tie.Need-same-length Inv-loop μ-loop
 same-length c = left-room _ _ _ _ _ _ (c .before .loop .inv)

@@ -16,7 +16,8 @@ use Rattle.set_parts.proofs.put_editions.Statement.{statement}
 use Rattle.set_parts.proofs.put_editions.Tie as tie
 
 abbrev Inv-loop : tie.InvT-loop
-Inv-loop b out₀ at pos₀ i₀ out pos i = Left (joined (map editionRecord (keep holdsEdition (venueOf b .editions)))) (joined (map editionRecord (keep holdsEdition (upto (editionIn b) i (32 - i))))) out₀ at out pos
+Inv-loop b out₀ at pos₀ i₀ out pos i = Left (joined (map editionRecord (keep holdsEdition (venueOf b .editions))))
+    (joined (map editionRecord (keep holdsEdition (upto (editionIn b) i (32 - i))))) out₀ at out pos
 
 abbrev μ-loop : tie.MeasureT-loop
 μ-loop b out₀ at pos₀ i₀ out pos i = 32 - i

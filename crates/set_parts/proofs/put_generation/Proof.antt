@@ -14,7 +14,9 @@ returns c = absent _ _ _ _ (rw (c .if1 .taken))
 
 returns-2 : tie.Need-returns-2
 unfolding generationRecord framed bytes wordBytes
-returns-2 c = let s = c .before .before .before .before .before .before .before .before in present _ _ _ _ (rw (ne-eqb (s .args .number) 0 (c .before .before .before .before .before .before .if1 .left))) (wrote _ _ _ _ _ _ (c .before .before .put-words .ensures) (rw (byte (s .args .s) (s .fits .s .fits))))
+returns-2 c = let s = c .before .before .before .before .before .before .before .before in
+    present _ _ _ _ (rw (ne-eqb (s .args .number) 0 (c .before .before .before .before .before .before .if1 .left)))
+    (wrote _ _ _ _ _ _ (c .before .before .put-words .ensures) (rw (byte (s .args .s) (s .fits .s .fits))))
 
 pub put-generation-spec : {M : Type 1} → statement M
 put-generation-spec =

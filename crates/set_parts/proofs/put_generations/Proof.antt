@@ -17,7 +17,8 @@ use Rattle.set_parts.proofs.put_generations.Statement.{statement}
 use Rattle.set_parts.proofs.put_generations.Tie as tie
 
 abbrev Inv-loop : tie.InvT-loop
-Inv-loop b out₀ at s pos₀ k₀ out pos k = Left (joined (map (generationRecord s) (keep held (generationsOf (venueOf b) s)))) (joined (map (generationRecord s) (keep held (drop k (generationsOf (venueOf b) s))))) out₀ at out pos
+Inv-loop b out₀ at s pos₀ k₀ out pos k = Left (joined (map (generationRecord s) (keep held (generationsOf (venueOf b) s))))
+    (joined (map (generationRecord s) (keep held (drop k (generationsOf (venueOf b) s))))) out₀ at out pos
 
 abbrev μ-loop : tie.MeasureT-loop
 μ-loop b out₀ at s pos₀ k₀ out pos k = 20 - k
@@ -28,14 +29,18 @@ loop-holds c = refl
 loop-again : tie.Need-loop-again Inv-loop μ-loop
 loop-again c =
     let s = c .before .before .before .before .before .before .before .before .before in
-    left-next _ _ _ _ _ _ _ _ _ _ (c .before .before .before .before .before .before .loop .inv) (dropped-next (generationRecord (s .args .s)) held (generationsOf (venueOf (s .args .b .now)) (s .args .s)) 0 _ (omega (arith, generations-twenty (s .args .b .now) (s .args .s))))
+    left-next _ _ _ _ _ _ _ _ _ _ (c .before .before .before .before .before .before .loop .inv)
+    (dropped-next (generationRecord (s .args .s)) held (generationsOf (venueOf (s .args .b .now)) (s .args .s)) 0 _
+    (omega (arith, generations-twenty (s .args .b .now) (s .args .s))))
     (adds-same _ _ _ _ (c .before .before .put-generation .ensures) (ap (λ (n : ℕ). recordIf (held n) (generationRecord (s .args .s) n)) (c .before .before .before .before .generation-at .ensures)))
 
 same-length : tie.Need-same-length Inv-loop μ-loop
 same-length c = left-room _ _ _ _ _ _ (c .before .loop .inv)
 
 returns : tie.Need-returns Inv-loop μ-loop
-returns c = let s = c .before .before .before .before in left-none _ _ _ _ _ _ (c .before .loop .inv) (dropped-none (generationRecord (s .args .s)) held (generationsOf (venueOf (s .args .b .now)) (s .args .s)) (c .before .loop .k) (omega (arith, generations-twenty (s .args .b .now) (s .args .s))))
+returns c = let s = c .before .before .before .before in left-none _ _ _ _ _ _ (c .before .loop .inv)
+    (dropped-none (generationRecord (s .args .s)) held (generationsOf (venueOf (s .args .b .now)) (s .args .s)) (c .before .loop .k)
+    (omega (arith, generations-twenty (s .args .b .now) (s .args .s))))
 
 pub put-generations-spec : {M : Type 1} → statement M
 put-generations-spec =

@@ -17,14 +17,22 @@ returns c =
     let n = sym (c .before .before .before .before .before .before .regular-next .ensures) ∙ c .before .before .before .before .before .if1 .taken in
     let k = regular-there _ _ _ _ _ n in
     record {
-      same = left-next _ _ _ _ _ _ _ _ _ _ refl (regular-after _ _ _ _ _ n) (adds-same _ _ _ _ (c .before .before .put-regular .ensures) (ap regularRecord (c .before .before .before .before .regular-at .ensures)));
+      same = left-next _ _ _ _ _ _ _ _ _ _ refl (regular-after _ _ _ _ _ n)
+          (adds-same _ _ _ _ (c .before .before .put-regular .ensures) (ap regularRecord (c .before .before .before .before .regular-at .ensures)));
       regular = omega (arith, k);
       complex = omega arith;
       one = omega arith;
     }
 
 complex-at-requires : tie.Need-complex-at-requires
-complex-at-requires c κs = let s = c .before .before .before .before in (s .pre .0, omega (arith, complex-there _ _ _ _ _ (omega arith) (omega arith) (omega arith) (sym (c .before .regular-next .ensures) ∙ c .if1 .left)))
+complex-at-requires c κs = let s = c .before .before .before .before in (
+  s .pre .0,
+  omega (
+    arith,
+    complex-there _ _ _ _ _ (omega arith) (omega arith) (omega arith)
+        (sym (c .before .regular-next .ensures) ∙ c .if1 .left),
+  ),
+)
 
 returns-2 : tie.Need-returns-2
 returns-2 c =
@@ -32,7 +40,8 @@ returns-2 c =
     let n = sym (c .before .before .before .before .before .before .regular-next .ensures) ∙ c .before .before .before .before .before .if1 .left in
     let k = complex-there _ _ _ _ _ (omega arith) (omega arith) (omega arith) n in
     record {
-      same = left-next _ _ _ _ _ _ _ _ _ _ refl (complex-after _ _ _ _ _ (omega arith) (omega arith) (omega arith) n) (adds-same _ _ _ _ (c .before .before .put-complex .ensures) (ap complexRecord (c .before .before .before .before .complex-at .ensures)));
+      same = left-next _ _ _ _ _ _ _ _ _ _ refl (complex-after _ _ _ _ _ (omega arith) (omega arith) (omega arith) n)
+          (adds-same _ _ _ _ (c .before .before .put-complex .ensures) (ap complexRecord (c .before .before .before .before .complex-at .ensures)));
       regular = omega arith;
       complex = omega (arith, k);
       one = omega arith;

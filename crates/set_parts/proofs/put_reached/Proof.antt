@@ -16,7 +16,9 @@ returns c = rw one-joined (absent _ _ _ _ (rw (c .if1 .taken)))
 
 returns-2 : tie.Need-returns-2
 unfolding reachedRecords framed bytes wordBytes
-returns-2 c = let s = c .before .before .before .before .before .before .before .before in rw one-joined (present _ _ _ _ (rw (ne-eqb (s .args .id) 0 (c .before .before .before .before .before .before .if1 .left))) (wrote _ _ _ _ _ _ (c .before .before .put-words .ensures) refl))
+returns-2 c = let s = c .before .before .before .before .before .before .before .before in
+    rw one-joined (present _ _ _ _ (rw (ne-eqb (s .args .id) 0 (c .before .before .before .before .before .before .if1 .left)))
+    (wrote _ _ _ _ _ _ (c .before .before .put-words .ensures) refl))
 
 pub put-reached-spec : {M : Type 1} → statement M
 put-reached-spec =

@@ -26,7 +26,10 @@ loop-holds c = refl
 
 loop-again : tie.Need-loop-again Inv-loop μ-loop
 loop-again c = left-next _ _ _ _ _ _ _ _ _ _ (c .before .before .before .before .before .before .loop .inv) (series-next _ _ (omega arith))
-    (adds-same _ _ _ _ (c .before .before .put-listed .ensures) (ap (λ (x : Listed). encodeMessage (Status (c .before .before .before .before .before .before .loop .s) (x .status)) ++ encodeMessage (Away (c .before .before .before .before .before .before .loop .s) (x .bid) (x .offer))) (c .before .before .before .before .listed-at .ensures)))
+    (adds-same _ _ _ _ (c .before .before .put-listed .ensures)
+    (ap (λ (x : Listed). encodeMessage (Status (c .before .before .before .before .before .before .loop .s) (x .status)) ++ encodeMessage
+    (Away (c .before .before .before .before .before .before .loop .s) (x .bid) (x .offer)))
+    (c .before .before .before .before .listed-at .ensures)))
 
 same-length : tie.Need-same-length Inv-loop μ-loop
 same-length c = left-room _ _ _ _ _ _ (c .before .loop .inv)

@@ -18,8 +18,12 @@ returns c =
     let s = c .before .before .before .before .before .before .before .before .before .before .before .before in
     let z : 2 * s .args .s ≡ 2 * s .args .s + 0 = omega arith in
     adds-then _ _ _ _ _
-    (adds-same _ _ _ _ (c .before .before .before .before .before .before .before .put-legging .ensures) (ap (λ (l : Legging). recordIf (held (l .quantity)) (leggingRecord (s .args .s) 0 l)) (c .before .before .before .before .before .before .before .before .before .legging-at .ensures ∙ ap (leggingIn (s .args .b .now)) z)))
-    (adds-same _ _ _ _ (c .before .before .put-legging2 .ensures) (ap (λ (l : Legging). recordIf (held (l .quantity)) (leggingRecord (s .args .s) 1 l)) (c .before .before .before .before .legging-at2 .ensures)))
+    (adds-same _ _ _ _ (c .before .before .before .before .before .before .before .put-legging .ensures)
+    (ap (λ (l : Legging). recordIf (held (l .quantity)) (leggingRecord (s .args .s) 0 l))
+    (c .before .before .before .before .before .before .before .before .before .legging-at .ensures ∙ ap (leggingIn (s .args .b .now)) z)))
+    (adds-same _ _ _ _ (c .before .before .put-legging2 .ensures)
+    (ap (λ (l : Legging). recordIf (held (l .quantity)) (leggingRecord (s .args .s) 1 l))
+    (c .before .before .before .before .legging-at2 .ensures)))
 
 pub put-sides-spec : {M : Type 1} → statement M
 put-sides-spec =

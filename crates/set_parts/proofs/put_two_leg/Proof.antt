@@ -29,8 +29,17 @@ returns c =
     let f = limit-fits (c .before .before .before .before .before .before .before) in
     let n = c .before .before .before .before .before .before .bits .ensures ∙ ap i32 (toZ-ofZ w64 (toZ w32 (ofZ w32 (s .args .c .limit))) (number-cast f) ∙ back32 f) in
     wrote _ _ _ _ _ _ (c .before .before .put-words .ensures)
-    (rw (c .before .before .before .before .before .before .before .before .before .bytes4 .ensures, byte (s .args .c .series1) (search needs), byte (s .args .c .side1) (search needs), byte (s .args .c .series2) (search needs), byte (s .args .c .side2) (search needs), byte (s .args .c .class) (search needs))
-    (ap (λ (y : List ℕ). s .args .length ∷ 0 ∷ s .args .kind ∷ 0 ∷ u32 (s .args .c .id) ++ (s .args .c .series1 ∷ s .args .c .side1 ∷ s .args .c .series2 ∷ s .args .c .side2 ∷ s .args .c .class ∷ []) ++ (y ++ (u32 (s .args .c .quantity) ++ []))) n))
+    (rw (
+      c .before .before .before .before .before .before .before .before .before .bytes4 .ensures,
+      byte (s .args .c .series1) (search needs),
+      byte (s .args .c .side1) (search needs),
+      byte (s .args .c .series2) (search needs),
+      byte (s .args .c .side2) (search needs),
+      byte (s .args .c .class) (search needs),
+    )
+    (ap (λ (y : List ℕ). s .args .length ∷ 0 ∷ s .args .kind ∷ 0 ∷ u32 (s .args .c .id)
+    ++ (s .args .c .series1 ∷ s .args .c .side1 ∷ s .args .c .series2 ∷ s .args .c .side2 ∷ s .args .c .class ∷ [])
+    ++ (y ++ (u32 (s .args .c .quantity) ++ []))) n))
 
 pub put-two-leg-spec : {M : Type 1} → statement M
 put-two-leg-spec =

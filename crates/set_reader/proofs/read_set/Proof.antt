@@ -18,11 +18,17 @@ first-told-requires c κs = looked-taken _ (sym (c .before .if1 .left) ∙ c .be
 
 returns-2 : tie.Need-returns-2
 unfolding numberTold
-returns-2 c = c .refused2 .ensures ∙ carries-refused _ (looked-taken _ (sym (c .before .before .before .before .before .if1 .left) ∙ c .before .before .before .before .before .before .look .ensures)) _ (c .before .before .before .before .venue-told .ensures) _ (c .before .before .before .first-told .ensures) _ (c .before .before .is-carried .ensures) (not-true _ (c .before .if2 .taken))
+returns-2 c = c .refused2 .ensures ∙ carries-refused _
+    (looked-taken _ (sym (c .before .before .before .before .before .if1 .left) ∙ c .before .before .before .before .before .before .look .ensures)) _
+    (c .before .before .before .before .venue-told .ensures) _ (c .before .before .before .first-told .ensures) _
+    (c .before .before .is-carried .ensures) (not-true _ (c .before .if2 .taken))
 
 returns-3 : tie.Need-returns-3
 unfolding numberTold
-returns-3 c = carries-read _ (looked-taken _ (sym (c .before .before .before .before .if1 .left) ∙ c .before .before .before .before .before .look .ensures)) _ (c .before .before .before .venue-told .ensures) _ (c .before .before .first-told .ensures) _ (c .before .is-carried .ensures) (not-false _ (c .if2 .left))
+returns-3 c = carries-read _
+    (looked-taken _ (sym (c .before .before .before .before .if1 .left) ∙ c .before .before .before .before .before .look .ensures)) _
+    (c .before .before .before .venue-told .ensures) _ (c .before .before .first-told .ensures) _ (c .before .is-carried .ensures)
+    (not-false _ (c .if2 .left))
 
 pub read-set-spec : {M : Type 1} → statement M
 read-set-spec =

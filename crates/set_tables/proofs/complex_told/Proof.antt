@@ -10,7 +10,11 @@ use Rattle.set_tables.proofs.complex_told.Tie as tie
 
 returns : tie.Need-returns
 unfolding complexTold
-returns c = rw (eq-eqb (kindField (c .before .before .before .before .before .before .args .r .now)) 10 (omega arith), ← (c .before .before .u8-at .ensures), ← (c .before .u8-at2 .ensures)) (c .two-leg-at .ensures)
+returns c = rw (
+  eq-eqb (kindField (c .before .before .before .before .before .before .args .r .now)) 10 (omega arith),
+  ← (c .before .before .u8-at .ensures),
+  ← (c .before .u8-at2 .ensures),
+) (c .two-leg-at .ensures)
 
 returns-2 : tie.Need-returns-2
 unfolding complexTold

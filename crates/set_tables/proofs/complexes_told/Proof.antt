@@ -29,28 +29,50 @@ part-tells-complex-end : tie.Need-part-tells-complex-end Inv-loop μ-loop
 part-tells-complex-end c = let s = walk-on _ _ _ (c .before .before .loop .inv .walk) (c .before .loop-test .taken) in let u = s .less in let v = s .fits in omega arith
 
 loop-less : tie.Need-loop-less Inv-loop μ-loop
-loop-less c = let s = walk-on _ _ _ (c .before .before .before .before .before .loop .inv .walk) (c .before .before .before .before .loop-test .taken) in let u = s .less in let v = s .fits in omega arith
+loop-less c = let s = walk-on _ _ _ (c .before .before .before .before .before .loop .inv .walk)
+    (c .before .before .before .before .loop-test .taken) in let u = s .less in let v = s .fits in omega arith
 
 loop-again : tie.Need-loop-again Inv-loop μ-loop
-loop-again c = let s = walk-on _ _ _ (c .before .before .before .before .before .loop .inv .walk) (c .before .before .before .before .loop-test .taken) in let u = s .less in let v = s .fits in filling-skip _ _ _ _ _ _ _ _ _ (c .before .before .before .before .before .loop .inv) _ _ s (c .before .before .before .size-at2 .ensures) (sym (ap tellsComplex (s .lent)) ∙ sym (c .before .tells-complex .ensures) ∙ not-true _ (c .if1 .taken))
+loop-again c = let s = walk-on _ _ _ (c .before .before .before .before .before .loop .inv .walk)
+    (c .before .before .before .before .loop-test .taken) in let u = s .less in let v = s .fits in
+    filling-skip _ _ _ _ _ _ _ _ _ (c .before .before .before .before .before .loop .inv) _ _ s (c .before .before .before .size-at2 .ensures)
+    (sym (ap tellsComplex (s .lent)) ∙ sym (c .before .tells-complex .ensures) ∙ not-true _ (c .if1 .taken))
 
 part-complex-told-end : tie.Need-part-complex-told-end Inv-loop μ-loop
-part-complex-told-end c = let s = walk-on _ _ _ (c .before .before .before .before .before .loop .inv .walk) (c .before .before .before .before .loop-test .taken) in let u = s .less in let v = s .fits in omega arith
+part-complex-told-end c = let s = walk-on _ _ _ (c .before .before .before .before .before .loop .inv .walk)
+    (c .before .before .before .before .loop-test .taken) in let u = s .less in let v = s .fits in omega arith
 
 complex-told-requires : tie.Need-complex-told-requires Inv-loop μ-loop
-complex-told-requires c κs = let s = walk-on _ _ _ (c .before .before .before .before .before .before .loop .inv .walk) (c .before .before .before .before .before .loop-test .taken) in let u = s .less in let v = s .fits in let t = sym (ap tellsComplex (s .lent)) ∙ sym (c .before .before .tells-complex .ensures) ∙ not-false _ (c .before .if1 .left) in let y = ap length (s .lent) in let z = complex-long (s .bytes) (s .well) t in omega arith
+complex-told-requires c κs = let s = walk-on _ _ _ (c .before .before .before .before .before .before .loop .inv .walk)
+    (c .before .before .before .before .before .loop-test .taken) in let u = s .less in let v = s .fits in let t = sym (ap tellsComplex (s .lent))
+    ∙ sym (c .before .before .tells-complex .ensures) ∙ not-false _ (c .before .if1 .left) in let y = ap length (s .lent) in
+    let z = complex-long (s .bytes) (s .well) t in omega arith
 
 array-set-from-l : tie.Need-array-set-from-l Inv-loop μ-loop
-array-set-from-l c = let s = walk-on _ _ _ (c .before .before .before .before .before .before .before .loop .inv .walk) (c .before .before .before .before .before .before .loop-test .taken) in let u = s .less in let v = s .fits in let t = sym (ap tellsComplex (s .lent)) ∙ sym (c .before .before .before .tells-complex .ensures) ∙ not-false _ (c .before .before .if1 .left) in let j = filling-room _ _ _ _ _ _ _ _ _ (c .before .before .before .before .before .before .before .loop .inv) _ _ s (c .before .before .before .before .before .size-at2 .ensures) t in let k = c .before .before .before .before .before .before .before .loop .inv .long in omega arith
+array-set-from-l c = let s = walk-on _ _ _ (c .before .before .before .before .before .before .before .loop .inv .walk)
+    (c .before .before .before .before .before .before .loop-test .taken) in let u = s .less in let v = s .fits in
+    let t = sym (ap tellsComplex (s .lent)) ∙ sym (c .before .before .before .tells-complex .ensures) ∙ not-false _ (c .before .before .if1 .left) in
+    let j = filling-room _ _ _ _ _ _ _ _ _ (c .before .before .before .before .before .before .before .loop .inv) _ _ s
+    (c .before .before .before .before .before .size-at2 .ensures) t in
+    let k = c .before .before .before .before .before .before .before .loop .inv .long in omega arith
 
 add-n : tie.Need-add-n Inv-loop μ-loop
-add-n c = let s = walk-on _ _ _ (c .before .before .before .before .before .before .before .loop .inv .walk) (c .before .before .before .before .before .before .loop-test .taken) in let u = s .less in let v = s .fits in let t = sym (ap tellsComplex (s .lent)) ∙ sym (c .before .before .before .tells-complex .ensures) ∙ not-false _ (c .before .before .if1 .left) in let j = filling-room _ _ _ _ _ _ _ _ _ (c .before .before .before .before .before .before .before .loop .inv) _ _ s (c .before .before .before .before .before .size-at2 .ensures) t in omega arith
+add-n c = let s = walk-on _ _ _ (c .before .before .before .before .before .before .before .loop .inv .walk)
+    (c .before .before .before .before .before .before .loop-test .taken) in let u = s .less in let v = s .fits in
+    let t = sym (ap tellsComplex (s .lent)) ∙ sym (c .before .before .before .tells-complex .ensures) ∙ not-false _ (c .before .before .if1 .left) in
+    let j = filling-room _ _ _ _ _ _ _ _ _ (c .before .before .before .before .before .before .before .loop .inv) _ _ s
+    (c .before .before .before .before .before .size-at2 .ensures) t in omega arith
 
 loop-less-2 : tie.Need-loop-less-2 Inv-loop μ-loop
-loop-less-2 c = let s = walk-on _ _ _ (c .before .before .before .before .before .before .before .loop .inv .walk) (c .before .before .before .before .before .before .loop-test .taken) in let u = s .less in let v = s .fits in omega arith
+loop-less-2 c = let s = walk-on _ _ _ (c .before .before .before .before .before .before .before .loop .inv .walk)
+    (c .before .before .before .before .before .before .loop-test .taken) in let u = s .less in let v = s .fits in omega arith
 
 loop-again-2 : tie.Need-loop-again-2 Inv-loop μ-loop
-loop-again-2 c = let s = walk-on _ _ _ (c .before .before .before .before .before .before .before .loop .inv .walk) (c .before .before .before .before .before .before .loop-test .taken) in let u = s .less in let v = s .fits in let t = sym (ap tellsComplex (s .lent)) ∙ sym (c .before .before .before .tells-complex .ensures) ∙ not-false _ (c .before .before .if1 .left) in filling-put _ _ _ _ _ _ _ _ _ (c .before .before .before .before .before .before .before .loop .inv) _ _ s (c .before .before .before .before .before .size-at2 .ensures) _ t (c .complex-told .ensures ∙ ap complexTold (s .lent))
+loop-again-2 c = let s = walk-on _ _ _ (c .before .before .before .before .before .before .before .loop .inv .walk)
+    (c .before .before .before .before .before .before .loop-test .taken) in let u = s .less in let v = s .fits in
+    let t = sym (ap tellsComplex (s .lent)) ∙ sym (c .before .before .before .tells-complex .ensures) ∙ not-false _ (c .before .before .if1 .left) in
+    filling-put _ _ _ _ _ _ _ _ _ (c .before .before .before .before .before .before .before .loop .inv) _ _ s
+    (c .before .before .before .before .before .size-at2 .ensures) _ t (c .complex-told .ensures ∙ ap complexTold (s .lent))
 
 returns : tie.Need-returns Inv-loop μ-loop
 unfolding venueTold

@@ -28,25 +28,44 @@ part-tells-edition-end : tie.Need-part-tells-edition-end Inv-loop μ-loop
 part-tells-edition-end c = let s = walk-on _ _ _ (c .before .before .loop .inv .walk) (c .before .loop-test .taken) in let u = s .less in let v = s .fits in omega arith
 
 loop-less : tie.Need-loop-less Inv-loop μ-loop
-loop-less c = let s = walk-on _ _ _ (c .before .before .before .before .before .loop .inv .walk) (c .before .before .before .before .loop-test .taken) in let u = s .less in let v = s .fits in omega arith
+loop-less c = let s = walk-on _ _ _ (c .before .before .before .before .before .loop .inv .walk)
+    (c .before .before .before .before .loop-test .taken) in let u = s .less in let v = s .fits in omega arith
 
 loop-again : tie.Need-loop-again Inv-loop μ-loop
-loop-again c = let s = walk-on _ _ _ (c .before .before .before .before .before .loop .inv .walk) (c .before .before .before .before .loop-test .taken) in let u = s .less in let v = s .fits in filling-skip _ _ _ _ _ _ _ _ _ (c .before .before .before .before .before .loop .inv) _ _ s (c .before .before .before .size-at2 .ensures) (sym (ap tellsEdition (s .lent)) ∙ sym (c .before .tells-edition .ensures) ∙ not-true _ (c .if1 .taken))
+loop-again c = let s = walk-on _ _ _ (c .before .before .before .before .before .loop .inv .walk)
+    (c .before .before .before .before .loop-test .taken) in let u = s .less in let v = s .fits in
+    filling-skip _ _ _ _ _ _ _ _ _ (c .before .before .before .before .before .loop .inv) _ _ s (c .before .before .before .size-at2 .ensures)
+    (sym (ap tellsEdition (s .lent)) ∙ sym (c .before .tells-edition .ensures) ∙ not-true _ (c .if1 .taken))
 
 part-edition-told-end : tie.Need-part-edition-told-end Inv-loop μ-loop
-part-edition-told-end c = let s = walk-on _ _ _ (c .before .before .before .before .before .loop .inv .walk) (c .before .before .before .before .loop-test .taken) in let u = s .less in let v = s .fits in omega arith
+part-edition-told-end c = let s = walk-on _ _ _ (c .before .before .before .before .before .loop .inv .walk)
+    (c .before .before .before .before .loop-test .taken) in let u = s .less in let v = s .fits in omega arith
 
 array-set-from-l : tie.Need-array-set-from-l Inv-loop μ-loop
-array-set-from-l c = let s = walk-on _ _ _ (c .before .before .before .before .before .before .before .loop .inv .walk) (c .before .before .before .before .before .before .loop-test .taken) in let u = s .less in let v = s .fits in let t = sym (ap tellsEdition (s .lent)) ∙ sym (c .before .before .before .tells-edition .ensures) ∙ not-false _ (c .before .before .if1 .left) in let j = filling-room _ _ _ _ _ _ _ _ _ (c .before .before .before .before .before .before .before .loop .inv) _ _ s (c .before .before .before .before .before .size-at2 .ensures) t in let k = c .before .before .before .before .before .before .before .loop .inv .long in omega arith
+array-set-from-l c = let s = walk-on _ _ _ (c .before .before .before .before .before .before .before .loop .inv .walk)
+    (c .before .before .before .before .before .before .loop-test .taken) in let u = s .less in let v = s .fits in
+    let t = sym (ap tellsEdition (s .lent)) ∙ sym (c .before .before .before .tells-edition .ensures) ∙ not-false _ (c .before .before .if1 .left) in
+    let j = filling-room _ _ _ _ _ _ _ _ _ (c .before .before .before .before .before .before .before .loop .inv) _ _ s
+    (c .before .before .before .before .before .size-at2 .ensures) t in
+    let k = c .before .before .before .before .before .before .before .loop .inv .long in omega arith
 
 add-n : tie.Need-add-n Inv-loop μ-loop
-add-n c = let s = walk-on _ _ _ (c .before .before .before .before .before .before .before .loop .inv .walk) (c .before .before .before .before .before .before .loop-test .taken) in let u = s .less in let v = s .fits in let t = sym (ap tellsEdition (s .lent)) ∙ sym (c .before .before .before .tells-edition .ensures) ∙ not-false _ (c .before .before .if1 .left) in let j = filling-room _ _ _ _ _ _ _ _ _ (c .before .before .before .before .before .before .before .loop .inv) _ _ s (c .before .before .before .before .before .size-at2 .ensures) t in omega arith
+add-n c = let s = walk-on _ _ _ (c .before .before .before .before .before .before .before .loop .inv .walk)
+    (c .before .before .before .before .before .before .loop-test .taken) in let u = s .less in let v = s .fits in
+    let t = sym (ap tellsEdition (s .lent)) ∙ sym (c .before .before .before .tells-edition .ensures) ∙ not-false _ (c .before .before .if1 .left) in
+    let j = filling-room _ _ _ _ _ _ _ _ _ (c .before .before .before .before .before .before .before .loop .inv) _ _ s
+    (c .before .before .before .before .before .size-at2 .ensures) t in omega arith
 
 loop-less-2 : tie.Need-loop-less-2 Inv-loop μ-loop
-loop-less-2 c = let s = walk-on _ _ _ (c .before .before .before .before .before .before .before .loop .inv .walk) (c .before .before .before .before .before .before .loop-test .taken) in let u = s .less in let v = s .fits in omega arith
+loop-less-2 c = let s = walk-on _ _ _ (c .before .before .before .before .before .before .before .loop .inv .walk)
+    (c .before .before .before .before .before .before .loop-test .taken) in let u = s .less in let v = s .fits in omega arith
 
 loop-again-2 : tie.Need-loop-again-2 Inv-loop μ-loop
-loop-again-2 c = let s = walk-on _ _ _ (c .before .before .before .before .before .before .before .loop .inv .walk) (c .before .before .before .before .before .before .loop-test .taken) in let u = s .less in let v = s .fits in let t = sym (ap tellsEdition (s .lent)) ∙ sym (c .before .before .before .tells-edition .ensures) ∙ not-false _ (c .before .before .if1 .left) in filling-put _ _ _ _ _ _ _ _ _ (c .before .before .before .before .before .before .before .loop .inv) _ _ s (c .before .before .before .before .before .size-at2 .ensures) _ t (c .edition-told .ensures ∙ ap editionTold (s .lent))
+loop-again-2 c = let s = walk-on _ _ _ (c .before .before .before .before .before .before .before .loop .inv .walk)
+    (c .before .before .before .before .before .before .loop-test .taken) in let u = s .less in let v = s .fits in
+    let t = sym (ap tellsEdition (s .lent)) ∙ sym (c .before .before .before .tells-edition .ensures) ∙ not-false _ (c .before .before .if1 .left) in
+    filling-put _ _ _ _ _ _ _ _ _ (c .before .before .before .before .before .before .before .loop .inv) _ _ s
+    (c .before .before .before .before .before .size-at2 .ensures) _ t (c .edition-told .ensures ∙ ap editionTold (s .lent))
 
 returns : tie.Need-returns Inv-loop μ-loop
 unfolding venueTold

@@ -14,7 +14,8 @@ part-u32-at-end : tie.Need-part-u32-at-end
 part-u32-at-end c = let s = first-step _ _ (c .before .before .pre) (c .size-at .ensures) in let v = s .fits in omega arith
 
 returns : tie.Need-returns
-returns c = let s = first-step _ _ (c .before .before .before .before .pre) (c .before .before .size-at .ensures) in c .u32-at .ensures ∙ ap (λ (r : List ℕ). u32At r (c .before .before .before .before .args .at)) (s .lent ∙ sym (first-is _ _ s))
+returns c = let start = c .before .before .before .before in let s = first-step _ _ (start .pre) (c .before .before .size-at .ensures) in
+    c .u32-at .ensures ∙ ap (λ (r : List ℕ). u32At r (start .args .at)) (s .lent ∙ sym (first-is _ _ s))
 
 pub first-told-spec : {M : Type 1} → statement M
 first-told-spec =

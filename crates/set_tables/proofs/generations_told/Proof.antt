@@ -32,28 +32,57 @@ part-tells-generation-end : tie.Need-part-tells-generation-end Inv-loop μ-loop
 part-tells-generation-end c = let s = walk-on _ _ _ (c .before .before .loop .inv .walk) (c .before .loop-test .taken) in let u = s .less in let v = s .fits in omega arith
 
 loop-less : tie.Need-loop-less Inv-loop μ-loop
-loop-less c = let s = walk-on _ _ _ (c .before .before .before .before .before .loop .inv .walk) (c .before .before .before .before .loop-test .taken) in let u = s .less in let v = s .fits in omega arith
+loop-less c = let s = walk-on _ _ _ (c .before .before .before .before .before .loop .inv .walk)
+    (c .before .before .before .before .loop-test .taken) in let u = s .less in let v = s .fits in omega arith
 
 loop-again : tie.Need-loop-again Inv-loop μ-loop
-loop-again c = let s = walk-on _ _ _ (c .before .before .before .before .before .loop .inv .walk) (c .before .before .before .before .loop-test .taken) in let u = s .less in let v = s .fits in numbered-skip _ _ _ _ (c .before .before .before .before .before .loop .inv) _ _ s (c .before .before .before .size-at2 .ensures) (sym (ap tellsGeneration (s .lent)) ∙ sym (c .before .tells-generation .ensures) ∙ not-true _ (c .if1 .taken))
+loop-again c = let s = walk-on _ _ _ (c .before .before .before .before .before .loop .inv .walk)
+    (c .before .before .before .before .loop-test .taken) in let u = s .less in let v = s .fits in
+    numbered-skip _ _ _ _ (c .before .before .before .before .before .loop .inv) _ _ s (c .before .before .before .size-at2 .ensures)
+    (sym (ap tellsGeneration (s .lent)) ∙ sym (c .before .tells-generation .ensures) ∙ not-true _ (c .if1 .taken))
 
 part-u8-at-end : tie.Need-part-u8-at-end Inv-loop μ-loop
-part-u8-at-end c = let s = walk-on _ _ _ (c .before .before .before .before .before .loop .inv .walk) (c .before .before .before .before .loop-test .taken) in let u = s .less in let v = s .fits in omega arith
+part-u8-at-end c = let s = walk-on _ _ _ (c .before .before .before .before .before .loop .inv .walk)
+    (c .before .before .before .before .loop-test .taken) in let u = s .less in let v = s .fits in omega arith
 
 array-copy-out-g : tie.Need-array-copy-out-g Inv-loop μ-loop
-array-copy-out-g c = let s = walk-on _ _ _ (c .before .before .before .before .before .before .before .loop .inv .walk) (c .before .before .before .before .before .before .loop-test .taken) in let u = s .less in let v = s .fits in let k = numbered-room _ _ _ _ (c .before .before .before .before .before .before .before .loop .inv) _ _ s (c .before .before .before .before .before .size-at2 .ensures) (sym (ap tellsGeneration (s .lent)) ∙ sym (c .before .before .before .tells-generation .ensures) ∙ not-false _ (c .before .before .if1 .left)) _ (c .u8-at .ensures ∙ ap (λ (r : List ℕ). u8At r 4) (s .lent)) in let n = c .before .before .before .before .before .before .before .loop .inv .long in omega arith
+array-copy-out-g c = let s = walk-on _ _ _ (c .before .before .before .before .before .before .before .loop .inv .walk)
+    (c .before .before .before .before .before .before .loop-test .taken) in let u = s .less in let v = s .fits in
+    let k = numbered-room _ _ _ _ (c .before .before .before .before .before .before .before .loop .inv) _ _ s
+    (c .before .before .before .before .before .size-at2 .ensures)
+    (sym (ap tellsGeneration (s .lent)) ∙ sym (c .before .before .before .tells-generation .ensures) ∙ not-false _ (c .before .before .if1 .left)) _
+    (c .u8-at .ensures ∙ ap (λ (r : List ℕ). u8At r 4) (s .lent)) in
+    let n = c .before .before .before .before .before .before .before .loop .inv .long in omega arith
 
 part-told-of-end : tie.Need-part-told-of-end Inv-loop μ-loop
-part-told-of-end c = let s = walk-on _ _ _ (c .before .before .before .before .before .before .before .before .loop .inv .walk) (c .before .before .before .before .before .before .before .loop-test .taken) in let u = s .less in let v = s .fits in omega arith
+part-told-of-end c = let s = walk-on _ _ _ (c .before .before .before .before .before .before .before .before .loop .inv .walk)
+    (c .before .before .before .before .before .before .before .loop-test .taken) in let u = s .less in let v = s .fits in omega arith
 
 array-set-from-l : tie.Need-array-set-from-l Inv-loop μ-loop
-array-set-from-l c = let s = walk-on _ _ _ (c .before .before .before .before .before .before .before .before .before .before .before .loop .inv .walk) (c .before .before .before .before .before .before .before .before .before .before .loop-test .taken) in let u = s .less in let v = s .fits in let k = numbered-room _ _ _ _ (c .before .before .before .before .before .before .before .before .before .before .before .loop .inv) _ _ s (c .before .before .before .before .before .before .before .before .before .size-at2 .ensures) (sym (ap tellsGeneration (s .lent)) ∙ sym (c .before .before .before .before .before .before .before .tells-generation .ensures) ∙ not-false _ (c .before .before .before .before .before .before .if1 .left)) _ (c .before .before .before .before .u8-at .ensures ∙ ap (λ (r : List ℕ). u8At r 4) (s .lent)) in let n = c .before .before .before .before .before .before .before .before .before .before .before .loop .inv .long in omega arith
+array-set-from-l c = let s = walk-on _ _ _
+    (c .before .before .before .before .before .before .before .before .before .before .before .loop .inv .walk)
+    (c .before .before .before .before .before .before .before .before .before .before .loop-test .taken) in let u = s .less in let v = s .fits in
+    let k = numbered-room _ _ _ _ (c .before .before .before .before .before .before .before .before .before .before .before .loop .inv) _ _ s
+    (c .before .before .before .before .before .before .before .before .before .size-at2 .ensures)
+    (sym (ap tellsGeneration (s .lent)) ∙ sym (c .before .before .before .before .before .before .before .tells-generation .ensures) ∙ not-false _
+    (c .before .before .before .before .before .before .if1 .left)) _
+    (c .before .before .before .before .u8-at .ensures ∙ ap (λ (r : List ℕ). u8At r 4) (s .lent)) in
+    let n = c .before .before .before .before .before .before .before .before .before .before .before .loop .inv .long in omega arith
 
 loop-less-2 : tie.Need-loop-less-2 Inv-loop μ-loop
-loop-less-2 c = let s = walk-on _ _ _ (c .before .before .before .before .before .before .before .before .before .before .before .loop .inv .walk) (c .before .before .before .before .before .before .before .before .before .before .loop-test .taken) in let u = s .less in let v = s .fits in omega arith
+loop-less-2 c = let s = walk-on _ _ _ (c .before .before .before .before .before .before .before .before .before .before .before .loop .inv .walk)
+    (c .before .before .before .before .before .before .before .before .before .before .loop-test .taken) in let u = s .less in let v = s .fits in
+    omega arith
 
 loop-again-2 : tie.Need-loop-again-2 Inv-loop μ-loop
-loop-again-2 c = let s = walk-on _ _ _ (c .before .before .before .before .before .before .before .before .before .before .before .loop .inv .walk) (c .before .before .before .before .before .before .before .before .before .before .loop-test .taken) in let u = s .less in let v = s .fits in numbered-put _ _ _ _ (c .before .before .before .before .before .before .before .before .before .before .before .loop .inv) _ _ s (c .before .before .before .before .before .before .before .before .before .size-at2 .ensures) (sym (ap tellsGeneration (s .lent)) ∙ sym (c .before .before .before .before .before .before .before .tells-generation .ensures) ∙ not-false _ (c .before .before .before .before .before .before .if1 .left)) _ _ _ _ (c .before .before .before .before .u8-at .ensures ∙ ap (λ (r : List ℕ). u8At r 4) (s .lent)) (c .before .told-of .ensures ∙ ap generationTold (s .lent)) (c .one-more .ensures)
+loop-again-2 c = let s = walk-on _ _ _ (c .before .before .before .before .before .before .before .before .before .before .before .loop .inv .walk)
+    (c .before .before .before .before .before .before .before .before .before .before .loop-test .taken) in let u = s .less in let v = s .fits in
+    numbered-put _ _ _ _ (c .before .before .before .before .before .before .before .before .before .before .before .loop .inv) _ _ s
+    (c .before .before .before .before .before .before .before .before .before .size-at2 .ensures)
+    (sym (ap tellsGeneration (s .lent)) ∙ sym (c .before .before .before .before .before .before .before .tells-generation .ensures) ∙ not-false _
+    (c .before .before .before .before .before .before .if1 .left)) _ _ _ _
+    (c .before .before .before .before .u8-at .ensures ∙ ap (λ (r : List ℕ). u8At r 4) (s .lent))
+    (c .before .told-of .ensures ∙ ap generationTold (s .lent)) (c .one-more .ensures)
 
 returns : tie.Need-returns Inv-loop μ-loop
 unfolding venueTold

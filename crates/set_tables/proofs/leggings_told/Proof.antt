@@ -31,25 +31,46 @@ part-tells-legging-end : tie.Need-part-tells-legging-end Inv-loop μ-loop
 part-tells-legging-end c = let s = walk-on _ _ _ (c .before .before .loop .inv .walk) (c .before .loop-test .taken) in let u = s .less in let v = s .fits in omega arith
 
 loop-less : tie.Need-loop-less Inv-loop μ-loop
-loop-less c = let s = walk-on _ _ _ (c .before .before .before .before .before .loop .inv .walk) (c .before .before .before .before .loop-test .taken) in let u = s .less in let v = s .fits in omega arith
+loop-less c = let s = walk-on _ _ _ (c .before .before .before .before .before .loop .inv .walk)
+    (c .before .before .before .before .loop-test .taken) in let u = s .less in let v = s .fits in omega arith
 
 loop-again : tie.Need-loop-again Inv-loop μ-loop
-loop-again c = let s = walk-on _ _ _ (c .before .before .before .before .before .loop .inv .walk) (c .before .before .before .before .loop-test .taken) in let u = s .less in let v = s .fits in legged-skip _ _ _ _ (c .before .before .before .before .before .loop .inv) _ _ s (c .before .before .before .size-at2 .ensures) (sym (ap tellsLegging (s .lent)) ∙ sym (c .before .tells-legging .ensures) ∙ not-true _ (c .if1 .taken))
+loop-again c = let s = walk-on _ _ _ (c .before .before .before .before .before .loop .inv .walk)
+    (c .before .before .before .before .loop-test .taken) in let u = s .less in let v = s .fits in
+    legged-skip _ _ _ _ (c .before .before .before .before .before .loop .inv) _ _ s (c .before .before .before .size-at2 .ensures)
+    (sym (ap tellsLegging (s .lent)) ∙ sym (c .before .tells-legging .ensures) ∙ not-true _ (c .if1 .taken))
 
 part-place-of-end : tie.Need-part-place-of-end Inv-loop μ-loop
-part-place-of-end c = let s = walk-on _ _ _ (c .before .before .before .before .before .loop .inv .walk) (c .before .before .before .before .loop-test .taken) in let u = s .less in let v = s .fits in omega arith
+part-place-of-end c = let s = walk-on _ _ _ (c .before .before .before .before .before .loop .inv .walk)
+    (c .before .before .before .before .loop-test .taken) in let u = s .less in let v = s .fits in omega arith
 
 part-legging-told-end : tie.Need-part-legging-told-end Inv-loop μ-loop
-part-legging-told-end c = let s = walk-on _ _ _ (c .before .before .before .before .before .before .before .loop .inv .walk) (c .before .before .before .before .before .before .loop-test .taken) in let u = s .less in let v = s .fits in omega arith
+part-legging-told-end c = let s = walk-on _ _ _ (c .before .before .before .before .before .before .before .loop .inv .walk)
+    (c .before .before .before .before .before .before .loop-test .taken) in let u = s .less in let v = s .fits in omega arith
 
 array-set-from-l : tie.Need-array-set-from-l Inv-loop μ-loop
-array-set-from-l c = let s = walk-on _ _ _ (c .before .before .before .before .before .before .before .before .before .loop .inv .walk) (c .before .before .before .before .before .before .before .before .loop-test .taken) in let u = s .less in let v = s .fits in let k = legged-room _ _ _ _ (c .before .before .before .before .before .before .before .before .before .loop .inv) _ _ s (c .before .before .before .before .before .before .before .size-at2 .ensures) (sym (ap tellsLegging (s .lent)) ∙ sym (c .before .before .before .before .before .tells-legging .ensures) ∙ not-false _ (c .before .before .before .before .if1 .left)) _ (c .before .before .place-of .ensures ∙ ap (λ (r : List ℕ). placeOf (u8At r 8) (u8At r 9)) (s .lent)) in let n = c .before .before .before .before .before .before .before .before .before .loop .inv .long in omega arith
+array-set-from-l c = let s = walk-on _ _ _ (c .before .before .before .before .before .before .before .before .before .loop .inv .walk)
+    (c .before .before .before .before .before .before .before .before .loop-test .taken) in let u = s .less in let v = s .fits in
+    let k = legged-room _ _ _ _ (c .before .before .before .before .before .before .before .before .before .loop .inv) _ _ s
+    (c .before .before .before .before .before .before .before .size-at2 .ensures)
+    (sym (ap tellsLegging (s .lent)) ∙ sym (c .before .before .before .before .before .tells-legging .ensures) ∙ not-false _
+    (c .before .before .before .before .if1 .left)) _
+    (c .before .before .place-of .ensures ∙ ap (λ (r : List ℕ). placeOf (u8At r 8) (u8At r 9)) (s .lent)) in
+    let n = c .before .before .before .before .before .before .before .before .before .loop .inv .long in omega arith
 
 loop-less-2 : tie.Need-loop-less-2 Inv-loop μ-loop
-loop-less-2 c = let s = walk-on _ _ _ (c .before .before .before .before .before .before .before .before .before .loop .inv .walk) (c .before .before .before .before .before .before .before .before .loop-test .taken) in let u = s .less in let v = s .fits in omega arith
+loop-less-2 c = let s = walk-on _ _ _ (c .before .before .before .before .before .before .before .before .before .loop .inv .walk)
+    (c .before .before .before .before .before .before .before .before .loop-test .taken) in let u = s .less in let v = s .fits in omega arith
 
 loop-again-2 : tie.Need-loop-again-2 Inv-loop μ-loop
-loop-again-2 c = let s = walk-on _ _ _ (c .before .before .before .before .before .before .before .before .before .loop .inv .walk) (c .before .before .before .before .before .before .before .before .loop-test .taken) in let u = s .less in let v = s .fits in legged-put _ _ _ _ (c .before .before .before .before .before .before .before .before .before .loop .inv) _ _ s (c .before .before .before .before .before .before .before .size-at2 .ensures) (sym (ap tellsLegging (s .lent)) ∙ sym (c .before .before .before .before .before .tells-legging .ensures) ∙ not-false _ (c .before .before .before .before .if1 .left)) _ _ (c .before .before .place-of .ensures ∙ ap (λ (r : List ℕ). placeOf (u8At r 8) (u8At r 9)) (s .lent)) (c .legging-told .ensures ∙ ap leggingOf (s .lent))
+loop-again-2 c = let s = walk-on _ _ _ (c .before .before .before .before .before .before .before .before .before .loop .inv .walk)
+    (c .before .before .before .before .before .before .before .before .loop-test .taken) in let u = s .less in let v = s .fits in
+    legged-put _ _ _ _ (c .before .before .before .before .before .before .before .before .before .loop .inv) _ _ s
+    (c .before .before .before .before .before .before .before .size-at2 .ensures)
+    (sym (ap tellsLegging (s .lent)) ∙ sym (c .before .before .before .before .before .tells-legging .ensures) ∙ not-false _
+    (c .before .before .before .before .if1 .left)) _ _
+    (c .before .before .place-of .ensures ∙ ap (λ (r : List ℕ). placeOf (u8At r 8) (u8At r 9)) (s .lent))
+    (c .legging-told .ensures ∙ ap leggingOf (s .lent))
 
 returns : tie.Need-returns Inv-loop μ-loop
 unfolding venueTold

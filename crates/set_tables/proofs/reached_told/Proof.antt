@@ -29,17 +29,27 @@ part-kind-of-end : tie.Need-part-kind-of-end Inv-loop μ-loop
 part-kind-of-end c = let s = walk-on _ _ _ (c .before .before .loop .inv .0) (c .before .loop-test .taken) in let u = s .less in let v = s .fits in omega arith
 
 part-u32-at-end : tie.Need-part-u32-at-end Inv-loop μ-loop
-part-u32-at-end c = let s = walk-on _ _ _ (c .before .before .before .before .before .loop .inv .0) (c .before .before .before .before .loop-test .taken) in let u = s .less in let v = s .fits in omega arith
+part-u32-at-end c = let s = walk-on _ _ _ (c .before .before .before .before .before .loop .inv .0)
+    (c .before .before .before .before .loop-test .taken) in let u = s .less in let v = s .fits in omega arith
 
 returns : tie.Need-returns Inv-loop μ-loop
 unfolding venueTold
-returns c = let s = walk-on _ _ _ (c .before .before .before .before .before .before .before .loop .inv .0) (c .before .before .before .before .before .before .loop-test .taken) in let u = s .less in let v = s .fits in c .u32-at .ensures ∙ ap (λ (r : List ℕ). u32At r 4) (s .lent) ∙ reached-found _ _ _ s (sym (ap kindField (s .lent)) ∙ sym (c .before .before .before .kind-of .ensures) ∙ c .before .before .if1 .taken) ∙ c .before .before .before .before .before .before .before .loop .inv .1
+returns c = let s = walk-on _ _ _ (c .before .before .before .before .before .before .before .loop .inv .0)
+    (c .before .before .before .before .before .before .loop-test .taken) in let u = s .less in let v = s .fits in
+    c .u32-at .ensures ∙ ap (λ (r : List ℕ). u32At r 4) (s .lent) ∙ reached-found _ _ _ s
+    (sym (ap kindField (s .lent)) ∙ sym (c .before .before .before .kind-of .ensures) ∙ c .before .before .if1 .taken)
+    ∙ c .before .before .before .before .before .before .before .loop .inv .1
 
 loop-less : tie.Need-loop-less Inv-loop μ-loop
 loop-less c = let s = walk-on _ _ _ (c .before .before .before .before .before .loop .inv .0) (c .before .before .before .before .loop-test .taken) in let u = s .less in let v = s .fits in omega arith
 
 loop-again : tie.Need-loop-again Inv-loop μ-loop
-loop-again c = let s = walk-on _ _ _ (c .before .before .before .before .before .loop .inv .0) (c .before .before .before .before .loop-test .taken) in let u = s .less in let v = s .fits in (walk-next _ _ _ _ s (c .before .before .before .size-at2 .ensures), reached-skip _ _ _ s (λ z. c .if1 .left (c .before .kind-of .ensures ∙ ap kindField (s .lent) ∙ z)) ∙ c .before .before .before .before .before .loop .inv .1)
+loop-again c = let s = walk-on _ _ _ (c .before .before .before .before .before .loop .inv .0)
+    (c .before .before .before .before .loop-test .taken) in let u = s .less in let v = s .fits in (
+      walk-next _ _ _ _ s (c .before .before .before .size-at2 .ensures),
+      reached-skip _ _ _ s (λ z. c .if1 .left (c .before .kind-of .ensures ∙ ap kindField (s .lent) ∙ z))
+          ∙ c .before .before .before .before .before .loop .inv .1,
+    )
 
 returns-2 : tie.Need-returns-2 Inv-loop μ-loop
 unfolding venueTold

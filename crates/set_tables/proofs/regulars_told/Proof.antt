@@ -29,28 +29,50 @@ part-tells-regular-end : tie.Need-part-tells-regular-end Inv-loop μ-loop
 part-tells-regular-end c = let s = walk-on _ _ _ (c .before .before .loop .inv .walk) (c .before .loop-test .taken) in let u = s .less in let v = s .fits in omega arith
 
 loop-less : tie.Need-loop-less Inv-loop μ-loop
-loop-less c = let s = walk-on _ _ _ (c .before .before .before .before .before .loop .inv .walk) (c .before .before .before .before .loop-test .taken) in let u = s .less in let v = s .fits in omega arith
+loop-less c = let s = walk-on _ _ _ (c .before .before .before .before .before .loop .inv .walk)
+    (c .before .before .before .before .loop-test .taken) in let u = s .less in let v = s .fits in omega arith
 
 loop-again : tie.Need-loop-again Inv-loop μ-loop
-loop-again c = let s = walk-on _ _ _ (c .before .before .before .before .before .loop .inv .walk) (c .before .before .before .before .loop-test .taken) in let u = s .less in let v = s .fits in filling-skip _ _ _ _ _ _ _ _ _ (c .before .before .before .before .before .loop .inv) _ _ s (c .before .before .before .size-at2 .ensures) (sym (ap tellsRegular (s .lent)) ∙ sym (c .before .tells-regular .ensures) ∙ not-true _ (c .if1 .taken))
+loop-again c = let s = walk-on _ _ _ (c .before .before .before .before .before .loop .inv .walk)
+    (c .before .before .before .before .loop-test .taken) in let u = s .less in let v = s .fits in
+    filling-skip _ _ _ _ _ _ _ _ _ (c .before .before .before .before .before .loop .inv) _ _ s (c .before .before .before .size-at2 .ensures)
+    (sym (ap tellsRegular (s .lent)) ∙ sym (c .before .tells-regular .ensures) ∙ not-true _ (c .if1 .taken))
 
 part-regular-told-end : tie.Need-part-regular-told-end Inv-loop μ-loop
-part-regular-told-end c = let s = walk-on _ _ _ (c .before .before .before .before .before .loop .inv .walk) (c .before .before .before .before .loop-test .taken) in let u = s .less in let v = s .fits in omega arith
+part-regular-told-end c = let s = walk-on _ _ _ (c .before .before .before .before .before .loop .inv .walk)
+    (c .before .before .before .before .loop-test .taken) in let u = s .less in let v = s .fits in omega arith
 
 regular-told-requires : tie.Need-regular-told-requires Inv-loop μ-loop
-regular-told-requires c κs = let s = walk-on _ _ _ (c .before .before .before .before .before .before .loop .inv .walk) (c .before .before .before .before .before .loop-test .taken) in let u = s .less in let v = s .fits in let t = sym (ap tellsRegular (s .lent)) ∙ sym (c .before .before .tells-regular .ensures) ∙ not-false _ (c .before .if1 .left) in let y = ap length (s .lent) in let z = regular-long (s .bytes) (s .well) t in omega arith
+regular-told-requires c κs = let s = walk-on _ _ _ (c .before .before .before .before .before .before .loop .inv .walk)
+    (c .before .before .before .before .before .loop-test .taken) in let u = s .less in let v = s .fits in let t = sym (ap tellsRegular (s .lent))
+    ∙ sym (c .before .before .tells-regular .ensures) ∙ not-false _ (c .before .if1 .left) in let y = ap length (s .lent) in
+    let z = regular-long (s .bytes) (s .well) t in omega arith
 
 array-set-from-l : tie.Need-array-set-from-l Inv-loop μ-loop
-array-set-from-l c = let s = walk-on _ _ _ (c .before .before .before .before .before .before .before .loop .inv .walk) (c .before .before .before .before .before .before .loop-test .taken) in let u = s .less in let v = s .fits in let t = sym (ap tellsRegular (s .lent)) ∙ sym (c .before .before .before .tells-regular .ensures) ∙ not-false _ (c .before .before .if1 .left) in let j = filling-room _ _ _ _ _ _ _ _ _ (c .before .before .before .before .before .before .before .loop .inv) _ _ s (c .before .before .before .before .before .size-at2 .ensures) t in let k = c .before .before .before .before .before .before .before .loop .inv .long in omega arith
+array-set-from-l c = let s = walk-on _ _ _ (c .before .before .before .before .before .before .before .loop .inv .walk)
+    (c .before .before .before .before .before .before .loop-test .taken) in let u = s .less in let v = s .fits in
+    let t = sym (ap tellsRegular (s .lent)) ∙ sym (c .before .before .before .tells-regular .ensures) ∙ not-false _ (c .before .before .if1 .left) in
+    let j = filling-room _ _ _ _ _ _ _ _ _ (c .before .before .before .before .before .before .before .loop .inv) _ _ s
+    (c .before .before .before .before .before .size-at2 .ensures) t in
+    let k = c .before .before .before .before .before .before .before .loop .inv .long in omega arith
 
 add-n : tie.Need-add-n Inv-loop μ-loop
-add-n c = let s = walk-on _ _ _ (c .before .before .before .before .before .before .before .loop .inv .walk) (c .before .before .before .before .before .before .loop-test .taken) in let u = s .less in let v = s .fits in let t = sym (ap tellsRegular (s .lent)) ∙ sym (c .before .before .before .tells-regular .ensures) ∙ not-false _ (c .before .before .if1 .left) in let j = filling-room _ _ _ _ _ _ _ _ _ (c .before .before .before .before .before .before .before .loop .inv) _ _ s (c .before .before .before .before .before .size-at2 .ensures) t in omega arith
+add-n c = let s = walk-on _ _ _ (c .before .before .before .before .before .before .before .loop .inv .walk)
+    (c .before .before .before .before .before .before .loop-test .taken) in let u = s .less in let v = s .fits in
+    let t = sym (ap tellsRegular (s .lent)) ∙ sym (c .before .before .before .tells-regular .ensures) ∙ not-false _ (c .before .before .if1 .left) in
+    let j = filling-room _ _ _ _ _ _ _ _ _ (c .before .before .before .before .before .before .before .loop .inv) _ _ s
+    (c .before .before .before .before .before .size-at2 .ensures) t in omega arith
 
 loop-less-2 : tie.Need-loop-less-2 Inv-loop μ-loop
-loop-less-2 c = let s = walk-on _ _ _ (c .before .before .before .before .before .before .before .loop .inv .walk) (c .before .before .before .before .before .before .loop-test .taken) in let u = s .less in let v = s .fits in omega arith
+loop-less-2 c = let s = walk-on _ _ _ (c .before .before .before .before .before .before .before .loop .inv .walk)
+    (c .before .before .before .before .before .before .loop-test .taken) in let u = s .less in let v = s .fits in omega arith
 
 loop-again-2 : tie.Need-loop-again-2 Inv-loop μ-loop
-loop-again-2 c = let s = walk-on _ _ _ (c .before .before .before .before .before .before .before .loop .inv .walk) (c .before .before .before .before .before .before .loop-test .taken) in let u = s .less in let v = s .fits in let t = sym (ap tellsRegular (s .lent)) ∙ sym (c .before .before .before .tells-regular .ensures) ∙ not-false _ (c .before .before .if1 .left) in filling-put _ _ _ _ _ _ _ _ _ (c .before .before .before .before .before .before .before .loop .inv) _ _ s (c .before .before .before .before .before .size-at2 .ensures) _ t (c .regular-told .ensures ∙ ap regularTold (s .lent))
+loop-again-2 c = let s = walk-on _ _ _ (c .before .before .before .before .before .before .before .loop .inv .walk)
+    (c .before .before .before .before .before .before .loop-test .taken) in let u = s .less in let v = s .fits in
+    let t = sym (ap tellsRegular (s .lent)) ∙ sym (c .before .before .before .tells-regular .ensures) ∙ not-false _ (c .before .before .if1 .left) in
+    filling-put _ _ _ _ _ _ _ _ _ (c .before .before .before .before .before .before .before .loop .inv) _ _ s
+    (c .before .before .before .before .before .size-at2 .ensures) _ t (c .regular-told .ensures ∙ ap regularTold (s .lent))
 
 returns : tie.Need-returns Inv-loop μ-loop
 unfolding venueTold

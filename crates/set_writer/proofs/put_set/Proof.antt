@@ -7,10 +7,25 @@ use Rattle.set_writer.proofs.put_set.Tie as tie
 
 returns : tie.Need-returns
 returns c =
-    let s = c .before .before .before .before .before .before .before .before .before .before .before .before .before .before .before .before .before .before .before .before .before .before .before .before .before .before .before .before .before .before .before .before in
+    let s = c .before .before .before .before .before .before .before .before .before .before .before .before .before .before .before .before .before
+    .before .before .before .before .before .before .before .before .before .before .before .before .before .before .before in
     adds-same _ _ _ _
-    (adds-then _ _ _ _ _ (adds-then _ _ _ _ _ (adds-then _ _ _ _ _ (adds-then _ _ _ _ _ (adds-then _ _ _ _ _ (adds-then _ _ _ _ _ (c .before .before .before .before .before .before .before .before .before .before .before .before .before .before .before .before .before .before .before .before .before .before .before .before .before .before .before .put-first .ensures) (c .before .before .before .before .before .before .before .before .before .before .before .before .before .before .before .before .before .before .before .before .before .before .before .put-series .ensures)) (c .before .before .before .before .before .before .before .before .before .before .before .before .before .before .before .before .before .before .before .put-editions .ensures)) (c .before .before .before .before .before .before .before .before .before .before .before .before .before .before .before .put-orders .ensures)) (c .before .before .before .before .before .before .before .before .before .before .before .put-leggings .ensures)) (c .before .before .before .before .before .before .before .put-all-generations .ensures)) (c .before .before .put-reached .ensures))
-    (parts-joined _ (s .pre .1) _ _ _ (c .before .before .before .before .before .before .before .before .before .before .before .before .before .before .before .before .before .before .before .before .before .before .before .before .before .before .before .before .last-id .ensures) (c .before .before .before .reached-id .ensures))
+    (adds-then _ _ _ _ _ (adds-then _ _ _ _ _
+    (adds-then _ _ _ _ _ (adds-then _ _ _ _ _
+    (adds-then _ _ _ _ _ (adds-then _ _ _ _ _
+    (c .before .before .before .before .before .before .before .before .before .before .before .before .before .before .before .before .before
+    .before .before .before .before .before .before .before .before .before .before .put-first .ensures)
+    (c .before .before .before .before .before .before .before .before .before .before .before .before .before .before .before .before .before
+    .before .before .before .before .before .before .put-series .ensures))
+    (c .before .before .before .before .before .before .before .before .before .before .before .before .before .before .before .before .before
+    .before .before .put-editions .ensures))
+    (c .before .before .before .before .before .before .before .before .before .before .before .before .before .before .before .put-orders
+    .ensures)) (c .before .before .before .before .before .before .before .before .before .before .before .put-leggings .ensures))
+    (c .before .before .before .before .before .before .before .put-all-generations .ensures)) (c .before .before .put-reached .ensures))
+    (parts-joined _ (s .pre .1) _ _ _
+    (c .before .before .before .before .before .before .before .before .before .before .before .before .before .before .before .before .before
+    .before .before .before .before .before .before .before .before .before .before .before .last-id .ensures)
+    (c .before .before .before .reached-id .ensures))
 
 pub put-set-spec : {M : Type 1} → statement M
 put-set-spec =

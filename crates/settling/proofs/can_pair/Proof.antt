@@ -15,16 +15,20 @@ returns-2 c =
     let a = c .before .before .before .before .before .before .before .before .before .before .args in
     let u = c .before .before .before .before .before .net-of in
     let w = c .before .before .before .before .limit-of in
-    pair-size _ (a .c) _ _ _ _ _ (c .before .before .before .before .before .before .before .before .other-clear .ensures) (c .before .before .before .before .before .before .before .if1 .left) (c .before .before .before .before .before .before .other-leg .result) (c .before .before .before .before .before .before .other-leg .ensures) _ _
+    pair-size _ (a .c) _ _ _ _ _ (c .before .before .before .before .before .before .before .before .other-clear .ensures)
+    (c .before .before .before .before .before .before .before .if1 .left) (c .before .before .before .before .before .before .other-leg .result)
+    (c .before .before .before .before .before .before .other-leg .ensures) _ _
     (back {z = u .result} (record { sfits = u .ok }) ∙ u .ensures .0) (back {z = w .result} (record { sfits = w .ok }) ∙ w .ensures .0) (c .before .before .before .if2 .taken) _
-    (size-is (venueOf (a .b .now)) (a .taken) (a .c) _ (c .before .before .before .before .before .before .before .before .before .before .pre .1) (c .before .before .other-level .result) (c .before .before .other-level .ensures))
+    (size-is (venueOf (a .b .now)) (a .taken) (a .c) _ (c .before .before .before .before .before .before .before .before .before .before .pre .1)
+    (c .before .before .other-level .result) (c .before .before .other-level .ensures))
 
 returns-3 : tie.Need-returns-3
 returns-3 c =
     let a = c .before .before .before .before .before .before .before .args in
     let u = c .before .before .net-of in
     let w = c .before .limit-of in
-    pair-dear _ (a .c) _ _ _ _ _ (c .before .before .before .before .before .other-clear .ensures) (c .before .before .before .before .if1 .left) (c .before .before .before .other-leg .result) (c .before .before .before .other-leg .ensures) _ _
+    pair-dear _ (a .c) _ _ _ _ _ (c .before .before .before .before .before .other-clear .ensures) (c .before .before .before .before .if1 .left)
+    (c .before .before .before .other-leg .result) (c .before .before .before .other-leg .ensures) _ _
     (back {z = u .result} (record { sfits = u .ok }) ∙ u .ensures .0) (back {z = w .result} (record { sfits = w .ok }) ∙ w .ensures .0) (c .if2 .left)
 
 pub can-pair-spec : {M : Type 1} → statement M

@@ -18,25 +18,40 @@ loop-holds : tie.Need-loop-holds Inv-loop μ-loop
 loop-holds c = (search needs, stand-all _ _)
 
 loop-again : tie.Need-loop-again Inv-loop μ-loop
-loop-again c = (search needs, stand-own (c .before .before .before .before .args .b .now) (c .before .before .before .before .args .m) (c .before .before .loop .n) (c .before .loop-test .taken) (c .if1 .taken) ∙ c .before .before .loop .inv .1)
+loop-again c = (
+  search needs,
+  stand-own (c .before .before .before .before .args .b .now) (c .before .before .before .before .args .m)
+      (c .before .before .loop .n) (c .before .loop-test .taken) (c .if1 .taken) ∙ c .before .before .loop .inv .1,
+)
 
 loop-again-2 : tie.Need-loop-again-2 Inv-loop μ-loop
 loop-again-2 c = (
   search needs,
-  stand-free (c .before .before .before .before .before .before .before .args .b .now) (c .before .before .before .before .before .before .before .args .m) (c .before .before .before .before .before .loop .n) (c .before .before .before .before .loop-test .taken) (c .before .before .before .if1 .left) (c .before .before .legging-at .result) (c .before .before .legging-at .ensures) (c .if2 .taken)
+  stand-free (c .before .before .before .before .before .before .before .args .b .now)
+      (c .before .before .before .before .before .before .before .args .m) (c .before .before .before .before .before .loop .n)
+      (c .before .before .before .before .loop-test .taken) (c .before .before .before .if1 .left) (c .before .before .legging-at .result)
+      (c .before .before .legging-at .ensures) (c .if2 .taken)
       ∙ c .before .before .before .before .before .loop .inv .1,
 )
 
 loop-again-3 : tie.Need-loop-again-3 Inv-loop μ-loop
 loop-again-3 c = (
   search needs,
-  stand-past (c .before .before .before .before .before .before .before .before .before .before .args .b .now) (c .before .before .before .before .before .before .before .before .before .before .args .m) (c .before .before .before .before .before .before .before .before .loop .n) (c .before .before .before .before .before .before .before .loop-test .taken) (c .before .before .before .before .before .before .if1 .left) (c .before .before .judge .result) (c .before .before .judge .ensures) (c .enum-told .given .1)
+  stand-past (c .before .before .before .before .before .before .before .before .before .before .args .b .now)
+      (c .before .before .before .before .before .before .before .before .before .before .args .m)
+      (c .before .before .before .before .before .before .before .before .loop .n)
+      (c .before .before .before .before .before .before .before .loop-test .taken) (c .before .before .before .before .before .before .if1 .left)
+      (c .before .before .judge .result) (c .before .before .judge .ensures) (c .enum-told .given .1)
       ∙ c .before .before .before .before .before .before .before .before .loop .inv .1,
 )
 
 returns : tie.Need-returns Inv-loop μ-loop
 returns c =
-    stand-fails (c .before .before .before .before .before .before .before .before .before .before .args .b .now) (c .before .before .before .before .before .before .before .before .before .before .args .m) (c .before .before .before .before .before .before .before .before .loop .n) (c .before .before .before .before .before .before .before .loop-test .taken) (c .before .before .before .before .before .before .if1 .left) (c .before .before .judge .result) (c .before .before .judge .ensures) _ (c .enum-told2 .given .1)
+    stand-fails (c .before .before .before .before .before .before .before .before .before .before .args .b .now)
+    (c .before .before .before .before .before .before .before .before .before .before .args .m)
+    (c .before .before .before .before .before .before .before .before .loop .n)
+    (c .before .before .before .before .before .before .before .loop-test .taken) (c .before .before .before .before .before .before .if1 .left)
+    (c .before .before .judge .result) (c .before .before .judge .ensures) _ (c .enum-told2 .given .1)
     ∙ c .before .before .before .before .before .before .before .before .loop .inv .1
 
 returns-2 : tie.Need-returns-2 Inv-loop μ-loop

@@ -14,7 +14,10 @@ use Rattle.settling.proofs.test_order.Tie as tie
 
 returns : tie.Need-returns
 unfolding verdictOf
-returns c = simp (off _ _ (shown-is (venueOf (c .before .before .before .args .b .now)) _ _ _ _ _ (own-is _ (c .before .before .before .args .sides) (c .before .before .before .args .c) _ _ (c .before .before .before .pre .1)) (c .before .shown-well .ensures)) (c .if1 .taken))
+returns c = simp (off _ _
+    (shown-is (venueOf (c .before .before .before .args .b .now)) _ _ _ _ _
+    (own-is _ (c .before .before .before .args .sides) (c .before .before .before .args .c) _ _ (c .before .before .before .pre .1))
+    (c .before .shown-well .ensures)) (c .if1 .taken))
 
 in-band-requires : tie.Need-in-band-requires
 in-band-requires c κs =
@@ -30,7 +33,11 @@ returns-2 c =
     let w = c .before .before .limit-of in
     let q = back {z = w .result} (record { sfits = w .ok }) ∙ w .ensures .0 in
     simp (
-      on _ _ (shown-is (venueOf (c .before .before .before .before .before .before .before .args .b .now)) _ _ _ _ _ (own-is _ (c .before .before .before .before .before .before .before .args .sides) (c .before .before .before .before .before .before .before .args .c) _ _ (c .before .before .before .before .before .before .before .pre .1)) (c .before .before .before .before .before .shown-well .ensures)) (c .before .before .before .before .if1 .left),
+      on _ _ (shown-is (venueOf (c .before .before .before .before .before .before .before .args .b .now)) _ _ _ _ _
+          (own-is _ (c .before .before .before .before .before .before .before .args .sides)
+          (c .before .before .before .before .before .before .before .args .c) _ _
+          (c .before .before .before .before .before .before .before .pre .1)) (c .before .before .before .before .before .shown-well .ensures))
+          (c .before .before .before .before .if1 .left),
       off _ _ (c .before .in-band .ensures ∙ ap (inBand (venueOf (a .b .now)) (a .c)) q) (c .if2 .taken),
     )
 
@@ -41,7 +48,12 @@ returns-3 c =
     let w = c .before .before .before .before .limit-of in
     let q = back {z = w .result} (record { sfits = w .ok }) ∙ w .ensures .0 in
     simp (
-      on _ _ (shown-is (venueOf (c .before .before .before .before .before .before .before .before .before .args .b .now)) _ _ _ _ _ (own-is _ (c .before .before .before .before .before .before .before .before .before .args .sides) (c .before .before .before .before .before .before .before .before .before .args .c) _ _ (c .before .before .before .before .before .before .before .before .before .pre .1)) (c .before .before .before .before .before .before .before .shown-well .ensures)) (c .before .before .before .before .before .before .if1 .left),
+      on _ _ (shown-is (venueOf (c .before .before .before .before .before .before .before .before .before .args .b .now)) _ _ _ _ _
+          (own-is _ (c .before .before .before .before .before .before .before .before .before .args .sides)
+          (c .before .before .before .before .before .before .before .before .before .args .c) _ _
+          (c .before .before .before .before .before .before .before .before .before .pre .1))
+          (c .before .before .before .before .before .before .before .shown-well .ensures))
+          (c .before .before .before .before .before .before .if1 .left),
       on _ _ (c .before .before .before .in-band .ensures ∙ ap (inBand (venueOf (a .b .now)) (a .c)) q) (c .before .before .if2 .left),
       off _ _ (c .before .can-pair .ensures) (c .if3 .taken),
     )
@@ -53,7 +65,12 @@ returns-4 c =
     let w = c .before .before .before .before .before .before .limit-of in
     let q = back {z = w .result} (record { sfits = w .ok }) ∙ w .ensures .0 in
     simp (
-      on _ _ (shown-is (venueOf (c .before .before .before .before .before .before .before .before .before .before .before .args .b .now)) _ _ _ _ _ (own-is _ (c .before .before .before .before .before .before .before .before .before .before .before .args .sides) (c .before .before .before .before .before .before .before .before .before .before .before .args .c) _ _ (c .before .before .before .before .before .before .before .before .before .before .before .pre .1)) (c .before .before .before .before .before .before .before .before .before .shown-well .ensures)) (c .before .before .before .before .before .before .before .before .if1 .left),
+      on _ _ (shown-is (venueOf (c .before .before .before .before .before .before .before .before .before .before .before .args .b .now)) _ _ _ _ _
+          (own-is _ (c .before .before .before .before .before .before .before .before .before .before .before .args .sides)
+          (c .before .before .before .before .before .before .before .before .before .before .before .args .c) _ _
+          (c .before .before .before .before .before .before .before .before .before .before .before .pre .1))
+          (c .before .before .before .before .before .before .before .before .before .shown-well .ensures))
+          (c .before .before .before .before .before .before .before .before .if1 .left),
       on _ _ (c .before .before .before .before .before .in-band .ensures ∙ ap (inBand (venueOf (a .b .now)) (a .c)) q) (c .before .before .before .before .if2 .left),
       on _ _ (c .before .before .before .can-pair .ensures) (c .before .before .if3 .left),
       off _ _ (c .before .both-open .ensures) (c .if4 .taken),
@@ -66,7 +83,12 @@ returns-5 c =
     let w = c .before .before .before .before .before .before .limit-of in
     let q = back {z = w .result} (record { sfits = w .ok }) ∙ w .ensures .0 in
     simp (
-      on _ _ (shown-is (venueOf (c .before .before .before .before .before .before .before .before .before .before .before .args .b .now)) _ _ _ _ _ (own-is _ (c .before .before .before .before .before .before .before .before .before .before .before .args .sides) (c .before .before .before .before .before .before .before .before .before .before .before .args .c) _ _ (c .before .before .before .before .before .before .before .before .before .before .before .pre .1)) (c .before .before .before .before .before .before .before .before .before .shown-well .ensures)) (c .before .before .before .before .before .before .before .before .if1 .left),
+      on _ _ (shown-is (venueOf (c .before .before .before .before .before .before .before .before .before .before .before .args .b .now)) _ _ _ _ _
+          (own-is _ (c .before .before .before .before .before .before .before .before .before .before .before .args .sides)
+          (c .before .before .before .before .before .before .before .before .before .before .before .args .c) _ _
+          (c .before .before .before .before .before .before .before .before .before .before .before .pre .1))
+          (c .before .before .before .before .before .before .before .before .before .shown-well .ensures))
+          (c .before .before .before .before .before .before .before .before .if1 .left),
       on _ _ (c .before .before .before .before .before .in-band .ensures ∙ ap (inBand (venueOf (a .b .now)) (a .c)) q) (c .before .before .before .before .if2 .left),
       on _ _ (c .before .before .before .can-pair .ensures) (c .before .before .if3 .left),
       on _ _ (c .before .both-open .ensures) (c .if4 .left),

@@ -25,7 +25,9 @@ slice-aggregate-print-list : tie.Need-slice-aggregate-print-list
 slice-aggregate-print-list c = sym (length-take-le _ _ (read-within _ _ _ (c .before .before .found .given .1) (c .before .before .before .before .before .read-input .ensures)))
 
 print-list-requires : tie.Need-print-list-requires
-print-list-requires c κs = let e = c .before .before .before .before .before .read-input .kept .1 .0 in taken-few _ _ _ (read-within _ _ _ (c .before .before .found .given .1) (c .before .before .before .before .before .read-input .ensures)) (omega arith)
+print-list-requires c κs = let e = c .before .before .before .before .before .read-input .kept .1 .0 in
+    taken-few _ _ _ (read-within _ _ _ (c .before .before .found .given .1) (c .before .before .before .before .before .read-input .ensures))
+    (omega arith)
 
 pub print-input-spec : {M : Type 1} → statement M
 print-input-spec =

@@ -18,7 +18,13 @@ loop-holds : tie.Need-loop-holds Inv-loop μ-loop
 loop-holds c = rw (c .start .ensures) (going-start _ _ _ refl refl)
 
 advance-requires : tie.Need-advance-requires Inv-loop μ-loop
-advance-requires c κs = (c .before .before .before .before .loop .inv .stands, c .before .before .if1 .taken, c .before .before .before .before .before .before .before .pre, omega (arith, c .before .before .before .before .loop .inv .report-length), omega (arith, c .before .before .before .before .loop .inv .text-length))
+advance-requires c κs = (
+  c .before .before .before .before .loop .inv .stands,
+  c .before .before .if1 .taken,
+  c .before .before .before .before .before .before .before .pre,
+  omega (arith, c .before .before .before .before .loop .inv .report-length),
+  omega (arith, c .before .before .before .before .loop .inv .text-length),
+)
 
 array-share-prefix-text : tie.Need-array-share-prefix-text Inv-loop μ-loop
 array-share-prefix-text c = let h = c .before .before .before .before .advance .ensures .fits in omega arith
@@ -27,10 +33,14 @@ slice-aggregate-write-all : tie.Need-slice-aggregate-write-all Inv-loop μ-loop
 slice-aggregate-write-all c = sym (length-take-le _ _ (c .before .before .before .before .before .advance .ensures .fits))
 
 loop-less : tie.Need-loop-less Inv-loop μ-loop
-loop-less c = let h = c .before .before .before .before .before .before .before .advance .ensures .further in let k = c .before .before .before .before .before .before .before .advance .ensures .stands .inside in omega arith
+loop-less c = let h = c .before .before .before .before .before .before .before .advance .ensures .further in
+    let k = c .before .before .before .before .before .before .before .advance .ensures .stands .inside in omega arith
 
 loop-again : tie.Need-loop-again Inv-loop μ-loop
-loop-again c = going-on _ _ _ _ (c .before .before .before .before .before .before .before .before .before .before .before .before .loop .inv) _ _ _ (c .before .before .before .before .before .before .before .advance .ensures) (c .before .before .before .before .before .before .before .advance .kept .1 .1 .0) (c .before .before .before .before .before .before .before .advance .kept .1 .1 .1 .0)
+loop-again c = going-on _ _ _ _ (c .before .before .before .before .before .before .before .before .before .before .before .before .loop .inv) _ _ _
+    (c .before .before .before .before .before .before .before .advance .ensures)
+    (c .before .before .before .before .before .before .before .advance .kept .1 .1 .0)
+    (c .before .before .before .before .before .before .before .advance .kept .1 .1 .1 .0)
 
 pub print-list-spec : {M : Type 1} → statement M
 print-list-spec =

@@ -13,10 +13,16 @@ returns-2 : tie.Need-returns-2
 returns-2 c = holds-none _ _ (sym (c .before .before .session-in .ensures) ∙ ap found (c .enum-told .given .1))
 
 returns-3 : tie.Need-returns-3
-returns-3 c = none-after _ _ _ (sym (c .before .before .before .before .before .before .session-in .ensures) ∙ ap found (c .before .before .before .before .here .given .1)) (sym (c .before .before .next .ensures) ∙ ap found (c .enum-told2 .given .1))
+returns-3 c = none-after _ _ _
+    (sym (c .before .before .before .before .before .before .session-in .ensures) ∙ ap found (c .before .before .before .before .here .given .1))
+    (sym (c .before .before .next .ensures) ∙ ap found (c .enum-told2 .given .1))
 
 returns-4 : tie.Need-returns-4
-returns-4 c = ap (moved _) (c .before .before .put-session .ensures) ∙ moved-on _ _ _ _ (sym (c .before .before .before .before .before .before .before .before .before .before .before .session-in .ensures) ∙ ap found (c .before .before .before .before .before .before .before .before .before .here .given .1)) (sym (c .before .before .before .before .before .before .before .next .ensures) ∙ ap found (c .before .before .before .before .before .after .given .1))
+returns-4 c = ap (moved _) (c .before .before .put-session .ensures) ∙ moved-on _ _ _ _
+    (sym (c .before .before .before .before .before .before .before .before .before .before .before .session-in .ensures) ∙ ap found
+    (c .before .before .before .before .before .before .before .before .before .here .given .1))
+    (sym (c .before .before .before .before .before .before .before .next .ensures) ∙ ap found
+    (c .before .before .before .before .before .after .given .1))
 
 pub advance-spec : {M : Type 1} → statement M
 advance-spec =

@@ -28,10 +28,22 @@ slice-aggregate-write-all : tie.Need-slice-aggregate-write-all Inv-loop μ-loop
 slice-aggregate-write-all c = sym (length-take-le _ _ (c .before .before .before .put-session .ensures .fits))
 
 loop-less : tie.Need-loop-less Inv-loop μ-loop
-loop-less c = let h = one-less 12 _ _ (sym (goes-to _ _ _ _ (c .before .before .before .before .before .before .before .before .before .before .before .before .before .before .loop .inv) (short-enough (c .before .before .before .before .before .before .before .before .before .before .before .before .before .before .loop .s)) _ _ _ (c .before .before .before .before .advance .ensures) (ap found (c .before .after .given .1)) .to-next)) in omega arith
+loop-less c = let h = one-less 12 _ _
+    (sym (goes-to _ _ _ _
+    (c .before .before .before .before .before .before .before .before .before .before .before .before .before .before .loop .inv)
+    (short-enough (c .before .before .before .before .before .before .before .before .before .before .before .before .before .before .loop .s)) _ _ _
+    (c .before .before .before .before .advance .ensures) (ap found (c .before .after .given .1)) .to-next)) in omega arith
 
 loop-again : tie.Need-loop-again Inv-loop μ-loop
-loop-again c = going-on _ _ _ _ _ _ _ _ _ (c .before .before .before .before .before .before .before .before .before .before .before .before .before .before .loop .inv) (c .before .before .before .before .before .before .before .before .before .before .before .put-session .ensures) (goes-to _ _ _ _ (c .before .before .before .before .before .before .before .before .before .before .before .before .before .before .loop .inv) (short-enough (c .before .before .before .before .before .before .before .before .before .before .before .before .before .before .loop .s)) _ _ _ (c .before .before .before .before .advance .ensures) (ap found (c .before .after .given .1))) (c .before .before .before .before .before .before .before .before .before .before .before .put-session .kept .1 .0) (c .before .before .before .before .before .before .before .before .before .before .before .put-session .kept .1 .1 .0) (c .before .before .before .before .advance .kept .1 .0)
+loop-again c = going-on _ _ _ _ _ _ _ _ _
+    (c .before .before .before .before .before .before .before .before .before .before .before .before .before .before .loop .inv)
+    (c .before .before .before .before .before .before .before .before .before .before .before .put-session .ensures)
+    (goes-to _ _ _ _ (c .before .before .before .before .before .before .before .before .before .before .before .before .before .before .loop .inv)
+    (short-enough (c .before .before .before .before .before .before .before .before .before .before .before .before .before .before .loop .s)) _ _ _
+    (c .before .before .before .before .advance .ensures) (ap found (c .before .after .given .1)))
+    (c .before .before .before .before .before .before .before .before .before .before .before .put-session .kept .1 .0)
+    (c .before .before .before .before .before .before .before .before .before .before .before .put-session .kept .1 .1 .0)
+    (c .before .before .before .before .advance .kept .1 .0)
 
 pub main-spec : {M : Type 1} → statement M
 main-spec =

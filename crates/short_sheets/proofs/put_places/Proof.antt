@@ -16,11 +16,21 @@ returns-2 c = rw (ap placesOf (c .before .before .before .before .before .before
 
 returns-3 : tie.Need-returns-3
 unfolding placesLine _types_
-returns-3 c = rw (ap placesOf (c .before .before .before .before .before .before .before .before .s2 .given .1), ← c .before .before .before .before .printed3 .ensures, ← c .before .before .before .before .before .before .printed2 .ensures) (c .before .before .put-fields2 .ensures)
+returns-3 c = rw (
+  ap placesOf (c .before .before .before .before .before .before .before .before .s2 .given .1),
+  ← c .before .before .before .before .printed3 .ensures,
+  ← c .before .before .before .before .before .before .printed2 .ensures,
+)
+    (c .before .before .put-fields2 .ensures)
 
 returns-4 : tie.Need-returns-4
 unfolding placesLine _types_
-returns-4 c = rw (ap placesOf (c .before .before .before .before .before .before .before .before .before .s3 .given .1), ← c .before .before .before .before .printed6 .ensures, ← c .before .before .before .before .before .before .printed5 .ensures, ← c .before .before .before .before .before .before .before .printed4 .ensures) (c .before .before .put-fields3 .ensures)
+returns-4 c = rw (
+  ap placesOf (c .before .before .before .before .before .before .before .before .before .s3 .given .1),
+  ← c .before .before .before .before .printed6 .ensures,
+  ← c .before .before .before .before .before .before .printed5 .ensures,
+  ← c .before .before .before .before .before .before .before .printed4 .ensures,
+) (c .before .before .put-fields3 .ensures)
 
 pub put-places-spec : {M : Type 1} → statement M
 put-places-spec =

@@ -9,7 +9,11 @@ use Rattle.short_sheets.proofs.put_session.Statement.{statement}
 use Rattle.short_sheets.proofs.put_session.Tie as tie
 
 returns : tie.Need-returns
-returns c = let s = c .before .before .before .before .before .before .before .before .before .before .before .before .before .before .before in text-stands _ (short-enough (s .args .s)) (s .pre .0) _ _ _ _ _ _ (s .pre .2) (c .before .before .before .before .before .before .before .before .before .before .before .run-session .ensures ∙ ap (λ (n : ℕ). run n (messagesOf (placesOf (s .args .s))) .report) (s .pre .1)) (c .before .before .before .before .before .before .before .put-places .ensures) (c .before .before .put-sheet .ensures)
+returns c = let s = c .before .before .before .before .before .before .before .before .before .before .before .before .before .before .before in
+    text-stands _ (short-enough (s .args .s)) (s .pre .0) _ _ _ _ _ _ (s .pre .2)
+    (c .before .before .before .before .before .before .before .before .before .before .before .run-session .ensures
+    ∙ ap (λ (n : ℕ). run n (messagesOf (placesOf (s .args .s))) .report) (s .pre .1))
+    (c .before .before .before .before .before .before .before .put-places .ensures) (c .before .before .put-sheet .ensures)
 
 pub put-session-spec : {M : Type 1} → statement M
 put-session-spec =

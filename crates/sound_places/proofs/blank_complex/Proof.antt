@@ -67,7 +67,9 @@ returns-11 c =
     let b = toZ-ofZ w32 (x .limit) (record { sfits = l .struct-told .given .1 .1 .1 .1 .1 .1 .0 .1 }) in
     let g : ltZ (x .limit) (pos 0) ≡ false = rw b at (f .before .if7 .left) in
     let h : ltZ (pos 0) (x .limit) ≡ false = rw b at (f .if8 .left) in
-    complex-zero x (k .before .before .before .before .before .before .before .before .before .before .if1 .left) (k .before .before .before .before .before .before .before .before .if2 .left) (k .before .before .before .before .before .before .if3 .left) (k .before .before .before .before .if4 .left) (k .before .before .if5 .left) (k .if6 .left) (none-beside (x .limit) g h)
+    complex-zero x (k .before .before .before .before .before .before .before .before .before .before .if1 .left)
+    (k .before .before .before .before .before .before .before .before .if2 .left) (k .before .before .before .before .before .before .if3 .left)
+    (k .before .before .before .before .if4 .left) (k .before .before .if5 .left) (k .if6 .left) (none-beside (x .limit) g h)
     (c .before .before .before .if9 .left) (c .before .if10 .left)
 
 pub blank-complex-spec : {M : Type 1} → statement M

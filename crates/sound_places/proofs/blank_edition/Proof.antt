@@ -19,7 +19,8 @@ unfolding blankEdition
 returns-3 c = simp (ne-eqb _ _ (c .if3 .taken), and-false)
 
 returns-4 : tie.Need-returns-4
-returns-4 c = edition-zero (c .before .before .before .before .before .before .before .args .e) (c .before .before .before .before .before .if1 .left) (c .before .before .before .if2 .left) (c .before .if3 .left)
+returns-4 c = edition-zero (c .before .before .before .before .before .before .before .args .e) (c .before .before .before .before .before .if1 .left)
+    (c .before .before .before .if2 .left) (c .before .if3 .left)
 
 pub blank-edition-spec : {M : Type 1} → statement M
 blank-edition-spec = tie.close (tie.spec returns returns-2 returns-3 returns-4)

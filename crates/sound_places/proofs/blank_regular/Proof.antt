@@ -31,7 +31,11 @@ unfolding blankRegular
 returns-6 c = simp (ne-eqb _ _ (c .if6 .taken), and-false)
 
 returns-7 : tie.Need-returns-7
-returns-7 c = regular-zero (c .before .before .before .before .before .before .before .before .before .before .before .before .before .args .o) (c .before .before .before .before .before .before .before .before .before .before .before .if1 .left) (c .before .before .before .before .before .before .before .before .before .if2 .left) (c .before .before .before .before .before .before .before .if3 .left) (c .before .before .before .before .before .if4 .left) (c .before .before .before .if5 .left) (c .before .if6 .left)
+returns-7 c = regular-zero (c .before .before .before .before .before .before .before .before .before .before .before .before .before .args .o)
+    (c .before .before .before .before .before .before .before .before .before .before .before .if1 .left)
+    (c .before .before .before .before .before .before .before .before .before .if2 .left)
+    (c .before .before .before .before .before .before .before .if3 .left) (c .before .before .before .before .before .if4 .left)
+    (c .before .before .before .if5 .left) (c .before .if6 .left)
 
 pub blank-regular-spec : {M : Type 1} → statement M
 blank-regular-spec = tie.close (tie.spec returns returns-2 returns-3 returns-4 returns-5 returns-6 returns-7)

@@ -23,27 +23,45 @@ loop-holds c = refl
 returns : tie.Need-returns Inv-loop μ-loop
 returns c = let n : length (c .before .before .before .before .before .before .args .t1) ≡ 32 = search needs in
     c .editions-blank .ensures
-    ∙ editions-free (c .before .before .before .before .before .before .args .t1) (c .before .before .before .before .before .loop .low) (c .before .before .before .before .before .loop .past) (c .before .before .before .before .before .loop .i) (omega arith) (ap not (eq-eqb _ _ (c .before .if1 .taken)))
+    ∙ editions-free (c .before .before .before .before .before .before .args .t1) (c .before .before .before .before .before .loop .low)
+    (c .before .before .before .before .before .loop .past) (c .before .before .before .before .before .loop .i) (omega arith)
+    (ap not (eq-eqb _ _ (c .before .if1 .taken)))
     ∙ c .before .before .before .before .before .loop .inv
 
 returns-2 : tie.Need-returns-2 Inv-loop μ-loop
 returns-2 c = let n : length (c .before .before .before .before .before .before .before .args .t1) ≡ 32 = search needs in
-    editions-low (c .before .before .before .before .before .before .before .args .t1) (c .before .before .before .before .before .before .loop .low) (c .before .before .before .before .before .before .loop .past) (c .before .before .before .before .before .before .loop .i) (omega arith) (ap not (ne-eqb _ _ (c .before .before .if1 .left))) (c .if2 .taken)
+    editions-low (c .before .before .before .before .before .before .before .args .t1) (c .before .before .before .before .before .before .loop .low)
+    (c .before .before .before .before .before .before .loop .past) (c .before .before .before .before .before .before .loop .i) (omega arith)
+    (ap not (ne-eqb _ _ (c .before .before .if1 .left))) (c .if2 .taken)
     ∙ c .before .before .before .before .before .before .loop .inv
 
 returns-3 : tie.Need-returns-3 Inv-loop μ-loop
 returns-3 c = let n : length (c .before .before .before .before .before .before .before .before .before .args .t1) ≡ 32 = search needs in
-    editions-late (c .before .before .before .before .before .before .before .before .before .args .t1) (c .before .before .before .before .before .before .before .before .loop .low) (c .before .before .before .before .before .before .before .before .loop .past) (c .before .before .before .before .before .before .before .before .loop .i) (omega arith) (ap not (ne-eqb _ _ (c .before .before .before .before .if1 .left))) (omega arith)
+    editions-late (c .before .before .before .before .before .before .before .before .before .args .t1)
+    (c .before .before .before .before .before .before .before .before .loop .low)
+    (c .before .before .before .before .before .before .before .before .loop .past)
+    (c .before .before .before .before .before .before .before .before .loop .i) (omega arith)
+    (ap not (ne-eqb _ _ (c .before .before .before .before .if1 .left))) (omega arith)
     ∙ c .before .before .before .before .before .before .before .before .loop .inv
 
 returns-4 : tie.Need-returns-4 Inv-loop μ-loop
 returns-4 c = let n : length (c .before .before .before .before .before .before .before .before .before .before .before .args .t1) ≡ 32 = search needs in
-    editions-out (c .before .before .before .before .before .before .before .before .before .before .before .args .t1) (c .before .before .before .before .before .before .before .before .before .before .loop .low) (c .before .before .before .before .before .before .before .before .before .before .loop .past) (c .before .before .before .before .before .before .before .before .before .before .loop .i) (omega arith) (ap not (ne-eqb _ _ (c .before .before .before .before .before .before .if1 .left))) (sym (c .before .edition-in-range .ensures) ∙ not-true _ (c .if4 .taken))
+    editions-out (c .before .before .before .before .before .before .before .before .before .before .before .args .t1)
+    (c .before .before .before .before .before .before .before .before .before .before .loop .low)
+    (c .before .before .before .before .before .before .before .before .before .before .loop .past)
+    (c .before .before .before .before .before .before .before .before .before .before .loop .i) (omega arith)
+    (ap not (ne-eqb _ _ (c .before .before .before .before .before .before .if1 .left)))
+    (sym (c .before .edition-in-range .ensures) ∙ not-true _ (c .if4 .taken))
     ∙ c .before .before .before .before .before .before .before .before .before .before .loop .inv
 
 loop-again : tie.Need-loop-again Inv-loop μ-loop
 loop-again c = let n : length (c .before .before .before .before .before .before .before .before .before .before .before .args .t1) ≡ 32 = search needs in
-    editions-past (c .before .before .before .before .before .before .before .before .before .before .before .args .t1) (c .before .before .before .before .before .before .before .before .before .before .loop .low) (c .before .before .before .before .before .before .before .before .before .before .loop .past) (c .before .before .before .before .before .before .before .before .before .before .loop .i) (omega arith) (ap not (ne-eqb _ _ (c .before .before .before .before .before .before .if1 .left))) (c .before .before .before .before .if2 .left) (c .before .before .if3 .left)
+    editions-past (c .before .before .before .before .before .before .before .before .before .before .before .args .t1)
+    (c .before .before .before .before .before .before .before .before .before .before .loop .low)
+    (c .before .before .before .before .before .before .before .before .before .before .loop .past)
+    (c .before .before .before .before .before .before .before .before .before .before .loop .i) (omega arith)
+    (ap not (ne-eqb _ _ (c .before .before .before .before .before .before .if1 .left))) (c .before .before .before .before .if2 .left)
+    (c .before .before .if3 .left)
     (sym (c .before .edition-in-range .ensures) ∙ not-false _ (c .if4 .left))
     ∙ c .before .before .before .before .before .before .before .before .before .before .loop .inv
 

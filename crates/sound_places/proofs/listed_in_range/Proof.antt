@@ -17,7 +17,9 @@ returns-2 c = let x = c .before .before .before .before .args .x in simp (above 
 
 returns-3 : tie.Need-returns-3
 unfolding listedInRange isStatus isAway
-returns-3 c = let x = c .before .before .before .before .before .args .x in rw (inside 0 2 (x .status) (omega arith) (c .before .before .before .if1 .left), inside 0 100000 (x .bid) (omega arith) (c .before .if2 .left)) (within-top 0 100000 (x .offer) (omega arith))
+returns-3 c = let x = c .before .before .before .before .before .args .x in
+    rw (inside 0 2 (x .status) (omega arith) (c .before .before .before .if1 .left), inside 0 100000 (x .bid) (omega arith) (c .before .if2 .left))
+    (within-top 0 100000 (x .offer) (omega arith))
 
 pub listed-in-range-spec : {M : Type 1} → statement M
 listed-in-range-spec = tie.close (tie.spec returns returns-2 returns-3)

@@ -21,12 +21,14 @@ loop-holds c = refl
 
 returns : tie.Need-returns Inv-loop μ-loop
 returns c = let n : length (c .before .before .before .before .args .t1) ≡ 20 = search needs in
-    numbers-fall (c .before .before .before .before .args .t1) (c .before .before .before .loop .low) (c .before .before .before .loop .i) (omega arith) (sym (c .before .is-unfallen .ensures) ∙ not-true _ (c .if1 .taken))
+    numbers-fall (c .before .before .before .before .args .t1) (c .before .before .before .loop .low) (c .before .before .before .loop .i)
+    (omega arith) (sym (c .before .is-unfallen .ensures) ∙ not-true _ (c .if1 .taken))
     ∙ c .before .before .before .loop .inv
 
 loop-again : tie.Need-loop-again Inv-loop μ-loop
 loop-again c = let n : length (c .before .before .before .before .args .t1) ≡ 20 = search needs in
-    numbers-past (c .before .before .before .before .args .t1) (c .before .before .before .loop .low) (c .before .before .before .loop .i) (omega arith) (sym (c .before .is-unfallen .ensures) ∙ not-false _ (c .if1 .left))
+    numbers-past (c .before .before .before .before .args .t1) (c .before .before .before .loop .low) (c .before .before .before .loop .i)
+    (omega arith) (sym (c .before .is-unfallen .ensures) ∙ not-false _ (c .if1 .left))
     ∙ c .before .before .before .loop .inv
 
 returns-2 : tie.Need-returns-2 Inv-loop μ-loop

@@ -25,7 +25,8 @@ unfolding leggingInRange isQuantity
 returns-4 c = let l = c .before .before .before .before .before .before .before .before .args .l in simp (below 1 10000 (l .quantity) (omega arith), and-false)
 
 returns-5 : tie.Need-returns-5
-returns-5 c = legging-quantity (c .before .before .before .before .before .before .before .before .before .args .l) (omega arith) (omega arith) (omega arith) (c .before .before .before .if3 .left) (omega arith)
+returns-5 c = legging-quantity (c .before .before .before .before .before .before .before .before .before .args .l) (omega arith) (omega arith)
+    (omega arith) (c .before .before .before .if3 .left) (omega arith)
 
 pub legging-in-range-spec : {M : Type 1} → statement M
 legging-in-range-spec = tie.close (tie.spec returns returns-2 returns-3 returns-4 returns-5)

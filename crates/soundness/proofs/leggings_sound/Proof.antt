@@ -19,10 +19,17 @@ loop-holds : tie.Need-loop-holds Inv-loop μ-loop
 loop-holds c = (search needs, leggings-scan (c .before .args .b .now))
 
 returns : tie.Need-returns Inv-loop μ-loop
-returns c = leggings-stop (c .before .before .before .before .before .args .b .now) (venueOf (c .before .before .before .before .before .args .b .now)) (c .before .before .before .loop .n) (c .before .before .loop-test .taken) (sym (c .before .legging-sound .ensures) ∙ not-true _ (c .if1 .taken)) ∙ c .before .before .before .loop .inv .1
+returns c = let start = c .before .before .before .before .before in leggings-stop (start .args .b .now) (venueOf (start .args .b .now))
+    (c .before .before .before .loop .n) (c .before .before .loop-test .taken) (sym (c .before .legging-sound .ensures) ∙ not-true _ (c .if1 .taken))
+    ∙ c .before .before .before .loop .inv .1
 
 loop-again : tie.Need-loop-again Inv-loop μ-loop
-loop-again c = (search needs, leggings-past (c .before .before .before .before .before .args .b .now) (venueOf (c .before .before .before .before .before .args .b .now)) (c .before .before .before .loop .n) (c .before .before .loop-test .taken) (sym (c .before .legging-sound .ensures) ∙ not-false _ (c .if1 .left)) ∙ c .before .before .before .loop .inv .1)
+loop-again c = (
+  search needs,
+  leggings-past (c .before .before .before .before .before .args .b .now)
+      (venueOf (c .before .before .before .before .before .args .b .now)) (c .before .before .before .loop .n) (c .before .before .loop-test .taken)
+      (sym (c .before .legging-sound .ensures) ∙ not-false _ (c .if1 .left)) ∙ c .before .before .before .loop .inv .1,
+)
 
 returns-2 : tie.Need-returns-2 Inv-loop μ-loop
 returns-2 c = leggings-none (c .before .before .before .args .b .now) (venueOf (c .before .before .before .args .b .now)) (c .before .loop .n) (c .loop-test .left) ∙ c .before .loop .inv .1

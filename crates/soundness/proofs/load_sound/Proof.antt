@@ -10,7 +10,7 @@ returns : tie.Need-returns
 returns c = checked-not _ _ (sym (c .before .places-sound .ensures) ∙ not-true _ (c .if1 .taken))
 
 load-requires : tie.Need-load-requires
-load-requires c κs = (c .before .before .before .before .pre, places-load (c .before .before .before .before .args .v) (sym (c .before .before .places-sound .ensures) ∙ not-false _ (c .before .if1 .left)))
+load-requires c κs = let start = c .before .before .before .before in (start .pre, places-load (start .args .v) (sym (c .before .before .places-sound .ensures) ∙ not-false _ (c .before .if1 .left)))
 
 orders-sound-requires : tie.Need-orders-sound-requires
 orders-sound-requires c κs =
@@ -19,7 +19,9 @@ orders-sound-requires c κs =
     (p3 .load .kept .0 ∙ s .pre, p3 .load .ensures .dense .right)
 
 returns-2 : tie.Need-returns-2
-returns-2 c = checked _ _ _ (sym (c .before .before .before .before .before .before .before .places-sound .ensures) ∙ not-false _ (c .before .before .before .before .before .before .if1 .left)) (c .before .before .before .before .load .ensures) (c .orders-sound .ensures)
+returns-2 c = checked _ _ _
+    (sym (c .before .before .before .before .before .before .before .places-sound .ensures) ∙ not-false _
+    (c .before .before .before .before .before .before .if1 .left)) (c .before .before .before .before .load .ensures) (c .orders-sound .ensures)
 
 pub load-sound-spec : {M : Type 1} → statement M
 load-sound-spec =

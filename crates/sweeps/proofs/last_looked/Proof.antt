@@ -32,7 +32,8 @@ returns-2 c =
     last-above _ r _ (x .result) (x .ensures) (omega (arith, t, s .pre .1)) (r .above - 1) (omega (arith, t)) (omega (arith, t)) (omega (arith, c .before .before .before .before .if1 .left))
 
 returns-3 : tie.Need-returns-3
-returns-3 c = c .reached-id .ensures ∙ last-none _ (c .before .before .before .before .before .before .args .r) (omega (arith, c .before .if2 .left)) (omega (arith, c .before .before .before .if1 .left))
+returns-3 c = c .reached-id .ensures ∙ last-none _ (c .before .before .before .before .before .before .args .r) (omega (arith, c .before .if2 .left))
+    (omega (arith, c .before .before .before .if1 .left))
 
 pub last-looked-spec : {M : Type 1} → statement M
 last-looked-spec =

@@ -26,16 +26,20 @@ settle-all-requires : tie.Need-settle-all-requires
 settle-all-requires c κs =
     let w = c .before .before .before .before .before .before .work-round in
     let p = c .before .before .before .before .before .before .before .before .before .before .before .before .before .before .before .put-reached in
-    let s = c .before .before .before .before .before .before .before .before .before .before .before .before .before .before .before .before .before .before .before .before .before .before .before .before in
+    let s = c .before .before .before .before .before .before .before .before .before .before .before .before .before .before .before .before .before
+    .before .before .before .before .before .before .before in
     (w .kept .0 ∙ p .kept .0 ∙ s .pre .0, w .ensures .1 .right (p .ensures .1 .right (s .pre .1 .right)))
 
 generate-round-requires : tie.Need-generate-round-requires
 generate-round-requires c κs =
     let x = c .before .before .before .before .before .before .settle-all in
     let w = c .before .before .before .before .before .before .before .before .before .before .before .before .before .work-round in
-    let p = c .before .before .before .before .before .before .before .before .before .before .before .before .before .before .before .before .before .before .before .before .before .before .put-reached in
-    let r = c .before .before .before .before .before .before .before .before .before .before .before .before .before .before .before .before .before .before .before .before .before .before .before .before .before .before .before .round-of .ensures .1 in
-    let s = c .before .before .before .before .before .before .before .before .before .before .before .before .before .before .before .before .before .before .before .before .before .before .before .before .before .before .before .before .before .before .before in
+    let p = c .before .before .before .before .before .before .before .before .before .before .before .before .before .before .before .before .before
+    .before .before .before .before .before .put-reached in
+    let r = c .before .before .before .before .before .before .before .before .before .before .before .before .before .before .before .before .before
+    .before .before .before .before .before .before .before .before .before .before .round-of .ensures .1 in
+    let s = c .before .before .before .before .before .before .before .before .before .before .before .before .before .before .before .before .before
+    .before .before .before .before .before .before .before .before .before .before .before .before .before .before in
     let n = x .ensures .1 .complexes ∙ w .ensures .1 .complexes ∙ p .ensures .1 .complexes in
     (x .kept .0 ∙ w .kept .0 ∙ p .kept .0 ∙ s .pre .0, x .ensures .1 .right (w .ensures .1 .right (p .ensures .1 .right (s .pre .1 .right))), omega (arith, r .0, n), omega (arith, r .1, n))
 
@@ -44,10 +48,16 @@ returns c =
     let g = c .before .before .before .before .generate-round .ensures in
     let x = c .before .before .before .before .before .before .before .before .before .before .before .settle-all .ensures in
     let w = c .before .before .before .before .before .before .before .before .before .before .before .before .before .before .before .before .before .before .work-round .ensures in
-    let p = c .before .before .before .before .before .before .before .before .before .before .before .before .before .before .before .before .before .before .before .before .before .before .before .before .before .before .before .put-reached .ensures in
-    let r = c .before .before .before .before .before .before .before .before .before .before .before .before .before .before .before .before .before .before .before .before .before .before .before .before .before .before .before .before .before .before .before .before .round-of in
+    let p = c .before .before .before .before .before .before .before .before .before .before .before .before .before .before .before .before .before
+    .before .before .before .before .before .before .before .before .before .before .put-reached .ensures in
+    let r = c .before .before .before .before .before .before .before .before .before .before .before .before .before .before .before .before .before
+    .before .before .before .before .before .before .before .before .before .before .before .before .before .before .before .round-of in
     let n = round-examined _ _ (r .result) (r .ensures .0) in (
-      limited-law _ _ _ _ (roundPlaces (r .result)) _ _ _ _ _ _ _ _ _ _ _ _ _ _ _ (r .ensures .0) n (c .before .before .before .before .before .before .before .before .before .before .before .before .before .before .before .before .before .before .before .before .before .before .before .before .before .before .before .before .before .last-looked .ensures) (p .0) (c .before .before .before .before .before .before .before .before .before .before .before .before .before .before .before .before .before .before .before .before .before .before .before .emit-looked .ensures) (w .0) (x .0) (g .0),
+      limited-law _ _ _ _ (roundPlaces (r .result)) _ _ _ _ _ _ _ _ _ _ _ _ _ _ _ (r .ensures .0) n
+          (c .before .before .before .before .before .before .before .before .before .before .before .before .before .before .before .before .before
+          .before .before .before .before .before .before .before .before .before .before .before .before .last-looked .ensures) (p .0)
+          (c .before .before .before .before .before .before .before .before .before .before .before .before .before .before .before .before .before
+          .before .before .before .before .before .before .emit-looked .ensures) (w .0) (x .0) (g .0),
       (counts-on _ _ _ (counts-on _ _ _ (counts-on _ _ _ (p .1) (w .1)) (x .1)) (g .1), n),
     )
 

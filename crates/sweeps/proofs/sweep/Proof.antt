@@ -11,7 +11,9 @@ work-each-requires : tie.Need-work-each-requires
 work-each-requires c κs = c .before .before .before .before .pre
 
 settle-all-requires : tie.Need-settle-all-requires
-settle-all-requires c κs = let w = c .before .before .before .before .before .before .work-each in let s = c .before .before .before .before .before .before .before .before .before .before .before in (w .kept .0 ∙ s .pre .0, w .ensures .1 .right (s .pre .1))
+settle-all-requires c κs = let w = c .before .before .before .before .before .before .work-each in
+    let s = c .before .before .before .before .before .before .before .before .before .before .before in
+    (w .kept .0 ∙ s .pre .0, w .ensures .1 .right (s .pre .1))
 
 generate-each-requires : tie.Need-generate-each-requires
 generate-each-requires c κs =

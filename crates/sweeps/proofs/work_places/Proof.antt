@@ -31,7 +31,8 @@ work-requires c κs =
     (l .whole, l .counts .right (s .pre .1), omega (arith, c .before .before .loop-test .taken, s .pre .2, l .counts .complexes))
 
 add-k : tie.Need-add-k Inv-loop μ-loop
-add-k c = let s = c .before .before .before .before .before .before .before .before .before .before .before in omega (arith, c .before .before .before .before .before .before .before .loop-test .taken, s .pre .2, complexes-few (s .args .b .now))
+add-k c = let s = c .before .before .before .before .before .before .before .before .before .before .before in
+    omega (arith, c .before .before .before .before .before .before .before .loop-test .taken, s .pre .2, complexes-few (s .args .b .now))
 
 loop-less : tie.Need-loop-less Inv-loop μ-loop
 loop-less c = omega (arith, c .before .before .before .before .before .before .before .loop-test .taken)
@@ -39,7 +40,9 @@ loop-less c = omega (arith, c .before .before .before .before .before .before .b
 loop-again : tie.Need-loop-again Inv-loop μ-loop
 loop-again c =
     let w = c .before .before .before .before .work in
-    doing-turn (c .before .before .before .before .before .before .before .before .loop .inv) _ _ _ _ _ (eachOf-turn work _ _ _ _ _ (omega (arith, c .before .before .before .before .before .before .before .loop-test .taken)) (omega arith)) (w .kept .0) (w .ensures .0) (w .ensures .1)
+    doing-turn (c .before .before .before .before .before .before .before .before .loop .inv) _ _ _ _ _
+    (eachOf-turn work _ _ _ _ _ (omega (arith, c .before .before .before .before .before .before .before .loop-test .taken)) (omega arith))
+    (w .kept .0) (w .ensures .0) (w .ensures .1)
 
 same-length : tie.Need-same-length Inv-loop μ-loop
 same-length c = c .before .loop .inv .whole ∙ sym (c .before .before .before .before .pre .0)

@@ -114,7 +114,8 @@ put-number-returns-2 : (t : ℕ) → put-number-lts.Need-returns-2 (
 ) (put-number-at t) put-number.Post
 put-number-returns-2 t c =
     let n = c .before .before .before .before .before .before .before .before .before .before .before .args .n in
-    typed-as _ _ _ _ ((typed _ _ _ (c .before .before .before .before .before .before .before .put-number .ensures) then typed _ _ _ (c .before .before .put-byte2 .ensures)) .is) (rw (c .before .before .before .digit2 .ensures) (sym (decimal-more n (omega arith))))
+    typed-as _ _ _ _ ((typed _ _ _ (c .before .before .before .before .before .before .before .put-number .ensures) then typed _ _ _
+    (c .before .before .put-byte2 .ensures)) .is) (rw (c .before .before .before .digit2 .ensures) (sym (decimal-more n (omega arith))))
 
 pub +put-number-spec : {M : Type 1} → statement M
 +put-number-spec = close μ-put-number λ t. put-number-lts.spec (

@@ -6,9 +6,18 @@ use Rattle.text.proofs.put_crossed.Tie as tie
 
 returns : tie.Need-returns
 unfolding lineOf
-returns c = rw (c .before .before .before .before .before .before .before .before .before .before .before .before .before .before .before .before .before .before .before .before .before .before .u32-at .ensures, c .before .before .before .before .before .before .before .before .before .before .before .before .before .before .before .before .before .u32-at2 .ensures, c .before .before .before .before .before .before .before .before .before .before .before .before .u32-at3 .ensures, c .before .before .before .before .before .before .before .u32-at4 .ensures) at
-    ((typed _ _ _ (c .before .before .before .before .before .before .before .before .before .before .before .before .before .before .before .before .before .before .before .before .before .before .before .before .before .before .put-number .ensures)
-    then typed _ _ _ (c .before .before .before .before .before .before .before .before .before .before .before .before .before .before .before .before .before .before .before .before .before .put-word .ensures)
+returns c = rw (
+  c .before .before .before .before .before .before .before .before .before .before .before .before .before .before .before .before
+      .before .before .before .before .before .before .u32-at .ensures,
+  c .before .before .before .before .before .before .before .before .before .before .before .before .before .before .before .before .before .u32-at2
+      .ensures,
+  c .before .before .before .before .before .before .before .before .before .before .before .before .u32-at3 .ensures,
+  c .before .before .before .before .before .before .before .u32-at4 .ensures,
+) at
+    ((typed _ _ _ (c .before .before .before .before .before .before .before .before .before .before .before .before .before .before .before .before
+    .before .before .before .before .before .before .before .before .before .before .put-number .ensures)
+    then typed _ _ _ (c .before .before .before .before .before .before .before .before .before .before .before .before .before .before .before
+    .before .before .before .before .before .before .put-word .ensures)
     then typed _ _ _ (c .before .before .before .before .before .before .before .before .before .before .before .before .before .before .before .before .put-word2 .ensures)
     then typed _ _ _ (c .before .before .before .before .before .before .before .before .before .before .before .put-signed-word .ensures)
     then typed _ _ _ (c .before .before .before .before .before .before .put-word3 .ensures)

@@ -6,7 +6,8 @@ use Rattle.text.proofs.put_fields.Tie as tie
 
 returns : tie.Need-returns
 unfolding line
-returns c = (typed _ _ _ (c .before .before .before .before .before .before .before .before .before .before .put-number .ensures) then typed _ _ _ (c .before .before .before .before .before .before .put-words .ensures) then typed _ _ _ (c .before .before .put-byte .ensures)) .is
+returns c = (typed _ _ _ (c .before .before .before .before .before .before .before .before .before .before .put-number .ensures) then typed _ _ _
+    (c .before .before .before .before .before .before .put-words .ensures) then typed _ _ _ (c .before .before .put-byte .ensures)) .is
 
 pub put-fields-spec : {M : Type 1} → statement M
 put-fields-spec =

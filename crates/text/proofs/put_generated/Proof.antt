@@ -5,7 +5,14 @@ use Rattle.text.proofs.put_generated.Tie as tie
 
 returns : tie.Need-returns
 unfolding lineOf
-returns c = rw (c .before .before .before .before .before .before .before .before .before .before .u32-at .ensures, c .before .before .before .before .before .before .before .before .before .byte-at .ensures, c .before .before .before .before .before .before .before .before .byte-at2 .ensures, c .before .before .before .before .before .before .before .u32-at2 .ensures, c .before .before .before .before .before .before .u32-at3 .ensures, c .before .before .before .before .before .u32-at4 .ensures) at (c .before .before .put-fields .ensures)
+returns c = rw (
+  c .before .before .before .before .before .before .before .before .before .before .u32-at .ensures,
+  c .before .before .before .before .before .before .before .before .before .byte-at .ensures,
+  c .before .before .before .before .before .before .before .before .byte-at2 .ensures,
+  c .before .before .before .before .before .before .before .u32-at2 .ensures,
+  c .before .before .before .before .before .before .u32-at3 .ensures,
+  c .before .before .before .before .before .u32-at4 .ensures,
+) at (c .before .before .put-fields .ensures)
 
 pub put-generated-spec : {M : Type 1} → statement M
 put-generated-spec =

@@ -24,21 +24,32 @@ returns-4 c = rw (sym (c .before .before .before .before .before .before .before
 
 returns-5 : tie.Need-returns-5
 unfolding recordOf kindField
-returns-5 c = rw (sym (c .before .before .before .before .before .before .before .before .before .u16-at .ensures) ∙ c .before .before .before .before .if5 .taken) (c .before .before .put-removed .ensures)
+returns-5 c = rw (sym (c .before .before .before .before .before .before .before .before .before .u16-at .ensures)
+    ∙ c .before .before .before .before .if5 .taken) (c .before .before .put-removed .ensures)
 
 returns-6 : tie.Need-returns-6
 unfolding recordOf kindField
-returns-6 c = rw (sym (c .before .before .before .before .before .before .before .before .before .before .u16-at .ensures) ∙ c .before .before .before .before .if6 .taken) (c .before .before .put-crossed .ensures)
+returns-6 c = rw (sym (c .before .before .before .before .before .before .before .before .before .before .u16-at .ensures)
+    ∙ c .before .before .before .before .if6 .taken) (c .before .before .put-crossed .ensures)
 
 returns-7 : tie.Need-returns-7
 unfolding recordOf kindField
-returns-7 c = rw (sym (c .before .before .before .before .before .before .before .before .before .before .before .u16-at .ensures) ∙ c .before .before .before .before .if7 .taken) (c .before .before .put-cancelled .ensures)
+returns-7 c = rw (sym (c .before .before .before .before .before .before .before .before .before .before .before .u16-at .ensures)
+    ∙ c .before .before .before .before .if7 .taken) (c .before .before .put-cancelled .ensures)
 
 returns-8 : tie.Need-returns-8
 unfolding recordOf kindField
 returns-8 c = let s = c .before .before .before .before .before .before .before .before .before .before .before .before .before .before .args .s .now in
     let k = c .before .before .before .before .before .before .before .before .before .before .before .u16-at .ensures in
-    rw (ne-eqb (u16At s 2) 64 (λ e. c .before .before .before .before .before .before .before .before .before .before .if1 .left (k ∙ e)), ne-eqb (u16At s 2) 65 (λ e. c .before .before .before .before .before .before .before .before .before .if2 .left (k ∙ e)), ne-eqb (u16At s 2) 66 (λ e. c .before .before .before .before .before .before .before .before .if3 .left (k ∙ e)), ne-eqb (u16At s 2) 67 (λ e. c .before .before .before .before .before .before .before .if4 .left (k ∙ e)), ne-eqb (u16At s 2) 68 (λ e. c .before .before .before .before .before .before .if5 .left (k ∙ e)), ne-eqb (u16At s 2) 70 (λ e. c .before .before .before .before .before .if6 .left (k ∙ e)), ne-eqb (u16At s 2) 71 (λ e. c .before .before .before .before .if7 .left (k ∙ e))) (c .before .before .put-looked .ensures)
+    rw (
+      ne-eqb (u16At s 2) 64 (λ e. c .before .before .before .before .before .before .before .before .before .before .if1 .left (k ∙ e)),
+      ne-eqb (u16At s 2) 65 (λ e. c .before .before .before .before .before .before .before .before .before .if2 .left (k ∙ e)),
+      ne-eqb (u16At s 2) 66 (λ e. c .before .before .before .before .before .before .before .before .if3 .left (k ∙ e)),
+      ne-eqb (u16At s 2) 67 (λ e. c .before .before .before .before .before .before .before .if4 .left (k ∙ e)),
+      ne-eqb (u16At s 2) 68 (λ e. c .before .before .before .before .before .before .if5 .left (k ∙ e)),
+      ne-eqb (u16At s 2) 70 (λ e. c .before .before .before .before .before .if6 .left (k ∙ e)),
+      ne-eqb (u16At s 2) 71 (λ e. c .before .before .before .before .if7 .left (k ∙ e)),
+    ) (c .before .before .put-looked .ensures)
 
 pub put-line-spec : {M : Type 1} → statement M
 put-line-spec =

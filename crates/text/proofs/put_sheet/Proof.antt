@@ -37,10 +37,17 @@ part-put-line-end : tie.Need-part-put-line-end Inv-loop μ-loop
 part-put-line-end c = let h = c .before .before .before .before .before .loop .inv .1 .inside in omega arith
 
 loop-less : tie.Need-loop-less Inv-loop μ-loop
-loop-less c = let h = next-follows _ _ _ _ (sym (c .before .before .before .before .before .before .before .before .next-record .ensures) ∙ c .before .before .before .before .before .before .next .given .1) in omega arith
+loop-less c = let h = next-follows _ _ _ _
+    (sym (c .before .before .before .before .before .before .before .before .next-record .ensures)
+    ∙ c .before .before .before .before .before .before .next .given .1) in omega arith
 
 loop-again : tie.Need-loop-again Inv-loop μ-loop
-loop-again c = (c .before .before .put-line .kept .0 ∙ c .before .before .before .before .before .before .before .before .before .loop .inv .0, left-more (c .before .before .before .before .before .before .before .before .before .loop .inv .1) _ _ _ (sym (c .before .before .before .before .before .before .before .before .next-record .ensures) ∙ c .before .before .before .before .before .before .next .given .1) (c .before .before .put-line .ensures))
+loop-again c = (
+  c .before .before .put-line .kept .0 ∙ c .before .before .before .before .before .before .before .before .before .loop .inv .0,
+  left-more (c .before .before .before .before .before .before .before .before .before .loop .inv .1) _ _ _
+      (sym (c .before .before .before .before .before .before .before .before .next-record .ensures)
+      ∙ c .before .before .before .before .before .before .next .given .1) (c .before .before .put-line .ensures),
+)
 
 pub put-sheet-spec : {M : Type 1} → statement M
 put-sheet-spec =

@@ -9,7 +9,9 @@ returns : tie.Need-returns
 returns c = typed-as _ _ _ _ (c .before .before .put-number .ensures) (sym (signed-small _ (omega arith)))
 
 returns-2 : tie.Need-returns-2
-returns-2 c = typed-as _ _ _ _ ((typed _ _ _ (c .before .before .before .before .before .before .put-byte .ensures) then typed _ _ _ (c .before .before .put-number2 .ensures)) .is) (sym (signed-large _ (omega arith)))
+returns-2 c = typed-as _ _ _ _
+    ((typed _ _ _ (c .before .before .before .before .before .before .put-byte .ensures) then typed _ _ _ (c .before .before .put-number2 .ensures))
+    .is) (sym (signed-large _ (omega arith)))
 
 pub put-signed-spec : {M : Type 1} → statement M
 put-signed-spec =

@@ -20,7 +20,13 @@ loop-holds : tie.Need-loop-holds Inv-loop μ-loop
 loop-holds c = (zero-le, refl, refl)
 
 loop-again : tie.Need-loop-again Inv-loop μ-loop
-loop-again c = (search needs, c .before .before .put-word .kept .0 ∙ c .before .before .before .before .before .before .loop .inv .1, words-more _ _ _ (c .before .before .before .before .before .before .before .before .before .args .fields .now) (c .before .before .before .before .before .before .loop .i) (omega arith) (c .before .before .before .before .before .before .loop .inv .2) (c .before .before .put-word .ensures))
+loop-again c = (
+  search needs,
+  c .before .before .put-word .kept .0 ∙ c .before .before .before .before .before .before .loop .inv .1,
+  words-more _ _ _ (c .before .before .before .before .before .before .before .before .before .args .fields .now)
+      (c .before .before .before .before .before .before .loop .i) (omega arith) (c .before .before .before .before .before .before .loop .inv .2)
+      (c .before .before .put-word .ensures),
+)
 
 same-length : tie.Need-same-length Inv-loop μ-loop
 same-length c = c .before .loop .inv .1

@@ -23,10 +23,16 @@ unfolding inUse upto
 loop-holds c = (omega arith, refl)
 
 array-set-from-r : tie.Need-array-set-from-r Inv-loop μ-loop
-array-set-from-r c = let h = c .before .before .before .before in let z = ap length (h .loop .inv .1) in let y = used-length (rowsAt complexFrom 1792 17 ratiosAt 2 (c .before .before .before .before .before .before .args .bytes .now)) noComplex (h .loop .i) 32 (omega arith) in omega arith
+array-set-from-r c = let h = c .before .before .before .before in let z = ap length (h .loop .inv .1) in
+    let y = used-length (rowsAt complexFrom 1792 17 ratiosAt 2 (c .before .before .before .before .before .before .args .bytes .now)) noComplex
+    (h .loop .i) 32 (omega arith) in omega arith
 
 loop-again : tie.Need-loop-again Inv-loop μ-loop
-loop-again c = let h = c .before .before .before .before in (omega arith, used-next _ _ _ 32 _ _ (omega arith) (h .loop .inv .1) (rows-read complexFrom 1792 17 ratiosAt 2 _ (h .loop .i) _ _ _ (omega arith) (omega arith) (c .complex-from .ensures)))
+loop-again c = let h = c .before .before .before .before in (
+  omega arith,
+  used-next _ _ _ 32 _ _ (omega arith) (h .loop .inv .1)
+      (rows-read complexFrom 1792 17 ratiosAt 2 _ (h .loop .i) _ _ _ (omega arith) (omega arith) (c .complex-from .ensures)),
+)
 
 returns : tie.Need-returns Inv-loop μ-loop
 unfolding venueFrom

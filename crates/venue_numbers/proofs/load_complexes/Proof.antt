@@ -37,7 +37,14 @@ write-complex-requires : tie.Need-write-complex-requires Inv-loop μ-loop
 write-complex-requires c κs = (c .before .before .before .before .before .loop .inv .1 .long, omega arith)
 
 loop-again : tie.Need-loop-again Inv-loop μ-loop
-loop-again c = (omega arith, complexes-next _ _ _ _ _ (c .before .before .before .before .before .before .before .before .before .before .pre .1) (c .before .before .before .before .before .before .before .before .loop .inv .1) (c .before .before .before .before .before .before .before .loop-test .taken) _ refl (ap not (ne-eqb _ _ (c .before .before .before .before .if1 .left))) (c .before .before .write-complex .ensures .1) (c .before .before .write-complex .ensures .0))
+loop-again c = (
+  omega arith,
+  complexes-next _ _ _ _ _ (c .before .before .before .before .before .before .before .before .before .before .pre .1)
+      (c .before .before .before .before .before .before .before .before .loop .inv .1)
+      (c .before .before .before .before .before .before .before .loop-test .taken) _ refl
+      (ap not (ne-eqb _ _ (c .before .before .before .before .if1 .left))) (c .before .before .write-complex .ensures .1)
+      (c .before .before .write-complex .ensures .0),
+)
 
 slice-write-b-2 : tie.Need-slice-write-b-2 Inv-loop μ-loop
 slice-write-b-2 c = let z = c .before .loop .inv .1 .long in omega arith

@@ -37,7 +37,13 @@ write-regular-requires : tie.Need-write-regular-requires Inv-loop μ-loop
 write-regular-requires c κs = (c .before .before .before .before .before .loop .inv .1 .long, omega arith)
 
 loop-again : tie.Need-loop-again Inv-loop μ-loop
-loop-again c = (omega arith, regulars-next _ _ _ _ _ (c .before .before .before .before .before .before .before .before .before .before .pre .1) (c .before .before .before .before .before .before .before .before .loop .inv .1) (c .before .before .before .before .before .before .before .loop-test .taken) _ refl (ap not (ne-eqb _ _ (c .before .before .before .before .if1 .left))) (c .before .before .write-regular .ensures))
+loop-again c = (
+  omega arith,
+  regulars-next _ _ _ _ _ (c .before .before .before .before .before .before .before .before .before .before .pre .1)
+      (c .before .before .before .before .before .before .before .before .loop .inv .1)
+      (c .before .before .before .before .before .before .before .loop-test .taken) _ refl
+      (ap not (ne-eqb _ _ (c .before .before .before .before .if1 .left))) (c .before .before .write-regular .ensures),
+)
 
 slice-write-b-2 : tie.Need-slice-write-b-2 Inv-loop μ-loop
 slice-write-b-2 c = let z = c .before .loop .inv .1 .long in omega arith

@@ -33,13 +33,18 @@ put-generations-requires c κs =
     omega (arith, s .pre)
 
 loop-again : tie.Need-loop-again Inv-loop μ-loop
-loop-again c = let s = c .before .before .before .before .before .before .before .before in let h = c .before .before .before .before .before .before in written-next generationsBytes 80 generations-width generationsAt (s .args .t2) (s .args .out .now) (fits s) (h .loop .out) (h .loop .i) (h .loop .inv) _ _ _ _ (omega (arith, long s)) refl (omega arith) (c .before .before .put-generations .ensures)
+loop-again c = let s = c .before .before .before .before .before .before .before .before in
+    let h = c .before .before .before .before .before .before in written-next generationsBytes 80 generations-width generationsAt (s .args .t2)
+    (s .args .out .now) (fits s) (h .loop .out) (h .loop .i) (h .loop .inv) _ _ _ _ (omega (arith, long s)) refl (omega arith)
+    (c .before .before .put-generations .ensures)
 
 same-length : tie.Need-same-length Inv-loop μ-loop
-same-length c = let s = c .before .before .before in let h = c .before in written-room generationsBytes 80 generations-width generationsAt (s .args .t2) (s .args .out .now) (fits s) (h .loop .out) (h .loop .i) (h .loop .inv)
+same-length c = let s = c .before .before .before in let h = c .before in written-room generationsBytes 80 generations-width generationsAt
+    (s .args .t2) (s .args .out .now) (fits s) (h .loop .out) (h .loop .i) (h .loop .inv)
 
 returns : tie.Need-returns Inv-loop μ-loop
-returns c = let s = c .before .before .before in let h = c .before in written-all generationsBytes generationsAt (s .args .t2) (s .args .out .now) (h .loop .out) (h .loop .i) (h .loop .inv) (omega (arith, long s))
+returns c = let s = c .before .before .before in let h = c .before in written-all generationsBytes generationsAt (s .args .t2) (s .args .out .now)
+    (h .loop .out) (h .loop .i) (h .loop .inv) (omega (arith, long s))
 
 pub put-all-generations-spec : {M : Type 1} → statement M
 put-all-generations-spec =

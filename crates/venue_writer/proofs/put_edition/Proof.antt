@@ -12,7 +12,12 @@ unfolding editionBytes bytes
 returns c =
     let s = c .before .before .before .before .before .before .before .before in
     row-put _ _ _ _ _ _ (c .before .before .put .ensures)
-    (rw (c .before .before .before .before .before .before .bytes4 .ensures, c .before .before .before .before .before .bytes42 .ensures, byte (s .args .x .figure) (search needs), byte (s .args .x .value) (search needs)))
+    (rw (
+      c .before .before .before .before .before .before .bytes4 .ensures,
+      c .before .before .before .before .before .bytes42 .ensures,
+      byte (s .args .x .figure) (search needs),
+      byte (s .args .x .value) (search needs),
+    ))
 
 pub put-edition-spec : {M : Type 1} → statement M
 put-edition-spec =

@@ -37,7 +37,8 @@ loop-again c =
     (sym (message-at g (h .loop .k) (omega arith))) (omega arith) (row-put _ _ _ _ _ _ (c .before .before .put .ensures) (c .before .before .before .before .before .bytes4 .ensures))
 
 same-length : tie.Need-same-length Inv-loop μ-loop
-same-length c = let h = c .before in let s = h .before .before .before in written-room u32 4 number-width (s .args .at) (messagesOf (s .args .g)) (s .args .out .now) (fits s) (h .loop .out) (h .loop .k) (h .loop .inv)
+same-length c = let h = c .before in let s = h .before .before .before in written-room u32 4 number-width (s .args .at) (messagesOf (s .args .g))
+    (s .args .out .now) (fits s) (h .loop .out) (h .loop .k) (h .loop .inv)
 
 returns : tie.Need-returns Inv-loop μ-loop
 unfolding generationsBytes seen

@@ -9,7 +9,8 @@ use Rattle.venue_writer.proofs.put_legging.Tie as tie
 
 returns : tie.Need-returns
 unfolding leggingBytes bytes wordBytes
-returns c = let s = c .before .before .before .before .before .before .before .before in row-put _ _ _ _ _ _ (c .before .before .put-words .ensures) (rw (c .before .before .before .before .before .before .bytes4 .ensures))
+returns c = let s = c .before .before .before .before .before .before .before .before in row-put _ _ _ _ _ _ (c .before .before .put-words .ensures)
+    (rw (c .before .before .before .before .before .before .bytes4 .ensures))
 
 pub put-legging-spec : {M : Type 1} → statement M
 put-legging-spec =

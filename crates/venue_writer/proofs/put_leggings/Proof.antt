@@ -26,10 +26,13 @@ loop-holds : tie.Need-loop-holds Inv-loop μ-loop
 loop-holds c = written-none leggingBytes 2336 _ _
 
 loop-again : tie.Need-loop-again Inv-loop μ-loop
-loop-again c = let s = c .before .before .before .before .before .before .before .before in let h = c .before .before .before .before .before .before in written-next leggingBytes 12 legging-width 2336 (s .args .t2) (s .args .out .now) (fits s) (h .loop .out) (h .loop .i) (h .loop .inv) _ _ _ _ (omega (arith, long s)) refl (omega arith) (c .before .before .put-legging .ensures)
+loop-again c = let s = c .before .before .before .before .before .before .before .before in
+    let h = c .before .before .before .before .before .before in written-next leggingBytes 12 legging-width 2336 (s .args .t2) (s .args .out .now)
+    (fits s) (h .loop .out) (h .loop .i) (h .loop .inv) _ _ _ _ (omega (arith, long s)) refl (omega arith) (c .before .before .put-legging .ensures)
 
 same-length : tie.Need-same-length Inv-loop μ-loop
-same-length c = let s = c .before .before .before in let h = c .before in written-room leggingBytes 12 legging-width 2336 (s .args .t2) (s .args .out .now) (fits s) (h .loop .out) (h .loop .i) (h .loop .inv)
+same-length c = let s = c .before .before .before in let h = c .before in written-room leggingBytes 12 legging-width 2336 (s .args .t2)
+    (s .args .out .now) (fits s) (h .loop .out) (h .loop .i) (h .loop .inv)
 
 returns : tie.Need-returns Inv-loop μ-loop
 returns c = let s = c .before .before .before in let h = c .before in written-all leggingBytes 2336 (s .args .t2) (s .args .out .now) (h .loop .out) (h .loop .i) (h .loop .inv) (omega (arith, long s))

@@ -67,7 +67,8 @@ returns c =
     let r = x .before .before .before .before .before in
     let s = start t in
     venue-put (s .args .v) (sized s) (s .args .out .now) _ _ _ _ _ _ _ _ _ _ _ _ (s .pre) (r .put-regulars .ensures) (x .put-complexes .ensures) (g .put-leggings .ensures) (d .put-series .ensures)
-    (l .put .ensures ∙ ap (λ (y : List ℕ). seen (d .put-series .last .0) 2600 plus y) (l .before .before .before .bytes4 .ensures)) (e .put-editions .ensures) (h .put-reserves .ensures) (t .put-ratios .ensures) (n .put-all-generations .ensures)
+    (l .put .ensures ∙ ap (λ (y : List ℕ). seen (d .put-series .last .0) 2600 plus y) (l .before .before .before .bytes4 .ensures))
+    (e .put-editions .ensures) (h .put-reserves .ensures) (t .put-ratios .ensures) (n .put-all-generations .ensures)
     (z .put2 .ensures ∙ ap (λ (y : List ℕ). seen (n .put-all-generations .last .0) reachedAt plus y) (z .before .before .before .bytes42 .ensures))
 
 pub put-venue-spec : {M : Type 1} → statement M

@@ -23,7 +23,10 @@ unfolding complexInRange
 returns-3 c =
     let o = c .before .before .before .before .before .args .c in
     c .two-leg-in-range2 .ensures
-    ∙ (rw (sym (c .before .before .before .before .is-one-to-one .ensures) ∙ c .before .before .before .if1 .left, ne-eqb (o .ratio1) (o .ratio2) (c .before .if2 .left)) (sym (and-true (twoLegInRange 600000 o))))
+    ∙ (rw (
+      sym (c .before .before .before .before .is-one-to-one .ensures) ∙ c .before .before .before .if1 .left,
+      ne-eqb (o .ratio1) (o .ratio2) (c .before .if2 .left),
+    ) (sym (and-true (twoLegInRange 600000 o))))
 
 pub complex-in-range-spec : {M : Type 1} → statement M
 complex-in-range-spec =

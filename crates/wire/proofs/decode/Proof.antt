@@ -27,7 +27,8 @@ returns-4 c = let s = c .before .before .before .before .before .before .before 
 
 returns-5 : tie.Need-returns-5
 unfolding isKind
-returns-5 c = let s = c .before .before .before .before .before .before .before .before .args .s .now in no-kind s (whole s (omega arith) (omega arith) (omega arith)) (above 1 11 (u16At s 2) (omega arith))
+returns-5 c = let s = c .before .before .before .before .before .before .before .before .args .s .now in
+    no-kind s (whole s (omega arith) (omega arith) (omega arith)) (above 1 11 (u16At s 2) (omega arith))
 
 returns-6 : tie.Need-returns-6
 unfolding isKind
@@ -48,8 +49,12 @@ unfolding isKind
 read c =
     let s = c .before .before .before .before .before .before .before .before .before .before .before .before .args .s .now in
     let k = c .before .before .before .before .before .before .u16-at2 .ensures in
-    let n = c .before .before .before .length-of .ensures ∙ ap lengthOf k in
-    (whole s (omega arith) (omega arith) (omega arith), inside 1 11 (u16At s 2) (omega arith) (omega arith), omega arith, c .in-range .ensures ∙ ap (λ (x : ℕ). inRange x (c .before .message-of .result)) k)
+    let n = c .before .before .before .length-of .ensures ∙ ap lengthOf k in (
+      whole s (omega arith) (omega arith) (omega arith),
+      inside 1 11 (u16At s 2) (omega arith) (omega arith),
+      omega arith,
+      c .in-range .ensures ∙ ap (λ (x : ℕ). inRange x (c .before .message-of .result)) k,
+    )
 
 returns-7 : tie.Need-returns-7
 returns-7 c =
@@ -57,7 +62,8 @@ returns-7 c =
     no-range _ _ (c .before .before .message-of .ensures) t k n (sym r ∙ not-true _ (c .if7 .taken))
 
 -- and once its ratios are compared
-compared : (c : tie.After-equal-ratios) → c .equal-ratios .result ≡ equalRatios (c .before .before .before .before .before .before .before .before .before .before .before .before .before .before .args .s .now)
+compared : (c : tie.After-equal-ratios) → c .equal-ratios .result ≡ equalRatios
+    (c .before .before .before .before .before .before .before .before .before .before .before .before .before .before .args .s .now)
 unfolding equalRatios kindField
 compared c =
     let s = c .before .before .before .before .before .before .before .before .before .before .before .before .before .before .args .s .now in

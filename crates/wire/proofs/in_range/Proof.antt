@@ -19,7 +19,8 @@ returns-3 : tie.Need-returns-3
 unfolding inRange
 returns-3 c =
     let o = c .before .before .before .m2 .given in
-    c .two-leg-in-range .ensures ∙ ap (λ (far : ℕ). twoLegInRange far (o .0 .0)) (c .before .far-of .ensures) ∙ sym (ap (inRange (c .before .before .before .before .before .before .before .before .args .kind)) (o .1))
+    c .two-leg-in-range .ensures ∙ ap (λ (far : ℕ). twoLegInRange far (o .0 .0)) (c .before .far-of .ensures)
+    ∙ sym (ap (inRange (c .before .before .before .before .before .before .before .before .args .kind)) (o .1))
 
 returns-4 : tie.Need-returns-4
 unfolding inRange

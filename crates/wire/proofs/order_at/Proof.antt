@@ -5,7 +5,14 @@ use Rattle.wire.proofs.order_at.Tie as tie
 
 returns : tie.Need-returns
 unfolding orderAt
-returns c = rw (c .reserve-of .ensures, c .before .word-at3 .ensures, c .before .before .byte-at2 .ensures, c .before .before .before .byte-at .ensures, c .before .before .before .before .word-at2 .ensures, c .before .before .before .before .before .word-at .ensures)
+returns c = rw (
+  c .reserve-of .ensures,
+  c .before .word-at3 .ensures,
+  c .before .before .byte-at2 .ensures,
+  c .before .before .before .byte-at .ensures,
+  c .before .before .before .before .word-at2 .ensures,
+  c .before .before .before .before .before .word-at .ensures,
+)
 
 pub order-at-spec : {M : Type 1} → statement M
 order-at-spec =

@@ -44,7 +44,8 @@ returns-7 : tie.Need-returns-7
 returns-7 c =
     let s = c .before .before .before .before .before .before .before .before .before .before .before .before .before .before .args in
     let told = c .before .before .before .before .before .before .before .struct-told .given in
-    let l = sym (c .before .before .before .before .before .before .before .before .before .before .before .legs-in-range .ensures) ∙ not-false _ (c .before .before .before .before .before .before .before .before .before .before .if2 .left) in
+    let l = sym (c .before .before .before .before .before .before .before .before .before .before .before .legs-in-range .ensures) ∙ not-false _
+    (c .before .before .before .before .before .before .before .before .before .before .if2 .left) in
     let e = c .before .before .before .before .before .before .is-limit .ensures ∙ ap (isLimit (s .far)) (toZ-ofZ w32 (s .c .limit) (record { sfits = told .1 .1 .1 .1 .1 .1 .0 .1 })) in
     let n = sym e ∙ not-false _ (c .before .before .before .before .before .if4 .left) in
     let q = sym (c .before .before .before .before .is-quantity .ensures) ∙ not-false _ (c .before .before .before .if5 .left) in

@@ -16,10 +16,19 @@ returns-3 : tie.Need-returns-3
 returns-3 c = leg-none2 _ (c .before .before .before .before .before .args .c) _ _ (c .before .before .if1 .left) (c .before .if2 .left) (c .if3 .taken)
 
 returns-4 : tie.Need-returns-4
-returns-4 c = leg-over _ (c .before .before .before .before .before .before .before .before .args .c) _ _ (c .before .before .before .before .before .if1 .left) (c .before .before .before .before .if2 .left) (c .before .before .before .if3 .left) _ _ (back {z = c .before .before .net-of .result} (record { sfits = c .before .before .net-of .ok }) ∙ c .before .before .net-of .ensures .0) (back {z = c .before .limit-of .result} (record { sfits = c .before .limit-of .ok }) ∙ c .before .limit-of .ensures .0) (c .if4 .taken)
+returns-4 c = leg-over _ (c .before .before .before .before .before .before .before .before .args .c) _ _
+    (c .before .before .before .before .before .if1 .left) (c .before .before .before .before .if2 .left) (c .before .before .before .if3 .left) _ _
+    (back {z = c .before .before .net-of .result} (record { sfits = c .before .before .net-of .ok }) ∙ c .before .before .net-of .ensures .0)
+    (back {z = c .before .limit-of .result} (record { sfits = c .before .limit-of .ok }) ∙ c .before .limit-of .ensures .0) (c .if4 .taken)
 
 returns-5 : tie.Need-returns-5
-returns-5 c = leg-band _ (c .before .before .before .before .before .before .before .before .before .args .c) _ _ (c .before .before .before .before .before .before .if1 .left) (c .before .before .before .before .before .if2 .left) (c .before .before .before .before .if3 .left) _ _ (back {z = c .before .before .before .net-of .result} (record { sfits = c .before .before .before .net-of .ok }) ∙ c .before .before .before .net-of .ensures .0) (back {z = c .before .before .limit-of .result} (record { sfits = c .before .before .limit-of .ok }) ∙ c .before .before .limit-of .ensures .0) (c .before .if4 .left) _ (c .in-band .ensures)
+returns-5 c = leg-band _ (c .before .before .before .before .before .before .before .before .before .args .c) _ _
+    (c .before .before .before .before .before .before .if1 .left) (c .before .before .before .before .before .if2 .left)
+    (c .before .before .before .before .if3 .left) _ _
+    (back {z = c .before .before .before .net-of .result} (record { sfits = c .before .before .before .net-of .ok })
+    ∙ c .before .before .before .net-of .ensures .0)
+    (back {z = c .before .before .limit-of .result} (record { sfits = c .before .before .limit-of .ok }) ∙ c .before .before .limit-of .ensures .0)
+    (c .before .if4 .left) _ (c .in-band .ensures)
 
 pub can-leg-in-spec : {M : Type 1} → statement M
 can-leg-in-spec =

@@ -24,7 +24,10 @@ loop-holds : tie.Need-loop-holds Inv-loop μ-loop
 loop-holds c = doing-start _ _ _ _ _ (c .before .before .pre .0) refl
 
 complex-at-requires : tie.Need-complex-at-requires Inv-loop μ-loop
-complex-at-requires c κs = let z = complexes-few (c .before .before .loop .b) in (c .before .before .loop .inv .whole, omega (arith, c .before .before .loop .inv .counts .complexes, c .before .before .before .before .before .pre .2))
+complex-at-requires c κs = let z = complexes-few (c .before .before .loop .b) in (
+  c .before .before .loop .inv .whole,
+  omega (arith, c .before .before .loop .inv .counts .complexes, c .before .before .before .before .before .pre .2),
+)
 
 taken-at-requires : tie.Need-taken-at-requires Inv-loop μ-loop
 taken-at-requires c κs =
@@ -34,11 +37,17 @@ taken-at-requires c κs =
 
 can-leg-in-requires : tie.Need-can-leg-in-requires Inv-loop μ-loop
 can-leg-in-requires c κs =
-    let l = c .before .before .before .before .before .before .before .before .loop in
-    (l .inv .whole, c .before .before .before .taken-at .ensures, subst LegsIn (sym (c .before .before .before .before .before .complex-at .ensures)) (legs-in (l .b) (c .before .before .before .before .before .before .before .before .before .before .before .args .i)), l .inv .counts .right (c .before .before .before .before .before .before .before .before .before .before .before .pre .1) .marked .figures)
+    let l = c .before .before .before .before .before .before .before .before .loop in (
+      l .inv .whole,
+      c .before .before .before .taken-at .ensures,
+      subst LegsIn (sym (c .before .before .before .before .before .complex-at .ensures))
+          (legs-in (l .b) (c .before .before .before .before .before .before .before .before .before .before .before .args .i)),
+      l .inv .counts .right (c .before .before .before .before .before .before .before .before .before .before .before .pre .1) .marked .figures,
+    )
 
 same-length : tie.Need-same-length Inv-loop μ-loop
-same-length c = c .before .before .before .before .before .before .before .before .before .before .loop .inv .whole ∙ sym (c .before .before .before .before .before .before .before .before .before .before .before .before .before .pre .0)
+same-length c = c .before .before .before .before .before .before .before .before .before .before .loop .inv .whole
+    ∙ sym (c .before .before .before .before .before .before .before .before .before .before .before .before .before .pre .0)
 
 same-length-2 : tie.Need-same-length-2 Inv-loop μ-loop
 same-length-2 c = doing-room (c .before .before .before .before .before .before .before .before .before .before .loop .inv)

@@ -14,10 +14,16 @@ complex-at-requires : tie.Need-complex-at-requires
 complex-at-requires c κs = let z = complexes-few (c .before .before .before .args .b .now) in (c .before .before .before .pre .0, omega (arith, c .before .before .before .pre .2))
 
 any-closed-requires : tie.Need-any-closed-requires
-any-closed-requires c κs = (c .before .before .before .before .before .pre .0, subst LegsIn (sym (c .before .complex-at .ensures)) (legs-in (c .before .before .before .before .before .args .b .now) (c .before .before .before .before .before .args .i)))
+any-closed-requires c κs = let start = c .before .before .before .before .before in
+    (start .pre .0, subst LegsIn (sym (c .before .complex-at .ensures)) (legs-in (start .args .b .now) (start .args .i)))
 
 returns : tie.Need-returns
-returns c = (work-closed (c .before .before .before .before .before .before .before .args .i) _ _ (c .before .before .before .complex-at .ensures ∙ sym (complex-at (c .before .before .before .before .before .before .before .args .b .now) (c .before .before .before .before .before .before .before .args .i) (c .before .before .before .before .before .before .before .pre .2))) _ _ (sym (c .before .any-closed .ensures) ∙ c .if1 .taken), record { regulars = refl; complexes = refl; right = λ h. h })
+returns c = let start = c .before .before .before .before .before .before .before in (
+  work-closed (start .args .i) _ _
+      (c .before .before .before .complex-at .ensures ∙ sym (complex-at (start .args .b .now) (start .args .i) (start .pre .2))) _ _
+      (sym (c .before .any-closed .ensures) ∙ c .if1 .taken),
+  record { regulars = refl; complexes = refl; right = λ h. h },
+)
 
 cross-all-requires : tie.Need-cross-all-requires
 cross-all-requires c κs = c .before .before .before .before .before .before .before .before .before .pre
@@ -40,9 +46,16 @@ returns-2 c =
     let w = c .before .before .before .before .leg-in-all in
     let t = c .before .before .before .before .before .before .before .before .before .before .before .touch in
     let x = c .before .before .before .before .before .before .before .before .before .before .before .before .before .before .before .before .before .before .cross-all in
-    let s = c .before .before .before .before .before .before .before .before .before .before .before .before .before .before .before .before .before .before .before .before .before .before .before .before .before .before .before .before in (
-      work-steps (s .args .i) _ _ (c .before .before .before .before .before .before .before .before .before .before .before .before .before .before .before .before .before .before .before .before .before .before .before .before .complex-at .ensures ∙ sym (complex-at (s .args .b .now) (s .args .i) (s .pre .2))) _ _ _ _ _ _ _ _ _ _ _
-          (sym (c .before .before .before .before .before .before .before .before .before .before .before .before .before .before .before .before .before .before .before .before .before .before .any-closed .ensures) ∙ c .before .before .before .before .before .before .before .before .before .before .before .before .before .before .before .before .before .before .before .before .before .if1 .left) (x .ensures .0) (t .ensures .0) (w .ensures .0),
+    let s = c .before .before .before .before .before .before .before .before .before .before .before .before .before .before .before .before .before
+    .before .before .before .before .before .before .before .before .before .before .before in (
+      work-steps (s .args .i) _ _
+          (c .before .before .before .before .before .before .before .before .before .before .before .before .before .before .before .before .before
+          .before .before .before .before .before .before .before .complex-at .ensures ∙ sym (complex-at (s .args .b .now) (s .args .i) (s .pre .2)))
+          _ _ _ _ _ _ _ _ _ _ _
+          (sym (c .before .before .before .before .before .before .before .before .before .before .before .before .before .before .before .before
+          .before .before .before .before .before .before .any-closed .ensures)
+          ∙ c .before .before .before .before .before .before .before .before .before .before .before .before .before .before .before .before
+          .before .before .before .before .before .if1 .left) (x .ensures .0) (t .ensures .0) (w .ensures .0),
       counts-on _ _ _ (counts-on _ _ _ (x .ensures .1) (t .ensures .1)) (w .ensures .1),
     )
 
