@@ -26,6 +26,7 @@ pub enum Found {
     Nothing,
 }
 
+// An order shows some size at a price of a side of a series.
 fn shows_for(o: Regular, series: u8, side: u8, price: u32) -> bool
     ensures { λ r. ⌜ r ≡ showsFor series side price o ⌝ }
 {

@@ -172,6 +172,7 @@ fn facing_key(s: u8, d: u8, t: u8, e: u8) -> usize
     16 * one + two
 }
 
+// A key is one of two.
 fn is_either(key: usize, one: usize, two: usize) -> bool
     ensures { λ r. ⌜ r ≡ (eqb key one || eqb key two) ⌝ }
 {

@@ -42,6 +42,7 @@ pub fn is_better_wide(side: u8, a: u64, b: u64) -> bool
     lower
 }
 
+// The same of two prices.
 pub fn is_better(side: u8, a: u32, b: u32) -> bool
     ensures { λ r. ⌜ r ≡ better side a b ⌝ }
 {

@@ -26,6 +26,7 @@ pub enum Plan {
     Meet(usize, u32),
 }
 
+// A legging order's price; 0 where its place is free.
 fn own_price(l: Legging) -> u32
     ensures { λ r. ⌜ r ≡ ownPrice l ⌝ }
 {

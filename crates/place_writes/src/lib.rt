@@ -73,6 +73,7 @@ pub fn fill_regular(b: &mut [u32], i: usize, k: u32)
     b[1231] = 1;
 }
 
+// The complex order at a place is filled by `k` units.
 pub fn fill_complex(b: &mut [u32], i: usize, k: u32)
     requires { ⌜ (length (now b) ≡ size) × (i < complexesUsed (now b)) ⌝ }
     ensures { λ _. ⌜ venueOf (now (b .exit)) ≡ fillComplex i k (venueOf (now (b .entry))) ⌝ }

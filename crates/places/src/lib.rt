@@ -27,6 +27,7 @@ pub struct Level {
     pub size: u64,
 }
 
+// A number of the slice as an index.
 pub fn wide(x: u32) -> usize
     ensures { λ r. ⌜ r ≡ x ⌝ }
 {
@@ -259,6 +260,7 @@ pub fn level_at(b: &[u32], n: usize) -> Level
 
 // The venue anew, part by part ----------------------------------------------------------------
 
+// The regular orders, place by place.
 fn regulars_of(b: &[u32]) -> [Regular; 128]
     requires { ⌜ length (now b) ≡ size ⌝ }
     ensures { λ r. ⌜ r ≡ venueOf (now (b .entry)) .regular ⌝ }
@@ -283,6 +285,7 @@ fn regulars_of(b: &[u32]) -> [Regular; 128]
     r
 }
 
+// The complex orders, place by place.
 fn complexes_of(b: &[u32]) -> [Complex; 32]
     requires { ⌜ length (now b) ≡ size ⌝ }
     ensures { λ r. ⌜ r ≡ venueOf (now (b .entry)) .complex ⌝ }
@@ -310,6 +313,7 @@ fn complexes_of(b: &[u32]) -> [Complex; 32]
     r
 }
 
+// The legging orders, place by place.
 fn leggings_of(b: &[u32]) -> [Legging; 16]
     requires { ⌜ length (now b) ≡ size ⌝ }
     ensures { λ r. ⌜ r ≡ venueOf (now (b .entry)) .legging ⌝ }
@@ -329,6 +333,7 @@ fn leggings_of(b: &[u32]) -> [Legging; 16]
     r
 }
 
+// The status and away prices of every series.
 fn series_of(b: &[u32]) -> [Listed; 8]
     requires { ⌜ length (now b) ≡ size ⌝ }
     ensures { λ r. ⌜ r ≡ venueOf (now (b .entry)) .series ⌝ }
@@ -348,6 +353,7 @@ fn series_of(b: &[u32]) -> [Listed; 8]
     r
 }
 
+// The editions, place by place.
 fn editions_of(b: &[u32]) -> [Edition; 32]
     requires { ⌜ length (now b) ≡ size ⌝ }
     ensures { λ r. ⌜ r ≡ venueOf (now (b .entry)) .editions ⌝ }
@@ -368,6 +374,7 @@ fn editions_of(b: &[u32]) -> [Edition; 32]
     r
 }
 
+// The messages of a series' last 20 generations.
 fn generations_at(b: &[u32], s: usize) -> Generations
     requires { ⌜ (length (now b) ≡ size) × (s < 8) ⌝ }
     ensures { λ r. ⌜ r ≡ generationsIn (now (b .entry)) s ⌝ }
@@ -381,6 +388,7 @@ fn generations_at(b: &[u32], s: usize) -> Generations
     Generations { messages }
 }
 
+// The messages of every series' last 20 generations.
 fn generations_of(b: &[u32]) -> [Generations; 8]
     requires { ⌜ length (now b) ≡ size ⌝ }
     ensures { λ r. ⌜ r ≡ venueOf (now (b .entry)) .generations ⌝ }

@@ -16,6 +16,7 @@ pub enum Head {
     Message(u16),
 }
 
+// What stands at a position of a memory.
 fn head_at(messages: &[u8], at: usize) -> Head
     ensures { λ r. ⌜ r ≡ headAt (now (messages .entry)) at ⌝ }
 {
@@ -36,6 +37,7 @@ fn head_at(messages: &[u8], at: usize) -> Head
     Head::Message(length)
 }
 
+// A reader of a memory's messages, at a position.
 pub fn reader_at<'a>(messages: &'a [u8], at: usize) -> Reader<'a>
     ensures { λ r. ⌜ (r .messages ≡ messages .entry) × (r .at ≡ at) ⌝ }
 {

@@ -37,6 +37,7 @@ fn bytes2(x: u16) -> [u8; 2]
     [(x % 256) as u8, (x / 256 % 256) as u8]
 }
 
+// A number as four bytes, little-endian.
 pub fn bytes4(x: u32) -> [u8; 4]
     ensures { λ r. ⌜ r ≡ bytes 4 x ⌝ }
 {
@@ -251,6 +252,7 @@ pub enum Next {
     End,
 }
 
+// The record at a position of a report memory, or the end of the sheet.
 pub fn next_record(memory: &[u8], at: usize) -> Next
     ensures { λ r. ⌜ r ≡ nextRecord (now (memory .entry)) at ⌝ }
 {

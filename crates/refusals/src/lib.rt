@@ -28,6 +28,7 @@ fn off_increment(b: &[u32], o: Regular) -> bool
     o.price % (increment as u32) != 0
 }
 
+// The refusal of an order with its fields in their ranges, or 0.
 fn order_refusal(b: &[u32], o: Regular) -> u8
     requires { ⌜ (length (now b) ≡ size) × (Dense (now b)) × (regularInRange o ≡ true) ⌝ }
     ensures { λ r. ⌜ r ≡ refusalOf (venueOf (now (b .entry))) (Order o) ⌝ }
@@ -47,6 +48,7 @@ fn order_refusal(b: &[u32], o: Regular) -> u8
     0
 }
 
+// The refusal of a complex order with its fields in their ranges, or 0.
 fn complex_refusal(b: &[u32], c: Complex) -> u8
     requires { ⌜ (length (now b) ≡ size) × (Dense (now b)) × (complexInRange c ≡ true) ⌝ }
     ensures { λ r. ⌜ r ≡ refusalOf (venueOf (now (b .entry))) (TwoLeg c) ⌝ }
@@ -87,6 +89,7 @@ fn rests(b: &[u32], id: u32) -> bool
     }
 }
 
+// The refusal of a cancel, or 0.
 fn cancel_refusal(b: &[u32], id: u32) -> u8
     requires { ⌜ (length (now b) ≡ size) × (Dense (now b)) ⌝ }
     ensures { λ r. ⌜ r ≡ refusalOf (venueOf (now (b .entry))) (Cancel id) ⌝ }
@@ -125,6 +128,7 @@ fn rests_in(o: Regular, s: u8) -> bool
     o.series == s
 }
 
+// No regular order rests in a series.
 fn no_order_in(b: &[u32], s: u8) -> bool
     requires { ⌜ length (now b) ≡ size ⌝ }
     ensures { λ r. ⌜ r ≡ all (λ o. not (held (o .quantity) && eqb (o .series) s)) (venueOf (now (b .entry)) .regular) ⌝ }
@@ -154,6 +158,7 @@ fn has_leg_in(c: Complex, s: u8) -> bool
     c.series2 == s
 }
 
+// No resting complex order has a leg in a series.
 fn no_leg_in(b: &[u32], s: u8) -> bool
     requires { ⌜ length (now b) ≡ size ⌝ }
     ensures { λ r. ⌜ r ≡ all (λ c. not (held (c .quantity) && (eqb (c .series1) s || eqb (c .series2) s))) (venueOf (now (b .entry)) .complex) ⌝ }

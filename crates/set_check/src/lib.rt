@@ -72,6 +72,7 @@ fn set_length(kind: u16) -> u16
     0
 }
 
+// What stands at a position of a memory.
 fn front_at(memory: &[u8], at: usize) -> Front
     ensures { λ r. ⌜ r ≡ frontOf (drop at (now (memory .entry))) ⌝ }
 {
@@ -88,12 +89,14 @@ fn front_at(memory: &[u8], at: usize) -> Front
     Front::Record(size)
 }
 
+// The kind of a record.
 pub fn kind_of(r: &[u8]) -> u16
     ensures { λ k. ⌜ k ≡ kindField (now (r .entry)) ⌝ }
 {
     wire::u16_at(r, 2)
 }
 
+// A record tells an edition: of kind 7 or 8.
 pub fn tells_edition(r: &[u8]) -> bool
     ensures { λ t. ⌜ t ≡ tellsEdition (now (r .entry)) ⌝ }
 {
@@ -104,6 +107,7 @@ pub fn tells_edition(r: &[u8]) -> bool
     kind == 8
 }
 
+// A record tells a resting regular order: of kind 1 or 9.
 pub fn tells_regular(r: &[u8]) -> bool
     ensures { λ t. ⌜ t ≡ tellsRegular (now (r .entry)) ⌝ }
 {
@@ -114,6 +118,7 @@ pub fn tells_regular(r: &[u8]) -> bool
     kind == 9
 }
 
+// A record tells a resting complex order: of kind 2 or 10.
 pub fn tells_complex(r: &[u8]) -> bool
     ensures { λ t. ⌜ t ≡ tellsComplex (now (r .entry)) ⌝ }
 {
@@ -124,12 +129,14 @@ pub fn tells_complex(r: &[u8]) -> bool
     kind == 10
 }
 
+// A record tells a legging order: of kind 82.
 pub fn tells_legging(r: &[u8]) -> bool
     ensures { λ t. ⌜ t ≡ tellsLegging (now (r .entry)) ⌝ }
 {
     kind_of(r) == 82
 }
 
+// A record tells a generation: of kind 83.
 pub fn tells_generation(r: &[u8]) -> bool
     ensures { λ t. ⌜ t ≡ tellsGeneration (now (r .entry)) ⌝ }
 {
@@ -163,6 +170,7 @@ fn part_of(r: &[u8]) -> u8
     0
 }
 
+// A byte as a number of 32 bits.
 fn wide(x: u8) -> u32
     ensures { λ r. ⌜ (r ≡ x) × (r < 256) ⌝ }
 {
@@ -225,6 +233,7 @@ pub struct Standing {
     placed: bool,
 }
 
+// Where the reading stands before the first record.
 fn none_read() -> Standing
     ensures { λ r. ⌜ r ≡ noneRead ⌝ }
 {
@@ -286,6 +295,7 @@ fn of_short(r: &[u8]) -> bool
     kind_of(r) != 9
 }
 
+// A record is one of the kind of set that is read, whole or short.
 fn of_this(st: Standing, r: &[u8]) -> bool
     ensures { λ t. ⌜ t ≡ ofThis st (now (r .entry)) ⌝ }
 {
@@ -295,6 +305,7 @@ fn of_this(st: Standing, r: &[u8]) -> bool
     of_short(r)
 }
 
+// A generation is of the series of the record before it, a generation too.
 fn same_series(st: Standing, r: &[u8]) -> bool
     ensures { λ t. ⌜ t ≡ sameSeries st (now (r .entry)) ⌝ }
 {
@@ -324,6 +335,7 @@ fn may_stand(st: Standing, r: &[u8]) -> bool
     st.told <= told_of(r)
 }
 
+// A record may stand where the reading stands.
 fn is_next(st: Standing, r: &[u8]) -> bool
     ensures { λ t. ⌜ t ≡ isNext st (now (r .entry)) ⌝ }
 {
@@ -418,6 +430,7 @@ fn has_place(r: &[u8]) -> bool
 
 // One pass ------------------------------------------------------------------------------------
 
+// 1 for true, 0 for false.
 fn one_if(b: bool) -> u8
     ensures { λ r. ⌜ (r ≡ oneIf b) × (r ≤ 1) ⌝ }
 {
@@ -427,6 +440,7 @@ fn one_if(b: bool) -> u8
     0
 }
 
+// How many of the first records are read after one more record.
 fn next_stage(st: Standing) -> u8
     ensures { λ r. ⌜ r ≡ nextStage st ⌝ }
 {
@@ -437,6 +451,7 @@ fn next_stage(st: Standing) -> u8
     stage
 }
 
+// The set is a whole one, as its first record says.
 fn is_whole(st: Standing, r: &[u8]) -> bool
     ensures { λ t. ⌜ t ≡ isWhole st (now (r .entry)) ⌝ }
 {
@@ -446,6 +461,7 @@ fn is_whole(st: Standing, r: &[u8]) -> bool
     st.whole
 }
 
+// How many generations of the present series there are with this record.
 fn run_with(st: Standing, r: &[u8]) -> u8
     requires { ⌜ few st ≡ true ⌝ }
     ensures { λ n. ⌜ n ≡ runWith st (now (r .entry)) ⌝ }
@@ -457,6 +473,7 @@ fn run_with(st: Standing, r: &[u8]) -> u8
     more
 }
 
+// This record and every record before it has a place.
 fn still_placed(st: Standing, r: &[u8]) -> bool
     ensures { λ t. ⌜ t ≡ (st .placed && hasPlace (now (r .entry))) ⌝ }
 {

@@ -112,6 +112,7 @@ fn put_two_leg(out: &mut [u8], at: usize, length: u8, kind: u8, c: Complex) -> u
     records::put_words(out, at, &head, &words)
 }
 
+// A complex order's ratios, a byte each.
 fn put_ratios(out: &mut [u8], at: usize, c: Complex) -> usize
     ensures { λ r. ⌜ begun (now (out .exit)) r ≡ begun (now (out .entry)) at adds (u8 (c .ratio1) ++ u8 (c .ratio2)) ⌝ }
 {

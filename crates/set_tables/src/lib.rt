@@ -28,6 +28,7 @@ fn shown_of(r: &[u8]) -> u32
     wire::u32_at(r, 14)
 }
 
+// The regular order that a record tells.
 fn regular_told(r: &[u8]) -> Regular
     requires { ⌜ 18 ≤ length (now r) ⌝ }
     ensures { λ o. ⌜ o ≡ regularTold (now (r .entry)) ⌝ }
@@ -35,6 +36,7 @@ fn regular_told(r: &[u8]) -> Regular
     wire::order_at(r, shown_of(r))
 }
 
+// The complex order that a record tells.
 fn complex_told(r: &[u8]) -> Complex
     requires { ⌜ 21 ≤ length (now r) ⌝ }
     ensures { λ o. ⌜ o ≡ complexTold (now (r .entry)) ⌝ }
@@ -45,6 +47,7 @@ fn complex_told(r: &[u8]) -> Complex
     wire::two_leg_at(r, 1, 1)
 }
 
+// The edition that a record tells.
 fn edition_told(r: &[u8]) -> Edition
     ensures { λ e. ⌜ e ≡ editionTold (now (r .entry)) ⌝ }
 {
@@ -64,6 +67,7 @@ fn edition_told(r: &[u8]) -> Edition
     }
 }
 
+// The legging order that a record tells.
 fn legging_told(r: &[u8]) -> Legging
     ensures { λ l. ⌜ l ≡ leggingOf (now (r .entry)) ⌝ }
 {
@@ -74,6 +78,7 @@ fn legging_told(r: &[u8]) -> Legging
     }
 }
 
+// A series' status and away prices, of the two records that tell them.
 fn listed_told(status: &[u8], away: &[u8]) -> Listed
     ensures { λ x. ⌜ x ≡ listedOf (now (status .entry)) (now (away .entry)) ⌝ }
 {
@@ -93,6 +98,7 @@ fn size_at(memory: &[u8], at: usize) -> usize
     wire::u16_at(memory, at) as usize
 }
 
+// The regular orders that a set tells, place by place.
 fn regulars_told(memory: &[u8]) -> [Regular; 128]
     requires { ⌜ Taken (now memory) ⌝ }
     ensures { λ r. ⌜ r ≡ venueTold (rowIn (now (memory .entry))) .regular ⌝ }
@@ -124,6 +130,7 @@ fn regulars_told(memory: &[u8]) -> [Regular; 128]
     l
 }
 
+// The complex orders that a set tells, place by place.
 fn complexes_told(memory: &[u8]) -> [Complex; 32]
     requires { ⌜ Taken (now memory) ⌝ }
     ensures { λ r. ⌜ r ≡ venueTold (rowIn (now (memory .entry))) .complex ⌝ }
@@ -158,6 +165,7 @@ fn complexes_told(memory: &[u8]) -> [Complex; 32]
     l
 }
 
+// The editions that a set tells, place by place.
 fn editions_told(memory: &[u8]) -> [Edition; 32]
     requires { ⌜ Taken (now memory) ⌝ }
     ensures { λ r. ⌜ r ≡ venueTold (rowIn (now (memory .entry))) .editions ⌝ }
@@ -186,6 +194,7 @@ fn editions_told(memory: &[u8]) -> [Edition; 32]
     l
 }
 
+// The legging orders that a set tells, each at its place.
 fn leggings_told(memory: &[u8]) -> [Legging; 16]
     requires { ⌜ Taken (now memory) ⌝ }
     ensures { λ r. ⌜ r ≡ venueTold (rowIn (now (memory .entry))) .legging ⌝ }
@@ -212,6 +221,7 @@ fn leggings_told(memory: &[u8]) -> [Legging; 16]
     l
 }
 
+// The status and away prices of every series that a set tells.
 fn series_told(memory: &[u8]) -> [Listed; 8]
     requires { ⌜ Taken (now memory) ⌝ }
     ensures { λ r. ⌜ r ≡ venueTold (rowIn (now (memory .entry))) .series ⌝ }
@@ -250,6 +260,7 @@ fn one_more(g: Generations, number: u32) -> Generations
     Generations { messages }
 }
 
+// The generations of every series that a set tells.
 fn generations_told(memory: &[u8]) -> [Generations; 8]
     requires { ⌜ Taken (now memory) ⌝ }
     ensures { λ r. ⌜ r ≡ venueTold (rowIn (now (memory .entry))) .generations ⌝ }
@@ -300,6 +311,7 @@ pub fn first_told(memory: &[u8], at: usize) -> u32
     wire::u32_at(&memory[0..end], at)
 }
 
+// The venue that the records of a set tell.
 pub fn venue_told(memory: &[u8]) -> Venue
     requires { ⌜ Taken (now memory) ⌝ }
     ensures { λ r. ⌜ r ≡ venueTold (rowIn (now (memory .entry))) ⌝ }

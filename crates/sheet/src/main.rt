@@ -17,6 +17,7 @@ struct Progress {
     venue: Venue,
 }
 
+// Where the program stands before the first message.
 fn start() -> Progress
     ensures { λ r. ⌜ r ≡ started ⌝ }
 {

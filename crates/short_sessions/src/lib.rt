@@ -121,6 +121,7 @@ fn session_in(k: u8, memory: &[u8]) -> Found
     Found::Nothing
 }
 
+// Four bytes written to a memory of four.
 fn put_bytes(memory: &mut [u8], n: u8, a: u8, b: u8, c: u8)
     requires { ⌜ length (now memory) ≡ 4 ⌝ }
     ensures { λ _. ⌜ now (memory .exit) ≡ n ∷ a ∷ b ∷ c ∷ [] ⌝ }

@@ -131,6 +131,7 @@ fn blank_complex(c: Complex) -> bool
     c.ratio2 == 0
 }
 
+// Every complex place from one on is blank.
 fn complexes_blank(l: [Complex; 32], from: usize) -> bool
     ensures { λ r. ⌜ r ≡ all blankComplex (drop from l) ⌝ }
 {
@@ -145,6 +146,7 @@ fn complexes_blank(l: [Complex; 32], from: usize) -> bool
     true
 }
 
+// The complex places are sound: ids rise, fields are in their ranges, and free places are blank and last.
 fn complexes_sound(l: [Complex; 32], last: u32) -> bool
     ensures { λ r. ⌜ r ≡ complexesFrom last 0 l ⌝ }
 {
@@ -183,6 +185,7 @@ fn listed_in_range(x: Listed) -> bool
     x.offer <= 100000
 }
 
+// Every series' status and away prices are in their ranges.
 fn series_sound(l: [Listed; 8]) -> bool
     ensures { λ r. ⌜ r ≡ all listedInRange l ⌝ }
 {
@@ -213,6 +216,7 @@ fn blank_edition(e: Edition) -> bool
     e.value == 0
 }
 
+// Every place of the editions from one on is blank.
 fn editions_blank(l: [Edition; 32], from: usize) -> bool
     ensures { λ r. ⌜ r ≡ all blankEdition (drop from l) ⌝ }
 {
@@ -292,6 +296,7 @@ fn numbers_sound(l: [u32; 20]) -> bool
     true
 }
 
+// Every series' generations are sound.
 fn generations_sound(l: [Generations; 8]) -> bool
     ensures { λ r. ⌜ r ≡ all numbersSound l ⌝ }
 {

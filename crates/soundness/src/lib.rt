@@ -34,6 +34,7 @@ fn on_increment(b: &[u32], o: Regular) -> bool
     o.price % (increment as u32) == 0
 }
 
+// Every resting regular order's price is a multiple of its series' increment in force.
 fn on_increments(b: &[u32]) -> bool
     requires { ⌜ (length (now b) ≡ size) × (Figured (now b)) ⌝ }
     ensures { λ r. ⌜ r ≡ onIncrements (venueOf (now (b .entry))) ⌝ }
@@ -97,6 +98,7 @@ fn is_apart(b: &[u32], s: u8) -> bool
     bid < offer
 }
 
+// No series is locked or crossed, counting own prices.
 fn all_apart(b: &[u32]) -> bool
     requires { ⌜ (length (now b) ≡ size) × (Right (now b)) ⌝ }
     ensures { λ r. ⌜ r ≡ all (apart (venueOf (now (b .entry)))) eight ⌝ }
@@ -199,6 +201,7 @@ fn legging_sound(b: &[u32], g: [[Level; 2]; 8], n: usize) -> bool
     true
 }
 
+// Every legging place is sound.
 fn leggings_sound(b: &[u32], g: [[Level; 2]; 8]) -> bool
     requires { ⌜ (length (now b) ≡ size) × (GridOf g (venueOf (now b) .regular)) × (Figured (now b)) ⌝ }
     ensures { λ r. ⌜ r ≡ leggingsSound (venueOf (now (b .entry))) 0 (venueOf (now (b .entry)) .legging) ⌝ }
@@ -274,6 +277,7 @@ fn follows_series(b: &[u32], s: usize, number: u32) -> bool
     true
 }
 
+// A message number is above that of every generation.
 fn follows_generations(b: &[u32], number: u32) -> bool
     requires { ⌜ length (now b) ≡ size ⌝ }
     ensures { λ r. ⌜ r ≡ all (λ g. all (λ n. ltb n number) (g .messages)) (venueOf (now (b .entry)) .generations) ⌝ }

@@ -61,6 +61,7 @@ fn put_word(out: &mut [u8], at: usize, n: u32) -> usize
     put_number(out, pos, n)
 }
 
+// A space, and a signed number in decimal.
 fn put_signed_word(out: &mut [u8], at: usize, bits: u32) -> usize
     ensures { λ r. ⌜ seen (now (out .exit)) r ≡ seen (now (out .entry)) at types signedWord (asSigned bits) ⌝ }
 {
@@ -92,12 +93,14 @@ pub fn put_fields(out: &mut [u8], at: usize, kind: u32, fields: &[u32]) -> usize
     put_byte(out, pos, 10)
 }
 
+// The byte at a position as a number of 32 bits.
 fn byte_at(s: &[u8], at: usize) -> u32
     ensures { λ r. ⌜ r ≡ u8At (now (s .entry)) at ⌝ }
 {
     wire::u8_at(s, at) as u32
 }
 
+// The number of 16 bits at a position as one of 32.
 fn half_at(s: &[u8], at: usize) -> u32
     ensures { λ r. ⌜ r ≡ u16At (now (s .entry)) at ⌝ }
 {

@@ -117,6 +117,7 @@ pub struct Pairing {
     pub net: i64,
 }
 
+// What a hit of a legging order pairs.
 fn pairing_of(b: &[u32], l: Legging, series: u8, side: u8) -> Pairing
     requires { ⌜ (length (now b) ≡ size) × (Right (now b)) ⌝ }
     ensures { λ r. ⌜ r ≡ pairingOf (venueOf (now (b .entry))) l series side ⌝ }

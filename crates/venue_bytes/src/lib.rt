@@ -32,6 +32,7 @@ pub const VENUE_SIZE: usize = REACHED_AT + 4;
 
 // A row read ----------------------------------------------------------------------------------
 
+// A regular order, of its row and its reserve's row.
 fn regular_from(row: &[u8], reserve: &[u8]) -> Regular
     requires { ⌜ (14 ≤ length (now row)) × (8 ≤ length (now reserve)) ⌝ }
     ensures { λ r. ⌜ r ≡ regularFrom (now (row .entry)) (now (reserve .entry)) ⌝ }
@@ -47,6 +48,7 @@ fn regular_from(row: &[u8], reserve: &[u8]) -> Regular
     }
 }
 
+// A complex order, of its row and its ratios' row.
 fn complex_from(row: &[u8], ratio: &[u8]) -> Complex
     requires { ⌜ (17 ≤ length (now row)) × (2 ≤ length (now ratio)) ⌝ }
     ensures { λ r. ⌜ r ≡ complexFrom (now (row .entry)) (now (ratio .entry)) ⌝ }
@@ -65,6 +67,7 @@ fn complex_from(row: &[u8], ratio: &[u8]) -> Complex
     }
 }
 
+// A legging order, of its row.
 fn legging_from(row: &[u8]) -> Legging
     requires { ⌜ 12 ≤ length (now row) ⌝ }
     ensures { λ r. ⌜ r ≡ leggingFrom (now (row .entry)) ⌝ }
@@ -76,6 +79,7 @@ fn legging_from(row: &[u8]) -> Legging
     }
 }
 
+// A series' status and away prices, of their row.
 fn listed_from(row: &[u8]) -> Listed
     requires { ⌜ 9 ≤ length (now row) ⌝ }
     ensures { λ r. ⌜ r ≡ listedFrom (now (row .entry)) ⌝ }
@@ -87,6 +91,7 @@ fn listed_from(row: &[u8]) -> Listed
     }
 }
 
+// An edition, of its row.
 fn edition_from(row: &[u8]) -> Edition
     requires { ⌜ 10 ≤ length (now row) ⌝ }
     ensures { λ r. ⌜ r ≡ editionFrom (now (row .entry)) ⌝ }
@@ -99,6 +104,7 @@ fn edition_from(row: &[u8]) -> Edition
     }
 }
 
+// A series' generations, of their row.
 fn generations_from(row: &[u8]) -> Generations
     requires { ⌜ 80 ≤ length (now row) ⌝ }
     ensures { λ r. ⌜ r ≡ generationsFrom (now (row .entry)) ⌝ }
@@ -115,6 +121,7 @@ fn generations_from(row: &[u8]) -> Generations
 
 // The venue read, table by table --------------------------------------------------------------
 
+// The regular orders that the bytes hold.
 fn regulars_from(bytes: &[u8]) -> [Regular; 128]
     requires { ⌜ length (now bytes) ≡ venueSize ⌝ }
     ensures { λ r. ⌜ r ≡ venueFrom (now (bytes .entry)) .regular ⌝ }
@@ -140,6 +147,7 @@ fn regulars_from(bytes: &[u8]) -> [Regular; 128]
     r
 }
 
+// The complex orders that the bytes hold.
 fn complexes_from(bytes: &[u8]) -> [Complex; 32]
     requires { ⌜ length (now bytes) ≡ venueSize ⌝ }
     ensures { λ r. ⌜ r ≡ venueFrom (now (bytes .entry)) .complex ⌝ }
@@ -168,6 +176,7 @@ fn complexes_from(bytes: &[u8]) -> [Complex; 32]
     r
 }
 
+// The legging orders that the bytes hold.
 fn leggings_from(bytes: &[u8]) -> [Legging; 16]
     requires { ⌜ length (now bytes) ≡ venueSize ⌝ }
     ensures { λ r. ⌜ r ≡ venueFrom (now (bytes .entry)) .legging ⌝ }
@@ -188,6 +197,7 @@ fn leggings_from(bytes: &[u8]) -> [Legging; 16]
     r
 }
 
+// The status and away prices of every series that the bytes hold.
 fn series_from(bytes: &[u8]) -> [Listed; 8]
     requires { ⌜ length (now bytes) ≡ venueSize ⌝ }
     ensures { λ r. ⌜ r ≡ venueFrom (now (bytes .entry)) .series ⌝ }
@@ -208,6 +218,7 @@ fn series_from(bytes: &[u8]) -> [Listed; 8]
     r
 }
 
+// The editions that the bytes hold.
 fn editions_from(bytes: &[u8]) -> [Edition; 32]
     requires { ⌜ length (now bytes) ≡ venueSize ⌝ }
     ensures { λ r. ⌜ r ≡ venueFrom (now (bytes .entry)) .editions ⌝ }
@@ -229,6 +240,7 @@ fn editions_from(bytes: &[u8]) -> [Edition; 32]
     r
 }
 
+// The generations of every series that the bytes hold.
 fn all_generations_from(bytes: &[u8]) -> [Generations; 8]
     requires { ⌜ length (now bytes) ≡ venueSize ⌝ }
     ensures { λ r. ⌜ r ≡ venueFrom (now (bytes .entry)) .generations ⌝ }

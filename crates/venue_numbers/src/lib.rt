@@ -68,6 +68,7 @@ fn load_complexes(b: &mut [u32], l: [Complex; 32])
     b[777] = 32;
 }
 
+// The legging orders written among the numbers.
 fn load_leggings(b: &mut [u32], l: [Legging; 16])
     requires { ⌜ length (now b) ≡ size ⌝ }
     ensures { λ _. ⌜ venueOf (now (b .exit)) ≡ withLegging (venueOf (now (b .entry))) l ⌝ }
@@ -81,6 +82,7 @@ fn load_leggings(b: &mut [u32], l: [Legging; 16])
     }
 }
 
+// The status and away prices of every series written among the numbers.
 fn load_series(b: &mut [u32], l: [Listed; 8])
     requires { ⌜ length (now b) ≡ size ⌝ }
     ensures { λ _. ⌜ venueOf (now (b .exit)) ≡ withSeries (venueOf (now (b .entry))) l ⌝ }
@@ -94,6 +96,7 @@ fn load_series(b: &mut [u32], l: [Listed; 8])
     }
 }
 
+// The editions written among the numbers.
 fn load_editions(b: &mut [u32], l: [Edition; 32])
     requires { ⌜ length (now b) ≡ size ⌝ }
     ensures { λ _. ⌜ EditionsLoaded (now (b .entry)) l (now (b .exit)) ⌝ }
@@ -120,6 +123,7 @@ fn load_traffic(b: &mut [u32], l: [Generations; 8], reached: u32)
     place_writes::put_reached(b, reached);
 }
 
+// 1 where a legging place is filled, 0 where it is free.
 fn bit(l: Legging) -> u16
     ensures { λ r. ⌜ r ≡ bitOf l ⌝ }
 {

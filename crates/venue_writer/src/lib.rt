@@ -15,6 +15,7 @@ ghost use Rattle.venue_bytes.specs.Held.{regularBytes, complexBytes, leggingByt
 
 // A row written -------------------------------------------------------------------------------
 
+// A regular order's row.
 fn put_regular(out: &mut [u8], at: usize, o: Regular)
     ensures { λ _. ⌜ now (out .exit) ≡ (seen (now (out .entry)) at plus regularBytes o) .memory ⌝ }
 {
@@ -24,6 +25,7 @@ fn put_regular(out: &mut [u8], at: usize, o: Regular)
     records::put_words(out, at, &head, &words);
 }
 
+// The row of a regular order's reserve.
 fn put_reserve(out: &mut [u8], at: usize, o: Regular)
     ensures { λ _. ⌜ now (out .exit) ≡ (seen (now (out .entry)) at plus reserveBytes o) .memory ⌝ }
 {
@@ -32,6 +34,7 @@ fn put_reserve(out: &mut [u8], at: usize, o: Regular)
     records::put_words(out, at, &head, &words);
 }
 
+// A complex order's row.
 fn put_complex(out: &mut [u8], at: usize, c: Complex)
     ensures { λ _. ⌜ now (out .exit) ≡ (seen (now (out .entry)) at plus complexBytes c) .memory ⌝ }
 {
@@ -51,6 +54,7 @@ fn put_complex(out: &mut [u8], at: usize, c: Complex)
     records::put_words(out, at, &head, &words);
 }
 
+// The row of a complex order's ratios.
 fn put_ratio(out: &mut [u8], at: usize, c: Complex)
     ensures { λ _. ⌜ now (out .exit) ≡ (seen (now (out .entry)) at plus ratioBytes c) .memory ⌝ }
 {
@@ -58,6 +62,7 @@ fn put_ratio(out: &mut [u8], at: usize, c: Complex)
     records::put(out, at, &row);
 }
 
+// A legging order's row.
 fn put_legging(out: &mut [u8], at: usize, l: Legging)
     ensures { λ _. ⌜ now (out .exit) ≡ (seen (now (out .entry)) at plus leggingBytes l) .memory ⌝ }
 {
@@ -66,6 +71,7 @@ fn put_legging(out: &mut [u8], at: usize, l: Legging)
     records::put_words(out, at, &head, &words);
 }
 
+// The row of a series' status and away prices.
 fn put_listed(out: &mut [u8], at: usize, x: Listed)
     ensures { λ _. ⌜ now (out .exit) ≡ (seen (now (out .entry)) at plus listedBytes x) .memory ⌝ }
 {
@@ -74,6 +80,7 @@ fn put_listed(out: &mut [u8], at: usize, x: Listed)
     records::put_words(out, at, &head, &words);
 }
 
+// An edition's row.
 fn put_edition(out: &mut [u8], at: usize, x: Edition)
     ensures { λ _. ⌜ now (out .exit) ≡ (seen (now (out .entry)) at plus editionBytes x) .memory ⌝ }
 {
@@ -94,6 +101,7 @@ fn put_edition(out: &mut [u8], at: usize, x: Edition)
     records::put(out, at, &row);
 }
 
+// The row of a series' generations.
 fn put_generations(out: &mut [u8], at: usize, g: Generations)
     requires { ⌜ at + 80 ≤ length (now out) ⌝ }
     ensures { λ _. ⌜ now (out .exit) ≡ (seen (now (out .entry)) at plus generationsBytes g) .memory ⌝ }
@@ -109,6 +117,7 @@ fn put_generations(out: &mut [u8], at: usize, g: Generations)
 
 // The venue written, table by table -----------------------------------------------------------
 
+// The regular orders' rows.
 fn put_regulars(out: &mut [u8], l: [Regular; 128])
     requires { ⌜ length (now out) ≡ venueSize ⌝ }
     ensures { λ _. ⌜ now (out .exit) ≡ pasted (now (out .entry)) 0 (rows regularBytes l) ⌝ }
@@ -121,6 +130,7 @@ fn put_regulars(out: &mut [u8], l: [Regular; 128])
     }
 }
 
+// The complex orders' rows.
 fn put_complexes(out: &mut [u8], l: [Complex; 32])
     requires { ⌜ length (now out) ≡ venueSize ⌝ }
     ensures { λ _. ⌜ now (out .exit) ≡ pasted (now (out .entry)) 1792 (rows complexBytes l) ⌝ }
@@ -133,6 +143,7 @@ fn put_complexes(out: &mut [u8], l: [Complex; 32])
     }
 }
 
+// The legging orders' rows.
 fn put_leggings(out: &mut [u8], l: [Legging; 16])
     requires { ⌜ length (now out) ≡ venueSize ⌝ }
     ensures { λ _. ⌜ now (out .exit) ≡ pasted (now (out .entry)) 2336 (rows leggingBytes l) ⌝ }
@@ -145,6 +156,7 @@ fn put_leggings(out: &mut [u8], l: [Legging; 16])
     }
 }
 
+// The series' rows.
 fn put_series(out: &mut [u8], l: [Listed; 8])
     requires { ⌜ length (now out) ≡ venueSize ⌝ }
     ensures { λ _. ⌜ now (out .exit) ≡ pasted (now (out .entry)) 2528 (rows listedBytes l) ⌝ }
@@ -157,6 +169,7 @@ fn put_series(out: &mut [u8], l: [Listed; 8])
     }
 }
 
+// The editions' rows.
 fn put_editions(out: &mut [u8], l: [Edition; 32])
     requires { ⌜ length (now out) ≡ venueSize ⌝ }
     ensures { λ _. ⌜ now (out .exit) ≡ pasted (now (out .entry)) editionsAt (rows editionBytes l) ⌝ }
@@ -169,6 +182,7 @@ fn put_editions(out: &mut [u8], l: [Edition; 32])
     }
 }
 
+// The rows of the regular orders' reserves.
 fn put_reserves(out: &mut [u8], l: [Regular; 128])
     requires { ⌜ length (now out) ≡ venueSize ⌝ }
     ensures { λ _. ⌜ now (out .exit) ≡ pasted (now (out .entry)) reservesAt (rows reserveBytes l) ⌝ }
@@ -181,6 +195,7 @@ fn put_reserves(out: &mut [u8], l: [Regular; 128])
     }
 }
 
+// The rows of the complex orders' ratios.
 fn put_ratios(out: &mut [u8], l: [Complex; 32])
     requires { ⌜ length (now out) ≡ venueSize ⌝ }
     ensures { λ _. ⌜ now (out .exit) ≡ pasted (now (out .entry)) ratiosAt (rows ratioBytes l) ⌝ }
@@ -193,6 +208,7 @@ fn put_ratios(out: &mut [u8], l: [Complex; 32])
     }
 }
 
+// The rows of the series' generations.
 fn put_all_generations(out: &mut [u8], l: [Generations; 8])
     requires { ⌜ length (now out) ≡ venueSize ⌝ }
     ensures { λ _. ⌜ now (out .exit) ≡ pasted (now (out .entry)) generationsAt (rows generationsBytes l) ⌝ }

@@ -16,12 +16,14 @@ ghost use Rattle.rules.specs.Refusals.{regularInRange, twoLegInRange, farOf, in
 
 // Reading -------------------------------------------------------------------------------------
 
+// A byte as a number of 16 bits.
 fn wide16(x: u8) -> u16
     ensures { λ r. ⌜ (r ≡ x) × (r < 256) ⌝ }
 {
     x as u16
 }
 
+// A number of 16 bits as one of 32.
 fn wide32(x: u16) -> u32
     ensures { λ r. ⌜ (r ≡ x) × (r < 65536) ⌝ }
 {
@@ -35,6 +37,7 @@ pub fn u8_at(s: &[u8], at: usize) -> u8
     if at < s.len() { s[at] } else { 0 }
 }
 
+// The number of 16 bits at a position; a byte past the end of `s` is read as 0.
 pub fn u16_at(s: &[u8], at: usize) -> u16
     ensures { λ r. ⌜ r ≡ u16At (now (s .entry)) at ⌝ }
 {
@@ -46,6 +49,7 @@ pub fn u16_at(s: &[u8], at: usize) -> u16
     low + 256 * high
 }
 
+// The number of 32 bits at a position; a byte past the end of `s` is read as 0.
 pub fn u32_at(s: &[u8], at: usize) -> u32
     ensures { λ r. ⌜ r ≡ u32At (now (s .entry)) at ⌝ }
 {
@@ -76,6 +80,7 @@ pub fn byte_at(s: &[u8], at: usize) -> u8
     s[at]
 }
 
+// The number of 16 bits at a position that `s` has.
 fn half_at(s: &[u8], at: usize) -> u16
     requires { ⌜ at + 2 ≤ length (now s) ⌝ }
     ensures { λ r. ⌜ r ≡ u16At (now (s .entry)) at ⌝ }
@@ -85,6 +90,7 @@ fn half_at(s: &[u8], at: usize) -> u16
     low + 256 * high
 }
 
+// The number of 32 bits at a position that `s` has.
 pub fn word_at(s: &[u8], at: usize) -> u32
     requires { ⌜ at + 4 ≤ length (now s) ⌝ }
     ensures { λ r. ⌜ r ≡ u32At (now (s .entry)) at ⌝ }
@@ -96,6 +102,7 @@ pub fn word_at(s: &[u8], at: usize) -> u32
 
 // A message -----------------------------------------------------------------------------------
 
+// A number is a price: 1 to 100000.
 fn is_price(n: u32) -> bool
     ensures { λ r. ⌜ r ≡ isPrice n ⌝ }
 {
@@ -105,6 +112,7 @@ fn is_price(n: u32) -> bool
     n <= 100000
 }
 
+// A number is a quantity: 1 to 10000.
 fn is_quantity(n: u32) -> bool
     ensures { λ r. ⌜ r ≡ isQuantity n ⌝ }
 {
@@ -126,6 +134,7 @@ fn is_limit(far: u32, n: i32) -> bool
     x <= top
 }
 
+// A number is a ratio: 1 to 3.
 fn is_ratio(n: u8) -> bool
     ensures { λ r. ⌜ r ≡ isRatio n ⌝ }
 {
@@ -135,6 +144,7 @@ fn is_ratio(n: u8) -> bool
     n <= 3
 }
 
+// A number is an increment: 1, 5 or 10.
 pub fn is_increment(n: u8) -> bool
     ensures { λ r. ⌜ r ≡ isIncrement n ⌝ }
 {
@@ -239,6 +249,7 @@ pub fn complex_in_range(c: Complex) -> bool
     two_leg_in_range(600000, c)
 }
 
+// The fields of away prices are in their ranges.
 fn away_in_range(series: u8, bid: u32, offer: u32) -> bool
     ensures { λ r. ⌜ r ≡ (isSeries series && isAway bid && isAway offer) ⌝ }
 {
@@ -251,6 +262,7 @@ fn away_in_range(series: u8, bid: u32, offer: u32) -> bool
     offer <= 100000
 }
 
+// The fields of a status are in their ranges.
 fn status_in_range(series: u8, status: u8) -> bool
     ensures { λ r. ⌜ r ≡ (isSeries series && isStatus status) ⌝ }
 {
@@ -260,6 +272,7 @@ fn status_in_range(series: u8, status: u8) -> bool
     status <= 2
 }
 
+// The fields of an increment are in their ranges.
 fn increment_in_range(series: u8, increment: u8) -> bool
     ensures { λ r. ⌜ r ≡ (isSeries series && isIncrement increment) ⌝ }
 {
