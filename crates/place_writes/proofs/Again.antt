@@ -14,6 +14,7 @@ use Rattle.rules.specs.Standing.{showsAgain, showAgain}
 use Rattle.rules.proofs.Again.{again-at, again-fewer}
 use Rattle.rules.proofs.Showing.{Showing, again-showing}
 use Rattle.places.specs.Layout.{size, regularsUsed, regularIn, venueOf, Fully, SameBeside}
+use Rattle.places.specs.Offsets.{regularReserveAt, regularDisplayAt, regularReserveNextAt, showAgainAt, generationMessagesAt}
 use Rattle.places.proofs.Parts.{Outside, stored, wider, joined, unmoved, regulars-few, regulars-many, regular-at, regular-past, regular-kept}
 use Rattle.places.proofs.Parts.{count-kept, count-kept2, complexes-kept, leggings-kept, series-kept, editions-kept, generations-kept, last-kept}
 use Rattle.places.proofs.Parts.{reached-kept, venue-is}
@@ -22,7 +23,7 @@ use Rattle.places.proofs.Beside.{levels-kept, regulars-marked, complexes-marked
 -- the orders at the first i places show again
 pub record ShowingAgain (a b : List ℕ) (i : ℕ) : Type 0 where
   pub long : length b ≡ size
-  pub outside : Outside 975 1231 a b
+  pub outside : Outside regularReserveAt showAgainAt a b
   pub done : (k : ℕ) → k < i → k < 128 → regularIn b k ≡ showsAgain (regularIn a k)
   pub rest : (k : ℕ) → i ≤ k → k < 128 → regularIn b k ≡ regularIn a k
 
@@ -30,25 +31,26 @@ pub again-start : (a : List ℕ) → length a ≡ size → ShowingAgain a a 0
 again-start a n = record { long = n; outside = unmoved; done = λ k w. absurd (omega arith); rest = λ k w f. refl }
 
 -- one order, whose reserve becomes all but its shown quantity
-here : (b : List ℕ) (i x : ℕ) → length b ≡ size → i < 128 → x ≡ regularIn b i .quantity - regularIn b i .display → regularIn (set b (2 * i + 975) x) i ≡ showsAgain (regularIn b i)
+here : (b : List ℕ) (i x : ℕ) → length b ≡ size → i < 128 → x ≡ regularIn b i .quantity - regularIn b i .display → regularIn (set b (2 * i + regularReserveAt) x) i ≡ showsAgain (regularIn b i)
 unfolding regularIn showsAgain
 here b i x n h e =
     let q = getD b (4 * i + 3) 0 in
-    let d = getD b (2 * i + 976) 0 in
+    let d = getD b (2 * i + regularDisplayAt) 0 in
     let z : min x q ≡ q - min d q = omega arith in
     rw (
-      getD-set-same b (2 * i + 975) x 0 (omega arith),
-      getD-set-other b (2 * i + 975) (4 * i) x 0 (λ w. omega arith),
-      getD-set-other b (2 * i + 975) (4 * i + 1) x 0 (λ w. omega arith),
-      getD-set-other b (2 * i + 975) (4 * i + 2) x 0 (λ w. omega arith),
-      getD-set-other b (2 * i + 975) (4 * i + 3) x 0 (λ w. omega arith),
-      getD-set-other b (2 * i + 975) (2 * i + 976) x 0 (λ w. omega arith),
+      getD-set-same b (2 * i + regularReserveAt) x 0 (omega arith),
+      getD-set-other b (2 * i + regularReserveAt) (4 * i) x 0 (λ w. omega arith),
+      getD-set-other b (2 * i + regularReserveAt) (4 * i + 1) x 0 (λ w. omega arith),
+      getD-set-other b (2 * i + regularReserveAt) (4 * i + 2) x 0 (λ w. omega arith),
+      getD-set-other b (2 * i + regularReserveAt) (4 * i + 3) x 0 (λ w. omega arith),
+      getD-set-other b (2 * i + regularReserveAt) (2 * i + regularDisplayAt) x 0 (λ w. omega arith),
       z,
     ) refl
 
-pub again-next : (a b : List ℕ) (i : ℕ) (o : Regular) (x : ℕ) → ShowingAgain a b i → i < 128 → o ≡ regularIn b i → x ≡ o .quantity - o .display → ShowingAgain a (set b (2 * i + 975) x) (i + 1)
+pub again-next : (a b : List ℕ) (i : ℕ) (o : Regular) (x : ℕ) → ShowingAgain a b i → i < 128 → o ≡ regularIn b i → x ≡ o .quantity - o .display →
+    ShowingAgain a (set b (2 * i + regularReserveAt) x) (i + 1)
 again-next a b i o x m h is e = record {
-  long = length-set b (2 * i + 975) x ∙ m .long;
+  long = length-set b (2 * i + regularReserveAt) x ∙ m .long;
   outside = joined (m .outside) (wider (omega arith) (omega arith) one);
   done = λ k w f. elim (ℕ-discrete k i) [
     | yes q ↦ ap (regularIn c) q ∙ here b i x (m .long) h (e ∙ ap (λ (y : Regular). y .quantity - y .display) is) ∙ ap showsAgain
@@ -59,12 +61,12 @@ again-next a b i o x m h is e = record {
 }
   where
     c : List ℕ
-    c = set b (2 * i + 975) x
+    c = set b (2 * i + regularReserveAt) x
 
-    one : Outside (2 * i + 975) (2 * i + 976) b c
-    one = wider (omega arith) (omega arith) (stored b (2 * i + 975) x)
+    one : Outside (2 * i + regularReserveAt) (2 * i + regularDisplayAt) b c
+    one = wider (omega arith) (omega arith) (stored b (2 * i + regularReserveAt) x)
 
-    near : (k : ℕ) → k ≢ i → (2 * k + 977 ≤ 2 * i + 975) ⊎ (2 * i + 976 ≤ 2 * k + 975)
+    near : (k : ℕ) → k ≢ i → (2 * k + regularReserveNextAt ≤ 2 * i + regularReserveAt) ⊎ (2 * i + regularDisplayAt ≤ 2 * k + regularReserveAt)
     near k q = elim (decLt k i) [ yes p ↦ inl (omega arith) | no p ↦ inr (omega arith) ]
 
 -- all that are in use, and so all
@@ -92,7 +94,7 @@ module _ (a b : List ℕ) (n i : ℕ) (m : ShowingAgain a b i) (used : n ≡ reg
       venue-is (venueOf b) (showAgain (venueOf a)) orders (complexes-kept o (inr (omega arith)) (inl (omega arith))) (leggings-kept o (inr (omega arith)))
       (series-kept o (inr (omega arith))) (editions-kept o (inr (omega arith))) (generations-kept o (inl (omega arith))) (last-kept o (inl (omega arith))) (reached-kept o (inr (omega arith)))
 
-  pub again-end : (venueOf (set b 1231 0) ≡ showAgain (venueOf a)) × SameBeside a (set b 1231 0)
+  pub again-end : (venueOf (set b showAgainAt 0) ≡ showAgain (venueOf a)) × SameBeside a (set b showAgainAt 0)
   again-end = (
     venue,
     record {
@@ -109,11 +111,11 @@ module _ (a b : List ℕ) (n i : ℕ) (m : ShowingAgain a b i) (used : n ≡ reg
     },
   )
     where
-      o : Outside 975 1231 a b
+      o : Outside regularReserveAt showAgainAt a b
       o = m .outside
 
-      p : Outside 1231 1232 b (set b 1231 0)
-      p = stored b 1231 0
+      p : Outside showAgainAt generationMessagesAt b (set b showAgainAt 0)
+      p = stored b showAgainAt 0
 
-      venue : venueOf (set b 1231 0) ≡ showAgain (venueOf a)
+      venue : venueOf (set b showAgainAt 0) ≡ showAgain (venueOf a)
       venue = beside-venue p (omega arith) (inr (omega arith)) (inl (omega arith)) (omega arith) ∙ again-venue

@@ -20,6 +20,8 @@ use Rattle.rules.proofs.Closing.{best-closed, size-closed}
 use Rattle.places.specs.Layout.{size, inUse, regularsUsed, complexesUsed, regularIn, complexIn, venueOf, regularPut, complexRow, limitNumber, Kept}
 use Rattle.places.specs.Layout.{levelOf, levelIn, Fully, Figured, Orderly, Right, SameCounts, Filled, Dense, closeRegulars, closeComplexes}
 use Rattle.places.specs.Layout.{regularsHeld, complexesHeld, RegularsClosed, ComplexesClosed, GapsClosed}
+use Rattle.places.specs.Offsets.{complexIdAt, complexLimitAt, leggingParentAt, regularsUsedAt, complexesUsedAt, regularsKnownAt, complexesKnownAt}
+use Rattle.places.specs.Offsets.{leggingMaskAt, regularReserveAt, regularReserveNextAt, showAgainAt}
 use Rattle.places.proofs.Parts.{Outside, OutsideRows, Halves, halves, stored, wider, regulars-few, complexes-few, regular-at, complex-at, rows-agree}
 use Rattle.places.proofs.Parts.{holds-kept, complex-kept, count-kept, count-kept2, regulars-kept, complexes-kept, leggings-kept, series-kept}
 use Rattle.places.proofs.Parts.{editions-kept, generations-kept, last-kept, reached-kept, venue-is, regulars-counted, complexes-counted}
@@ -33,13 +35,13 @@ use Rattle.place_writes.proofs.Gaps.{closing-start, closed-count, close
 -- Rows ----------------------------------------------------------------------------------------
 
 abbrev lowComplex : ℕ → ℕ
-lowComplex i = 6 * i + 512
+lowComplex i = 6 * i + complexIdAt
 
-complex-wide : (i : ℕ) (c : Complex) → 6 * i + 512 + length (complexRow c) ≡ 6 * (i + 1) + 512
+complex-wide : (i : ℕ) (c : Complex) → 6 * i + complexIdAt + length (complexRow c) ≡ 6 * (i + 1) + complexIdAt
 unfolding complexRow
 complex-wide i c = omega arith
 
-complex-agree : (a b : List ℕ) (l h i : ℕ) → Outside l h a b → (6 * (i + 1) + 512 ≤ l) ⊎ (h ≤ 6 * i + 512) → complexIn a i ≡ complexIn b i
+complex-agree : (a b : List ℕ) (l h i : ℕ) → Outside l h a b → (6 * (i + 1) + complexIdAt ≤ l) ⊎ (h ≤ 6 * i + complexIdAt) → complexIn a i ≡ complexIn b i
 complex-agree a b l h i o (inl w) = complex-kept o i (inl (omega arith))
 complex-agree a b l h i o (inr w) = complex-kept o i (inr w)
 
@@ -57,7 +59,7 @@ regular-rows = record {
     one i j k l n p q (inl h) = inl (omega arith)
     one i j k l n p q (inr h) = inr (omega arith)
 
-    two : (i j k l n : ℕ) → k ≤ i → j ≤ l → (n < 2 * k + 975) ⊎ (2 * l + 975 ≤ n) → (n < 2 * i + 975) ⊎ (2 * j + 975 ≤ n)
+    two : (i j k l n : ℕ) → k ≤ i → j ≤ l → (n < 2 * k + regularReserveAt) ⊎ (2 * l + regularReserveAt ≤ n) → (n < 2 * i + regularReserveAt) ⊎ (2 * j + regularReserveAt ≤ n)
     two i j k l n p q (inl h) = inl (omega arith)
     two i j k l n p q (inr h) = inr (omega arith)
 
@@ -65,15 +67,15 @@ regular-rows = record {
     up-four i k (inl h) = inl h
     up-four i k (inr h) = inr (omega arith)
 
-    up-two : (i k : ℕ) → (k < 2 * i + 975) ⊎ (2 * (i + 1) + 975 ≤ k) → (k < 2 * i + 975) ⊎ (2 * i + 977 ≤ k)
+    up-two : (i k : ℕ) → (k < 2 * i + regularReserveAt) ⊎ (2 * (i + 1) + regularReserveAt ≤ k) → (k < 2 * i + regularReserveAt) ⊎ (2 * i + regularReserveNextAt ≤ k)
     up-two i k (inl h) = inl h
     up-two i k (inr h) = inr (omega arith)
 
 abbrev pub complexPut : List ℕ → ℕ → Complex → List ℕ
-complexPut a i c = sets a (6 * i + 512) (complexRow c)
+complexPut a i c = sets a (6 * i + complexIdAt) (complexRow c)
 
 abbrev pub OutsideComplexes : (i j : ℕ) (a b : List ℕ) → Type 0
-OutsideComplexes i j = Outside (6 * i + 512) (6 * j + 512)
+OutsideComplexes i j = Outside (6 * i + complexIdAt) (6 * j + complexIdAt)
 
 pub complex-rows : Rows 32 complexIn complexPut OutsideComplexes
 complex-rows = rows-between 32 lowComplex complexIn complexRow (λ i j h. omega arith) complex-wide complex-agree
@@ -88,12 +90,12 @@ complex-keeps : (c : List ℕ) (k : ℕ) → Kept (complexIn c k)
 unfolding complexIn limitNumber
 complex-keeps c k = record {
   class = omega arith;
-  limit = ap (λ (z : ℤ). pos (natAbs z) -ℤ pos 2147483648) (-ℤ-+ℤ-cancel (pos (getD c (6 * k + 516) 0)) (pos 2147483648));
+  limit = ap (λ (z : ℤ). pos (natAbs z) -ℤ pos 2147483648) (-ℤ-+ℤ-cancel (pos (getD c (6 * k + complexLimitAt) 0)) (pos 2147483648));
   ratio1 = omega arith;
   ratio2 = omega arith;
 }
 
-complex-again : (a c : List ℕ) (i k : ℕ) → length a ≡ size → i < 32 → complexIn (sets a (6 * i + 512) (complexRow (complexIn c k))) i ≡ complexIn c k
+complex-again : (a c : List ℕ) (i k : ℕ) → length a ≡ size → i < 32 → complexIn (sets a (6 * i + complexIdAt) (complexRow (complexIn c k))) i ≡ complexIn c k
 complex-again a c i k e h =
     complex-back a i (complexIn c k) e h (unfold complexIn in omega arith) (unfold complexIn in omega arith) (unfold complexIn in omega arith) (unfold complexIn in omega arith) (complex-keeps c k)
 
@@ -139,7 +141,7 @@ others-regular a b l o =
     (last-kept (o .second) (inl (omega arith)) ∙ last-kept (o .first) (inr (omega arith)))
     (reached-kept (o .second) (inr (omega arith)) ∙ reached-kept (o .first) (inr (omega arith)))
 
-others-complex : (a b : List ℕ) (l : List Complex) → Outside 512 704 a b → withComplex (venueOf b) l ≡ withComplex (venueOf a) l
+others-complex : (a b : List ℕ) (l : List Complex) → Outside complexIdAt leggingParentAt a b → withComplex (venueOf b) l ≡ withComplex (venueOf a) l
 unfolding withComplex
 others-complex a b l o =
     venue-is (withComplex (venueOf b) l) (withComplex (venueOf a) l) (regulars-kept o (omega arith) (inr (omega arith)) (inr (omega arith))) refl
@@ -161,13 +163,13 @@ level-packed s d v = level-closed s d v
 -- gaps are closed; then all places in use become known to be held
 regulars-known : (a b : List ℕ) (j : ℕ) → venueOf b ≡ closeRegulars (venueOf a) → regularsUsed b ≡ regularsHeld a → complexesUsed b ≡ complexesUsed a →
     Filled holdsRegular (regularIn b) (regularsUsed b) → ((n : ℕ) → n < 16 → levelIn b n ≡ levelIn a n) → (ComplexesMarked a → ComplexesMarked b) →
-    (LeggingMarked a → LeggingMarked b) → (Figured a → Figured b) → getD b 1231 0 ≡ getD a 1231 0 → RegularsClosed a (set b 827 j)
+    (LeggingMarked a → LeggingMarked b) → (Figured a → Figured b) → getD b showAgainAt 0 ≡ getD a showAgainAt 0 → RegularsClosed a (set b regularsKnownAt j)
 regulars-known a b j same used others full levels marks legs figs mark = record {
   venue = venue;
   counts = record {
     regulars = count-kept o (inl (omega arith)) ∙ used;
     complexes = count-kept2 o (inl (omega arith)) ∙ others;
-    right = right-on a (set b 827 j) (λ n w. levels-kept o (inl (omega arith)) n w ∙ levels n w)
+    right = right-on a (set b regularsKnownAt j) (λ n w. levels-kept o (inl (omega arith)) n w ∙ levels n w)
         (λ s d. ap (λ (v : Venue). levelOf s d (v .regular)) venue ∙ level-packed s d (venueOf a))
         (λ h. subst (λ (v : Venue). Orderly (v .regular)) (sym venue) (unfold closeRegulars withRegular in orderly-packed (venueOf a .regular) h))
         (λ m. record {
@@ -181,17 +183,17 @@ regulars-known a b j same used others full levels marks legs figs mark = record 
   filled = filled;
 }
   where
-    o : Outside 827 828 b (set b 827 j)
-    o = stored b 827 j
+    o : Outside regularsKnownAt complexesKnownAt b (set b regularsKnownAt j)
+    o = stored b regularsKnownAt j
 
-    venue : venueOf (set b 827 j) ≡ closeRegulars (venueOf a)
+    venue : venueOf (set b regularsKnownAt j) ≡ closeRegulars (venueOf a)
     venue = beside-venue o (omega arith) (inl (omega arith)) (inr (omega arith)) (omega arith) ∙ same
 
-    shows : ShowsMarked a → ShowsMarked (set b 827 j)
+    shows : ShowsMarked a → ShowsMarked (set b regularsKnownAt j)
     shows m z = subst (λ (v : Venue). Fully (v .regular)) (sym venue)
-        (unfold closeRegulars withRegular in fully-packed (venueOf a .regular) (m (unmarked-as a (set b 827 j) (o .same 1231 (inr (omega arith)) ∙ mark) z)))
+        (unfold closeRegulars withRegular in fully-packed (venueOf a .regular) (m (unmarked-as a (set b regularsKnownAt j) (o .same showAgainAt (inr (omega arith)) ∙ mark) z)))
 
-    filled : Filled holdsRegular (regularIn (set b 827 j)) (regularsUsed (set b 827 j))
+    filled : Filled holdsRegular (regularIn (set b regularsKnownAt j)) (regularsUsed (set b regularsKnownAt j))
     filled k w =
         let z = regulars-few b in
         let e = count-kept o (inl (omega arith)) in
@@ -199,13 +201,13 @@ regulars-known a b j same used others full levels marks legs figs mark = record 
 
 complexes-known : (a b : List ℕ) (j : ℕ) → venueOf b ≡ closeComplexes (venueOf a) → complexesUsed b ≡ complexesHeld a → regularsUsed b ≡ regularsUsed a →
     Filled holdsComplex (complexIn b) (complexesUsed b) → ((n : ℕ) → n < 16 → levelIn b n ≡ levelIn a n) → (RegularsMarked a → RegularsMarked b) →
-    (LeggingMarked a → LeggingMarked b) → (Figured a → Figured b) → (ShowsMarked a → ShowsMarked b) → ComplexesClosed a (set b 828 j)
+    (LeggingMarked a → LeggingMarked b) → (Figured a → Figured b) → (ShowsMarked a → ShowsMarked b) → ComplexesClosed a (set b complexesKnownAt j)
 complexes-known a b j same used others full levels marks legs figs shows = record {
   venue = venue;
   counts = record {
     complexes = count-kept2 o (inl (omega arith)) ∙ used;
     regulars = count-kept o (inl (omega arith)) ∙ others;
-    right = right-kept a (set b 828 j) (λ n w. levels-kept o (inl (omega arith)) n w ∙ levels n w)
+    right = right-kept a (set b complexesKnownAt j) (λ n w. levels-kept o (inl (omega arith)) n w ∙ levels n w)
         (ap (λ (v : Venue). v .regular) venue ∙ (unfold closeComplexes withComplex in refl))
         (λ m. record {
           regulars = regulars-marked o (omega arith) (inl (omega arith)) (inl (omega arith)) (marks (m .regulars));
@@ -218,20 +220,20 @@ complexes-known a b j same used others full levels marks legs figs shows = recor
   filled = filled;
 }
   where
-    o : Outside 828 829 b (set b 828 j)
-    o = stored b 828 j
+    o : Outside complexesKnownAt leggingMaskAt b (set b complexesKnownAt j)
+    o = stored b complexesKnownAt j
 
-    venue : venueOf (set b 828 j) ≡ closeComplexes (venueOf a)
+    venue : venueOf (set b complexesKnownAt j) ≡ closeComplexes (venueOf a)
     venue = beside-venue o (omega arith) (inl (omega arith)) (inr (omega arith)) (omega arith) ∙ same
 
-    filled : Filled holdsComplex (complexIn (set b 828 j)) (complexesUsed (set b 828 j))
+    filled : Filled holdsComplex (complexIn (set b complexesKnownAt j)) (complexesUsed (set b complexesKnownAt j))
     filled k w =
         let z = complexes-few b in
         let e = count-kept2 o (inl (omega arith)) in
         ap holdsComplex (sym (complex-kept o k (inl (omega arith)))) ∙ full k (omega arith)
 
 -- no gap
-regulars-same : (a : List ℕ) (j : ℕ) → Filled holdsRegular (regularIn a) (regularsUsed a) → RegularsClosed a (set a 827 j)
+regulars-same : (a : List ℕ) (j : ℕ) → Filled holdsRegular (regularIn a) (regularsUsed a) → RegularsClosed a (set a regularsKnownAt j)
 unfolding closeRegulars withRegular venueOf
 regulars-same a j full =
     let n = regularsUsed a in
@@ -240,7 +242,7 @@ regulars-same a j full =
     (venue-is (venueOf a) (closeRegulars (venueOf a)) (closed-part holdsRegular noRegular refl n 128 (regularIn a) (regularIn a) n p (regulars-few a)) refl refl refl refl refl refl refl)
     (sym (closed-count holdsRegular noRegular refl n 128 (regularIn a) (regularIn a) n p (regulars-few a))) refl full (λ k w. refl) (λ m. m) (λ m. m) (λ m. m) refl
 
-complexes-same : (a : List ℕ) (j : ℕ) → Filled holdsComplex (complexIn a) (complexesUsed a) → ComplexesClosed a (set a 828 j)
+complexes-same : (a : List ℕ) (j : ℕ) → Filled holdsComplex (complexIn a) (complexesUsed a) → ComplexesClosed a (set a complexesKnownAt j)
 unfolding closeComplexes withComplex venueOf
 complexes-same a j full =
     let n = complexesUsed a in
@@ -257,21 +259,21 @@ pub record RegularsSet (a : List ℕ) (l : List Regular) (j : ℕ) (c : List ℕ
   pub filled : Filled holdsRegular (regularIn c) (regularsUsed c)
 
 pub regulars-set : (a b : List ℕ) (l : List Regular) (j : ℕ) → length b ≡ size → j ≤ 128 → Halves a b →
-    inUse (regularIn b) noRegular j 128 ≡ l → Filled holdsRegular (regularIn b) j → RegularsSet a l j (set b 776 j)
+    inUse (regularIn b) noRegular j 128 ≡ l → Filled holdsRegular (regularIn b) j → RegularsSet a l j (set b regularsUsedAt j)
 regulars-set a b l j long few near part full = record {
-  venue = regulars-counted (stored b 776 j)
+  venue = regulars-counted (stored b regularsUsedAt j)
       ∙ ap (λ (k : ℕ). withRegular (venueOf b) (inUse (regularIn b) noRegular k 128)) used
       ∙ ap (λ (x : List Regular). withRegular (venueOf b) x) part
       ∙ others-regular a b l near;
   regulars = used;
-  complexes = count-kept2 (stored b 776 j) (inr (omega arith)) ∙ count-kept2 (near .second) (inl (omega arith)) ∙ count-kept2 (near .first) (inr (omega arith));
-  filled = λ k w. sym (holds-kept (stored b 776 j) k (inl (let z = regulars-few (set b 776 j) in omega arith))) ∙ full k (let e = used in omega arith);
+  complexes = count-kept2 (stored b regularsUsedAt j) (inr (omega arith)) ∙ count-kept2 (near .second) (inl (omega arith)) ∙ count-kept2 (near .first) (inr (omega arith));
+  filled = λ k w. sym (holds-kept (stored b regularsUsedAt j) k (inl (let z = regulars-few (set b regularsUsedAt j) in omega arith))) ∙ full k (let e = used in omega arith);
 }
   where
-    used : regularsUsed (set b 776 j) ≡ j
-    used = counted (set b 776 j) j (getD-set-same b 776 j 0 (omega arith)) few
+    used : regularsUsed (set b regularsUsedAt j) ≡ j
+    used = counted (set b regularsUsedAt j) j (getD-set-same b regularsUsedAt j 0 (omega arith)) few
 
-regulars-closed : (a b : List ℕ) (j : ℕ) → length a ≡ size → MovingRegulars a b (regularsUsed a) (regularsUsed a) j → RegularsClosed a (set (set b 776 j) 827 j)
+regulars-closed : (a b : List ℕ) (j : ℕ) → length a ≡ size → MovingRegulars a b (regularsUsed a) (regularsUsed a) j → RegularsClosed a (set (set b regularsUsedAt j) regularsKnownAt j)
 unfolding closeRegulars venueOf
 regulars-closed a b j long m =
     let few = regulars-few a in
@@ -279,17 +281,17 @@ regulars-closed a b j long m =
     let near = halves a b long (m .long) 0 (regularsUsed a) few (m .outside) in
     let p = near .first in
     let q = near .second in
-    let o = stored b 776 j in
+    let o = stored b regularsUsedAt j in
     let s = regulars-set a b _ j (m .long) (omega arith) near
     (closed-part holdsRegular noRegular refl (regularsUsed a) 128 (regularIn a) (regularIn b) j (m .places) few) (m .places .full) in
-    regulars-known a (set b 776 j) j (s .venue)
+    regulars-known a (set b regularsUsedAt j) j (s .venue)
     (s .regulars ∙ sym (closed-count holdsRegular noRegular refl (regularsUsed a) 128 (regularIn a) (regularIn b) j (m .places) few)) (s .complexes) (s .filled)
     (λ n w. levels-kept o (inr (omega arith)) n w ∙ levels-kept q (inl (omega arith)) n w ∙ levels-kept p (inr (omega arith)) n w)
     (λ x. complexes-marked o (inr (omega arith)) (inr (omega arith)) (inr (omega arith))
     (complexes-marked q (inr (omega arith)) (inl (omega arith)) (inl (omega arith)) (complexes-marked p (inl (omega arith)) (inr (omega arith)) (inr (omega arith)) x)))
     (λ x. legging-marked o (inr (omega arith)) (inr (omega arith)) (legging-marked q (inr (omega arith)) (inl (omega arith)) (legging-marked p (inl (omega arith)) (inr (omega arith)) x)))
     (λ x. figures-marked o (inl (omega arith)) (figures-marked q (inr (omega arith)) (figures-marked p (inl (omega arith)) x)))
-    (o .same 1231 (inr (omega arith)) ∙ q .same 1231 (inr (omega arith)) ∙ p .same 1231 (inr (omega arith)))
+    (o .same showAgainAt (inr (omega arith)) ∙ q .same showAgainAt (inr (omega arith)) ∙ p .same showAgainAt (inr (omega arith)))
 
 -- the book becomes l, of which j places are in use
 pub record ComplexesSet (a : List ℕ) (l : List Complex) (j : ℕ) (c : List ℕ) : Type 0 where
@@ -298,31 +300,31 @@ pub record ComplexesSet (a : List ℕ) (l : List Complex) (j : ℕ) (c : List �
   pub regulars : regularsUsed c ≡ regularsUsed a
   pub filled : Filled holdsComplex (complexIn c) (complexesUsed c)
 
-pub complexes-set : (a b : List ℕ) (l : List Complex) (j : ℕ) → length b ≡ size → j ≤ 32 → Outside 512 704 a b →
-    inUse (complexIn b) noComplex j 32 ≡ l → Filled holdsComplex (complexIn b) j → ComplexesSet a l j (set b 777 j)
+pub complexes-set : (a b : List ℕ) (l : List Complex) (j : ℕ) → length b ≡ size → j ≤ 32 → Outside complexIdAt leggingParentAt a b →
+    inUse (complexIn b) noComplex j 32 ≡ l → Filled holdsComplex (complexIn b) j → ComplexesSet a l j (set b complexesUsedAt j)
 complexes-set a b l j long few near part full = record {
-  venue = complexes-counted (stored b 777 j)
+  venue = complexes-counted (stored b complexesUsedAt j)
       ∙ ap (λ (k : ℕ). withComplex (venueOf b) (inUse (complexIn b) noComplex k 32)) used
       ∙ ap (λ (x : List Complex). withComplex (venueOf b) x) part
       ∙ others-complex a b l near;
   complexes = used;
-  regulars = count-kept (stored b 777 j) (inl (omega arith)) ∙ count-kept near (inr (omega arith));
-  filled = λ k w. ap holdsComplex (sym (complex-kept (stored b 777 j) k (inl (let z = complexes-few (set b 777 j) in omega arith)))) ∙ full k (let e = used in omega arith);
+  regulars = count-kept (stored b complexesUsedAt j) (inl (omega arith)) ∙ count-kept near (inr (omega arith));
+  filled = λ k w. ap holdsComplex (sym (complex-kept (stored b complexesUsedAt j) k (inl (let z = complexes-few (set b complexesUsedAt j) in omega arith)))) ∙ full k (let e = used in omega arith);
 }
   where
-    used : complexesUsed (set b 777 j) ≡ j
-    used = counted2 (set b 777 j) j (getD-set-same b 777 j 0 (omega arith)) few
+    used : complexesUsed (set b complexesUsedAt j) ≡ j
+    used = counted2 (set b complexesUsedAt j) j (getD-set-same b complexesUsedAt j 0 (omega arith)) few
 
-complexes-closed : (a b : List ℕ) (j : ℕ) → MovingComplexes a b (complexesUsed a) (complexesUsed a) j → ComplexesClosed a (set (set b 777 j) 828 j)
+complexes-closed : (a b : List ℕ) (j : ℕ) → MovingComplexes a b (complexesUsed a) (complexesUsed a) j → ComplexesClosed a (set (set b complexesUsedAt j) complexesKnownAt j)
 unfolding closeComplexes venueOf
 complexes-closed a b j m =
     let few = complexes-few a in
     let fewer = m .places .fewer in
-    let near : Outside 512 704 a b = wider (omega arith) (omega arith) (m .outside) in
-    let o = stored b 777 j in
+    let near : Outside complexIdAt leggingParentAt a b = wider (omega arith) (omega arith) (m .outside) in
+    let o = stored b complexesUsedAt j in
     let s = complexes-set a b _ j (m .long) (omega arith) near
     (closed-part holdsComplex noComplex refl (complexesUsed a) 32 (complexIn a) (complexIn b) j (m .places) few) (m .places .full) in
-    complexes-known a (set b 777 j) j (s .venue)
+    complexes-known a (set b complexesUsedAt j) j (s .venue)
     (s .complexes ∙ sym (closed-count holdsComplex noComplex refl (complexesUsed a) 32 (complexIn a) (complexIn b) j (m .places) few)) (s .regulars) (s .filled)
     (λ n w. levels-kept o (inr (omega arith)) n w ∙ levels-kept near (inr (omega arith)) n w)
     (λ x. regulars-marked o (omega arith) (inl (omega arith)) (inr (omega arith)) (regulars-marked near (omega arith) (inr (omega arith)) (inr (omega arith)) x))
@@ -330,19 +332,19 @@ complexes-closed a b j m =
     (λ x. figures-marked o (inl (omega arith)) (figures-marked near (inl (omega arith)) x))
     (λ x. shows-marked o (omega arith) (omega arith) (inl (omega arith)) (shows-marked near (omega arith) (omega arith) (inr (omega arith)) x))
 
-pub regulars-whole : (a : List ℕ) (n r : ℕ) → n ≡ regularsUsed a → r ≡ n → Filled holdsRegular (regularIn a) r → RegularsClosed a (set a 827 n)
+pub regulars-whole : (a : List ℕ) (n r : ℕ) → n ≡ regularsUsed a → r ≡ n → Filled holdsRegular (regularIn a) r → RegularsClosed a (set a regularsKnownAt n)
 regulars-whole a n r e h full = regulars-same a n (λ k w. full k (omega arith))
 
-pub regulars-end : (a b : List ℕ) (n i j : ℕ) → length a ≡ size → n ≡ regularsUsed a → n ≤ i → MovingRegulars a b n i j → RegularsClosed a (set (set b 776 j) 827 j)
+pub regulars-end : (a b : List ℕ) (n i j : ℕ) → length a ≡ size → n ≡ regularsUsed a → n ≤ i → MovingRegulars a b n i j → RegularsClosed a (set (set b regularsUsedAt j) regularsKnownAt j)
 regulars-end a b n i j long e h m =
     let q = m .places .read in
     let z : i ≡ n = omega arith in
     regulars-closed a b j long (rw (z, e) at m)
 
-pub complexes-whole : (a : List ℕ) (n r : ℕ) → n ≡ complexesUsed a → r ≡ n → Filled holdsComplex (complexIn a) r → ComplexesClosed a (set a 828 n)
+pub complexes-whole : (a : List ℕ) (n r : ℕ) → n ≡ complexesUsed a → r ≡ n → Filled holdsComplex (complexIn a) r → ComplexesClosed a (set a complexesKnownAt n)
 complexes-whole a n r e h full = complexes-same a n (λ k w. full k (omega arith))
 
-pub complexes-end : (a b : List ℕ) (n i j : ℕ) → n ≡ complexesUsed a → n ≤ i → MovingComplexes a b n i j → ComplexesClosed a (set (set b 777 j) 828 j)
+pub complexes-end : (a b : List ℕ) (n i j : ℕ) → n ≡ complexesUsed a → n ≤ i → MovingComplexes a b n i j → ComplexesClosed a (set (set b complexesUsedAt j) complexesKnownAt j)
 complexes-end a b n i j e h m =
     let q = m .places .read in
     let z : i ≡ n = omega arith in

@@ -20,6 +20,7 @@ use Rattle.rules.specs.Places.{holdsEdition}
 use Rattle.rules.specs.Settings.{baseFigure, sets, lastValue, figureNow}
 use Rattle.rules.proofs.Cases.{if-by}
 use Rattle.places.specs.Layout.{size, editionIn, venueOf, editionRow, figureIn, Figured, FiguresBase, FigureSet, FiguresCounted, SameCounts}
+use Rattle.places.specs.Offsets.{editionNumberAt, editionNextAt, figuresAt, regularReserveAt}
 use Rattle.places.proofs.Tables.{upto-length, upto-at}
 use Rattle.places.proofs.Parts.{Outside, wider, count-kept, count-kept2, regulars-kept, edition-kept, edition-set}
 use Rattle.places.proofs.Beside.{levels-kept, regulars-marked, complexes-marked, legging-marked, shows-marked, beside-venue, right-kept}
@@ -30,30 +31,30 @@ use Rattle.place_writes.proofs.Stores.{sets-outside, edition-back}
 -- a store into the figures alone
 pub record Aside (a b : List ℕ) : Type 0 where
   pub long : length b ≡ size
-  pub others : (k : ℕ) → (k < 958) ⊎ (975 ≤ k) → getD b k 0 ≡ getD a k 0
+  pub others : (k : ℕ) → (k < figuresAt) ⊎ (regularReserveAt ≤ k) → getD b k 0 ≡ getD a k 0
 
-pub aside-outside : (a b : List ℕ) → Aside a b → Outside 958 975 a b
+pub aside-outside : (a b : List ℕ) → Aside a b → Outside figuresAt regularReserveAt a b
 aside-outside a b h = record { same = h .others }
 
 -- a figure's number is no other
-apart : (f k : ℕ) → f < 9 → (k < 958) ⊎ (975 ≤ k) → k ≢ 2 * f + 958
+apart : (f k : ℕ) → f < 9 → (k < figuresAt) ⊎ (regularReserveAt ≤ k) → k ≢ 2 * f + figuresAt
 apart f k h (inl w) e = omega arith
 apart f k h (inr w) e = omega arith
 
-aside-set : (a b : List ℕ) (f x : ℕ) → f < 9 → Aside a b → Aside a (set b (2 * f + 958) x)
+aside-set : (a b : List ℕ) (f x : ℕ) → f < 9 → Aside a b → Aside a (set b (2 * f + figuresAt) x)
 aside-set a b f x lt h = record {
-  long = length-set b (2 * f + 958) x ∙ h .long;
-  others = λ k w. getD-set-other b (2 * f + 958) k x 0 (apart f k lt w) ∙ h .others k w;
+  long = length-set b (2 * f + figuresAt) x ∙ h .long;
+  others = λ k w. getD-set-other b (2 * f + figuresAt) k x 0 (apart f k lt w) ∙ h .others k w;
 }
 
 -- a figure anew
-figure-new : (b : List ℕ) (f x : ℕ) → length b ≡ size → f < 9 → x < 256 → figureIn (set b (2 * f + 958) x) f ≡ x
+figure-new : (b : List ℕ) (f x : ℕ) → length b ≡ size → f < 9 → x < 256 → figureIn (set b (2 * f + figuresAt) x) f ≡ x
 unfolding figureIn
-figure-new b f x n h w = ap (λ (y : ℕ). y % 256) (getD-set-same b (2 * f + 958) x 0 (omega arith)) ∙ omega arith
+figure-new b f x n h w = ap (λ (y : ℕ). y % 256) (getD-set-same b (2 * f + figuresAt) x 0 (omega arith)) ∙ omega arith
 
-figure-old : (b : List ℕ) (f g x : ℕ) → g ≢ f → figureIn (set b (2 * f + 958) x) g ≡ figureIn b g
+figure-old : (b : List ℕ) (f g x : ℕ) → g ≢ f → figureIn (set b (2 * f + figuresAt) x) g ≡ figureIn b g
 unfolding figureIn
-figure-old b f g x h = ap (λ (y : ℕ). y % 256) (getD-set-other b (2 * f + 958) (2 * g + 958) x 0 (λ e. h (omega arith)))
+figure-old b f g x h = ap (λ (y : ℕ). y % 256) (getD-set-other b (2 * f + figuresAt) (2 * g + figuresAt) x 0 (λ e. h (omega arith)))
 
 -- Edition 0 -----------------------------------------------------------------------------------
 
@@ -69,11 +70,11 @@ base-small : (f : ℕ) → baseFigure f < 256
 unfolding baseFigure
 base-small f = if-by (λ x. x < 256) (ltb f 6) (λ _. omega arith) (λ _. if-by (λ x. x < 256) (ltb f 8) (λ _. omega arith) (λ _. omega arith))
 
-pub based-next : (a b : List ℕ) (f x : ℕ) → Based a b f → f < 9 → x ≡ baseFigure f → Based a (set b (2 * f + 958) x) (f + 1)
+pub based-next : (a b : List ℕ) (f x : ℕ) → Based a b f → f < 9 → x ≡ baseFigure f → Based a (set b (2 * f + figuresAt) x) (f + 1)
 based-next a b f x m lt e = record {
   aside = aside-set a b f x lt (m .aside);
   base = λ g h. elim (ℕ-discrete g f) [
-    | yes q ↦ ap (figureIn (set b (2 * f + 958) x)) q ∙ figure-new b f x (m .aside .long) lt (let z = base-small f in omega arith) ∙ e ∙ sym (ap baseFigure q)
+    | yes q ↦ ap (figureIn (set b (2 * f + figuresAt) x)) q ∙ figure-new b f x (m .aside .long) lt (let z = base-small f in omega arith) ∙ e ∙ sym (ap baseFigure q)
     | no q ↦ figure-old b f g x q ∙ m .base g (omega arith)
   ];
 }
@@ -96,15 +97,15 @@ past-set e a h = record { others = λ k w. refl; figures = λ f w. sym (ap (λ (
     other true f w = ne-eqb (e .figure) f (λ q. omega arith)
     other false f w = refl
 
-pub figure-set : (e : Edition) (a : List ℕ) → length a ≡ size → held (e .edition) ≡ true → e .figure < 9 → e .value < 256 → FigureSet e a (set a (2 * e .figure + 958) (e .value))
+pub figure-set : (e : Edition) (a : List ℕ) → length a ≡ size → held (e .edition) ≡ true → e .figure < 9 → e .value < 256 → FigureSet e a (set a (2 * e .figure + figuresAt) (e .value))
 unfolding sets
 figure-set e a n h few w = record {
-  others = λ k l. getD-set-other a (2 * e .figure + 958) k (e .value) 0 (apart (e .figure) k few l);
+  others = λ k l. getD-set-other a (2 * e .figure + figuresAt) k (e .value) 0 (apart (e .figure) k few l);
   figures = λ f l. rw h (go f (eqb (e .figure) f) refl);
 }
   where
-    go : (f : ℕ) (t : Bool) → eqb (e .figure) f ≡ t → figureIn (set a (2 * e .figure + 958) (e .value)) f ≡ (if t then e .value else figureIn a f)
-    go f true q = ap (figureIn (set a (2 * e .figure + 958) (e .value))) (sym (eqb-true (e .figure) f q)) ∙ figure-new a (e .figure) (e .value) n few w
+    go : (f : ℕ) (t : Bool) → eqb (e .figure) f ≡ t → figureIn (set a (2 * e .figure + figuresAt) (e .value)) f ≡ (if t then e .value else figureIn a f)
+    go f true q = ap (figureIn (set a (2 * e .figure + figuresAt) (e .value))) (sym (eqb-true (e .figure) f q)) ∙ figure-new a (e .figure) (e .value) n few w
     go f false q = figure-old a (e .figure) f (e .value) (λ p. differ p q)
       where
         differ : f ≡ e .figure → eqb (e .figure) f ≡ false → ⊥
@@ -160,7 +161,7 @@ counting-last first a b i base m h = record {
 
 -- An edition at a place -----------------------------------------------------------------------
 
-pub counted-outside : (a b : List ℕ) → FiguresCounted a b → Outside 958 975 a b
+pub counted-outside : (a b : List ℕ) → FiguresCounted a b → Outside figuresAt regularReserveAt a b
 counted-outside a b h = record { same = h .others }
 
 last-some : (s y x : ℕ) (es : List Edition) → (0 < y) ⊎ (y ≡ x) → 0 < lastValue s x es → 0 < lastValue s y es
@@ -190,7 +191,7 @@ some-set s x (y ∷ es) zero e h v free k = last-some s _ x es (value v) (rw fre
 some-set s x (y ∷ es) (suc i) e h v free k = some-set s _ es i e h v free k
 
 pub put-edition : (a b c : List ℕ) (i : ℕ) (e : Edition) → length a ≡ size → i < 32 → e .figure < 256 → e .value < 256 → holdsEdition (editionIn a i) ≡ false → (0 < e .value) ⊎ (7 < e .figure) →
-    b ≡ row a (4 * i + 830) (editionRow e) → FiguresCounted b c →
+    b ≡ row a (4 * i + editionNumberAt) (editionRow e) → FiguresCounted b c →
     (venueOf c ≡ withEditions (venueOf a) (set (venueOf a .editions) i e)) × SameCounts a c
 put-edition a b c i e n h w x free val is k = (
   venue,
@@ -209,13 +210,13 @@ put-edition a b c i e n h w x free val is k = (
   },
 )
   where
-    wide : Outside (4 * i + 830) (4 * i + 834) a (row a (4 * i + 830) (editionRow e))
-    wide = unfold editionRow in wider (omega arith) (omega arith) (sets-outside a (4 * i + 830) (e .edition ∷ e .message ∷ e .figure ∷ e .value ∷ []))
+    wide : Outside (4 * i + editionNumberAt) (4 * i + editionNextAt) a (row a (4 * i + editionNumberAt) (editionRow e))
+    wide = unfold editionRow in wider (omega arith) (omega arith) (sets-outside a (4 * i + editionNumberAt) (e .edition ∷ e .message ∷ e .figure ∷ e .value ∷ []))
 
-    o : Outside (4 * i + 830) (4 * i + 834) a b
+    o : Outside (4 * i + editionNumberAt) (4 * i + editionNextAt) a b
     o = rw is wide
 
-    p : Outside 958 975 b c
+    p : Outside figuresAt regularReserveAt b c
     p = counted-outside b c k
 
     venue : venueOf c ≡ withEditions (venueOf a) (set (venueOf a .editions) i e)

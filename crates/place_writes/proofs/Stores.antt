@@ -28,6 +28,11 @@ use Rattle.places.specs.declared.Level.{Level}
 use Rattle.places.specs.Layout.{size, inUse, regularsUsed, complexesUsed, regularIn, complexIn, leggingIn, listedIn, editionIn, venueOf, regularRow}
 use Rattle.places.specs.Layout.{reserveRow, regularPut, Bounded, editionRow, legsKey, ratiosNumber, limitNumber, complexRow, Kept, bitOf, levelIn}
 use Rattle.places.specs.Layout.{Fully, Marked, Beside, SameBeside, LevelPut, Counts, SameCounts}
+use Rattle.places.specs.Offsets.{complexIdAt, complexLegsAt, complexRatiosAt, complexClassAt, complexLimitAt, complexQuantityAt, complexNextAt}
+use Rattle.places.specs.Offsets.{leggingParentAt, leggingPriceAt, leggingQuantityAt, leggingNextAt, seriesStatusAt, seriesBidAt, seriesOfferAt}
+use Rattle.places.specs.Offsets.{regularsUsedAt, complexesUsedAt, lastIdAt, levelPriceAt, levelLowAt, levelHighAt, levelNextAt, regularsKnownAt}
+use Rattle.places.specs.Offsets.{complexesKnownAt, leggingMaskAt, editionNumberAt, editionMessageAt, editionFigureAt, editionValueAt}
+use Rattle.places.specs.Offsets.{regularReserveAt, regularDisplayAt, regularReserveNextAt, showAgainAt, generationMessagesAt}
 use Rattle.places.proofs.Tables.{used-more}
 use Rattle.places.proofs.Parts.{Outside, stored, wider, joined, unmoved, regulars-few, regulars-many, complexes-few, regular-kept, other-kept}
 use Rattle.places.proofs.Parts.{complex-kept, regulars-kept, regular-at, complex-at, regular-set, complex-set, legging-set, listed-set, last-set}
@@ -53,10 +58,10 @@ less-in a i k n h =
       getD-set-other a (4 * i + 3) (4 * i) (q - k) 0 (λ e. omega arith),
       getD-set-other a (4 * i + 3) (4 * i + 1) (q - k) 0 (λ e. omega arith),
       getD-set-other a (4 * i + 3) (4 * i + 2) (q - k) 0 (λ e. omega arith),
-      getD-set-other a (4 * i + 3) (2 * i + 975) (q - k) 0 (λ e. omega arith),
-      getD-set-other a (4 * i + 3) (2 * i + 976) (q - k) 0 (λ e. omega arith),
-      cut (getD a (2 * i + 975) 0) q k,
-      cut (getD a (2 * i + 976) 0) q k,
+      getD-set-other a (4 * i + 3) (2 * i + regularReserveAt) (q - k) 0 (λ e. omega arith),
+      getD-set-other a (4 * i + 3) (2 * i + regularDisplayAt) (q - k) 0 (λ e. omega arith),
+      cut (getD a (2 * i + regularReserveAt) 0) q k,
+      cut (getD a (2 * i + regularDisplayAt) 0) q k,
     ) refl
 
 filled-venue : (a : List ℕ) (i k : ℕ) → length a ≡ size → i < regularsUsed a →
@@ -105,7 +110,7 @@ module _ (a : List ℕ) (i k r : ℕ) (n : length a ≡ size) (h : i < regularsU
   was-fully f = sym (ap showsFully (regular-at a i h)) ∙ f i
 
   left-shows : (Fully (venueOf a .regular) → showsFully (lessRegular k (regularIn a i)) ≡ true) → ShowsMarked a → ShowsMarked left
-  left-shows p m z = let f = m (unmarked-as a left (o .same 1231 (inr (omega (arith, few)))) z) in left-fully (p f) f
+  left-shows p m z = let f = m (unmarked-as a left (o .same showAgainAt (inr (omega (arith, few)))) z) in left-fully (p f) f
 
   left-rest : ShowsMarked left → k < getD a (4 * i + 3) 0 → Marked a → Marked left
   left-rest s lt m = record {
@@ -116,12 +121,13 @@ module _ (a : List ℕ) (i k r : ℕ) (n : length a ≡ size) (h : i < regularsU
     shows = s;
   }
 
-  no-reserve : getD (set a (4 * i + 3) r) (2 * i + 975) 0 ≡ 0 → regularIn a i .reserve ≡ 0
+  no-reserve : getD (set a (4 * i + 3) r) (2 * i + regularReserveAt) 0 ≡ 0 → regularIn a i .reserve ≡ 0
   unfolding regularIn
-  no-reserve none = let z : getD a (2 * i + 975) 0 ≡ 0 = sym (getD-set-other a (4 * i + 3) (2 * i + 975) r 0 (λ x. omega (arith, few))) ∙ none in omega arith
+  no-reserve none = let z : getD a (2 * i + regularReserveAt) 0 ≡ 0 = sym (getD-set-other a (4 * i + 3) (2 * i + regularReserveAt) r 0 (λ x. omega (arith, few))) ∙ none in omega arith
 
   -- without reserve it shows what it should
-  pub regular-stays : k < getD a (4 * i + 3) 0 → getD (set a (4 * i + 3) r) (2 * i + 975) 0 ≡ 0 → (venueOf (set a (4 * i + 3) r) ≡ fillRegular i k (venueOf a)) × SameBeside a (set a (4 * i + 3) r)
+  pub regular-stays : k < getD a (4 * i + 3) 0 → getD (set a (4 * i + 3) r) (2 * i + regularReserveAt) 0 ≡ 0 →
+      (venueOf (set a (4 * i + 3) r) ≡ fillRegular i k (venueOf a)) × SameBeside a (set a (4 * i + 3) r)
   regular-stays lt none = rw e (
     left-venue,
     record {
@@ -133,7 +139,7 @@ module _ (a : List ℕ) (i k r : ℕ) (n : length a ≡ size) (h : i < regularsU
   )
 
   -- with reserve it is marked
-  pub regular-hides : k < getD a (4 * i + 3) 0 → (venueOf (set (set a (4 * i + 3) r) 1231 1) ≡ fillRegular i k (venueOf a)) × SameBeside a (set (set a (4 * i + 3) r) 1231 1)
+  pub regular-hides : k < getD a (4 * i + 3) 0 → (venueOf (set (set a (4 * i + 3) r) showAgainAt 1) ≡ fillRegular i k (venueOf a)) × SameBeside a (set (set a (4 * i + 3) r) showAgainAt 1)
   regular-hides lt = rw e (
     beside-venue p (omega arith) (inr (omega arith)) (inl (omega arith)) (omega arith) ∙ left-venue,
     record {
@@ -146,15 +152,15 @@ module _ (a : List ℕ) (i k r : ℕ) (n : length a ≡ size) (h : i < regularsU
             (complexes-marked o (inl (omega (arith, few))) (inr (omega (arith, few))) (inr (omega (arith, few))) (m .complexes));
         legging = legging-marked p (inr (omega arith)) (inl (omega arith)) (legging-marked o (inl (omega (arith, few))) (inr (omega (arith, few))) (m .legging));
         figures = figures-marked p (inr (omega arith)) (figures-marked o (inl (omega (arith, few))) (m .figures));
-        shows = shows-not (set left 1231 1) (getD-set-same left 1231 1 0 (omega (arith, left-long)));
+        shows = shows-not (set left showAgainAt 1) (getD-set-same left showAgainAt 1 0 (omega (arith, left-long)));
       };
     },
   )
     where
-      p : Outside 1231 1232 left (set left 1231 1)
-      p = stored left 1231 1
+      p : Outside showAgainAt generationMessagesAt left (set left showAgainAt 1)
+      p = stored left showAgainAt 1
 
-  pub regular-leaves : getD a (4 * i + 3) 0 ≤ k → (c : List ℕ) → c ≡ lowered (set a (4 * i + 3) r) 827 i → (venueOf c ≡ fillRegular i k (venueOf a)) × SameBeside a c
+  pub regular-leaves : getD a (4 * i + 3) 0 ≤ k → (c : List ℕ) → c ≡ lowered (set a (4 * i + 3) r) regularsKnownAt i → (venueOf c ≡ fillRegular i k (venueOf a)) × SameBeside a c
   regular-leaves le c f = rw (f, e) (
     beside-venue p (omega arith) (inl (omega arith)) (inr (omega arith)) (omega arith) ∙ left-venue,
     record {
@@ -162,8 +168,8 @@ module _ (a : List ℕ) (i k r : ℕ) (n : length a ≡ size) (h : i < regularsU
       complexes = count-kept2 p (inl (omega arith)) ∙ count-kept2 o (inr (omega (arith, few)));
       levels = λ m w. levels-kept p (inl (omega arith)) m w ∙ levels-kept o (inr (omega (arith, few))) m w;
       marked = λ m. record {
-        regulars = regulars-lowered a (lowered left 827 i) i (omega arith)
-            (getD-set-same left 827 (min (getD left 827 0) i) 0 (omega (arith, left-long)) ∙ ap (λ (x : ℕ). min x i) (o .same 827 (inr (omega (arith, few)))))
+        regulars = regulars-lowered a (lowered left regularsKnownAt i) i (omega arith)
+            (getD-set-same left regularsKnownAt (min (getD left regularsKnownAt 0) i) 0 (omega (arith, left-long)) ∙ ap (λ (x : ℕ). min x i) (o .same regularsKnownAt (inr (omega (arith, few)))))
             (λ j w. regular-kept o j (inl (omega arith)) (inr (omega (arith, few))) ∙ regular-kept p j (inl (omega (arith, few))) (inr (omega arith))) (m .regulars);
         complexes = complexes-marked p (inr (omega arith)) (inl (omega arith)) (inr (omega arith))
             (complexes-marked o (inl (omega (arith, few))) (inr (omega (arith, few))) (inr (omega (arith, few))) (m .complexes));
@@ -174,48 +180,49 @@ module _ (a : List ℕ) (i k r : ℕ) (n : length a ≡ size) (h : i < regularsU
     },
   )
     where
-      p : Outside 827 828 left (lowered left 827 i)
-      p = stored left 827 (min (getD left 827 0) i)
+      p : Outside regularsKnownAt complexesKnownAt left (lowered left regularsKnownAt i)
+      p = stored left regularsKnownAt (min (getD left regularsKnownAt 0) i)
 
-less-inC : (a : List ℕ) (i k : ℕ) → 6 * i + 517 < length a → complexIn (set a (6 * i + 517) (getD a (6 * i + 517) 0 - k)) i ≡ lessComplex k (complexIn a i)
+less-inC : (a : List ℕ) (i k : ℕ) → 6 * i + complexQuantityAt < length a → complexIn (set a (6 * i + complexQuantityAt) (getD a (6 * i + complexQuantityAt) 0 - k)) i ≡ lessComplex k (complexIn a i)
 unfolding complexIn lessComplex
 less-inC a i k h =
     rw (
-      getD-set-same a (6 * i + 517) (getD a (6 * i + 517) 0 - k) 0 h,
-      getD-set-other a (6 * i + 517) (6 * i + 512) (getD a (6 * i + 517) 0 - k) 0 (λ e. omega arith),
-      getD-set-other a (6 * i + 517) (6 * i + 513) (getD a (6 * i + 517) 0 - k) 0 (λ e. omega arith),
-      getD-set-other a (6 * i + 517) (6 * i + 514) (getD a (6 * i + 517) 0 - k) 0 (λ e. omega arith),
-      getD-set-other a (6 * i + 517) (6 * i + 515) (getD a (6 * i + 517) 0 - k) 0 (λ e. omega arith),
-      getD-set-other a (6 * i + 517) (6 * i + 516) (getD a (6 * i + 517) 0 - k) 0 (λ e. omega arith),
+      getD-set-same a (6 * i + complexQuantityAt) (getD a (6 * i + complexQuantityAt) 0 - k) 0 h,
+      getD-set-other a (6 * i + complexQuantityAt) (6 * i + complexIdAt) (getD a (6 * i + complexQuantityAt) 0 - k) 0 (λ e. omega arith),
+      getD-set-other a (6 * i + complexQuantityAt) (6 * i + complexLegsAt) (getD a (6 * i + complexQuantityAt) 0 - k) 0 (λ e. omega arith),
+      getD-set-other a (6 * i + complexQuantityAt) (6 * i + complexRatiosAt) (getD a (6 * i + complexQuantityAt) 0 - k) 0 (λ e. omega arith),
+      getD-set-other a (6 * i + complexQuantityAt) (6 * i + complexClassAt) (getD a (6 * i + complexQuantityAt) 0 - k) 0 (λ e. omega arith),
+      getD-set-other a (6 * i + complexQuantityAt) (6 * i + complexLimitAt) (getD a (6 * i + complexQuantityAt) 0 - k) 0 (λ e. omega arith),
     ) refl
 
 filled-venue2 : (a : List ℕ) (i k : ℕ) → length a ≡ size → i < complexesUsed a →
-    venueOf (set a (6 * i + 517) (getD a (6 * i + 517) 0 - k)) ≡ fillComplex i k (venueOf a)
+    venueOf (set a (6 * i + complexQuantityAt) (getD a (6 * i + complexQuantityAt) 0 - k)) ≡ fillComplex i k (venueOf a)
 unfolding fillComplex
 filled-venue2 a i k n h =
     let z = complexes-few a in
-    complex-set (wider (omega arith) (omega arith) (stored a (6 * i + 517) (getD a (6 * i + 517) 0 - k))) h
+    complex-set (wider (omega arith) (omega arith) (stored a (6 * i + complexQuantityAt) (getD a (6 * i + complexQuantityAt) 0 - k))) h
     ∙ ap (λ (o : Complex). withComplex (venueOf a) (set (venueOf a .complex) i o)) (less-inC a i k (omega arith) ∙ ap (lessComplex k) (sym (complex-at a i h)))
 
-less-holds2 : (a : List ℕ) (i k : ℕ) → 6 * i + 517 < length a → k < getD a (6 * i + 517) 0 → holdsComplex (complexIn (set a (6 * i + 517) (getD a (6 * i + 517) 0 - k)) i) ≡ true
-less-holds2 a i k h lt = ap holdsComplex (less-inC a i k h) ∙ (unfold complexIn lessComplex in left-holds (getD a (6 * i + 517) 0) k lt)
+less-holds2 : (a : List ℕ) (i k : ℕ) → 6 * i + complexQuantityAt < length a → k < getD a (6 * i + complexQuantityAt) 0 → holdsComplex
+    (complexIn (set a (6 * i + complexQuantityAt) (getD a (6 * i + complexQuantityAt) 0 - k)) i) ≡ true
+less-holds2 a i k h lt = ap holdsComplex (less-inC a i k h) ∙ (unfold complexIn lessComplex in left-holds (getD a (6 * i + complexQuantityAt) 0) k lt)
 
-module _ (a : List ℕ) (i k r : ℕ) (n : length a ≡ size) (h : i < complexesUsed a) (e : r ≡ getD a (6 * i + 517) 0 - k) where
-  pub complex-stays : k < getD a (6 * i + 517) 0 → (venueOf (set a (6 * i + 517) r) ≡ fillComplex i k (venueOf a)) × SameCounts a (set a (6 * i + 517) r)
+module _ (a : List ℕ) (i k r : ℕ) (n : length a ≡ size) (h : i < complexesUsed a) (e : r ≡ getD a (6 * i + complexQuantityAt) 0 - k) where
+  pub complex-stays : k < getD a (6 * i + complexQuantityAt) 0 → (venueOf (set a (6 * i + complexQuantityAt) r) ≡ fillComplex i k (venueOf a)) × SameCounts a (set a (6 * i + complexQuantityAt) r)
   complex-stays lt =
       let z = complexes-few a in
-      let q = getD a (6 * i + 517) 0 - k in
-      let o = stored a (6 * i + 517) q in
+      let q = getD a (6 * i + complexQuantityAt) 0 - k in
+      let o = stored a (6 * i + complexQuantityAt) q in
       rw e (
         filled-venue2 a i k n h,
         record {
           regulars = count-kept o (inr (omega arith));
           complexes = count-kept2 o (inr (omega arith));
-          right = right-kept a (set a (6 * i + 517) q) (levels-kept o (inr (omega arith)))
+          right = right-kept a (set a (6 * i + complexQuantityAt) q) (levels-kept o (inr (omega arith)))
               (regulars-kept o (omega arith) (inr (omega arith)) (inr (omega arith)))
               (λ m. record {
                 regulars = regulars-marked o (omega arith) (inr (omega arith)) (inr (omega arith)) (m .regulars);
-                complexes = complex-holds a (set a (6 * i + 517) q) i h (wider (omega arith) (omega arith) o) (less-holds2 a i k (omega arith) lt) (m .complexes);
+                complexes = complex-holds a (set a (6 * i + complexQuantityAt) q) i h (wider (omega arith) (omega arith) o) (less-holds2 a i k (omega arith) lt) (m .complexes);
                 legging = legging-marked o (inl (omega arith)) (inr (omega arith)) (m .legging);
                 figures = figures-marked o (inl (omega arith)) (m .figures);
                 shows = shows-marked o (omega arith) (omega arith) (inr (omega arith)) (m .shows);
@@ -223,24 +230,24 @@ module _ (a : List ℕ) (i k r : ℕ) (n : length a ≡ size) (h : i < complexes
         },
       )
 
-  pub complex-leaves : (c : List ℕ) → c ≡ lowered (set a (6 * i + 517) r) 828 i → (venueOf c ≡ fillComplex i k (venueOf a)) × SameCounts a c
+  pub complex-leaves : (c : List ℕ) → c ≡ lowered (set a (6 * i + complexQuantityAt) r) complexesKnownAt i → (venueOf c ≡ fillComplex i k (venueOf a)) × SameCounts a c
   complex-leaves c f =
       let z = complexes-few a in
-      let b = set a (6 * i + 517) (getD a (6 * i + 517) 0 - k) in
-      let o = stored a (6 * i + 517) (getD a (6 * i + 517) 0 - k) in
-      let p = stored b 828 (min (getD b 828 0) i) in
+      let b = set a (6 * i + complexQuantityAt) (getD a (6 * i + complexQuantityAt) 0 - k) in
+      let o = stored a (6 * i + complexQuantityAt) (getD a (6 * i + complexQuantityAt) 0 - k) in
+      let p = stored b complexesKnownAt (min (getD b complexesKnownAt 0) i) in
       rw (f, e) (
         beside-venue p (omega arith) (inl (omega arith)) (inr (omega arith)) (omega arith) ∙ filled-venue2 a i k n h,
         record {
           regulars = count-kept p (inl (omega arith)) ∙ count-kept o (inr (omega arith));
           complexes = count-kept2 p (inl (omega arith)) ∙ count-kept2 o (inr (omega arith));
-          right = right-kept a (lowered b 828 i) (λ m w. levels-kept p (inl (omega arith)) m w ∙ levels-kept o (inr (omega arith)) m w)
+          right = right-kept a (lowered b complexesKnownAt i) (λ m w. levels-kept p (inl (omega arith)) m w ∙ levels-kept o (inr (omega arith)) m w)
               (regulars-kept p (omega arith) (inr (omega arith)) (inl (omega arith)) ∙ regulars-kept o (omega arith) (inr (omega arith)) (inr (omega arith)))
               (λ m. record {
                 regulars = regulars-marked p (omega arith) (inl (omega arith)) (inl (omega arith)) (regulars-marked o (omega arith) (inr (omega arith)) (inr (omega arith)) (m .regulars));
-                complexes = complexes-lowered a (lowered b 828 i) i (omega arith)
-                    (getD-set-same b 828 (min (getD b 828 0) i) 0 (omega (arith, length-set a (6 * i + 517) (getD a (6 * i + 517) 0 - k)))
-                    ∙ ap (λ (x : ℕ). min x i) (o .same 828 (inr (omega arith))))
+                complexes = complexes-lowered a (lowered b complexesKnownAt i) i (omega arith)
+                    (getD-set-same b complexesKnownAt (min (getD b complexesKnownAt 0) i) 0 (omega (arith, length-set a (6 * i + complexQuantityAt) (getD a (6 * i + complexQuantityAt) 0 - k)))
+                    ∙ ap (λ (x : ℕ). min x i) (o .same complexesKnownAt (inr (omega arith))))
                     (λ j w. complex-kept o j (inl (omega arith)) ∙ complex-kept p j (inl (omega arith))) (m .complexes);
                 legging = legging-marked p (inr (omega arith)) (inr (omega arith)) (legging-marked o (inl (omega arith)) (inr (omega arith)) (m .legging));
                 figures = figures-marked p (inl (omega arith)) (figures-marked o (inl (omega arith)) (m .figures));
@@ -281,12 +288,12 @@ module _ (a : List ℕ) (i : ℕ) (o : Regular) where
   unfolding regularRow
   row-outside = sets-outside a (4 * i) (o .id ∷ placeOf (o .series) (o .side) ∷ o .price ∷ o .quantity ∷ [])
 
-  pub reserve-outside : Outside (2 * i + 975) (2 * i + 977) wrote (regularPut a i o)
+  pub reserve-outside : Outside (2 * i + regularReserveAt) (2 * i + regularReserveNextAt) wrote (regularPut a i o)
   unfolding reserveRow
-  reserve-outside = wider (omega arith) (omega arith) (sets-outside wrote (2 * i + 975) (o .reserve ∷ o .display ∷ []))
+  reserve-outside = wider (omega arith) (omega arith) (sets-outside wrote (2 * i + regularReserveAt) (o .reserve ∷ o .display ∷ []))
 
   pub put-length : length (regularPut a i o) ≡ length a
-  put-length = sets-length wrote (2 * i + 975) (reserveRow o) ∙ sets-length a (4 * i) (regularRow o)
+  put-length = sets-length wrote (2 * i + regularReserveAt) (reserveRow o) ∙ sets-length a (4 * i) (regularRow o)
 
   pub regular-back : length a ≡ size → i < 128 → o .series < 8 → o .side < 2 → Bounded o → regularIn (regularPut a i o) i ≡ o
   unfolding regularIn regularRow reserveRow placeOf
@@ -294,16 +301,19 @@ module _ (a : List ℕ) (i : ℕ) (o : Regular) where
       let xs : List ℕ = o .id ∷ (2 * o .series + o .side) ∷ o .price ∷ o .quantity ∷ [] in
       let ys : List ℕ = o .reserve ∷ o .display ∷ [] in
       let m : length (sets a (4 * i) xs) ≡ size = sets-length a (4 * i) xs ∙ n in
-      let p = sets-outside (sets a (4 * i) xs) (2 * i + 975) ys in
-      let e0 : getD (sets (sets a (4 * i) xs) (2 * i + 975) ys) (4 * i) 0 ≡ o .id = p .same (4 * i) (inl (omega arith)) ∙ row-at a (4 * i) (4 * i) xs 0 (omega arith) (omega arith) (omega arith) in
-      let e1 : getD (sets (sets a (4 * i) xs) (2 * i + 975) ys) (4 * i + 1) 0 ≡ 2 * o .series + o .side = p .same (4 * i + 1) (inl (omega arith))
+      let p = sets-outside (sets a (4 * i) xs) (2 * i + regularReserveAt) ys in
+      let e0 : getD (sets (sets a (4 * i) xs) (2 * i + regularReserveAt) ys) (4 * i) 0 ≡ o .id = p .same (4 * i) (inl (omega arith)) ∙ row-at a
+      (4 * i) (4 * i) xs 0 (omega arith) (omega arith) (omega arith) in
+      let e1 : getD (sets (sets a (4 * i) xs) (2 * i + regularReserveAt) ys) (4 * i + 1) 0 ≡ 2 * o .series + o .side = p .same (4 * i + 1) (inl (omega arith))
       ∙ row-at a (4 * i) (4 * i + 1) xs 1 refl (omega arith) (omega arith) in
-      let e2 : getD (sets (sets a (4 * i) xs) (2 * i + 975) ys) (4 * i + 2) 0 ≡ o .price = p .same (4 * i + 2) (inl (omega arith)) ∙ row-at a (4 * i)
+      let e2 : getD (sets (sets a (4 * i) xs) (2 * i + regularReserveAt) ys) (4 * i + 2) 0 ≡ o .price = p .same (4 * i + 2) (inl (omega arith)) ∙ row-at a (4 * i)
       (4 * i + 2) xs 2 refl (omega arith) (omega arith) in
-      let e3 : getD (sets (sets a (4 * i) xs) (2 * i + 975) ys) (4 * i + 3) 0 ≡ o .quantity = p .same (4 * i + 3) (inl (omega arith)) ∙ row-at a
+      let e3 : getD (sets (sets a (4 * i) xs) (2 * i + regularReserveAt) ys) (4 * i + 3) 0 ≡ o .quantity = p .same (4 * i + 3) (inl (omega arith)) ∙ row-at a
       (4 * i) (4 * i + 3) xs 3 refl (omega arith) (omega arith) in
-      let e4 : getD (sets (sets a (4 * i) xs) (2 * i + 975) ys) (2 * i + 975) 0 ≡ o .reserve = row-at (sets a (4 * i) xs) (2 * i + 975) (2 * i + 975) ys 0 (omega arith) (omega arith) (omega arith) in
-      let e5 : getD (sets (sets a (4 * i) xs) (2 * i + 975) ys) (2 * i + 976) 0 ≡ o .display = row-at (sets a (4 * i) xs) (2 * i + 975) (2 * i + 976) ys 1 (omega arith) (omega arith) (omega arith) in
+      let e4 : getD (sets (sets a (4 * i) xs) (2 * i + regularReserveAt) ys) (2 * i + regularReserveAt) 0 ≡ o .reserve = row-at (sets a (4 * i) xs)
+      (2 * i + regularReserveAt) (2 * i + regularReserveAt) ys 0 (omega arith) (omega arith) (omega arith) in
+      let e5 : getD (sets (sets a (4 * i) xs) (2 * i + regularReserveAt) ys) (2 * i + regularDisplayAt) 0 ≡ o .display = row-at (sets a (4 * i) xs)
+      (2 * i + regularReserveAt) (2 * i + regularDisplayAt) ys 1 (omega arith) (omega arith) (omega arith) in
       let f : (2 * o .series + o .side) % 16 / 2 ≡ o .series = omega arith in
       let g : (2 * o .series + o .side) % 2 ≡ o .side = omega arith in
       let x : min (o .reserve) (o .quantity) ≡ o .reserve = omega (arith, w .reserve) in
@@ -311,7 +321,7 @@ module _ (a : List ℕ) (i : ℕ) (o : Regular) where
       rw (e0, e1, e2, e3, e4, e5, f, g, x, y) refl
 
 -- the count, read
-pub counted : (b : List ℕ) (k : ℕ) → getD b 776 0 ≡ k → k ≤ 128 → regularsUsed b ≡ k
+pub counted : (b : List ℕ) (k : ℕ) → getD b regularsUsedAt 0 ≡ k → k ≤ 128 → regularsUsed b ≡ k
 unfolding regularsUsed
 counted b k e h = rw e (omega arith)
 
@@ -319,9 +329,9 @@ whole-part : (b : List ℕ) → inUse (regularIn b) noRegular (regularsUsed b) 1
 unfolding venueOf
 whole-part b = refl
 
-count-is : (a b : List ℕ) → length a ≡ size → length b ≡ size → regularsUsed a < 128 → regularsUsed (set b 776 (regularsUsed a + 1)) ≡ suc (regularsUsed a)
+count-is : (a b : List ℕ) → length a ≡ size → length b ≡ size → regularsUsed a < 128 → regularsUsed (set b regularsUsedAt (regularsUsed a + 1)) ≡ suc (regularsUsed a)
 count-is a b n m h =
-    counted (set b 776 (regularsUsed a + 1)) (regularsUsed a + 1) (getD-set-same b 776 (regularsUsed a + 1) 0 (omega arith)) (omega arith) ∙ omega arith
+    counted (set b regularsUsedAt (regularsUsed a + 1)) (regularsUsed a + 1) (getD-set-same b regularsUsedAt (regularsUsed a + 1) 0 (omega arith)) (omega arith) ∙ omega arith
 
 -- the venue's regular orders, where the places in use are as many
 part : (a b : List ℕ) → regularsUsed b ≡ regularsUsed a → venueOf b ≡ venueOf a → inUse (regularIn b) noRegular (regularsUsed a) 128 ≡ venueOf a .regular
@@ -332,7 +342,7 @@ module _ (a : List ℕ) (o : Regular) (n : length a ≡ size) (h : regularsUsed 
   next = regularsUsed a
 
   abbrev more : List ℕ
-  more = set (regularPut a next o) 776 (next + 1)
+  more = set (regularPut a next o) regularsUsedAt (next + 1)
 
   put-long : length (regularPut a next o) ≡ size
   put-long = put-length a next o ∙ n
@@ -349,7 +359,7 @@ module _ (a : List ℕ) (o : Regular) (n : length a ≡ size) (h : regularsUsed 
   added-venue : o .series < 8 → o .side < 2 → Bounded o → venueOf more ≡ putRegular next o (venueOf a)
   unfolding putRegular
   added-venue s d w =
-      regulars-counted (stored b 776 (next + 1))
+      regulars-counted (stored b regularsUsedAt (next + 1))
       ∙ ap (λ (v : Venue). withRegular v (inUse (regularIn b) noRegular (regularsUsed more) 128)) put-same
       ∙ ap (λ (l : List Regular). withRegular (venueOf a) l) all
     where
@@ -367,12 +377,13 @@ module _ (a : List ℕ) (o : Regular) (n : length a ≡ size) (h : regularsUsed 
   added-shows e z m u = subst (λ (v : Venue). Fully (v .regular)) (sym e)
       (fully-set (venueOf a .regular) next o (omega (arith, regulars-many a)) z (m (unmarked-as a more same u)))
     where
-      same : getD more 1231 0 ≡ getD a 1231 0
-      same = stored (regularPut a next o) 776 (next + 1) .same 1231 (inr (omega arith)) ∙ reserve-outside a next o .same 1231 (inr (omega arith)) ∙ row-outside a next o .same 1231 (inr (omega arith))
+      same : getD more showAgainAt 0 ≡ getD a showAgainAt 0
+      same = stored (regularPut a next o) regularsUsedAt (next + 1) .same showAgainAt (inr (omega arith)) ∙ reserve-outside a next o .same showAgainAt
+          (inr (omega arith)) ∙ row-outside a next o .same showAgainAt (inr (omega arith))
 
 -- an order written after those in use, and counted
 pub added-regular : (a b c : List ℕ) (n : ℕ) (o : Regular) → length a ≡ size → regularsUsed a < 128 → o .series < 8 → o .side < 2 → o .display ≤ o .quantity → showsFully o ≡ true →
-    n ≡ regularsUsed a → b ≡ regularPut a n o → c ≡ lowered (set b 776 (n + 1)) 827 n →
+    n ≡ regularsUsed a → b ≡ regularPut a n o → c ≡ lowered (set b regularsUsedAt (n + 1)) regularsKnownAt n →
     (venueOf c ≡ putRegular (regularsUsed a) o (venueOf a)) × Beside (suc (regularsUsed a)) (complexesUsed a) a c
 added-regular a b c n o m h s d w z p q r = rw (r, q, p) (
   beside-venue mark (omega arith) (inl (omega arith)) (inr (omega arith)) (omega arith) ∙ venue,
@@ -381,9 +392,9 @@ added-regular a b c n o m h s d w z p q r = rw (r, q, p) (
     complexes = count-kept2 mark (inl (omega arith)) ∙ count-kept2 count (inr (omega arith)) ∙ count-kept2 reserve (inl (omega arith)) ∙ count-kept2 row (inr (omega arith));
     levels = λ x w. levels-kept mark (inl (omega arith)) x w ∙ levels-kept count (inr (omega arith)) x w ∙ levels-kept reserve (inl (omega arith)) x w ∙ levels-kept row (inr (omega arith)) x w;
     marked = λ x. record {
-      regulars = regulars-lowered a (lowered (more a o m h) 827 i) i (omega arith)
-          (getD-set-same (more a o m h) 827 (min (getD (more a o m h) 827 0) i) 0 (omega (arith, length-set (regularPut a i o) 776 (i + 1), put-long a o m h))
-          ∙ ap (λ (y : ℕ). min y i) (count .same 827 (inr (omega arith)) ∙ reserve .same 827 (inl (omega arith)) ∙ row .same 827 (inr (omega arith))))
+      regulars = regulars-lowered a (lowered (more a o m h) regularsKnownAt i) i (omega arith)
+          (getD-set-same (more a o m h) regularsKnownAt (min (getD (more a o m h) regularsKnownAt 0) i) 0 (omega (arith, length-set (regularPut a i o) regularsUsedAt (i + 1), put-long a o m h))
+          ∙ ap (λ (y : ℕ). min y i) (count .same regularsKnownAt (inr (omega arith)) ∙ reserve .same regularsKnownAt (inl (omega arith)) ∙ row .same regularsKnownAt (inr (omega arith))))
           (λ k w. other-kept row reserve h k (omega arith) (λ e. omega arith) ∙ regular-kept count k (inl (omega arith)) (inr (omega arith))
           ∙ regular-kept mark k (inl (omega arith)) (inr (omega arith))) (x .regulars);
       complexes = complexes-marked mark (inr (omega arith)) (inl (omega arith)) (inr (omega arith))
@@ -409,19 +420,19 @@ added-regular a b c n o m h s d w z p q r = rw (r, q, p) (
     row : Outside (4 * i) (4 * i + 4) a (sets a (4 * i) (regularRow o))
     row = row-outside a i o
 
-    reserve : Outside (2 * i + 975) (2 * i + 977) (sets a (4 * i) (regularRow o)) (regularPut a i o)
+    reserve : Outside (2 * i + regularReserveAt) (2 * i + regularReserveNextAt) (sets a (4 * i) (regularRow o)) (regularPut a i o)
     reserve = reserve-outside a i o
 
-    count : Outside 776 777 (regularPut a i o) (more a o m h)
-    count = stored (regularPut a i o) 776 (i + 1)
+    count : Outside regularsUsedAt complexesUsedAt (regularPut a i o) (more a o m h)
+    count = stored (regularPut a i o) regularsUsedAt (i + 1)
 
-    mark : Outside 827 828 (more a o m h) (lowered (more a o m h) 827 i)
-    mark = stored (more a o m h) 827 (min (getD (more a o m h) 827 0) i)
+    mark : Outside regularsKnownAt complexesKnownAt (more a o m h) (lowered (more a o m h) regularsKnownAt i)
+    mark = stored (more a o m h) regularsKnownAt (min (getD (more a o m h) regularsKnownAt 0) i)
 
 -- A complex order -----------------------------------------------------------------------------
 
 pub complex-back : (a : List ℕ) (i : ℕ) (c : Complex) → length a ≡ size → i < 32 → c .series1 < 8 → c .side1 < 2 → c .series2 < 8 → c .side2 < 2 → Kept c →
-    complexIn (sets a (6 * i + 512) (complexRow c)) i ≡ c
+    complexIn (sets a (6 * i + complexIdAt) (complexRow c)) i ≡ c
 unfolding complexIn complexRow legsKey ratiosNumber placeOf
 complex-back a i c n h s1 d1 s2 d2 k =
     let legs = 16 * (2 * c .series1 + c .side1) + (2 * c .series2 + c .side2) in
@@ -430,12 +441,14 @@ complex-back a i c n h s1 d1 s2 d2 k =
     let w = k .class in
     let w1 = k .ratio1 in
     let w2 = k .ratio2 in
-    let e0 : getD (sets a (6 * i + 512) xs) (6 * i + 512) 0 ≡ c .id = row-at a (6 * i + 512) (6 * i + 512) xs 0 (omega arith) (omega arith) (omega arith) in
-    let e1 : getD (sets a (6 * i + 512) xs) (6 * i + 513) 0 ≡ legs = row-at a (6 * i + 512) (6 * i + 513) xs 1 (omega arith) (omega arith) (omega arith) in
-    let e2 : getD (sets a (6 * i + 512) xs) (6 * i + 514) 0 ≡ ratios = row-at a (6 * i + 512) (6 * i + 514) xs 2 (omega arith) (omega arith) (omega arith) in
-    let e3 : getD (sets a (6 * i + 512) xs) (6 * i + 515) 0 ≡ c .class = row-at a (6 * i + 512) (6 * i + 515) xs 3 (omega arith) (omega arith) (omega arith) in
-    let e4 : getD (sets a (6 * i + 512) xs) (6 * i + 516) 0 ≡ limitNumber (c .limit) = row-at a (6 * i + 512) (6 * i + 516) xs 4 (omega arith) (omega arith) (omega arith) in
-    let e5 : getD (sets a (6 * i + 512) xs) (6 * i + 517) 0 ≡ c .quantity = row-at a (6 * i + 512) (6 * i + 517) xs 5 (omega arith) (omega arith) (omega arith) in
+    let e0 : getD (sets a (6 * i + complexIdAt) xs) (6 * i + complexIdAt) 0 ≡ c .id = row-at a (6 * i + complexIdAt) (6 * i + complexIdAt) xs 0 (omega arith) (omega arith) (omega arith) in
+    let e1 : getD (sets a (6 * i + complexIdAt) xs) (6 * i + complexLegsAt) 0 ≡ legs = row-at a (6 * i + complexIdAt) (6 * i + complexLegsAt) xs 1 (omega arith) (omega arith) (omega arith) in
+    let e2 : getD (sets a (6 * i + complexIdAt) xs) (6 * i + complexRatiosAt) 0 ≡ ratios = row-at a (6 * i + complexIdAt) (6 * i + complexRatiosAt) xs 2 (omega arith) (omega arith) (omega arith) in
+    let e3 : getD (sets a (6 * i + complexIdAt) xs) (6 * i + complexClassAt) 0 ≡ c .class = row-at a (6 * i + complexIdAt) (6 * i + complexClassAt) xs 3 (omega arith) (omega arith) (omega arith) in
+    let e4 : getD (sets a (6 * i + complexIdAt) xs) (6 * i + complexLimitAt) 0 ≡ limitNumber (c .limit) = row-at a (6 * i + complexIdAt)
+    (6 * i + complexLimitAt) xs 4 (omega arith) (omega arith) (omega arith) in
+    let e5 : getD (sets a (6 * i + complexIdAt) xs) (6 * i + complexQuantityAt) 0 ≡ c .quantity = row-at a (6 * i + complexIdAt)
+    (6 * i + complexQuantityAt) xs 5 (omega arith) (omega arith) (omega arith) in
     let f1 : legs % 256 / 32 ≡ c .series1 = omega arith in
     let g1 : legs / 16 % 2 ≡ c .side1 = omega arith in
     let f2 : legs % 16 / 2 ≡ c .series2 = omega arith in
@@ -445,7 +458,7 @@ complex-back a i c n h s1 d1 s2 d2 k =
     let r2 : ratios % 256 ≡ c .ratio2 = omega arith in
     rw (e0, e1, e2, e3, e4, e5, f1, g1, f2, g2, f3, r1, r2, k .limit) refl
 
-pub counted2 : (b : List ℕ) (k : ℕ) → getD b 777 0 ≡ k → k ≤ 32 → complexesUsed b ≡ k
+pub counted2 : (b : List ℕ) (k : ℕ) → getD b complexesUsedAt 0 ≡ k → k ≤ 32 → complexesUsed b ≡ k
 unfolding complexesUsed
 counted2 b k e h = rw e (omega arith)
 
@@ -453,41 +466,41 @@ whole-part2 : (b : List ℕ) → inUse (complexIn b) noComplex (complexesUsed b)
 unfolding venueOf
 whole-part2 b = refl
 
-wide-row2 : (a : List ℕ) (i : ℕ) (c : Complex) → Outside (6 * i + 512) (6 * i + 518) a (sets a (6 * i + 512) (complexRow c))
+wide-row2 : (a : List ℕ) (i : ℕ) (c : Complex) → Outside (6 * i + complexIdAt) (6 * i + complexNextAt) a (sets a (6 * i + complexIdAt) (complexRow c))
 unfolding complexRow
 wide-row2 a i c =
-    wider (omega arith) (omega arith) (sets-outside a (6 * i + 512) (c .id ∷ legsKey c ∷ ratiosNumber c ∷ c .class ∷ limitNumber (c .limit) ∷ c .quantity ∷ []))
+    wider (omega arith) (omega arith) (sets-outside a (6 * i + complexIdAt) (c .id ∷ legsKey c ∷ ratiosNumber c ∷ c .class ∷ limitNumber (c .limit) ∷ c .quantity ∷ []))
 
-count-is2 : (a b : List ℕ) → length a ≡ size → length b ≡ size → complexesUsed a < 32 → complexesUsed (set b 777 (complexesUsed a + 1)) ≡ suc (complexesUsed a)
+count-is2 : (a b : List ℕ) → length a ≡ size → length b ≡ size → complexesUsed a < 32 → complexesUsed (set b complexesUsedAt (complexesUsed a + 1)) ≡ suc (complexesUsed a)
 count-is2 a b n m h =
-    counted2 (set b 777 (complexesUsed a + 1)) (complexesUsed a + 1) (getD-set-same b 777 (complexesUsed a + 1) 0 (omega arith)) (omega arith) ∙ omega arith
+    counted2 (set b complexesUsedAt (complexesUsed a + 1)) (complexesUsed a + 1) (getD-set-same b complexesUsedAt (complexesUsed a + 1) 0 (omega arith)) (omega arith) ∙ omega arith
 
 part2 : (a b : List ℕ) → complexesUsed b ≡ complexesUsed a → venueOf b ≡ venueOf a → inUse (complexIn b) noComplex (complexesUsed a) 32 ≡ venueOf a .complex
 part2 a b e f = ap (λ (k : ℕ). inUse (complexIn b) noComplex k 32) (sym e) ∙ whole-part2 b ∙ ap (λ (v : Venue). v .complex) f
 
 added-venue2 : (a : List ℕ) (o : Complex) → length a ≡ size → complexesUsed a < 32 →
     o .series1 < 8 → o .side1 < 2 → o .series2 < 8 → o .side2 < 2 → Kept o →
-    venueOf (set (sets a (6 * complexesUsed a + 512) (complexRow o)) 777 (complexesUsed a + 1)) ≡ putComplex (complexesUsed a) o (venueOf a)
+    venueOf (set (sets a (6 * complexesUsed a + complexIdAt) (complexRow o)) complexesUsedAt (complexesUsed a + 1)) ≡ putComplex (complexesUsed a) o (venueOf a)
 unfolding putComplex
 added-venue2 a o n h s1 d1 s2 d2 k =
-    complexes-counted (stored b 777 (complexesUsed a + 1))
+    complexes-counted (stored b complexesUsedAt (complexesUsed a + 1))
     ∙ ap (λ (v : Venue). withComplex v (inUse (complexIn b) noComplex (complexesUsed c) 32)) same
     ∙ ap (λ (l : List Complex). withComplex (venueOf a) l) more
   where
     b : List ℕ
-    b = sets a (6 * complexesUsed a + 512) (complexRow o)
+    b = sets a (6 * complexesUsed a + complexIdAt) (complexRow o)
 
     c : List ℕ
-    c = set b 777 (complexesUsed a + 1)
+    c = set b complexesUsedAt (complexesUsed a + 1)
 
-    row : Outside (6 * complexesUsed a + 512) (6 * complexesUsed a + 518) a b
+    row : Outside (6 * complexesUsed a + complexIdAt) (6 * complexesUsed a + complexNextAt) a b
     row = wide-row2 a (complexesUsed a) o
 
     same : venueOf b ≡ venueOf a
     same = complex-unused (complexesUsed a) row h (omega arith)
 
     more-used : complexesUsed c ≡ suc (complexesUsed a)
-    more-used = count-is2 a b n (sets-length a (6 * complexesUsed a + 512) (complexRow o) ∙ n) h
+    more-used = count-is2 a b n (sets-length a (6 * complexesUsed a + complexIdAt) (complexRow o) ∙ n) h
 
     used-b : complexesUsed b ≡ complexesUsed a
     used-b = count-kept2 row (inr (omega arith))
@@ -500,14 +513,14 @@ added-venue2 a o n h s1 d1 s2 d2 k =
 
 pub added-complex : (a b c : List ℕ) (n : ℕ) (o : Complex) → length a ≡ size → complexesUsed a < 32 →
     o .series1 < 8 → o .side1 < 2 → o .series2 < 8 → o .side2 < 2 → Kept o →
-    n ≡ complexesUsed a → b ≡ sets a (6 * n + 512) (complexRow o) → c ≡ lowered (set b 777 (n + 1)) 828 n →
+    n ≡ complexesUsed a → b ≡ sets a (6 * n + complexIdAt) (complexRow o) → c ≡ lowered (set b complexesUsedAt (n + 1)) complexesKnownAt n →
     (venueOf c ≡ putComplex (complexesUsed a) o (venueOf a)) × Counts (regularsUsed a) (suc (complexesUsed a)) a c
 added-complex a b c n o m h s1 d1 s2 d2 k p q r = rw (r, q, p) (
   beside-venue mark (omega arith) (inl (omega arith)) (inr (omega arith)) (omega arith) ∙ added-venue2 a o m h s1 d1 s2 d2 k,
   record {
     regulars = count-kept mark (inl (omega arith)) ∙ count-kept count (inl (omega arith)) ∙ count-kept row (inr (omega arith));
     complexes = count-kept2 mark (inl (omega arith)) ∙ count-is2 a wrote m long h;
-    right = right-kept a (lowered more 828 i)
+    right = right-kept a (lowered more complexesKnownAt i)
         (λ x w. levels-kept mark (inl (omega arith)) x w ∙ levels-kept count (inr (omega arith)) x w ∙ levels-kept row (inr (omega arith)) x w)
         (regulars-kept mark (omega arith) (inr (omega arith)) (inl (omega arith)) ∙ regulars-kept count (omega arith) (inr (omega arith))
         (inl (omega arith)) ∙ regulars-kept row (omega arith) (inr (omega arith)) (inr (omega arith)))
@@ -515,9 +528,9 @@ added-complex a b c n o m h s1 d1 s2 d2 k p q r = rw (r, q, p) (
           regulars = regulars-marked mark (omega arith) (inl (omega arith)) (inl (omega arith))
               (regulars-marked count (omega arith) (inl (omega arith)) (inr (omega arith))
               (regulars-marked row (omega arith) (inr (omega arith)) (inr (omega arith)) (x .regulars)));
-          complexes = complexes-lowered a (lowered more 828 i) i (omega arith)
-              (getD-set-same more 828 (min (getD more 828 0) i) 0 (omega (arith, length-set wrote 777 (i + 1), long))
-              ∙ ap (λ (y : ℕ). min y i) (count .same 828 (inr (omega arith)) ∙ row .same 828 (inr (omega arith))))
+          complexes = complexes-lowered a (lowered more complexesKnownAt i) i (omega arith)
+              (getD-set-same more complexesKnownAt (min (getD more complexesKnownAt 0) i) 0 (omega (arith, length-set wrote complexesUsedAt (i + 1), long))
+              ∙ ap (λ (y : ℕ). min y i) (count .same complexesKnownAt (inr (omega arith)) ∙ row .same complexesKnownAt (inr (omega arith))))
               (λ j w. complex-kept row j (inl (omega arith)) ∙ complex-kept count j (inl (omega arith)) ∙ complex-kept mark j (inl (omega arith))) (x .complexes);
           legging = legging-marked mark (inr (omega arith)) (inr (omega arith))
               (legging-marked count (inr (omega arith)) (inr (omega arith)) (legging-marked row (inl (omega arith)) (inr (omega arith)) (x .legging)));
@@ -533,47 +546,50 @@ added-complex a b c n o m h s1 d1 s2 d2 k p q r = rw (r, q, p) (
     i = complexesUsed a
 
     wrote : List ℕ
-    wrote = sets a (6 * i + 512) (complexRow o)
+    wrote = sets a (6 * i + complexIdAt) (complexRow o)
 
     more : List ℕ
-    more = set wrote 777 (i + 1)
+    more = set wrote complexesUsedAt (i + 1)
 
     long : length wrote ≡ size
-    long = sets-length a (6 * i + 512) (complexRow o) ∙ m
+    long = sets-length a (6 * i + complexIdAt) (complexRow o) ∙ m
 
-    row : Outside (6 * i + 512) (6 * i + 518) a wrote
+    row : Outside (6 * i + complexIdAt) (6 * i + complexNextAt) a wrote
     row = wide-row2 a i o
 
-    count : Outside 777 778 wrote more
-    count = stored wrote 777 (i + 1)
+    count : Outside complexesUsedAt lastIdAt wrote more
+    count = stored wrote complexesUsedAt (i + 1)
 
-    mark : Outside 828 829 more (lowered more 828 i)
-    mark = stored more 828 (min (getD more 828 0) i)
+    mark : Outside complexesKnownAt leggingMaskAt more (lowered more complexesKnownAt i)
+    mark = stored more complexesKnownAt (min (getD more complexesKnownAt 0) i)
 
 -- Legging places, series and the last id ------------------------------------------------------
 
-legging-back : (a : List ℕ) (n : ℕ) (l : Legging) → length a ≡ size → n < 16 → leggingIn (sets a (3 * n + 704) (l .parent ∷ l .price ∷ l .quantity ∷ [])) n ≡ l
+legging-back : (a : List ℕ) (n : ℕ) (l : Legging) → length a ≡ size → n < 16 → leggingIn (sets a (3 * n + leggingParentAt) (l .parent ∷ l .price ∷ l .quantity ∷ [])) n ≡ l
 unfolding leggingIn
 legging-back a n l m h =
     let xs : List ℕ = l .parent ∷ l .price ∷ l .quantity ∷ [] in
-    let e0 : getD (sets a (3 * n + 704) xs) (3 * n + 704) 0 ≡ l .parent = row-at a (3 * n + 704) (3 * n + 704) xs 0 (omega arith) (omega arith) (omega arith) in
-    let e1 : getD (sets a (3 * n + 704) xs) (3 * n + 705) 0 ≡ l .price = row-at a (3 * n + 704) (3 * n + 705) xs 1 (omega arith) (omega arith) (omega arith) in
-    let e2 : getD (sets a (3 * n + 704) xs) (3 * n + 706) 0 ≡ l .quantity = row-at a (3 * n + 704) (3 * n + 706) xs 2 (omega arith) (omega arith) (omega arith) in
+    let e0 : getD (sets a (3 * n + leggingParentAt) xs) (3 * n + leggingParentAt) 0 ≡ l .parent = row-at a (3 * n + leggingParentAt)
+    (3 * n + leggingParentAt) xs 0 (omega arith) (omega arith) (omega arith) in
+    let e1 : getD (sets a (3 * n + leggingParentAt) xs) (3 * n + leggingPriceAt) 0 ≡ l .price = row-at a (3 * n + leggingParentAt)
+    (3 * n + leggingPriceAt) xs 1 (omega arith) (omega arith) (omega arith) in
+    let e2 : getD (sets a (3 * n + leggingParentAt) xs) (3 * n + leggingQuantityAt) 0 ≡ l .quantity = row-at a (3 * n + leggingParentAt)
+    (3 * n + leggingQuantityAt) xs 2 (omega arith) (omega arith) (omega arith) in
     rw (e0, e1, e2) refl
 
 legging-put : (a : List ℕ) (n : ℕ) (l : Legging) → length a ≡ size → n < 16 →
-    venueOf (sets a (3 * n + 704) (l .parent ∷ l .price ∷ l .quantity ∷ [])) ≡ placed n l (venueOf a)
+    venueOf (sets a (3 * n + leggingParentAt) (l .parent ∷ l .price ∷ l .quantity ∷ [])) ≡ placed n l (venueOf a)
 unfolding placed
 legging-put a n l m h =
-    legging-set {a = a} {b = sets a (3 * n + 704) (l .parent ∷ l .price ∷ l .quantity ∷ [])}
-    (wider (omega arith) (omega arith) (sets-outside a (3 * n + 704) (l .parent ∷ l .price ∷ l .quantity ∷ []))) h
+    legging-set {a = a} {b = sets a (3 * n + leggingParentAt) (l .parent ∷ l .price ∷ l .quantity ∷ [])}
+    (wider (omega arith) (omega arith) (sets-outside a (3 * n + leggingParentAt) (l .parent ∷ l .price ∷ l .quantity ∷ []))) h
     ∙ ap (λ (x : Legging). withLegging (venueOf a) (set (venueOf a .legging) n x)) (legging-back a n l m h)
 
 -- u is what the old order adds to the mask, and w what the new one does
 pub put-legging : (a : List ℕ) (n rest u w : ℕ) (old l : Legging) → length a ≡ size → n < 16 → old ≡ leggingIn a n →
-    rest ≡ getD a 829 0 % 65536 - u → u ≡ bitOf old * 2 ^ n → w ≡ bitOf l * 2 ^ n →
-    (venueOf (sets (set a 829 (rest + w)) (3 * n + 704) (l .parent ∷ l .price ∷ l .quantity ∷ [])) ≡ placed n l (venueOf a))
-    × SameCounts a (sets (set a 829 (rest + w)) (3 * n + 704) (l .parent ∷ l .price ∷ l .quantity ∷ []))
+    rest ≡ getD a leggingMaskAt 0 % 65536 - u → u ≡ bitOf old * 2 ^ n → w ≡ bitOf l * 2 ^ n →
+    (venueOf (sets (set a leggingMaskAt (rest + w)) (3 * n + leggingParentAt) (l .parent ∷ l .price ∷ l .quantity ∷ [])) ≡ placed n l (venueOf a))
+    × SameCounts a (sets (set a leggingMaskAt (rest + w)) (3 * n + leggingParentAt) (l .parent ∷ l .price ∷ l .quantity ∷ []))
 put-legging a n rest u w old l m h e r p q = (
   venue,
   record {
@@ -585,7 +601,7 @@ put-legging a n rest u w old l m h e r p q = (
           regulars = regulars-marked row (omega arith) (inr (omega arith)) (inr (omega arith)) (regulars-marked one (omega arith) (inl (omega arith)) (inl (omega arith)) (x .regulars));
           complexes = complexes-marked row (inr (omega arith)) (inr (omega arith)) (inr (omega arith))
               (complexes-marked one (inr (omega arith)) (inl (omega arith)) (inl (omega arith)) (x .complexes));
-          legging = row .same 829 (inr (omega arith)) ∙ getD-set-same a 829 (rest + w) 0 (omega arith)
+          legging = row .same leggingMaskAt (inr (omega arith)) ∙ getD-set-same a leggingMaskAt (rest + w) 0 (omega arith)
               ∙ mask-put a n rest u w old l h (x .legging) e r p q ∙ sym (ap (λ (v : Venue). mask (v .legging)) venue ∙ (unfold placed withLegging in refl));
           figures = figures-marked row (inl (omega arith)) (figures-marked one (inl (omega arith)) (x .figures));
           shows = shows-marked row (omega arith) (omega arith) (inr (omega arith)) (shows-marked one (omega arith) (omega arith) (inl (omega arith)) (x .shows));
@@ -594,66 +610,75 @@ put-legging a n rest u w old l m h e r p q = (
 )
   where
     b : List ℕ
-    b = set a 829 (rest + w)
+    b = set a leggingMaskAt (rest + w)
 
     c : List ℕ
-    c = sets b (3 * n + 704) (l .parent ∷ l .price ∷ l .quantity ∷ [])
+    c = sets b (3 * n + leggingParentAt) (l .parent ∷ l .price ∷ l .quantity ∷ [])
 
-    one : Outside 829 830 a b
-    one = stored a 829 (rest + w)
+    one : Outside leggingMaskAt editionNumberAt a b
+    one = stored a leggingMaskAt (rest + w)
 
-    row : Outside (3 * n + 704) (3 * n + 707) b c
-    row = wider (omega arith) (omega arith) (sets-outside b (3 * n + 704) (l .parent ∷ l .price ∷ l .quantity ∷ []))
+    row : Outside (3 * n + leggingParentAt) (3 * n + leggingNextAt) b c
+    row = wider (omega arith) (omega arith) (sets-outside b (3 * n + leggingParentAt) (l .parent ∷ l .price ∷ l .quantity ∷ []))
 
     venue : venueOf c ≡ placed n l (venueOf a)
-    venue = legging-put b n l (length-set a 829 (rest + w) ∙ m) h ∙ ap (placed n l) (beside-venue one (omega arith) (inl (omega arith)) (inr (omega arith)) (omega arith))
+    venue = legging-put b n l (length-set a leggingMaskAt (rest + w) ∙ m) h ∙ ap (placed n l) (beside-venue one (omega arith) (inl (omega arith)) (inr (omega arith)) (omega arith))
 
-listed-back : (a : List ℕ) (s : ℕ) (x : Listed) → length a ≡ size → s < 8 → x .status < 256 → listedIn (sets a (3 * s + 752) (x .status ∷ x .bid ∷ x .offer ∷ [])) s ≡ x
+listed-back : (a : List ℕ) (s : ℕ) (x : Listed) → length a ≡ size → s < 8 → x .status < 256 → listedIn (sets a (3 * s + seriesStatusAt) (x .status ∷ x .bid ∷ x .offer ∷ [])) s ≡ x
 unfolding listedIn
 listed-back a s x m h w =
     let xs : List ℕ = x .status ∷ x .bid ∷ x .offer ∷ [] in
-    let e0 : getD (sets a (3 * s + 752) xs) (3 * s + 752) 0 ≡ x .status = row-at a (3 * s + 752) (3 * s + 752) xs 0 (omega arith) (omega arith) (omega arith) in
-    let e1 : getD (sets a (3 * s + 752) xs) (3 * s + 753) 0 ≡ x .bid = row-at a (3 * s + 752) (3 * s + 753) xs 1 (omega arith) (omega arith) (omega arith) in
-    let e2 : getD (sets a (3 * s + 752) xs) (3 * s + 754) 0 ≡ x .offer = row-at a (3 * s + 752) (3 * s + 754) xs 2 (omega arith) (omega arith) (omega arith) in
+    let e0 : getD (sets a (3 * s + seriesStatusAt) xs) (3 * s + seriesStatusAt) 0 ≡ x .status = row-at a (3 * s + seriesStatusAt)
+    (3 * s + seriesStatusAt) xs 0 (omega arith) (omega arith) (omega arith) in
+    let e1 : getD (sets a (3 * s + seriesStatusAt) xs) (3 * s + seriesBidAt) 0 ≡ x .bid = row-at a (3 * s + seriesStatusAt) (3 * s + seriesBidAt) xs 1 (omega arith) (omega arith) (omega arith) in
+    let e2 : getD (sets a (3 * s + seriesStatusAt) xs) (3 * s + seriesOfferAt) 0 ≡ x .offer = row-at a (3 * s + seriesStatusAt)
+    (3 * s + seriesOfferAt) xs 2 (omega arith) (omega arith) (omega arith) in
     let f : x .status % 256 ≡ x .status = omega arith in
     rw (e0, e1, e2, f) refl
 
 pub put-listed : (a : List ℕ) (s : ℕ) (x : Listed) → length a ≡ size → s < 8 → x .status < 256 →
-    venueOf (sets a (3 * s + 752) (x .status ∷ x .bid ∷ x .offer ∷ [])) ≡ withSeries (venueOf a) (set (venueOf a .series) s x)
+    venueOf (sets a (3 * s + seriesStatusAt) (x .status ∷ x .bid ∷ x .offer ∷ [])) ≡ withSeries (venueOf a) (set (venueOf a .series) s x)
 put-listed a s x m h w =
-    listed-set {a = a} {b = sets a (3 * s + 752) (x .status ∷ x .bid ∷ x .offer ∷ [])} (wider (omega arith) (omega arith) (sets-outside a (3 * s + 752) (x .status ∷ x .bid ∷ x .offer ∷ []))) h
+    listed-set {a = a} {b = sets a (3 * s + seriesStatusAt) (x .status ∷ x .bid ∷ x .offer ∷ [])}
+    (wider (omega arith) (omega arith) (sets-outside a (3 * s + seriesStatusAt) (x .status ∷ x .bid ∷ x .offer ∷ []))) h
     ∙ ap (λ (y : Listed). withSeries (venueOf a) (set (venueOf a .series) s y)) (listed-back a s x m h w)
 
-pub edition-back : (a : List ℕ) (i : ℕ) (e : Edition) → length a ≡ size → i < 32 → e .figure < 256 → e .value < 256 → editionIn (sets a (4 * i + 830) (editionRow e)) i ≡ e
+pub edition-back : (a : List ℕ) (i : ℕ) (e : Edition) → length a ≡ size → i < 32 → e .figure < 256 → e .value < 256 → editionIn (sets a (4 * i + editionNumberAt) (editionRow e)) i ≡ e
 unfolding editionIn editionRow
 edition-back a i e n h w x =
     let xs : List ℕ = e .edition ∷ e .message ∷ e .figure ∷ e .value ∷ [] in
-    let e0 : getD (sets a (4 * i + 830) xs) (4 * i + 830) 0 ≡ e .edition = row-at a (4 * i + 830) (4 * i + 830) xs 0 (omega arith) (omega arith) (omega arith) in
-    let e1 : getD (sets a (4 * i + 830) xs) (4 * i + 831) 0 ≡ e .message = row-at a (4 * i + 830) (4 * i + 831) xs 1 (omega arith) (omega arith) (omega arith) in
-    let e2 : getD (sets a (4 * i + 830) xs) (4 * i + 832) 0 ≡ e .figure = row-at a (4 * i + 830) (4 * i + 832) xs 2 (omega arith) (omega arith) (omega arith) in
-    let e3 : getD (sets a (4 * i + 830) xs) (4 * i + 833) 0 ≡ e .value = row-at a (4 * i + 830) (4 * i + 833) xs 3 (omega arith) (omega arith) (omega arith) in
+    let e0 : getD (sets a (4 * i + editionNumberAt) xs) (4 * i + editionNumberAt) 0 ≡ e .edition = row-at a (4 * i + editionNumberAt)
+    (4 * i + editionNumberAt) xs 0 (omega arith) (omega arith) (omega arith) in
+    let e1 : getD (sets a (4 * i + editionNumberAt) xs) (4 * i + editionMessageAt) 0 ≡ e .message = row-at a (4 * i + editionNumberAt)
+    (4 * i + editionMessageAt) xs 1 (omega arith) (omega arith) (omega arith) in
+    let e2 : getD (sets a (4 * i + editionNumberAt) xs) (4 * i + editionFigureAt) 0 ≡ e .figure = row-at a (4 * i + editionNumberAt)
+    (4 * i + editionFigureAt) xs 2 (omega arith) (omega arith) (omega arith) in
+    let e3 : getD (sets a (4 * i + editionNumberAt) xs) (4 * i + editionValueAt) 0 ≡ e .value = row-at a (4 * i + editionNumberAt)
+    (4 * i + editionValueAt) xs 3 (omega arith) (omega arith) (omega arith) in
     let f : e .figure % 256 ≡ e .figure = omega arith in
     let g : e .value % 256 ≡ e .value = omega arith in
     rw (e0, e1, e2, e3, f, g) refl
 
-pub put-last : (a : List ℕ) (id : ℕ) → length a ≡ size → venueOf (set a 778 id) ≡ withLast (venueOf a) id
-put-last a id n = last-set (stored a 778 id) ∙ ap (λ (k : ℕ). withLast (venueOf a) k) (getD-set-same a 778 id 0 (omega arith))
+pub put-last : (a : List ℕ) (id : ℕ) → length a ≡ size → venueOf (set a lastIdAt id) ≡ withLast (venueOf a) id
+put-last a id n = last-set (stored a lastIdAt id) ∙ ap (λ (k : ℕ). withLast (venueOf a) k) (getD-set-same a lastIdAt id 0 (omega arith))
 
 -- Levels --------------------------------------------------------------------------------------
 
 level-back : (a : List ℕ) (n : ℕ) (l : Level) → length a ≡ size → n < 16 →
-    levelIn (sets a (3 * n + 779) (l .price ∷ l .size % 4294967296 ∷ l .size / 4294967296 ∷ [])) n ≡ l
+    levelIn (sets a (3 * n + levelPriceAt) (l .price ∷ l .size % 4294967296 ∷ l .size / 4294967296 ∷ [])) n ≡ l
 unfolding levelIn
 level-back a n l m h =
     let xs : List ℕ = l .price ∷ l .size % 4294967296 ∷ l .size / 4294967296 ∷ [] in
-    let e0 : getD (sets a (3 * n + 779) xs) (3 * n + 779) 0 ≡ l .price = row-at a (3 * n + 779) (3 * n + 779) xs 0 (omega arith) (omega arith) (omega arith) in
-    let e1 : getD (sets a (3 * n + 779) xs) (3 * n + 780) 0 ≡ l .size % 4294967296 = row-at a (3 * n + 779) (3 * n + 780) xs 1 (omega arith) (omega arith) (omega arith) in
-    let e2 : getD (sets a (3 * n + 779) xs) (3 * n + 781) 0 ≡ l .size / 4294967296 = row-at a (3 * n + 779) (3 * n + 781) xs 2 (omega arith) (omega arith) (omega arith) in
+    let e0 : getD (sets a (3 * n + levelPriceAt) xs) (3 * n + levelPriceAt) 0 ≡ l .price = row-at a (3 * n + levelPriceAt) (3 * n + levelPriceAt) xs 0 (omega arith) (omega arith) (omega arith) in
+    let e1 : getD (sets a (3 * n + levelPriceAt) xs) (3 * n + levelLowAt) 0 ≡ l .size % 4294967296 = row-at a (3 * n + levelPriceAt)
+    (3 * n + levelLowAt) xs 1 (omega arith) (omega arith) (omega arith) in
+    let e2 : getD (sets a (3 * n + levelPriceAt) xs) (3 * n + levelHighAt) 0 ≡ l .size / 4294967296 = row-at a (3 * n + levelPriceAt)
+    (3 * n + levelHighAt) xs 2 (omega arith) (omega arith) (omega arith) in
     let f : l .size % 4294967296 + 4294967296 * (l .size / 4294967296) ≡ l .size = omega arith in
     rw (e0, e1, e2, f) refl
 
 pub put-level : (a : List ℕ) (n : ℕ) (l : Level) → length a ≡ size → n < 16 →
-    LevelPut n l a (sets a (3 * n + 779) (l .price ∷ l .size % 4294967296 ∷ l .size / 4294967296 ∷ []))
+    LevelPut n l a (sets a (3 * n + levelPriceAt) (l .price ∷ l .size % 4294967296 ∷ l .size / 4294967296 ∷ []))
 put-level a n l m h = record {
   venue = beside-venue o (omega arith) (inl (omega arith)) (inr (omega arith)) (omega arith);
   regulars = count-kept o (inl (omega arith));
@@ -669,8 +694,8 @@ put-level a n l m h = record {
   };
 }
   where
-    o : Outside (3 * n + 779) (3 * n + 782) a (sets a (3 * n + 779) (l .price ∷ l .size % 4294967296 ∷ l .size / 4294967296 ∷ []))
-    o = wider (omega arith) (omega arith) (sets-outside a (3 * n + 779) (l .price ∷ l .size % 4294967296 ∷ l .size / 4294967296 ∷ []))
+    o : Outside (3 * n + levelPriceAt) (3 * n + levelNextAt) a (sets a (3 * n + levelPriceAt) (l .price ∷ l .size % 4294967296 ∷ l .size / 4294967296 ∷ []))
+    o = wider (omega arith) (omega arith) (sets-outside a (3 * n + levelPriceAt) (l .price ∷ l .size % 4294967296 ∷ l .size / 4294967296 ∷ []))
 
-    near : (k : ℕ) → (k ≡ n → ⊥) → (3 * k + 782 ≤ 3 * n + 779) ⊎ (3 * n + 782 ≤ 3 * k + 779)
+    near : (k : ℕ) → (k ≡ n → ⊥) → (3 * k + levelNextAt ≤ 3 * n + levelPriceAt) ⊎ (3 * n + levelNextAt ≤ 3 * k + levelPriceAt)
     near k q = elim (decLt k n) [ yes p ↦ inl (omega arith) | no p ↦ inr (omega arith) ]

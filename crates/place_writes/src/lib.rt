@@ -15,6 +15,7 @@ ghost use Rattle.places.specs.Layout.{size, regularsUsed, complexesUsed, regula
 ghost use Rattle.places.specs.Layout.{FiguresBase, FigureSet, FiguresCounted};
 ghost use Rattle.places.specs.Layout.{Marked, Right, Beside, SameBeside, LevelPut, Counts, SameCounts};
 ghost use Rattle.places.specs.Layout.{Filled, RegularsClosed, ComplexesClosed, GapsClosed};
+ghost use Rattle.places.specs.Offsets.{complexIdAt, editionNumberAt};
 use places::Level;
 use rules::Complex;
 use rules::Edition;
@@ -28,9 +29,9 @@ pub fn put_level(b: &mut [u32], n: usize, l: Level)
     requires { ⌜ (length (now b) ≡ size) × (n < 16) ⌝ }
     ensures { λ _. ⌜ LevelPut n l (now (b .entry)) (now (b .exit)) ⌝ }
 {
-    b[3 * n + 779] = l.price;
-    b[3 * n + 780] = (l.size % 4294967296) as u32;
-    b[3 * n + 781] = (l.size / 4294967296) as u32;
+    b[3 * n + places::LEVEL_PRICE_AT] = l.price;
+    b[3 * n + places::LEVEL_LOW_AT] = (l.size % 4294967296) as u32;
+    b[3 * n + places::LEVEL_HIGH_AT] = (l.size / 4294967296) as u32;
 }
 
 // The number at a place becomes i, unless it is less.
@@ -61,16 +62,16 @@ pub fn fill_regular(b: &mut [u32], i: usize, k: u32)
     ensures { λ _. ⌜ venueOf (now (b .exit)) ≡ fillRegular i k (venueOf (now (b .entry))) ⌝ }
     ensures beside { λ _. ⌜ SameBeside (now (b .entry)) (now (b .exit)) ⌝ }
 {
-    let q = b[4 * i + 3];
-    b[4 * i + 3] = less(q, k);
+    let q = b[4 * i + places::REGULAR_QUANTITY_AT];
+    b[4 * i + places::REGULAR_QUANTITY_AT] = less(q, k);
     if q <= k {
-        lower(b, 827, i);
+        lower(b, places::REGULARS_KNOWN_AT, i);
         return;
     }
-    if b[2 * i + 975] == 0 {
+    if b[2 * i + places::REGULAR_RESERVE_AT] == 0 {
         return;
     }
-    b[1231] = 1;
+    b[places::SHOW_AGAIN_AT] = 1;
 }
 
 // The complex order at a place is filled by `k` units.
@@ -79,12 +80,12 @@ pub fn fill_complex(b: &mut [u32], i: usize, k: u32)
     ensures { λ _. ⌜ venueOf (now (b .exit)) ≡ fillComplex i k (venueOf (now (b .entry))) ⌝ }
     ensures counts { λ _. ⌜ SameCounts (now (b .entry)) (now (b .exit)) ⌝ }
 {
-    let q = b[6 * i + 517];
-    b[6 * i + 517] = less(q, k);
+    let q = b[6 * i + places::COMPLEX_QUANTITY_AT];
+    b[6 * i + places::COMPLEX_QUANTITY_AT] = less(q, k);
     if k < q {
         return;
     }
-    lower(b, 828, i);
+    lower(b, places::COMPLEXES_KNOWN_AT, i);
 }
 
 // The number of a series and side: its legging place.
@@ -101,11 +102,11 @@ pub fn write_regular(b: &mut [u32], i: usize, o: Regular)
 {
     let place = place_number(o.series, o.side);
     b[4 * i] = o.id;
-    b[4 * i + 1] = place;
-    b[4 * i + 2] = o.price;
-    b[4 * i + 3] = o.quantity;
-    b[2 * i + 975] = o.reserve;
-    b[2 * i + 976] = o.display;
+    b[4 * i + places::REGULAR_KEY_AT] = place;
+    b[4 * i + places::REGULAR_PRICE_AT] = o.price;
+    b[4 * i + places::REGULAR_QUANTITY_AT] = o.quantity;
+    b[2 * i + places::REGULAR_RESERVE_AT] = o.reserve;
+    b[2 * i + places::REGULAR_DISPLAY_AT] = o.display;
 }
 
 // An order is given the place after those in use. The levels stay as they are.
@@ -116,8 +117,8 @@ pub fn add_regular(b: &mut [u32], o: Regular)
 {
     let n = places::regulars_used(b);
     write_regular(b, n, o);
-    b[776] = (n + 1) as u32;
-    lower(b, 827, n);
+    b[places::REGULARS_USED_AT] = (n + 1) as u32;
+    lower(b, places::REGULARS_KNOWN_AT, n);
 }
 
 // Each order shows again: all but its shown quantity is reserve. The levels stay as they are.
@@ -130,10 +131,10 @@ pub fn show_again(b: &mut [u32])
     let mut i: usize = 0;
     while i < n {
         let o = places::regular_at(b, i);
-        b[2 * i + 975] = less(o.quantity, o.display);
+        b[2 * i + places::REGULAR_RESERVE_AT] = less(o.quantity, o.display);
         i += 1;
     }
-    b[1231] = 0;
+    b[places::SHOW_AGAIN_AT] = 0;
 }
 
 // A limit's number, as it is kept.
@@ -146,17 +147,17 @@ fn limit_number(x: i32) -> u32
 // A complex order's numbers at place i.
 pub fn write_complex(b: &mut [u32], i: usize, c: Complex)
     requires { ⌜ (length (now b) ≡ size) × (i < 32) ⌝ }
-    ensures { λ _. ⌜ (now (b .exit) ≡ sets (now (b .entry)) (6 * i + 512) (complexRow c)) × Kept c ⌝ }
+    ensures { λ _. ⌜ (now (b .exit) ≡ sets (now (b .entry)) (6 * i + complexIdAt) (complexRow c)) × Kept c ⌝ }
 {
     let one = place_number(c.series1, c.side1);
     let two = place_number(c.series2, c.side2);
     let limit = limit_number(c.limit);
-    b[6 * i + 512] = c.id;
-    b[6 * i + 513] = 16 * one + two;
-    b[6 * i + 514] = 256 * (c.ratio1 as u32) + (c.ratio2 as u32);
-    b[6 * i + 515] = c.class as u32;
-    b[6 * i + 516] = limit;
-    b[6 * i + 517] = c.quantity;
+    b[6 * i + places::COMPLEX_ID_AT] = c.id;
+    b[6 * i + places::COMPLEX_LEGS_AT] = 16 * one + two;
+    b[6 * i + places::COMPLEX_RATIOS_AT] = 256 * (c.ratio1 as u32) + (c.ratio2 as u32);
+    b[6 * i + places::COMPLEX_CLASS_AT] = c.class as u32;
+    b[6 * i + places::COMPLEX_LIMIT_AT] = limit;
+    b[6 * i + places::COMPLEX_QUANTITY_AT] = c.quantity;
 }
 
 // A complex order is given the place after those in use.
@@ -167,8 +168,8 @@ pub fn add_complex(b: &mut [u32], c: Complex)
 {
     let n = places::complexes_used(b);
     write_complex(b, n, c);
-    b[777] = (n + 1) as u32;
-    lower(b, 828, n);
+    b[places::COMPLEXES_USED_AT] = (n + 1) as u32;
+    lower(b, places::COMPLEXES_KNOWN_AT, n);
 }
 
 // What a legging place adds to the mask.
@@ -189,11 +190,11 @@ pub fn put_legging(b: &mut [u32], n: usize, l: Legging)
     ensures counts { λ _. ⌜ SameCounts (now (b .entry)) (now (b .exit)) ⌝ }
 {
     let old = places::legging_at(b, n);
-    let rest = less(b[829] % 65536, weight(n, old));
-    b[829] = rest + weight(n, l);
-    b[3 * n + 704] = l.parent;
-    b[3 * n + 705] = l.price;
-    b[3 * n + 706] = l.quantity;
+    let rest = less(b[places::LEGGING_MASK_AT] % 65536, weight(n, old));
+    b[places::LEGGING_MASK_AT] = rest + weight(n, l);
+    b[3 * n + places::LEGGING_PARENT_AT] = l.parent;
+    b[3 * n + places::LEGGING_PRICE_AT] = l.price;
+    b[3 * n + places::LEGGING_QUANTITY_AT] = l.quantity;
 }
 
 // A series' status and away prices anew.
@@ -202,20 +203,20 @@ pub fn put_listed(b: &mut [u32], s: usize, x: Listed)
     ensures { λ _. ⌜ venueOf (now (b .exit)) ≡ withSeries (venueOf (now (b .entry))) (set (venueOf (now (b .entry)) .series) s x) ⌝ }
     ensures counts { λ _. ⌜ SameCounts (now (b .entry)) (now (b .exit)) ⌝ }
 {
-    b[3 * s + 752] = x.status as u32;
-    b[3 * s + 753] = x.bid;
-    b[3 * s + 754] = x.offer;
+    b[3 * s + places::SERIES_STATUS_AT] = x.status as u32;
+    b[3 * s + places::SERIES_BID_AT] = x.bid;
+    b[3 * s + places::SERIES_OFFER_AT] = x.offer;
 }
 
 // An edition's numbers at place i. The figures stay as they are.
 pub fn write_edition(b: &mut [u32], i: usize, e: Edition)
     requires { ⌜ (length (now b) ≡ size) × (i < 32) ⌝ }
-    ensures { λ _. ⌜ (now (b .exit) ≡ sets (now (b .entry)) (4 * i + 830) (editionRow e)) × (e .figure < 256) × (e .value < 256) ⌝ }
+    ensures { λ _. ⌜ (now (b .exit) ≡ sets (now (b .entry)) (4 * i + editionNumberAt) (editionRow e)) × (e .figure < 256) × (e .value < 256) ⌝ }
 {
-    b[4 * i + 830] = e.edition;
-    b[4 * i + 831] = e.message;
-    b[4 * i + 832] = e.figure as u32;
-    b[4 * i + 833] = e.value as u32;
+    b[4 * i + places::EDITION_NUMBER_AT] = e.edition;
+    b[4 * i + places::EDITION_MESSAGE_AT] = e.message;
+    b[4 * i + places::EDITION_FIGURE_AT] = e.figure as u32;
+    b[4 * i + places::EDITION_VALUE_AT] = e.value as u32;
 }
 
 // The figures of edition 0.
@@ -226,7 +227,7 @@ pub fn base_figures(b: &mut [u32])
     let mut f: u8 = 0;
     while f < 9 {
         let x = arithmetic::base_figure(f);
-        b[2 * (f as usize) + 958] = x as u32;
+        b[2 * (f as usize) + places::FIGURES_AT] = x as u32;
         f += 1;
     }
 }
@@ -243,7 +244,7 @@ fn set_figure(b: &mut [u32], e: Edition)
         return;
     }
     let f = e.figure as usize;
-    b[2 * f + 958] = e.value as u32;
+    b[2 * f + places::FIGURES_AT] = e.value as u32;
 }
 
 // The figures in force: those of edition 0, and then those of each edition in turn.
@@ -276,7 +277,7 @@ pub fn put_last(b: &mut [u32], id: u32)
     ensures { λ _. ⌜ venueOf (now (b .exit)) ≡ withLast (venueOf (now (b .entry))) id ⌝ }
     ensures counts { λ _. ⌜ SameCounts (now (b .entry)) (now (b .exit)) ⌝ }
 {
-    b[778] = id;
+    b[places::LAST_ID_AT] = id;
 }
 
 // A series' generations anew.
@@ -288,7 +289,7 @@ pub fn put_generations(b: &mut [u32], s: usize, g: Generations)
     let messages = g.messages;
     let mut k: usize = 0;
     while k < 20 {
-        b[20 * s + k + 1232] = messages[k];
+        b[20 * s + k + places::GENERATION_MESSAGES_AT] = messages[k];
         k += 1;
     }
 }
@@ -299,7 +300,7 @@ pub fn count_generation(b: &mut [u32], s: usize, number: u32)
     ensures { λ _. ⌜ venueOf (now (b .exit)) ≡ counted number s (venueOf (now (b .entry))) ⌝ }
     ensures counts { λ _. ⌜ SameCounts (now (b .entry)) (now (b .exit)) ⌝ }
 {
-    let first = 20 * s + 1232;
+    let first = 20 * s + places::GENERATION_MESSAGES_AT;
     let last = first + 19;
     let mut k = first;
     while k < last {
@@ -315,7 +316,7 @@ pub fn put_reached(b: &mut [u32], id: u32)
     ensures { λ _. ⌜ venueOf (now (b .exit)) ≡ withReached (venueOf (now (b .entry))) id ⌝ }
     ensures counts { λ _. ⌜ SameCounts (now (b .entry)) (now (b .exit)) ⌝ }
 {
-    b[1392] = id;
+    b[places::ID_REACHED_AT] = id;
 }
 
 // The regular places before the first free one of n; those that are known to be held are not looked at.
@@ -323,9 +324,9 @@ fn held_regulars(b: &[u32], n: usize) -> usize
     requires { ⌜ (length (now b) ≡ size) × (n ≡ regularsUsed (now b)) × (Marked (now b)) ⌝ }
     ensures { λ r. ⌜ (r ≤ n) × Filled holdsRegular (regularIn (now (b .entry))) r ⌝ }
 {
-    let mut i = places::at_most(places::wide(b[827]), n);
+    let mut i = places::at_most(places::wide(b[places::REGULARS_KNOWN_AT]), n);
     while i < n {
-        if b[4 * i + 3] == 0 {
+        if b[4 * i + places::REGULAR_QUANTITY_AT] == 0 {
             return i;
         }
         i += 1;
@@ -341,7 +342,7 @@ pub fn close_regulars(b: &mut [u32])
     let n = places::regulars_used(b);
     let mut j = held_regulars(b, n);
     if j == n {
-        b[827] = n as u32;
+        b[places::REGULARS_KNOWN_AT] = n as u32;
         return;
     }
     let mut i = j;
@@ -354,8 +355,8 @@ pub fn close_regulars(b: &mut [u32])
         write_regular(b, j, o);
         j += 1;
     }
-    b[776] = j as u32;
-    b[827] = j as u32;
+    b[places::REGULARS_USED_AT] = j as u32;
+    b[places::REGULARS_KNOWN_AT] = j as u32;
 }
 
 // The complex places before the first free one of n; those that are known to be held are not looked at.
@@ -363,9 +364,9 @@ fn held_complexes(b: &[u32], n: usize) -> usize
     requires { ⌜ (length (now b) ≡ size) × (n ≡ complexesUsed (now b)) × (Marked (now b)) ⌝ }
     ensures { λ r. ⌜ (r ≤ n) × Filled holdsComplex (complexIn (now (b .entry))) r ⌝ }
 {
-    let mut i = places::at_most(places::wide(b[828]), n);
+    let mut i = places::at_most(places::wide(b[places::COMPLEXES_KNOWN_AT]), n);
     while i < n {
-        if b[6 * i + 517] == 0 {
+        if b[6 * i + places::COMPLEX_QUANTITY_AT] == 0 {
             return i;
         }
         i += 1;
@@ -381,7 +382,7 @@ pub fn close_complexes(b: &mut [u32])
     let n = places::complexes_used(b);
     let mut j = held_complexes(b, n);
     if j == n {
-        b[828] = n as u32;
+        b[places::COMPLEXES_KNOWN_AT] = n as u32;
         return;
     }
     let mut i = j;
@@ -394,8 +395,8 @@ pub fn close_complexes(b: &mut [u32])
         write_complex(b, j, o);
         j += 1;
     }
-    b[777] = j as u32;
-    b[828] = j as u32;
+    b[places::COMPLEXES_USED_AT] = j as u32;
+    b[places::COMPLEXES_KNOWN_AT] = j as u32;
 }
 
 // All gaps are closed.

@@ -14,34 +14,37 @@ use Rattle.rules.specs.Step.{mask}
 use Rattle.rules.specs.Settings.{figureNow}
 use Rattle.rules.proofs.Showing.{Showing}
 use Rattle.places.specs.Layout.{regularsUsed, complexesUsed, regularIn, complexIn, venueOf, Filled, levelOf, levelIn, isUnmarked, Fully, Marked, figureIn, Figured, Orderly, Right, SameCounts}
+use Rattle.places.specs.Offsets.{complexIdAt, complexNextAt, leggingParentAt, seriesStatusAt, regularsUsedAt, complexesUsedAt, levelPriceAt}
+use Rattle.places.specs.Offsets.{levelLowAt, levelHighAt, levelNextAt, regularsKnownAt, complexesKnownAt, leggingMaskAt, editionNumberAt}
+use Rattle.places.specs.Offsets.{figuresAt, regularReserveAt, showAgainAt, generationMessagesAt}
 use Rattle.places.proofs.Parts.{Outside, regulars-few, complexes-few, complex-kept, holds-kept, count-kept, count-kept2, regulars-kept}
 use Rattle.places.proofs.Parts.{complexes-kept, leggings-kept, series-kept, editions-kept, generations-kept, last-kept, reached-kept, venue-is}
 
 -- the places known to be held are
 abbrev pub RegularsMarked : List ℕ → Type 0
-RegularsMarked b = Filled holdsRegular (regularIn b) (min (getD b 827 0) (regularsUsed b))
+RegularsMarked b = Filled holdsRegular (regularIn b) (min (getD b regularsKnownAt 0) (regularsUsed b))
 
 abbrev pub ComplexesMarked : List ℕ → Type 0
-ComplexesMarked b = Filled holdsComplex (complexIn b) (min (getD b 828 0) (complexesUsed b))
+ComplexesMarked b = Filled holdsComplex (complexIn b) (min (getD b complexesKnownAt 0) (complexesUsed b))
 
 -- the mask is that of the legging places
 abbrev pub LeggingMarked : List ℕ → Type 0
-LeggingMarked b = getD b 829 0 ≡ mask (venueOf b .legging)
+LeggingMarked b = getD b leggingMaskAt 0 ≡ mask (venueOf b .legging)
 
 -- without the mark every order shows what it should
 abbrev pub ShowsMarked : List ℕ → Type 0
 ShowsMarked b = isUnmarked b ≡ true → Fully (venueOf b .regular)
 
 -- a mark that stays
-pub unmarked-as : (a b : List ℕ) → getD b 1231 0 ≡ getD a 1231 0 → isUnmarked b ≡ true → isUnmarked a ≡ true
+pub unmarked-as : (a b : List ℕ) → getD b showAgainAt 0 ≡ getD a showAgainAt 0 → isUnmarked b ≡ true → isUnmarked a ≡ true
 unfolding isUnmarked
 unmarked-as a b e z = sym (ap (λ (x : ℕ). eqb x 0) e) ∙ z
 
-pub shows-as : (a b : List ℕ) → getD b 1231 0 ≡ getD a 1231 0 → venueOf b .regular ≡ venueOf a .regular → ShowsMarked a → ShowsMarked b
+pub shows-as : (a b : List ℕ) → getD b showAgainAt 0 ≡ getD a showAgainAt 0 → venueOf b .regular ≡ venueOf a .regular → ShowsMarked a → ShowsMarked b
 shows-as a b e r h z = subst Fully (sym r) (h (unmarked-as a b e z))
 
 -- a fill of an order with reserve sets the mark
-pub shows-not : (b : List ℕ) → getD b 1231 0 ≡ 1 → ShowsMarked b
+pub shows-not : (b : List ℕ) → getD b showAgainAt 0 ≡ 1 → ShowsMarked b
 unfolding isUnmarked
 shows-not b e z = absurd (true≢false (sym z ∙ ap (λ (x : ℕ). eqb x 0) e))
 
@@ -61,8 +64,8 @@ filled-at holds f g i n same h full = λ k w. elim (ℕ-discrete k i) [
   | no q ↦ sym (same k q) ∙ full k w
 ]
 
-level-fields : (a b : List ℕ) (n : ℕ) → getD b (3 * n + 779) 0 ≡ getD a (3 * n + 779) 0 → getD b (3 * n + 780) 0 ≡ getD a (3 * n + 780) 0 →
-    getD b (3 * n + 781) 0 ≡ getD a (3 * n + 781) 0 → levelIn b n ≡ levelIn a n
+level-fields : (a b : List ℕ) (n : ℕ) → getD b (3 * n + levelPriceAt) 0 ≡ getD a (3 * n + levelPriceAt) 0 → getD b (3 * n + levelLowAt) 0 ≡ getD a (3 * n + levelLowAt) 0 →
+    getD b (3 * n + levelHighAt) 0 ≡ getD a (3 * n + levelHighAt) 0 → levelIn b n ≡ levelIn a n
 unfolding levelIn
 level-fields a b n p q r = rw (p, q, r)
 
@@ -73,58 +76,59 @@ figure-same a b f e = rw e
 -- What a store does not reach -----------------------------------------------------------------
 
 module _ {low high : ℕ} {a b : List ℕ} (o : Outside low high a b) where
-  pub level-kept : (n : ℕ) → (3 * n + 782 ≤ low) ⊎ (high ≤ 3 * n + 779) → levelIn b n ≡ levelIn a n
-  level-kept n (inl h) = level-fields a b n (o .same (3 * n + 779) (inl (omega arith))) (o .same (3 * n + 780) (inl (omega arith))) (o .same (3 * n + 781) (inl (omega arith)))
-  level-kept n (inr h) = level-fields a b n (o .same (3 * n + 779) (inr (omega arith))) (o .same (3 * n + 780) (inr (omega arith))) (o .same (3 * n + 781) (inr (omega arith)))
+  pub level-kept : (n : ℕ) → (3 * n + levelNextAt ≤ low) ⊎ (high ≤ 3 * n + levelPriceAt) → levelIn b n ≡ levelIn a n
+  level-kept n (inl h) = level-fields a b n (o .same (3 * n + levelPriceAt) (inl (omega arith))) (o .same (3 * n + levelLowAt) (inl (omega arith))) (o .same (3 * n + levelHighAt) (inl (omega arith)))
+  level-kept n (inr h) = level-fields a b n (o .same (3 * n + levelPriceAt) (inr (omega arith))) (o .same (3 * n + levelLowAt) (inr (omega arith))) (o .same (3 * n + levelHighAt) (inr (omega arith)))
 
-  pub levels-kept : (827 ≤ low) ⊎ (high ≤ 779) → (n : ℕ) → n < 16 → levelIn b n ≡ levelIn a n
+  pub levels-kept : (regularsKnownAt ≤ low) ⊎ (high ≤ levelPriceAt) → (n : ℕ) → n < 16 → levelIn b n ≡ levelIn a n
   levels-kept (inl h) n w = level-kept n (inl (omega arith))
   levels-kept (inr h) n w = level-kept n (inr (omega arith))
 
-  pub regulars-marked : 512 ≤ low → (776 < low) ⊎ (high ≤ 776) → (827 < low) ⊎ (high ≤ 827) → RegularsMarked a → RegularsMarked b
+  pub regulars-marked : complexIdAt ≤ low → (regularsUsedAt < low) ⊎ (high ≤ regularsUsedAt) → (regularsKnownAt < low) ⊎ (high ≤ regularsKnownAt) → RegularsMarked a → RegularsMarked b
   regulars-marked h p q =
       let e = count-kept o p in
-      let f = o .same 827 q in
+      let f = o .same regularsKnownAt q in
       let z = regulars-few a in
-      filled-as holdsRegular (regularIn a) (regularIn b) (min (getD a 827 0) (regularsUsed a)) (min (getD b 827 0) (regularsUsed b)) (omega arith)
+      filled-as holdsRegular (regularIn a) (regularIn b) (min (getD a regularsKnownAt 0) (regularsUsed a)) (min (getD b regularsKnownAt 0) (regularsUsed b)) (omega arith)
       (λ k w. holds-kept o k (inl (omega arith)))
 
-  pub complexes-marked : (high ≤ 512) ⊎ (704 ≤ low) → (777 < low) ⊎ (high ≤ 777) → (828 < low) ⊎ (high ≤ 828) → ComplexesMarked a → ComplexesMarked b
+  pub complexes-marked : (high ≤ complexIdAt) ⊎ (leggingParentAt ≤ low) → (complexesUsedAt < low) ⊎ (high ≤ complexesUsedAt) →
+      (complexesKnownAt < low) ⊎ (high ≤ complexesKnownAt) → ComplexesMarked a → ComplexesMarked b
   complexes-marked h p q =
       let e = count-kept2 o p in
-      let f = o .same 828 q in
+      let f = o .same complexesKnownAt q in
       let z = complexes-few a in
-      filled-as holdsComplex (complexIn a) (complexIn b) (min (getD a 828 0) (complexesUsed a)) (min (getD b 828 0) (complexesUsed b)) (omega arith)
+      filled-as holdsComplex (complexIn a) (complexIn b) (min (getD a complexesKnownAt 0) (complexesUsed a)) (min (getD b complexesKnownAt 0) (complexesUsed b)) (omega arith)
       (λ k w. ap holdsComplex (complex-kept o k (go k (omega arith) h)))
     where
-      go : (k : ℕ) → k < 32 → (high ≤ 512) ⊎ (704 ≤ low) → (6 * k + 518 ≤ low) ⊎ (high ≤ 6 * k + 512)
+      go : (k : ℕ) → k < 32 → (high ≤ complexIdAt) ⊎ (leggingParentAt ≤ low) → (6 * k + complexNextAt ≤ low) ⊎ (high ≤ 6 * k + complexIdAt)
       go k w (inl x) = inr (omega arith)
       go k w (inr x) = inl (omega arith)
 
-  pub legging-marked : (high ≤ 704) ⊎ (752 ≤ low) → (829 < low) ⊎ (high ≤ 829) → LeggingMarked a → LeggingMarked b
-  legging-marked h k e = o .same 829 k ∙ e ∙ ap mask (sym (leggings-kept o h))
+  pub legging-marked : (high ≤ leggingParentAt) ⊎ (seriesStatusAt ≤ low) → (leggingMaskAt < low) ⊎ (high ≤ leggingMaskAt) → LeggingMarked a → LeggingMarked b
+  legging-marked h k e = o .same leggingMaskAt k ∙ e ∙ ap mask (sym (leggings-kept o h))
 
-  figure-kept : (f : ℕ) → f < 9 → (high ≤ 830) ⊎ (975 ≤ low) → figureIn b f ≡ figureIn a f
+  figure-kept : (f : ℕ) → f < 9 → (high ≤ editionNumberAt) ⊎ (regularReserveAt ≤ low) → figureIn b f ≡ figureIn a f
   unfolding figureIn
-  figure-kept f w (inl h) = ap (λ (x : ℕ). x % 256) (o .same (2 * f + 958) (inr (omega arith)))
-  figure-kept f w (inr h) = ap (λ (x : ℕ). x % 256) (o .same (2 * f + 958) (inl (omega arith)))
+  figure-kept f w (inl h) = ap (λ (x : ℕ). x % 256) (o .same (2 * f + figuresAt) (inr (omega arith)))
+  figure-kept f w (inr h) = ap (λ (x : ℕ). x % 256) (o .same (2 * f + figuresAt) (inl (omega arith)))
 
   -- the figures are of the editions alone
-  pub figures-marked : (high ≤ 830) ⊎ (975 ≤ low) → Figured a → Figured b
+  pub figures-marked : (high ≤ editionNumberAt) ⊎ (regularReserveAt ≤ low) → Figured a → Figured b
   figures-marked h e = record {
     so = λ f w. figure-kept f w h ∙ e .so f w ∙ sym (figure-same a b f (editions-kept o (near h)));
     some = λ s w. rw (figure-kept s (omega arith) h) (e .some s w);
   }
     where
-      near : (high ≤ 830) ⊎ (975 ≤ low) → (high ≤ 830) ⊎ (958 ≤ low)
+      near : (high ≤ editionNumberAt) ⊎ (regularReserveAt ≤ low) → (high ≤ editionNumberAt) ⊎ (figuresAt ≤ low)
       near (inl x) = inl x
       near (inr x) = inr (omega arith)
 
-  pub shows-marked : 512 ≤ low → high ≤ 975 → (776 < low) ⊎ (high ≤ 776) → ShowsMarked a → ShowsMarked b
-  shows-marked h r p = shows-as a b (o .same 1231 (inr (omega arith))) (regulars-kept o h (inr r) p)
+  pub shows-marked : complexIdAt ≤ low → high ≤ regularReserveAt → (regularsUsedAt < low) ⊎ (high ≤ regularsUsedAt) → ShowsMarked a → ShowsMarked b
+  shows-marked h r p = shows-as a b (o .same showAgainAt (inr (omega arith))) (regulars-kept o h (inr r) p)
 
   -- what is kept beside the venue is no part of it
-  pub beside-venue : 779 ≤ low → (high ≤ 830) ⊎ (958 ≤ low) → (1231 ≤ low) ⊎ (high ≤ 975) → high ≤ 1232 → venueOf b ≡ venueOf a
+  pub beside-venue : levelPriceAt ≤ low → (high ≤ editionNumberAt) ⊎ (figuresAt ≤ low) → (showAgainAt ≤ low) ⊎ (high ≤ regularReserveAt) → high ≤ generationMessagesAt → venueOf b ≡ venueOf a
   beside-venue h k r m =
       venue-is (venueOf b) (venueOf a)
       (regulars-kept o (omega arith) r (inl (omega arith)))
@@ -139,38 +143,40 @@ module _ {low high : ℕ} {a b : List ℕ} (o : Outside low high a b) where
 -- A mark that is lowered ----------------------------------------------------------------------
 
 -- places from i on are not known to be held, and those before it stay
-pub regulars-lowered : (a b : List ℕ) (i : ℕ) → i ≤ regularsUsed a → getD b 827 0 ≡ min (getD a 827 0) i → ((k : ℕ) → k < i → regularIn a k ≡ regularIn b k) →
+pub regulars-lowered : (a b : List ℕ) (i : ℕ) → i ≤ regularsUsed a → getD b regularsKnownAt 0 ≡ min (getD a regularsKnownAt 0) i → ((k : ℕ) → k < i → regularIn a k ≡ regularIn b k) →
     RegularsMarked a → RegularsMarked b
 regulars-lowered a b i h e same =
-    filled-as holdsRegular (regularIn a) (regularIn b) (min (getD a 827 0) (regularsUsed a)) (min (getD b 827 0) (regularsUsed b)) (omega arith) (λ k w. ap holdsRegular (same k (omega arith)))
+    filled-as holdsRegular (regularIn a) (regularIn b) (min (getD a regularsKnownAt 0) (regularsUsed a))
+    (min (getD b regularsKnownAt 0) (regularsUsed b)) (omega arith) (λ k w. ap holdsRegular (same k (omega arith)))
 
-pub complexes-lowered : (a b : List ℕ) (i : ℕ) → i ≤ complexesUsed a → getD b 828 0 ≡ min (getD a 828 0) i → ((k : ℕ) → k < i → complexIn a k ≡ complexIn b k) →
+pub complexes-lowered : (a b : List ℕ) (i : ℕ) → i ≤ complexesUsed a → getD b complexesKnownAt 0 ≡ min (getD a complexesKnownAt 0) i → ((k : ℕ) → k < i → complexIn a k ≡ complexIn b k) →
     ComplexesMarked a → ComplexesMarked b
 complexes-lowered a b i h e same =
-    filled-as holdsComplex (complexIn a) (complexIn b) (min (getD a 828 0) (complexesUsed a)) (min (getD b 828 0) (complexesUsed b)) (omega arith) (λ k w. ap holdsComplex (same k (omega arith)))
+    filled-as holdsComplex (complexIn a) (complexIn b) (min (getD a complexesKnownAt 0) (complexesUsed a))
+    (min (getD b complexesKnownAt 0) (complexesUsed b)) (omega arith) (λ k w. ap holdsComplex (same k (omega arith)))
 
 -- a place written anew, and held
 pub regular-holds : (a b : List ℕ) (i : ℕ) → i < regularsUsed a → Outside (4 * i) (4 * i + 4) a b → holdsRegular (regularIn b i) ≡ true → RegularsMarked a → RegularsMarked b
 regular-holds a b i h o held full =
     let z = regulars-few a in
     let e = count-kept o (inr (omega arith)) in
-    let f = o .same 827 (inr (omega arith)) in
-    filled-as holdsRegular (regularIn b) (regularIn b) (min (getD a 827 0) (regularsUsed a)) (min (getD b 827 0) (regularsUsed b)) (omega arith) (λ k w. refl)
-    (filled-at holdsRegular (regularIn a) (regularIn b) i (min (getD a 827 0) (regularsUsed a)) (λ k q. holds-kept o k (near k q)) held full)
+    let f = o .same regularsKnownAt (inr (omega arith)) in
+    filled-as holdsRegular (regularIn b) (regularIn b) (min (getD a regularsKnownAt 0) (regularsUsed a)) (min (getD b regularsKnownAt 0) (regularsUsed b)) (omega arith) (λ k w. refl)
+    (filled-at holdsRegular (regularIn a) (regularIn b) i (min (getD a regularsKnownAt 0) (regularsUsed a)) (λ k q. holds-kept o k (near k q)) held full)
   where
     near : (k : ℕ) → k ≢ i → (4 * k + 4 ≤ 4 * i) ⊎ (4 * i + 4 ≤ 4 * k)
     near k q = elim (decLt k i) [ yes p ↦ inl (omega arith) | no p ↦ inr (omega arith) ]
 
-pub complex-holds : (a b : List ℕ) (i : ℕ) → i < complexesUsed a → Outside (6 * i + 512) (6 * i + 518) a b → holdsComplex (complexIn b i) ≡ true →
+pub complex-holds : (a b : List ℕ) (i : ℕ) → i < complexesUsed a → Outside (6 * i + complexIdAt) (6 * i + complexNextAt) a b → holdsComplex (complexIn b i) ≡ true →
     ComplexesMarked a → ComplexesMarked b
 complex-holds a b i h o held full =
     let z = complexes-few a in
     let e = count-kept2 o (inr (omega arith)) in
-    let f = o .same 828 (inr (omega arith)) in
-    filled-as holdsComplex (complexIn b) (complexIn b) (min (getD a 828 0) (complexesUsed a)) (min (getD b 828 0) (complexesUsed b)) (omega arith) (λ k w. refl)
-    (filled-at holdsComplex (complexIn a) (complexIn b) i (min (getD a 828 0) (complexesUsed a)) (λ k q. ap holdsComplex (complex-kept o k (near k q))) held full)
+    let f = o .same complexesKnownAt (inr (omega arith)) in
+    filled-as holdsComplex (complexIn b) (complexIn b) (min (getD a complexesKnownAt 0) (complexesUsed a)) (min (getD b complexesKnownAt 0) (complexesUsed b)) (omega arith) (λ k w. refl)
+    (filled-at holdsComplex (complexIn a) (complexIn b) i (min (getD a complexesKnownAt 0) (complexesUsed a)) (λ k q. ap holdsComplex (complex-kept o k (near k q))) held full)
   where
-    near : (k : ℕ) → k ≢ i → (6 * k + 518 ≤ 6 * i + 512) ⊎ (6 * i + 518 ≤ 6 * k + 512)
+    near : (k : ℕ) → k ≢ i → (6 * k + complexNextAt ≤ 6 * i + complexIdAt) ⊎ (6 * i + complexNextAt ≤ 6 * k + complexIdAt)
     near k q = elim (decLt k i) [ yes p ↦ inl (omega arith) | no p ↦ inr (omega arith) ]
 
 -- All that is kept ----------------------------------------------------------------------------
@@ -193,7 +199,7 @@ pub right-kept : (a b : List ℕ) → ((n : ℕ) → n < 16 → levelIn b n ≡ 
 right-kept a b same e = right-on a b same (λ s d. ap (levelOf s d) e) (subst Orderly (sym e))
 
 -- a store into series or the last id
-pub counts-kept : {low high : ℕ} {a b : List ℕ} → Outside low high a b → 752 ≤ low → high ≤ 779 → (777 < low) ⊎ (high ≤ 776) → SameCounts a b
+pub counts-kept : {low high : ℕ} {a b : List ℕ} → Outside low high a b → seriesStatusAt ≤ low → high ≤ levelPriceAt → (complexesUsedAt < low) ⊎ (high ≤ regularsUsedAt) → SameCounts a b
 counts-kept {low = low} {high = high} {a = a} {b = b} o l h w = record {
   regulars = count-kept o (one w);
   complexes = count-kept2 o (two w);
@@ -206,10 +212,10 @@ counts-kept {low = low} {high = high} {a = a} {b = b} o l h w = record {
   });
 }
   where
-    one : (777 < low) ⊎ (high ≤ 776) → (776 < low) ⊎ (high ≤ 776)
+    one : (complexesUsedAt < low) ⊎ (high ≤ regularsUsedAt) → (regularsUsedAt < low) ⊎ (high ≤ regularsUsedAt)
     one (inl p) = inl (omega arith)
     one (inr p) = inr p
 
-    two : (777 < low) ⊎ (high ≤ 776) → (777 < low) ⊎ (high ≤ 777)
+    two : (complexesUsedAt < low) ⊎ (high ≤ regularsUsedAt) → (complexesUsedAt < low) ⊎ (high ≤ complexesUsedAt)
     two (inl p) = inl p
     two (inr p) = inr (omega arith)

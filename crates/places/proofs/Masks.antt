@@ -14,6 +14,7 @@ use Rattle.rules.specs.Base.{if_then_else_, held}
 use Rattle.rules.specs.Words.{noLegging}
 use Rattle.rules.specs.Step.{mask}
 use Rattle.places.specs.Layout.{upto, leggingIn, venueOf, bitOf, Marked}
+use Rattle.places.specs.Offsets.{leggingMaskAt}
 use Rattle.places.proofs.Tables.{upto-length, upto-at}
 
 cond-le : (b : Bool) → (if b then 1 else 0) ≤ 1
@@ -74,7 +75,7 @@ module _ (b : List ℕ) where
   mask-under = lt-of-lt-of-le (mask-lt (venueOf b .legging)) (pow-mono {j = 16} (omega (arith, legging-many)))
 
   -- the mask that is kept, as it is read
-  pub mask-read : Marked b → getD b 829 0 % 65536 ≡ mask (venueOf b .legging)
+  pub mask-read : Marked b → getD b leggingMaskAt 0 % 65536 ≡ mask (venueOf b .legging)
   mask-read m = omega (arith, m .legging, mask-under)
 
   legging-here : (n : ℕ) → n < 16 → getD (venueOf b .legging) n noLegging ≡ leggingIn b n
@@ -82,8 +83,8 @@ module _ (b : List ℕ) where
   legging-here n h = upto-at (leggingIn b) noLegging 0 16 n h ∙ ap (leggingIn b) (omega arith)
 
   -- and as it is written where a legging order is put
-  pub mask-put : (n rest u w : ℕ) (old l : Legging) → n < 16 → getD b 829 0 ≡ mask (venueOf b .legging) → old ≡ leggingIn b n →
-      rest ≡ getD b 829 0 % 65536 - u → u ≡ bitOf old * 2 ^ n → w ≡ bitOf l * 2 ^ n → rest + w ≡ mask (set (venueOf b .legging) n l)
+  pub mask-put : (n rest u w : ℕ) (old l : Legging) → n < 16 → getD b leggingMaskAt 0 ≡ mask (venueOf b .legging) → old ≡ leggingIn b n →
+      rest ≡ getD b leggingMaskAt 0 % 65536 - u → u ≡ bitOf old * 2 ^ n → w ≡ bitOf l * 2 ^ n → rest + w ≡ mask (set (venueOf b .legging) n l)
   mask-put n rest u w old l h e o r p q =
       let m : n < length (venueOf b .legging) = omega (arith, legging-many) in
       let z : u ≡ bitOf (getD (venueOf b .legging) n noLegging) * 2 ^ n = p ∙ ap (λ (x : Legging). bitOf x * 2 ^ n) (o ∙ sym (legging-here n h)) in

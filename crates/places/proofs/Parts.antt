@@ -16,6 +16,11 @@ use Rattle.rules.specs.declared.Venue.{Venue}
 use Rattle.rules.specs.Words.{noRegular, noComplex, noLegging, notListed, noEdition, regularAt, complexAt, withRegular, withComplex, withLegging, withSeries, withEditions, withLast}
 use Rattle.rules.specs.Places.{holdsRegular}
 use Rattle.places.specs.Layout.{size, upto, inUse, regularsUsed, complexesUsed, regularIn, complexIn, leggingIn, listedIn, editionIn, generationsIn, venueOf}
+use Rattle.places.specs.Offsets.{complexIdAt, complexLegsAt, complexRatiosAt, complexClassAt, complexLimitAt, complexQuantityAt, complexNextAt}
+use Rattle.places.specs.Offsets.{leggingParentAt, leggingPriceAt, leggingQuantityAt, leggingNextAt, seriesStatusAt, seriesBidAt, seriesOfferAt}
+use Rattle.places.specs.Offsets.{seriesNextAt, regularsUsedAt, complexesUsedAt, lastIdAt, levelPriceAt, editionNumberAt, editionMessageAt}
+use Rattle.places.specs.Offsets.{editionFigureAt, editionValueAt, editionNextAt, figuresAt, regularReserveAt, regularDisplayAt}
+use Rattle.places.specs.Offsets.{regularReserveNextAt, showAgainAt, generationMessagesAt, generationNextAt, idReachedAt}
 use Rattle.places.proofs.Tables.{upto-length, upto-at, upto-same, upto-set, used-same, used-set, used-at, used-free, used-length}
 
 -- a and b have the same numbers but for those from low to below high
@@ -45,7 +50,7 @@ unmoved = record { same = λ k h. refl }
 -- Each part, by its fields --------------------------------------------------------------------
 
 regular-fields : (a b : List ℕ) (i : ℕ) → ((k : ℕ) → 4 * i ≤ k → k < 4 * i + 4 → getD b k 0 ≡ getD a k 0) →
-    ((k : ℕ) → 2 * i + 975 ≤ k → k < 2 * i + 977 → getD b k 0 ≡ getD a k 0) → regularIn a i ≡ regularIn b i
+    ((k : ℕ) → 2 * i + regularReserveAt ≤ k → k < 2 * i + regularReserveNextAt → getD b k 0 ≡ getD a k 0) → regularIn a i ≡ regularIn b i
 unfolding regularIn
 regular-fields a b i p q =
     rw (
@@ -53,34 +58,35 @@ regular-fields a b i p q =
       p (4 * i + 1) (omega arith) (omega arith),
       p (4 * i + 2) (omega arith) (omega arith),
       p (4 * i + 3) (omega arith) (omega arith),
-      q (2 * i + 975) (omega arith) (omega arith),
-      q (2 * i + 976) (omega arith) (omega arith),
+      q (2 * i + regularReserveAt) (omega arith) (omega arith),
+      q (2 * i + regularDisplayAt) (omega arith) (omega arith),
     )
 
-complex-fields : (a b : List ℕ) (i : ℕ) → getD b (6 * i + 512) 0 ≡ getD a (6 * i + 512) 0 → getD b (6 * i + 513) 0 ≡ getD a (6 * i + 513) 0 →
-    getD b (6 * i + 514) 0 ≡ getD a (6 * i + 514) 0 → getD b (6 * i + 515) 0 ≡ getD a (6 * i + 515) 0 → getD b (6 * i + 516) 0 ≡ getD a (6 * i + 516) 0 →
-    getD b (6 * i + 517) 0 ≡ getD a (6 * i + 517) 0 → complexIn a i ≡ complexIn b i
+complex-fields : (a b : List ℕ) (i : ℕ) → getD b (6 * i + complexIdAt) 0 ≡ getD a (6 * i + complexIdAt) 0 → getD b (6 * i + complexLegsAt) 0 ≡ getD a (6 * i + complexLegsAt) 0 →
+    getD b (6 * i + complexRatiosAt) 0 ≡ getD a (6 * i + complexRatiosAt) 0 → getD b (6 * i + complexClassAt) 0 ≡ getD a (6 * i + complexClassAt) 0 →
+    getD b (6 * i + complexLimitAt) 0 ≡ getD a (6 * i + complexLimitAt) 0 →
+    getD b (6 * i + complexQuantityAt) 0 ≡ getD a (6 * i + complexQuantityAt) 0 → complexIn a i ≡ complexIn b i
 unfolding complexIn
 complex-fields a b i p q r s t u = rw (p, q, r, s, t, u)
 
-legging-fields : (a b : List ℕ) (i : ℕ) → getD b (3 * i + 704) 0 ≡ getD a (3 * i + 704) 0 → getD b (3 * i + 705) 0 ≡ getD a (3 * i + 705) 0 →
-    getD b (3 * i + 706) 0 ≡ getD a (3 * i + 706) 0 → leggingIn a i ≡ leggingIn b i
+legging-fields : (a b : List ℕ) (i : ℕ) → getD b (3 * i + leggingParentAt) 0 ≡ getD a (3 * i + leggingParentAt) 0 → getD b (3 * i + leggingPriceAt) 0 ≡ getD a (3 * i + leggingPriceAt) 0 →
+    getD b (3 * i + leggingQuantityAt) 0 ≡ getD a (3 * i + leggingQuantityAt) 0 → leggingIn a i ≡ leggingIn b i
 unfolding leggingIn
 legging-fields a b i p q r = rw (p, q, r)
 
-listed-fields : (a b : List ℕ) (i : ℕ) → getD b (3 * i + 752) 0 ≡ getD a (3 * i + 752) 0 → getD b (3 * i + 753) 0 ≡ getD a (3 * i + 753) 0 →
-    getD b (3 * i + 754) 0 ≡ getD a (3 * i + 754) 0 → listedIn a i ≡ listedIn b i
+listed-fields : (a b : List ℕ) (i : ℕ) → getD b (3 * i + seriesStatusAt) 0 ≡ getD a (3 * i + seriesStatusAt) 0 → getD b (3 * i + seriesBidAt) 0 ≡ getD a (3 * i + seriesBidAt) 0 →
+    getD b (3 * i + seriesOfferAt) 0 ≡ getD a (3 * i + seriesOfferAt) 0 → listedIn a i ≡ listedIn b i
 unfolding listedIn
 listed-fields a b i p q r = rw (p, q, r)
 
-edition-fields : (a b : List ℕ) (i : ℕ) → getD b (4 * i + 830) 0 ≡ getD a (4 * i + 830) 0 → getD b (4 * i + 831) 0 ≡ getD a (4 * i + 831) 0 →
-    getD b (4 * i + 832) 0 ≡ getD a (4 * i + 832) 0 → getD b (4 * i + 833) 0 ≡ getD a (4 * i + 833) 0 → editionIn a i ≡ editionIn b i
+edition-fields : (a b : List ℕ) (i : ℕ) → getD b (4 * i + editionNumberAt) 0 ≡ getD a (4 * i + editionNumberAt) 0 → getD b (4 * i + editionMessageAt) 0 ≡ getD a (4 * i + editionMessageAt) 0 →
+    getD b (4 * i + editionFigureAt) 0 ≡ getD a (4 * i + editionFigureAt) 0 → getD b (4 * i + editionValueAt) 0 ≡ getD a (4 * i + editionValueAt) 0 → editionIn a i ≡ editionIn b i
 unfolding editionIn
 edition-fields a b i p q r s = rw (p, q, r, s)
 
-generations-fields : (a b : List ℕ) (s : ℕ) → ((k : ℕ) → 20 * s + 1232 ≤ k → k < 20 * s + 1252 → getD b k 0 ≡ getD a k 0) → generationsIn a s ≡ generationsIn b s
+generations-fields : (a b : List ℕ) (s : ℕ) → ((k : ℕ) → 20 * s + generationMessagesAt ≤ k → k < 20 * s + generationNextAt → getD b k 0 ≡ getD a k 0) → generationsIn a s ≡ generationsIn b s
 unfolding generationsIn
-generations-fields a b s h = rw (upto-same (λ k. getD a k 0) (λ k. getD b k 0) (20 * s + 1232) 20 (λ k p q. sym (h k p (omega arith)))) refl
+generations-fields a b s h = rw (upto-same (λ k. getD a k 0) (λ k. getD b k 0) (20 * s + generationMessagesAt) 20 (λ k p q. sym (h k p (omega arith)))) refl
 
 -- Places that the store does not reach --------------------------------------------------------
 
@@ -90,36 +96,42 @@ module _ {low high : ℕ} {a b : List ℕ} (o : Outside low high a b) where
   span-kept l h (inr w) k p q = o .same k (inr (omega arith))
 
   -- neither its row nor that of what it shows
-  pub regular-kept : (i : ℕ) → (4 * i + 4 ≤ low) ⊎ (high ≤ 4 * i) → (2 * i + 977 ≤ low) ⊎ (high ≤ 2 * i + 975) → regularIn a i ≡ regularIn b i
-  regular-kept i h w = regular-fields a b i (span-kept (4 * i) (4 * i + 4) h) (span-kept (2 * i + 975) (2 * i + 977) w)
+  pub regular-kept : (i : ℕ) → (4 * i + 4 ≤ low) ⊎ (high ≤ 4 * i) → (2 * i + regularReserveNextAt ≤ low) ⊎ (high ≤ 2 * i + regularReserveAt) → regularIn a i ≡ regularIn b i
+  regular-kept i h w = regular-fields a b i (span-kept (4 * i) (4 * i + 4) h) (span-kept (2 * i + regularReserveAt) (2 * i + regularReserveNextAt) w)
 
   -- a place is held by its quantity alone
   pub holds-kept : (i : ℕ) → (4 * i + 4 ≤ low) ⊎ (high ≤ 4 * i) → holdsRegular (regularIn a i) ≡ holdsRegular (regularIn b i)
   unfolding regularIn
   holds-kept i h = ap held (sym (span-kept (4 * i) (4 * i + 4) h (4 * i + 3) (omega arith) (omega arith)))
 
-  pub complex-kept : (i : ℕ) → (6 * i + 518 ≤ low) ⊎ (high ≤ 6 * i + 512) → complexIn a i ≡ complexIn b i
-  complex-kept i (inl h) = complex-fields a b i (o .same (6 * i + 512) (inl (omega arith))) (o .same (6 * i + 513) (inl (omega arith)))
-      (o .same (6 * i + 514) (inl (omega arith))) (o .same (6 * i + 515) (inl (omega arith))) (o .same (6 * i + 516) (inl (omega arith))) (o .same (6 * i + 517) (inl (omega arith)))
-  complex-kept i (inr h) = complex-fields a b i (o .same (6 * i + 512) (inr (omega arith))) (o .same (6 * i + 513) (inr (omega arith)))
-      (o .same (6 * i + 514) (inr (omega arith))) (o .same (6 * i + 515) (inr (omega arith))) (o .same (6 * i + 516) (inr (omega arith))) (o .same (6 * i + 517) (inr (omega arith)))
+  pub complex-kept : (i : ℕ) → (6 * i + complexNextAt ≤ low) ⊎ (high ≤ 6 * i + complexIdAt) → complexIn a i ≡ complexIn b i
+  complex-kept i (inl h) = complex-fields a b i (o .same (6 * i + complexIdAt) (inl (omega arith))) (o .same (6 * i + complexLegsAt) (inl (omega arith)))
+      (o .same (6 * i + complexRatiosAt) (inl (omega arith))) (o .same (6 * i + complexClassAt) (inl (omega arith)))
+      (o .same (6 * i + complexLimitAt) (inl (omega arith))) (o .same (6 * i + complexQuantityAt) (inl (omega arith)))
+  complex-kept i (inr h) = complex-fields a b i (o .same (6 * i + complexIdAt) (inr (omega arith))) (o .same (6 * i + complexLegsAt) (inr (omega arith)))
+      (o .same (6 * i + complexRatiosAt) (inr (omega arith))) (o .same (6 * i + complexClassAt) (inr (omega arith)))
+      (o .same (6 * i + complexLimitAt) (inr (omega arith))) (o .same (6 * i + complexQuantityAt) (inr (omega arith)))
 
-  pub legging-kept : (i : ℕ) → (3 * i + 707 ≤ low) ⊎ (high ≤ 3 * i + 704) → leggingIn a i ≡ leggingIn b i
-  legging-kept i (inl h) = legging-fields a b i (o .same (3 * i + 704) (inl (omega arith))) (o .same (3 * i + 705) (inl (omega arith))) (o .same (3 * i + 706) (inl (omega arith)))
-  legging-kept i (inr h) = legging-fields a b i (o .same (3 * i + 704) (inr (omega arith))) (o .same (3 * i + 705) (inr (omega arith))) (o .same (3 * i + 706) (inr (omega arith)))
+  pub legging-kept : (i : ℕ) → (3 * i + leggingNextAt ≤ low) ⊎ (high ≤ 3 * i + leggingParentAt) → leggingIn a i ≡ leggingIn b i
+  legging-kept i (inl h) = legging-fields a b i (o .same (3 * i + leggingParentAt) (inl (omega arith)))
+      (o .same (3 * i + leggingPriceAt) (inl (omega arith))) (o .same (3 * i + leggingQuantityAt) (inl (omega arith)))
+  legging-kept i (inr h) = legging-fields a b i (o .same (3 * i + leggingParentAt) (inr (omega arith)))
+      (o .same (3 * i + leggingPriceAt) (inr (omega arith))) (o .same (3 * i + leggingQuantityAt) (inr (omega arith)))
 
-  pub listed-kept : (i : ℕ) → (3 * i + 755 ≤ low) ⊎ (high ≤ 3 * i + 752) → listedIn a i ≡ listedIn b i
-  listed-kept i (inl h) = listed-fields a b i (o .same (3 * i + 752) (inl (omega arith))) (o .same (3 * i + 753) (inl (omega arith))) (o .same (3 * i + 754) (inl (omega arith)))
-  listed-kept i (inr h) = listed-fields a b i (o .same (3 * i + 752) (inr (omega arith))) (o .same (3 * i + 753) (inr (omega arith))) (o .same (3 * i + 754) (inr (omega arith)))
+  pub listed-kept : (i : ℕ) → (3 * i + seriesNextAt ≤ low) ⊎ (high ≤ 3 * i + seriesStatusAt) → listedIn a i ≡ listedIn b i
+  listed-kept i (inl h) = listed-fields a b i (o .same (3 * i + seriesStatusAt) (inl (omega arith)))
+      (o .same (3 * i + seriesBidAt) (inl (omega arith))) (o .same (3 * i + seriesOfferAt) (inl (omega arith)))
+  listed-kept i (inr h) = listed-fields a b i (o .same (3 * i + seriesStatusAt) (inr (omega arith)))
+      (o .same (3 * i + seriesBidAt) (inr (omega arith))) (o .same (3 * i + seriesOfferAt) (inr (omega arith)))
 
-  pub edition-kept : (i : ℕ) → (4 * i + 834 ≤ low) ⊎ (high ≤ 4 * i + 830) → editionIn a i ≡ editionIn b i
-  edition-kept i (inl h) = edition-fields a b i (o .same (4 * i + 830) (inl (omega arith))) (o .same (4 * i + 831) (inl (omega arith)))
-      (o .same (4 * i + 832) (inl (omega arith))) (o .same (4 * i + 833) (inl (omega arith)))
-  edition-kept i (inr h) = edition-fields a b i (o .same (4 * i + 830) (inr (omega arith))) (o .same (4 * i + 831) (inr (omega arith)))
-      (o .same (4 * i + 832) (inr (omega arith))) (o .same (4 * i + 833) (inr (omega arith)))
+  pub edition-kept : (i : ℕ) → (4 * i + editionNextAt ≤ low) ⊎ (high ≤ 4 * i + editionNumberAt) → editionIn a i ≡ editionIn b i
+  edition-kept i (inl h) = edition-fields a b i (o .same (4 * i + editionNumberAt) (inl (omega arith))) (o .same (4 * i + editionMessageAt) (inl (omega arith)))
+      (o .same (4 * i + editionFigureAt) (inl (omega arith))) (o .same (4 * i + editionValueAt) (inl (omega arith)))
+  edition-kept i (inr h) = edition-fields a b i (o .same (4 * i + editionNumberAt) (inr (omega arith))) (o .same (4 * i + editionMessageAt) (inr (omega arith)))
+      (o .same (4 * i + editionFigureAt) (inr (omega arith))) (o .same (4 * i + editionValueAt) (inr (omega arith)))
 
-  pub generation-kept : (s : ℕ) → (20 * s + 1252 ≤ low) ⊎ (high ≤ 20 * s + 1232) → generationsIn a s ≡ generationsIn b s
-  generation-kept s h = generations-fields a b s (span-kept (20 * s + 1232) (20 * s + 1252) h)
+  pub generation-kept : (s : ℕ) → (20 * s + generationNextAt ≤ low) ⊎ (high ≤ 20 * s + generationMessagesAt) → generationsIn a s ≡ generationsIn b s
+  generation-kept s h = generations-fields a b s (span-kept (20 * s + generationMessagesAt) (20 * s + generationNextAt) h)
 
 -- The counts and whole parts ------------------------------------------------------------------
 
@@ -153,73 +165,73 @@ unfolding complexAt venueOf
 complex-past b i h = used-free (complexIn b) noComplex (complexesUsed b) 32 i h
 
 -- a store before the rows of what orders show, or past them
-past-rows : {low high : ℕ} (j : ℕ) → j < 128 → (1231 ≤ low) ⊎ (high ≤ 975) → (2 * j + 977 ≤ low) ⊎ (high ≤ 2 * j + 975)
+past-rows : {low high : ℕ} (j : ℕ) → j < 128 → (showAgainAt ≤ low) ⊎ (high ≤ regularReserveAt) → (2 * j + regularReserveNextAt ≤ low) ⊎ (high ≤ 2 * j + regularReserveAt)
 past-rows j q (inl h) = inl (omega arith)
 past-rows j q (inr h) = inr (omega arith)
 
 module _ {low high : ℕ} {a b : List ℕ} (o : Outside low high a b) where
-  pub count-kept : (776 < low) ⊎ (high ≤ 776) → regularsUsed b ≡ regularsUsed a
+  pub count-kept : (regularsUsedAt < low) ⊎ (high ≤ regularsUsedAt) → regularsUsed b ≡ regularsUsed a
   unfolding regularsUsed
-  count-kept h = ap (λ (x : ℕ). min x 128) (o .same 776 h)
+  count-kept h = ap (λ (x : ℕ). min x 128) (o .same regularsUsedAt h)
 
-  pub count-kept2 : (777 < low) ⊎ (high ≤ 777) → complexesUsed b ≡ complexesUsed a
+  pub count-kept2 : (complexesUsedAt < low) ⊎ (high ≤ complexesUsedAt) → complexesUsed b ≡ complexesUsed a
   unfolding complexesUsed
-  count-kept2 h = ap (λ (x : ℕ). min x 32) (o .same 777 h)
+  count-kept2 h = ap (λ (x : ℕ). min x 32) (o .same complexesUsedAt h)
 
-  pub regulars-kept : 512 ≤ low → (1231 ≤ low) ⊎ (high ≤ 975) → (776 < low) ⊎ (high ≤ 776) → venueOf b .regular ≡ venueOf a .regular
+  pub regulars-kept : complexIdAt ≤ low → (showAgainAt ≤ low) ⊎ (high ≤ regularReserveAt) → (regularsUsedAt < low) ⊎ (high ≤ regularsUsedAt) → venueOf b .regular ≡ venueOf a .regular
   unfolding venueOf
   regulars-kept h w k =
       rw (count-kept k) (used-same (regularIn b) (regularIn a) noRegular (regularsUsed a) 128
       (λ j q. let z = regulars-few a in sym (regular-kept o j (inl (omega arith)) (past-rows j (omega arith) w))))
 
-  pub complexes-kept : (high ≤ 512) ⊎ (704 ≤ low) → (777 < low) ⊎ (high ≤ 777) → venueOf b .complex ≡ venueOf a .complex
+  pub complexes-kept : (high ≤ complexIdAt) ⊎ (leggingParentAt ≤ low) → (complexesUsedAt < low) ⊎ (high ≤ complexesUsedAt) → venueOf b .complex ≡ venueOf a .complex
   unfolding venueOf
   complexes-kept h k =
       rw (count-kept2 k) (used-same (complexIn b) (complexIn a) noComplex (complexesUsed a) 32 (λ j q. let z = complexes-few a in sym (complex-kept o j (go j (omega arith) h))))
     where
-      go : (j : ℕ) → j < 32 → (high ≤ 512) ⊎ (704 ≤ low) → (6 * j + 518 ≤ low) ⊎ (high ≤ 6 * j + 512)
+      go : (j : ℕ) → j < 32 → (high ≤ complexIdAt) ⊎ (leggingParentAt ≤ low) → (6 * j + complexNextAt ≤ low) ⊎ (high ≤ 6 * j + complexIdAt)
       go j q (inl x) = inr (omega arith)
       go j q (inr x) = inl (omega arith)
 
-  pub leggings-kept : (high ≤ 704) ⊎ (752 ≤ low) → venueOf b .legging ≡ venueOf a .legging
+  pub leggings-kept : (high ≤ leggingParentAt) ⊎ (seriesStatusAt ≤ low) → venueOf b .legging ≡ venueOf a .legging
   unfolding venueOf
   leggings-kept h = upto-same (leggingIn b) (leggingIn a) 0 16 (λ j p q. sym (legging-kept o j (go j (omega arith) h)))
     where
-      go : (j : ℕ) → j < 16 → (high ≤ 704) ⊎ (752 ≤ low) → (3 * j + 707 ≤ low) ⊎ (high ≤ 3 * j + 704)
+      go : (j : ℕ) → j < 16 → (high ≤ leggingParentAt) ⊎ (seriesStatusAt ≤ low) → (3 * j + leggingNextAt ≤ low) ⊎ (high ≤ 3 * j + leggingParentAt)
       go j q (inl x) = inr (omega arith)
       go j q (inr x) = inl (omega arith)
 
-  pub series-kept : (high ≤ 752) ⊎ (776 ≤ low) → venueOf b .series ≡ venueOf a .series
+  pub series-kept : (high ≤ seriesStatusAt) ⊎ (regularsUsedAt ≤ low) → venueOf b .series ≡ venueOf a .series
   unfolding venueOf
   series-kept h = upto-same (listedIn b) (listedIn a) 0 8 (λ j p q. sym (listed-kept o j (go j (omega arith) h)))
     where
-      go : (j : ℕ) → j < 8 → (high ≤ 752) ⊎ (776 ≤ low) → (3 * j + 755 ≤ low) ⊎ (high ≤ 3 * j + 752)
+      go : (j : ℕ) → j < 8 → (high ≤ seriesStatusAt) ⊎ (regularsUsedAt ≤ low) → (3 * j + seriesNextAt ≤ low) ⊎ (high ≤ 3 * j + seriesStatusAt)
       go j q (inl x) = inr (omega arith)
       go j q (inr x) = inl (omega arith)
 
-  pub editions-kept : (high ≤ 830) ⊎ (958 ≤ low) → venueOf b .editions ≡ venueOf a .editions
+  pub editions-kept : (high ≤ editionNumberAt) ⊎ (figuresAt ≤ low) → venueOf b .editions ≡ venueOf a .editions
   unfolding venueOf
   editions-kept h = upto-same (editionIn b) (editionIn a) 0 32 (λ j p q. sym (edition-kept o j (go j (omega arith) h)))
     where
-      go : (j : ℕ) → j < 32 → (high ≤ 830) ⊎ (958 ≤ low) → (4 * j + 834 ≤ low) ⊎ (high ≤ 4 * j + 830)
+      go : (j : ℕ) → j < 32 → (high ≤ editionNumberAt) ⊎ (figuresAt ≤ low) → (4 * j + editionNextAt ≤ low) ⊎ (high ≤ 4 * j + editionNumberAt)
       go j q (inl x) = inr (omega arith)
       go j q (inr x) = inl (omega arith)
 
-  pub generations-kept : (high ≤ 1232) ⊎ (1392 ≤ low) → venueOf b .generations ≡ venueOf a .generations
+  pub generations-kept : (high ≤ generationMessagesAt) ⊎ (idReachedAt ≤ low) → venueOf b .generations ≡ venueOf a .generations
   unfolding venueOf
   generations-kept h = upto-same (generationsIn b) (generationsIn a) 0 8 (λ s p q. sym (generation-kept o s (go s (omega arith) h)))
     where
-      go : (s : ℕ) → s < 8 → (high ≤ 1232) ⊎ (1392 ≤ low) → (20 * s + 1252 ≤ low) ⊎ (high ≤ 20 * s + 1232)
+      go : (s : ℕ) → s < 8 → (high ≤ generationMessagesAt) ⊎ (idReachedAt ≤ low) → (20 * s + generationNextAt ≤ low) ⊎ (high ≤ 20 * s + generationMessagesAt)
       go s q (inl x) = inr (omega arith)
       go s q (inr x) = inl (omega arith)
 
-  pub last-kept : (778 < low) ⊎ (high ≤ 778) → venueOf b .last ≡ venueOf a .last
+  pub last-kept : (lastIdAt < low) ⊎ (high ≤ lastIdAt) → venueOf b .last ≡ venueOf a .last
   unfolding venueOf
-  last-kept h = o .same 778 h
+  last-kept h = o .same lastIdAt h
 
-  pub reached-kept : (1392 < low) ⊎ (high ≤ 1392) → venueOf b .reached ≡ venueOf a .reached
+  pub reached-kept : (idReachedAt < low) ⊎ (high ≤ idReachedAt) → venueOf b .reached ≡ venueOf a .reached
   unfolding venueOf
-  reached-kept h = o .same 1392 h
+  reached-kept h = o .same idReachedAt h
 
 -- One place anew ------------------------------------------------------------------------------
 
@@ -230,11 +242,11 @@ pub venue-is : (v w : Venue) → v .regular ≡ w .regular → v .complex ≡ w 
 venue-is v w p q r s e g t k = rw (p, q, r, s, e, g, t, k)
 
 -- a row of a regular place, and the row of what it shows
-module _ {i : ℕ} {a m b : List ℕ} (o : Outside (4 * i) (4 * i + 4) a m) (p : Outside (2 * i + 975) (2 * i + 977) m b) where
+module _ {i : ℕ} {a m b : List ℕ} (o : Outside (4 * i) (4 * i + 4) a m) (p : Outside (2 * i + regularReserveAt) (2 * i + regularReserveNextAt) m b) where
   near : (j : ℕ) → j ≢ i → (4 * j + 4 ≤ 4 * i) ⊎ (4 * i + 4 ≤ 4 * j)
   near j n = elim (decLt j i) [ yes q ↦ inl (omega arith) | no q ↦ inr (omega arith) ]
 
-  near-row : (j : ℕ) → j ≢ i → (2 * j + 977 ≤ 2 * i + 975) ⊎ (2 * i + 977 ≤ 2 * j + 975)
+  near-row : (j : ℕ) → j ≢ i → (2 * j + regularReserveNextAt ≤ 2 * i + regularReserveAt) ⊎ (2 * i + regularReserveNextAt ≤ 2 * j + regularReserveAt)
   near-row j n = elim (decLt j i) [ yes q ↦ inl (omega arith) | no q ↦ inr (omega arith) ]
 
   pub other-kept : i < 128 → (j : ℕ) → j < 128 → j ≢ i → regularIn a j ≡ regularIn b j
@@ -273,7 +285,7 @@ module _ {i : ℕ} {a m b : List ℕ} (o : Outside (4 * i) (4 * i + 4) a m) (p :
       part e = unfold venueOf in rw e (used-same (regularIn b) (regularIn a) noRegular (regularsUsed a) 128 (λ j q. sym (other-kept h j (omega arith) (λ x. omega arith))))
 
 module _ {i : ℕ} {a b : List ℕ} where
-  pub complex-set : Outside (6 * i + 512) (6 * i + 518) a b → i < complexesUsed a → venueOf b ≡ withComplex (venueOf a) (set (venueOf a .complex) i (complexIn b i))
+  pub complex-set : Outside (6 * i + complexIdAt) (6 * i + complexNextAt) a b → i < complexesUsed a → venueOf b ≡ withComplex (venueOf a) (set (venueOf a .complex) i (complexIn b i))
   unfolding withComplex
   complex-set o h =
       let z = complexes-few a in
@@ -287,13 +299,13 @@ module _ {i : ℕ} {a b : List ℕ} where
       (last-kept o (inr (omega arith)))
       (reached-kept o (inr (omega arith)))
     where
-      near : (j : ℕ) → j ≢ i → (6 * j + 518 ≤ 6 * i + 512) ⊎ (6 * i + 518 ≤ 6 * j + 512)
+      near : (j : ℕ) → j ≢ i → (6 * j + complexNextAt ≤ 6 * i + complexIdAt) ⊎ (6 * i + complexNextAt ≤ 6 * j + complexIdAt)
       near j n = elim (decLt j i) [ yes q ↦ inl (omega arith) | no q ↦ inr (omega arith) ]
 
       part : complexesUsed b ≡ complexesUsed a → venueOf b .complex ≡ set (venueOf a .complex) i (complexIn b i)
       part e = unfold venueOf in rw e (used-set (complexIn a) (complexIn b) noComplex i (complexesUsed a) 32 h (complexes-few a) (λ j q n. complex-kept o j (near j n)))
 
-  pub legging-set : Outside (3 * i + 704) (3 * i + 707) a b → i < 16 → venueOf b ≡ withLegging (venueOf a) (set (venueOf a .legging) i (leggingIn b i))
+  pub legging-set : Outside (3 * i + leggingParentAt) (3 * i + leggingNextAt) a b → i < 16 → venueOf b ≡ withLegging (venueOf a) (set (venueOf a .legging) i (leggingIn b i))
   unfolding withLegging
   legging-set o h =
       venue-is (venueOf b) (withLegging (venueOf a) (set (venueOf a .legging) i (leggingIn b i)))
@@ -306,13 +318,13 @@ module _ {i : ℕ} {a b : List ℕ} where
       (last-kept o (inr (omega arith)))
       (reached-kept o (inr (omega arith)))
     where
-      near : (j : ℕ) → j ≢ i → (3 * j + 707 ≤ 3 * i + 704) ⊎ (3 * i + 707 ≤ 3 * j + 704)
+      near : (j : ℕ) → j ≢ i → (3 * j + leggingNextAt ≤ 3 * i + leggingParentAt) ⊎ (3 * i + leggingNextAt ≤ 3 * j + leggingParentAt)
       near j n = elim (decLt j i) [ yes q ↦ inl (omega arith) | no q ↦ inr (omega arith) ]
 
       part : venueOf b .legging ≡ set (venueOf a .legging) i (leggingIn b i)
       part = unfold venueOf in (upto-set (leggingIn a) (leggingIn b) noLegging i 16 h (λ j q n. legging-kept o j (near j n)))
 
-  pub listed-set : Outside (3 * i + 752) (3 * i + 755) a b → i < 8 → venueOf b ≡ withSeries (venueOf a) (set (venueOf a .series) i (listedIn b i))
+  pub listed-set : Outside (3 * i + seriesStatusAt) (3 * i + seriesNextAt) a b → i < 8 → venueOf b ≡ withSeries (venueOf a) (set (venueOf a .series) i (listedIn b i))
   unfolding withSeries
   listed-set o h =
       venue-is (venueOf b) (withSeries (venueOf a) (set (venueOf a .series) i (listedIn b i)))
@@ -325,13 +337,13 @@ module _ {i : ℕ} {a b : List ℕ} where
       (last-kept o (inr (omega arith)))
       (reached-kept o (inr (omega arith)))
     where
-      near : (j : ℕ) → j ≢ i → (3 * j + 755 ≤ 3 * i + 752) ⊎ (3 * i + 755 ≤ 3 * j + 752)
+      near : (j : ℕ) → j ≢ i → (3 * j + seriesNextAt ≤ 3 * i + seriesStatusAt) ⊎ (3 * i + seriesNextAt ≤ 3 * j + seriesStatusAt)
       near j n = elim (decLt j i) [ yes q ↦ inl (omega arith) | no q ↦ inr (omega arith) ]
 
       part : venueOf b .series ≡ set (venueOf a .series) i (listedIn b i)
       part = unfold venueOf in (upto-set (listedIn a) (listedIn b) notListed i 8 h (λ j q n. listed-kept o j (near j n)))
 
-  pub edition-set : Outside (4 * i + 830) (4 * i + 834) a b → i < 32 → venueOf b ≡ withEditions (venueOf a) (set (venueOf a .editions) i (editionIn b i))
+  pub edition-set : Outside (4 * i + editionNumberAt) (4 * i + editionNextAt) a b → i < 32 → venueOf b ≡ withEditions (venueOf a) (set (venueOf a .editions) i (editionIn b i))
   unfolding withEditions
   edition-set o h =
       venue-is (venueOf b) (withEditions (venueOf a) (set (venueOf a .editions) i (editionIn b i)))
@@ -344,17 +356,17 @@ module _ {i : ℕ} {a b : List ℕ} where
       (last-kept o (inl (omega arith)))
       (reached-kept o (inr (omega arith)))
     where
-      near : (j : ℕ) → j ≢ i → (4 * j + 834 ≤ 4 * i + 830) ⊎ (4 * i + 834 ≤ 4 * j + 830)
+      near : (j : ℕ) → j ≢ i → (4 * j + editionNextAt ≤ 4 * i + editionNumberAt) ⊎ (4 * i + editionNextAt ≤ 4 * j + editionNumberAt)
       near j n = elim (decLt j i) [ yes q ↦ inl (omega arith) | no q ↦ inr (omega arith) ]
 
       part : venueOf b .editions ≡ set (venueOf a .editions) i (editionIn b i)
       part = unfold venueOf in (upto-set (editionIn a) (editionIn b) noEdition i 32 h (λ j q n. edition-kept o j (near j n)))
 
 module _ {a b : List ℕ} where
-  pub last-set : Outside 778 779 a b → venueOf b ≡ withLast (venueOf a) (getD b 778 0)
+  pub last-set : Outside lastIdAt levelPriceAt a b → venueOf b ≡ withLast (venueOf a) (getD b lastIdAt 0)
   unfolding withLast
   last-set o =
-      venue-is (venueOf b) (withLast (venueOf a) (getD b 778 0))
+      venue-is (venueOf b) (withLast (venueOf a) (getD b lastIdAt 0))
       (regulars-kept o (omega arith) (inr (omega arith)) (inl (omega arith)))
       (complexes-kept o (inr (omega arith)) (inl (omega arith)))
       (leggings-kept o (inr (omega arith)))
@@ -365,7 +377,7 @@ module _ {a b : List ℕ} where
       (reached-kept o (inr (omega arith)))
 
   -- a store into a place that is not in use changes nothing
-  pub complex-unused : (i : ℕ) → Outside (6 * i + 512) (6 * i + 518) a b → i < 32 → complexesUsed a ≤ i → venueOf b ≡ venueOf a
+  pub complex-unused : (i : ℕ) → Outside (6 * i + complexIdAt) (6 * i + complexNextAt) a b → i < 32 → complexesUsed a ≤ i → venueOf b ≡ venueOf a
   complex-unused i o h m =
       venue-is (venueOf b) (venueOf a)
       (regulars-kept o (omega arith) (inr (omega arith)) (inr (omega arith)))
@@ -381,7 +393,7 @@ module _ {a b : List ℕ} where
       part e = unfold venueOf in rw e (used-same (complexIn b) (complexIn a) noComplex (complexesUsed a) 32 (λ j q. sym (complex-kept o j (inl (omega arith)))))
 
   -- another count of places in use
-  pub regulars-counted : Outside 776 777 a b → venueOf b ≡ withRegular (venueOf a) (inUse (regularIn a) noRegular (regularsUsed b) 128)
+  pub regulars-counted : Outside regularsUsedAt complexesUsedAt a b → venueOf b ≡ withRegular (venueOf a) (inUse (regularIn a) noRegular (regularsUsed b) 128)
   unfolding withRegular
   regulars-counted o =
       venue-is (venueOf b) (withRegular (venueOf a) (inUse (regularIn a) noRegular (regularsUsed b) 128))
@@ -397,7 +409,7 @@ module _ {a b : List ℕ} where
       part : venueOf b .regular ≡ inUse (regularIn a) noRegular (regularsUsed b) 128
       part = unfold venueOf in (used-same (regularIn b) (regularIn a) noRegular (regularsUsed b) 128 (λ j q. let z = regulars-few b in sym (regular-kept o j (inl (omega arith)) (inr (omega arith)))))
 
-  pub complexes-counted : Outside 777 778 a b → venueOf b ≡ withComplex (venueOf a) (inUse (complexIn a) noComplex (complexesUsed b) 32)
+  pub complexes-counted : Outside complexesUsedAt lastIdAt a b → venueOf b ≡ withComplex (venueOf a) (inUse (complexIn a) noComplex (complexesUsed b) 32)
   unfolding withComplex
   complexes-counted o =
       venue-is (venueOf b) (withComplex (venueOf a) (inUse (complexIn a) noComplex (complexesUsed b) 32))
@@ -417,7 +429,7 @@ module _ {a b : List ℕ} where
 
 -- a and b have the same numbers but for those of the regular places from i to below j
 pub record OutsideRows (i j : ℕ) (a b : List ℕ) : Type 0 where
-  pub same : (k : ℕ) → (k < 4 * i) ⊎ (4 * j ≤ k) → (k < 2 * i + 975) ⊎ (2 * j + 975 ≤ k) → getD b k 0 ≡ getD a k 0
+  pub same : (k : ℕ) → (k < 4 * i) ⊎ (4 * j ≤ k) → (k < 2 * i + regularReserveAt) ⊎ (2 * j + regularReserveAt ≤ k) → getD b k 0 ≡ getD a k 0
 
 pub rows-agree : (a b : List ℕ) (i j k : ℕ) → j ≤ 128 → k < 128 → OutsideRows i j a b → (k < i) ⊎ (j ≤ k) → regularIn a k ≡ regularIn b k
 rows-agree a b i j k most few o h = regular-fields a b k (λ n p q. o .same n (one n p q h) (inl (omega arith))) (λ n p q. o .same n (inr (omega arith)) (two n p q h))
@@ -426,44 +438,44 @@ rows-agree a b i j k most few o h = regular-fields a b k (λ n p q. o .same n (o
     one n p q (inl w) = inl (omega arith)
     one n p q (inr w) = inr (omega arith)
 
-    two : (n : ℕ) → 2 * k + 975 ≤ n → n < 2 * k + 977 → (k < i) ⊎ (j ≤ k) → (n < 2 * i + 975) ⊎ (2 * j + 975 ≤ n)
+    two : (n : ℕ) → 2 * k + regularReserveAt ≤ n → n < 2 * k + regularReserveNextAt → (k < i) ⊎ (j ≤ k) → (n < 2 * i + regularReserveAt) ⊎ (2 * j + regularReserveAt ≤ n)
     two n p q (inl w) = inl (omega arith)
     two n p q (inr w) = inr (omega arith)
 
 -- such a change in two steps: the rows, and then those of what orders show
 pub record Halves (a b : List ℕ) : Type 0 where
   pub mid : List ℕ
-  pub first : Outside 0 512 a mid
-  pub second : Outside 975 1231 mid b
+  pub first : Outside 0 complexIdAt a mid
+  pub second : Outside regularReserveAt showAgainAt mid b
 
 module _ (a b : List ℕ) (n : length a ≡ size) (m : length b ≡ size) where
   at : ℕ → ℕ
-  at k = if ltb k 512 then getD b k 0 else getD a k 0
+  at k = if ltb k complexIdAt then getD b k 0 else getD a k 0
 
   between : List ℕ
   between = upto at 0 size
 
-  below : (k : ℕ) → k < 512 → getD between k 0 ≡ getD b k 0
+  below : (k : ℕ) → k < complexIdAt → getD between k 0 ≡ getD b k 0
   unfolding between at
   below k h =
       let e : 0 + k ≡ k = omega arith in
-      upto-at at 0 0 size k (omega arith) ∙ ap at e ∙ ap (λ (t : Bool). if t then getD b k 0 else getD a k 0) (lt-ltb k 512 h)
+      upto-at at 0 0 size k (omega arith) ∙ ap at e ∙ ap (λ (t : Bool). if t then getD b k 0 else getD a k 0) (lt-ltb k complexIdAt h)
 
-  above : (k : ℕ) → 512 ≤ k → getD between k 0 ≡ getD a k 0
+  above : (k : ℕ) → complexIdAt ≤ k → getD between k 0 ≡ getD a k 0
   unfolding between at
   above k h = elim (decLt k size) [
-    | yes w ↦ (let e : 0 + k ≡ k = omega arith in upto-at at 0 0 size k w ∙ ap at e ∙ ap (λ (t : Bool). if t then getD b k 0 else getD a k 0) (le-ltb k 512 h))
+    | yes w ↦ (let e : 0 + k ≡ k = omega arith in upto-at at 0 0 size k w ∙ ap at e ∙ ap (λ (t : Bool). if t then getD b k 0 else getD a k 0) (le-ltb k complexIdAt h))
     | no w ↦ List·getD-eq-default (upto at 0 size) 0 {n = k} (omega (arith, upto-length at 0 size)) ∙ sym (List·getD-eq-default a 0 {n = k} (omega arith))
   ]
 
   pub halves : (i j : ℕ) → j ≤ 128 → OutsideRows i j a b → Halves a b
-  halves i j most o = record { mid = between; first = record { same = one }; second = record { same = λ k. two k (decLt k 512) } }
+  halves i j most o = record { mid = between; first = record { same = one }; second = record { same = λ k. two k (decLt k complexIdAt) } }
     where
-      one : (k : ℕ) → (k < 0) ⊎ (512 ≤ k) → getD between k 0 ≡ getD a k 0
+      one : (k : ℕ) → (k < 0) ⊎ (complexIdAt ≤ k) → getD between k 0 ≡ getD a k 0
       one k (inl h) = absurd (omega arith)
       one k (inr h) = above k h
 
-      two : (k : ℕ) → Dec (k < 512) → (k < 975) ⊎ (1231 ≤ k) → getD b k 0 ≡ getD between k 0
+      two : (k : ℕ) → Dec (k < complexIdAt) → (k < regularReserveAt) ⊎ (showAgainAt ≤ k) → getD b k 0 ≡ getD between k 0
       two k (yes w) h = sym (below k w)
       two k (no w) (inl h) = o .same k (inr (omega arith)) (inl (omega arith)) ∙ sym (above k (omega arith))
       two k (no w) (inr h) = o .same k (inr (omega arith)) (inr (omega arith)) ∙ sym (above k (omega arith))

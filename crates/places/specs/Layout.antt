@@ -44,6 +44,11 @@ use Rattle.rules.specs.Prices.{bestIn, sizeIn}
 use Rattle.rules.specs.Places.{holdsRegular, holdsComplex, packed, closeGaps}
 use Rattle.rules.specs.Sound.{showsFully}
 use Rattle.rules.specs.Step.{mask}
+use Rattle.places.specs.Offsets.{regularKeyAt, regularPriceAt, regularQuantityAt, complexIdAt, complexLegsAt, complexRatiosAt, complexClassAt}
+use Rattle.places.specs.Offsets.{complexLimitAt, complexQuantityAt, leggingParentAt, leggingPriceAt, leggingQuantityAt, seriesStatusAt}
+use Rattle.places.specs.Offsets.{seriesBidAt, seriesOfferAt, regularsUsedAt, complexesUsedAt, lastIdAt, levelPriceAt, levelLowAt, levelHighAt}
+use Rattle.places.specs.Offsets.{regularsKnownAt, complexesKnownAt, leggingMaskAt, editionNumberAt, editionMessageAt, editionFigureAt}
+use Rattle.places.specs.Offsets.{editionValueAt, figuresAt, regularReserveAt, regularDisplayAt, showAgainAt, generationMessagesAt, idReachedAt}
 
 -- the slice's length
 abbrev pub size : ℕ
@@ -60,53 +65,53 @@ inUse f none used all = upto f 0 used ++ replicate (all - used) none
 
 -- the places in use
 unfoldable pub regularsUsed : List ℕ → ℕ
-regularsUsed b = min (getD b 776 0) 128
+regularsUsed b = min (getD b regularsUsedAt 0) 128
 
 unfoldable pub complexesUsed : List ℕ → ℕ
-complexesUsed b = min (getD b 777 0) 32
+complexesUsed b = min (getD b complexesUsedAt 0) 32
 
 -- what stands at a place
 unfoldable pub regularIn : List ℕ → ℕ → Regular
 regularIn b i = record {
   id = getD b (4 * i) 0;
-  series = getD b (4 * i + 1) 0 % 16 / 2;
-  side = getD b (4 * i + 1) 0 % 2;
-  price = getD b (4 * i + 2) 0;
-  quantity = getD b (4 * i + 3) 0;
-  display = min (getD b (2 * i + 976) 0) (getD b (4 * i + 3) 0);
-  reserve = min (getD b (2 * i + 975) 0) (getD b (4 * i + 3) 0);
+  series = getD b (4 * i + regularKeyAt) 0 % 16 / 2;
+  side = getD b (4 * i + regularKeyAt) 0 % 2;
+  price = getD b (4 * i + regularPriceAt) 0;
+  quantity = getD b (4 * i + regularQuantityAt) 0;
+  display = min (getD b (2 * i + regularDisplayAt) 0) (getD b (4 * i + regularQuantityAt) 0);
+  reserve = min (getD b (2 * i + regularReserveAt) 0) (getD b (4 * i + regularQuantityAt) 0);
 }
 
 unfoldable pub complexIn : List ℕ → ℕ → Complex
 complexIn b i = record {
-  id = getD b (6 * i + 512) 0;
-  series1 = getD b (6 * i + 513) 0 % 256 / 32;
-  side1 = getD b (6 * i + 513) 0 / 16 % 2;
-  series2 = getD b (6 * i + 513) 0 % 16 / 2;
-  side2 = getD b (6 * i + 513) 0 % 2;
-  class = getD b (6 * i + 515) 0 % 256;
-  limit = pos (getD b (6 * i + 516) 0) -ℤ pos 2147483648;
-  quantity = getD b (6 * i + 517) 0;
-  ratio1 = getD b (6 * i + 514) 0 / 256 % 256;
-  ratio2 = getD b (6 * i + 514) 0 % 256;
+  id = getD b (6 * i + complexIdAt) 0;
+  series1 = getD b (6 * i + complexLegsAt) 0 % 256 / 32;
+  side1 = getD b (6 * i + complexLegsAt) 0 / 16 % 2;
+  series2 = getD b (6 * i + complexLegsAt) 0 % 16 / 2;
+  side2 = getD b (6 * i + complexLegsAt) 0 % 2;
+  class = getD b (6 * i + complexClassAt) 0 % 256;
+  limit = pos (getD b (6 * i + complexLimitAt) 0) -ℤ pos 2147483648;
+  quantity = getD b (6 * i + complexQuantityAt) 0;
+  ratio1 = getD b (6 * i + complexRatiosAt) 0 / 256 % 256;
+  ratio2 = getD b (6 * i + complexRatiosAt) 0 % 256;
 }
 
 unfoldable pub leggingIn : List ℕ → ℕ → Legging
-leggingIn b n = record { parent = getD b (3 * n + 704) 0; price = getD b (3 * n + 705) 0; quantity = getD b (3 * n + 706) 0 }
+leggingIn b n = record { parent = getD b (3 * n + leggingParentAt) 0; price = getD b (3 * n + leggingPriceAt) 0; quantity = getD b (3 * n + leggingQuantityAt) 0 }
 
 unfoldable pub listedIn : List ℕ → ℕ → Listed
-listedIn b s = record { status = getD b (3 * s + 752) 0 % 256; bid = getD b (3 * s + 753) 0; offer = getD b (3 * s + 754) 0 }
+listedIn b s = record { status = getD b (3 * s + seriesStatusAt) 0 % 256; bid = getD b (3 * s + seriesBidAt) 0; offer = getD b (3 * s + seriesOfferAt) 0 }
 
 unfoldable pub editionIn : List ℕ → ℕ → Edition
 editionIn b i = record {
-  edition = getD b (4 * i + 830) 0;
-  message = getD b (4 * i + 831) 0;
-  figure = getD b (4 * i + 832) 0 % 256;
-  value = getD b (4 * i + 833) 0 % 256;
+  edition = getD b (4 * i + editionNumberAt) 0;
+  message = getD b (4 * i + editionMessageAt) 0;
+  figure = getD b (4 * i + editionFigureAt) 0 % 256;
+  value = getD b (4 * i + editionValueAt) 0 % 256;
 }
 
 unfoldable pub generationsIn : List ℕ → (series : ℕ) → Generations
-generationsIn b s = record { messages = upto (λ k. getD b k 0) (20 * s + 1232) 20 }
+generationsIn b s = record { messages = upto (λ k. getD b k 0) (20 * s + generationMessagesAt) 20 }
 
 -- an order's series and side as one number, by which a scan passes over the others, and so the legs of a complex order
 unfoldable pub regularKey : Regular → ℕ
@@ -124,8 +129,8 @@ venueOf b = record {
   series = upto (listedIn b) 0 8;
   editions = upto (editionIn b) 0 32;
   generations = upto (generationsIn b) 0 8;
-  last = getD b 778 0;
-  reached = getD b 1392 0;
+  last = getD b lastIdAt 0;
+  reached = getD b idReachedAt 0;
 }
 
 -- The numbers of a place ----------------------------------------------------------------------
@@ -138,7 +143,7 @@ unfoldable pub reserveRow : Regular → List ℕ
 reserveRow o = o .reserve ∷ o .display ∷ []
 
 abbrev pub regularPut : List ℕ → (i : ℕ) → Regular → List ℕ
-regularPut b i o = row (row b (4 * i) (regularRow o)) (2 * i + 975) (reserveRow o)
+regularPut b i o = row (row b (4 * i) (regularRow o)) (2 * i + regularReserveAt) (reserveRow o)
 
 -- a reserve and a shown quantity that are kept whole
 pub record Bounded (o : Regular) : Type 0 where
@@ -181,13 +186,13 @@ levelOf s d os = record { price = bestIn s d os; size = sizeIn s d (bestIn s d o
 
 -- the one that is kept; n is the legging place of series and side
 unfoldable pub levelIn : List ℕ → (n : ℕ) → Level
-levelIn b n = record { price = getD b (3 * n + 779) 0; size = getD b (3 * n + 780) 0 + 4294967296 * getD b (3 * n + 781) 0 }
+levelIn b n = record { price = getD b (3 * n + levelPriceAt) 0; size = getD b (3 * n + levelLowAt) 0 + 4294967296 * getD b (3 * n + levelHighAt) 0 }
 
 -- Figures: the increments and the percentage in force -----------------------------------------
 
 -- the one that is kept
 unfoldable pub figureIn : List ℕ → (figure : ℕ) → ℕ
-figureIn b f = getD b (2 * f + 958) 0 % 256
+figureIn b f = getD b (2 * f + figuresAt) 0 % 256
 
 -- they are those in force, and no increment is 0
 pub record Figured (b : List ℕ) : Type 0 where
@@ -196,15 +201,15 @@ pub record Figured (b : List ℕ) : Type 0 where
 
 -- from a to b the figures become those of edition 0, an edition's value becomes its figure's, or they become those in force; nothing else changes
 pub record FiguresBase (a b : List ℕ) : Type 0 where
-  pub others : (k : ℕ) → (k < 958) ⊎ (975 ≤ k) → getD b k 0 ≡ getD a k 0
+  pub others : (k : ℕ) → (k < figuresAt) ⊎ (regularReserveAt ≤ k) → getD b k 0 ≡ getD a k 0
   pub figures : (f : ℕ) → f < 9 → figureIn b f ≡ baseFigure f
 
 pub record FigureSet (e : Edition) (a b : List ℕ) : Type 0 where
-  pub others : (k : ℕ) → (k < 958) ⊎ (975 ≤ k) → getD b k 0 ≡ getD a k 0
+  pub others : (k : ℕ) → (k < figuresAt) ⊎ (regularReserveAt ≤ k) → getD b k 0 ≡ getD a k 0
   pub figures : (f : ℕ) → f < 9 → figureIn b f ≡ (if sets f e then e .value else figureIn a f)
 
 pub record FiguresCounted (a b : List ℕ) : Type 0 where
-  pub others : (k : ℕ) → (k < 958) ⊎ (975 ≤ k) → getD b k 0 ≡ getD a k 0
+  pub others : (k : ℕ) → (k < figuresAt) ⊎ (regularReserveAt ≤ k) → getD b k 0 ≡ getD a k 0
   pub figures : (f : ℕ) → f < 9 → figureIn b f ≡ figureNow (venueOf b) f
 
 -- What is kept beside the venue ---------------------------------------------------------------
@@ -221,7 +226,7 @@ Fully os = (i : ℕ) → showsFully (getD os i noRegular) ≡ true
 
 -- the mark is 0
 unfoldable pub isUnmarked : List ℕ → Bool
-isUnmarked b = eqb (getD b 1231 0) 0
+isUnmarked b = eqb (getD b showAgainAt 0) 0
 
 -- the ids of the orders that rest are below this one
 abbrev pub Below : (id : ℕ) → List Regular → Type 0
@@ -234,9 +239,9 @@ bitOf l = if held (l .quantity) then 1 else 0
 -- what is known of the places: those known to be held are, and the mask is that of the legging places; the figures are those in force; and without
 -- the mark every order shows what it should
 pub record Marked (b : List ℕ) : Type 0 where
-  pub regulars : Filled holdsRegular (regularIn b) (min (getD b 827 0) (regularsUsed b))
-  pub complexes : Filled holdsComplex (complexIn b) (min (getD b 828 0) (complexesUsed b))
-  pub legging : getD b 829 0 ≡ mask (venueOf b .legging)
+  pub regulars : Filled holdsRegular (regularIn b) (min (getD b regularsKnownAt 0) (regularsUsed b))
+  pub complexes : Filled holdsComplex (complexIn b) (min (getD b complexesKnownAt 0) (complexesUsed b))
+  pub legging : getD b leggingMaskAt 0 ≡ mask (venueOf b .legging)
   pub figures : Figured b
   pub shows : isUnmarked b ≡ true → Fully (venueOf b .regular)
 

@@ -21,6 +21,93 @@ use rules::Venue;
 // The slice's length.
 pub const SIZE: usize = 1393;
 
+// Where each number stands (specs/Offsets.antt has the same names) -----------------------------
+
+// Four numbers of each regular place, the first of them its id.
+pub const REGULAR_KEY_AT: usize = 1;
+
+pub const REGULAR_PRICE_AT: usize = 2;
+
+pub const REGULAR_QUANTITY_AT: usize = 3;
+
+// 6 numbers of each of 32 complex places.
+pub const COMPLEX_ID_AT: usize = 512;
+
+pub const COMPLEX_LEGS_AT: usize = 513;
+
+pub const COMPLEX_RATIOS_AT: usize = 514;
+
+pub const COMPLEX_CLASS_AT: usize = 515;
+
+pub const COMPLEX_LIMIT_AT: usize = 516;
+
+pub const COMPLEX_QUANTITY_AT: usize = 517;
+
+// 3 numbers of each of 16 legging places.
+pub const LEGGING_PARENT_AT: usize = 704;
+
+pub const LEGGING_PRICE_AT: usize = 705;
+
+pub const LEGGING_QUANTITY_AT: usize = 706;
+
+// 3 numbers of each of 8 series.
+pub const SERIES_STATUS_AT: usize = 752;
+
+pub const SERIES_BID_AT: usize = 753;
+
+pub const SERIES_OFFER_AT: usize = 754;
+
+// How many regular places are in use.
+pub const REGULARS_USED_AT: usize = 776;
+
+// How many complex places are in use.
+pub const COMPLEXES_USED_AT: usize = 777;
+
+// The last id accepted.
+pub const LAST_ID_AT: usize = 778;
+
+// 3 numbers of each of 16 levels.
+pub const LEVEL_PRICE_AT: usize = 779;
+
+pub const LEVEL_LOW_AT: usize = 780;
+
+pub const LEVEL_HIGH_AT: usize = 781;
+
+// How many regular places are known to be held.
+pub const REGULARS_KNOWN_AT: usize = 827;
+
+// How many complex places are known to be held.
+pub const COMPLEXES_KNOWN_AT: usize = 828;
+
+// The mask of the legging places filled.
+pub const LEGGING_MASK_AT: usize = 829;
+
+// 4 numbers of each of 32 editions.
+pub const EDITION_NUMBER_AT: usize = 830;
+
+pub const EDITION_MESSAGE_AT: usize = 831;
+
+pub const EDITION_FIGURE_AT: usize = 832;
+
+pub const EDITION_VALUE_AT: usize = 833;
+
+// 9 figures in force, in every second number.
+pub const FIGURES_AT: usize = 958;
+
+// 2 numbers more of each of 128 regular places.
+pub const REGULAR_RESERVE_AT: usize = 975;
+
+pub const REGULAR_DISPLAY_AT: usize = 976;
+
+// 0 where every order shows what it should.
+pub const SHOW_AGAIN_AT: usize = 1231;
+
+// 20 numbers of each of 8 series.
+pub const GENERATION_MESSAGES_AT: usize = 1232;
+
+// The last id that a limited sweep looked at.
+pub const ID_REACHED_AT: usize = 1392;
+
 // The best price of a side, and its total size; both 0 where there is none.
 pub struct Level {
     pub price: u32,
@@ -49,7 +136,7 @@ pub fn regulars_used(b: &[u32]) -> usize
     requires { ⌜ length (now b) ≡ size ⌝ }
     ensures { λ r. ⌜ (r ≡ regularsUsed (now (b .entry))) × (r ≤ 128) ⌝ }
 {
-    at_most(wide(b[776]), 128)
+    at_most(wide(b[REGULARS_USED_AT]), 128)
 }
 
 // The complex places in use.
@@ -57,7 +144,7 @@ pub fn complexes_used(b: &[u32]) -> usize
     requires { ⌜ length (now b) ≡ size ⌝ }
     ensures { λ r. ⌜ (r ≡ complexesUsed (now (b .entry))) × (r ≤ 32) ⌝ }
 {
-    at_most(wide(b[777]), 32)
+    at_most(wide(b[COMPLEXES_USED_AT]), 32)
 }
 
 // What stands at a regular place.
@@ -65,15 +152,15 @@ pub fn regular_at(b: &[u32], i: usize) -> Regular
     requires { ⌜ (length (now b) ≡ size) × (i < 128) ⌝ }
     ensures { λ r. ⌜ r ≡ regularIn (now (b .entry)) i ⌝ }
 {
-    let place = b[4 * i + 1];
-    let quantity = b[4 * i + 3];
-    let display = arithmetic::lesser(b[2 * i + 976], quantity);
-    let reserve = arithmetic::lesser(b[2 * i + 975], quantity);
+    let place = b[4 * i + REGULAR_KEY_AT];
+    let quantity = b[4 * i + REGULAR_QUANTITY_AT];
+    let display = arithmetic::lesser(b[2 * i + REGULAR_DISPLAY_AT], quantity);
+    let reserve = arithmetic::lesser(b[2 * i + REGULAR_RESERVE_AT], quantity);
     Regular {
         id: b[4 * i],
         series: (place % 16 / 2) as u8,
         side: (place % 2) as u8,
-        price: b[4 * i + 2],
+        price: b[4 * i + REGULAR_PRICE_AT],
         quantity,
         display,
         reserve,
@@ -93,7 +180,7 @@ pub fn key_at(b: &[u32], i: usize) -> usize
     requires { ⌜ (length (now b) ≡ size) × (i < 128) ⌝ }
     ensures { λ r. ⌜ r ≡ regularKey (regularIn (now (b .entry)) i) ⌝ }
 {
-    wide(b[4 * i + 1] % 16)
+    wide(b[4 * i + REGULAR_KEY_AT] % 16)
 }
 
 // What stands at a legging place.
@@ -102,9 +189,9 @@ pub fn legging_at(b: &[u32], n: usize) -> Legging
     ensures { λ r. ⌜ r ≡ leggingIn (now (b .entry)) n ⌝ }
 {
     Legging {
-        parent: b[3 * n + 704],
-        price: b[3 * n + 705],
-        quantity: b[3 * n + 706],
+        parent: b[3 * n + LEGGING_PARENT_AT],
+        price: b[3 * n + LEGGING_PRICE_AT],
+        quantity: b[3 * n + LEGGING_QUANTITY_AT],
     }
 }
 
@@ -113,11 +200,11 @@ pub fn listed_at(b: &[u32], s: usize) -> Listed
     requires { ⌜ (length (now b) ≡ size) × (s < 8) ⌝ }
     ensures { λ r. ⌜ r ≡ listedIn (now (b .entry)) s ⌝ }
 {
-    let status = b[3 * s + 752];
+    let status = b[3 * s + SERIES_STATUS_AT];
     Listed {
         status: (status % 256) as u8,
-        bid: b[3 * s + 753],
-        offer: b[3 * s + 754],
+        bid: b[3 * s + SERIES_BID_AT],
+        offer: b[3 * s + SERIES_OFFER_AT],
     }
 }
 
@@ -126,11 +213,11 @@ pub fn edition_at(b: &[u32], i: usize) -> Edition
     requires { ⌜ (length (now b) ≡ size) × (i < 32) ⌝ }
     ensures { λ r. ⌜ r ≡ editionIn (now (b .entry)) i ⌝ }
 {
-    let figure = b[4 * i + 832];
-    let value = b[4 * i + 833];
+    let figure = b[4 * i + EDITION_FIGURE_AT];
+    let value = b[4 * i + EDITION_VALUE_AT];
     Edition {
-        edition: b[4 * i + 830],
-        message: b[4 * i + 831],
+        edition: b[4 * i + EDITION_NUMBER_AT],
+        message: b[4 * i + EDITION_MESSAGE_AT],
         figure: (figure % 256) as u8,
         value: (value % 256) as u8,
     }
@@ -143,7 +230,7 @@ pub fn free_edition(b: &[u32]) -> usize
 {
     let mut i: usize = 0;
     while i < 32 {
-        if b[4 * i + 830] == 0 {
+        if b[4 * i + EDITION_NUMBER_AT] == 0 {
             return i;
         }
         i += 1;
@@ -156,7 +243,7 @@ pub fn figure_at(b: &[u32], f: usize) -> u8
     requires { ⌜ (length (now b) ≡ size) × (f < 9) × (Figured (now b)) ⌝ }
     ensures { λ r. ⌜ r ≡ figureNow (venueOf (now (b .entry))) f ⌝ }
 {
-    (b[2 * f + 958] % 256) as u8
+    (b[2 * f + FIGURES_AT] % 256) as u8
 }
 
 // The legging places that are filled, as they are kept: bit n is place n.
@@ -164,7 +251,7 @@ pub fn mask_of(b: &[u32]) -> u16
     requires { ⌜ (length (now b) ≡ size) × (Right (now b)) ⌝ }
     ensures { λ r. ⌜ r ≡ mask (venueOf (now (b .entry)) .legging) ⌝ }
 {
-    (b[829] % 65536) as u16
+    (b[LEGGING_MASK_AT] % 65536) as u16
 }
 
 // Every order shows what it should, as far as is known: the mark is 0.
@@ -172,7 +259,7 @@ pub fn is_unmarked(b: &[u32]) -> bool
     requires { ⌜ length (now b) ≡ size ⌝ }
     ensures { λ r. ⌜ r ≡ isUnmarked (now (b .entry)) ⌝ }
 {
-    b[1231] == 0
+    b[SHOW_AGAIN_AT] == 0
 }
 
 // A limit, as it is kept: 2^31 above its value.
@@ -187,19 +274,19 @@ pub fn complex_at(b: &[u32], i: usize) -> Complex
     requires { ⌜ (length (now b) ≡ size) × (i < 32) ⌝ }
     ensures { λ r. ⌜ r ≡ complexIn (now (b .entry)) i ⌝ }
 {
-    let legs = b[6 * i + 513];
-    let ratios = b[6 * i + 514];
-    let class = b[6 * i + 515];
-    let limit = limit_of(b[6 * i + 516]);
+    let legs = b[6 * i + COMPLEX_LEGS_AT];
+    let ratios = b[6 * i + COMPLEX_RATIOS_AT];
+    let class = b[6 * i + COMPLEX_CLASS_AT];
+    let limit = limit_of(b[6 * i + COMPLEX_LIMIT_AT]);
     Complex {
-        id: b[6 * i + 512],
+        id: b[6 * i + COMPLEX_ID_AT],
         series1: (legs % 256 / 32) as u8,
         side1: (legs / 16 % 2) as u8,
         series2: (legs % 16 / 2) as u8,
         side2: (legs % 2) as u8,
         class: (class % 256) as u8,
         limit,
-        quantity: b[6 * i + 517],
+        quantity: b[6 * i + COMPLEX_QUANTITY_AT],
         ratio1: (ratios / 256 % 256) as u8,
         ratio2: (ratios % 256) as u8,
     }
@@ -210,7 +297,7 @@ pub fn legs_at(b: &[u32], i: usize) -> usize
     requires { ⌜ (length (now b) ≡ size) × (i < 32) ⌝ }
     ensures { λ r. ⌜ r ≡ legsKey (complexIn (now (b .entry)) i) ⌝ }
 {
-    wide(b[6 * i + 513] % 256)
+    wide(b[6 * i + COMPLEX_LEGS_AT] % 256)
 }
 
 // The last id accepted.
@@ -218,7 +305,7 @@ pub fn last_id(b: &[u32]) -> u32
     requires { ⌜ length (now b) ≡ size ⌝ }
     ensures { λ r. ⌜ r ≡ venueOf (now (b .entry)) .last ⌝ }
 {
-    b[778]
+    b[LAST_ID_AT]
 }
 
 // The message of one of a series' last 20 generations, oldest first; 0 where there were fewer.
@@ -226,7 +313,7 @@ pub fn generation_at(b: &[u32], s: usize, k: usize) -> u32
     requires { ⌜ (length (now b) ≡ size) × (s < 8) × (k < 20) ⌝ }
     ensures { λ r. ⌜ r ≡ getD (generationsOf (venueOf (now (b .entry))) s) k 0 ⌝ }
 {
-    b[20 * s + k + 1232]
+    b[20 * s + k + GENERATION_MESSAGES_AT]
 }
 
 // The message of the oldest of them.
@@ -242,7 +329,7 @@ pub fn reached_id(b: &[u32]) -> u32
     requires { ⌜ length (now b) ≡ size ⌝ }
     ensures { λ r. ⌜ r ≡ venueOf (now (b .entry)) .reached ⌝ }
 {
-    b[1392]
+    b[ID_REACHED_AT]
 }
 
 // The level kept for a series and side: n is their legging place.
@@ -250,10 +337,10 @@ pub fn level_at(b: &[u32], n: usize) -> Level
     requires { ⌜ (length (now b) ≡ size) × (n < 16) ⌝ }
     ensures { λ r. ⌜ r ≡ levelIn (now (b .entry)) n ⌝ }
 {
-    let low = b[3 * n + 780];
-    let high = b[3 * n + 781];
+    let low = b[3 * n + LEVEL_LOW_AT];
+    let high = b[3 * n + LEVEL_HIGH_AT];
     Level {
-        price: b[3 * n + 779],
+        price: b[3 * n + LEVEL_PRICE_AT],
         size: (low as u64) + 4294967296 * (high as u64),
     }
 }
@@ -382,7 +469,7 @@ fn generations_at(b: &[u32], s: usize) -> Generations
     let mut messages = [0u32; 20];
     let mut k: usize = 0;
     while k < 20 {
-        messages[k] = b[20 * s + k + 1232];
+        messages[k] = b[20 * s + k + GENERATION_MESSAGES_AT];
         k += 1;
     }
     Generations { messages }

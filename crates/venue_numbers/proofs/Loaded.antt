@@ -34,6 +34,7 @@ use Rattle.places.proofs.Fully.{range-bounded, sound-fully}
 use Rattle.places.specs.Layout.{size, inUse, regularIn, complexIn, listedIn, editionIn, venueOf, regularPut, Bounded, editionRow, Fully, Figured}
 use Rattle.places.specs.Layout.{FiguresCounted, Kept, SameCounts, Filled, Placed, OnSide, RegularsPlaced, ComplexesPlaced, Loadable, RegularsLoaded}
 use Rattle.places.specs.Layout.{ComplexesLoaded, EditionsLoaded, BesideCounted, Laid}
+use Rattle.places.specs.Offsets.{regularsUsedAt, complexesUsedAt, regularsKnownAt, complexesKnownAt, leggingMaskAt, editionNumberAt, figuresAt, regularReserveAt, showAgainAt, generationMessagesAt}
 use Rattle.places.proofs.Tables.{upto-length, used-length, used-at, used-free, whole}
 use Rattle.places.proofs.Parts.{Outside, OutsideRows, halves, stored, wider, edition-kept, count-kept, count-kept2, regulars-kept, complexes-kept}
 use Rattle.places.proofs.Parts.{leggings-kept, series-kept, generations-kept, last-kept, reached-kept, venue-is}
@@ -129,7 +130,7 @@ regulars-next a b b′ l i p m lt o is h e =
     (regular-back b i (getD l i noRegular) (m .long) lt (q .0 .series) (q .0 .side) (q .1)))
 
 pub regulars-last : (a b : List ℕ) (l : List Regular) (i : ℕ) → LayingRegulars a b l i → length l ≡ 128 → i ≤ 128 →
-    ((k : ℕ) → i ≤ k → getD l k noRegular ≡ noRegular) → RegularsLoaded a l (set b 776 i)
+    ((k : ℕ) → i ≤ k → getD l k noRegular ≡ noRegular) → RegularsLoaded a l (set b regularsUsedAt i)
 regulars-last a b l i m n few rest =
     let s = regulars-set a b l i (m .long) few (halves a b (m .before) (m .long) 0 i few (m .outside))
     (laid holdsRegular noRegular 128 regularIn regularPut OutsideRows regular-rows a b l i m n few rest) (m .full) in
@@ -149,7 +150,7 @@ complexes-next a b b′ l i p m lt o is h kept e =
     (complex-back b i (getD l i noComplex) (m .long) lt (q .0 .series) (q .0 .side) (q .1 .series) (q .1 .side) (rw is at kept)))
 
 pub complexes-last : (a b : List ℕ) (l : List Complex) (i : ℕ) → LayingComplexes a b l i → length l ≡ 32 → i ≤ 32 →
-    ((k : ℕ) → i ≤ k → getD l k noComplex ≡ noComplex) → ComplexesLoaded a l (set b 777 i)
+    ((k : ℕ) → i ≤ k → getD l k noComplex ≡ noComplex) → ComplexesLoaded a l (set b complexesUsedAt i)
 complexes-last a b l i m n few rest =
     let s = complexes-set a b l i (m .long) few (wider (omega arith) (omega arith) (m .outside))
     (laid holdsComplex noComplex 32 complexIn complexPut OutsideComplexes complex-rows a b l i m n few rest) (m .full) in
@@ -231,21 +232,21 @@ series-last = loading-last withSeries (λ v. v .series) notListed 8 (λ v x y. r
 -- Editions, each of which a place holds as it is -------------------------------------------------
 
 abbrev lowEdition : ℕ → ℕ
-lowEdition i = 4 * i + 830
+lowEdition i = 4 * i + editionNumberAt
 
-edition-wide : (i : ℕ) (e : Edition) → 4 * i + 830 + length (editionRow e) ≡ 4 * (i + 1) + 830
+edition-wide : (i : ℕ) (e : Edition) → 4 * i + editionNumberAt + length (editionRow e) ≡ 4 * (i + 1) + editionNumberAt
 unfolding editionRow
 edition-wide i e = omega arith
 
-edition-agree : (a b : List ℕ) (l h i : ℕ) → Outside l h a b → (4 * (i + 1) + 830 ≤ l) ⊎ (h ≤ 4 * i + 830) → editionIn a i ≡ editionIn b i
+edition-agree : (a b : List ℕ) (l h i : ℕ) → Outside l h a b → (4 * (i + 1) + editionNumberAt ≤ l) ⊎ (h ≤ 4 * i + editionNumberAt) → editionIn a i ≡ editionIn b i
 edition-agree a b l h i o (inl w) = edition-kept o i (inl (omega arith))
 edition-agree a b l h i o (inr w) = edition-kept o i (inr w)
 
 abbrev editionPut : List ℕ → ℕ → Edition → List ℕ
-editionPut a i e = sets a (4 * i + 830) (editionRow e)
+editionPut a i e = sets a (4 * i + editionNumberAt) (editionRow e)
 
 abbrev OutsideEditions : (i j : ℕ) (a b : List ℕ) → Type 0
-OutsideEditions i j = Outside (4 * i + 830) (4 * j + 830)
+OutsideEditions i j = Outside (4 * i + editionNumberAt) (4 * j + editionNumberAt)
 
 edition-rows : Rows 32 editionIn editionPut OutsideEditions
 edition-rows = rows-between 32 lowEdition editionIn editionRow (λ i j h. omega arith) edition-wide edition-agree
@@ -275,7 +276,7 @@ editions-last a b l i m n e = record {
   complexes = count-kept2 o (inl (omega arith));
 }
   where
-    o : Outside 830 958 a b
+    o : Outside editionNumberAt figuresAt a b
     o = wider (omega arith) (omega arith) (m .outside)
 
     part : venueOf b .editions ≡ l
@@ -290,7 +291,7 @@ unfolding increment
 figures-some v s h = h
 
 pub beside-counted : (h f : List ℕ) (x : ℕ) → length h ≡ size → x ≡ mask (venueOf h .legging) → length f ≡ length h → FiguresCounted h f →
-    BesideCounted h (set (set (set (set f 827 0) 828 0) 829 x) 1231 0)
+    BesideCounted h (set (set (set (set f regularsKnownAt 0) complexesKnownAt 0) leggingMaskAt x) showAgainAt 0)
 beside-counted h f x wide count even figs = record {
   venue = same;
   regulars = count-kept four (inl (omega arith)) ∙ count-kept three (inl (omega arith)) ∙ count-kept two (inl (omega arith)) ∙ count-kept one
@@ -298,9 +299,23 @@ beside-counted h f x wide count even figs = record {
   complexes = count-kept2 four (inl (omega arith)) ∙ count-kept2 three (inl (omega arith)) ∙ count-kept2 two (inl (omega arith)) ∙ count-kept2 one
       (inl (omega arith)) ∙ count-kept2 aside (inl (omega arith));
   marked = λ steps shown. record {
-    regulars = λ k w. absurd (omega (arith, four .same 827 (inl (omega arith)), three .same 827 (inl (omega arith)), two .same 827 (inl (omega arith)), getD-set-same f 827 0 0 (omega (arith, long))));
-    complexes = λ k w. absurd (omega (arith, four .same 828 (inl (omega arith)), three .same 828 (inl (omega arith)), getD-set-same (set f 827 0) 828 0 0 (omega (arith, long, length-set f 827 0))));
-    legging = four .same 829 (inl (omega arith)) ∙ getD-set-same (set (set f 827 0) 828 0) 829 x 0 (omega (arith, long, length-set (set f 827 0) 828 0, length-set f 827 0))
+    regulars = λ k w. absurd
+        (omega (
+          arith,
+          four .same regularsKnownAt (inl (omega arith)),
+          three .same regularsKnownAt (inl (omega arith)),
+          two .same regularsKnownAt (inl (omega arith)),
+          getD-set-same f regularsKnownAt 0 0 (omega (arith, long)),
+        ));
+    complexes = λ k w. absurd
+        (omega (
+          arith,
+          four .same complexesKnownAt (inl (omega arith)),
+          three .same complexesKnownAt (inl (omega arith)),
+          getD-set-same (set f regularsKnownAt 0) complexesKnownAt 0 0 (omega (arith, long, length-set f regularsKnownAt 0)),
+        ));
+    legging = four .same leggingMaskAt (inl (omega arith)) ∙ getD-set-same (set (set f regularsKnownAt 0) complexesKnownAt 0) leggingMaskAt x 0
+        (omega (arith, long, length-set (set f regularsKnownAt 0) complexesKnownAt 0, length-set f regularsKnownAt 0))
         ∙ count ∙ ap (λ (w : Venue). mask (w .legging)) (sym same);
     figures = figures-marked four (inr (omega arith)) (figures-marked three (inl (omega arith)) (figures-marked two (inl (omega arith)) (figures-marked one (inl (omega arith)) (figured steps))));
     shows = λ _. subst (λ (w : Venue). Fully (w .regular)) (sym same) shown;
@@ -308,22 +323,22 @@ beside-counted h f x wide count even figs = record {
 }
   where
     y : List ℕ
-    y = set (set (set f 827 0) 828 0) 829 x
+    y = set (set (set f regularsKnownAt 0) complexesKnownAt 0) leggingMaskAt x
 
-    aside : Outside 958 975 h f
+    aside : Outside figuresAt regularReserveAt h f
     aside = counted-outside h f figs
 
-    one : Outside 827 828 f (set f 827 0)
-    one = stored f 827 0
+    one : Outside regularsKnownAt complexesKnownAt f (set f regularsKnownAt 0)
+    one = stored f regularsKnownAt 0
 
-    two : Outside 828 829 (set f 827 0) (set (set f 827 0) 828 0)
-    two = stored (set f 827 0) 828 0
+    two : Outside complexesKnownAt leggingMaskAt (set f regularsKnownAt 0) (set (set f regularsKnownAt 0) complexesKnownAt 0)
+    two = stored (set f regularsKnownAt 0) complexesKnownAt 0
 
-    three : Outside 829 830 (set (set f 827 0) 828 0) y
-    three = stored (set (set f 827 0) 828 0) 829 x
+    three : Outside leggingMaskAt editionNumberAt (set (set f regularsKnownAt 0) complexesKnownAt 0) y
+    three = stored (set (set f regularsKnownAt 0) complexesKnownAt 0) leggingMaskAt x
 
-    four : Outside 1231 1232 y (set y 1231 0)
-    four = stored y 1231 0
+    four : Outside showAgainAt generationMessagesAt y (set y showAgainAt 0)
+    four = stored y showAgainAt 0
 
     long : length f ≡ size
     long = even ∙ wide
@@ -331,7 +346,7 @@ beside-counted h f x wide count even figs = record {
     beside : venueOf f ≡ venueOf h
     beside = beside-venue aside (omega arith) (inr (omega arith)) (inr (omega arith)) (omega arith)
 
-    same : venueOf (set y 1231 0) ≡ venueOf h
+    same : venueOf (set y showAgainAt 0) ≡ venueOf h
     same = beside-venue four (omega arith) (inr (omega arith)) (inl (omega arith)) (omega arith) ∙ beside-venue three (omega arith)
         (inl (omega arith)) (inr (omega arith)) (omega arith) ∙ beside-venue two (omega arith) (inl (omega arith)) (inr (omega arith)) (omega arith)
         ∙ beside-venue one (omega arith) (inl (omega arith)) (inr (omega arith)) (omega arith) ∙ beside

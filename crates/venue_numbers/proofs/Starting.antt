@@ -17,6 +17,7 @@ use Rattle.rules.specs.Settings.{baseFigure, sets, lastValue, figureNow}
 use Rattle.rules.specs.Sound.{showsFully}
 use Rattle.rules.specs.Step.{mask}
 use Rattle.places.specs.Layout.{size, upto, inUse, regularsUsed, complexesUsed, leggingIn, listedIn, editionIn, generationsIn, venueOf, levelOf, levelIn, Fully, Orderly, Right, Loaded, FiguresBase}
+use Rattle.places.specs.Offsets.{seriesStatusAt, levelPriceAt, levelLowAt, levelHighAt, leggingMaskAt, figuresAt, regularReserveAt, generationMessagesAt, idReachedAt}
 use Rattle.places.proofs.Tables.{free-getD, upto-same}
 use Rattle.places.proofs.Parts.{Outside, count-kept, count-kept2, venue-is}
 use Rattle.places.proofs.Beside.{place-few, levels-kept, beside-venue}
@@ -25,41 +26,41 @@ use Rattle.rules.proofs.Editions.{base-some}
 -- zeros, with the first so many series open
 unfoldable pub openTo : (series : ℕ) → List ℕ
 openTo zero = replicate size 0
-openTo (suc s) = set (openTo s) (3 * s + 752) 1
+openTo (suc s) = set (openTo s) (3 * s + seriesStatusAt) 1
 
 pub open-length : (s : ℕ) → length (openTo s) ≡ size
 unfolding openTo
 open-length zero = refl
-open-length (suc s) = length-set (openTo s) (3 * s + 752) 1 ∙ open-length s
+open-length (suc s) = length-set (openTo s) (3 * s + seriesStatusAt) 1 ∙ open-length s
 
 pub open-first : replicate 1393 0 ≡ openTo 0
 unfolding openTo
 open-first = refl
 
-pub open-next : (b : List ℕ) (s : ℕ) → b ≡ openTo s → set b (3 * s + 752) 1 ≡ openTo (s + 1)
+pub open-next : (b : List ℕ) (s : ℕ) → b ≡ openTo s → set b (3 * s + seriesStatusAt) 1 ≡ openTo (s + 1)
 unfolding openTo
-open-next b s e = ap (λ (l : List ℕ). set l (3 * s + 752) 1) e ∙ sym (ap openTo (add-one s))
+open-next b s e = ap (λ (l : List ℕ). set l (3 * s + seriesStatusAt) 1) e ∙ sym (ap openTo (add-one s))
 
 -- what is kept beside the venue is zeros
-zero-after : (s k : ℕ) → 3 * s + 752 ≤ k → getD (openTo s) k 0 ≡ 0
+zero-after : (s k : ℕ) → 3 * s + seriesStatusAt ≤ k → getD (openTo s) k 0 ≡ 0
 unfolding openTo
 zero-after zero k h = free-getD 0 size k
-zero-after (suc s) k h = getD-set-other (openTo s) (3 * s + 752) k 1 0 (λ e. omega arith) ∙ zero-after s k (omega arith)
+zero-after (suc s) k h = getD-set-other (openTo s) (3 * s + seriesStatusAt) k 1 0 (λ e. omega arith) ∙ zero-after s k (omega arith)
 
 -- no generations: nothing is past the mark
 zeros-generations : (s : ℕ) → generationsIn (openTo 8) s ≡ noGenerations
 unfolding generationsIn upto
-zeros-generations s = rw (upto-same (λ k. getD (openTo 8) k 0) (λ _. 0) (20 * s + 1232) 20 (λ k p q. zero-after 8 k (omega arith))) refl
+zeros-generations s = rw (upto-same (λ k. getD (openTo 8) k 0) (λ _. 0) (20 * s + generationMessagesAt) 20 (λ k p q. zero-after 8 k (omega arith))) refl
 
 fresh-venue : venueOf (openTo 8) ≡ freshVenue
 unfolding openTo venueOf freshVenue inUse upto regularsUsed complexesUsed leggingIn listedIn editionIn
 fresh-venue = venue-is (venueOf (openTo 8)) freshVenue refl refl refl refl refl (upto-same (generationsIn (openTo 8)) (λ _. noGenerations) 0 8 (λ s p q. zeros-generations s)) refl
-    (zero-after 8 1392 (omega arith))
+    (zero-after 8 idReachedAt (omega arith))
 
 -- the levels of no orders are zeros, no place is known to be held, and no legging order stands
 zeros-level : (n : ℕ) → levelIn (openTo 8) n ≡ record { price = 0; size = 0 }
 unfolding levelIn
-zeros-level n = rw (zero-after 8 (3 * n + 779) (omega arith), zero-after 8 (3 * n + 780) (omega arith), zero-after 8 (3 * n + 781) (omega arith))
+zeros-level n = rw (zero-after 8 (3 * n + levelPriceAt) (omega arith), zero-after 8 (3 * n + levelLowAt) (omega arith), zero-after 8 (3 * n + levelHighAt) (omega arith))
 
 nobody-level : (s d : ℕ) → levelOf s d (freshVenue .regular) ≡ record { price = 0; size = 0 }
 unfolding levelOf bestIn sizeIn showsFor showsAt shown freshVenue
@@ -92,7 +93,7 @@ none-used = (refl, refl)
 
 -- with the figures of edition 0
 module _ (b : List ℕ) (base : FiguresBase (openTo 8) b) where
-  o : Outside 958 975 (openTo 8) b
+  o : Outside figuresAt regularReserveAt (openTo 8) b
   o = record { same = base .others }
 
   venue : venueOf b ≡ freshVenue
@@ -112,7 +113,7 @@ module _ (b : List ℕ) (base : FiguresBase (openTo 8) b) where
     marked = record {
       regulars = λ k h. absurd (omega (arith, no-regular));
       complexes = λ k h. absurd (omega (arith, no-complex));
-      legging = o .same 829 (inl (omega arith)) ∙ zero-after 8 829 (omega arith) ∙ sym (ap (λ (v : Venue). mask (v .legging)) venue ∙ nobody-stands);
+      legging = o .same leggingMaskAt (inl (omega arith)) ∙ zero-after 8 leggingMaskAt (omega arith) ∙ sym (ap (λ (v : Venue). mask (v .legging)) venue ∙ nobody-stands);
       figures = record {
         so = λ f w. base .figures f w ∙ sym (ap (λ (v : Venue). figureNow v f) venue ∙ fresh-figure f);
         some = λ s w. rw (base .figures s (omega arith)) (base-some s);

@@ -23,7 +23,7 @@ pub fn fresh_numbers() -> [u32; places::SIZE]
     let mut b = [0u32; places::SIZE];
     let mut s: usize = 0;
     while s < 8 {
-        b[3 * s + 752] = 1;
+        b[3 * s + places::SERIES_STATUS_AT] = 1;
         s += 1;
     }
     place_writes::base_figures(&mut b);
@@ -41,13 +41,13 @@ fn load_regulars(b: &mut [u32], l: [Regular; 128])
     while i < 128 {
         let o = l[i];
         if o.quantity == 0 {
-            b[776] = i as u32;
+            b[places::REGULARS_USED_AT] = i as u32;
             return;
         }
         place_writes::write_regular(b, i, o);
         i += 1;
     }
-    b[776] = 128;
+    b[places::REGULARS_USED_AT] = 128;
 }
 
 // Places are read until the first free one.
@@ -59,13 +59,13 @@ fn load_complexes(b: &mut [u32], l: [Complex; 32])
     while i < 32 {
         let o = l[i];
         if o.quantity == 0 {
-            b[777] = i as u32;
+            b[places::COMPLEXES_USED_AT] = i as u32;
             return;
         }
         place_writes::write_complex(b, i, o);
         i += 1;
     }
-    b[777] = 32;
+    b[places::COMPLEXES_USED_AT] = 32;
 }
 
 // The legging orders written among the numbers.
@@ -155,10 +155,10 @@ fn count_beside(b: &mut [u32])
 {
     let mask = count_mask(b);
     place_writes::count_figures(b);
-    b[827] = 0;
-    b[828] = 0;
-    b[829] = mask as u32;
-    b[1231] = 0;
+    b[places::REGULARS_KNOWN_AT] = 0;
+    b[places::COMPLEXES_KNOWN_AT] = 0;
+    b[places::LEGGING_MASK_AT] = mask as u32;
+    b[places::SHOW_AGAIN_AT] = 0;
 }
 
 // A venue's numbers, and what is kept beside them; the levels stay as they are.

@@ -4,13 +4,14 @@ use Prim.Native.Nat.{_+_, _-_, _*_, _≤_}
 use native.Mathlib.Omega.{arith}
 use lib.ListN.{length}
 use Rattle.places.specs.Layout.{size}
+use Rattle.places.specs.Offsets.{generationMessagesAt}
 use Rattle.place_writes.proofs.GenerationsPut.{Written, written-first, listFrom, put-next, put-generations}
 use borrow.Author.Needs.{needs}
 use Rattle.place_writes.proofs.put_generations.Statement.{statement}
 use Rattle.place_writes.proofs.put_generations.Tie as tie
 
 abbrev Inv-loop : tie.InvT-loop
-Inv-loop b₀ s messages k₀ b k = (k ≤ 20) × (length b ≡ size) × Written (listFrom (20 * s + 1232) messages) (20 * s + 1232) (20 * s + k + 1232) b₀ b
+Inv-loop b₀ s messages k₀ b k = (k ≤ 20) × (length b ≡ size) × Written (listFrom (20 * s + generationMessagesAt) messages) (20 * s + generationMessagesAt) (20 * s + k + generationMessagesAt) b₀ b
 
 abbrev μ-loop : tie.MeasureT-loop
 μ-loop b₀ s messages k₀ b k = 20 - k

@@ -6,12 +6,13 @@ use native.Mathlib.Omega.{arith}
 use Rattle.place_writes.proofs.Stores.{put-last}
 use borrow.Author.Needs.{needs}
 use Rattle.place_writes.proofs.put_last.Statement.{statement}
+use Rattle.places.specs.Offsets.{lastIdAt}
 use Rattle.place_writes.proofs.put_last.Tie as tie
 
 returns : tie.Need-returns
 returns c = (
   put-last (c .args .b .now) (c .args .id) (c .pre),
-  counts-kept (stored (c .args .b .now) 778 (c .args .id)) (omega arith) (omega arith) (inl (omega arith)),
+  counts-kept (stored (c .args .b .now) lastIdAt (c .args .id)) (omega arith) (omega arith) (inl (omega arith)),
 )
 
 pub put-last-spec : {M : Type 1} → statement M

@@ -6,6 +6,7 @@ use lib.ListN.{length-set}
 use Rattle.place_writes.proofs.Stores.{put-legging}
 use borrow.Author.Needs.{needs}
 use Rattle.place_writes.proofs.put_legging.Statement.{statement}
+use Rattle.places.specs.Offsets.{leggingParentAt, leggingPriceAt, leggingQuantityAt}
 use Rattle.place_writes.proofs.put_legging.Tie as tie
 
 slice-write-b-2 : tie.Need-slice-write-b-2
@@ -20,8 +21,8 @@ slice-write-b-4 c = simp length-set (omega arith)
 returns : tie.Need-returns
 returns c = let s = c .before .before .before .before .before .before .before in
     let n = s .args .n in
-    let p1 : 3 * n + 705 ≡ suc (3 * n + 704) = omega arith in
-    let p2 : 3 * n + 706 ≡ suc (suc (3 * n + 704)) = omega arith in
+    let p1 : 3 * n + leggingPriceAt ≡ suc (3 * n + leggingParentAt) = omega arith in
+    let p2 : 3 * n + leggingQuantityAt ≡ suc (suc (3 * n + leggingParentAt)) = omega arith in
     rw (p1, p2)
     (put-legging (s .args .b .now) n (c .before .less .result) (c .before .before .weight .result) (c .weight2 .result)
     (c .before .before .before .before .legging-at .result) (s .args .l) (s .pre .0) (s .pre .1)

@@ -6,6 +6,7 @@ use lib.ListN.{length-set}
 use Rattle.place_writes.proofs.Stores.{put-level}
 use borrow.Author.Needs.{needs}
 use Rattle.place_writes.proofs.put_level.Statement.{statement}
+use Rattle.places.specs.Offsets.{levelPriceAt, levelLowAt, levelHighAt}
 use Rattle.place_writes.proofs.put_level.Tie as tie
 
 slice-write-b-2 : tie.Need-slice-write-b-2
@@ -17,8 +18,8 @@ slice-write-b-3 c = simp length-set (omega arith)
 returns : tie.Need-returns
 returns c = let s = c .before .before in
     let n = s .args .n in
-    let p1 : 3 * n + 780 ≡ suc (3 * n + 779) = omega arith in
-    let p2 : 3 * n + 781 ≡ suc (suc (3 * n + 779)) = omega arith in
+    let p1 : 3 * n + levelLowAt ≡ suc (3 * n + levelPriceAt) = omega arith in
+    let p2 : 3 * n + levelHighAt ≡ suc (suc (3 * n + levelPriceAt)) = omega arith in
     rw (p1, p2) (put-level (s .args .b .now) n (s .args .l) (s .pre .0) (s .pre .1))
 
 pub put-level-spec : {M : Type 1} → statement M

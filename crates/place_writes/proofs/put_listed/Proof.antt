@@ -9,6 +9,7 @@ use Prim.Native.Nat.{suc, _+_, _*_}
 use mathlib.Core.Path.{_≡_}
 use borrow.Author.Needs.{needs}
 use Rattle.place_writes.proofs.put_listed.Statement.{statement}
+use Rattle.places.specs.Offsets.{seriesStatusAt, seriesBidAt, seriesOfferAt}
 use Rattle.place_writes.proofs.put_listed.Tie as tie
 
 slice-write-b-2 : tie.Need-slice-write-b-2
@@ -20,12 +21,12 @@ slice-write-b-3 c = simp length-set (omega arith)
 returns : tie.Need-returns
 returns c = let z = c .before in
     let n = z .args .s in
-    let p1 : 3 * n + 753 ≡ suc (3 * n + 752) = omega arith in
-    let p2 : 3 * n + 754 ≡ suc (suc (3 * n + 752)) = omega arith in
+    let p1 : 3 * n + seriesBidAt ≡ suc (3 * n + seriesStatusAt) = omega arith in
+    let p2 : 3 * n + seriesOfferAt ≡ suc (suc (3 * n + seriesStatusAt)) = omega arith in
     let x = z .args .x in
     rw (p1, p2) (
       put-listed (z .args .b .now) n x (z .pre .0) (z .pre .1) (c .struct-known .given .0 .fits),
-      counts-kept (sets-outside (z .args .b .now) (3 * n + 752) (x .status ∷ x .bid ∷ x .offer ∷ [])) (omega arith) (omega arith) (inr (omega arith)),
+      counts-kept (sets-outside (z .args .b .now) (3 * n + seriesStatusAt) (x .status ∷ x .bid ∷ x .offer ∷ [])) (omega arith) (omega arith) (inr (omega arith)),
     )
 
 pub put-listed-spec : {M : Type 1} → statement M

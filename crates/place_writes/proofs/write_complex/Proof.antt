@@ -6,6 +6,7 @@ use mir.Syntax.{w32}
 use mir.Val.{SFits}
 use Rattle.rules.specs.Words.{placeOf}
 use Rattle.places.specs.Layout.{legsKey, ratiosNumber, limitNumber, complexRow}
+use Rattle.places.specs.Offsets.{complexIdAt, complexLegsAt, complexRatiosAt, complexClassAt, complexLimitAt, complexQuantityAt}
 use Rattle.places.proofs.Limits.{back32, limit-back}
 use lib.ListN.{length-set}
 use borrow.Author.Needs.{needs}
@@ -43,11 +44,11 @@ unfolding complexRow legsKey ratiosNumber
 returns c =
     let named = c .before .before .before .before .before in
     let a = named .before .before .before .args in
-    let p1 : 6 * a .i + 513 ≡ suc (6 * a .i + 512) = omega arith in
-    let p2 : 6 * a .i + 514 ≡ suc (suc (6 * a .i + 512)) = omega arith in
-    let p3 : 6 * a .i + 515 ≡ suc (suc (suc (6 * a .i + 512))) = omega arith in
-    let p4 : 6 * a .i + 516 ≡ suc (suc (suc (suc (6 * a .i + 512)))) = omega arith in
-    let p5 : 6 * a .i + 517 ≡ suc (suc (suc (suc (suc (6 * a .i + 512))))) = omega arith in
+    let p1 : 6 * a .i + complexLegsAt ≡ suc (6 * a .i + complexIdAt) = omega arith in
+    let p2 : 6 * a .i + complexRatiosAt ≡ suc (suc (6 * a .i + complexIdAt)) = omega arith in
+    let p3 : 6 * a .i + complexClassAt ≡ suc (suc (suc (6 * a .i + complexIdAt))) = omega arith in
+    let p4 : 6 * a .i + complexLimitAt ≡ suc (suc (suc (suc (6 * a .i + complexIdAt)))) = omega arith in
+    let p5 : 6 * a .i + complexQuantityAt ≡ suc (suc (suc (suc (suc (6 * a .i + complexIdAt))))) = omega arith in
     let f : SFits w32 (a .c .limit) = record { sfits = c .before .before .before .before .struct-told .given .1 .1 .1 .1 .1 .1 .0 .1 } in
     let fits = c .struct-known3 .given .1 .1 .1 .1 .1 in (
       rw (p1, p2, p3, p4, p5, named .before .place-number .ensures, named .place-number2 .ensures, c .before .before .before .limit-number .ensures ∙ ap limitNumber (back32 f)) refl,

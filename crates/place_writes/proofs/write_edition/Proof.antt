@@ -4,6 +4,7 @@ use Prim.Native.Nat.{suc, _+_, _*_}
 use native.Mathlib.Omega.{arith}
 use lib.ListN.{length-set}
 use Rattle.places.specs.Layout.{editionRow}
+use Rattle.places.specs.Offsets.{editionNumberAt, editionMessageAt, editionFigureAt, editionValueAt}
 use borrow.Author.Needs.{needs}
 use Rattle.place_writes.proofs.write_edition.Statement.{statement}
 use Rattle.place_writes.proofs.write_edition.Tie as tie
@@ -20,9 +21,9 @@ slice-write-b-4 c = simp length-set (omega arith)
 returns : tie.Need-returns
 unfolding editionRow
 returns c = let i = c .before .before .args .i in
-    let p1 : 4 * i + 831 ≡ suc (4 * i + 830) = omega arith in
-    let p2 : 4 * i + 832 ≡ suc (suc (4 * i + 830)) = omega arith in
-    let p3 : 4 * i + 833 ≡ suc (suc (suc (4 * i + 830))) = omega arith in (
+    let p1 : 4 * i + editionMessageAt ≡ suc (4 * i + editionNumberAt) = omega arith in
+    let p2 : 4 * i + editionFigureAt ≡ suc (suc (4 * i + editionNumberAt)) = omega arith in
+    let p3 : 4 * i + editionValueAt ≡ suc (suc (suc (4 * i + editionNumberAt))) = omega arith in (
       rw (p1, p2, p3) refl,
       c .struct-known2 .given .1 .1 .0 .fits,
       c .struct-known2 .given .1 .1 .1 .0 .fits,

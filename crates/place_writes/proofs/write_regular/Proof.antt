@@ -1,5 +1,6 @@
 -- `place_writes::write_regular` meets its contract.
 use Rattle.places.specs.Layout.{regularRow, reserveRow}
+use Rattle.places.specs.Offsets.{regularReserveAt, regularDisplayAt}
 use lib.ListN.{length-set}
 use native.Mathlib.Omega.{arith}
 use Prim.Native.Nat.{suc, _+_, _*_}
@@ -32,7 +33,7 @@ returns c = let i = c .before .before .args .i in
     let p1 : 4 * i + 1 ≡ suc (4 * i) = omega arith in
     let p2 : 4 * i + 2 ≡ suc (suc (4 * i)) = omega arith in
     let p3 : 4 * i + 3 ≡ suc (suc (suc (4 * i))) = omega arith in
-    let p4 : 2 * i + 976 ≡ suc (2 * i + 975) = omega arith in
+    let p4 : 2 * i + regularDisplayAt ≡ suc (2 * i + regularReserveAt) = omega arith in
     rw (p1, p2, p3, p4, c .place-number .ensures) refl
 
 pub write-regular-spec : {M : Type 1} → statement M
