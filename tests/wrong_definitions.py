@@ -11,8 +11,8 @@ run in parts. Each edit is made in a copy of the crate `rules` that has its type
 alone, with those of the crate `trials`: no law and no function. There `trials-hold` must fail, over one part of the
 trials (the cheap lists first, then list by list), or a statement of rules' own trials or of a request's: that is a
 failure of the whole. An edit that passes all parts is checked against the whole from nothing. One that does not compile is not counted, and another is drawn.
-Left out: Trials itself, Opened (a list of names), Lengths (bounds of what is written, for the proofs alone), and
-what only states a type. So are edits that tell nothing: the order of a table's rows (`if eqb k 1 .. else if eqb k 2
+Left out: Trials itself, Opened (a list of names), Lengths (bounds of what is written, for the proofs alone), Fields
+(the widths of fields), and what only states a type. So are edits that tell nothing: the order of a table's rows (`if eqb k 1 .. else if eqb k 2
 ..`), the arguments of `eqb` exchanged, `leb x 0` for `eqb x 0`.
 Edits that mean the same stand in tests/wrong_definitions.txt with the reason, and are no failure.
 A line is printed for each edit; the last line has the counts. The status is 1 where an edit survives that is not
@@ -30,7 +30,7 @@ import sys
 import tempfile
 import threading
 
-LEFT_OUT = {"Trials", "Opened", "Lengths", "Lib"}
+LEFT_OUT = {"Trials", "Opened", "Lengths", "Fields", "Lib"}
 MORE = "MoreTrials.antt"  # the file of the crate trials, in the copy of rules
 TYPES = {"OneByte", "TwoBytes", "FourBytes", "FourSigned", "Fits", "ForAll"}
 SIGNATURE = re.compile(r"\s*(abbrev|unfoldable|pub|use|infix|infixl|data|record|module|--)\b|\s*--")

@@ -1,3 +1,2 @@
-pub mod Loops
 pub mod Turns
 pub mod Touches

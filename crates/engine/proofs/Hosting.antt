@@ -36,11 +36,12 @@ use Rattle.demands.proofs.Soundness.{sound-out}
 use Rattle.demands.proofs.Truth.{one-message}
 use Rattle.places.specs.Layout.{upto}
 use Rattle.places.proofs.Tables.{upto-length, upto-at}
-use Rattle.venue_bytes.specs.Held.{generationsAt, venueSize, venueBytes, generationsFrom, rowAt, venueFrom, ListedFits, Declared}
+use Rattle.venue_bytes.specs.Held.{generationsAt, venueSize, venueBytes, generationsFrom, rowAt, venueFrom, Declared}
 use Rattle.venue_writer.proofs.Back.{held-whole}
 use Rattle.engine.specs.Runs.{callOf}
 use Rattle.engine.specs.Hosts.{begun, freshHosted, HeldFirst, hosted, leaves, oneHosted, HeldNext}
 use Rattle.soundness.proofs.Following.{editions-fit, generations-fit}
+use Rattle.rules.specs.Fields.{ListedFits}
 use Rattle.engine.proofs.Calling.{one-unready, one-ends, one-does}
 
 -- The first venue -----------------------------------------------------------------------------

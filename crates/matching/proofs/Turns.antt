@@ -23,7 +23,7 @@ use Rattle.book.specs.declared.Pick.{Pick}
 use Rattle.book.specs.declared.Pick.the-variants as pick
 use Rattle.book.specs.Picks.{pickOf}
 use Rattle.book.proofs.Picking.{picked-is, nobody-is, regular-used, met-free}
-use Rattle.removal.proofs.Removing.{counts-on}
+use Rattle.places.proofs.Beside.{counts-on}
 
 -- Who comes first -----------------------------------------------------------------------------
 

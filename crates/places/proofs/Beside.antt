@@ -198,6 +198,10 @@ right-on a b same best orders marks r = record {
 pub right-kept : (a b : List ℕ) → ((n : ℕ) → n < 16 → levelIn b n ≡ levelIn a n) → venueOf b .regular ≡ venueOf a .regular → (Marked a → Marked b) → Right a → Right b
 right-kept a b same e = right-on a b same (λ s d. ap (levelOf s d) e) (subst Orderly (sym e))
 
+-- as many places in use after two steps
+pub counts-on : (a b c : List ℕ) → SameCounts a b → SameCounts b c → SameCounts a c
+counts-on a b c p q = record { regulars = q .regulars ∙ p .regulars; complexes = q .complexes ∙ p .complexes; right = λ h. q .right (p .right h) }
+
 -- a store into series or the last id
 pub counts-kept : {low high : ℕ} {a b : List ℕ} → Outside low high a b → seriesStatusAt ≤ low → high ≤ levelPriceAt → (complexesUsedAt < low) ⊎ (high ≤ regularsUsedAt) → SameCounts a b
 counts-kept {low = low} {high = high} {a = a} {b = b} o l h w = record {

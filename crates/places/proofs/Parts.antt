@@ -13,7 +13,8 @@ use lib.Seq.{getD-set-other}
 use Rattle.rules.specs.Base.{if_then_else_, held}
 use Rattle.rules.specs.declared.Regular.{Regular}
 use Rattle.rules.specs.declared.Venue.{Venue}
-use Rattle.rules.specs.Words.{noRegular, noComplex, noLegging, notListed, noEdition, regularAt, complexAt, withRegular, withComplex, withLegging, withSeries, withEditions, withLast}
+use Rattle.rules.specs.Words.{noRegular, noComplex, noLegging, notListed, noEdition, regularAt, complexAt, withRegular, withComplex, withLegging}
+use Rattle.rules.specs.Words.{withSeries, withEditions, withLast, placeOf, leggingAt, listedAt}
 use Rattle.rules.specs.Places.{holdsRegular}
 use Rattle.places.specs.Layout.{size, upto, inUse, regularsUsed, complexesUsed, regularIn, complexIn, leggingIn, listedIn, editionIn, generationsIn, venueOf}
 use Rattle.places.specs.Offsets.{complexIdAt, complexLegsAt, complexRatiosAt, complexClassAt, complexLimitAt, complexQuantityAt, complexNextAt}
@@ -21,6 +22,9 @@ use Rattle.places.specs.Offsets.{leggingParentAt, leggingPriceAt, leggin
 use Rattle.places.specs.Offsets.{seriesNextAt, regularsUsedAt, complexesUsedAt, lastIdAt, levelPriceAt, editionNumberAt, editionMessageAt}
 use Rattle.places.specs.Offsets.{editionFigureAt, editionValueAt, editionNextAt, figuresAt, regularReserveAt, regularDisplayAt}
 use Rattle.places.specs.Offsets.{regularReserveNextAt, showAgainAt, generationMessagesAt, generationNextAt, idReachedAt}
+use Rattle.rules.specs.declared.Legging.{Legging}
+use Rattle.rules.specs.declared.Listed.{Listed}
+use native.Mathlib.Nat.{zero-add}
 use Rattle.places.proofs.Tables.{upto-length, upto-at, upto-same, upto-set, used-same, used-set, used-at, used-free, used-length}
 
 -- a and b have the same numbers but for those from low to below high
@@ -155,6 +159,23 @@ regular-at b i h = used-at (regularIn b) noRegular (regularsUsed b) 128 i h
 pub complex-at : (b : List ℕ) (i : ℕ) → i < complexesUsed b → complexAt (venueOf b) i ≡ complexIn b i
 unfolding complexAt venueOf
 complex-at b i h = used-at (complexIn b) noComplex (complexesUsed b) 32 i h
+
+pub legging-at : (b : List ℕ) (n : ℕ) → n < 16 → getD (venueOf b .legging) n noLegging ≡ leggingIn b n
+unfolding venueOf
+legging-at b n h = upto-at (leggingIn b) noLegging 0 16 n h ∙ ap (leggingIn b) (omega arith)
+
+pub leggings-length : (b : List ℕ) → length (venueOf b .legging) ≡ 16
+unfolding venueOf
+leggings-length b = upto-length (leggingIn b) 0 16
+
+pub legging-read : (b : List ℕ) (s d n : ℕ) (l : Legging) → s < 8 → d < 2 → n ≡ placeOf s d → l ≡ leggingIn b n → l ≡ leggingAt (venueOf b) s d
+unfolding leggingAt venueOf placeOf
+legging-read b s d n l hs hd en el =
+    el ∙ ap (leggingIn b) en ∙ sym (upto-at (leggingIn b) noLegging 0 16 (2 * s + d) (omega arith) ∙ ap (leggingIn b) (zero-add (2 * s + d)))
+
+pub listed-read : (b : List ℕ) (s : ℕ) (x : Listed) → s < 8 → x ≡ listedIn b s → x ≡ listedAt (venueOf b) s
+unfolding venueOf
+listed-read b s x h e = e ∙ sym (upto-at (listedIn b) notListed 0 8 s h ∙ ap (listedIn b) (zero-add s))
 
 pub regular-past : (b : List ℕ) (i : ℕ) → regularsUsed b ≤ i → regularAt (venueOf b) i ≡ noRegular
 unfolding regularAt venueOf

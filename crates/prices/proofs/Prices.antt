@@ -4,7 +4,6 @@ use mathlib.Core.Bool.{Bool, true, false}
 use mathlib.Core.List.{List}
 use Prim.Native.Nat.{ℕ, zero, suc, _+_, _*_, _<_, zero-le}
 use native.Mathlib.Omega.{arith}
-use native.Mathlib.Nat.{zero-add}
 use native.Mathlib.Decide.{decLt}
 use borrow.Author.Tests.{eq-eqb, ne-eqb, le-ltb}
 use lib.Dec.{eqb}
@@ -14,7 +13,7 @@ use Rattle.rules.specs.declared.Legging.{Legging}
 use Rattle.rules.specs.declared.Listed.{Listed}
 use Rattle.rules.specs.declared.Venue.{Venue}
 use Rattle.rules.specs.Base.{if_then_else_}
-use Rattle.rules.specs.Words.{opposite, noComplex, noLegging, notListed, placeOf, complexAt, leggingAt, listedAt, statusOf, isComplexOf}
+use Rattle.rules.specs.Words.{opposite, noComplex, complexAt, leggingAt, listedAt, statusOf, isComplexOf}
 use Rattle.rules.specs.Prices.{better, betterOf, bestRegular, ownPrice, bestOwn, ownSize, clearPrice, away, marketBest, weighed, net, taken1, taken2, nearNet, inBand}
 use Rattle.rules.specs.Settings.{figureNow, percent, increment}
 use Rattle.rules.specs.Standing.{findComplex, parentOf, bothOpen}
@@ -22,24 +21,12 @@ use Rattle.rules.specs.Complex.{anyClosed}
 use Rattle.rules.proofs.Tests.{if-same}
 use Rattle.rules.proofs.Better.{better-irrefl}
 use Rattle.rules.proofs.Units.{own-size}
-use Rattle.places.specs.Layout.{Figured, upto, complexesUsed, complexIn, leggingIn, listedIn, venueOf, levelOf}
-use Rattle.places.proofs.Tables.{upto-at}
+use Rattle.places.specs.Layout.{Figured, upto, complexesUsed, complexIn, venueOf, levelOf}
 use Rattle.places.proofs.Parts.{complex-at, complex-past}
 use Rattle.places.specs.declared.Level.{Level}
 use Rattle.levels.specs.Grid.{LegsIn}
 use Rattle.levels.proofs.Scans.{find-used}
 use Rattle.levels.proofs.Sides.{level-price, level-size}
-
--- What stands at a place ----------------------------------------------------------------------
-
-pub legging-read : (b : List ℕ) (s d n : ℕ) (l : Legging) → s < 8 → d < 2 → n ≡ placeOf s d → l ≡ leggingIn b n → l ≡ leggingAt (venueOf b) s d
-unfolding leggingAt venueOf placeOf
-legging-read b s d n l hs hd en el =
-    el ∙ ap (leggingIn b) en ∙ sym (upto-at (leggingIn b) noLegging 0 16 (2 * s + d) (omega arith) ∙ ap (leggingIn b) (zero-add (2 * s + d)))
-
-pub listed-read : (b : List ℕ) (s : ℕ) (x : Listed) → s < 8 → x ≡ listedIn b s → x ≡ listedAt (venueOf b) s
-unfolding venueOf
-listed-read b s x h e = e ∙ sym (upto-at (listedIn b) notListed 0 8 s h ∙ ap (listedIn b) (zero-add s))
 
 -- Own, clear and market prices ----------------------------------------------------------------
 

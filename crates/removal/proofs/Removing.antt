@@ -28,18 +28,9 @@ use Rattle.records.specs.Seen.{Seen, seen}
 use Rattle.records.specs.Stage.{stage, _does_}
 use Rattle.records.proofs.Stages.{onward, does-nothing, does-room}
 use Rattle.places.specs.Layout.{size, leggingIn, venueOf, SameCounts}
-use Rattle.places.proofs.Tables.{upto-at, upto-length}
 use Rattle.removal.specs.Marks.{clearAt, verdictBy, markAt, markedBy}
-
--- The legging places of the numbers -----------------------------------------------------------
-
-pub legging-at : (b : List ℕ) (n : ℕ) → n < 16 → getD (venueOf b .legging) n noLegging ≡ leggingIn b n
-unfolding venueOf
-legging-at b n h = upto-at (leggingIn b) noLegging 0 16 n h ∙ ap (leggingIn b) (omega arith)
-
-pub leggings-length : (b : List ℕ) → length (venueOf b .legging) ≡ 16
-unfolding venueOf
-leggings-length b = upto-length (leggingIn b) 0 16
+use Rattle.places.proofs.Beside.{counts-on}
+use Rattle.places.proofs.Parts.{legging-at, leggings-length}
 
 -- One place -----------------------------------------------------------------------------------
 
@@ -119,10 +110,6 @@ module _ (f : ℕ → Legging → Verdict) (v : Venue) where
     remove-past l at q = remove-turn Stands v l l at at q (does-nothing v l at ∙ ap (λ (z : Effect). seen l at does z) (sym stood))
 
 -- The loop ------------------------------------------------------------------------------------
-
--- as many places in use after two steps
-pub counts-on : (a b c : List ℕ) → SameCounts a b → SameCounts b c → SameCounts a c
-counts-on a b c p q = record { regulars = q .regulars ∙ p .regulars; complexes = q .complexes ∙ p .complexes; right = λ h. q .right (p .right h) }
 
 -- its invariant: what is left to do from place n on is what there was to do
 pub record Removing (f : ℕ → Legging → Verdict) (b₀ out₀ : List ℕ) (at : ℕ) (b out : List ℕ) (pos n : ℕ) : Type 0 where

@@ -15,8 +15,8 @@
 --   "Trials"                                 Trials: each definition above at work, with what 01 says must come out
 --
 -- Not 01's: Base (choice, the first in rank), Effects (venue and records, one step after another), Places (how places are arranged),
--- Lengths (bounds of what one message writes), Opened (all names, for a statement that computes). Regular, Complex, Legging, Listed, Venue
--- and the other records are the types of src/lib.rt.
+-- Lengths (bounds of what one message writes), Fields (the width of each field of a place), Opened (all names, for a statement that
+-- computes). Regular, Complex, Legging, Listed, Venue and the other records are the types of src/lib.rt.
 --
 -- The notation:
 --   f x y                     f of x and y;  c .limit is the field limit of c;  (λ n l. e) is the function of n and l that gives e
@@ -50,5 +50,6 @@ pub mod Sound
 pub mod Calls
 pub mod Sums
 pub mod Lengths
+pub mod Fields
 pub mod Opened
 pub mod Trials

@@ -20,7 +20,7 @@ use Rattle.rules.specs.Generation.{othersStand}
 use Rattle.places.specs.Layout.{upto, leggingIn, venueOf}
 use Rattle.levels.proofs.Scans.{upto-on, upto-end}
 use Rattle.removal.specs.Marks.{markAt}
-use Rattle.removal.proofs.Removing.{legging-at}
+use Rattle.places.proofs.Parts.{legging-at}
 use Rattle.settling.proofs.Testing.{verdict-free}
 
 -- Marks ---------------------------------------------------------------------------------------

@@ -23,8 +23,8 @@ use Rattle.rules.proofs.Cases.{if-by}
 use Rattle.rules.proofs.Dating.{edition-free}
 use Rattle.rules.proofs.Tests.{and-l, and-r}
 use Rattle.places.specs.Layout.{venueOf, Loaded}
-use Rattle.venue_bytes.specs.Held.{EditionFits, GenerationsFits}
 use Rattle.soundness.specs.Checked.{Ready}
+use Rattle.rules.specs.Fields.{EditionFits, GenerationsFits}
 
 -- The editions kept ---------------------------------------------------------------------------
 

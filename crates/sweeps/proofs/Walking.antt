@@ -30,7 +30,7 @@ use Rattle.records.specs.Stage.{stage, _does_}
 use Rattle.records.proofs.Stages.{stage-venue}
 use Rattle.places.specs.Layout.{complexesUsed, venueOf}
 use Rattle.places.proofs.Parts.{complexes-few, complex-past}
-use Rattle.crossing.proofs.Loops.{Doing}
+use Rattle.removal.proofs.Loops.{Doing}
 use Rattle.sweeps.specs.Rising.{Holds, Rising}
 
 -- The first in rank -----------------------------------------------------------------------------

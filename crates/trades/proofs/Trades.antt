@@ -24,7 +24,7 @@ use Rattle.places.specs.Layout.{size, regularsUsed, venueOf, SameCounts}
 use Rattle.book.specs.declared.Pick.the-variants as pick
 use Rattle.book.specs.Picks.{pickOf}
 use Rattle.book.proofs.Picking.{picked-is, nobody-is, regular-used, for-free}
-use Rattle.removal.proofs.Removing.{counts-on}
+use Rattle.places.proofs.Beside.{counts-on}
 
 -- One trade -----------------------------------------------------------------------------------
 

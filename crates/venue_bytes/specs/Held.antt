@@ -30,10 +30,11 @@ use Rattle.rules.specs.declared.Message.the-variants.{Status}
 use Rattle.rules.specs.Words.{noRegular, noComplex, noLegging, notListed, noEdition, noGenerations, closed, freshVenue, withSeries}
 use Rattle.rules.specs.Bytes.{u8At, u32At, asSigned, u8, u32, i32}
 use Rattle.rules.specs.Messages.{encodeMessage}
-use Rattle.rules.specs.Records.{OneByte, FourBytes, FourSigned}
+use Rattle.rules.specs.Records.{FourBytes}
 use Rattle.rules.specs.Sound.{sound}
 use Rattle.rules.specs.Calls.{run}
 use Rattle.places.specs.Layout.{upto}
+use Rattle.rules.specs.Fields.{RegularFits, ComplexFits, LeggingFits, ListedFits, EditionFits, GenerationsFits}
 
 -- where the editions begin
 abbrev pub editionsAt : ℕ
@@ -164,48 +165,6 @@ venueFrom bs = record {
 }
 
 -- What is held is read back -------------------------------------------------------------------
-
--- each field has its width
-pub record RegularFits (o : Regular) : Type 0 where
-  pub id : FourBytes (o .id)
-  pub series : OneByte (o .series)
-  pub side : OneByte (o .side)
-  pub price : FourBytes (o .price)
-  pub quantity : FourBytes (o .quantity)
-  pub display : FourBytes (o .display)
-  pub reserve : FourBytes (o .reserve)
-
-pub record ComplexFits (c : Complex) : Type 0 where
-  pub id : FourBytes (c .id)
-  pub series1 : OneByte (c .series1)
-  pub side1 : OneByte (c .side1)
-  pub series2 : OneByte (c .series2)
-  pub side2 : OneByte (c .side2)
-  pub class : OneByte (c .class)
-  pub limit : FourSigned (c .limit)
-  pub quantity : FourBytes (c .quantity)
-  pub ratio1 : OneByte (c .ratio1)
-  pub ratio2 : OneByte (c .ratio2)
-
-pub record LeggingFits (l : Legging) : Type 0 where
-  pub parent : FourBytes (l .parent)
-  pub price : FourBytes (l .price)
-  pub quantity : FourBytes (l .quantity)
-
-pub record ListedFits (x : Listed) : Type 0 where
-  pub status : OneByte (x .status)
-  pub bid : FourBytes (x .bid)
-  pub offer : FourBytes (x .offer)
-
-pub record EditionFits (e : Edition) : Type 0 where
-  pub edition : FourBytes (e .edition)
-  pub message : FourBytes (e .message)
-  pub figure : OneByte (e .figure)
-  pub value : OneByte (e .value)
-
-pub record GenerationsFits (g : Generations) : Type 0 where
-  pub many : length (g .messages) ≡ 20
-  pub messages : (k : ℕ) → FourBytes (getD (g .messages) k 0)
 
 -- each array has its length
 pub record Sized (v : Venue) : Type 0 where

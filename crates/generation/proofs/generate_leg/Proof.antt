@@ -2,7 +2,6 @@
 use Rattle.generation.proofs.Making.{steps-some, made-none, made-alone, made-over, made-is, planned-shown}
 use Rattle.settling.proofs.Testing.{off, on}
 use Rattle.generation.specs.Parts.{madeBy}
-use Rattle.removal.proofs.Removing.{counts-on}
 use Rattle.places.specs.Layout.{venueOf}
 use Rattle.records.proofs.Stages.{does-nothing}
 use Rattle.records.specs.Stage.{_does_}
@@ -11,6 +10,7 @@ use Rattle.rules.specs.Effects.{Effect, nothing}
 use Rattle.rules.specs.Generation.{generationsOf, underCeiling}
 use Rattle.rules.specs.Words.{placeOf}
 use Rattle.rules.specs.declared.Venue.{Venue}
+use Rattle.places.proofs.Beside.{counts-on}
 use mathlib.Core.Path.{refl, sym, ap, _∙_}
 use borrow.Author.Needs.{needs}
 use Rattle.generation.proofs.generate_leg.Statement.{statement}

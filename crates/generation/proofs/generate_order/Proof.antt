@@ -1,13 +1,13 @@
 -- `generation::generate_order` meets its contract.
 use Rattle.generation.proofs.Making.{generates-kept, generate-past, generate-gone, generate-shut, generate-is, complex-in}
 use Rattle.settling.proofs.Testing.{off, on}
-use Rattle.removal.proofs.Removing.{counts-on}
 use Rattle.places.specs.Layout.{venueOf, complexesUsed}
 use Rattle.records.proofs.Stages.{does-nothing, follow, stage-venue}
 use Rattle.records.specs.Stage.{_does_}
 use Rattle.records.specs.Seen.{seen}
 use Rattle.rules.specs.Generation.{generateLeg}
 use Rattle.rules.specs.Effects.{Effect}
+use Rattle.places.proofs.Beside.{counts-on}
 use mathlib.Core.Path.{refl, ap, _∙_}
 use Prim.Native.Nat.{_<_}
 use native.Mathlib.Omega.{arith}

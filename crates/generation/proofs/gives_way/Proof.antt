@@ -1,9 +1,9 @@
 -- `generation::gives_way` meets its contract.
 use Rattle.generation.proofs.Making.{way-better, way-worse, way-other, way-class}
-use Rattle.prices.proofs.Prices.{legging-read}
 use Rattle.places.specs.Layout.{venueOf}
 use Rattle.rules.specs.Standing.{parentOf}
 use Rattle.rules.specs.Words.{placeOf}
+use Rattle.places.proofs.Parts.{legging-read}
 use mathlib.Core.Path.{sym, ap, _∙_}
 use borrow.Author.Needs.{needs}
 use Rattle.generation.proofs.gives_way.Statement.{statement}

@@ -1,7 +1,7 @@
 -- `generation::make_leg` meets its contract.
 use Rattle.generation.proofs.Making.{made-law}
-use Rattle.removal.proofs.Removing.{counts-on}
 use Rattle.rules.specs.Words.{placeOf}
+use Rattle.places.proofs.Beside.{counts-on}
 use borrow.Author.Needs.{needs}
 use Rattle.generation.proofs.make_leg.Statement.{statement}
 use Rattle.generation.proofs.make_leg.Tie as tie

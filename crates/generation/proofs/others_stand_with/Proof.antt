@@ -1,8 +1,8 @@
 -- `generation::others_stand_with` meets its contract.
 use Rattle.generation.proofs.Making.{grid-kept, placed-regular, placed-back}
-use Rattle.removal.proofs.Removing.{counts-on}
 use Rattle.rules.specs.Generation.{placed, othersStand}
 use Rattle.rules.specs.declared.Venue.{Venue}
+use Rattle.places.proofs.Beside.{counts-on}
 use mathlib.Core.Path.{ap, _∙_}
 use borrow.Author.Needs.{needs}
 use Rattle.generation.proofs.others_stand_with.Statement.{statement}

@@ -5,7 +5,7 @@ use Rattle.rules.specs.Standing.{settle}
 use Rattle.records.specs.Seen.{seen}
 use Rattle.records.specs.Stage.{_does_}
 use Rattle.places.specs.Layout.{venueOf}
-use Rattle.removal.proofs.Removing.{counts-on}
+use Rattle.places.proofs.Beside.{counts-on}
 use Rattle.messages.proofs.Setting.{away-set}
 use borrow.Author.Needs.{needs}
 use Rattle.messages.proofs.set_away.Statement.{statement}

@@ -6,7 +6,7 @@ use Rattle.rules.specs.Standing.{settle}
 use Rattle.records.specs.Seen.{seen}
 use Rattle.records.specs.Stage.{_does_}
 use Rattle.places.specs.Layout.{venueOf}
-use Rattle.removal.proofs.Removing.{counts-on}
+use Rattle.places.proofs.Beside.{counts-on}
 use Rattle.messages.proofs.Entering.{place-free, figure-set}
 use borrow.Author.Needs.{needs}
 use Rattle.messages.proofs.set_figure.Statement.{statement}

@@ -5,8 +5,8 @@ use Rattle.rules.specs.Standing.{settle}
 use Rattle.records.specs.Seen.{seen}
 use Rattle.records.specs.Stage.{_does_}
 use Rattle.places.specs.Layout.{venueOf}
-use Rattle.removal.proofs.Removing.{counts-on}
-use Rattle.prices.proofs.Prices.{listed-read}
+use Rattle.places.proofs.Beside.{counts-on}
+use Rattle.places.proofs.Parts.{listed-read}
 use Rattle.messages.proofs.Setting.{status-set}
 use borrow.Author.Needs.{needs}
 use Rattle.messages.proofs.set_status.Statement.{statement}

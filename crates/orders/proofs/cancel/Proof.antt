@@ -4,8 +4,8 @@ use Rattle.rules.specs.Standing.{settle}
 use Rattle.rules.specs.Complex.{cancel}
 use Rattle.records.proofs.Stages.{follow}
 use Rattle.places.specs.Layout.{venueOf}
-use Rattle.removal.proofs.Removing.{counts-on}
 use Rattle.orders.specs.Effects.{withdrawn}
+use Rattle.places.proofs.Beside.{counts-on}
 use borrow.Author.Needs.{needs}
 use Rattle.orders.proofs.cancel.Statement.{statement}
 use Rattle.orders.proofs.cancel.Tie as tie

@@ -5,7 +5,7 @@ use native.Mathlib.Omega.{arith}
 use Rattle.rules.specs.Trading.{putComplex}
 use Rattle.places.specs.Layout.{venueOf}
 use Rattle.place_writes.proofs.Closed.{dense-complex}
-use Rattle.removal.proofs.Removing.{counts-on}
+use Rattle.places.proofs.Beside.{counts-on}
 use Rattle.orders.proofs.Arriving.{complex-law, counts-more}
 use borrow.Author.Needs.{needs}
 use Rattle.orders.proofs.complex_order.Statement.{statement}

@@ -1,7 +1,8 @@
 -- `prices::away_price` meets its contract.
-use Rattle.prices.proofs.Prices.{listed-read, away-bid, away-offer}
+use Rattle.prices.proofs.Prices.{away-bid, away-offer}
 use borrow.Author.Needs.{needs}
 use Rattle.prices.proofs.away_price.Statement.{statement}
+use Rattle.places.proofs.Parts.{listed-read}
 use Rattle.prices.proofs.away_price.Tie as tie
 
 returns : tie.Need-returns

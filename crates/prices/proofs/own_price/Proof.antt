@@ -1,6 +1,7 @@
 -- `prices::own_price` meets its contract.
 use Rattle.rules.specs.Words.{placeOf}
-use Rattle.prices.proofs.Prices.{legging-read, own-free, own-held}
+use Rattle.places.proofs.Parts.{legging-read}
+use Rattle.prices.proofs.Prices.{own-free, own-held}
 use borrow.Author.Needs.{needs}
 use Rattle.prices.proofs.own_price.Statement.{statement}
 use Rattle.prices.proofs.own_price.Tie as tie

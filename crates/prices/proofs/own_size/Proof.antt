@@ -3,7 +3,8 @@ use mathlib.Core.Path.{sym, _∙_}
 use native.Mathlib.Omega.{arith}
 use Rattle.rules.specs.Words.{placeOf}
 use Rattle.levels.proofs.Kept.{level-most}
-use Rattle.prices.proofs.Prices.{legging-read, size-free, size-same, size-better, size-worse}
+use Rattle.places.proofs.Parts.{legging-read}
+use Rattle.prices.proofs.Prices.{size-free, size-same, size-better, size-worse}
 use borrow.Author.Needs.{needs}
 use Rattle.prices.proofs.own_size.Statement.{statement}
 use Rattle.prices.proofs.own_size.Tie as tie

@@ -1,7 +1,8 @@
 -- `prices::status_of` meets its contract.
-use Rattle.prices.proofs.Prices.{listed-read, status-is}
+use Rattle.prices.proofs.Prices.{status-is}
 use borrow.Author.Needs.{needs}
 use Rattle.prices.proofs.status_of.Statement.{statement}
+use Rattle.places.proofs.Parts.{listed-read}
 use Rattle.prices.proofs.status_of.Tie as tie
 
 returns : tie.Need-returns

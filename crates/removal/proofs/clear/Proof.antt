@@ -5,7 +5,8 @@ use Rattle.records.specs.Seen.{seen}
 use Rattle.records.specs.Stage.{_does_}
 use Rattle.records.proofs.Stages.{does-nothing, does-report}
 use Rattle.places.specs.Layout.{venueOf}
-use Rattle.removal.proofs.Removing.{legging-at, clear-free, clear-held}
+use Rattle.places.proofs.Parts.{legging-at}
+use Rattle.removal.proofs.Removing.{clear-free, clear-held}
 use borrow.Author.Needs.{needs}
 use Rattle.removal.proofs.clear.Statement.{statement}
 use Rattle.removal.proofs.clear.Tie as tie

@@ -3,7 +3,7 @@ use Rattle.settling.proofs.Testing.{verdict-free, verdict-held}
 use Rattle.levels.specs.Grid.{LegsIn}
 use Rattle.levels.proofs.Sides.{sides-right}
 use Rattle.prices.proofs.Prices.{parent-legs}
-use Rattle.removal.proofs.Removing.{legging-at}
+use Rattle.places.proofs.Parts.{legging-at}
 use native.Mathlib.Omega.{arith}
 use mathlib.Core.Path.{sym, _∙_}
 use borrow.Author.Needs.{needs}

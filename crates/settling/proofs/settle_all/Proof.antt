@@ -5,7 +5,7 @@ use Rattle.rules.specs.Removal.{remove}
 use Rattle.rules.specs.Standing.{verdict, settle}
 use Rattle.records.specs.Seen.{seen}
 use Rattle.records.specs.Stage.{_does_}
-use Rattle.removal.proofs.Removing.{counts-on}
+use Rattle.places.proofs.Beside.{counts-on}
 use borrow.Author.Needs.{needs}
 use Rattle.settling.proofs.settle_all.Statement.{statement}
 use Rattle.settling.proofs.settle_all.Tie as tie

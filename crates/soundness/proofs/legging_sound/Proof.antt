@@ -5,9 +5,9 @@ use borrow.Author.Tests.{not-true, not-false}
 use Rattle.rules.specs.Standing.{verdict, stands}
 use Rattle.rules.specs.Sound.{leggingSound}
 use Rattle.places.specs.Layout.{venueOf}
-use Rattle.removal.proofs.Removing.{legging-at}
 use Rattle.soundness.specs.Checked.{leggingInRange, hasHome}
 use Rattle.sound_places.proofs.Passes.{first-fails, second-fails, third-fails, last-decides}
+use Rattle.places.proofs.Parts.{legging-at}
 use Rattle.soundness.proofs.Beside.{sound-free, sound-held}
 use borrow.Author.Needs.{needs}
 use Rattle.soundness.proofs.legging_sound.Statement.{statement}

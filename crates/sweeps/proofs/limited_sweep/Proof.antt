@@ -2,8 +2,8 @@
 use mathlib.Core.Path.{_∙_}
 use native.Mathlib.Omega.{arith}
 use Rattle.places.proofs.Parts.{complexes-few}
-use Rattle.removal.proofs.Removing.{counts-on}
 use Rattle.sweeps.specs.Round.{roundPlaces}
+use Rattle.places.proofs.Beside.{counts-on}
 use Rattle.sweeps.proofs.Rounds.{round-examined, limited-law}
 use borrow.Author.Needs.{needs}
 use Rattle.sweeps.proofs.limited_sweep.Statement.{statement}

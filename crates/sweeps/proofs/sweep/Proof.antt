@@ -1,10 +1,10 @@
 -- `sweeps::sweep` meets its contract.
 use mathlib.Core.Path.{_∙_}
-use Rattle.removal.proofs.Removing.{counts-on}
 use Rattle.sweeps.proofs.Sweeping.{sweep-law}
 use Rattle.sweeps.proofs.Walking.{swept-rising}
 use borrow.Author.Needs.{needs}
 use Rattle.sweeps.proofs.sweep.Statement.{statement}
+use Rattle.places.proofs.Beside.{counts-on}
 use Rattle.sweeps.proofs.sweep.Tie as tie
 
 work-each-requires : tie.Need-work-each-requires

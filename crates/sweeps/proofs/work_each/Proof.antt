@@ -6,7 +6,7 @@ use Rattle.rules.specs.Complex.{work, each}
 use Rattle.rules.proofs.Sweeping.{work-fewer}
 use Rattle.places.specs.Layout.{venueOf}
 use Rattle.places.proofs.Parts.{complex-at}
-use Rattle.crossing.proofs.Loops.{Doing, doing-start, doing-turn, doing-end, doing-room}
+use Rattle.removal.proofs.Loops.{Doing, doing-start, doing-turn, doing-end, doing-room}
 use Rattle.sweeps.proofs.Walking.{walked, walked-none, walked-past, walked-turn, each-walked, doing-past}
 use borrow.Author.Needs.{needs}
 use Rattle.sweeps.proofs.work_each.Statement.{statement}

@@ -4,7 +4,7 @@ use native.Mathlib.Omega.{arith}
 use Rattle.rules.proofs.Machine.{back, fits-of}
 use Rattle.places.specs.Layout.{venueOf}
 use Rattle.places.proofs.Parts.{regulars-few, regular-at}
-use Rattle.removal.proofs.Removing.{counts-on}
+use Rattle.places.proofs.Beside.{counts-on}
 use Rattle.trades.proofs.Pairs.{hit-law}
 use borrow.Author.Needs.{needs}
 use Rattle.trades.proofs.hit.Statement.{statement}

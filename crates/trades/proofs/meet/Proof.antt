@@ -3,7 +3,7 @@ use mathlib.Core.Path.{sym, _∙_}
 use native.Mathlib.Omega.{arith}
 use Rattle.places.specs.Layout.{venueOf}
 use Rattle.places.proofs.Parts.{regulars-few, regular-at}
-use Rattle.removal.proofs.Removing.{counts-on}
+use Rattle.places.proofs.Beside.{counts-on}
 use Rattle.trades.proofs.Pairs.{meet-law}
 use borrow.Author.Needs.{needs}
 use Rattle.trades.proofs.meet.Statement.{statement}

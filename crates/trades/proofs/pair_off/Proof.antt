@@ -1,7 +1,7 @@
 -- `trades::pair_off` meets its contract.
 use Rattle.rules.proofs.Machine.{back}
 use Rattle.places.specs.Layout.{venueOf}
-use Rattle.removal.proofs.Removing.{counts-on}
+use Rattle.places.proofs.Beside.{counts-on}
 use Rattle.trades.proofs.Pairs.{pair-law}
 use borrow.Author.Needs.{needs}
 use Rattle.trades.proofs.pair_off.Statement.{statement}

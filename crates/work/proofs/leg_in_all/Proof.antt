@@ -8,7 +8,7 @@ use Rattle.places.proofs.Parts.{complexes-few, complex-at}
 use Rattle.levels.specs.Grid.{LegsIn}
 use Rattle.prices.proofs.Prices.{legs-in}
 use Rattle.cross_makers.proofs.Candidates.{off, on}
-use Rattle.crossing.proofs.Loops.{Doing, doing-start, doing-turn, doing-end, doing-room, repeat-zero, repeat-stop, repeat-turn}
+use Rattle.removal.proofs.Loops.{Doing, doing-start, doing-turn, doing-end, doing-room, repeat-zero, repeat-stop, repeat-turn}
 use Rattle.work.proofs.Pairing.{leg-stop, leg-short, leg-turn}
 use borrow.Author.Needs.{needs}
 use Rattle.work.proofs.leg_in_all.Statement.{statement}

@@ -4,7 +4,7 @@ use native.Mathlib.Omega.{arith}
 use Rattle.places.proofs.Parts.{complexes-few, complex-at}
 use Rattle.levels.specs.Grid.{LegsIn}
 use Rattle.prices.proofs.Prices.{legs-in}
-use Rattle.removal.proofs.Removing.{counts-on}
+use Rattle.places.proofs.Beside.{counts-on}
 use Rattle.work.proofs.Working.{work-closed, work-steps}
 use borrow.Author.Needs.{needs}
 use Rattle.work.proofs.work.Statement.{statement}

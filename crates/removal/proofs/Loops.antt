@@ -9,7 +9,7 @@ use Rattle.records.specs.Seen.{seen}
 use Rattle.records.specs.Stage.{stage, _does_}
 use Rattle.records.proofs.Stages.{onward, does-nothing, does-room}
 use Rattle.places.specs.Layout.{size, venueOf, SameCounts}
-use Rattle.removal.proofs.Removing.{counts-on}
+use Rattle.places.proofs.Beside.{counts-on}
 
 -- from b₀ and out₀ at `at`, e is due; b and out at pos have been reached, and `rest` is left to do
 pub record Doing (e : Effect) (rest : Venue → Effect) (b₀ out₀ : List ℕ) (at : ℕ) (b out : List ℕ) (pos : ℕ) : Type 0 where
