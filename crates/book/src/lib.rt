@@ -43,20 +43,20 @@ fn shows_for(o: Regular, series: u8, side: u8, price: u32) -> bool
 }
 
 // The earliest regular order that shows size at a price of a side. Only orders with the key of series and side are read whole.
-pub fn first_for(b: &[u32], series: u8, side: u8, price: u32) -> Pick
-    requires { ⌜ (length (now b) ≡ size) × (Right (now b)) ⌝ }
-    ensures { λ r. ⌜ r ≡ pickOf (first (showsFor series side price) earlier (venueOf (now (b .entry)) .regular)) ⌝ }
+pub fn first_for(numbers: &[u32], series: u8, side: u8, price: u32) -> Pick
+    requires { ⌜ (length (now numbers) ≡ size) × (Right (now numbers)) ⌝ }
+    ensures { λ r. ⌜ r ≡ pickOf (first (showsFor series side price) earlier (venueOf (now (numbers .entry)) .regular)) ⌝ }
 {
     let key = arithmetic::place_of(series, side);
-    let n = places::regulars_used(b);
+    let n = places::regulars_used(numbers);
     let mut k = 0;
     while k < n {
         let i = k;
         k += 1;
-        if places::key_at(b, i) != key {
+        if places::key_at(numbers, i) != key {
             continue;
         }
-        let o = places::regular_at(b, i);
+        let o = places::regular_at(numbers, i);
         if shows_for(o, series, side, price) {
             return Pick::At(i, o);
         }
@@ -66,16 +66,16 @@ pub fn first_for(b: &[u32], series: u8, side: u8, price: u32) -> Pick
 
 // The regular order that one of this side and price in a series meets first, where every order shows some size: the earliest at the best price of the
 // other side, where this is reached.
-fn first_shown(b: &[u32], series: u8, side: u8, price: u32) -> Pick
-    requires { ⌜ (length (now b) ≡ size) × (Right (now b)) × (series < 8) × (isUnmarked (now b) ≡ true) ⌝ }
-    ensures { λ r. ⌜ r ≡ pickOf (first (isMet series side price) priceThenId (venueOf (now (b .entry)) .regular)) ⌝ }
+fn first_shown(numbers: &[u32], series: u8, side: u8, price: u32) -> Pick
+    requires { ⌜ (length (now numbers) ≡ size) × (Right (now numbers)) × (series < 8) × (isUnmarked (now numbers) ≡ true) ⌝ }
+    ensures { λ r. ⌜ r ≡ pickOf (first (isMet series side price) priceThenId (venueOf (now (numbers .entry)) .regular)) ⌝ }
 {
     let other = arithmetic::opposite_of(side);
-    let best = levels::best_regular(b, series, other);
+    let best = levels::best_regular(numbers, series, other);
     if !levels::reaches_any(side, price, best) {
         return Pick::Nobody;
     }
-    first_for(b, series, other, best)
+    first_for(numbers, series, other, best)
 }
 
 // An order of this side and price in a series meets m, its shown size or its reserve.
@@ -139,19 +139,19 @@ fn better_pick(best: Pick, n: usize, m: Regular) -> Pick
 }
 
 // The same where some order may show nothing of what is left of it: the first in rank of all that are met.
-fn first_ranked(b: &[u32], series: u8, side: u8, price: u32) -> Pick
-    requires { ⌜ length (now b) ≡ size ⌝ }
-    ensures { λ r. ⌜ r ≡ pickOf (first (isMet series side price) priceThenId (venueOf (now (b .entry)) .regular)) ⌝ }
+fn first_ranked(numbers: &[u32], series: u8, side: u8, price: u32) -> Pick
+    requires { ⌜ length (now numbers) ≡ size ⌝ }
+    ensures { λ r. ⌜ r ≡ pickOf (first (isMet series side price) priceThenId (venueOf (now (numbers .entry)) .regular)) ⌝ }
 {
     let key = arithmetic::place_of(series, arithmetic::opposite_of(side));
     let mut best = Pick::Nobody;
-    let mut i = places::regulars_used(b);
+    let mut i = places::regulars_used(numbers);
     while 0 < i {
         i -= 1;
-        if places::key_at(b, i) != key {
+        if places::key_at(numbers, i) != key {
             continue;
         }
-        let m = places::regular_at(b, i);
+        let m = places::regular_at(numbers, i);
         if !is_met(m, series, side, price) {
             continue;
         }
@@ -161,26 +161,26 @@ fn first_ranked(b: &[u32], series: u8, side: u8, price: u32) -> Pick
 }
 
 // The regular order that one of this side and price in a series meets first.
-pub fn first_met(b: &[u32], series: u8, side: u8, price: u32) -> Pick
-    requires { ⌜ (length (now b) ≡ size) × (Right (now b)) × (series < 8) ⌝ }
-    ensures { λ r. ⌜ r ≡ pickOf (first (isMet series side price) priceThenId (venueOf (now (b .entry)) .regular)) ⌝ }
+pub fn first_met(numbers: &[u32], series: u8, side: u8, price: u32) -> Pick
+    requires { ⌜ (length (now numbers) ≡ size) × (Right (now numbers)) × (series < 8) ⌝ }
+    ensures { λ r. ⌜ r ≡ pickOf (first (isMet series side price) priceThenId (venueOf (now (numbers .entry)) .regular)) ⌝ }
 {
-    if places::is_unmarked(b) {
-        return first_shown(b, series, side, price);
+    if places::is_unmarked(numbers) {
+        return first_shown(numbers, series, side, price);
     }
-    first_ranked(b, series, side, price)
+    first_ranked(numbers, series, side, price)
 }
 
 // The place of the resting regular order with an id: among the places from `low` to below `high`, where every place is held.
-pub fn regular_place(b: &[u32], id: u32) -> Found
-    requires { ⌜ (length (now b) ≡ size) × (Dense (now b)) ⌝ }
-    ensures { λ r. ⌜ r ≡ regularFound (venueOf (now (b .entry))) id ⌝ }
+pub fn regular_place(numbers: &[u32], id: u32) -> Found
+    requires { ⌜ (length (now numbers) ≡ size) × (Dense (now numbers)) ⌝ }
+    ensures { λ r. ⌜ r ≡ regularFound (venueOf (now (numbers .entry))) id ⌝ }
 {
     let mut low: usize = 0;
-    let mut high = places::regulars_used(b);
+    let mut high = places::regulars_used(numbers);
     while low < high {
         let i = (low + high) / 2;
-        let here = places::regular_id(b, i);
+        let here = places::regular_id(numbers, i);
         if here == id {
             return Found::At(i);
         }
@@ -194,14 +194,14 @@ pub fn regular_place(b: &[u32], id: u32) -> Found
 }
 
 // The place of the resting complex order with an id.
-pub fn complex_place(b: &[u32], id: u32) -> Found
-    requires { ⌜ length (now b) ≡ size ⌝ }
-    ensures { λ r. ⌜ r ≡ complexFound (venueOf (now (b .entry))) id ⌝ }
+pub fn complex_place(numbers: &[u32], id: u32) -> Found
+    requires { ⌜ length (now numbers) ≡ size ⌝ }
+    ensures { λ r. ⌜ r ≡ complexFound (venueOf (now (numbers .entry))) id ⌝ }
 {
-    let n = places::complexes_used(b);
+    let n = places::complexes_used(numbers);
     let mut i = 0;
     while i < n {
-        let c = places::complex_at(b, i);
+        let c = places::complex_at(numbers, i);
         if prices::is_complex_of(c, id) {
             return Found::At(i);
         }

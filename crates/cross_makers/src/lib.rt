@@ -104,9 +104,9 @@ fn respects_legs(taken: Taken, c: Complex, net: i64) -> bool
 }
 
 // The resting order m is a candidate for c.
-pub fn can_cross(b: &[u32], c: Complex, m: Complex) -> bool
-    requires { ⌜ (length (now b) ≡ size) × (Right (now b)) × (LegsIn c) × (LegsIn m) ⌝ }
-    ensures { λ r. ⌜ r ≡ crosses (venueOf (now (b .entry))) c m ⌝ }
+pub fn can_cross(numbers: &[u32], c: Complex, m: Complex) -> bool
+    requires { ⌜ (length (now numbers) ≡ size) × (Right (now numbers)) × (LegsIn c) × (LegsIn m) ⌝ }
+    ensures { λ r. ⌜ r ≡ crosses (venueOf (now (numbers .entry))) c m ⌝ }
 {
     if m.quantity == 0 {
         return false;
@@ -118,13 +118,13 @@ pub fn can_cross(b: &[u32], c: Complex, m: Complex) -> bool
         return false;
     }
     let paid = net_against(m);
-    let by_taker = levels::taken_at(b, c);
-    if !prices::in_band(b, by_taker, c, paid) {
+    let by_taker = levels::taken_at(numbers, c);
+    if !prices::in_band(numbers, by_taker, c, paid) {
         return false;
     }
     let limit = limit_of(m);
-    let by_maker = levels::taken_at(b, m);
-    if !prices::in_band(b, by_maker, m, limit) {
+    let by_maker = levels::taken_at(numbers, m);
+    if !prices::in_band(numbers, by_maker, m, limit) {
         return false;
     }
     if !respects_legs(by_taker, c, paid) {
@@ -183,21 +183,21 @@ fn is_either(key: usize, one: usize, two: usize) -> bool
 }
 
 // The resting order that c crosses with first. Of the others only those whose legs have the key are read.
-pub fn first_cross(b: &[u32], c: Complex) -> Pick
-    requires { ⌜ (length (now b) ≡ size) × (Right (now b)) × (LegsIn c) ⌝ }
-    ensures { λ r. ⌜ pickedOf r ≡ first (crosses (venueOf (now (b .entry))) c) limitThenId (venueOf (now (b .entry)) .complex) ⌝ }
+pub fn first_cross(numbers: &[u32], c: Complex) -> Pick
+    requires { ⌜ (length (now numbers) ≡ size) × (Right (now numbers)) × (LegsIn c) ⌝ }
+    ensures { λ r. ⌜ pickedOf r ≡ first (crosses (venueOf (now (numbers .entry))) c) limitThenId (venueOf (now (numbers .entry)) .complex) ⌝ }
 {
     let straight = facing_key(c.series1, c.side1, c.series2, c.side2);
     let turned = facing_key(c.series2, c.side2, c.series1, c.side1);
     let mut best = Pick::Nobody;
-    let mut i = places::complexes_used(b);
+    let mut i = places::complexes_used(numbers);
     while 0 < i {
         i -= 1;
-        if !is_either(places::legs_at(b, i), straight, turned) {
+        if !is_either(places::legs_at(numbers, i), straight, turned) {
             continue;
         }
-        let m = places::complex_at(b, i);
-        if !can_cross(b, c, m) {
+        let m = places::complex_at(numbers, i);
+        if !can_cross(numbers, c, m) {
             continue;
         }
         best = better_pick(best, i, m);

@@ -23,9 +23,9 @@ pub struct Turn {
 }
 
 // One message more, or what is torn: `head` stands at the position.
-fn advance(t: Turn, head: Head, b: &mut [u32], messages: &[u8], report: &mut [u8]) -> Turn
-    requires { ⌜ (length (now b) ≡ size) × (Dense (now b)) × (SoundAt (suc (t .done)) (venueOf (now b))) × (t .at < length (now messages)) × (t .written ≤ length (now report)) × (head ≡ headAt (now messages) (t .at)) ⌝ }
-    ensures { λ r. ⌜ Turns (now (messages .entry)) t (now (b .entry)) (now (report .entry)) r (now (b .exit)) (now (report .exit)) ⌝ }
+fn advance(t: Turn, head: Head, numbers: &mut [u32], messages: &[u8], report: &mut [u8]) -> Turn
+    requires { ⌜ (length (now numbers) ≡ size) × (Dense (now numbers)) × (SoundAt (suc (t .done)) (venueOf (now numbers))) × (t .at < length (now messages)) × (t .written ≤ length (now report)) × (head ≡ headAt (now messages) (t .at)) ⌝ }
+    ensures { λ r. ⌜ Turns (now (messages .entry)) t (now (numbers .entry)) (now (report .entry)) r (now (numbers .exit)) (now (report .exit)) ⌝ }
 {
     let at = t.at;
     let pos = t.written;
@@ -38,7 +38,7 @@ fn advance(t: Turn, head: Head, b: &mut [u32], messages: &[u8], report: &mut [u8
             written: pos,
         };
     }
-    let r = messages::try_step(b, done + 1, &messages[at..], &mut report[pos..]);
+    let r = messages::try_step(numbers, done + 1, &messages[at..], &mut report[pos..]);
     let written = r.written;
     if report.len() - pos < written {
         return Turn {
@@ -62,7 +62,7 @@ fn advance(t: Turn, head: Head, b: &mut [u32], messages: &[u8], report: &mut [u8
 pub fn run(messages: &[u8], report: &mut [u8]) -> Returned
     ensures { λ r. ⌜ callOf r (now (report .exit)) ≡ calls.run (length (now (report .entry))) (now (messages .entry)) ⌝ }
 {
-    let mut b = venue_numbers::fresh_numbers();
+    let mut numbers = venue_numbers::fresh_numbers();
     let mut t = Turn {
         number: 0,
         done: 0,
@@ -74,13 +74,13 @@ pub fn run(messages: &[u8], report: &mut [u8]) -> Returned
         if let Head::End = head {
             break;
         }
-        t = advance(t, head, &mut b, messages, report);
+        t = advance(t, head, &mut numbers, messages, report);
         if t.number != 0 {
             break;
         }
     }
     records::zero_from(report, t.written);
-    let venue = places::venue_of(&b);
+    let venue = places::venue_of(&numbers);
     Returned {
         number: t.number,
         done: t.done,
@@ -108,23 +108,23 @@ pub fn end_call(number: u8, venue: Venue, report: &mut [u8]) -> Returned
 pub fn one_message(venue: Venue, before: u32, message: &[u8], report: &mut [u8]) -> Returned
     ensures { λ r. ⌜ callOf r (now (report .exit)) ≡ calls.one venue before (length (now (report .entry))) (now (message .entry)) ⌝ }
 {
-    let mut b = [0u32; places::SIZE];
-    if !soundness::load_sound(&mut b, venue) {
+    let mut numbers = [0u32; places::SIZE];
+    if !soundness::load_sound(&mut numbers, venue) {
         return end_call(9, venue, report);
     }
     if before == 4294967295 {
         return end_call(10, venue, report);
     }
-    if !soundness::follows_kept(&b, before + 1) {
+    if !soundness::follows_kept(&numbers, before + 1) {
         return end_call(9, venue, report);
     }
-    let r = messages::step(&mut b, before + 1, message, report);
+    let r = messages::step(&mut numbers, before + 1, message, report);
     let written = r.written;
     if report.len() < written {
         return end_call(10, venue, report);
     }
     records::zero_from(report, written);
-    let after = places::venue_of(&b);
+    let after = places::venue_of(&numbers);
     Returned {
         number: r.refused,
         done: 1,

@@ -36,9 +36,15 @@ fn stop_at(t: Fed, number: u8) -> Fed
 }
 
 // One message more, or what stops it. The lines are not both at their ends.
-fn hand_out<'a>(t: Fed, b: &mut [u32], main: &'a [u8], spare: &'a [u8], report: &mut [u8]) -> Fed
-    requires { ⌜ (length (now b) ≡ size) × (Dense (now b)) × (SoundAt (suc (t .done)) (venueOf (now b))) × (t .written ≤ length (now report)) × (ready (t .done) (drop (t .main) (now main)) ≡ true) × (ready (t .done) (drop (t .spare) (now spare)) ≡ true) × (t .main ≤ length (now main)) × (t .spare ≤ length (now spare)) × (t .main + t .spare < length (now main) + length (now spare)) ⌝ }
-    ensures { λ r. ⌜ Feeds (now (main .entry)) (now (spare .entry)) t (now (b .entry)) (now (report .entry)) r (now (b .exit)) (now (report .exit)) ⌝ }
+fn hand_out<'a>(
+    t: Fed,
+    numbers: &mut [u32],
+    main: &'a [u8],
+    spare: &'a [u8],
+    report: &mut [u8],
+) -> Fed
+    requires { ⌜ (length (now numbers) ≡ size) × (Dense (now numbers)) × (SoundAt (suc (t .done)) (venueOf (now numbers))) × (t .written ≤ length (now report)) × (ready (t .done) (drop (t .main) (now main)) ≡ true) × (ready (t .done) (drop (t .spare) (now spare)) ≡ true) × (t .main ≤ length (now main)) × (t .spare ≤ length (now spare)) × (t .main + t .spare < length (now main) + length (now spare)) ⌝ }
+    ensures { λ r. ⌜ Feeds (now (main .entry)) (now (spare .entry)) t (now (numbers .entry)) (now (report .entry)) r (now (numbers .exit)) (now (report .exit)) ⌝ }
 {
     let at = t.main;
     let other = t.spare;
@@ -50,7 +56,7 @@ fn hand_out<'a>(t: Fed, b: &mut [u32], main: &'a [u8], spare: &'a [u8], report: 
         return stop_at(t, stopped);
     }
     let part = feed::next_part(main, at, spare, other, number);
-    let r = messages::try_step(b, number, part, &mut report[from..]);
+    let r = messages::try_step(numbers, number, part, &mut report[from..]);
     let written = r.written;
     if report.len() - from < written {
         return stop_at(t, 10);

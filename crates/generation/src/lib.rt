@@ -43,11 +43,11 @@ fn as_price(z: i64) -> u64
 }
 
 // A price whose displayed price is from the increment to 100,000; else 0.
-fn ranged(b: &[u32], s: u8, d: u8, p: u64) -> u32
-    requires { ⌜ (length (now b) ≡ size) × (s < 8) × (Figured (now b)) ⌝ }
-    ensures { λ r. ⌜ r ≡ rangedPrice (venueOf (now (b .entry))) s d p ⌝ }
+fn ranged(numbers: &[u32], s: u8, d: u8, p: u64) -> u32
+    requires { ⌜ (length (now numbers) ≡ size) × (s < 8) × (Figured (now numbers)) ⌝ }
+    ensures { λ r. ⌜ r ≡ rangedPrice (venueOf (now (numbers .entry))) s d p ⌝ }
 {
-    let increment = prices::increment_of(b, s);
+    let increment = prices::increment_of(numbers, s);
     if 100254 < p {
         return 0;
     }
@@ -63,55 +63,55 @@ fn ranged(b: &[u32], s: u8, d: u8, p: u64) -> u32
 }
 
 // The price of the leg of c at side d of series s: sign × (N - the other leg's sign × its clear price); 0 where there is none in range.
-pub fn leg_price(b: &[u32], taken: Taken, c: Complex, s: u8, d: u8) -> u32
-    requires { ⌜ (length (now b) ≡ size) × (TakenOf taken c (venueOf (now b) .regular)) × (LegsIn c) × (s < 8) × (Figured (now b)) ⌝ }
-    ensures { λ r. ⌜ r ≡ pricedLeg (venueOf (now (b .entry))) c s d ⌝ }
+pub fn leg_price(numbers: &[u32], taken: Taken, c: Complex, s: u8, d: u8) -> u32
+    requires { ⌜ (length (now numbers) ≡ size) × (TakenOf taken c (venueOf (now numbers) .regular)) × (LegsIn c) × (s < 8) × (Figured (now numbers)) ⌝ }
+    ensures { λ r. ⌜ r ≡ pricedLeg (venueOf (now (numbers .entry))) c s d ⌝ }
 {
-    let clear = settling::other_clear(b, taken, c, s);
+    let clear = settling::other_clear(numbers, taken, c, s);
     if clear == 0 {
         return 0;
     }
     let other = prices::other_leg(c, s);
     let limit = limit_of(c);
     let price = arithmetic::signed_price(other.side, clear);
-    ranged(b, s, d, as_price(signed_of(d, limit - price)))
+    ranged(numbers, s, d, as_price(signed_of(d, limit - price)))
 }
 
 // c is one to one, both its series are open, and N is in band.
-fn may_generate(b: &[u32], taken: Taken, c: Complex) -> bool
-    requires { ⌜ (length (now b) ≡ size) × (TakenOf taken c (venueOf (now b) .regular)) × (LegsIn c) × (Figured (now b)) ⌝ }
-    ensures { λ r. ⌜ r ≡ mayGenerate (venueOf (now (b .entry))) c ⌝ }
+fn may_generate(numbers: &[u32], taken: Taken, c: Complex) -> bool
+    requires { ⌜ (length (now numbers) ≡ size) × (TakenOf taken c (venueOf (now numbers) .regular)) × (LegsIn c) × (Figured (now numbers)) ⌝ }
+    ensures { λ r. ⌜ r ≡ mayGenerate (venueOf (now (numbers .entry))) c ⌝ }
 {
     if !wire::is_one_to_one(c) {
         return false;
     }
-    if !prices::both_open(b, c) {
+    if !prices::both_open(numbers, c) {
         return false;
     }
-    prices::in_band(b, taken, c, limit_of(c))
+    prices::in_band(numbers, taken, c, limit_of(c))
 }
 
 // A price p at side d of series s is no worse than own, the best regular of its side, and reaches nothing opposite; facing is the best regular there.
-fn stands_clear(b: &[u32], own: u32, facing: u32, s: u8, d: u8, p: u32) -> bool
-    requires { ⌜ (length (now b) ≡ size) × (own ≡ bestRegular (venueOf (now b)) s d) × (facing ≡ bestRegular (venueOf (now b)) s (opposite d)) × (s < 8) × (Figured (now b)) ⌝ }
-    ensures { λ r. ⌜ r ≡ standsClear (venueOf (now (b .entry))) s d p ⌝ }
+fn stands_clear(numbers: &[u32], own: u32, facing: u32, s: u8, d: u8, p: u32) -> bool
+    requires { ⌜ (length (now numbers) ≡ size) × (own ≡ bestRegular (venueOf (now numbers)) s d) × (facing ≡ bestRegular (venueOf (now numbers)) s (opposite d)) × (s < 8) × (Figured (now numbers)) ⌝ }
+    ensures { λ r. ⌜ r ≡ standsClear (venueOf (now (numbers .entry))) s d p ⌝ }
 {
-    if !settling::shown_well(b, own, s, d, p) {
+    if !settling::shown_well(numbers, own, s, d, p) {
         return false;
     }
     let f = arithmetic::opposite_of(d);
-    if levels::reaches_any(d, p, prices::best_own(b, facing, s, f)) {
+    if levels::reaches_any(d, p, prices::best_own(numbers, facing, s, f)) {
         return false;
     }
-    !levels::reaches_any(d, p, prices::away_price(b, s, f))
+    !levels::reaches_any(d, p, prices::away_price(numbers, s, f))
 }
 
 // What stands at side d of series s gives way to c at price p: it is worse, or of class 1 at an equal price while c is of class 0.
-pub fn gives_way(b: &[u32], c: Complex, s: u8, d: u8, p: u32) -> bool
-    requires { ⌜ (length (now b) ≡ size) × (s < 8) × (d < 2) ⌝ }
-    ensures { λ r. ⌜ r ≡ givesWay (venueOf (now (b .entry))) c d p (leggingAt (venueOf (now (b .entry))) s d) ⌝ }
+pub fn gives_way(numbers: &[u32], c: Complex, s: u8, d: u8, p: u32) -> bool
+    requires { ⌜ (length (now numbers) ≡ size) × (s < 8) × (d < 2) ⌝ }
+    ensures { λ r. ⌜ r ≡ givesWay (venueOf (now (numbers .entry))) c d p (leggingAt (venueOf (now (numbers .entry))) s d) ⌝ }
 {
-    let own = prices::own_price(b, s, d);
+    let own = prices::own_price(numbers, s, d);
     if levels::is_better(d, p, own) {
         return true;
     }
@@ -121,19 +121,22 @@ pub fn gives_way(b: &[u32], c: Complex, s: u8, d: u8, p: u32) -> bool
     if c.class != 0 {
         return false;
     }
-    let holder = prices::parent_of(b, places::legging_at(b, arithmetic::place_of(s, d)));
+    let holder = prices::parent_of(
+        numbers,
+        places::legging_at(numbers, arithmetic::place_of(s, d)),
+    );
     holder.class == 1
 }
 
 // All that is asked of a legging order of c at price p but that the others stand, and the ceiling; c may generate.
-fn may_stand(b: &[u32], sides: LegSides, c: Complex, s: u8, d: u8, p: u32) -> bool
-    requires { ⌜ (length (now b) ≡ size) × (SidesOf sides c s d (venueOf (now b) .regular)) × (LegsIn c) × (s < 8) × (d < 2) × (mayGenerate (venueOf (now b)) c ≡ true) × (Figured (now b)) ⌝ }
-    ensures { λ r. ⌜ r ≡ mayStand (venueOf (now (b .entry))) c s d p ⌝ }
+fn may_stand(numbers: &[u32], sides: LegSides, c: Complex, s: u8, d: u8, p: u32) -> bool
+    requires { ⌜ (length (now numbers) ≡ size) × (SidesOf sides c s d (venueOf (now numbers) .regular)) × (LegsIn c) × (s < 8) × (d < 2) × (mayGenerate (venueOf (now numbers)) c ≡ true) × (Figured (now numbers)) ⌝ }
+    ensures { λ r. ⌜ r ≡ mayStand (venueOf (now (numbers .entry))) c s d p ⌝ }
 {
-    if !stands_clear(b, sides.own, sides.facing, s, d, p) {
+    if !stands_clear(numbers, sides.own, sides.facing, s, d, p) {
         return false;
     }
-    gives_way(b, c, s, d, p)
+    gives_way(numbers, c, s, d, p)
 }
 
 // The lesser of an order's open quantity and the size at the other leg's clear price.
@@ -149,37 +152,37 @@ fn leg_quantity(taken: Taken, c: Complex, s: u8) -> u32
 }
 
 // With l at place n every other legging order passes its test; the grid is of the regular orders alone. The venue is left as it was.
-fn others_stand_with(b: &mut [u32], n: usize, l: Legging) -> bool
-    requires { ⌜ (length (now b) ≡ size) × (Right (now b)) × (n < 16) ⌝ }
-    ensures { λ r. ⌜ r ≡ othersStand (placed n l (venueOf (now (b .entry)))) n 0 (placed n l (venueOf (now (b .entry))) .legging) ⌝ }
-    ensures kept { λ r. ⌜ venueOf (now (b .exit)) ≡ venueOf (now (b .entry)) ⌝ }
-    ensures counts { λ r. ⌜ SameCounts (now (b .entry)) (now (b .exit)) ⌝ }
+fn others_stand_with(numbers: &mut [u32], n: usize, l: Legging) -> bool
+    requires { ⌜ (length (now numbers) ≡ size) × (Right (now numbers)) × (n < 16) ⌝ }
+    ensures { λ r. ⌜ r ≡ othersStand (placed n l (venueOf (now (numbers .entry)))) n 0 (placed n l (venueOf (now (numbers .entry))) .legging) ⌝ }
+    ensures kept { λ r. ⌜ venueOf (now (numbers .exit)) ≡ venueOf (now (numbers .entry)) ⌝ }
+    ensures counts { λ r. ⌜ SameCounts (now (numbers .entry)) (now (numbers .exit)) ⌝ }
 {
-    let g = levels::levels(b);
-    let old = places::legging_at(b, n);
-    place_writes::put_legging(b, n, l);
-    let stand = settling::others_stand(b, g, n);
-    place_writes::put_legging(b, n, old);
+    let g = levels::levels(numbers);
+    let old = places::legging_at(numbers, n);
+    place_writes::put_legging(numbers, n, l);
+    let stand = settling::others_stand(numbers, g, n);
+    place_writes::put_legging(numbers, n, old);
     stand
 }
 
 // The legging order of the leg of c at side d of series s, where it may stand; else a free place. c has open quantity, and may generate.
-fn plan_leg(b: &[u32], c: Complex, s: u8, d: u8) -> Legging
-    requires { ⌜ (length (now b) ≡ size) × (Right (now b)) × (LegsIn c) × (s < 8) × (d < 2) × (0 < c .quantity) × (mayGenerate (venueOf (now b)) c ≡ true) ⌝ }
-    ensures { λ r. ⌜ r ≡ plannedLeg (venueOf (now (b .entry))) c s d ⌝ }
+fn plan_leg(numbers: &[u32], c: Complex, s: u8, d: u8) -> Legging
+    requires { ⌜ (length (now numbers) ≡ size) × (Right (now numbers)) × (LegsIn c) × (s < 8) × (d < 2) × (0 < c .quantity) × (mayGenerate (venueOf (now numbers)) c ≡ true) ⌝ }
+    ensures { λ r. ⌜ r ≡ plannedLeg (venueOf (now (numbers .entry))) c s d ⌝ }
 {
     let none = Legging {
         parent: 0,
         price: 0,
         quantity: 0,
     };
-    let sides = levels::sides_at(b, c, s, d);
+    let sides = levels::sides_at(numbers, c, s, d);
     let taken = sides.taken;
-    let price = leg_price(b, taken, c, s, d);
+    let price = leg_price(numbers, taken, c, s, d);
     if price == 0 {
         return none;
     }
-    if !may_stand(b, sides, c, s, d, price) {
+    if !may_stand(numbers, sides, c, s, d, price) {
         return none;
     }
     let quantity = leg_quantity(taken, c, s);
@@ -191,11 +194,11 @@ fn plan_leg(b: &[u32], c: Complex, s: u8, d: u8) -> Legging
 }
 
 // The ceiling allows one more in series s to the message of this number: the oldest of the last 20 is none, or it was 256 messages before or more.
-fn is_under_ceiling(b: &[u32], number: u32, s: u8) -> bool
-    requires { ⌜ (length (now b) ≡ size) × (s < 8) ⌝ }
-    ensures { λ r. ⌜ r ≡ underCeiling number (generationsOf (venueOf (now (b .entry))) s) ⌝ }
+fn is_under_ceiling(numbers: &[u32], number: u32, s: u8) -> bool
+    requires { ⌜ (length (now numbers) ≡ size) × (s < 8) ⌝ }
+    ensures { λ r. ⌜ r ≡ underCeiling number (generationsOf (venueOf (now (numbers .entry))) s) ⌝ }
 {
-    let oldest = places::oldest_at(b, s as usize);
+    let oldest = places::oldest_at(numbers, s as usize);
     if oldest == 0 {
         return true;
     }
@@ -204,7 +207,7 @@ fn is_under_ceiling(b: &[u32], number: u32, s: u8) -> bool
 
 // The holder of the place goes, and then l is put there and counted in its series.
 fn make_leg(
-    b: &mut [u32],
+    numbers: &mut [u32],
     number: u32,
     id: u32,
     s: u8,
@@ -213,21 +216,21 @@ fn make_leg(
     out: &mut [u8],
     at: usize,
 ) -> usize
-    requires { ⌜ (length (now b) ≡ size) × (s < 8) × (d < 2) × (displayed (increment (venueOf (now b)) s) d (l .price) ≤ 100000) × (Figured (now b)) ⌝ }
-    ensures { λ r. ⌜ stage (venueOf (now (b .exit))) (now (out .exit)) r ≡ seen (now (out .entry)) at does madeBy number id s d l (venueOf (now (b .entry))) ⌝ }
-    ensures counts { λ r. ⌜ SameCounts (now (b .entry)) (now (b .exit)) ⌝ }
+    requires { ⌜ (length (now numbers) ≡ size) × (s < 8) × (d < 2) × (displayed (increment (venueOf (now numbers)) s) d (l .price) ≤ 100000) × (Figured (now numbers)) ⌝ }
+    ensures { λ r. ⌜ stage (venueOf (now (numbers .exit))) (now (out .exit)) r ≡ seen (now (out .entry)) at does madeBy number id s d l (venueOf (now (numbers .entry))) ⌝ }
+    ensures counts { λ r. ⌜ SameCounts (now (numbers .entry)) (now (numbers .exit)) ⌝ }
 {
-    let shown = settling::shown_price(b, s, d, l.price) as u32;
+    let shown = settling::shown_price(numbers, s, d, l.price) as u32;
     let place = arithmetic::place_of(s, d);
-    let pos = removal::remove_at(b, place, place, Cause::Replaced, out, at);
-    place_writes::put_legging(b, place, l);
-    place_writes::count_generation(b, s as usize, number);
+    let pos = removal::remove_at(numbers, place, place, Cause::Replaced, out, at);
+    place_writes::put_legging(numbers, place, l);
+    place_writes::count_generation(numbers, s as usize, number);
     records::emit_generated(out, pos, id, s, d, l.price, shown, l.quantity)
 }
 
 // The legging order of a leg of c, made where every condition holds. Those that no leg changes are tested before.
 pub fn generate_leg(
-    b: &mut [u32],
+    numbers: &mut [u32],
     number: u32,
     c: Complex,
     s: u8,
@@ -235,39 +238,45 @@ pub fn generate_leg(
     out: &mut [u8],
     at: usize,
 ) -> usize
-    requires { ⌜ (length (now b) ≡ size) × (Right (now b)) × (LegsIn c) × (s < 8) × (d < 2) × (0 < c .quantity) × (mayGenerate (venueOf (now b)) c ≡ true) ⌝ }
-    ensures { λ r. ⌜ stage (venueOf (now (b .exit))) (now (out .exit)) r ≡ seen (now (out .entry)) at does generateLeg number c s d (venueOf (now (b .entry))) ⌝ }
-    ensures counts { λ r. ⌜ SameCounts (now (b .entry)) (now (b .exit)) ⌝ }
+    requires { ⌜ (length (now numbers) ≡ size) × (Right (now numbers)) × (LegsIn c) × (s < 8) × (d < 2) × (0 < c .quantity) × (mayGenerate (venueOf (now numbers)) c ≡ true) ⌝ }
+    ensures { λ r. ⌜ stage (venueOf (now (numbers .exit))) (now (out .exit)) r ≡ seen (now (out .entry)) at does generateLeg number c s d (venueOf (now (numbers .entry))) ⌝ }
+    ensures counts { λ r. ⌜ SameCounts (now (numbers .entry)) (now (numbers .exit)) ⌝ }
 {
-    let l = plan_leg(b, c, s, d);
+    let l = plan_leg(numbers, c, s, d);
     if l.price == 0 {
         return at;
     }
-    if !others_stand_with(b, arithmetic::place_of(s, d), l) {
+    if !others_stand_with(numbers, arithmetic::place_of(s, d), l) {
         return at;
     }
-    if !is_under_ceiling(b, number, s) {
+    if !is_under_ceiling(numbers, number, s) {
         return at;
     }
-    make_leg(b, number, c.id, s, d, l, out, at)
+    make_leg(numbers, number, c.id, s, d, l, out, at)
 }
 
 // Generation for the first leg and then the second of the order at place i. No legging order changes whether it may.
-pub fn generate_order(b: &mut [u32], number: u32, i: usize, out: &mut [u8], at: usize) -> usize
-    requires { ⌜ (length (now b) ≡ size) × (Right (now b)) ⌝ }
-    ensures { λ r. ⌜ stage (venueOf (now (b .exit))) (now (out .exit)) r ≡ seen (now (out .entry)) at does generate number i (venueOf (now (b .entry))) ⌝ }
-    ensures counts { λ r. ⌜ SameCounts (now (b .entry)) (now (b .exit)) ⌝ }
+pub fn generate_order(
+    numbers: &mut [u32],
+    number: u32,
+    i: usize,
+    out: &mut [u8],
+    at: usize,
+) -> usize
+    requires { ⌜ (length (now numbers) ≡ size) × (Right (now numbers)) ⌝ }
+    ensures { λ r. ⌜ stage (venueOf (now (numbers .exit))) (now (out .exit)) r ≡ seen (now (out .entry)) at does generate number i (venueOf (now (numbers .entry))) ⌝ }
+    ensures counts { λ r. ⌜ SameCounts (now (numbers .entry)) (now (numbers .exit)) ⌝ }
 {
-    if places::complexes_used(b) <= i {
+    if places::complexes_used(numbers) <= i {
         return at;
     }
-    let c = places::complex_at(b, i);
+    let c = places::complex_at(numbers, i);
     if c.quantity == 0 {
         return at;
     }
-    if !may_generate(b, levels::taken_at(b, c), c) {
+    if !may_generate(numbers, levels::taken_at(numbers, c), c) {
         return at;
     }
-    let pos = generate_leg(b, number, c, c.series1, c.side1, out, at);
-    generate_leg(b, number, c, c.series2, c.side2, out, pos)
+    let pos = generate_leg(numbers, number, c, c.series1, c.side1, out, at);
+    generate_leg(numbers, number, c, c.series2, c.side2, out, pos)
 }

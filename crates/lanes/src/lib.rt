@@ -72,8 +72,8 @@ fn lane_sound(lane: &[u8], v: usize, but: usize) -> bool
     let end = VENUE;
     let venue = venue_bytes::venue_from(&lane[..end]);
     let before = wire::u32_at(lane, DONE);
-    let mut b = [0u32; NUMBERS];
-    soundness::load_ready(&mut b, venue, before)
+    let mut numbers = [0u32; NUMBERS];
+    soundness::load_ready(&mut numbers, venue, before)
 }
 
 // No figure of the layer is out of range, and no venue but one gets 9; with 4, none.

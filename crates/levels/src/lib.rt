@@ -107,84 +107,84 @@ fn with_order(l: Level, o: Regular) -> Level
 }
 
 // The level of one series and side, in one pass over its orders.
-fn level_of(b: &[u32], s: u8, d: u8) -> Level
-    requires { ⌜ (length (now b) ≡ size) × (s < 8) × (d < 2) ⌝ }
-    ensures { λ r. ⌜ r ≡ levelOf s d (venueOf (now (b .entry)) .regular) ⌝ }
+fn level_of(numbers: &[u32], s: u8, d: u8) -> Level
+    requires { ⌜ (length (now numbers) ≡ size) × (s < 8) × (d < 2) ⌝ }
+    ensures { λ r. ⌜ r ≡ levelOf s d (venueOf (now (numbers .entry)) .regular) ⌝ }
 {
     let key = arithmetic::place_of(s, d);
     let mut l = Level { price: 0, size: 0 };
-    let mut i = places::regulars_used(b);
+    let mut i = places::regulars_used(numbers);
     while 0 < i {
         i -= 1;
-        if places::key_at(b, i) != key {
+        if places::key_at(numbers, i) != key {
             continue;
         }
-        let o = places::regular_at(b, i);
+        let o = places::regular_at(numbers, i);
         l = with_order(l, o);
     }
     l
 }
 
 // No side has a level.
-fn clear_levels(b: &mut [u32])
-    requires { ⌜ length (now b) ≡ size ⌝ }
-    ensures { λ _. ⌜ LevelsPut (λ _. noLevel) (now (b .entry)) (now (b .exit)) ⌝ }
+fn clear_levels(numbers: &mut [u32])
+    requires { ⌜ length (now numbers) ≡ size ⌝ }
+    ensures { λ _. ⌜ LevelsPut (λ _. noLevel) (now (numbers .entry)) (now (numbers .exit)) ⌝ }
 {
     let none = Level { price: 0, size: 0 };
     let mut n: usize = 0;
     while n < 16 {
-        place_writes::put_level(b, n, none);
+        place_writes::put_level(numbers, n, none);
         n += 1;
     }
 }
 
 // The levels of all series and sides, in one pass over the places in use.
-fn make_levels(b: &mut [u32])
-    requires { ⌜ length (now b) ≡ size ⌝ }
-    ensures { λ _. ⌜ LevelsPut (levelBy (venueOf (now (b .entry)) .regular)) (now (b .entry)) (now (b .exit)) ⌝ }
+fn make_levels(numbers: &mut [u32])
+    requires { ⌜ length (now numbers) ≡ size ⌝ }
+    ensures { λ _. ⌜ LevelsPut (levelBy (venueOf (now (numbers .entry)) .regular)) (now (numbers .entry)) (now (numbers .exit)) ⌝ }
 {
-    clear_levels(b);
-    let mut i = places::regulars_used(b);
+    clear_levels(numbers);
+    let mut i = places::regulars_used(numbers);
     while 0 < i {
         i -= 1;
-        let o = places::regular_at(b, i);
-        let n = places::key_at(b, i);
-        let l = places::level_at(b, n);
-        place_writes::put_level(b, n, with_order(l, o));
+        let o = places::regular_at(numbers, i);
+        let n = places::key_at(numbers, i);
+        let l = places::level_at(numbers, n);
+        place_writes::put_level(numbers, n, with_order(l, o));
     }
 }
 
 // A venue's numbers, with its levels.
-pub fn load(b: &mut [u32], v: Venue)
-    requires { ⌜ (length (now b) ≡ size) × Loadable v ⌝ }
-    ensures { λ _. ⌜ Loaded v (now (b .exit)) ⌝ }
+pub fn load(numbers: &mut [u32], v: Venue)
+    requires { ⌜ (length (now numbers) ≡ size) × Loadable v ⌝ }
+    ensures { λ _. ⌜ Loaded v (now (numbers .exit)) ⌝ }
 {
-    venue_numbers::load(b, v);
-    make_levels(b);
+    venue_numbers::load(numbers, v);
+    make_levels(numbers);
 }
 
 // An order is given the place after those in use.
-pub fn add_order(b: &mut [u32], o: Regular)
-    requires { ⌜ (length (now b) ≡ size) × (Right (now b)) × (regularsUsed (now b) < 128) × (o .series < 8) × (o .side < 2) × (held (o .price) ≡ true) × (Below (o .id) (venueOf (now b) .regular)) × (held (o .display) ≡ true) × (o .display ≤ o .quantity) × (showsFully o ≡ true) ⌝ }
-    ensures { λ _. ⌜ venueOf (now (b .exit)) ≡ putRegular (regularsUsed (now (b .entry))) o (venueOf (now (b .entry))) ⌝ }
-    ensures counts { λ _. ⌜ Counts (suc (regularsUsed (now (b .entry)))) (complexesUsed (now (b .entry))) (now (b .entry)) (now (b .exit)) ⌝ }
+pub fn add_order(numbers: &mut [u32], o: Regular)
+    requires { ⌜ (length (now numbers) ≡ size) × (Right (now numbers)) × (regularsUsed (now numbers) < 128) × (o .series < 8) × (o .side < 2) × (held (o .price) ≡ true) × (Below (o .id) (venueOf (now numbers) .regular)) × (held (o .display) ≡ true) × (o .display ≤ o .quantity) × (showsFully o ≡ true) ⌝ }
+    ensures { λ _. ⌜ venueOf (now (numbers .exit)) ≡ putRegular (regularsUsed (now (numbers .entry))) o (venueOf (now (numbers .entry))) ⌝ }
+    ensures counts { λ _. ⌜ Counts (suc (regularsUsed (now (numbers .entry)))) (complexesUsed (now (numbers .entry))) (now (numbers .entry)) (now (numbers .exit)) ⌝ }
 {
     let n = arithmetic::place_of(o.series, o.side);
-    let l = places::level_at(b, n);
-    place_writes::add_regular(b, o);
-    place_writes::put_level(b, n, with_order(l, o));
+    let l = places::level_at(numbers, n);
+    place_writes::add_regular(numbers, o);
+    place_writes::put_level(numbers, n, with_order(l, o));
 }
 
 // The order at place i is filled for k contracts, what it shows first.
-pub fn fill_order(b: &mut [u32], i: usize, k: u32)
-    requires { ⌜ (length (now b) ≡ size) × (i < regularsUsed (now b)) ⌝ }
-    ensures { λ _. ⌜ venueOf (now (b .exit)) ≡ fillRegular i k (venueOf (now (b .entry))) ⌝ }
-    ensures counts { λ _. ⌜ SameCounts (now (b .entry)) (now (b .exit)) ⌝ }
+pub fn fill_order(numbers: &mut [u32], i: usize, k: u32)
+    requires { ⌜ (length (now numbers) ≡ size) × (i < regularsUsed (now numbers)) ⌝ }
+    ensures { λ _. ⌜ venueOf (now (numbers .exit)) ≡ fillRegular i k (venueOf (now (numbers .entry))) ⌝ }
+    ensures counts { λ _. ⌜ SameCounts (now (numbers .entry)) (now (numbers .exit)) ⌝ }
 {
-    let o = places::regular_at(b, i);
-    let n = places::key_at(b, i);
-    let l = places::level_at(b, n);
-    place_writes::fill_regular(b, i, k);
+    let o = places::regular_at(numbers, i);
+    let n = places::key_at(numbers, i);
+    let l = places::level_at(numbers, n);
+    place_writes::fill_regular(numbers, i, k);
     if o.price != l.price {
         return;
     }
@@ -195,48 +195,48 @@ pub fn fill_order(b: &mut [u32], i: usize, k: u32)
             price: l.price,
             size: l.size - gone,
         };
-        place_writes::put_level(b, n, rest);
+        place_writes::put_level(numbers, n, rest);
         return;
     }
-    let anew = level_of(b, o.series, o.side);
-    place_writes::put_level(b, n, anew);
+    let anew = level_of(numbers, o.series, o.side);
+    place_writes::put_level(numbers, n, anew);
 }
 
 // Each order shows again. Without the mark each already shows what it should.
-pub fn show_again(b: &mut [u32])
-    requires { ⌜ (length (now b) ≡ size) × (Right (now b)) ⌝ }
-    ensures { λ _. ⌜ venueOf (now (b .exit)) ≡ showAgain (venueOf (now (b .entry))) ⌝ }
-    ensures counts { λ _. ⌜ SameCounts (now (b .entry)) (now (b .exit)) ⌝ }
+pub fn show_again(numbers: &mut [u32])
+    requires { ⌜ (length (now numbers) ≡ size) × (Right (now numbers)) ⌝ }
+    ensures { λ _. ⌜ venueOf (now (numbers .exit)) ≡ showAgain (venueOf (now (numbers .entry))) ⌝ }
+    ensures counts { λ _. ⌜ SameCounts (now (numbers .entry)) (now (numbers .exit)) ⌝ }
 {
-    if places::is_unmarked(b) {
+    if places::is_unmarked(numbers) {
         return;
     }
-    place_writes::show_again(b);
-    make_levels(b);
+    place_writes::show_again(numbers);
+    make_levels(numbers);
 }
 
 // Prices of a side ----------------------------------------------------------------------------
 
 // The best regular price of a series and side.
-pub fn best_regular(b: &[u32], s: u8, d: u8) -> u32
-    requires { ⌜ (length (now b) ≡ size) × (Right (now b)) × (s < 8) × (d < 2) ⌝ }
-    ensures { λ r. ⌜ r ≡ bestRegular (venueOf (now (b .entry))) s d ⌝ }
+pub fn best_regular(numbers: &[u32], s: u8, d: u8) -> u32
+    requires { ⌜ (length (now numbers) ≡ size) × (Right (now numbers)) × (s < 8) × (d < 2) ⌝ }
+    ensures { λ r. ⌜ r ≡ bestRegular (venueOf (now (numbers .entry))) s d ⌝ }
 {
-    let l = places::level_at(b, arithmetic::place_of(s, d));
+    let l = places::level_at(numbers, arithmetic::place_of(s, d));
     l.price
 }
 
 // The levels of all series and sides, in one pass.
-pub fn levels(b: &[u32]) -> [[Level; 2]; 8]
-    requires { ⌜ (length (now b) ≡ size) × (Right (now b)) ⌝ }
-    ensures { λ r. ⌜ GridOf r (venueOf (now (b .entry)) .regular) ⌝ }
+pub fn levels(numbers: &[u32]) -> [[Level; 2]; 8]
+    requires { ⌜ (length (now numbers) ≡ size) × (Right (now numbers)) ⌝ }
+    ensures { λ r. ⌜ GridOf r (venueOf (now (numbers .entry)) .regular) ⌝ }
 {
     let none = Level { price: 0, size: 0 };
     let mut g = [[none; 2]; 8];
     let mut s: usize = 0;
     while s < 8 {
-        let bids = places::level_at(b, 2 * s);
-        let offers = places::level_at(b, 2 * s + 1);
+        let bids = places::level_at(numbers, 2 * s);
+        let offers = places::level_at(numbers, 2 * s + 1);
         g[s][0] = bids;
         g[s][1] = offers;
         s += 1;
@@ -258,28 +258,28 @@ pub struct LegSides {
 }
 
 // The levels that the legs of c take.
-pub fn taken_at(b: &[u32], c: Complex) -> Taken
-    requires { ⌜ (length (now b) ≡ size) × (Right (now b)) × (LegsIn c) ⌝ }
-    ensures { λ r. ⌜ TakenOf r c (venueOf (now (b .entry)) .regular) ⌝ }
+pub fn taken_at(numbers: &[u32], c: Complex) -> Taken
+    requires { ⌜ (length (now numbers) ≡ size) × (Right (now numbers)) × (LegsIn c) ⌝ }
+    ensures { λ r. ⌜ TakenOf r c (venueOf (now (numbers .entry)) .regular) ⌝ }
 {
     let first = places::level_at(
-        b,
+        numbers,
         arithmetic::place_of(c.series1, arithmetic::opposite_of(c.side1)),
     );
     let second = places::level_at(
-        b,
+        numbers,
         arithmetic::place_of(c.series2, arithmetic::opposite_of(c.side2)),
     );
     Taken { first, second }
 }
 
 // What the test of the leg of c at side d of series s asks of the regular orders.
-pub fn sides_at(b: &[u32], c: Complex, s: u8, d: u8) -> LegSides
-    requires { ⌜ (length (now b) ≡ size) × (Right (now b)) × (LegsIn c) × (s < 8) × (d < 2) ⌝ }
-    ensures { λ r. ⌜ SidesOf r c s d (venueOf (now (b .entry)) .regular) ⌝ }
+pub fn sides_at(numbers: &[u32], c: Complex, s: u8, d: u8) -> LegSides
+    requires { ⌜ (length (now numbers) ≡ size) × (Right (now numbers)) × (LegsIn c) × (s < 8) × (d < 2) ⌝ }
+    ensures { λ r. ⌜ SidesOf r c s d (venueOf (now (numbers .entry)) .regular) ⌝ }
 {
-    let own = best_regular(b, s, d);
-    let facing = best_regular(b, s, arithmetic::opposite_of(d));
-    let taken = taken_at(b, c);
+    let own = best_regular(numbers, s, d);
+    let facing = best_regular(numbers, s, arithmetic::opposite_of(d));
+    let taken = taken_at(numbers, c);
     LegSides { own, facing, taken }
 }

@@ -51,12 +51,12 @@ fn legging_first(o: Regular, l: Legging, p: u32) -> bool
 }
 
 // The legging order that one of a side in a series faces.
-fn facing(b: &[u32], series: u8, side: u8) -> Legging
-    requires { ⌜ (length (now b) ≡ size) × (series < 8) ⌝ }
-    ensures { λ r. ⌜ r ≡ leggingAt (venueOf (now (b .entry))) series (opposite side) ⌝ }
+fn facing(numbers: &[u32], series: u8, side: u8) -> Legging
+    requires { ⌜ (length (now numbers) ≡ size) × (series < 8) ⌝ }
+    ensures { λ r. ⌜ r ≡ leggingAt (venueOf (now (numbers .entry))) series (opposite side) ⌝ }
 {
     let n = arithmetic::place_of(series, arithmetic::opposite_of(side));
-    places::legging_at(b, n)
+    places::legging_at(numbers, n)
 }
 
 // What of the resting order m is traded at once: what it shows; its reserve when that is gone.
@@ -71,16 +71,16 @@ fn at_once(m: Regular) -> u32
 }
 
 // What the order at place i does next.
-fn decide(b: &[u32], i: usize) -> Plan
-    requires { ⌜ (length (now b) ≡ size) × (i < regularsUsed (now b)) × (Right (now b)) ⌝ }
-    ensures { λ r. ⌜ (turnOf i (venueOf (now (b .entry))) r ≡ meetTurn i (venueOf (now (b .entry)))) × InUse (regularsUsed (now (b .entry))) r ⌝ }
+fn decide(numbers: &[u32], i: usize) -> Plan
+    requires { ⌜ (length (now numbers) ≡ size) × (i < regularsUsed (now numbers)) × (Right (now numbers)) ⌝ }
+    ensures { λ r. ⌜ (turnOf i (venueOf (now (numbers .entry))) r ≡ meetTurn i (venueOf (now (numbers .entry)))) × InUse (regularsUsed (now (numbers .entry))) r ⌝ }
 {
-    let o = places::regular_at(b, i);
+    let o = places::regular_at(numbers, i);
     if o.quantity == 0 {
         return Plan::Ended;
     }
-    let l = facing(b, o.series, o.side);
-    let found = book::first_met(b, o.series, o.side, o.price);
+    let l = facing(numbers, o.series, o.side);
+    let found = book::first_met(numbers, o.series, o.side, o.price);
     match found {
         Pick::Nobody => {
             if legging_first(o, l, 0) {
@@ -98,26 +98,26 @@ fn decide(b: &[u32], i: usize) -> Plan
 }
 
 // The order at place i meets the other side, in at most `quantity` turns.
-pub fn meet_all(b: &mut [u32], i: usize, quantity: u32, out: &mut [u8], at: usize) -> usize
-    requires { ⌜ (length (now b) ≡ size) × (i < regularsUsed (now b)) × (Right (now b)) ⌝ }
-    ensures { λ r. ⌜ stage (venueOf (now (b .exit))) (now (out .exit)) r ≡ seen (now (out .entry)) at does repeat quantity (meetTurn i) (venueOf (now (b .entry))) ⌝ }
-    ensures counts { λ _. ⌜ SameCounts (now (b .entry)) (now (b .exit)) ⌝ }
+pub fn meet_all(numbers: &mut [u32], i: usize, quantity: u32, out: &mut [u8], at: usize) -> usize
+    requires { ⌜ (length (now numbers) ≡ size) × (i < regularsUsed (now numbers)) × (Right (now numbers)) ⌝ }
+    ensures { λ r. ⌜ stage (venueOf (now (numbers .exit))) (now (out .exit)) r ≡ seen (now (out .entry)) at does repeat quantity (meetTurn i) (venueOf (now (numbers .entry))) ⌝ }
+    ensures counts { λ _. ⌜ SameCounts (now (numbers .entry)) (now (numbers .exit)) ⌝ }
 {
     let mut pos = at;
     let mut turns = quantity;
     while 0 < turns {
         turns -= 1;
-        let plan = decide(b, i);
+        let plan = decide(numbers, i);
         match plan {
             Plan::Ended => {
                 return pos;
             }
             Plan::Hit(l, k) => {
-                pos = trades::hit(b, i, l, k, out, pos);
+                pos = trades::hit(numbers, i, l, k, out, pos);
                 continue;
             }
             Plan::Meet(j, k) => {
-                pos = trades::meet(b, i, j, k, out, pos);
+                pos = trades::meet(numbers, i, j, k, out, pos);
                 continue;
             }
         }
@@ -126,12 +126,12 @@ pub fn meet_all(b: &mut [u32], i: usize, quantity: u32, out: &mut [u8], at: usiz
 }
 
 // The order is given a place and meets the other side there. Every place in use is held, so the place after them is the first free one.
-pub fn enter_regular(b: &mut [u32], o: Regular, out: &mut [u8], at: usize) -> usize
-    requires { ⌜ (length (now b) ≡ size) × (Dense (now b)) × (regularsUsed (now b) < 128) × (o .series < 8) × (o .side < 2) × (held (o .price) ≡ true) × (Below (o .id) (venueOf (now b) .regular)) × (held (o .display) ≡ true) × (o .display ≤ o .quantity) × (showsFully o ≡ true) ⌝ }
-    ensures { λ r. ⌜ stage (venueOf (now (b .exit))) (now (out .exit)) r ≡ seen (now (out .entry)) at does enterRegular o (venueOf (now (b .entry))) ⌝ }
-    ensures counts { λ _. ⌜ Counts (suc (regularsUsed (now (b .entry)))) (complexesUsed (now (b .entry))) (now (b .entry)) (now (b .exit)) ⌝ }
+pub fn enter_regular(numbers: &mut [u32], o: Regular, out: &mut [u8], at: usize) -> usize
+    requires { ⌜ (length (now numbers) ≡ size) × (Dense (now numbers)) × (regularsUsed (now numbers) < 128) × (o .series < 8) × (o .side < 2) × (held (o .price) ≡ true) × (Below (o .id) (venueOf (now numbers) .regular)) × (held (o .display) ≡ true) × (o .display ≤ o .quantity) × (showsFully o ≡ true) ⌝ }
+    ensures { λ r. ⌜ stage (venueOf (now (numbers .exit))) (now (out .exit)) r ≡ seen (now (out .entry)) at does enterRegular o (venueOf (now (numbers .entry))) ⌝ }
+    ensures counts { λ _. ⌜ Counts (suc (regularsUsed (now (numbers .entry)))) (complexesUsed (now (numbers .entry))) (now (numbers .entry)) (now (numbers .exit)) ⌝ }
 {
-    let i = places::regulars_used(b);
-    levels::add_order(b, o);
-    meet_all(b, i, o.quantity, out, at)
+    let i = places::regulars_used(numbers);
+    levels::add_order(numbers, o);
+    meet_all(numbers, i, o.quantity, out, at)
 }

@@ -19,60 +19,66 @@ ghost use Rattle.levels.specs.Grid.{LegsIn};
 ghost use Rattle.orders.specs.Effects.{withdrawn};
 
 // A complex order arrives: it is given a place and worked there; then settling, and generation for its legs.
-pub fn complex_order(b: &mut [u32], number: u32, c: Complex, out: &mut [u8], at: usize) -> usize
-    requires { ⌜ (length (now b) ≡ size) × (Dense (now b)) × (complexesUsed (now b) < 32) × (LegsIn c) ⌝ }
-    ensures { λ r. ⌜ stage (venueOf (now (b .exit))) (now (out .exit)) r ≡ seen (now (out .entry)) at does complex.complex number c (venueOf (now (b .entry))) ⌝ }
-    ensures counts { λ _. ⌜ Counts (regularsUsed (now (b .entry))) (suc (complexesUsed (now (b .entry)))) (now (b .entry)) (now (b .exit)) ⌝ }
+pub fn complex_order(
+    numbers: &mut [u32],
+    number: u32,
+    c: Complex,
+    out: &mut [u8],
+    at: usize,
+) -> usize
+    requires { ⌜ (length (now numbers) ≡ size) × (Dense (now numbers)) × (complexesUsed (now numbers) < 32) × (LegsIn c) ⌝ }
+    ensures { λ r. ⌜ stage (venueOf (now (numbers .exit))) (now (out .exit)) r ≡ seen (now (out .entry)) at does complex.complex number c (venueOf (now (numbers .entry))) ⌝ }
+    ensures counts { λ _. ⌜ Counts (regularsUsed (now (numbers .entry))) (suc (complexesUsed (now (numbers .entry)))) (now (numbers .entry)) (now (numbers .exit)) ⌝ }
 {
-    let i = places::complexes_used(b);
-    place_writes::add_complex(b, c);
-    let worked = work::work(b, i, out, at);
-    let settled = settling::settle_all(b, out, worked);
-    generation::generate_order(b, number, i, out, settled)
+    let i = places::complexes_used(numbers);
+    place_writes::add_complex(numbers, c);
+    let worked = work::work(numbers, i, out, at);
+    let settled = settling::settle_all(numbers, out, worked);
+    generation::generate_order(numbers, number, i, out, settled)
 }
 
 // The resting complex order with an id is cancelled.
-fn withdraw_complex(b: &mut [u32], id: u32, out: &mut [u8], at: usize) -> usize
-    requires { ⌜ (length (now b) ≡ size) × (restsComplex (venueOf (now b)) id ≡ true) ⌝ }
-    ensures { λ r. ⌜ stage (venueOf (now (b .exit))) (now (out .exit)) r ≡ seen (now (out .entry)) at does cancelComplex (complexPlace (venueOf (now (b .entry))) id) (venueOf (now (b .entry))) ⌝ }
-    ensures counts { λ _. ⌜ SameCounts (now (b .entry)) (now (b .exit)) ⌝ }
+fn withdraw_complex(numbers: &mut [u32], id: u32, out: &mut [u8], at: usize) -> usize
+    requires { ⌜ (length (now numbers) ≡ size) × (restsComplex (venueOf (now numbers)) id ≡ true) ⌝ }
+    ensures { λ r. ⌜ stage (venueOf (now (numbers .exit))) (now (out .exit)) r ≡ seen (now (out .entry)) at does cancelComplex (complexPlace (venueOf (now (numbers .entry))) id) (venueOf (now (numbers .entry))) ⌝ }
+    ensures counts { λ _. ⌜ SameCounts (now (numbers .entry)) (now (numbers .exit)) ⌝ }
 {
-    let found = book::complex_place(b, id);
+    let found = book::complex_place(numbers, id);
     let Found::At(i) = found else {
         return at;
     };
-    trades::cancel_complex(b, i, out, at)
+    trades::cancel_complex(numbers, i, out, at)
 }
 
 // The resting order with an id is cancelled.
-fn withdraw(b: &mut [u32], id: u32, out: &mut [u8], at: usize) -> usize
-    requires { ⌜ (length (now b) ≡ size) × (Dense (now b)) × ((restsRegular (venueOf (now b)) id || restsComplex (venueOf (now b)) id) ≡ true) ⌝ }
-    ensures { λ r. ⌜ stage (venueOf (now (b .exit))) (now (out .exit)) r ≡ seen (now (out .entry)) at does withdrawn id (venueOf (now (b .entry))) ⌝ }
-    ensures counts { λ _. ⌜ SameCounts (now (b .entry)) (now (b .exit)) ⌝ }
+fn withdraw(numbers: &mut [u32], id: u32, out: &mut [u8], at: usize) -> usize
+    requires { ⌜ (length (now numbers) ≡ size) × (Dense (now numbers)) × ((restsRegular (venueOf (now numbers)) id || restsComplex (venueOf (now numbers)) id) ≡ true) ⌝ }
+    ensures { λ r. ⌜ stage (venueOf (now (numbers .exit))) (now (out .exit)) r ≡ seen (now (out .entry)) at does withdrawn id (venueOf (now (numbers .entry))) ⌝ }
+    ensures counts { λ _. ⌜ SameCounts (now (numbers .entry)) (now (numbers .exit)) ⌝ }
 {
-    let found = book::regular_place(b, id);
+    let found = book::regular_place(numbers, id);
     let Found::At(i) = found else {
-        return withdraw_complex(b, id, out, at);
+        return withdraw_complex(numbers, id, out, at);
     };
-    trades::cancel_regular(b, i, out, at)
+    trades::cancel_regular(numbers, i, out, at)
 }
 
 // The resting order with an id is cancelled; then settling.
-pub fn cancel(b: &mut [u32], id: u32, out: &mut [u8], at: usize) -> usize
-    requires { ⌜ (length (now b) ≡ size) × (Dense (now b)) × ((restsRegular (venueOf (now b)) id || restsComplex (venueOf (now b)) id) ≡ true) ⌝ }
-    ensures { λ r. ⌜ stage (venueOf (now (b .exit))) (now (out .exit)) r ≡ seen (now (out .entry)) at does complex.cancel id (venueOf (now (b .entry))) ⌝ }
-    ensures counts { λ _. ⌜ SameCounts (now (b .entry)) (now (b .exit)) ⌝ }
+pub fn cancel(numbers: &mut [u32], id: u32, out: &mut [u8], at: usize) -> usize
+    requires { ⌜ (length (now numbers) ≡ size) × (Dense (now numbers)) × ((restsRegular (venueOf (now numbers)) id || restsComplex (venueOf (now numbers)) id) ≡ true) ⌝ }
+    ensures { λ r. ⌜ stage (venueOf (now (numbers .exit))) (now (out .exit)) r ≡ seen (now (out .entry)) at does complex.cancel id (venueOf (now (numbers .entry))) ⌝ }
+    ensures counts { λ _. ⌜ SameCounts (now (numbers .entry)) (now (numbers .exit)) ⌝ }
 {
-    let pos = withdraw(b, id, out, at);
-    settling::settle_all(b, out, pos)
+    let pos = withdraw(numbers, id, out, at);
+    settling::settle_all(numbers, out, pos)
 }
 
 // An order arrives and meets the other side; then settling.
-pub fn order(b: &mut [u32], o: Regular, out: &mut [u8], at: usize) -> usize
-    requires { ⌜ (length (now b) ≡ size) × (Dense (now b)) × (regularsUsed (now b) < 128) × (o .series < 8) × (o .side < 2) × (held (o .price) ≡ true) × (Below (o .id) (venueOf (now b) .regular)) × (held (o .display) ≡ true) × (o .display ≤ o .quantity) × (showsFully o ≡ true) ⌝ }
-    ensures { λ r. ⌜ stage (venueOf (now (b .exit))) (now (out .exit)) r ≡ seen (now (out .entry)) at does order.order o (venueOf (now (b .entry))) ⌝ }
-    ensures counts { λ _. ⌜ Counts (suc (regularsUsed (now (b .entry)))) (complexesUsed (now (b .entry))) (now (b .entry)) (now (b .exit)) ⌝ }
+pub fn order(numbers: &mut [u32], o: Regular, out: &mut [u8], at: usize) -> usize
+    requires { ⌜ (length (now numbers) ≡ size) × (Dense (now numbers)) × (regularsUsed (now numbers) < 128) × (o .series < 8) × (o .side < 2) × (held (o .price) ≡ true) × (Below (o .id) (venueOf (now numbers) .regular)) × (held (o .display) ≡ true) × (o .display ≤ o .quantity) × (showsFully o ≡ true) ⌝ }
+    ensures { λ r. ⌜ stage (venueOf (now (numbers .exit))) (now (out .exit)) r ≡ seen (now (out .entry)) at does order.order o (venueOf (now (numbers .entry))) ⌝ }
+    ensures counts { λ _. ⌜ Counts (suc (regularsUsed (now (numbers .entry)))) (complexesUsed (now (numbers .entry))) (now (numbers .entry)) (now (numbers .exit)) ⌝ }
 {
-    let pos = matching::enter_regular(b, o, out, at);
-    settling::settle_all(b, out, pos)
+    let pos = matching::enter_regular(numbers, o, out, at);
+    settling::settle_all(numbers, out, pos)
 }

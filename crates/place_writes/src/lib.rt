@@ -25,25 +25,25 @@ use rules::Listed;
 use rules::Regular;
 
 // A level is kept for a series and side.
-pub fn put_level(b: &mut [u32], n: usize, l: Level)
-    requires { ⌜ (length (now b) ≡ size) × (n < 16) ⌝ }
-    ensures { λ _. ⌜ LevelPut n l (now (b .entry)) (now (b .exit)) ⌝ }
+pub fn put_level(numbers: &mut [u32], n: usize, l: Level)
+    requires { ⌜ (length (now numbers) ≡ size) × (n < 16) ⌝ }
+    ensures { λ _. ⌜ LevelPut n l (now (numbers .entry)) (now (numbers .exit)) ⌝ }
 {
-    b[3 * n + places::LEVEL_PRICE_AT] = l.price;
-    b[3 * n + places::LEVEL_LOW_AT] = (l.size % 4294967296) as u32;
-    b[3 * n + places::LEVEL_HIGH_AT] = (l.size / 4294967296) as u32;
+    numbers[3 * n + places::LEVEL_PRICE_AT] = l.price;
+    numbers[3 * n + places::LEVEL_LOW_AT] = (l.size % 4294967296) as u32;
+    numbers[3 * n + places::LEVEL_HIGH_AT] = (l.size / 4294967296) as u32;
 }
 
 // The number at a place becomes i, unless it is less.
-fn lower(b: &mut [u32], at: usize, i: usize)
-    requires { ⌜ (at < length (now b)) × (i < 4294967296) ⌝ }
-    ensures { λ _. ⌜ now (b .exit) ≡ set (now (b .entry)) at (min (getD (now (b .entry)) at 0) i) ⌝ }
+fn lower(numbers: &mut [u32], at: usize, i: usize)
+    requires { ⌜ (at < length (now numbers)) × (i < 4294967296) ⌝ }
+    ensures { λ _. ⌜ now (numbers .exit) ≡ set (now (numbers .entry)) at (min (getD (now (numbers .entry)) at 0) i) ⌝ }
 {
-    let x = b[at];
+    let x = numbers[at];
     if places::wide(x) < i {
         return;
     }
-    b[at] = i as u32;
+    numbers[at] = i as u32;
 }
 
 // q less k, and no less than 0.
@@ -57,35 +57,35 @@ fn less(q: u32, k: u32) -> u32
 }
 
 // The order at place i is filled for k contracts. The levels stay as they are. What is left of an order with reserve has to show again.
-pub fn fill_regular(b: &mut [u32], i: usize, k: u32)
-    requires { ⌜ (length (now b) ≡ size) × (i < regularsUsed (now b)) ⌝ }
-    ensures { λ _. ⌜ venueOf (now (b .exit)) ≡ fillRegular i k (venueOf (now (b .entry))) ⌝ }
-    ensures beside { λ _. ⌜ SameBeside (now (b .entry)) (now (b .exit)) ⌝ }
+pub fn fill_regular(numbers: &mut [u32], i: usize, k: u32)
+    requires { ⌜ (length (now numbers) ≡ size) × (i < regularsUsed (now numbers)) ⌝ }
+    ensures { λ _. ⌜ venueOf (now (numbers .exit)) ≡ fillRegular i k (venueOf (now (numbers .entry))) ⌝ }
+    ensures beside { λ _. ⌜ SameBeside (now (numbers .entry)) (now (numbers .exit)) ⌝ }
 {
-    let q = b[4 * i + places::REGULAR_QUANTITY_AT];
-    b[4 * i + places::REGULAR_QUANTITY_AT] = less(q, k);
+    let q = numbers[4 * i + places::REGULAR_QUANTITY_AT];
+    numbers[4 * i + places::REGULAR_QUANTITY_AT] = less(q, k);
     if q <= k {
-        lower(b, places::REGULARS_KNOWN_AT, i);
+        lower(numbers, places::REGULARS_KNOWN_AT, i);
         return;
     }
-    if b[2 * i + places::REGULAR_RESERVE_AT] == 0 {
+    if numbers[2 * i + places::REGULAR_RESERVE_AT] == 0 {
         return;
     }
-    b[places::SHOW_AGAIN_AT] = 1;
+    numbers[places::SHOW_AGAIN_AT] = 1;
 }
 
 // The complex order at a place is filled by `k` units.
-pub fn fill_complex(b: &mut [u32], i: usize, k: u32)
-    requires { ⌜ (length (now b) ≡ size) × (i < complexesUsed (now b)) ⌝ }
-    ensures { λ _. ⌜ venueOf (now (b .exit)) ≡ fillComplex i k (venueOf (now (b .entry))) ⌝ }
-    ensures counts { λ _. ⌜ SameCounts (now (b .entry)) (now (b .exit)) ⌝ }
+pub fn fill_complex(numbers: &mut [u32], i: usize, k: u32)
+    requires { ⌜ (length (now numbers) ≡ size) × (i < complexesUsed (now numbers)) ⌝ }
+    ensures { λ _. ⌜ venueOf (now (numbers .exit)) ≡ fillComplex i k (venueOf (now (numbers .entry))) ⌝ }
+    ensures counts { λ _. ⌜ SameCounts (now (numbers .entry)) (now (numbers .exit)) ⌝ }
 {
-    let q = b[6 * i + places::COMPLEX_QUANTITY_AT];
-    b[6 * i + places::COMPLEX_QUANTITY_AT] = less(q, k);
+    let q = numbers[6 * i + places::COMPLEX_QUANTITY_AT];
+    numbers[6 * i + places::COMPLEX_QUANTITY_AT] = less(q, k);
     if k < q {
         return;
     }
-    lower(b, places::COMPLEXES_KNOWN_AT, i);
+    lower(numbers, places::COMPLEXES_KNOWN_AT, i);
 }
 
 // The number of a series and side: its legging place.
@@ -96,45 +96,45 @@ fn place_number(series: u8, side: u8) -> u32
 }
 
 // An order's numbers at place i.
-pub fn write_regular(b: &mut [u32], i: usize, o: Regular)
-    requires { ⌜ (length (now b) ≡ size) × (i < 128) ⌝ }
-    ensures { λ _. ⌜ now (b .exit) ≡ regularPut (now (b .entry)) i o ⌝ }
+pub fn write_regular(numbers: &mut [u32], i: usize, o: Regular)
+    requires { ⌜ (length (now numbers) ≡ size) × (i < 128) ⌝ }
+    ensures { λ _. ⌜ now (numbers .exit) ≡ regularPut (now (numbers .entry)) i o ⌝ }
 {
     let place = place_number(o.series, o.side);
-    b[4 * i] = o.id;
-    b[4 * i + places::REGULAR_KEY_AT] = place;
-    b[4 * i + places::REGULAR_PRICE_AT] = o.price;
-    b[4 * i + places::REGULAR_QUANTITY_AT] = o.quantity;
-    b[2 * i + places::REGULAR_RESERVE_AT] = o.reserve;
-    b[2 * i + places::REGULAR_DISPLAY_AT] = o.display;
+    numbers[4 * i] = o.id;
+    numbers[4 * i + places::REGULAR_KEY_AT] = place;
+    numbers[4 * i + places::REGULAR_PRICE_AT] = o.price;
+    numbers[4 * i + places::REGULAR_QUANTITY_AT] = o.quantity;
+    numbers[2 * i + places::REGULAR_RESERVE_AT] = o.reserve;
+    numbers[2 * i + places::REGULAR_DISPLAY_AT] = o.display;
 }
 
 // An order is given the place after those in use. The levels stay as they are.
-pub fn add_regular(b: &mut [u32], o: Regular)
-    requires { ⌜ (length (now b) ≡ size) × (regularsUsed (now b) < 128) × (o .series < 8) × (o .side < 2) × (o .display ≤ o .quantity) × (showsFully o ≡ true) ⌝ }
-    ensures { λ _. ⌜ venueOf (now (b .exit)) ≡ putRegular (regularsUsed (now (b .entry))) o (venueOf (now (b .entry))) ⌝ }
-    ensures beside { λ _. ⌜ Beside (suc (regularsUsed (now (b .entry)))) (complexesUsed (now (b .entry))) (now (b .entry)) (now (b .exit)) ⌝ }
+pub fn add_regular(numbers: &mut [u32], o: Regular)
+    requires { ⌜ (length (now numbers) ≡ size) × (regularsUsed (now numbers) < 128) × (o .series < 8) × (o .side < 2) × (o .display ≤ o .quantity) × (showsFully o ≡ true) ⌝ }
+    ensures { λ _. ⌜ venueOf (now (numbers .exit)) ≡ putRegular (regularsUsed (now (numbers .entry))) o (venueOf (now (numbers .entry))) ⌝ }
+    ensures beside { λ _. ⌜ Beside (suc (regularsUsed (now (numbers .entry)))) (complexesUsed (now (numbers .entry))) (now (numbers .entry)) (now (numbers .exit)) ⌝ }
 {
-    let n = places::regulars_used(b);
-    write_regular(b, n, o);
-    b[places::REGULARS_USED_AT] = (n + 1) as u32;
-    lower(b, places::REGULARS_KNOWN_AT, n);
+    let n = places::regulars_used(numbers);
+    write_regular(numbers, n, o);
+    numbers[places::REGULARS_USED_AT] = (n + 1) as u32;
+    lower(numbers, places::REGULARS_KNOWN_AT, n);
 }
 
 // Each order shows again: all but its shown quantity is reserve. The levels stay as they are.
-pub fn show_again(b: &mut [u32])
-    requires { ⌜ length (now b) ≡ size ⌝ }
-    ensures { λ _. ⌜ venueOf (now (b .exit)) ≡ showAgain (venueOf (now (b .entry))) ⌝ }
-    ensures beside { λ _. ⌜ SameBeside (now (b .entry)) (now (b .exit)) ⌝ }
+pub fn show_again(numbers: &mut [u32])
+    requires { ⌜ length (now numbers) ≡ size ⌝ }
+    ensures { λ _. ⌜ venueOf (now (numbers .exit)) ≡ showAgain (venueOf (now (numbers .entry))) ⌝ }
+    ensures beside { λ _. ⌜ SameBeside (now (numbers .entry)) (now (numbers .exit)) ⌝ }
 {
-    let n = places::regulars_used(b);
+    let n = places::regulars_used(numbers);
     let mut i: usize = 0;
     while i < n {
-        let o = places::regular_at(b, i);
-        b[2 * i + places::REGULAR_RESERVE_AT] = less(o.quantity, o.display);
+        let o = places::regular_at(numbers, i);
+        numbers[2 * i + places::REGULAR_RESERVE_AT] = less(o.quantity, o.display);
         i += 1;
     }
-    b[places::SHOW_AGAIN_AT] = 0;
+    numbers[places::SHOW_AGAIN_AT] = 0;
 }
 
 // A limit's number, as it is kept.
@@ -145,31 +145,31 @@ fn limit_number(x: i32) -> u32
 }
 
 // A complex order's numbers at place i.
-pub fn write_complex(b: &mut [u32], i: usize, c: Complex)
-    requires { ⌜ (length (now b) ≡ size) × (i < 32) ⌝ }
-    ensures { λ _. ⌜ (now (b .exit) ≡ sets (now (b .entry)) (6 * i + complexIdAt) (complexRow c)) × Kept c ⌝ }
+pub fn write_complex(numbers: &mut [u32], i: usize, c: Complex)
+    requires { ⌜ (length (now numbers) ≡ size) × (i < 32) ⌝ }
+    ensures { λ _. ⌜ (now (numbers .exit) ≡ sets (now (numbers .entry)) (6 * i + complexIdAt) (complexRow c)) × Kept c ⌝ }
 {
     let one = place_number(c.series1, c.side1);
     let two = place_number(c.series2, c.side2);
     let limit = limit_number(c.limit);
-    b[6 * i + places::COMPLEX_ID_AT] = c.id;
-    b[6 * i + places::COMPLEX_LEGS_AT] = 16 * one + two;
-    b[6 * i + places::COMPLEX_RATIOS_AT] = 256 * (c.ratio1 as u32) + (c.ratio2 as u32);
-    b[6 * i + places::COMPLEX_CLASS_AT] = c.class as u32;
-    b[6 * i + places::COMPLEX_LIMIT_AT] = limit;
-    b[6 * i + places::COMPLEX_QUANTITY_AT] = c.quantity;
+    numbers[6 * i + places::COMPLEX_ID_AT] = c.id;
+    numbers[6 * i + places::COMPLEX_LEGS_AT] = 16 * one + two;
+    numbers[6 * i + places::COMPLEX_RATIOS_AT] = 256 * (c.ratio1 as u32) + (c.ratio2 as u32);
+    numbers[6 * i + places::COMPLEX_CLASS_AT] = c.class as u32;
+    numbers[6 * i + places::COMPLEX_LIMIT_AT] = limit;
+    numbers[6 * i + places::COMPLEX_QUANTITY_AT] = c.quantity;
 }
 
 // A complex order is given the place after those in use.
-pub fn add_complex(b: &mut [u32], c: Complex)
-    requires { ⌜ (length (now b) ≡ size) × (complexesUsed (now b) < 32) × (c .series1 < 8) × (c .side1 < 2) × (c .series2 < 8) × (c .side2 < 2) ⌝ }
-    ensures { λ _. ⌜ venueOf (now (b .exit)) ≡ putComplex (complexesUsed (now (b .entry))) c (venueOf (now (b .entry))) ⌝ }
-    ensures counts { λ _. ⌜ Counts (regularsUsed (now (b .entry))) (suc (complexesUsed (now (b .entry)))) (now (b .entry)) (now (b .exit)) ⌝ }
+pub fn add_complex(numbers: &mut [u32], c: Complex)
+    requires { ⌜ (length (now numbers) ≡ size) × (complexesUsed (now numbers) < 32) × (c .series1 < 8) × (c .side1 < 2) × (c .series2 < 8) × (c .side2 < 2) ⌝ }
+    ensures { λ _. ⌜ venueOf (now (numbers .exit)) ≡ putComplex (complexesUsed (now (numbers .entry))) c (venueOf (now (numbers .entry))) ⌝ }
+    ensures counts { λ _. ⌜ Counts (regularsUsed (now (numbers .entry))) (suc (complexesUsed (now (numbers .entry)))) (now (numbers .entry)) (now (numbers .exit)) ⌝ }
 {
-    let n = places::complexes_used(b);
-    write_complex(b, n, c);
-    b[places::COMPLEXES_USED_AT] = (n + 1) as u32;
-    lower(b, places::COMPLEXES_KNOWN_AT, n);
+    let n = places::complexes_used(numbers);
+    write_complex(numbers, n, c);
+    numbers[places::COMPLEXES_USED_AT] = (n + 1) as u32;
+    lower(numbers, places::COMPLEXES_KNOWN_AT, n);
 }
 
 // What a legging place adds to the mask.
@@ -184,58 +184,58 @@ fn weight(n: usize, l: Legging) -> u32
 }
 
 // A legging order at a place.
-pub fn put_legging(b: &mut [u32], n: usize, l: Legging)
-    requires { ⌜ (length (now b) ≡ size) × (n < 16) ⌝ }
-    ensures { λ _. ⌜ venueOf (now (b .exit)) ≡ placed n l (venueOf (now (b .entry))) ⌝ }
-    ensures counts { λ _. ⌜ SameCounts (now (b .entry)) (now (b .exit)) ⌝ }
+pub fn put_legging(numbers: &mut [u32], n: usize, l: Legging)
+    requires { ⌜ (length (now numbers) ≡ size) × (n < 16) ⌝ }
+    ensures { λ _. ⌜ venueOf (now (numbers .exit)) ≡ placed n l (venueOf (now (numbers .entry))) ⌝ }
+    ensures counts { λ _. ⌜ SameCounts (now (numbers .entry)) (now (numbers .exit)) ⌝ }
 {
-    let old = places::legging_at(b, n);
-    let rest = less(b[places::LEGGING_MASK_AT] % 65536, weight(n, old));
-    b[places::LEGGING_MASK_AT] = rest + weight(n, l);
-    b[3 * n + places::LEGGING_PARENT_AT] = l.parent;
-    b[3 * n + places::LEGGING_PRICE_AT] = l.price;
-    b[3 * n + places::LEGGING_QUANTITY_AT] = l.quantity;
+    let old = places::legging_at(numbers, n);
+    let rest = less(numbers[places::LEGGING_MASK_AT] % 65536, weight(n, old));
+    numbers[places::LEGGING_MASK_AT] = rest + weight(n, l);
+    numbers[3 * n + places::LEGGING_PARENT_AT] = l.parent;
+    numbers[3 * n + places::LEGGING_PRICE_AT] = l.price;
+    numbers[3 * n + places::LEGGING_QUANTITY_AT] = l.quantity;
 }
 
 // A series' status and away prices anew.
-pub fn put_listed(b: &mut [u32], s: usize, x: Listed)
-    requires { ⌜ (length (now b) ≡ size) × (s < 8) ⌝ }
-    ensures { λ _. ⌜ venueOf (now (b .exit)) ≡ withSeries (venueOf (now (b .entry))) (set (venueOf (now (b .entry)) .series) s x) ⌝ }
-    ensures counts { λ _. ⌜ SameCounts (now (b .entry)) (now (b .exit)) ⌝ }
+pub fn put_listed(numbers: &mut [u32], s: usize, x: Listed)
+    requires { ⌜ (length (now numbers) ≡ size) × (s < 8) ⌝ }
+    ensures { λ _. ⌜ venueOf (now (numbers .exit)) ≡ withSeries (venueOf (now (numbers .entry))) (set (venueOf (now (numbers .entry)) .series) s x) ⌝ }
+    ensures counts { λ _. ⌜ SameCounts (now (numbers .entry)) (now (numbers .exit)) ⌝ }
 {
-    b[3 * s + places::SERIES_STATUS_AT] = x.status as u32;
-    b[3 * s + places::SERIES_BID_AT] = x.bid;
-    b[3 * s + places::SERIES_OFFER_AT] = x.offer;
+    numbers[3 * s + places::SERIES_STATUS_AT] = x.status as u32;
+    numbers[3 * s + places::SERIES_BID_AT] = x.bid;
+    numbers[3 * s + places::SERIES_OFFER_AT] = x.offer;
 }
 
 // An edition's numbers at place i. The figures stay as they are.
-pub fn write_edition(b: &mut [u32], i: usize, e: Edition)
-    requires { ⌜ (length (now b) ≡ size) × (i < 32) ⌝ }
-    ensures { λ _. ⌜ (now (b .exit) ≡ sets (now (b .entry)) (4 * i + editionNumberAt) (editionRow e)) × (e .figure < 256) × (e .value < 256) ⌝ }
+pub fn write_edition(numbers: &mut [u32], i: usize, e: Edition)
+    requires { ⌜ (length (now numbers) ≡ size) × (i < 32) ⌝ }
+    ensures { λ _. ⌜ (now (numbers .exit) ≡ sets (now (numbers .entry)) (4 * i + editionNumberAt) (editionRow e)) × (e .figure < 256) × (e .value < 256) ⌝ }
 {
-    b[4 * i + places::EDITION_NUMBER_AT] = e.edition;
-    b[4 * i + places::EDITION_MESSAGE_AT] = e.message;
-    b[4 * i + places::EDITION_FIGURE_AT] = e.figure as u32;
-    b[4 * i + places::EDITION_VALUE_AT] = e.value as u32;
+    numbers[4 * i + places::EDITION_NUMBER_AT] = e.edition;
+    numbers[4 * i + places::EDITION_MESSAGE_AT] = e.message;
+    numbers[4 * i + places::EDITION_FIGURE_AT] = e.figure as u32;
+    numbers[4 * i + places::EDITION_VALUE_AT] = e.value as u32;
 }
 
 // The figures of edition 0.
-pub fn base_figures(b: &mut [u32])
-    requires { ⌜ length (now b) ≡ size ⌝ }
-    ensures { λ _. ⌜ FiguresBase (now (b .entry)) (now (b .exit)) ⌝ }
+pub fn base_figures(numbers: &mut [u32])
+    requires { ⌜ length (now numbers) ≡ size ⌝ }
+    ensures { λ _. ⌜ FiguresBase (now (numbers .entry)) (now (numbers .exit)) ⌝ }
 {
     let mut f: u8 = 0;
     while f < 9 {
         let x = arithmetic::base_figure(f);
-        b[2 * (f as usize) + places::FIGURES_AT] = x as u32;
+        numbers[2 * (f as usize) + places::FIGURES_AT] = x as u32;
         f += 1;
     }
 }
 
 // An edition's value becomes that of its figure; a free place has none.
-fn set_figure(b: &mut [u32], e: Edition)
-    requires { ⌜ length (now b) ≡ size ⌝ }
-    ensures { λ _. ⌜ FigureSet e (now (b .entry)) (now (b .exit)) ⌝ }
+fn set_figure(numbers: &mut [u32], e: Edition)
+    requires { ⌜ length (now numbers) ≡ size ⌝ }
+    ensures { λ _. ⌜ FigureSet e (now (numbers .entry)) (now (numbers .exit)) ⌝ }
 {
     if e.edition == 0 {
         return;
@@ -244,89 +244,89 @@ fn set_figure(b: &mut [u32], e: Edition)
         return;
     }
     let f = e.figure as usize;
-    b[2 * f + places::FIGURES_AT] = e.value as u32;
+    numbers[2 * f + places::FIGURES_AT] = e.value as u32;
 }
 
 // The figures in force: those of edition 0, and then those of each edition in turn.
-pub fn count_figures(b: &mut [u32])
-    requires { ⌜ length (now b) ≡ size ⌝ }
-    ensures { λ _. ⌜ FiguresCounted (now (b .entry)) (now (b .exit)) ⌝ }
+pub fn count_figures(numbers: &mut [u32])
+    requires { ⌜ length (now numbers) ≡ size ⌝ }
+    ensures { λ _. ⌜ FiguresCounted (now (numbers .entry)) (now (numbers .exit)) ⌝ }
 {
-    base_figures(b);
+    base_figures(numbers);
     let mut i: usize = 0;
     while i < 32 {
-        let e = places::edition_at(b, i);
-        set_figure(b, e);
+        let e = places::edition_at(numbers, i);
+        set_figure(numbers, e);
         i += 1;
     }
 }
 
 // An edition at a free place; the figures are counted anew.
-pub fn put_edition(b: &mut [u32], i: usize, e: Edition)
-    requires { ⌜ (length (now b) ≡ size) × (i < 32) × (holdsEdition (editionIn (now b) i) ≡ false) × (0 < e .value ⊎ 7 < e .figure) ⌝ }
-    ensures { λ _. ⌜ venueOf (now (b .exit)) ≡ withEditions (venueOf (now (b .entry))) (set (venueOf (now (b .entry)) .editions) i e) ⌝ }
-    ensures counts { λ _. ⌜ SameCounts (now (b .entry)) (now (b .exit)) ⌝ }
+pub fn put_edition(numbers: &mut [u32], i: usize, e: Edition)
+    requires { ⌜ (length (now numbers) ≡ size) × (i < 32) × (holdsEdition (editionIn (now numbers) i) ≡ false) × (0 < e .value ⊎ 7 < e .figure) ⌝ }
+    ensures { λ _. ⌜ venueOf (now (numbers .exit)) ≡ withEditions (venueOf (now (numbers .entry))) (set (venueOf (now (numbers .entry)) .editions) i e) ⌝ }
+    ensures counts { λ _. ⌜ SameCounts (now (numbers .entry)) (now (numbers .exit)) ⌝ }
 {
-    write_edition(b, i, e);
-    count_figures(b);
+    write_edition(numbers, i, e);
+    count_figures(numbers);
 }
 
 // The last id accepted.
-pub fn put_last(b: &mut [u32], id: u32)
-    requires { ⌜ length (now b) ≡ size ⌝ }
-    ensures { λ _. ⌜ venueOf (now (b .exit)) ≡ withLast (venueOf (now (b .entry))) id ⌝ }
-    ensures counts { λ _. ⌜ SameCounts (now (b .entry)) (now (b .exit)) ⌝ }
+pub fn put_last(numbers: &mut [u32], id: u32)
+    requires { ⌜ length (now numbers) ≡ size ⌝ }
+    ensures { λ _. ⌜ venueOf (now (numbers .exit)) ≡ withLast (venueOf (now (numbers .entry))) id ⌝ }
+    ensures counts { λ _. ⌜ SameCounts (now (numbers .entry)) (now (numbers .exit)) ⌝ }
 {
-    b[places::LAST_ID_AT] = id;
+    numbers[places::LAST_ID_AT] = id;
 }
 
 // A series' generations anew.
-pub fn put_generations(b: &mut [u32], s: usize, g: Generations)
-    requires { ⌜ (length (now b) ≡ size) × (s < 8) ⌝ }
-    ensures { λ _. ⌜ venueOf (now (b .exit)) ≡ withGenerations (venueOf (now (b .entry))) (set (venueOf (now (b .entry)) .generations) s g) ⌝ }
-    ensures counts { λ _. ⌜ SameCounts (now (b .entry)) (now (b .exit)) ⌝ }
+pub fn put_generations(numbers: &mut [u32], s: usize, g: Generations)
+    requires { ⌜ (length (now numbers) ≡ size) × (s < 8) ⌝ }
+    ensures { λ _. ⌜ venueOf (now (numbers .exit)) ≡ withGenerations (venueOf (now (numbers .entry))) (set (venueOf (now (numbers .entry)) .generations) s g) ⌝ }
+    ensures counts { λ _. ⌜ SameCounts (now (numbers .entry)) (now (numbers .exit)) ⌝ }
 {
     let messages = g.messages;
     let mut k: usize = 0;
     while k < 20 {
-        b[20 * s + k + places::GENERATION_MESSAGES_AT] = messages[k];
+        numbers[20 * s + k + places::GENERATION_MESSAGES_AT] = messages[k];
         k += 1;
     }
 }
 
 // One generation more of a series, by the message of this number; the oldest is forgotten.
-pub fn count_generation(b: &mut [u32], s: usize, number: u32)
-    requires { ⌜ (length (now b) ≡ size) × (s < 8) ⌝ }
-    ensures { λ _. ⌜ venueOf (now (b .exit)) ≡ counted number s (venueOf (now (b .entry))) ⌝ }
-    ensures counts { λ _. ⌜ SameCounts (now (b .entry)) (now (b .exit)) ⌝ }
+pub fn count_generation(numbers: &mut [u32], s: usize, number: u32)
+    requires { ⌜ (length (now numbers) ≡ size) × (s < 8) ⌝ }
+    ensures { λ _. ⌜ venueOf (now (numbers .exit)) ≡ counted number s (venueOf (now (numbers .entry))) ⌝ }
+    ensures counts { λ _. ⌜ SameCounts (now (numbers .entry)) (now (numbers .exit)) ⌝ }
 {
     let first = 20 * s + places::GENERATION_MESSAGES_AT;
     let last = first + 19;
     let mut k = first;
     while k < last {
-        b[k] = b[k + 1];
+        numbers[k] = numbers[k + 1];
         k += 1;
     }
-    b[last] = number;
+    numbers[last] = number;
 }
 
 // The last id that a limited sweep looked at.
-pub fn put_reached(b: &mut [u32], id: u32)
-    requires { ⌜ length (now b) ≡ size ⌝ }
-    ensures { λ _. ⌜ venueOf (now (b .exit)) ≡ withReached (venueOf (now (b .entry))) id ⌝ }
-    ensures counts { λ _. ⌜ SameCounts (now (b .entry)) (now (b .exit)) ⌝ }
+pub fn put_reached(numbers: &mut [u32], id: u32)
+    requires { ⌜ length (now numbers) ≡ size ⌝ }
+    ensures { λ _. ⌜ venueOf (now (numbers .exit)) ≡ withReached (venueOf (now (numbers .entry))) id ⌝ }
+    ensures counts { λ _. ⌜ SameCounts (now (numbers .entry)) (now (numbers .exit)) ⌝ }
 {
-    b[places::ID_REACHED_AT] = id;
+    numbers[places::ID_REACHED_AT] = id;
 }
 
 // The regular places before the first free one of n; those that are known to be held are not looked at.
-fn held_regulars(b: &[u32], n: usize) -> usize
-    requires { ⌜ (length (now b) ≡ size) × (n ≡ regularsUsed (now b)) × (Marked (now b)) ⌝ }
-    ensures { λ r. ⌜ (r ≤ n) × Filled holdsRegular (regularIn (now (b .entry))) r ⌝ }
+fn held_regulars(numbers: &[u32], n: usize) -> usize
+    requires { ⌜ (length (now numbers) ≡ size) × (n ≡ regularsUsed (now numbers)) × (Marked (now numbers)) ⌝ }
+    ensures { λ r. ⌜ (r ≤ n) × Filled holdsRegular (regularIn (now (numbers .entry))) r ⌝ }
 {
-    let mut i = places::at_most(places::wide(b[places::REGULARS_KNOWN_AT]), n);
+    let mut i = places::at_most(places::wide(numbers[places::REGULARS_KNOWN_AT]), n);
     while i < n {
-        if b[4 * i + places::REGULAR_QUANTITY_AT] == 0 {
+        if numbers[4 * i + places::REGULAR_QUANTITY_AT] == 0 {
             return i;
         }
         i += 1;
@@ -335,38 +335,38 @@ fn held_regulars(b: &[u32], n: usize) -> usize
 }
 
 // The regular places' gaps are closed, and all places in use are known to be held.
-pub fn close_regulars(b: &mut [u32])
-    requires { ⌜ (length (now b) ≡ size) × (Marked (now b)) ⌝ }
-    ensures { λ _. ⌜ RegularsClosed (now (b .entry)) (now (b .exit)) ⌝ }
+pub fn close_regulars(numbers: &mut [u32])
+    requires { ⌜ (length (now numbers) ≡ size) × (Marked (now numbers)) ⌝ }
+    ensures { λ _. ⌜ RegularsClosed (now (numbers .entry)) (now (numbers .exit)) ⌝ }
 {
-    let n = places::regulars_used(b);
-    let mut j = held_regulars(b, n);
+    let n = places::regulars_used(numbers);
+    let mut j = held_regulars(numbers, n);
     if j == n {
-        b[places::REGULARS_KNOWN_AT] = n as u32;
+        numbers[places::REGULARS_KNOWN_AT] = n as u32;
         return;
     }
     let mut i = j;
     while i < n {
-        let o = places::regular_at(b, i);
+        let o = places::regular_at(numbers, i);
         i += 1;
         if o.quantity == 0 {
             continue;
         }
-        write_regular(b, j, o);
+        write_regular(numbers, j, o);
         j += 1;
     }
-    b[places::REGULARS_USED_AT] = j as u32;
-    b[places::REGULARS_KNOWN_AT] = j as u32;
+    numbers[places::REGULARS_USED_AT] = j as u32;
+    numbers[places::REGULARS_KNOWN_AT] = j as u32;
 }
 
 // The complex places before the first free one of n; those that are known to be held are not looked at.
-fn held_complexes(b: &[u32], n: usize) -> usize
-    requires { ⌜ (length (now b) ≡ size) × (n ≡ complexesUsed (now b)) × (Marked (now b)) ⌝ }
-    ensures { λ r. ⌜ (r ≤ n) × Filled holdsComplex (complexIn (now (b .entry))) r ⌝ }
+fn held_complexes(numbers: &[u32], n: usize) -> usize
+    requires { ⌜ (length (now numbers) ≡ size) × (n ≡ complexesUsed (now numbers)) × (Marked (now numbers)) ⌝ }
+    ensures { λ r. ⌜ (r ≤ n) × Filled holdsComplex (complexIn (now (numbers .entry))) r ⌝ }
 {
-    let mut i = places::at_most(places::wide(b[places::COMPLEXES_KNOWN_AT]), n);
+    let mut i = places::at_most(places::wide(numbers[places::COMPLEXES_KNOWN_AT]), n);
     while i < n {
-        if b[6 * i + places::COMPLEX_QUANTITY_AT] == 0 {
+        if numbers[6 * i + places::COMPLEX_QUANTITY_AT] == 0 {
             return i;
         }
         i += 1;
@@ -375,35 +375,35 @@ fn held_complexes(b: &[u32], n: usize) -> usize
 }
 
 // The complex places' gaps are closed, and all places in use are known to be held.
-pub fn close_complexes(b: &mut [u32])
-    requires { ⌜ (length (now b) ≡ size) × (Marked (now b)) ⌝ }
-    ensures { λ _. ⌜ ComplexesClosed (now (b .entry)) (now (b .exit)) ⌝ }
+pub fn close_complexes(numbers: &mut [u32])
+    requires { ⌜ (length (now numbers) ≡ size) × (Marked (now numbers)) ⌝ }
+    ensures { λ _. ⌜ ComplexesClosed (now (numbers .entry)) (now (numbers .exit)) ⌝ }
 {
-    let n = places::complexes_used(b);
-    let mut j = held_complexes(b, n);
+    let n = places::complexes_used(numbers);
+    let mut j = held_complexes(numbers, n);
     if j == n {
-        b[places::COMPLEXES_KNOWN_AT] = n as u32;
+        numbers[places::COMPLEXES_KNOWN_AT] = n as u32;
         return;
     }
     let mut i = j;
     while i < n {
-        let o = places::complex_at(b, i);
+        let o = places::complex_at(numbers, i);
         i += 1;
         if o.quantity == 0 {
             continue;
         }
-        write_complex(b, j, o);
+        write_complex(numbers, j, o);
         j += 1;
     }
-    b[places::COMPLEXES_USED_AT] = j as u32;
-    b[places::COMPLEXES_KNOWN_AT] = j as u32;
+    numbers[places::COMPLEXES_USED_AT] = j as u32;
+    numbers[places::COMPLEXES_KNOWN_AT] = j as u32;
 }
 
 // All gaps are closed.
-pub fn close_gaps(b: &mut [u32])
-    requires { ⌜ (length (now b) ≡ size) × (Right (now b)) ⌝ }
-    ensures { λ _. ⌜ GapsClosed (now (b .entry)) (now (b .exit)) ⌝ }
+pub fn close_gaps(numbers: &mut [u32])
+    requires { ⌜ (length (now numbers) ≡ size) × (Right (now numbers)) ⌝ }
+    ensures { λ _. ⌜ GapsClosed (now (numbers .entry)) (now (numbers .exit)) ⌝ }
 {
-    close_regulars(b);
-    close_complexes(b);
+    close_regulars(numbers);
+    close_complexes(numbers);
 }

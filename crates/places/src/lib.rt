@@ -132,35 +132,35 @@ pub fn at_most(x: usize, n: usize) -> usize
 }
 
 // The regular places in use.
-pub fn regulars_used(b: &[u32]) -> usize
-    requires { ⌜ length (now b) ≡ size ⌝ }
-    ensures { λ r. ⌜ (r ≡ regularsUsed (now (b .entry))) × (r ≤ 128) ⌝ }
+pub fn regulars_used(numbers: &[u32]) -> usize
+    requires { ⌜ length (now numbers) ≡ size ⌝ }
+    ensures { λ r. ⌜ (r ≡ regularsUsed (now (numbers .entry))) × (r ≤ 128) ⌝ }
 {
-    at_most(wide(b[REGULARS_USED_AT]), 128)
+    at_most(wide(numbers[REGULARS_USED_AT]), 128)
 }
 
 // The complex places in use.
-pub fn complexes_used(b: &[u32]) -> usize
-    requires { ⌜ length (now b) ≡ size ⌝ }
-    ensures { λ r. ⌜ (r ≡ complexesUsed (now (b .entry))) × (r ≤ 32) ⌝ }
+pub fn complexes_used(numbers: &[u32]) -> usize
+    requires { ⌜ length (now numbers) ≡ size ⌝ }
+    ensures { λ r. ⌜ (r ≡ complexesUsed (now (numbers .entry))) × (r ≤ 32) ⌝ }
 {
-    at_most(wide(b[COMPLEXES_USED_AT]), 32)
+    at_most(wide(numbers[COMPLEXES_USED_AT]), 32)
 }
 
 // What stands at a regular place.
-pub fn regular_at(b: &[u32], i: usize) -> Regular
-    requires { ⌜ (length (now b) ≡ size) × (i < 128) ⌝ }
-    ensures { λ r. ⌜ r ≡ regularIn (now (b .entry)) i ⌝ }
+pub fn regular_at(numbers: &[u32], i: usize) -> Regular
+    requires { ⌜ (length (now numbers) ≡ size) × (i < 128) ⌝ }
+    ensures { λ r. ⌜ r ≡ regularIn (now (numbers .entry)) i ⌝ }
 {
-    let place = b[4 * i + REGULAR_KEY_AT];
-    let quantity = b[4 * i + REGULAR_QUANTITY_AT];
-    let display = arithmetic::lesser(b[2 * i + REGULAR_DISPLAY_AT], quantity);
-    let reserve = arithmetic::lesser(b[2 * i + REGULAR_RESERVE_AT], quantity);
+    let place = numbers[4 * i + REGULAR_KEY_AT];
+    let quantity = numbers[4 * i + REGULAR_QUANTITY_AT];
+    let display = arithmetic::lesser(numbers[2 * i + REGULAR_DISPLAY_AT], quantity);
+    let reserve = arithmetic::lesser(numbers[2 * i + REGULAR_RESERVE_AT], quantity);
     Regular {
-        id: b[4 * i],
+        id: numbers[4 * i],
         series: (place % 16 / 2) as u8,
         side: (place % 2) as u8,
-        price: b[4 * i + REGULAR_PRICE_AT],
+        price: numbers[4 * i + REGULAR_PRICE_AT],
         quantity,
         display,
         reserve,
@@ -168,69 +168,69 @@ pub fn regular_at(b: &[u32], i: usize) -> Regular
 }
 
 // The id of what stands at a regular place.
-pub fn regular_id(b: &[u32], i: usize) -> u32
-    requires { ⌜ (length (now b) ≡ size) × (i < 128) ⌝ }
-    ensures { λ r. ⌜ r ≡ regularIn (now (b .entry)) i .id ⌝ }
+pub fn regular_id(numbers: &[u32], i: usize) -> u32
+    requires { ⌜ (length (now numbers) ≡ size) × (i < 128) ⌝ }
+    ensures { λ r. ⌜ r ≡ regularIn (now (numbers .entry)) i .id ⌝ }
 {
-    b[4 * i]
+    numbers[4 * i]
 }
 
 // The series and side of what stands at a regular place, as one number.
-pub fn key_at(b: &[u32], i: usize) -> usize
-    requires { ⌜ (length (now b) ≡ size) × (i < 128) ⌝ }
-    ensures { λ r. ⌜ r ≡ regularKey (regularIn (now (b .entry)) i) ⌝ }
+pub fn key_at(numbers: &[u32], i: usize) -> usize
+    requires { ⌜ (length (now numbers) ≡ size) × (i < 128) ⌝ }
+    ensures { λ r. ⌜ r ≡ regularKey (regularIn (now (numbers .entry)) i) ⌝ }
 {
-    wide(b[4 * i + REGULAR_KEY_AT] % 16)
+    wide(numbers[4 * i + REGULAR_KEY_AT] % 16)
 }
 
 // What stands at a legging place.
-pub fn legging_at(b: &[u32], n: usize) -> Legging
-    requires { ⌜ (length (now b) ≡ size) × (n < 16) ⌝ }
-    ensures { λ r. ⌜ r ≡ leggingIn (now (b .entry)) n ⌝ }
+pub fn legging_at(numbers: &[u32], n: usize) -> Legging
+    requires { ⌜ (length (now numbers) ≡ size) × (n < 16) ⌝ }
+    ensures { λ r. ⌜ r ≡ leggingIn (now (numbers .entry)) n ⌝ }
 {
     Legging {
-        parent: b[3 * n + LEGGING_PARENT_AT],
-        price: b[3 * n + LEGGING_PRICE_AT],
-        quantity: b[3 * n + LEGGING_QUANTITY_AT],
+        parent: numbers[3 * n + LEGGING_PARENT_AT],
+        price: numbers[3 * n + LEGGING_PRICE_AT],
+        quantity: numbers[3 * n + LEGGING_QUANTITY_AT],
     }
 }
 
 // A series' status and away prices.
-pub fn listed_at(b: &[u32], s: usize) -> Listed
-    requires { ⌜ (length (now b) ≡ size) × (s < 8) ⌝ }
-    ensures { λ r. ⌜ r ≡ listedIn (now (b .entry)) s ⌝ }
+pub fn listed_at(numbers: &[u32], s: usize) -> Listed
+    requires { ⌜ (length (now numbers) ≡ size) × (s < 8) ⌝ }
+    ensures { λ r. ⌜ r ≡ listedIn (now (numbers .entry)) s ⌝ }
 {
-    let status = b[3 * s + SERIES_STATUS_AT];
+    let status = numbers[3 * s + SERIES_STATUS_AT];
     Listed {
         status: (status % 256) as u8,
-        bid: b[3 * s + SERIES_BID_AT],
-        offer: b[3 * s + SERIES_OFFER_AT],
+        bid: numbers[3 * s + SERIES_BID_AT],
+        offer: numbers[3 * s + SERIES_OFFER_AT],
     }
 }
 
 // What stands at a place of the editions.
-pub fn edition_at(b: &[u32], i: usize) -> Edition
-    requires { ⌜ (length (now b) ≡ size) × (i < 32) ⌝ }
-    ensures { λ r. ⌜ r ≡ editionIn (now (b .entry)) i ⌝ }
+pub fn edition_at(numbers: &[u32], i: usize) -> Edition
+    requires { ⌜ (length (now numbers) ≡ size) × (i < 32) ⌝ }
+    ensures { λ r. ⌜ r ≡ editionIn (now (numbers .entry)) i ⌝ }
 {
-    let figure = b[4 * i + EDITION_FIGURE_AT];
-    let value = b[4 * i + EDITION_VALUE_AT];
+    let figure = numbers[4 * i + EDITION_FIGURE_AT];
+    let value = numbers[4 * i + EDITION_VALUE_AT];
     Edition {
-        edition: b[4 * i + EDITION_NUMBER_AT],
-        message: b[4 * i + EDITION_MESSAGE_AT],
+        edition: numbers[4 * i + EDITION_NUMBER_AT],
+        message: numbers[4 * i + EDITION_MESSAGE_AT],
         figure: (figure % 256) as u8,
         value: (value % 256) as u8,
     }
 }
 
 // The first place of the editions that is free; 32 where all are held.
-pub fn free_edition(b: &[u32]) -> usize
-    requires { ⌜ length (now b) ≡ size ⌝ }
-    ensures { λ r. ⌜ r ≡ freeEdition (venueOf (now (b .entry))) ⌝ }
+pub fn free_edition(numbers: &[u32]) -> usize
+    requires { ⌜ length (now numbers) ≡ size ⌝ }
+    ensures { λ r. ⌜ r ≡ freeEdition (venueOf (now (numbers .entry))) ⌝ }
 {
     let mut i: usize = 0;
     while i < 32 {
-        if b[4 * i + EDITION_NUMBER_AT] == 0 {
+        if numbers[4 * i + EDITION_NUMBER_AT] == 0 {
             return i;
         }
         i += 1;
@@ -239,27 +239,27 @@ pub fn free_edition(b: &[u32]) -> usize
 }
 
 // A figure in force, as it is kept: the increment of a series, or the percentage.
-pub fn figure_at(b: &[u32], f: usize) -> u8
-    requires { ⌜ (length (now b) ≡ size) × (f < 9) × (Figured (now b)) ⌝ }
-    ensures { λ r. ⌜ r ≡ figureNow (venueOf (now (b .entry))) f ⌝ }
+pub fn figure_at(numbers: &[u32], f: usize) -> u8
+    requires { ⌜ (length (now numbers) ≡ size) × (f < 9) × (Figured (now numbers)) ⌝ }
+    ensures { λ r. ⌜ r ≡ figureNow (venueOf (now (numbers .entry))) f ⌝ }
 {
-    (b[2 * f + FIGURES_AT] % 256) as u8
+    (numbers[2 * f + FIGURES_AT] % 256) as u8
 }
 
 // The legging places that are filled, as they are kept: bit n is place n.
-pub fn mask_of(b: &[u32]) -> u16
-    requires { ⌜ (length (now b) ≡ size) × (Right (now b)) ⌝ }
-    ensures { λ r. ⌜ r ≡ mask (venueOf (now (b .entry)) .legging) ⌝ }
+pub fn mask_of(numbers: &[u32]) -> u16
+    requires { ⌜ (length (now numbers) ≡ size) × (Right (now numbers)) ⌝ }
+    ensures { λ r. ⌜ r ≡ mask (venueOf (now (numbers .entry)) .legging) ⌝ }
 {
-    (b[LEGGING_MASK_AT] % 65536) as u16
+    (numbers[LEGGING_MASK_AT] % 65536) as u16
 }
 
 // Every order shows what it should, as far as is known: the mark is 0.
-pub fn is_unmarked(b: &[u32]) -> bool
-    requires { ⌜ length (now b) ≡ size ⌝ }
-    ensures { λ r. ⌜ r ≡ isUnmarked (now (b .entry)) ⌝ }
+pub fn is_unmarked(numbers: &[u32]) -> bool
+    requires { ⌜ length (now numbers) ≡ size ⌝ }
+    ensures { λ r. ⌜ r ≡ isUnmarked (now (numbers .entry)) ⌝ }
 {
-    b[SHOW_AGAIN_AT] == 0
+    numbers[SHOW_AGAIN_AT] == 0
 }
 
 // A limit, as it is kept: 2^31 above its value.
@@ -270,77 +270,77 @@ fn limit_of(x: u32) -> i32
 }
 
 // What stands at a complex place.
-pub fn complex_at(b: &[u32], i: usize) -> Complex
-    requires { ⌜ (length (now b) ≡ size) × (i < 32) ⌝ }
-    ensures { λ r. ⌜ r ≡ complexIn (now (b .entry)) i ⌝ }
+pub fn complex_at(numbers: &[u32], i: usize) -> Complex
+    requires { ⌜ (length (now numbers) ≡ size) × (i < 32) ⌝ }
+    ensures { λ r. ⌜ r ≡ complexIn (now (numbers .entry)) i ⌝ }
 {
-    let legs = b[6 * i + COMPLEX_LEGS_AT];
-    let ratios = b[6 * i + COMPLEX_RATIOS_AT];
-    let class = b[6 * i + COMPLEX_CLASS_AT];
-    let limit = limit_of(b[6 * i + COMPLEX_LIMIT_AT]);
+    let legs = numbers[6 * i + COMPLEX_LEGS_AT];
+    let ratios = numbers[6 * i + COMPLEX_RATIOS_AT];
+    let class = numbers[6 * i + COMPLEX_CLASS_AT];
+    let limit = limit_of(numbers[6 * i + COMPLEX_LIMIT_AT]);
     Complex {
-        id: b[6 * i + COMPLEX_ID_AT],
+        id: numbers[6 * i + COMPLEX_ID_AT],
         series1: (legs % 256 / 32) as u8,
         side1: (legs / 16 % 2) as u8,
         series2: (legs % 16 / 2) as u8,
         side2: (legs % 2) as u8,
         class: (class % 256) as u8,
         limit,
-        quantity: b[6 * i + COMPLEX_QUANTITY_AT],
+        quantity: numbers[6 * i + COMPLEX_QUANTITY_AT],
         ratio1: (ratios / 256 % 256) as u8,
         ratio2: (ratios % 256) as u8,
     }
 }
 
 // The legs of what stands at a complex place, as one number.
-pub fn legs_at(b: &[u32], i: usize) -> usize
-    requires { ⌜ (length (now b) ≡ size) × (i < 32) ⌝ }
-    ensures { λ r. ⌜ r ≡ legsKey (complexIn (now (b .entry)) i) ⌝ }
+pub fn legs_at(numbers: &[u32], i: usize) -> usize
+    requires { ⌜ (length (now numbers) ≡ size) × (i < 32) ⌝ }
+    ensures { λ r. ⌜ r ≡ legsKey (complexIn (now (numbers .entry)) i) ⌝ }
 {
-    wide(b[6 * i + COMPLEX_LEGS_AT] % 256)
+    wide(numbers[6 * i + COMPLEX_LEGS_AT] % 256)
 }
 
 // The last id accepted.
-pub fn last_id(b: &[u32]) -> u32
-    requires { ⌜ length (now b) ≡ size ⌝ }
-    ensures { λ r. ⌜ r ≡ venueOf (now (b .entry)) .last ⌝ }
+pub fn last_id(numbers: &[u32]) -> u32
+    requires { ⌜ length (now numbers) ≡ size ⌝ }
+    ensures { λ r. ⌜ r ≡ venueOf (now (numbers .entry)) .last ⌝ }
 {
-    b[LAST_ID_AT]
+    numbers[LAST_ID_AT]
 }
 
 // The message of one of a series' last 20 generations, oldest first; 0 where there were fewer.
-pub fn generation_at(b: &[u32], s: usize, k: usize) -> u32
-    requires { ⌜ (length (now b) ≡ size) × (s < 8) × (k < 20) ⌝ }
-    ensures { λ r. ⌜ r ≡ getD (generationsOf (venueOf (now (b .entry))) s) k 0 ⌝ }
+pub fn generation_at(numbers: &[u32], s: usize, k: usize) -> u32
+    requires { ⌜ (length (now numbers) ≡ size) × (s < 8) × (k < 20) ⌝ }
+    ensures { λ r. ⌜ r ≡ getD (generationsOf (venueOf (now (numbers .entry))) s) k 0 ⌝ }
 {
-    b[20 * s + k + GENERATION_MESSAGES_AT]
+    numbers[20 * s + k + GENERATION_MESSAGES_AT]
 }
 
 // The message of the oldest of them.
-pub fn oldest_at(b: &[u32], s: usize) -> u32
-    requires { ⌜ (length (now b) ≡ size) × (s < 8) ⌝ }
-    ensures { λ r. ⌜ r ≡ getD (generationsOf (venueOf (now (b .entry))) s) 0 0 ⌝ }
+pub fn oldest_at(numbers: &[u32], s: usize) -> u32
+    requires { ⌜ (length (now numbers) ≡ size) × (s < 8) ⌝ }
+    ensures { λ r. ⌜ r ≡ getD (generationsOf (venueOf (now (numbers .entry))) s) 0 0 ⌝ }
 {
-    generation_at(b, s, 0)
+    generation_at(numbers, s, 0)
 }
 
 // The last id that a limited sweep looked at.
-pub fn reached_id(b: &[u32]) -> u32
-    requires { ⌜ length (now b) ≡ size ⌝ }
-    ensures { λ r. ⌜ r ≡ venueOf (now (b .entry)) .reached ⌝ }
+pub fn reached_id(numbers: &[u32]) -> u32
+    requires { ⌜ length (now numbers) ≡ size ⌝ }
+    ensures { λ r. ⌜ r ≡ venueOf (now (numbers .entry)) .reached ⌝ }
 {
-    b[ID_REACHED_AT]
+    numbers[ID_REACHED_AT]
 }
 
 // The level kept for a series and side: n is their legging place.
-pub fn level_at(b: &[u32], n: usize) -> Level
-    requires { ⌜ (length (now b) ≡ size) × (n < 16) ⌝ }
-    ensures { λ r. ⌜ r ≡ levelIn (now (b .entry)) n ⌝ }
+pub fn level_at(numbers: &[u32], n: usize) -> Level
+    requires { ⌜ (length (now numbers) ≡ size) × (n < 16) ⌝ }
+    ensures { λ r. ⌜ r ≡ levelIn (now (numbers .entry)) n ⌝ }
 {
-    let low = b[3 * n + LEVEL_LOW_AT];
-    let high = b[3 * n + LEVEL_HIGH_AT];
+    let low = numbers[3 * n + LEVEL_LOW_AT];
+    let high = numbers[3 * n + LEVEL_HIGH_AT];
     Level {
-        price: b[3 * n + LEVEL_PRICE_AT],
+        price: numbers[3 * n + LEVEL_PRICE_AT],
         size: (low as u64) + 4294967296 * (high as u64),
     }
 }
@@ -348,9 +348,9 @@ pub fn level_at(b: &[u32], n: usize) -> Level
 // The venue anew, part by part ----------------------------------------------------------------
 
 // The regular orders, place by place.
-fn regulars_of(b: &[u32]) -> [Regular; 128]
-    requires { ⌜ length (now b) ≡ size ⌝ }
-    ensures { λ r. ⌜ r ≡ venueOf (now (b .entry)) .regular ⌝ }
+fn regulars_of(numbers: &[u32]) -> [Regular; 128]
+    requires { ⌜ length (now numbers) ≡ size ⌝ }
+    ensures { λ r. ⌜ r ≡ venueOf (now (numbers .entry)) .regular ⌝ }
 {
     let free = Regular {
         id: 0,
@@ -362,10 +362,10 @@ fn regulars_of(b: &[u32]) -> [Regular; 128]
         reserve: 0,
     };
     let mut r = [free; 128];
-    let n = regulars_used(b);
+    let n = regulars_used(numbers);
     let mut i: usize = 0;
     while i < n {
-        let x = regular_at(b, i);
+        let x = regular_at(numbers, i);
         r[i] = x;
         i += 1;
     }
@@ -373,9 +373,9 @@ fn regulars_of(b: &[u32]) -> [Regular; 128]
 }
 
 // The complex orders, place by place.
-fn complexes_of(b: &[u32]) -> [Complex; 32]
-    requires { ⌜ length (now b) ≡ size ⌝ }
-    ensures { λ r. ⌜ r ≡ venueOf (now (b .entry)) .complex ⌝ }
+fn complexes_of(numbers: &[u32]) -> [Complex; 32]
+    requires { ⌜ length (now numbers) ≡ size ⌝ }
+    ensures { λ r. ⌜ r ≡ venueOf (now (numbers .entry)) .complex ⌝ }
 {
     let free = Complex {
         id: 0,
@@ -390,10 +390,10 @@ fn complexes_of(b: &[u32]) -> [Complex; 32]
         ratio2: 0,
     };
     let mut r = [free; 32];
-    let n = complexes_used(b);
+    let n = complexes_used(numbers);
     let mut i: usize = 0;
     while i < n {
-        let x = complex_at(b, i);
+        let x = complex_at(numbers, i);
         r[i] = x;
         i += 1;
     }
@@ -401,9 +401,9 @@ fn complexes_of(b: &[u32]) -> [Complex; 32]
 }
 
 // The legging orders, place by place.
-fn leggings_of(b: &[u32]) -> [Legging; 16]
-    requires { ⌜ length (now b) ≡ size ⌝ }
-    ensures { λ r. ⌜ r ≡ venueOf (now (b .entry)) .legging ⌝ }
+fn leggings_of(numbers: &[u32]) -> [Legging; 16]
+    requires { ⌜ length (now numbers) ≡ size ⌝ }
+    ensures { λ r. ⌜ r ≡ venueOf (now (numbers .entry)) .legging ⌝ }
 {
     let free = Legging {
         parent: 0,
@@ -413,7 +413,7 @@ fn leggings_of(b: &[u32]) -> [Legging; 16]
     let mut r = [free; 16];
     let mut i: usize = 0;
     while i < 16 {
-        let x = legging_at(b, i);
+        let x = legging_at(numbers, i);
         r[i] = x;
         i += 1;
     }
@@ -421,9 +421,9 @@ fn leggings_of(b: &[u32]) -> [Legging; 16]
 }
 
 // The status and away prices of every series.
-fn series_of(b: &[u32]) -> [Listed; 8]
-    requires { ⌜ length (now b) ≡ size ⌝ }
-    ensures { λ r. ⌜ r ≡ venueOf (now (b .entry)) .series ⌝ }
+fn series_of(numbers: &[u32]) -> [Listed; 8]
+    requires { ⌜ length (now numbers) ≡ size ⌝ }
+    ensures { λ r. ⌜ r ≡ venueOf (now (numbers .entry)) .series ⌝ }
 {
     let free = Listed {
         status: 0,
@@ -433,7 +433,7 @@ fn series_of(b: &[u32]) -> [Listed; 8]
     let mut r = [free; 8];
     let mut i: usize = 0;
     while i < 8 {
-        let x = listed_at(b, i);
+        let x = listed_at(numbers, i);
         r[i] = x;
         i += 1;
     }
@@ -441,9 +441,9 @@ fn series_of(b: &[u32]) -> [Listed; 8]
 }
 
 // The editions, place by place.
-fn editions_of(b: &[u32]) -> [Edition; 32]
-    requires { ⌜ length (now b) ≡ size ⌝ }
-    ensures { λ r. ⌜ r ≡ venueOf (now (b .entry)) .editions ⌝ }
+fn editions_of(numbers: &[u32]) -> [Edition; 32]
+    requires { ⌜ length (now numbers) ≡ size ⌝ }
+    ensures { λ r. ⌜ r ≡ venueOf (now (numbers .entry)) .editions ⌝ }
 {
     let free = Edition {
         edition: 0,
@@ -454,7 +454,7 @@ fn editions_of(b: &[u32]) -> [Edition; 32]
     let mut r = [free; 32];
     let mut i: usize = 0;
     while i < 32 {
-        let x = edition_at(b, i);
+        let x = edition_at(numbers, i);
         r[i] = x;
         i += 1;
     }
@@ -462,29 +462,29 @@ fn editions_of(b: &[u32]) -> [Edition; 32]
 }
 
 // The messages of a series' last 20 generations.
-fn generations_at(b: &[u32], s: usize) -> Generations
-    requires { ⌜ (length (now b) ≡ size) × (s < 8) ⌝ }
-    ensures { λ r. ⌜ r ≡ generationsIn (now (b .entry)) s ⌝ }
+fn generations_at(numbers: &[u32], s: usize) -> Generations
+    requires { ⌜ (length (now numbers) ≡ size) × (s < 8) ⌝ }
+    ensures { λ r. ⌜ r ≡ generationsIn (now (numbers .entry)) s ⌝ }
 {
     let mut messages = [0u32; 20];
     let mut k: usize = 0;
     while k < 20 {
-        messages[k] = b[20 * s + k + GENERATION_MESSAGES_AT];
+        messages[k] = numbers[20 * s + k + GENERATION_MESSAGES_AT];
         k += 1;
     }
     Generations { messages }
 }
 
 // The messages of every series' last 20 generations.
-fn generations_of(b: &[u32]) -> [Generations; 8]
-    requires { ⌜ length (now b) ≡ size ⌝ }
-    ensures { λ r. ⌜ r ≡ venueOf (now (b .entry)) .generations ⌝ }
+fn generations_of(numbers: &[u32]) -> [Generations; 8]
+    requires { ⌜ length (now numbers) ≡ size ⌝ }
+    ensures { λ r. ⌜ r ≡ venueOf (now (numbers .entry)) .generations ⌝ }
 {
     let none = Generations { messages: [0; 20] };
     let mut r = [none; 8];
     let mut i: usize = 0;
     while i < 8 {
-        let x = generations_at(b, i);
+        let x = generations_at(numbers, i);
         r[i] = x;
         i += 1;
     }
@@ -492,18 +492,18 @@ fn generations_of(b: &[u32]) -> [Generations; 8]
 }
 
 // The venue that the numbers stand for.
-pub fn venue_of(b: &[u32]) -> Venue
-    requires { ⌜ length (now b) ≡ size ⌝ }
-    ensures { λ r. ⌜ r ≡ venueOf (now (b .entry)) ⌝ }
+pub fn venue_of(numbers: &[u32]) -> Venue
+    requires { ⌜ length (now numbers) ≡ size ⌝ }
+    ensures { λ r. ⌜ r ≡ venueOf (now (numbers .entry)) ⌝ }
 {
-    let regular = regulars_of(b);
-    let complex = complexes_of(b);
-    let legging = leggings_of(b);
-    let series = series_of(b);
-    let editions = editions_of(b);
-    let generations = generations_of(b);
-    let last = last_id(b);
-    let reached = reached_id(b);
+    let regular = regulars_of(numbers);
+    let complex = complexes_of(numbers);
+    let legging = leggings_of(numbers);
+    let series = series_of(numbers);
+    let editions = editions_of(numbers);
+    let generations = generations_of(numbers);
+    let last = last_id(numbers);
+    let reached = reached_id(numbers);
     Venue {
         regular,
         complex,

@@ -44,11 +44,11 @@ pub fn sides_of(g: [[Level; 2]; 8], c: Complex, s: u8, d: u8) -> LegSides
 }
 
 // The own price of the legging order of a series and side; 0 where there is none.
-pub fn own_price(b: &[u32], s: u8, d: u8) -> u32
-    requires { ⌜ (length (now b) ≡ size) × (s < 8) × (d < 2) ⌝ }
-    ensures { λ r. ⌜ r ≡ ownPrice (leggingAt (venueOf (now (b .entry))) s d) ⌝ }
+pub fn own_price(numbers: &[u32], s: u8, d: u8) -> u32
+    requires { ⌜ (length (now numbers) ≡ size) × (s < 8) × (d < 2) ⌝ }
+    ensures { λ r. ⌜ r ≡ ownPrice (leggingAt (venueOf (now (numbers .entry))) s d) ⌝ }
 {
-    let l = places::legging_at(b, arithmetic::place_of(s, d));
+    let l = places::legging_at(numbers, arithmetic::place_of(s, d));
     if l.quantity == 0 {
         return 0;
     }
@@ -56,20 +56,20 @@ pub fn own_price(b: &[u32], s: u8, d: u8) -> u32
 }
 
 // The best own price of a side, legging included; best is its best regular price.
-pub fn best_own(b: &[u32], best: u32, s: u8, d: u8) -> u32
-    requires { ⌜ (length (now b) ≡ size) × (best ≡ bestRegular (venueOf (now b)) s d) × (s < 8) × (d < 2) ⌝ }
-    ensures { λ r. ⌜ r ≡ bestOwn (venueOf (now (b .entry))) s d ⌝ }
+pub fn best_own(numbers: &[u32], best: u32, s: u8, d: u8) -> u32
+    requires { ⌜ (length (now numbers) ≡ size) × (best ≡ bestRegular (venueOf (now numbers)) s d) × (s < 8) × (d < 2) ⌝ }
+    ensures { λ r. ⌜ r ≡ bestOwn (venueOf (now (numbers .entry))) s d ⌝ }
 {
-    let own = own_price(b, s, d);
+    let own = own_price(numbers, s, d);
     levels::better_of(d, own, best)
 }
 
 // The size at the best own price of a side, legging included; level is that of its regular orders.
-pub fn own_size(b: &[u32], level: Level, s: u8, d: u8) -> u64
-    requires { ⌜ (length (now b) ≡ size) × (level ≡ levelOf s d (venueOf (now b) .regular)) × (s < 8) × (d < 2) ⌝ }
-    ensures { λ r. ⌜ r ≡ ownSize (venueOf (now (b .entry))) s d ⌝ }
+pub fn own_size(numbers: &[u32], level: Level, s: u8, d: u8) -> u64
+    requires { ⌜ (length (now numbers) ≡ size) × (level ≡ levelOf s d (venueOf (now numbers) .regular)) × (s < 8) × (d < 2) ⌝ }
+    ensures { λ r. ⌜ r ≡ ownSize (venueOf (now (numbers .entry))) s d ⌝ }
 {
-    let l = places::legging_at(b, arithmetic::place_of(s, d));
+    let l = places::legging_at(numbers, arithmetic::place_of(s, d));
     if l.quantity == 0 {
         return level.size;
     }
@@ -84,11 +84,11 @@ pub fn own_size(b: &[u32], level: Level, s: u8, d: u8) -> u64
 }
 
 // The best regular price, 0 if there is none or if the legging order has a strictly better own price.
-pub fn clear_price(b: &[u32], best: u32, s: u8, d: u8) -> u32
-    requires { ⌜ (length (now b) ≡ size) × (best ≡ bestRegular (venueOf (now b)) s d) × (s < 8) × (d < 2) ⌝ }
-    ensures { λ r. ⌜ r ≡ clearPrice (venueOf (now (b .entry))) s d ⌝ }
+pub fn clear_price(numbers: &[u32], best: u32, s: u8, d: u8) -> u32
+    requires { ⌜ (length (now numbers) ≡ size) × (best ≡ bestRegular (venueOf (now numbers)) s d) × (s < 8) × (d < 2) ⌝ }
+    ensures { λ r. ⌜ r ≡ clearPrice (venueOf (now (numbers .entry))) s d ⌝ }
 {
-    let own = own_price(b, s, d);
+    let own = own_price(numbers, s, d);
     if levels::is_better(d, own, best) {
         return 0;
     }
@@ -96,11 +96,11 @@ pub fn clear_price(b: &[u32], best: u32, s: u8, d: u8) -> u32
 }
 
 // The away price of a side.
-pub fn away_price(b: &[u32], s: u8, d: u8) -> u32
-    requires { ⌜ (length (now b) ≡ size) × (s < 8) ⌝ }
-    ensures { λ r. ⌜ r ≡ away (venueOf (now (b .entry))) s d ⌝ }
+pub fn away_price(numbers: &[u32], s: u8, d: u8) -> u32
+    requires { ⌜ (length (now numbers) ≡ size) × (s < 8) ⌝ }
+    ensures { λ r. ⌜ r ≡ away (venueOf (now (numbers .entry))) s d ⌝ }
 {
-    let x = places::listed_at(b, s as usize);
+    let x = places::listed_at(numbers, s as usize);
     if d == 0 {
         return x.bid;
     }
@@ -108,39 +108,49 @@ pub fn away_price(b: &[u32], s: u8, d: u8) -> u32
 }
 
 // The better of away and best regular price.
-pub fn market_best(b: &[u32], best: u32, s: u8, d: u8) -> u32
-    requires { ⌜ (length (now b) ≡ size) × (best ≡ bestRegular (venueOf (now b)) s d) × (s < 8) ⌝ }
-    ensures { λ r. ⌜ r ≡ marketBest (venueOf (now (b .entry))) s d ⌝ }
+pub fn market_best(numbers: &[u32], best: u32, s: u8, d: u8) -> u32
+    requires { ⌜ (length (now numbers) ≡ size) × (best ≡ bestRegular (venueOf (now numbers)) s d) × (s < 8) ⌝ }
+    ensures { λ r. ⌜ r ≡ marketBest (venueOf (now (numbers .entry))) s d ⌝ }
 {
-    let out = away_price(b, s, d);
+    let out = away_price(numbers, s, d);
     levels::better_of(d, out, best)
 }
 
 // The net t of a complex order is in band; taken has the levels that its legs take.
-pub fn in_band(b: &[u32], taken: Taken, c: Complex, t: i64) -> bool
-    requires { ⌜ (length (now b) ≡ size) × (TakenOf taken c (venueOf (now b) .regular)) × (LegsIn c) × (natAbs t ≤ 2190433320450) × (Figured (now b)) ⌝ }
-    ensures { λ r. ⌜ r ≡ inBand (venueOf (now (b .entry))) c t ⌝ }
+pub fn in_band(numbers: &[u32], taken: Taken, c: Complex, t: i64) -> bool
+    requires { ⌜ (length (now numbers) ≡ size) × (TakenOf taken c (venueOf (now numbers) .regular)) × (LegsIn c) × (natAbs t ≤ 2190433320450) × (Figured (now numbers)) ⌝ }
+    ensures { λ r. ⌜ r ≡ inBand (venueOf (now (numbers .entry))) c t ⌝ }
 {
     let one = taken.first;
-    let first = market_best(b, one.price, c.series1, arithmetic::opposite_of(c.side1));
+    let first = market_best(
+        numbers,
+        one.price,
+        c.series1,
+        arithmetic::opposite_of(c.side1),
+    );
     if first == 0 {
         return false;
     }
     let two = taken.second;
-    let second = market_best(b, two.price, c.series2, arithmetic::opposite_of(c.side2));
+    let second = market_best(
+        numbers,
+        two.price,
+        c.series2,
+        arithmetic::opposite_of(c.side2),
+    );
     if second == 0 {
         return false;
     }
     let o = arithmetic::net_of(c.ratio1, c.side1, first, c.ratio2, c.side2, second);
-    arithmetic::near_net(places::figure_at(b, 8), o, t)
+    arithmetic::near_net(places::figure_at(numbers, 8), o, t)
 }
 
 // A series' increment in force. It is not 0.
-pub fn increment_of(b: &[u32], s: u8) -> u8
-    requires { ⌜ (length (now b) ≡ size) × (s < 8) × (Figured (now b)) ⌝ }
-    ensures { λ r. ⌜ (r ≡ increment (venueOf (now (b .entry))) s) × (0 < r) ⌝ }
+pub fn increment_of(numbers: &[u32], s: u8) -> u8
+    requires { ⌜ (length (now numbers) ≡ size) × (s < 8) × (Figured (now numbers)) ⌝ }
+    ensures { λ r. ⌜ (r ≡ increment (venueOf (now (numbers .entry))) s) × (0 < r) ⌝ }
 {
-    places::figure_at(b, s as usize)
+    places::figure_at(numbers, s as usize)
 }
 
 // The leg of a complex order that is not in series s.
@@ -170,14 +180,14 @@ pub fn is_complex_of(c: Complex, id: u32) -> bool
 }
 
 // The complex order of a legging order.
-pub fn parent_of(b: &[u32], l: Legging) -> Complex
-    requires { ⌜ length (now b) ≡ size ⌝ }
-    ensures { λ r. ⌜ r ≡ parentOf (venueOf (now (b .entry))) l ⌝ }
+pub fn parent_of(numbers: &[u32], l: Legging) -> Complex
+    requires { ⌜ length (now numbers) ≡ size ⌝ }
+    ensures { λ r. ⌜ r ≡ parentOf (venueOf (now (numbers .entry))) l ⌝ }
 {
-    let n = places::complexes_used(b);
+    let n = places::complexes_used(numbers);
     let mut i: usize = 0;
     while i < n {
-        let c = places::complex_at(b, i);
+        let c = places::complex_at(numbers, i);
         if is_complex_of(c, l.parent) {
             return c;
         }
@@ -198,32 +208,32 @@ pub fn parent_of(b: &[u32], l: Legging) -> Complex
 }
 
 // A series' status.
-pub fn status_of(b: &[u32], s: u8) -> u8
-    requires { ⌜ (length (now b) ≡ size) × (s < 8) ⌝ }
-    ensures { λ r. ⌜ r ≡ statusOf (venueOf (now (b .entry))) s ⌝ }
+pub fn status_of(numbers: &[u32], s: u8) -> u8
+    requires { ⌜ (length (now numbers) ≡ size) × (s < 8) ⌝ }
+    ensures { λ r. ⌜ r ≡ statusOf (venueOf (now (numbers .entry))) s ⌝ }
 {
-    let x = places::listed_at(b, s as usize);
+    let x = places::listed_at(numbers, s as usize);
     x.status
 }
 
 // Both series of a complex order are open.
-pub fn both_open(b: &[u32], c: Complex) -> bool
-    requires { ⌜ (length (now b) ≡ size) × (LegsIn c) ⌝ }
-    ensures { λ r. ⌜ r ≡ bothOpen (venueOf (now (b .entry))) c ⌝ }
+pub fn both_open(numbers: &[u32], c: Complex) -> bool
+    requires { ⌜ (length (now numbers) ≡ size) × (LegsIn c) ⌝ }
+    ensures { λ r. ⌜ r ≡ bothOpen (venueOf (now (numbers .entry))) c ⌝ }
 {
-    if status_of(b, c.series1) != 1 {
+    if status_of(numbers, c.series1) != 1 {
         return false;
     }
-    status_of(b, c.series2) == 1
+    status_of(numbers, c.series2) == 1
 }
 
 // A series of a complex order is closed.
-pub fn any_closed(b: &[u32], c: Complex) -> bool
-    requires { ⌜ (length (now b) ≡ size) × (LegsIn c) ⌝ }
-    ensures { λ r. ⌜ r ≡ anyClosed (venueOf (now (b .entry))) c ⌝ }
+pub fn any_closed(numbers: &[u32], c: Complex) -> bool
+    requires { ⌜ (length (now numbers) ≡ size) × (LegsIn c) ⌝ }
+    ensures { λ r. ⌜ r ≡ anyClosed (venueOf (now (numbers .entry))) c ⌝ }
 {
-    if status_of(b, c.series1) == 0 {
+    if status_of(numbers, c.series1) == 0 {
         return true;
     }
-    status_of(b, c.series2) == 0
+    status_of(numbers, c.series2) == 0
 }

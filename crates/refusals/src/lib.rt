@@ -20,57 +20,57 @@ ghost use Rattle.refusals.specs.Editions.{editionRefusal};
 // Refusals 4 and 5 to 8: of orders --------------------------------------------------------------
 
 // An order's price is off its series' increment in force.
-fn off_increment(b: &[u32], o: Regular) -> bool
-    requires { ⌜ (length (now b) ≡ size) × (o .series < 8) × (Figured (now b)) ⌝ }
-    ensures { λ r. ⌜ r ≡ offIncrement (venueOf (now (b .entry))) (Order o) ⌝ }
+fn off_increment(numbers: &[u32], o: Regular) -> bool
+    requires { ⌜ (length (now numbers) ≡ size) × (o .series < 8) × (Figured (now numbers)) ⌝ }
+    ensures { λ r. ⌜ r ≡ offIncrement (venueOf (now (numbers .entry))) (Order o) ⌝ }
 {
-    let increment = prices::increment_of(b, o.series);
+    let increment = prices::increment_of(numbers, o.series);
     o.price % (increment as u32) != 0
 }
 
 // The refusal of an order with its fields in their ranges, or 0.
-fn order_refusal(b: &[u32], o: Regular) -> u8
-    requires { ⌜ (length (now b) ≡ size) × (Dense (now b)) × (regularInRange o ≡ true) ⌝ }
-    ensures { λ r. ⌜ r ≡ refusalOf (venueOf (now (b .entry))) (Order o) ⌝ }
+fn order_refusal(numbers: &[u32], o: Regular) -> u8
+    requires { ⌜ (length (now numbers) ≡ size) × (Dense (now numbers)) × (regularInRange o ≡ true) ⌝ }
+    ensures { λ r. ⌜ r ≡ refusalOf (venueOf (now (numbers .entry))) (Order o) ⌝ }
 {
-    if off_increment(b, o) {
+    if off_increment(numbers, o) {
         return 4;
     }
-    if o.id <= places::last_id(b) {
+    if o.id <= places::last_id(numbers) {
         return 5;
     }
-    if prices::status_of(b, o.series) == 0 {
+    if prices::status_of(numbers, o.series) == 0 {
         return 6;
     }
-    if 128 <= places::regulars_used(b) {
+    if 128 <= places::regulars_used(numbers) {
         return 7;
     }
     0
 }
 
 // The refusal of a complex order with its fields in their ranges, or 0.
-fn complex_refusal(b: &[u32], c: Complex) -> u8
-    requires { ⌜ (length (now b) ≡ size) × (Dense (now b)) × (complexInRange c ≡ true) ⌝ }
-    ensures { λ r. ⌜ r ≡ refusalOf (venueOf (now (b .entry))) (TwoLeg c) ⌝ }
+fn complex_refusal(numbers: &[u32], c: Complex) -> u8
+    requires { ⌜ (length (now numbers) ≡ size) × (Dense (now numbers)) × (complexInRange c ≡ true) ⌝ }
+    ensures { λ r. ⌜ r ≡ refusalOf (venueOf (now (numbers .entry))) (TwoLeg c) ⌝ }
 {
-    if c.id <= places::last_id(b) {
+    if c.id <= places::last_id(numbers) {
         return 5;
     }
-    if prices::any_closed(b, c) {
+    if prices::any_closed(numbers, c) {
         return 6;
     }
-    if 32 <= places::complexes_used(b) {
+    if 32 <= places::complexes_used(numbers) {
         return 7;
     }
     0
 }
 
 // A complex order with an id rests.
-fn complex_rests(b: &[u32], id: u32) -> bool
-    requires { ⌜ length (now b) ≡ size ⌝ }
-    ensures { λ r. ⌜ r ≡ restsComplex (venueOf (now (b .entry))) id ⌝ }
+fn complex_rests(numbers: &[u32], id: u32) -> bool
+    requires { ⌜ length (now numbers) ≡ size ⌝ }
+    ensures { λ r. ⌜ r ≡ restsComplex (venueOf (now (numbers .entry))) id ⌝ }
 {
-    let found = book::complex_place(b, id);
+    let found = book::complex_place(numbers, id);
     match found {
         Found::At(_i) => true,
         Found::Nothing => false,
@@ -78,23 +78,23 @@ fn complex_rests(b: &[u32], id: u32) -> bool
 }
 
 // An order with an id rests, in one book or the other.
-fn rests(b: &[u32], id: u32) -> bool
-    requires { ⌜ (length (now b) ≡ size) × (Dense (now b)) ⌝ }
-    ensures { λ r. ⌜ r ≡ (restsRegular (venueOf (now (b .entry))) id || restsComplex (venueOf (now (b .entry))) id) ⌝ }
+fn rests(numbers: &[u32], id: u32) -> bool
+    requires { ⌜ (length (now numbers) ≡ size) × (Dense (now numbers)) ⌝ }
+    ensures { λ r. ⌜ r ≡ (restsRegular (venueOf (now (numbers .entry))) id || restsComplex (venueOf (now (numbers .entry))) id) ⌝ }
 {
-    let found = book::regular_place(b, id);
+    let found = book::regular_place(numbers, id);
     match found {
         Found::At(_i) => true,
-        Found::Nothing => complex_rests(b, id),
+        Found::Nothing => complex_rests(numbers, id),
     }
 }
 
 // The refusal of a cancel, or 0.
-fn cancel_refusal(b: &[u32], id: u32) -> u8
-    requires { ⌜ (length (now b) ≡ size) × (Dense (now b)) ⌝ }
-    ensures { λ r. ⌜ r ≡ refusalOf (venueOf (now (b .entry))) (Cancel id) ⌝ }
+fn cancel_refusal(numbers: &[u32], id: u32) -> u8
+    requires { ⌜ (length (now numbers) ≡ size) × (Dense (now numbers)) ⌝ }
+    ensures { λ r. ⌜ r ≡ refusalOf (venueOf (now (numbers .entry))) (Cancel id) ⌝ }
 {
-    if rests(b, id) {
+    if rests(numbers, id) {
         return 0;
     }
     8
@@ -103,13 +103,13 @@ fn cancel_refusal(b: &[u32], id: u32) -> u8
 // Refusals 11 to 13: of editions ----------------------------------------------------------------
 
 // An edition is above each that is kept.
-fn is_above(b: &[u32], edition: u32) -> bool
-    requires { ⌜ length (now b) ≡ size ⌝ }
-    ensures { λ r. ⌜ r ≡ all (λ k. ltb (k .edition) edition) (venueOf (now (b .entry)) .editions) ⌝ }
+fn is_above(numbers: &[u32], edition: u32) -> bool
+    requires { ⌜ length (now numbers) ≡ size ⌝ }
+    ensures { λ r. ⌜ r ≡ all (λ k. ltb (k .edition) edition) (venueOf (now (numbers .entry)) .editions) ⌝ }
 {
     let mut i: usize = 0;
     while i < 32 {
-        let k = places::edition_at(b, i);
+        let k = places::edition_at(numbers, i);
         if edition <= k.edition {
             return false;
         }
@@ -129,14 +129,14 @@ fn rests_in(o: Regular, s: u8) -> bool
 }
 
 // No regular order rests in a series.
-fn no_order_in(b: &[u32], s: u8) -> bool
-    requires { ⌜ length (now b) ≡ size ⌝ }
-    ensures { λ r. ⌜ r ≡ all (λ o. not (held (o .quantity) && eqb (o .series) s)) (venueOf (now (b .entry)) .regular) ⌝ }
+fn no_order_in(numbers: &[u32], s: u8) -> bool
+    requires { ⌜ length (now numbers) ≡ size ⌝ }
+    ensures { λ r. ⌜ r ≡ all (λ o. not (held (o .quantity) && eqb (o .series) s)) (venueOf (now (numbers .entry)) .regular) ⌝ }
 {
-    let n = places::regulars_used(b);
+    let n = places::regulars_used(numbers);
     let mut i: usize = 0;
     while i < n {
-        let o = places::regular_at(b, i);
+        let o = places::regular_at(numbers, i);
         if rests_in(o, s) {
             return false;
         }
@@ -159,14 +159,14 @@ fn has_leg_in(c: Complex, s: u8) -> bool
 }
 
 // No resting complex order has a leg in a series.
-fn no_leg_in(b: &[u32], s: u8) -> bool
-    requires { ⌜ length (now b) ≡ size ⌝ }
-    ensures { λ r. ⌜ r ≡ all (λ c. not (held (c .quantity) && (eqb (c .series1) s || eqb (c .series2) s))) (venueOf (now (b .entry)) .complex) ⌝ }
+fn no_leg_in(numbers: &[u32], s: u8) -> bool
+    requires { ⌜ length (now numbers) ≡ size ⌝ }
+    ensures { λ r. ⌜ r ≡ all (λ c. not (held (c .quantity) && (eqb (c .series1) s || eqb (c .series2) s))) (venueOf (now (numbers .entry)) .complex) ⌝ }
 {
-    let n = places::complexes_used(b);
+    let n = places::complexes_used(numbers);
     let mut i: usize = 0;
     while i < n {
-        let c = places::complex_at(b, i);
+        let c = places::complex_at(numbers, i);
         if has_leg_in(c, s) {
             return false;
         }
@@ -176,68 +176,68 @@ fn no_leg_in(b: &[u32], s: u8) -> bool
 }
 
 // A series is closed, and no order or leg rests in it.
-fn is_idle(b: &[u32], s: u8) -> bool
-    requires { ⌜ (length (now b) ≡ size) × (s < 8) ⌝ }
-    ensures { λ r. ⌜ r ≡ idle (venueOf (now (b .entry))) s ⌝ }
+fn is_idle(numbers: &[u32], s: u8) -> bool
+    requires { ⌜ (length (now numbers) ≡ size) × (s < 8) ⌝ }
+    ensures { λ r. ⌜ r ≡ idle (venueOf (now (numbers .entry))) s ⌝ }
 {
-    if prices::status_of(b, s) != 0 {
+    if prices::status_of(numbers, s) != 0 {
         return false;
     }
-    if !no_order_in(b, s) {
+    if !no_order_in(numbers, s) {
         return false;
     }
-    no_leg_in(b, s)
+    no_leg_in(numbers, s)
 }
 
 // The first of 11 to 13 that a new edition meets; `used` where its figure is the increment of a series in use.
-fn edition_refusal(b: &[u32], edition: u32, used: bool) -> u8
-    requires { ⌜ length (now b) ≡ size ⌝ }
-    ensures { λ r. ⌜ r ≡ editionRefusal (venueOf (now (b .entry))) edition used ⌝ }
+fn edition_refusal(numbers: &[u32], edition: u32, used: bool) -> u8
+    requires { ⌜ length (now numbers) ≡ size ⌝ }
+    ensures { λ r. ⌜ r ≡ editionRefusal (venueOf (now (numbers .entry))) edition used ⌝ }
 {
-    if !is_above(b, edition) {
+    if !is_above(numbers, edition) {
         return 11;
     }
     if used {
         return 12;
     }
-    if 32 <= places::free_edition(b) {
+    if 32 <= places::free_edition(numbers) {
         return 13;
     }
     0
 }
 
 // The first of 11 to 13 that a new setting meets; a limited sweep meets no refusal.
-fn later_refusal(b: &[u32], m: Message) -> u8
-    requires { ⌜ (length (now b) ≡ size) × (6 < messageForm m) × (wellFormed m ≡ true) ⌝ }
-    ensures { λ r. ⌜ r ≡ refusalOf (venueOf (now (b .entry))) m ⌝ }
+fn later_refusal(numbers: &[u32], m: Message) -> u8
+    requires { ⌜ (length (now numbers) ≡ size) × (6 < messageForm m) × (wellFormed m ≡ true) ⌝ }
+    ensures { λ r. ⌜ r ≡ refusalOf (venueOf (now (numbers .entry))) m ⌝ }
 {
     match m {
         Message::Increment(series, _, edition) => {
-            let used = !is_idle(b, series);
-            edition_refusal(b, edition, used)
+            let used = !is_idle(numbers, series);
+            edition_refusal(numbers, edition, used)
         }
-        Message::Percent(_, edition) => edition_refusal(b, edition, false),
+        Message::Percent(_, edition) => edition_refusal(numbers, edition, false),
         Message::LimitedSweep(_) => 0,
         _ => 0,
     }
 }
 
 // The first of the refusals 4, 11 to 13 and 5 to 8 that a message meets; 0 where it is accepted. In parts as in `wire::in_range`.
-pub fn refusal_of(b: &[u32], m: Message) -> u8
-    requires { ⌜ (length (now b) ≡ size) × (Dense (now b)) × (wellFormed m ≡ true) ⌝ }
-    ensures { λ r. ⌜ r ≡ refusalOf (venueOf (now (b .entry))) m ⌝ }
+pub fn refusal_of(numbers: &[u32], m: Message) -> u8
+    requires { ⌜ (length (now numbers) ≡ size) × (Dense (now numbers)) × (wellFormed m ≡ true) ⌝ }
+    ensures { λ r. ⌜ r ≡ refusalOf (venueOf (now (numbers .entry))) m ⌝ }
 {
     let form = arithmetic::message_form(m);
     if 6 < form {
-        return later_refusal(b, m);
+        return later_refusal(numbers, m);
     }
     if 3 < form {
         return 0;
     }
     match m {
-        Message::Order(o) => order_refusal(b, o),
-        Message::TwoLeg(c) => complex_refusal(b, c),
-        Message::Cancel(id) => cancel_refusal(b, id),
+        Message::Order(o) => order_refusal(numbers, o),
+        Message::TwoLeg(c) => complex_refusal(numbers, c),
+        Message::Cancel(id) => cancel_refusal(numbers, id),
         _ => 0,
     }
 }

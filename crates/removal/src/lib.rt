@@ -15,12 +15,12 @@ use rules::Legging;
 use rules::Verdict;
 
 // What stands at place n goes; a free place stays as it is.
-fn clear(b: &mut [u32], n: usize, cause: Cause, out: &mut [u8], at: usize) -> usize
-    requires { ⌜ (length (now b) ≡ size) × (n < 16) ⌝ }
-    ensures { λ r. ⌜ stage (venueOf (now (b .exit))) (now (out .exit)) r ≡ seen (now (out .entry)) at does clearAt n (Fails cause) (venueOf (now (b .entry))) ⌝ }
-    ensures counts { λ _. ⌜ SameCounts (now (b .entry)) (now (b .exit)) ⌝ }
+fn clear(numbers: &mut [u32], n: usize, cause: Cause, out: &mut [u8], at: usize) -> usize
+    requires { ⌜ (length (now numbers) ≡ size) × (n < 16) ⌝ }
+    ensures { λ r. ⌜ stage (venueOf (now (numbers .exit))) (now (out .exit)) r ≡ seen (now (out .entry)) at does clearAt n (Fails cause) (venueOf (now (numbers .entry))) ⌝ }
+    ensures counts { λ _. ⌜ SameCounts (now (numbers .entry)) (now (numbers .exit)) ⌝ }
 {
-    let l = places::legging_at(b, n);
+    let l = places::legging_at(numbers, n);
     if l.quantity == 0 {
         return at;
     }
@@ -29,42 +29,42 @@ fn clear(b: &mut [u32], n: usize, cause: Cause, out: &mut [u8], at: usize) -> us
         price: 0,
         quantity: 0,
     };
-    place_writes::put_legging(b, n, none);
+    place_writes::put_legging(numbers, n, none);
     records::emit_removed(out, at, l.parent, (n / 2) as u8, (n % 2) as u8, cause)
 }
 
 // The legging orders of one parent go.
-pub fn remove_of(b: &mut [u32], parent: u32, cause: Cause, out: &mut [u8], at: usize) -> usize
-    requires { ⌜ length (now b) ≡ size ⌝ }
-    ensures { λ r. ⌜ stage (venueOf (now (b .exit))) (now (out .exit)) r ≡ seen (now (out .entry)) at does removeOf parent cause (venueOf (now (b .entry))) ⌝ }
-    ensures counts { λ _. ⌜ SameCounts (now (b .entry)) (now (b .exit)) ⌝ }
+pub fn remove_of(numbers: &mut [u32], parent: u32, cause: Cause, out: &mut [u8], at: usize) -> usize
+    requires { ⌜ length (now numbers) ≡ size ⌝ }
+    ensures { λ r. ⌜ stage (venueOf (now (numbers .exit))) (now (out .exit)) r ≡ seen (now (out .entry)) at does removeOf parent cause (venueOf (now (numbers .entry))) ⌝ }
+    ensures counts { λ _. ⌜ SameCounts (now (numbers .entry)) (now (numbers .exit)) ⌝ }
 {
     let mut pos = at;
     let mut n: usize = 0;
     while n < 16 {
         let place = n;
         n += 1;
-        let l = places::legging_at(b, place);
+        let l = places::legging_at(numbers, place);
         if l.parent != parent {
             continue;
         }
-        pos = clear(b, place, cause, out, pos);
+        pos = clear(numbers, place, cause, out, pos);
     }
     pos
 }
 
 // The legging orders at two places go.
 pub fn remove_at(
-    b: &mut [u32],
+    numbers: &mut [u32],
     n1: usize,
     n2: usize,
     cause: Cause,
     out: &mut [u8],
     at: usize,
 ) -> usize
-    requires { ⌜ length (now b) ≡ size ⌝ }
-    ensures { λ r. ⌜ stage (venueOf (now (b .exit))) (now (out .exit)) r ≡ seen (now (out .entry)) at does remove (λ n _. failIf (eqb n n1 || eqb n n2) cause) (venueOf (now (b .entry))) ⌝ }
-    ensures counts { λ _. ⌜ SameCounts (now (b .entry)) (now (b .exit)) ⌝ }
+    requires { ⌜ length (now numbers) ≡ size ⌝ }
+    ensures { λ r. ⌜ stage (venueOf (now (numbers .exit))) (now (out .exit)) r ≡ seen (now (out .entry)) at does remove (λ n _. failIf (eqb n n1 || eqb n n2) cause) (venueOf (now (numbers .entry))) ⌝ }
+    ensures counts { λ _. ⌜ SameCounts (now (numbers .entry)) (now (numbers .exit)) ⌝ }
 {
     let mut pos = at;
     let mut n: usize = 0;
@@ -72,11 +72,11 @@ pub fn remove_at(
         let place = n;
         n += 1;
         if place == n1 {
-            pos = clear(b, place, cause, out, pos);
+            pos = clear(numbers, place, cause, out, pos);
             continue;
         }
         if place == n2 {
-            pos = clear(b, place, cause, out, pos);
+            pos = clear(numbers, place, cause, out, pos);
             continue;
         }
     }
@@ -118,10 +118,10 @@ pub fn verdict_by(x: u8) -> Verdict
 }
 
 // The legging orders at the places that have a cause's number in `marks` go, each for that cause.
-pub fn remove_marked(b: &mut [u32], marks: u64, out: &mut [u8], at: usize) -> usize
-    requires { ⌜ length (now b) ≡ size ⌝ }
-    ensures { λ r. ⌜ stage (venueOf (now (b .exit))) (now (out .exit)) r ≡ seen (now (out .entry)) at does remove (markedBy marks) (venueOf (now (b .entry))) ⌝ }
-    ensures counts { λ _. ⌜ SameCounts (now (b .entry)) (now (b .exit)) ⌝ }
+pub fn remove_marked(numbers: &mut [u32], marks: u64, out: &mut [u8], at: usize) -> usize
+    requires { ⌜ length (now numbers) ≡ size ⌝ }
+    ensures { λ r. ⌜ stage (venueOf (now (numbers .exit))) (now (out .exit)) r ≡ seen (now (out .entry)) at does remove (markedBy marks) (venueOf (now (numbers .entry))) ⌝ }
+    ensures counts { λ _. ⌜ SameCounts (now (numbers .entry)) (now (numbers .exit)) ⌝ }
 {
     let mut pos = at;
     let mut n: usize = 0;
@@ -135,7 +135,7 @@ pub fn remove_marked(b: &mut [u32], marks: u64, out: &mut [u8], at: usize) -> us
         let Verdict::Fails(cause) = found else {
             continue;
         };
-        pos = clear(b, place, cause, out, pos);
+        pos = clear(numbers, place, cause, out, pos);
     }
     pos
 }

@@ -171,14 +171,14 @@ pub fn put_reached(out: &mut [u8], at: usize, id: u32) -> usize
 // Parts ---------------------------------------------------------------------------------------
 
 // 5 and 4 for each series in turn.
-pub fn put_series(b: &[u32], out: &mut [u8], at: usize) -> usize
-    requires { ⌜ length (now b) ≡ size ⌝ }
-    ensures { λ r. ⌜ begun (now (out .exit)) r ≡ begun (now (out .entry)) at adds joined (seriesRecords 0 (venueOf (now (b .entry)) .series)) ⌝ }
+pub fn put_series(numbers: &[u32], out: &mut [u8], at: usize) -> usize
+    requires { ⌜ length (now numbers) ≡ size ⌝ }
+    ensures { λ r. ⌜ begun (now (out .exit)) r ≡ begun (now (out .entry)) at adds joined (seriesRecords 0 (venueOf (now (numbers .entry)) .series)) ⌝ }
 {
     let mut pos = at;
     let mut s: usize = 0;
     while s < 8 {
-        let x = places::listed_at(b, s);
+        let x = places::listed_at(numbers, s);
         pos = put_listed(out, pos, s as u8, x);
         s += 1;
     }
@@ -186,14 +186,14 @@ pub fn put_series(b: &[u32], out: &mut [u8], at: usize) -> usize
 }
 
 // The editions by rising edition, as their places stand.
-pub fn put_editions(b: &[u32], out: &mut [u8], at: usize) -> usize
-    requires { ⌜ length (now b) ≡ size ⌝ }
-    ensures { λ r. ⌜ begun (now (out .exit)) r ≡ begun (now (out .entry)) at adds joined (map editionRecord (keep holdsEdition (venueOf (now (b .entry)) .editions))) ⌝ }
+pub fn put_editions(numbers: &[u32], out: &mut [u8], at: usize) -> usize
+    requires { ⌜ length (now numbers) ≡ size ⌝ }
+    ensures { λ r. ⌜ begun (now (out .exit)) r ≡ begun (now (out .entry)) at adds joined (map editionRecord (keep holdsEdition (venueOf (now (numbers .entry)) .editions))) ⌝ }
 {
     let mut pos = at;
     let mut i: usize = 0;
     while i < 32 {
-        let e = places::edition_at(b, i);
+        let e = places::edition_at(numbers, i);
         pos = put_edition(out, pos, e);
         i += 1;
     }
@@ -201,9 +201,9 @@ pub fn put_editions(b: &[u32], out: &mut [u8], at: usize) -> usize
 }
 
 // Of the orders left in n regular and m complex places, the regular one at place i comes next, and not the complex one at place j.
-fn regular_next(b: &[u32], n: usize, m: usize, i: usize, j: usize) -> bool
-    requires { ⌜ (length (now b) ≡ size) × (n ≤ 128) × (m ≤ 32) ⌝ }
-    ensures { λ r. ⌜ r ≡ regularNext (now (b .entry)) n m i j ⌝ }
+fn regular_next(numbers: &[u32], n: usize, m: usize, i: usize, j: usize) -> bool
+    requires { ⌜ (length (now numbers) ≡ size) × (n ≤ 128) × (m ≤ 32) ⌝ }
+    ensures { λ r. ⌜ r ≡ regularNext (now (numbers .entry)) n m i j ⌝ }
 {
     if n <= i {
         return false;
@@ -211,20 +211,20 @@ fn regular_next(b: &[u32], n: usize, m: usize, i: usize, j: usize) -> bool
     if m <= j {
         return true;
     }
-    let c = places::complex_at(b, j);
-    places::regular_id(b, i) < c.id
+    let c = places::complex_at(numbers, j);
+    places::regular_id(numbers, i) < c.id
 }
 
 // One order more, of either book.
-fn put_next(b: &[u32], n: usize, m: usize, t: Orders, out: &mut [u8]) -> Orders
-    requires { ⌜ (length (now b) ≡ size) × (n ≤ 128) × (m ≤ 32) × (t .regular ≤ n) × (t .complex ≤ m) × (t .regular + t .complex < n + m) ⌝ }
-    ensures { λ r. ⌜ OneMore (now (b .entry)) n m t (now (out .entry)) r (now (out .exit)) ⌝ }
+fn put_next(numbers: &[u32], n: usize, m: usize, t: Orders, out: &mut [u8]) -> Orders
+    requires { ⌜ (length (now numbers) ≡ size) × (n ≤ 128) × (m ≤ 32) × (t .regular ≤ n) × (t .complex ≤ m) × (t .regular + t .complex < n + m) ⌝ }
+    ensures { λ r. ⌜ OneMore (now (numbers .entry)) n m t (now (out .entry)) r (now (out .exit)) ⌝ }
 {
     let at = t.at;
     let i = t.regular;
     let j = t.complex;
-    if regular_next(b, n, m, i, j) {
-        let o = places::regular_at(b, i);
+    if regular_next(numbers, n, m, i, j) {
+        let o = places::regular_at(numbers, i);
         let pos = put_regular(out, at, o);
         return Orders {
             at: pos,
@@ -232,7 +232,7 @@ fn put_next(b: &[u32], n: usize, m: usize, t: Orders, out: &mut [u8]) -> Orders
             complex: j,
         };
     }
-    let c = places::complex_at(b, j);
+    let c = places::complex_at(numbers, j);
     let pos = put_complex(out, at, c);
     Orders {
         at: pos,
@@ -242,57 +242,57 @@ fn put_next(b: &[u32], n: usize, m: usize, t: Orders, out: &mut [u8]) -> Orders
 }
 
 // The resting orders of both books by rising id.
-pub fn put_orders(b: &[u32], out: &mut [u8], at: usize) -> usize
-    requires { ⌜ length (now b) ≡ size ⌝ }
-    ensures { λ r. ⌜ begun (now (out .exit)) r ≡ begun (now (out .entry)) at adds joined (ordersFrom (now (b .entry)) (regularsUsed (now (b .entry))) (complexesUsed (now (b .entry))) 0 0) ⌝ }
+pub fn put_orders(numbers: &[u32], out: &mut [u8], at: usize) -> usize
+    requires { ⌜ length (now numbers) ≡ size ⌝ }
+    ensures { λ r. ⌜ begun (now (out .exit)) r ≡ begun (now (out .entry)) at adds joined (ordersFrom (now (numbers .entry)) (regularsUsed (now (numbers .entry))) (complexesUsed (now (numbers .entry))) 0 0) ⌝ }
 {
-    let n = places::regulars_used(b);
-    let m = places::complexes_used(b);
+    let n = places::regulars_used(numbers);
+    let m = places::complexes_used(numbers);
     let mut t = Orders {
         at,
         regular: 0,
         complex: 0,
     };
     while t.regular + t.complex < n + m {
-        t = put_next(b, n, m, t, out);
+        t = put_next(numbers, n, m, t, out);
     }
     t.at
 }
 
 // The legging orders of a series, its first side's first.
-fn put_sides(b: &[u32], out: &mut [u8], at: usize, s: usize) -> usize
-    requires { ⌜ (length (now b) ≡ size) × (s < 8) ⌝ }
-    ensures { λ r. ⌜ begun (now (out .exit)) r ≡ begun (now (out .entry)) at adds (sideRecord (now (b .entry)) s 0 ++ sideRecord (now (b .entry)) s 1) ⌝ }
+fn put_sides(numbers: &[u32], out: &mut [u8], at: usize, s: usize) -> usize
+    requires { ⌜ (length (now numbers) ≡ size) × (s < 8) ⌝ }
+    ensures { λ r. ⌜ begun (now (out .exit)) r ≡ begun (now (out .entry)) at adds (sideRecord (now (numbers .entry)) s 0 ++ sideRecord (now (numbers .entry)) s 1) ⌝ }
 {
-    let l = places::legging_at(b, 2 * s);
+    let l = places::legging_at(numbers, 2 * s);
     let pos = put_legging(out, at, s as u8, 0, l);
-    let k = places::legging_at(b, 2 * s + 1);
+    let k = places::legging_at(numbers, 2 * s + 1);
     put_legging(out, pos, s as u8, 1, k)
 }
 
 // The legging orders by rising place.
-pub fn put_leggings(b: &[u32], out: &mut [u8], at: usize) -> usize
-    requires { ⌜ length (now b) ≡ size ⌝ }
-    ensures { λ r. ⌜ begun (now (out .exit)) r ≡ begun (now (out .entry)) at adds joined (leggingRecords 0 (venueOf (now (b .entry)) .legging)) ⌝ }
+pub fn put_leggings(numbers: &[u32], out: &mut [u8], at: usize) -> usize
+    requires { ⌜ length (now numbers) ≡ size ⌝ }
+    ensures { λ r. ⌜ begun (now (out .exit)) r ≡ begun (now (out .entry)) at adds joined (leggingRecords 0 (venueOf (now (numbers .entry)) .legging)) ⌝ }
 {
     let mut pos = at;
     let mut s: usize = 0;
     while s < 8 {
-        pos = put_sides(b, out, pos, s);
+        pos = put_sides(numbers, out, pos, s);
         s += 1;
     }
     pos
 }
 
 // A series' last generations, oldest first.
-fn put_generations(b: &[u32], out: &mut [u8], at: usize, s: usize) -> usize
-    requires { ⌜ (length (now b) ≡ size) × (s < 8) ⌝ }
-    ensures { λ r. ⌜ begun (now (out .exit)) r ≡ begun (now (out .entry)) at adds joined (map (generationRecord s) (keep held (generationsOf (venueOf (now (b .entry))) s))) ⌝ }
+fn put_generations(numbers: &[u32], out: &mut [u8], at: usize, s: usize) -> usize
+    requires { ⌜ (length (now numbers) ≡ size) × (s < 8) ⌝ }
+    ensures { λ r. ⌜ begun (now (out .exit)) r ≡ begun (now (out .entry)) at adds joined (map (generationRecord s) (keep held (generationsOf (venueOf (now (numbers .entry))) s))) ⌝ }
 {
     let mut pos = at;
     let mut k: usize = 0;
     while k < 20 {
-        let number = places::generation_at(b, s, k);
+        let number = places::generation_at(numbers, s, k);
         pos = put_generation(out, pos, s as u8, number);
         k += 1;
     }
@@ -300,14 +300,14 @@ fn put_generations(b: &[u32], out: &mut [u8], at: usize, s: usize) -> usize
 }
 
 // Those of each series in turn.
-pub fn put_all_generations(b: &[u32], out: &mut [u8], at: usize) -> usize
-    requires { ⌜ length (now b) ≡ size ⌝ }
-    ensures { λ r. ⌜ begun (now (out .exit)) r ≡ begun (now (out .entry)) at adds joined (generationRecords 0 (venueOf (now (b .entry)) .generations)) ⌝ }
+pub fn put_all_generations(numbers: &[u32], out: &mut [u8], at: usize) -> usize
+    requires { ⌜ length (now numbers) ≡ size ⌝ }
+    ensures { λ r. ⌜ begun (now (out .exit)) r ≡ begun (now (out .entry)) at adds joined (generationRecords 0 (venueOf (now (numbers .entry)) .generations)) ⌝ }
 {
     let mut pos = at;
     let mut s: usize = 0;
     while s < 8 {
-        pos = put_generations(b, out, pos, s);
+        pos = put_generations(numbers, out, pos, s);
         s += 1;
     }
     pos

@@ -29,8 +29,8 @@ pub fn refused(number: u8) -> Resumed
 fn is_carried(venue: Venue, number: u32) -> bool
     ensures { λ r. ⌜ r ≡ carries number venue ⌝ }
 {
-    let mut b = [0u32; places::SIZE];
-    soundness::load_ready(&mut b, venue, number)
+    let mut numbers = [0u32; places::SIZE];
+    soundness::load_ready(&mut numbers, venue, number)
 }
 
 // The venue and the message number of the set that a memory holds: 0, or 16 where it holds none, or 9 where its venue is not sound or a message number in it

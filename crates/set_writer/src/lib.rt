@@ -16,17 +16,17 @@ pub struct Saved {
 // The set ---------------------------------------------------------------------------------------
 
 // The set of the venue in the slice, from the front of the memory on; a position past the end where it does not fit.
-fn put_set(b: &[u32], number: u32, out: &mut [u8]) -> usize
-    requires { ⌜ (length (now b) ≡ size) × (Dense (now b)) ⌝ }
-    ensures { λ r. ⌜ begun (now (out .exit)) r ≡ begun (now (out .entry)) 0 adds joined (setOf number (venueOf (now (b .entry)))) ⌝ }
+fn put_set(numbers: &[u32], number: u32, out: &mut [u8]) -> usize
+    requires { ⌜ (length (now numbers) ≡ size) × (Dense (now numbers)) ⌝ }
+    ensures { λ r. ⌜ begun (now (out .exit)) r ≡ begun (now (out .entry)) 0 adds joined (setOf number (venueOf (now (numbers .entry)))) ⌝ }
 {
-    let first = set_parts::put_first(out, 0, number, places::last_id(b));
-    let series = set_parts::put_series(b, out, first);
-    let editions = set_parts::put_editions(b, out, series);
-    let orders = set_parts::put_orders(b, out, editions);
-    let leggings = set_parts::put_leggings(b, out, orders);
-    let generations = set_parts::put_all_generations(b, out, leggings);
-    set_parts::put_reached(out, generations, places::reached_id(b))
+    let first = set_parts::put_first(out, 0, number, places::last_id(numbers));
+    let series = set_parts::put_series(numbers, out, first);
+    let editions = set_parts::put_editions(numbers, out, series);
+    let orders = set_parts::put_orders(numbers, out, editions);
+    let leggings = set_parts::put_leggings(numbers, out, orders);
+    let generations = set_parts::put_all_generations(numbers, out, leggings);
+    set_parts::put_reached(out, generations, places::reached_id(numbers))
 }
 
 // A call that is refused: the memory all zero, and 0 bytes.
@@ -41,11 +41,11 @@ fn refuse(number: u8, memory: &mut [u8]) -> Saved
 pub fn write_set(venue: Venue, number: u32, memory: &mut [u8]) -> Saved
     ensures { λ r. ⌜ savedOf r (now (memory .exit)) ≡ writeSet number venue (length (now (memory .entry))) ⌝ }
 {
-    let mut b = [0u32; places::SIZE];
-    if !soundness::load_ready(&mut b, venue, number) {
+    let mut numbers = [0u32; places::SIZE];
+    if !soundness::load_ready(&mut numbers, venue, number) {
         return refuse(9, memory);
     }
-    let written = put_set(&b, number, memory);
+    let written = put_set(&numbers, number, memory);
     if memory.len() < written {
         return refuse(15, memory);
     }

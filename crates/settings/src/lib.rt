@@ -57,8 +57,8 @@ fn increments_at(editions: [Edition; 32], number: u32) -> [u8; 8]
 pub fn settings(venue: Venue, number: u32) -> Settings
     ensures { λ r. ⌜ r ≡ calls.settings venue number ⌝ }
 {
-    let mut b = [0u32; places::SIZE];
-    if !soundness::load_sound(&mut b, venue) {
+    let mut numbers = [0u32; places::SIZE];
+    if !soundness::load_sound(&mut numbers, venue) {
         let none = [0u8; 8];
         return Settings {
             number: 9,

@@ -27,19 +27,19 @@ ghost use Rattle.removal.specs.Marks.{markAt};
 ghost use Rattle.settling.specs.Parts.{otherTaken};
 
 // A price p at side d of series s, displayed.
-pub fn shown_price(b: &[u32], s: u8, d: u8, p: u32) -> u64
-    requires { ⌜ (length (now b) ≡ size) × (s < 8) × (Figured (now b)) ⌝ }
-    ensures { λ r. ⌜ r ≡ displayed (increment (venueOf (now (b .entry))) s) d p ⌝ }
+pub fn shown_price(numbers: &[u32], s: u8, d: u8, p: u32) -> u64
+    requires { ⌜ (length (now numbers) ≡ size) × (s < 8) × (Figured (now numbers)) ⌝ }
+    ensures { λ r. ⌜ r ≡ displayed (increment (venueOf (now (numbers .entry))) s) d p ⌝ }
 {
-    arithmetic::displayed_price(prices::increment_of(b, s), d, p)
+    arithmetic::displayed_price(prices::increment_of(numbers, s), d, p)
 }
 
 // A price p at side d of series s, displayed, is no worse than best, the best regular of its side.
-pub fn shown_well(b: &[u32], best: u32, s: u8, d: u8, p: u32) -> bool
-    requires { ⌜ (length (now b) ≡ size) × (s < 8) × (Figured (now b)) ⌝ }
-    ensures { λ r. ⌜ r ≡ not (better d best (displayed (increment (venueOf (now (b .entry))) s) d p)) ⌝ }
+pub fn shown_well(numbers: &[u32], best: u32, s: u8, d: u8, p: u32) -> bool
+    requires { ⌜ (length (now numbers) ≡ size) × (s < 8) × (Figured (now numbers)) ⌝ }
+    ensures { λ r. ⌜ r ≡ not (better d best (displayed (increment (venueOf (now (numbers .entry))) s) d p)) ⌝ }
 {
-    !levels::is_better_wide(d, best as u64, shown_price(b, s, d, p))
+    !levels::is_better_wide(d, best as u64, shown_price(numbers, s, d, p))
 }
 
 // The level that the leg of c takes that is not in series s.
@@ -53,14 +53,14 @@ pub fn other_level(taken: Taken, c: Complex, s: u8) -> Level
 }
 
 // The clear price of that leg.
-pub fn other_clear(b: &[u32], taken: Taken, c: Complex, s: u8) -> u32
-    requires { ⌜ (length (now b) ≡ size) × (TakenOf taken c (venueOf (now b) .regular)) × (LegsIn c) ⌝ }
-    ensures { λ r. ⌜ r ≡ otherClear (venueOf (now (b .entry))) c s ⌝ }
+pub fn other_clear(numbers: &[u32], taken: Taken, c: Complex, s: u8) -> u32
+    requires { ⌜ (length (now numbers) ≡ size) × (TakenOf taken c (venueOf (now numbers) .regular)) × (LegsIn c) ⌝ }
+    ensures { λ r. ⌜ r ≡ otherClear (venueOf (now (numbers .entry))) c s ⌝ }
 {
     let other = prices::other_leg(c, s);
     let best = other_level(taken, c, s);
     prices::clear_price(
-        b,
+        numbers,
         best.price,
         other.series,
         arithmetic::opposite_of(other.side),
@@ -68,11 +68,11 @@ pub fn other_clear(b: &[u32], taken: Taken, c: Complex, s: u8) -> u32
 }
 
 // The other leg of c has a clear price, its net with the legging order's is no more than N, and its size is enough.
-pub fn can_pair(b: &[u32], taken: Taken, c: Complex, s: u8, d: u8, l: Legging) -> bool
-    requires { ⌜ (length (now b) ≡ size) × (TakenOf taken c (venueOf (now b) .regular)) × (LegsIn c) ⌝ }
-    ensures { λ r. ⌜ r ≡ pairs (venueOf (now (b .entry))) c s d (l .price) (l .quantity) ⌝ }
+pub fn can_pair(numbers: &[u32], taken: Taken, c: Complex, s: u8, d: u8, l: Legging) -> bool
+    requires { ⌜ (length (now numbers) ≡ size) × (TakenOf taken c (venueOf (now numbers) .regular)) × (LegsIn c) ⌝ }
+    ensures { λ r. ⌜ r ≡ pairs (venueOf (now (numbers .entry))) c s d (l .price) (l .quantity) ⌝ }
 {
-    let clear = other_clear(b, taken, c, s);
+    let clear = other_clear(numbers, taken, c, s);
     if clear == 0 {
         return false;
     }
@@ -87,100 +87,100 @@ pub fn can_pair(b: &[u32], taken: Taken, c: Complex, s: u8, d: u8, l: Legging) -
 }
 
 // The test of a legging order of c at side d of series s: of the causes that apply, the first of 1, 5, 2, 6.
-pub fn test_order(b: &[u32], sides: LegSides, c: Complex, s: u8, d: u8, l: Legging) -> Verdict
-    requires { ⌜ (length (now b) ≡ size) × (SidesOf sides c s d (venueOf (now b) .regular)) × (LegsIn c) × (s < 8) × (Figured (now b)) ⌝ }
-    ensures { λ r. ⌜ r ≡ verdictOf (venueOf (now (b .entry))) c s d l ⌝ }
+pub fn test_order(numbers: &[u32], sides: LegSides, c: Complex, s: u8, d: u8, l: Legging) -> Verdict
+    requires { ⌜ (length (now numbers) ≡ size) × (SidesOf sides c s d (venueOf (now numbers) .regular)) × (LegsIn c) × (s < 8) × (Figured (now numbers)) ⌝ }
+    ensures { λ r. ⌜ r ≡ verdictOf (venueOf (now (numbers .entry))) c s d l ⌝ }
 {
-    if !shown_well(b, sides.own, s, d, l.price) {
+    if !shown_well(numbers, sides.own, s, d, l.price) {
         return Verdict::Fails(Cause::Worse);
     }
     let taken = sides.taken;
-    if !prices::in_band(b, taken, c, limit_of(c)) {
+    if !prices::in_band(numbers, taken, c, limit_of(c)) {
         return Verdict::Fails(Cause::OutOfBand);
     }
-    if !can_pair(b, taken, c, s, d, l) {
+    if !can_pair(numbers, taken, c, s, d, l) {
         return Verdict::Fails(Cause::Unpaired);
     }
-    if !prices::both_open(b, c) {
+    if !prices::both_open(numbers, c) {
         return Verdict::Fails(Cause::NotOpen);
     }
     Verdict::Stands
 }
 
 // The test of what stands at place n.
-pub fn judge(b: &[u32], g: [[Level; 2]; 8], n: usize) -> Verdict
-    requires { ⌜ (length (now b) ≡ size) × (GridOf g (venueOf (now b) .regular)) × (n < 16) × (Figured (now b)) ⌝ }
-    ensures { λ r. ⌜ r ≡ verdict (venueOf (now (b .entry))) n (getD (venueOf (now (b .entry)) .legging) n noLegging) ⌝ }
+pub fn judge(numbers: &[u32], g: [[Level; 2]; 8], n: usize) -> Verdict
+    requires { ⌜ (length (now numbers) ≡ size) × (GridOf g (venueOf (now numbers) .regular)) × (n < 16) × (Figured (now numbers)) ⌝ }
+    ensures { λ r. ⌜ r ≡ verdict (venueOf (now (numbers .entry))) n (getD (venueOf (now (numbers .entry)) .legging) n noLegging) ⌝ }
 {
-    let l = places::legging_at(b, n);
+    let l = places::legging_at(numbers, n);
     if l.quantity == 0 {
         return Verdict::Stands;
     }
-    let c = prices::parent_of(b, l);
+    let c = prices::parent_of(numbers, l);
     let s = (n / 2) as u8;
     let d = (n % 2) as u8;
     let sides = prices::sides_of(g, c, s, d);
-    test_order(b, sides, c, s, d, l)
+    test_order(numbers, sides, c, s, d, l)
 }
 
 // The number of each place's verdict, by 4 bits, the lowest that of place 0; that of a free place is 0.
-fn verdicts(b: &[u32], g: [[Level; 2]; 8]) -> u64
-    requires { ⌜ (length (now b) ≡ size) × (GridOf g (venueOf (now b) .regular)) × (Figured (now b)) ⌝ }
-    ensures { λ r. ⌜ ((n : ℕ) → n < 16 → markAt r n ≡ verdictNumber (verdict (venueOf (now (b .entry))) n (leggingIn (now (b .entry)) n))) ⌝ }
+fn verdicts(numbers: &[u32], g: [[Level; 2]; 8]) -> u64
+    requires { ⌜ (length (now numbers) ≡ size) × (GridOf g (venueOf (now numbers) .regular)) × (Figured (now numbers)) ⌝ }
+    ensures { λ r. ⌜ ((n : ℕ) → n < 16 → markAt r n ≡ verdictNumber (verdict (venueOf (now (numbers .entry))) n (leggingIn (now (numbers .entry)) n))) ⌝ }
 {
     let mut marks: u64 = 0;
     let mut n: usize = 16;
     while 0 < n {
         n -= 1;
         marks = marks * 16;
-        let l = places::legging_at(b, n);
+        let l = places::legging_at(numbers, n);
         if l.quantity == 0 {
             continue;
         }
-        marks += arithmetic::verdict_number(judge(b, g, n)) as u64;
+        marks += arithmetic::verdict_number(judge(numbers, g, n)) as u64;
     }
     marks
 }
 
 // No legging order stands.
-pub fn none_stands(b: &[u32]) -> bool
-    requires { ⌜ (length (now b) ≡ size) × (Right (now b)) ⌝ }
-    ensures { λ r. ⌜ r ≡ eqb (mask (venueOf (now (b .entry)) .legging)) 0 ⌝ }
+pub fn none_stands(numbers: &[u32]) -> bool
+    requires { ⌜ (length (now numbers) ≡ size) × (Right (now numbers)) ⌝ }
+    ensures { λ r. ⌜ r ≡ eqb (mask (venueOf (now (numbers .entry)) .legging)) 0 ⌝ }
 {
-    places::mask_of(b) == 0
+    places::mask_of(numbers) == 0
 }
 
 // All legging orders are tested against the same state, and the failures go together. The grid is made only where some legging order stands.
-fn remove_failing(b: &mut [u32], out: &mut [u8], at: usize) -> usize
-    requires { ⌜ (length (now b) ≡ size) × (Right (now b)) ⌝ }
-    ensures { λ r. ⌜ stage (venueOf (now (b .exit))) (now (out .exit)) r ≡ seen (now (out .entry)) at does remove (verdict (venueOf (now (b .entry)))) (venueOf (now (b .entry))) ⌝ }
-    ensures counts { λ r. ⌜ SameCounts (now (b .entry)) (now (b .exit)) ⌝ }
+fn remove_failing(numbers: &mut [u32], out: &mut [u8], at: usize) -> usize
+    requires { ⌜ (length (now numbers) ≡ size) × (Right (now numbers)) ⌝ }
+    ensures { λ r. ⌜ stage (venueOf (now (numbers .exit))) (now (out .exit)) r ≡ seen (now (out .entry)) at does remove (verdict (venueOf (now (numbers .entry)))) (venueOf (now (numbers .entry))) ⌝ }
+    ensures counts { λ r. ⌜ SameCounts (now (numbers .entry)) (now (numbers .exit)) ⌝ }
 {
-    if none_stands(b) {
+    if none_stands(numbers) {
         return at;
     }
-    let g = levels::levels(b);
-    let marks = verdicts(b, g);
+    let g = levels::levels(numbers);
+    let marks = verdicts(numbers, g);
     if marks == 0 {
         return at;
     }
-    removal::remove_marked(b, marks, out, at)
+    removal::remove_marked(numbers, marks, out, at)
 }
 
 // Each order shows again, and then the legging orders are tested.
-pub fn settle_all(b: &mut [u32], out: &mut [u8], at: usize) -> usize
-    requires { ⌜ (length (now b) ≡ size) × (Right (now b)) ⌝ }
-    ensures { λ r. ⌜ stage (venueOf (now (b .exit))) (now (out .exit)) r ≡ seen (now (out .entry)) at does settle (venueOf (now (b .entry))) ⌝ }
-    ensures counts { λ r. ⌜ SameCounts (now (b .entry)) (now (b .exit)) ⌝ }
+pub fn settle_all(numbers: &mut [u32], out: &mut [u8], at: usize) -> usize
+    requires { ⌜ (length (now numbers) ≡ size) × (Right (now numbers)) ⌝ }
+    ensures { λ r. ⌜ stage (venueOf (now (numbers .exit))) (now (out .exit)) r ≡ seen (now (out .entry)) at does settle (venueOf (now (numbers .entry))) ⌝ }
+    ensures counts { λ r. ⌜ SameCounts (now (numbers .entry)) (now (numbers .exit)) ⌝ }
 {
-    levels::show_again(b);
-    remove_failing(b, out, at)
+    levels::show_again(numbers);
+    remove_failing(numbers, out, at)
 }
 
 // Every legging order but the one at place m passes its test.
-pub fn others_stand(b: &[u32], g: [[Level; 2]; 8], m: usize) -> bool
-    requires { ⌜ (length (now b) ≡ size) × (GridOf g (venueOf (now b) .regular)) × (Figured (now b)) ⌝ }
-    ensures { λ r. ⌜ r ≡ othersStand (venueOf (now (b .entry))) m 0 (venueOf (now (b .entry)) .legging) ⌝ }
+pub fn others_stand(numbers: &[u32], g: [[Level; 2]; 8], m: usize) -> bool
+    requires { ⌜ (length (now numbers) ≡ size) × (GridOf g (venueOf (now numbers) .regular)) × (Figured (now numbers)) ⌝ }
+    ensures { λ r. ⌜ r ≡ othersStand (venueOf (now (numbers .entry))) m 0 (venueOf (now (numbers .entry)) .legging) ⌝ }
 {
     let mut n: usize = 0;
     while n < 16 {
@@ -189,11 +189,11 @@ pub fn others_stand(b: &[u32], g: [[Level; 2]; 8], m: usize) -> bool
         if place == m {
             continue;
         }
-        let l = places::legging_at(b, place);
+        let l = places::legging_at(numbers, place);
         if l.quantity == 0 {
             continue;
         }
-        let Verdict::Stands = judge(b, g, place) else {
+        let Verdict::Stands = judge(numbers, g, place) else {
             return false;
         };
     }

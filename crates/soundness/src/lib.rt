@@ -23,27 +23,27 @@ ghost use Rattle.soundness.specs.Checked.{pricedOn, onIncrements, isAlon
 // Orders beside one another -------------------------------------------------------------------
 
 // A regular order, where it rests, has a price on the increment in force.
-fn on_increment(b: &[u32], o: Regular) -> bool
-    requires { ⌜ (length (now b) ≡ size) × (o .series < 8) × (Figured (now b)) ⌝ }
-    ensures { λ r. ⌜ r ≡ pricedOn (venueOf (now (b .entry))) o ⌝ }
+fn on_increment(numbers: &[u32], o: Regular) -> bool
+    requires { ⌜ (length (now numbers) ≡ size) × (o .series < 8) × (Figured (now numbers)) ⌝ }
+    ensures { λ r. ⌜ r ≡ pricedOn (venueOf (now (numbers .entry))) o ⌝ }
 {
     if o.quantity == 0 {
         return true;
     }
-    let increment = prices::increment_of(b, o.series);
+    let increment = prices::increment_of(numbers, o.series);
     o.price % (increment as u32) == 0
 }
 
 // Every resting regular order's price is a multiple of its series' increment in force.
-fn on_increments(b: &[u32]) -> bool
-    requires { ⌜ (length (now b) ≡ size) × (Figured (now b)) ⌝ }
-    ensures { λ r. ⌜ r ≡ onIncrements (venueOf (now (b .entry))) ⌝ }
+fn on_increments(numbers: &[u32]) -> bool
+    requires { ⌜ (length (now numbers) ≡ size) × (Figured (now numbers)) ⌝ }
+    ensures { λ r. ⌜ r ≡ onIncrements (venueOf (now (numbers .entry))) ⌝ }
 {
-    let n = places::regulars_used(b);
+    let n = places::regulars_used(numbers);
     let mut i: usize = 0;
     while i < n {
-        let o = places::regular_at(b, i);
-        if !on_increment(b, o) {
+        let o = places::regular_at(numbers, i);
+        if !on_increment(numbers, o) {
             return false;
         }
         i += 1;
@@ -52,29 +52,29 @@ fn on_increments(b: &[u32]) -> bool
 }
 
 // A regular order, where it rests, has its id alone.
-fn is_alone(b: &[u32], o: Regular) -> bool
-    requires { ⌜ length (now b) ≡ size ⌝ }
-    ensures { λ r. ⌜ r ≡ isAlone (venueOf (now (b .entry))) o ⌝ }
+fn is_alone(numbers: &[u32], o: Regular) -> bool
+    requires { ⌜ length (now numbers) ≡ size ⌝ }
+    ensures { λ r. ⌜ r ≡ isAlone (venueOf (now (numbers .entry))) o ⌝ }
 {
     if o.quantity == 0 {
         return true;
     }
-    let Found::Nothing = book::complex_place(b, o.id) else {
+    let Found::Nothing = book::complex_place(numbers, o.id) else {
         return false;
     };
     true
 }
 
 // No id rests in both books.
-fn ids_distinct(b: &[u32]) -> bool
-    requires { ⌜ length (now b) ≡ size ⌝ }
-    ensures { λ r. ⌜ r ≡ idsDistinct (venueOf (now (b .entry))) ⌝ }
+fn ids_distinct(numbers: &[u32]) -> bool
+    requires { ⌜ length (now numbers) ≡ size ⌝ }
+    ensures { λ r. ⌜ r ≡ idsDistinct (venueOf (now (numbers .entry))) ⌝ }
 {
-    let n = places::regulars_used(b);
+    let n = places::regulars_used(numbers);
     let mut i: usize = 0;
     while i < n {
-        let o = places::regular_at(b, i);
-        if !is_alone(b, o) {
+        let o = places::regular_at(numbers, i);
+        if !is_alone(numbers, o) {
             return false;
         }
         i += 1;
@@ -83,15 +83,15 @@ fn ids_distinct(b: &[u32]) -> bool
 }
 
 // A series is neither locked nor crossed, counting own prices.
-fn is_apart(b: &[u32], s: u8) -> bool
-    requires { ⌜ (length (now b) ≡ size) × (Right (now b)) × (s < 8) ⌝ }
-    ensures { λ r. ⌜ r ≡ apart (venueOf (now (b .entry))) s ⌝ }
+fn is_apart(numbers: &[u32], s: u8) -> bool
+    requires { ⌜ (length (now numbers) ≡ size) × (Right (now numbers)) × (s < 8) ⌝ }
+    ensures { λ r. ⌜ r ≡ apart (venueOf (now (numbers .entry))) s ⌝ }
 {
-    let bid = prices::best_own(b, levels::best_regular(b, s, 0), s, 0);
+    let bid = prices::best_own(numbers, levels::best_regular(numbers, s, 0), s, 0);
     if bid == 0 {
         return true;
     }
-    let offer = prices::best_own(b, levels::best_regular(b, s, 1), s, 1);
+    let offer = prices::best_own(numbers, levels::best_regular(numbers, s, 1), s, 1);
     if offer == 0 {
         return true;
     }
@@ -99,13 +99,13 @@ fn is_apart(b: &[u32], s: u8) -> bool
 }
 
 // No series is locked or crossed, counting own prices.
-fn all_apart(b: &[u32]) -> bool
-    requires { ⌜ (length (now b) ≡ size) × (Right (now b)) ⌝ }
-    ensures { λ r. ⌜ r ≡ all (apart (venueOf (now (b .entry)))) eight ⌝ }
+fn all_apart(numbers: &[u32]) -> bool
+    requires { ⌜ (length (now numbers) ≡ size) × (Right (now numbers)) ⌝ }
+    ensures { λ r. ⌜ r ≡ all (apart (venueOf (now (numbers .entry)))) eight ⌝ }
 {
     let mut s: u8 = 0;
     while s < 8 {
-        if !is_apart(b, s) {
+        if !is_apart(numbers, s) {
             return false;
         }
         s += 1;
@@ -166,11 +166,11 @@ fn has_leg(c: Complex, s: u8, d: u8) -> bool
 }
 
 // A legging order's parent rests, has this leg, is one to one, and has as much open.
-fn has_home(b: &[u32], l: Legging, s: u8, d: u8) -> bool
-    requires { ⌜ length (now b) ≡ size ⌝ }
-    ensures { λ r. ⌜ r ≡ hasHome (venueOf (now (b .entry))) l s d ⌝ }
+fn has_home(numbers: &[u32], l: Legging, s: u8, d: u8) -> bool
+    requires { ⌜ length (now numbers) ≡ size ⌝ }
+    ensures { λ r. ⌜ r ≡ hasHome (venueOf (now (numbers .entry))) l s d ⌝ }
 {
-    let c = prices::parent_of(b, l);
+    let c = prices::parent_of(numbers, l);
     if !has_leg(c, s, d) {
         return false;
     }
@@ -181,34 +181,34 @@ fn has_home(b: &[u32], l: Legging, s: u8, d: u8) -> bool
 }
 
 // What stands at a legging place is sound.
-fn legging_sound(b: &[u32], g: [[Level; 2]; 8], n: usize) -> bool
-    requires { ⌜ (length (now b) ≡ size) × (GridOf g (venueOf (now b) .regular)) × (n < 16) × (Figured (now b)) ⌝ }
-    ensures { λ r. ⌜ r ≡ leggingSound (venueOf (now (b .entry))) n (leggingIn (now (b .entry)) n) ⌝ }
+fn legging_sound(numbers: &[u32], g: [[Level; 2]; 8], n: usize) -> bool
+    requires { ⌜ (length (now numbers) ≡ size) × (GridOf g (venueOf (now numbers) .regular)) × (n < 16) × (Figured (now numbers)) ⌝ }
+    ensures { λ r. ⌜ r ≡ leggingSound (venueOf (now (numbers .entry))) n (leggingIn (now (numbers .entry)) n) ⌝ }
 {
-    let l = places::legging_at(b, n);
+    let l = places::legging_at(numbers, n);
     if l.quantity == 0 {
         return blank_legging(l);
     }
     if !legging_in_range(l) {
         return false;
     }
-    if !has_home(b, l, (n / 2) as u8, (n % 2) as u8) {
+    if !has_home(numbers, l, (n / 2) as u8, (n % 2) as u8) {
         return false;
     }
-    let Verdict::Stands = settling::judge(b, g, n) else {
+    let Verdict::Stands = settling::judge(numbers, g, n) else {
         return false;
     };
     true
 }
 
 // Every legging place is sound.
-fn leggings_sound(b: &[u32], g: [[Level; 2]; 8]) -> bool
-    requires { ⌜ (length (now b) ≡ size) × (GridOf g (venueOf (now b) .regular)) × (Figured (now b)) ⌝ }
-    ensures { λ r. ⌜ r ≡ leggingsSound (venueOf (now (b .entry))) 0 (venueOf (now (b .entry)) .legging) ⌝ }
+fn leggings_sound(numbers: &[u32], g: [[Level; 2]; 8]) -> bool
+    requires { ⌜ (length (now numbers) ≡ size) × (GridOf g (venueOf (now numbers) .regular)) × (Figured (now numbers)) ⌝ }
+    ensures { λ r. ⌜ r ≡ leggingsSound (venueOf (now (numbers .entry))) 0 (venueOf (now (numbers .entry)) .legging) ⌝ }
 {
     let mut n: usize = 0;
     while n < 16 {
-        if !legging_sound(b, g, n) {
+        if !legging_sound(numbers, g, n) {
             return false;
         }
         n += 1;
@@ -217,43 +217,43 @@ fn leggings_sound(b: &[u32], g: [[Level; 2]; 8]) -> bool
 }
 
 // Prices are on the increments, ids are distinct, no series is locked or crossed, and each legging order is sound.
-fn orders_sound(b: &[u32]) -> bool
-    requires { ⌜ (length (now b) ≡ size) × (Right (now b)) ⌝ }
-    ensures { λ r. ⌜ r ≡ ordersSound (venueOf (now (b .entry))) ⌝ }
+fn orders_sound(numbers: &[u32]) -> bool
+    requires { ⌜ (length (now numbers) ≡ size) × (Right (now numbers)) ⌝ }
+    ensures { λ r. ⌜ r ≡ ordersSound (venueOf (now (numbers .entry))) ⌝ }
 {
-    if !on_increments(b) {
+    if !on_increments(numbers) {
         return false;
     }
-    if !ids_distinct(b) {
+    if !ids_distinct(numbers) {
         return false;
     }
-    if !all_apart(b) {
+    if !all_apart(numbers) {
         return false;
     }
-    let g = levels::levels(b);
-    leggings_sound(b, g)
+    let g = levels::levels(numbers);
+    leggings_sound(numbers, g)
 }
 
 // Whether a venue is sound; one that is stands in the slice afterwards.
-pub fn load_sound(b: &mut [u32], v: Venue) -> bool
-    requires { ⌜ length (now b) ≡ size ⌝ }
-    ensures { λ r. ⌜ Checked v r (now (b .exit)) ⌝ }
+pub fn load_sound(numbers: &mut [u32], v: Venue) -> bool
+    requires { ⌜ length (now numbers) ≡ size ⌝ }
+    ensures { λ r. ⌜ Checked v r (now (numbers .exit)) ⌝ }
 {
     if !sound_places::places_sound(v) {
         return false;
     }
-    levels::load(b, v);
-    orders_sound(b)
+    levels::load(numbers, v);
+    orders_sound(numbers)
 }
 
 // A message's number is above that of each edition kept.
-fn follows_editions(b: &[u32], number: u32) -> bool
-    requires { ⌜ length (now b) ≡ size ⌝ }
-    ensures { λ r. ⌜ r ≡ all (λ e. ltb (e .message) number) (venueOf (now (b .entry)) .editions) ⌝ }
+fn follows_editions(numbers: &[u32], number: u32) -> bool
+    requires { ⌜ length (now numbers) ≡ size ⌝ }
+    ensures { λ r. ⌜ r ≡ all (λ e. ltb (e .message) number) (venueOf (now (numbers .entry)) .editions) ⌝ }
 {
     let mut i: usize = 0;
     while i < 32 {
-        let e = places::edition_at(b, i);
+        let e = places::edition_at(numbers, i);
         if number <= e.message {
             return false;
         }
@@ -263,13 +263,13 @@ fn follows_editions(b: &[u32], number: u32) -> bool
 }
 
 // It is above that of each of a series' generations.
-fn follows_series(b: &[u32], s: usize, number: u32) -> bool
-    requires { ⌜ (length (now b) ≡ size) × (s < 8) ⌝ }
-    ensures { λ r. ⌜ r ≡ all (λ n. ltb n number) (generationsOf (venueOf (now (b .entry))) s) ⌝ }
+fn follows_series(numbers: &[u32], s: usize, number: u32) -> bool
+    requires { ⌜ (length (now numbers) ≡ size) × (s < 8) ⌝ }
+    ensures { λ r. ⌜ r ≡ all (λ n. ltb n number) (generationsOf (venueOf (now (numbers .entry))) s) ⌝ }
 {
     let mut k: usize = 0;
     while k < 20 {
-        if number <= places::generation_at(b, s, k) {
+        if number <= places::generation_at(numbers, s, k) {
             return false;
         }
         k += 1;
@@ -278,13 +278,13 @@ fn follows_series(b: &[u32], s: usize, number: u32) -> bool
 }
 
 // A message number is above that of every generation.
-fn follows_generations(b: &[u32], number: u32) -> bool
-    requires { ⌜ length (now b) ≡ size ⌝ }
-    ensures { λ r. ⌜ r ≡ all (λ g. all (λ n. ltb n number) (g .messages)) (venueOf (now (b .entry)) .generations) ⌝ }
+fn follows_generations(numbers: &[u32], number: u32) -> bool
+    requires { ⌜ length (now numbers) ≡ size ⌝ }
+    ensures { λ r. ⌜ r ≡ all (λ g. all (λ n. ltb n number) (g .messages)) (venueOf (now (numbers .entry)) .generations) ⌝ }
 {
     let mut s: usize = 0;
     while s < 8 {
-        if !follows_series(b, s, number) {
+        if !follows_series(numbers, s, number) {
             return false;
         }
         s += 1;
@@ -293,27 +293,27 @@ fn follows_generations(b: &[u32], number: u32) -> bool
 }
 
 // A message's number is above that of each edition and of each generation kept.
-pub fn follows_kept(b: &[u32], number: u32) -> bool
-    requires { ⌜ length (now b) ≡ size ⌝ }
-    ensures { λ r. ⌜ r ≡ follows number (venueOf (now (b .entry))) ⌝ }
+pub fn follows_kept(numbers: &[u32], number: u32) -> bool
+    requires { ⌜ length (now numbers) ≡ size ⌝ }
+    ensures { λ r. ⌜ r ≡ follows number (venueOf (now (numbers .entry))) ⌝ }
 {
-    if !follows_editions(b, number) {
+    if !follows_editions(numbers, number) {
         return false;
     }
-    follows_generations(b, number)
+    follows_generations(numbers, number)
 }
 
 // Whether a venue is sound and the number of its next message, one more than `before`, above every edition's and generation's kept; one for which this
 // holds stands in the slice afterwards. Nothing kept has a number above the last that there is.
-pub fn load_ready(b: &mut [u32], venue: Venue, before: u32) -> bool
-    requires { ⌜ length (now b) ≡ size ⌝ }
-    ensures { λ r. ⌜ Ready venue before r (now (b .exit)) ⌝ }
+pub fn load_ready(numbers: &mut [u32], venue: Venue, before: u32) -> bool
+    requires { ⌜ length (now numbers) ≡ size ⌝ }
+    ensures { λ r. ⌜ Ready venue before r (now (numbers .exit)) ⌝ }
 {
-    if !load_sound(b, venue) {
+    if !load_sound(numbers, venue) {
         return false;
     }
     if before == 4294967295 {
         return true;
     }
-    follows_kept(b, before + 1)
+    follows_kept(numbers, before + 1)
 }

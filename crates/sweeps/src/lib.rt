@@ -14,56 +14,56 @@ ghost use Rattle.sweeps.specs.Rising.{Rising};
 ghost use Rattle.sweeps.specs.Round.{placesFrom, roundPlaces};
 
 // Each resting complex order is worked, earliest first: ids rise with the places.
-fn work_each(b: &mut [u32], out: &mut [u8], at: usize) -> usize
-    requires { ⌜ (length (now b) ≡ size) × (Right (now b)) × (Rising (venueOf (now b) .complex)) ⌝ }
-    ensures { λ r. ⌜ stage (venueOf (now (b .exit))) (now (out .exit)) r ≡ seen (now (out .entry)) at does each 32 complex.work 0 (venueOf (now (b .entry))) ⌝ }
-    ensures counts { λ _. ⌜ SameCounts (now (b .entry)) (now (b .exit)) ⌝ }
+fn work_each(numbers: &mut [u32], out: &mut [u8], at: usize) -> usize
+    requires { ⌜ (length (now numbers) ≡ size) × (Right (now numbers)) × (Rising (venueOf (now numbers) .complex)) ⌝ }
+    ensures { λ r. ⌜ stage (venueOf (now (numbers .exit))) (now (out .exit)) r ≡ seen (now (out .entry)) at does each 32 complex.work 0 (venueOf (now (numbers .entry))) ⌝ }
+    ensures counts { λ _. ⌜ SameCounts (now (numbers .entry)) (now (numbers .exit)) ⌝ }
 {
-    let used = places::complexes_used(b);
+    let used = places::complexes_used(numbers);
     let mut pos = at;
     let mut k: usize = 0;
     while k < used {
         let i = k;
         k += 1;
-        let c = places::complex_at(b, i);
+        let c = places::complex_at(numbers, i);
         if c.quantity == 0 {
             continue;
         }
-        pos = work::work(b, i, out, pos);
+        pos = work::work(numbers, i, out, pos);
     }
     pos
 }
 
 // Generation for each resting complex order, earliest first.
-fn generate_each(b: &mut [u32], number: u32, out: &mut [u8], at: usize) -> usize
-    requires { ⌜ (length (now b) ≡ size) × (Right (now b)) × (Rising (venueOf (now b) .complex)) ⌝ }
-    ensures { λ r. ⌜ stage (venueOf (now (b .exit))) (now (out .exit)) r ≡ seen (now (out .entry)) at does each 32 (generate number) 0 (venueOf (now (b .entry))) ⌝ }
-    ensures counts { λ _. ⌜ SameCounts (now (b .entry)) (now (b .exit)) ⌝ }
+fn generate_each(numbers: &mut [u32], number: u32, out: &mut [u8], at: usize) -> usize
+    requires { ⌜ (length (now numbers) ≡ size) × (Right (now numbers)) × (Rising (venueOf (now numbers) .complex)) ⌝ }
+    ensures { λ r. ⌜ stage (venueOf (now (numbers .exit))) (now (out .exit)) r ≡ seen (now (out .entry)) at does each 32 (generate number) 0 (venueOf (now (numbers .entry))) ⌝ }
+    ensures counts { λ _. ⌜ SameCounts (now (numbers .entry)) (now (numbers .exit)) ⌝ }
 {
-    let used = places::complexes_used(b);
+    let used = places::complexes_used(numbers);
     let mut pos = at;
     let mut k: usize = 0;
     while k < used {
         let i = k;
         k += 1;
-        let c = places::complex_at(b, i);
+        let c = places::complex_at(numbers, i);
         if c.quantity == 0 {
             continue;
         }
-        pos = generation::generate_order(b, number, i, out, pos);
+        pos = generation::generate_order(numbers, number, i, out, pos);
     }
     pos
 }
 
 // All resting complex orders are worked; then settling, once, and generation.
-pub fn sweep(b: &mut [u32], number: u32, out: &mut [u8], at: usize) -> usize
-    requires { ⌜ (length (now b) ≡ size) × (Right (now b)) × (Rising (venueOf (now b) .complex)) ⌝ }
-    ensures { λ r. ⌜ stage (venueOf (now (b .exit))) (now (out .exit)) r ≡ seen (now (out .entry)) at does complex.sweep number (venueOf (now (b .entry))) ⌝ }
-    ensures counts { λ _. ⌜ SameCounts (now (b .entry)) (now (b .exit)) ⌝ }
+pub fn sweep(numbers: &mut [u32], number: u32, out: &mut [u8], at: usize) -> usize
+    requires { ⌜ (length (now numbers) ≡ size) × (Right (now numbers)) × (Rising (venueOf (now numbers) .complex)) ⌝ }
+    ensures { λ r. ⌜ stage (venueOf (now (numbers .exit))) (now (out .exit)) r ≡ seen (now (out .entry)) at does complex.sweep number (venueOf (now (numbers .entry))) ⌝ }
+    ensures counts { λ _. ⌜ SameCounts (now (numbers .entry)) (now (numbers .exit)) ⌝ }
 {
-    let worked = work_each(b, out, at);
-    let settled = settling::settle_all(b, out, worked);
-    generate_each(b, number, out, settled)
+    let worked = work_each(numbers, out, at);
+    let settled = settling::settle_all(numbers, out, worked);
+    generate_each(numbers, number, out, settled)
 }
 
 // The places that a limited sweep looks at: `above` of them from `first` on, and then `others` from 0 on.
@@ -80,16 +80,16 @@ pub struct Swept {
 }
 
 // The first place whose order has an id above the one reached, where going round starts: ids rise with the places.
-fn round_start(b: &[u32]) -> usize
-    requires { ⌜ (length (now b) ≡ size) × (Dense (now b)) × (Rising (venueOf (now b) .complex)) ⌝ }
-    ensures { λ r. ⌜ placesFrom r (complexesUsed (now (b .entry)) - r) ++ placesFrom 0 r ≡ goingRound (venueOf (now (b .entry))) ⌝ }
-    ensures within { λ r. ⌜ r ≤ complexesUsed (now (b .entry)) ⌝ }
+fn round_start(numbers: &[u32]) -> usize
+    requires { ⌜ (length (now numbers) ≡ size) × (Dense (now numbers)) × (Rising (venueOf (now numbers) .complex)) ⌝ }
+    ensures { λ r. ⌜ placesFrom r (complexesUsed (now (numbers .entry)) - r) ++ placesFrom 0 r ≡ goingRound (venueOf (now (numbers .entry))) ⌝ }
+    ensures within { λ r. ⌜ r ≤ complexesUsed (now (numbers .entry)) ⌝ }
 {
-    let used = places::complexes_used(b);
-    let reached = places::reached_id(b);
+    let used = places::complexes_used(numbers);
+    let reached = places::reached_id(numbers);
     let mut k: usize = 0;
     while k < used {
-        let c = places::complex_at(b, k);
+        let c = places::complex_at(numbers, k);
         if reached < c.id {
             return k;
         }
@@ -99,13 +99,13 @@ fn round_start(b: &[u32]) -> usize
 }
 
 // The places of the n orders to look at, or of all where fewer rest.
-fn round_of(b: &[u32], n: u8) -> Round
-    requires { ⌜ (length (now b) ≡ size) × (Dense (now b)) × (Rising (venueOf (now b) .complex)) ⌝ }
-    ensures { λ r. ⌜ roundPlaces r ≡ firsts n (goingRound (venueOf (now (b .entry)))) ⌝ }
-    ensures within { λ r. ⌜ (r .first + r .above ≤ complexesUsed (now (b .entry))) × (r .others ≤ complexesUsed (now (b .entry))) ⌝ }
+fn round_of(numbers: &[u32], n: u8) -> Round
+    requires { ⌜ (length (now numbers) ≡ size) × (Dense (now numbers)) × (Rising (venueOf (now numbers) .complex)) ⌝ }
+    ensures { λ r. ⌜ roundPlaces r ≡ firsts n (goingRound (venueOf (now (numbers .entry)))) ⌝ }
+    ensures within { λ r. ⌜ (r .first + r .above ≤ complexesUsed (now (numbers .entry))) × (r .others ≤ complexesUsed (now (numbers .entry))) ⌝ }
 {
-    let used = places::complexes_used(b);
-    let first = round_start(b);
+    let used = places::complexes_used(numbers);
+    let first = round_start(numbers);
     let most = n as usize;
     let above = used - first;
     if most <= above {
@@ -130,31 +130,31 @@ fn round_of(b: &[u32], n: u8) -> Round
 }
 
 // The id at the last of these places; where there is none, the one reached before.
-fn last_looked(b: &[u32], r: Round) -> u32
-    requires { ⌜ (length (now b) ≡ size) × (r .first + r .above ≤ complexesUsed (now b)) × (r .others ≤ complexesUsed (now b)) ⌝ }
-    ensures { λ x. ⌜ x ≡ idReached (venueOf (now (b .entry))) (roundPlaces r) ⌝ }
+fn last_looked(numbers: &[u32], r: Round) -> u32
+    requires { ⌜ (length (now numbers) ≡ size) × (r .first + r .above ≤ complexesUsed (now numbers)) × (r .others ≤ complexesUsed (now numbers)) ⌝ }
+    ensures { λ x. ⌜ x ≡ idReached (venueOf (now (numbers .entry))) (roundPlaces r) ⌝ }
 {
     if 0 < r.others {
-        let c = places::complex_at(b, r.others - 1);
+        let c = places::complex_at(numbers, r.others - 1);
         return c.id;
     }
     if 0 < r.above {
-        let c = places::complex_at(b, r.first + r.above - 1);
+        let c = places::complex_at(numbers, r.first + r.above - 1);
         return c.id;
     }
-    places::reached_id(b)
+    places::reached_id(numbers)
 }
 
 // The orders at `count` places from `first` on are worked; at a freed place nothing is done.
-fn work_places(b: &mut [u32], first: usize, count: usize, out: &mut [u8], at: usize) -> usize
-    requires { ⌜ (length (now b) ≡ size) × (Right (now b)) × (first + count ≤ complexesUsed (now b)) ⌝ }
-    ensures { λ r. ⌜ stage (venueOf (now (b .exit))) (now (out .exit)) r ≡ seen (now (out .entry)) at does eachOf complex.work (placesFrom first count) (venueOf (now (b .entry))) ⌝ }
-    ensures counts { λ _. ⌜ SameCounts (now (b .entry)) (now (b .exit)) ⌝ }
+fn work_places(numbers: &mut [u32], first: usize, count: usize, out: &mut [u8], at: usize) -> usize
+    requires { ⌜ (length (now numbers) ≡ size) × (Right (now numbers)) × (first + count ≤ complexesUsed (now numbers)) ⌝ }
+    ensures { λ r. ⌜ stage (venueOf (now (numbers .exit))) (now (out .exit)) r ≡ seen (now (out .entry)) at does eachOf complex.work (placesFrom first count) (venueOf (now (numbers .entry))) ⌝ }
+    ensures counts { λ _. ⌜ SameCounts (now (numbers .entry)) (now (numbers .exit)) ⌝ }
 {
     let mut pos = at;
     let mut k: usize = 0;
     while k < count {
-        pos = work::work(b, first + k, out, pos);
+        pos = work::work(numbers, first + k, out, pos);
         k += 1;
     }
     pos
@@ -162,61 +162,61 @@ fn work_places(b: &mut [u32], first: usize, count: usize, out: &mut [u8], at: us
 
 // Generation for the orders at `count` places from `first` on.
 fn generate_places(
-    b: &mut [u32],
+    numbers: &mut [u32],
     number: u32,
     first: usize,
     count: usize,
     out: &mut [u8],
     at: usize,
 ) -> usize
-    requires { ⌜ (length (now b) ≡ size) × (Right (now b)) × (first + count ≤ complexesUsed (now b)) ⌝ }
-    ensures { λ r. ⌜ stage (venueOf (now (b .exit))) (now (out .exit)) r ≡ seen (now (out .entry)) at does eachOf (generate number) (placesFrom first count) (venueOf (now (b .entry))) ⌝ }
-    ensures counts { λ _. ⌜ SameCounts (now (b .entry)) (now (b .exit)) ⌝ }
+    requires { ⌜ (length (now numbers) ≡ size) × (Right (now numbers)) × (first + count ≤ complexesUsed (now numbers)) ⌝ }
+    ensures { λ r. ⌜ stage (venueOf (now (numbers .exit))) (now (out .exit)) r ≡ seen (now (out .entry)) at does eachOf (generate number) (placesFrom first count) (venueOf (now (numbers .entry))) ⌝ }
+    ensures counts { λ _. ⌜ SameCounts (now (numbers .entry)) (now (numbers .exit)) ⌝ }
 {
     let mut pos = at;
     let mut k: usize = 0;
     while k < count {
-        pos = generation::generate_order(b, number, first + k, out, pos);
+        pos = generation::generate_order(numbers, number, first + k, out, pos);
         k += 1;
     }
     pos
 }
 
 // The orders to look at are worked, in the order of the round.
-fn work_round(b: &mut [u32], r: Round, out: &mut [u8], at: usize) -> usize
-    requires { ⌜ (length (now b) ≡ size) × (Right (now b)) × (r .first + r .above ≤ complexesUsed (now b)) × (r .others ≤ complexesUsed (now b)) ⌝ }
-    ensures { λ x. ⌜ stage (venueOf (now (b .exit))) (now (out .exit)) x ≡ seen (now (out .entry)) at does eachOf complex.work (roundPlaces r) (venueOf (now (b .entry))) ⌝ }
-    ensures counts { λ _. ⌜ SameCounts (now (b .entry)) (now (b .exit)) ⌝ }
+fn work_round(numbers: &mut [u32], r: Round, out: &mut [u8], at: usize) -> usize
+    requires { ⌜ (length (now numbers) ≡ size) × (Right (now numbers)) × (r .first + r .above ≤ complexesUsed (now numbers)) × (r .others ≤ complexesUsed (now numbers)) ⌝ }
+    ensures { λ x. ⌜ stage (venueOf (now (numbers .exit))) (now (out .exit)) x ≡ seen (now (out .entry)) at does eachOf complex.work (roundPlaces r) (venueOf (now (numbers .entry))) ⌝ }
+    ensures counts { λ _. ⌜ SameCounts (now (numbers .entry)) (now (numbers .exit)) ⌝ }
 {
-    let pos = work_places(b, r.first, r.above, out, at);
-    work_places(b, 0, r.others, out, pos)
+    let pos = work_places(numbers, r.first, r.above, out, at);
+    work_places(numbers, 0, r.others, out, pos)
 }
 
 // Generation for them, in that order.
-fn generate_round(b: &mut [u32], number: u32, r: Round, out: &mut [u8], at: usize) -> usize
-    requires { ⌜ (length (now b) ≡ size) × (Right (now b)) × (r .first + r .above ≤ complexesUsed (now b)) × (r .others ≤ complexesUsed (now b)) ⌝ }
-    ensures { λ x. ⌜ stage (venueOf (now (b .exit))) (now (out .exit)) x ≡ seen (now (out .entry)) at does eachOf (generate number) (roundPlaces r) (venueOf (now (b .entry))) ⌝ }
-    ensures counts { λ _. ⌜ SameCounts (now (b .entry)) (now (b .exit)) ⌝ }
+fn generate_round(numbers: &mut [u32], number: u32, r: Round, out: &mut [u8], at: usize) -> usize
+    requires { ⌜ (length (now numbers) ≡ size) × (Right (now numbers)) × (r .first + r .above ≤ complexesUsed (now numbers)) × (r .others ≤ complexesUsed (now numbers)) ⌝ }
+    ensures { λ x. ⌜ stage (venueOf (now (numbers .exit))) (now (out .exit)) x ≡ seen (now (out .entry)) at does eachOf (generate number) (roundPlaces r) (venueOf (now (numbers .entry))) ⌝ }
+    ensures counts { λ _. ⌜ SameCounts (now (numbers .entry)) (now (numbers .exit)) ⌝ }
 {
-    let pos = generate_places(b, number, r.first, r.above, out, at);
-    generate_places(b, number, 0, r.others, out, pos)
+    let pos = generate_places(numbers, number, r.first, r.above, out, at);
+    generate_places(numbers, number, 0, r.others, out, pos)
 }
 
 // A sweep of at most n resting orders, which starts after the last id that one looked at: how many it looks at is told first. Its places stay
 // as they are till its end, whatever becomes of the orders there.
-pub fn limited_sweep(b: &mut [u32], number: u32, n: u8, out: &mut [u8], at: usize) -> Swept
-    requires { ⌜ (length (now b) ≡ size) × (Dense (now b)) × (Rising (venueOf (now b) .complex)) ⌝ }
-    ensures { λ r. ⌜ stage (venueOf (now (b .exit))) (now (out .exit)) (r .at) ≡ seen (now (out .entry)) at does complex.limitedSweep number n (venueOf (now (b .entry))) ⌝ }
-    ensures counts { λ _. ⌜ SameCounts (now (b .entry)) (now (b .exit)) ⌝ }
-    ensures looked { λ r. ⌜ r .looked ≡ examined n (venueOf (now (b .entry))) ⌝ }
+pub fn limited_sweep(numbers: &mut [u32], number: u32, n: u8, out: &mut [u8], at: usize) -> Swept
+    requires { ⌜ (length (now numbers) ≡ size) × (Dense (now numbers)) × (Rising (venueOf (now numbers) .complex)) ⌝ }
+    ensures { λ r. ⌜ stage (venueOf (now (numbers .exit))) (now (out .exit)) (r .at) ≡ seen (now (out .entry)) at does complex.limitedSweep number n (venueOf (now (numbers .entry))) ⌝ }
+    ensures counts { λ _. ⌜ SameCounts (now (numbers .entry)) (now (numbers .exit)) ⌝ }
+    ensures looked { λ r. ⌜ r .looked ≡ examined n (venueOf (now (numbers .entry))) ⌝ }
 {
-    let round = round_of(b, n);
+    let round = round_of(numbers, n);
     let looked = (round.above + round.others) as u8;
-    let id = last_looked(b, round);
-    place_writes::put_reached(b, id);
+    let id = last_looked(numbers, round);
+    place_writes::put_reached(numbers, id);
     let told = records::emit_looked(out, at, looked);
-    let worked = work_round(b, round, out, told);
-    let settled = settling::settle_all(b, out, worked);
-    let end = generate_round(b, number, round, out, settled);
+    let worked = work_round(numbers, round, out, told);
+    let settled = settling::settle_all(numbers, out, worked);
+    let end = generate_round(numbers, number, round, out, settled);
     Swept { at: end, looked }
 }

@@ -20,7 +20,7 @@ use rules::Legging;
 
 // A taker of a side trades k contracts with the regular order at place j.
 fn trade_with(
-    b: &mut [u32],
+    numbers: &mut [u32],
     taker: u32,
     side: u8,
     j: usize,
@@ -28,12 +28,12 @@ fn trade_with(
     out: &mut [u8],
     at: usize,
 ) -> usize
-    requires { ⌜ (length (now b) ≡ size) × (j < regularsUsed (now b)) ⌝ }
-    ensures { λ r. ⌜ stage (venueOf (now (b .exit))) (now (out .exit)) r ≡ seen (now (out .entry)) at does tradeWith taker side j k (venueOf (now (b .entry))) ⌝ }
-    ensures counts { λ _. ⌜ SameCounts (now (b .entry)) (now (b .exit)) ⌝ }
+    requires { ⌜ (length (now numbers) ≡ size) × (j < regularsUsed (now numbers)) ⌝ }
+    ensures { λ r. ⌜ stage (venueOf (now (numbers .exit))) (now (out .exit)) r ≡ seen (now (out .entry)) at does tradeWith taker side j k (venueOf (now (numbers .entry))) ⌝ }
+    ensures counts { λ _. ⌜ SameCounts (now (numbers .entry)) (now (numbers .exit)) ⌝ }
 {
-    let m = places::regular_at(b, j);
-    levels::fill_order(b, j, k);
+    let m = places::regular_at(numbers, j);
+    levels::fill_order(numbers, j, k);
     records::emit_trade(out, at, m.series, side, m.price, k, taker, m.id)
 }
 
@@ -49,7 +49,7 @@ pub fn at_most(q: u32, n: u64) -> u32
 
 // A taker of a side takes contracts that are shown at a price in a series, by id, until it has all or none are left there.
 pub fn take(
-    b: &mut [u32],
+    numbers: &mut [u32],
     taker: u32,
     series: u8,
     side: u8,
@@ -58,40 +58,40 @@ pub fn take(
     out: &mut [u8],
     at: usize,
 ) -> usize
-    requires { ⌜ (length (now b) ≡ size) × (Right (now b)) ⌝ }
-    ensures { λ r. ⌜ stage (venueOf (now (b .exit))) (now (out .exit)) r ≡ seen (now (out .entry)) at does trading.take quantity taker series side price quantity (venueOf (now (b .entry))) ⌝ }
-    ensures counts { λ _. ⌜ SameCounts (now (b .entry)) (now (b .exit)) ⌝ }
+    requires { ⌜ (length (now numbers) ≡ size) × (Right (now numbers)) ⌝ }
+    ensures { λ r. ⌜ stage (venueOf (now (numbers .exit))) (now (out .exit)) r ≡ seen (now (out .entry)) at does trading.take quantity taker series side price quantity (venueOf (now (numbers .entry))) ⌝ }
+    ensures counts { λ _. ⌜ SameCounts (now (numbers .entry)) (now (numbers .exit)) ⌝ }
 {
     let other = opposite_of(side);
     let mut pos = at;
     let mut left = quantity;
     while 0 < left {
-        let found = book::first_for(b, series, other, price);
+        let found = book::first_for(numbers, series, other, price);
         let Pick::At(j, m) = found else {
             return pos;
         };
         let k = at_most(arithmetic::shown_of(m), left);
-        pos = trade_with(b, taker, side, j, k, out, pos);
+        pos = trade_with(numbers, taker, side, j, k, out, pos);
         left -= k as u64;
     }
     pos
 }
 
 // The complex order at place i, if there is one, is filled for k units.
-fn fill_pair(b: &mut [u32], i: usize, k: u32)
-    requires { ⌜ length (now b) ≡ size ⌝ }
-    ensures { λ _. ⌜ venueOf (now (b .exit)) ≡ fillComplex i k (venueOf (now (b .entry))) ⌝ }
-    ensures counts { λ _. ⌜ SameCounts (now (b .entry)) (now (b .exit)) ⌝ }
+fn fill_pair(numbers: &mut [u32], i: usize, k: u32)
+    requires { ⌜ length (now numbers) ≡ size ⌝ }
+    ensures { λ _. ⌜ venueOf (now (numbers .exit)) ≡ fillComplex i k (venueOf (now (numbers .entry))) ⌝ }
+    ensures counts { λ _. ⌜ SameCounts (now (numbers .entry)) (now (numbers .exit)) ⌝ }
 {
-    if places::complexes_used(b) <= i {
+    if places::complexes_used(numbers) <= i {
         return;
     }
-    place_writes::fill_complex(b, i, k);
+    place_writes::fill_complex(numbers, i, k);
 }
 
 // The complex order of this id, at place i, pairs k units at a net; its legging orders go.
 pub fn pair_off(
-    b: &mut [u32],
+    numbers: &mut [u32],
     i: usize,
     id: u32,
     net: i64,
@@ -99,13 +99,13 @@ pub fn pair_off(
     out: &mut [u8],
     at: usize,
 ) -> usize
-    requires { ⌜ length (now b) ≡ size ⌝ }
-    ensures { λ r. ⌜ stage (venueOf (now (b .exit))) (now (out .exit)) r ≡ seen (now (out .entry)) at does pairOff i id net k (venueOf (now (b .entry))) ⌝ }
-    ensures counts { λ _. ⌜ SameCounts (now (b .entry)) (now (b .exit)) ⌝ }
+    requires { ⌜ length (now numbers) ≡ size ⌝ }
+    ensures { λ r. ⌜ stage (venueOf (now (numbers .exit))) (now (out .exit)) r ≡ seen (now (out .entry)) at does pairOff i id net k (venueOf (now (numbers .entry))) ⌝ }
+    ensures counts { λ _. ⌜ SameCounts (now (numbers .entry)) (now (numbers .exit)) ⌝ }
 {
-    fill_pair(b, i, k);
+    fill_pair(numbers, i, k);
     let pos = records::emit_pair(out, at, id, net, k);
-    removal::remove_of(b, id, Cause::Executed, out, pos)
+    removal::remove_of(numbers, id, Cause::Executed, out, pos)
 }
 
 // What a hit pairs: the complex order, its other leg with the clear price, and the net.
@@ -118,16 +118,16 @@ pub struct Pairing {
 }
 
 // What a hit of a legging order pairs.
-fn pairing_of(b: &[u32], l: Legging, series: u8, side: u8) -> Pairing
-    requires { ⌜ (length (now b) ≡ size) × (Right (now b)) ⌝ }
-    ensures { λ r. ⌜ r ≡ pairingOf (venueOf (now (b .entry))) l series side ⌝ }
+fn pairing_of(numbers: &[u32], l: Legging, series: u8, side: u8) -> Pairing
+    requires { ⌜ (length (now numbers) ≡ size) × (Right (now numbers)) ⌝ }
+    ensures { λ r. ⌜ r ≡ pairingOf (venueOf (now (numbers .entry))) l series side ⌝ }
     ensures bounded { λ r. ⌜ natAbs (r .net) ≤ 2190433320450 ⌝ }
 {
-    let c = prices::parent_of(b, l);
+    let c = prices::parent_of(numbers, l);
     let leg = prices::other_leg(c, series);
     let other = opposite_of(leg.side);
-    let best = levels::best_regular(b, leg.series, other);
-    let clear = prices::clear_price(b, best, leg.series, other);
+    let best = levels::best_regular(numbers, leg.series, other);
+    let clear = prices::clear_price(numbers, best, leg.series, other);
     let net = arithmetic::net_of(1, opposite_of(side), l.price, 1, leg.side, clear);
     Pairing {
         id: c.id,
@@ -139,11 +139,11 @@ fn pairing_of(b: &[u32], l: Legging, series: u8, side: u8) -> Pairing
 }
 
 // The place of the resting complex order with an id; 32 where there is none.
-fn place_or_end(b: &[u32], id: u32) -> usize
-    requires { ⌜ length (now b) ≡ size ⌝ }
-    ensures { λ r. ⌜ r ≡ complexPlace (venueOf (now (b .entry))) id ⌝ }
+fn place_or_end(numbers: &[u32], id: u32) -> usize
+    requires { ⌜ length (now numbers) ≡ size ⌝ }
+    ensures { λ r. ⌜ r ≡ complexPlace (venueOf (now (numbers .entry))) id ⌝ }
 {
-    let found = book::complex_place(b, id);
+    let found = book::complex_place(numbers, id);
     match found {
         Found::At(j) => j,
         Found::Nothing => 32,
@@ -151,50 +151,59 @@ fn place_or_end(b: &[u32], id: u32) -> usize
 }
 
 // The order at place i hits a legging order for k contracts: the trade, then the pairing.
-pub fn hit(b: &mut [u32], i: usize, l: Legging, k: u32, out: &mut [u8], at: usize) -> usize
-    requires { ⌜ (length (now b) ≡ size) × (i < regularsUsed (now b)) × (Right (now b)) ⌝ }
-    ensures { λ r. ⌜ stage (venueOf (now (b .exit))) (now (out .exit)) r ≡ seen (now (out .entry)) at does order.hit i l k (venueOf (now (b .entry))) ⌝ }
-    ensures counts { λ _. ⌜ SameCounts (now (b .entry)) (now (b .exit)) ⌝ }
+pub fn hit(numbers: &mut [u32], i: usize, l: Legging, k: u32, out: &mut [u8], at: usize) -> usize
+    requires { ⌜ (length (now numbers) ≡ size) × (i < regularsUsed (now numbers)) × (Right (now numbers)) ⌝ }
+    ensures { λ r. ⌜ stage (venueOf (now (numbers .exit))) (now (out .exit)) r ≡ seen (now (out .entry)) at does order.hit i l k (venueOf (now (numbers .entry))) ⌝ }
+    ensures counts { λ _. ⌜ SameCounts (now (numbers .entry)) (now (numbers .exit)) ⌝ }
 {
-    let o = places::regular_at(b, i);
-    let p = pairing_of(b, l, o.series, o.side);
-    levels::fill_order(b, i, k);
+    let o = places::regular_at(numbers, i);
+    let p = pairing_of(numbers, l, o.series, o.side);
+    levels::fill_order(numbers, i, k);
     let traded = records::emit_trade(out, at, o.series, o.side, l.price, k, o.id, p.id);
-    let taken = take(b, p.id, p.series, p.side, p.clear, k as u64, out, traded);
-    let j = place_or_end(b, p.id);
-    pair_off(b, j, p.id, p.net, k, out, taken)
+    let taken = take(
+        numbers,
+        p.id,
+        p.series,
+        p.side,
+        p.clear,
+        k as u64,
+        out,
+        traded,
+    );
+    let j = place_or_end(numbers, p.id);
+    pair_off(numbers, j, p.id, p.net, k, out, taken)
 }
 
 // The order at place i trades k contracts with the regular order at place j.
-pub fn meet(b: &mut [u32], i: usize, j: usize, k: u32, out: &mut [u8], at: usize) -> usize
-    requires { ⌜ (length (now b) ≡ size) × (i < regularsUsed (now b)) × (j < regularsUsed (now b)) ⌝ }
-    ensures { λ r. ⌜ stage (venueOf (now (b .exit))) (now (out .exit)) r ≡ seen (now (out .entry)) at does order.meet i j k (venueOf (now (b .entry))) ⌝ }
-    ensures counts { λ _. ⌜ SameCounts (now (b .entry)) (now (b .exit)) ⌝ }
+pub fn meet(numbers: &mut [u32], i: usize, j: usize, k: u32, out: &mut [u8], at: usize) -> usize
+    requires { ⌜ (length (now numbers) ≡ size) × (i < regularsUsed (now numbers)) × (j < regularsUsed (now numbers)) ⌝ }
+    ensures { λ r. ⌜ stage (venueOf (now (numbers .exit))) (now (out .exit)) r ≡ seen (now (out .entry)) at does order.meet i j k (venueOf (now (numbers .entry))) ⌝ }
+    ensures counts { λ _. ⌜ SameCounts (now (numbers .entry)) (now (numbers .exit)) ⌝ }
 {
-    let o = places::regular_at(b, i);
-    levels::fill_order(b, i, k);
-    trade_with(b, o.id, o.side, j, k, out, at)
+    let o = places::regular_at(numbers, i);
+    levels::fill_order(numbers, i, k);
+    trade_with(numbers, o.id, o.side, j, k, out, at)
 }
 
 // The regular order at place i is cancelled.
-pub fn cancel_regular(b: &mut [u32], i: usize, out: &mut [u8], at: usize) -> usize
-    requires { ⌜ (length (now b) ≡ size) × (i < regularsUsed (now b)) ⌝ }
-    ensures { λ r. ⌜ stage (venueOf (now (b .exit))) (now (out .exit)) r ≡ seen (now (out .entry)) at does cancelRegular i (venueOf (now (b .entry))) ⌝ }
-    ensures counts { λ _. ⌜ SameCounts (now (b .entry)) (now (b .exit)) ⌝ }
+pub fn cancel_regular(numbers: &mut [u32], i: usize, out: &mut [u8], at: usize) -> usize
+    requires { ⌜ (length (now numbers) ≡ size) × (i < regularsUsed (now numbers)) ⌝ }
+    ensures { λ r. ⌜ stage (venueOf (now (numbers .exit))) (now (out .exit)) r ≡ seen (now (out .entry)) at does cancelRegular i (venueOf (now (numbers .entry))) ⌝ }
+    ensures counts { λ _. ⌜ SameCounts (now (numbers .entry)) (now (numbers .exit)) ⌝ }
 {
-    let o = places::regular_at(b, i);
-    levels::fill_order(b, i, o.quantity);
+    let o = places::regular_at(numbers, i);
+    levels::fill_order(numbers, i, o.quantity);
     records::emit_cancelled(out, at, o.id, o.quantity)
 }
 
 // The complex order at place i is cancelled, and its legging orders go.
-pub fn cancel_complex(b: &mut [u32], i: usize, out: &mut [u8], at: usize) -> usize
-    requires { ⌜ (length (now b) ≡ size) × (i < complexesUsed (now b)) ⌝ }
-    ensures { λ r. ⌜ stage (venueOf (now (b .exit))) (now (out .exit)) r ≡ seen (now (out .entry)) at does cancelComplex i (venueOf (now (b .entry))) ⌝ }
-    ensures counts { λ _. ⌜ SameCounts (now (b .entry)) (now (b .exit)) ⌝ }
+pub fn cancel_complex(numbers: &mut [u32], i: usize, out: &mut [u8], at: usize) -> usize
+    requires { ⌜ (length (now numbers) ≡ size) × (i < complexesUsed (now numbers)) ⌝ }
+    ensures { λ r. ⌜ stage (venueOf (now (numbers .exit))) (now (out .exit)) r ≡ seen (now (out .entry)) at does cancelComplex i (venueOf (now (numbers .entry))) ⌝ }
+    ensures counts { λ _. ⌜ SameCounts (now (numbers .entry)) (now (numbers .exit)) ⌝ }
 {
-    let c = places::complex_at(b, i);
-    place_writes::fill_complex(b, i, c.quantity);
+    let c = places::complex_at(numbers, i);
+    place_writes::fill_complex(numbers, i, c.quantity);
     let pos = records::emit_cancelled(out, at, c.id, c.quantity);
-    removal::remove_of(b, c.id, Cause::Withdrawn, out, pos)
+    removal::remove_of(numbers, c.id, Cause::Withdrawn, out, pos)
 }

@@ -15,9 +15,9 @@ ghost use Rattle.places.specs.Layout.{size, complexesUsed, venueOf, Figured, Ri
 ghost use Rattle.levels.specs.Grid.{LegsIn, TakenOf};
 
 // The best regular prices a and p that c would take net to its limit or less, and that net is in band.
-fn can_leg_in(b: &[u32], taken: Taken, c: Complex, a: u32, p: u32) -> bool
-    requires { ⌜ (length (now b) ≡ size) × (TakenOf taken c (venueOf (now b) .regular)) × (LegsIn c) × (Figured (now b)) ⌝ }
-    ensures { λ r. ⌜ r ≡ legsIn (venueOf (now (b .entry))) c a p ⌝ }
+fn can_leg_in(numbers: &[u32], taken: Taken, c: Complex, a: u32, p: u32) -> bool
+    requires { ⌜ (length (now numbers) ≡ size) × (TakenOf taken c (venueOf (now numbers) .regular)) × (LegsIn c) × (Figured (now numbers)) ⌝ }
+    ensures { λ r. ⌜ r ≡ legsIn (venueOf (now (numbers .entry))) c a p ⌝ }
 {
     if c.quantity == 0 {
         return false;
@@ -33,7 +33,7 @@ fn can_leg_in(b: &[u32], taken: Taken, c: Complex, a: u32, p: u32) -> bool
     if limit < net {
         return false;
     }
-    prices::in_band(b, taken, c, net)
+    prices::in_band(numbers, taken, c, net)
 }
 
 // The contracts of one leg in k units.
@@ -44,18 +44,26 @@ fn contracts(ratio: u8, k: u32) -> u64
 }
 
 // k units of the order at place i, at prices a and p: the first leg's trades, the second's, the pair.
-pub fn leg_in(b: &mut [u32], i: usize, a: u32, p: u32, k: u32, out: &mut [u8], at: usize) -> usize
-    requires { ⌜ (length (now b) ≡ size) × (Right (now b)) × (i < complexesUsed (now b)) ⌝ }
-    ensures { λ r. ⌜ stage (venueOf (now (b .exit))) (now (out .exit)) r ≡ seen (now (out .entry)) at does complex.legIn i a p k (venueOf (now (b .entry))) ⌝ }
-    ensures counts { λ _. ⌜ SameCounts (now (b .entry)) (now (b .exit)) ⌝ }
+pub fn leg_in(
+    numbers: &mut [u32],
+    i: usize,
+    a: u32,
+    p: u32,
+    k: u32,
+    out: &mut [u8],
+    at: usize,
+) -> usize
+    requires { ⌜ (length (now numbers) ≡ size) × (Right (now numbers)) × (i < complexesUsed (now numbers)) ⌝ }
+    ensures { λ r. ⌜ stage (venueOf (now (numbers .exit))) (now (out .exit)) r ≡ seen (now (out .entry)) at does complex.legIn i a p k (venueOf (now (numbers .entry))) ⌝ }
+    ensures counts { λ _. ⌜ SameCounts (now (numbers .entry)) (now (numbers .exit)) ⌝ }
 {
-    let c = places::complex_at(b, i);
+    let c = places::complex_at(numbers, i);
     let net = arithmetic::net_of(c.ratio1, c.side1, a, c.ratio2, c.side2, p);
     let one = contracts(c.ratio1, k);
     let two = contracts(c.ratio2, k);
-    let first = trades::take(b, c.id, c.series1, c.side1, a, one, out, at);
-    let second = trades::take(b, c.id, c.series2, c.side2, p, two, out, first);
-    trades::pair_off(b, i, c.id, net, k, out, second)
+    let first = trades::take(numbers, c.id, c.series1, c.side1, a, one, out, at);
+    let second = trades::take(numbers, c.id, c.series2, c.side2, p, two, out, first);
+    trades::pair_off(numbers, i, c.id, net, k, out, second)
 }
 
 // The units that a size fills, each of `ratio` contracts; none where that is 0.
@@ -82,42 +90,42 @@ fn units_in(taken: Taken, c: Complex) -> u32
 }
 
 // The order at place i legs in while the best prices allow it and fill a unit, in at most `quantity` turns.
-pub fn leg_in_all(b: &mut [u32], i: usize, quantity: u32, out: &mut [u8], at: usize) -> usize
-    requires { ⌜ (length (now b) ≡ size) × (Right (now b)) × (i < complexesUsed (now b)) ⌝ }
-    ensures { λ r. ⌜ stage (venueOf (now (b .exit))) (now (out .exit)) r ≡ seen (now (out .entry)) at does repeat quantity (legInTurn i) (venueOf (now (b .entry))) ⌝ }
-    ensures counts { λ _. ⌜ SameCounts (now (b .entry)) (now (b .exit)) ⌝ }
+pub fn leg_in_all(numbers: &mut [u32], i: usize, quantity: u32, out: &mut [u8], at: usize) -> usize
+    requires { ⌜ (length (now numbers) ≡ size) × (Right (now numbers)) × (i < complexesUsed (now numbers)) ⌝ }
+    ensures { λ r. ⌜ stage (venueOf (now (numbers .exit))) (now (out .exit)) r ≡ seen (now (out .entry)) at does repeat quantity (legInTurn i) (venueOf (now (numbers .entry))) ⌝ }
+    ensures counts { λ _. ⌜ SameCounts (now (numbers .entry)) (now (numbers .exit)) ⌝ }
 {
     let mut pos = at;
     let mut turns = quantity;
     while 0 < turns {
         turns -= 1;
-        let c = places::complex_at(b, i);
-        let taken = levels::taken_at(b, c);
+        let c = places::complex_at(numbers, i);
+        let taken = levels::taken_at(numbers, c);
         let first = taken.first;
         let second = taken.second;
-        if !can_leg_in(b, taken, c, first.price, second.price) {
+        if !can_leg_in(numbers, taken, c, first.price, second.price) {
             return pos;
         }
         let k = units_in(taken, c);
         if k == 0 {
             return pos;
         }
-        pos = leg_in(b, i, first.price, second.price, k, out, pos);
+        pos = leg_in(numbers, i, first.price, second.price, k, out, pos);
     }
     pos
 }
 
 // The order at place i crosses, touches and legs in, if neither of its series is closed.
-pub fn work(b: &mut [u32], i: usize, out: &mut [u8], at: usize) -> usize
-    requires { ⌜ (length (now b) ≡ size) × (Right (now b)) × (i < complexesUsed (now b)) ⌝ }
-    ensures { λ r. ⌜ stage (venueOf (now (b .exit))) (now (out .exit)) r ≡ seen (now (out .entry)) at does complex.work i (venueOf (now (b .entry))) ⌝ }
-    ensures counts { λ _. ⌜ SameCounts (now (b .entry)) (now (b .exit)) ⌝ }
+pub fn work(numbers: &mut [u32], i: usize, out: &mut [u8], at: usize) -> usize
+    requires { ⌜ (length (now numbers) ≡ size) × (Right (now numbers)) × (i < complexesUsed (now numbers)) ⌝ }
+    ensures { λ r. ⌜ stage (venueOf (now (numbers .exit))) (now (out .exit)) r ≡ seen (now (out .entry)) at does complex.work i (venueOf (now (numbers .entry))) ⌝ }
+    ensures counts { λ _. ⌜ SameCounts (now (numbers .entry)) (now (numbers .exit)) ⌝ }
 {
-    let c = places::complex_at(b, i);
-    if prices::any_closed(b, c) {
+    let c = places::complex_at(numbers, i);
+    if prices::any_closed(numbers, c) {
         return at;
     }
-    let crossed = crossing::cross_all(b, i, out, at);
-    let touched = crossing::touch(b, i, out, crossed);
-    leg_in_all(b, i, c.quantity, out, touched)
+    let crossed = crossing::cross_all(numbers, i, out, at);
+    let touched = crossing::touch(numbers, i, out, crossed);
+    leg_in_all(numbers, i, c.quantity, out, touched)
 }

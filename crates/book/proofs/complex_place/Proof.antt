@@ -23,7 +23,7 @@ loop-holds : tie.Need-loop-holds Inv-loop μ-loop
 loop-holds c = (search needs, λ j q. absurd (omega arith))
 
 complex-at-requires : tie.Need-complex-at-requires Inv-loop μ-loop
-complex-at-requires c κs = let w = complexes-few (c .before .before .before .before .args .b .now) in search needs
+complex-at-requires c κs = let w = complexes-few (c .before .before .before .before .args .numbers .now) in search needs
 
 returns : tie.Need-returns Inv-loop μ-loop
 unfolding complexFound restsComplex complexPlace complexAt venueOf foundIn
@@ -31,12 +31,12 @@ returns c =
     let p2 = c .before .before in
     let p4 = p2 .before .before in
     let p7 = p4 .before .before .before in
-    let b = p7 .args .b .now in
+    let b = p7 .args .numbers .now in
     found-at (isComplexOf (p7 .args .id)) _ (complex-free _) (complexIn b) (complexesUsed b) 32 (complexes-few b) _ (omega arith)
     (ap (λ x. isComplexOf (p7 .args .id) x) (sym (p2 .complex-at .ensures)) ∙ sym (c .before .is-complex-of .ensures) ∙ c .if1 .taken) (p4 .loop .inv .1)
 
 add-i : tie.Need-add-i Inv-loop μ-loop
-add-i c = let w = complexes-few (c .before .before .before .before .before .before .before .args .b .now) in search needs
+add-i c = let w = complexes-few (c .before .before .before .before .before .before .before .args .numbers .now) in search needs
 
 loop-again : tie.Need-loop-again Inv-loop μ-loop
 loop-again c =
@@ -44,7 +44,7 @@ loop-again c =
     let p4 = p2 .before .before in
     let p7 = p4 .before .before .before in (
       omega arith,
-      passed-on (isComplexOf (p7 .args .id)) (complexIn (p7 .args .b .now)) _ (p4 .loop .inv .1)
+      passed-on (isComplexOf (p7 .args .id)) (complexIn (p7 .args .numbers .now)) _ (p4 .loop .inv .1)
           (ap (λ x. isComplexOf (p7 .args .id) x) (sym (p2 .complex-at .ensures)) ∙ sym (c .before .is-complex-of .ensures) ∙ c .if1 .left),
     )
 
@@ -52,7 +52,7 @@ returns-2 : tie.Need-returns-2 Inv-loop μ-loop
 unfolding complexFound restsComplex complexPlace complexAt venueOf foundIn
 returns-2 c =
     let p4 = c .before .before .before .before in
-    let b = p4 .args .b .now in
+    let b = p4 .args .numbers .now in
     found-none (isComplexOf (p4 .args .id)) _ (complex-free _) (complexIn b) (complexesUsed b) 32 (complexes-few b)
     (λ j q. c .before .loop .inv .1 j (omega arith))
 

@@ -24,10 +24,10 @@ loop-holds : tie.Need-loop-holds Inv-loop μ-loop
 loop-holds c = (search needs, λ j q. absurd (omega arith))
 
 add-k : tie.Need-add-k Inv-loop μ-loop
-add-k c = let w = regulars-few (c .before .before .before .before .before .args .b .now) in search needs
+add-k c = let w = regulars-few (c .before .before .before .before .before .args .numbers .now) in search needs
 
 key-at-requires : tie.Need-key-at-requires Inv-loop μ-loop
-key-at-requires c κs = let w = regulars-few (c .before .before .before .before .before .args .b .now) in search needs
+key-at-requires c κs = let w = regulars-few (c .before .before .before .before .before .args .numbers .now) in search needs
 
 loop-again : tie.Need-loop-again Inv-loop μ-loop
 loop-again c =
@@ -36,19 +36,19 @@ loop-again c =
     let p5 = p3 .before .before in
     let p7 = p5 .before .before in (
       omega arith,
-      passed-on (showsFor (p7 .args .series) (p7 .args .side) (p7 .args .price)) (regularIn (p7 .args .b .now)) _ (p3 .loop .inv .1)
+      passed-on (showsFor (p7 .args .series) (p7 .args .side) (p7 .args .price)) (regularIn (p7 .args .numbers .now)) _ (p3 .loop .inv .1)
           (for-key (p7 .args .series) (p7 .args .side) (p7 .args .price) _ (λ e. c .if1 .taken (p1 .key-at .ensures ∙ e ∙ sym (p5 .place-of .ensures)))),
     )
 
 regular-at-requires : tie.Need-regular-at-requires Inv-loop μ-loop
-regular-at-requires c κs = let w = regulars-few (c .before .before .before .before .before .before .before .args .b .now) in search needs
+regular-at-requires c κs = let w = regulars-few (c .before .before .before .before .before .before .before .args .numbers .now) in search needs
 
 returns : tie.Need-returns Inv-loop μ-loop
 returns c =
     let p2 = c .before .before in
     let p6 = p2 .before .before .before .before in
     let p10 = p6 .before .before .before .before in
-    for-at (p10 .args .b .now) (p10 .pre .1) (p10 .args .series) (p10 .args .side) (p10 .args .price) _ _ (omega arith) (p2 .regular-at .ensures)
+    for-at (p10 .args .numbers .now) (p10 .pre .1) (p10 .args .series) (p10 .args .side) (p10 .args .price) _ _ (omega arith) (p2 .regular-at .ensures)
     (sym (c .before .shows-for .ensures) ∙ c .if2 .taken) (p6 .loop .inv .1)
 
 loop-again-2 : tie.Need-loop-again-2 Inv-loop μ-loop
@@ -57,14 +57,14 @@ loop-again-2 c =
     let p6 = p2 .before .before .before .before in
     let p10 = p6 .before .before .before .before in (
       omega arith,
-      passed-on (showsFor (p10 .args .series) (p10 .args .side) (p10 .args .price)) (regularIn (p10 .args .b .now)) _ (p6 .loop .inv .1)
+      passed-on (showsFor (p10 .args .series) (p10 .args .side) (p10 .args .price)) (regularIn (p10 .args .numbers .now)) _ (p6 .loop .inv .1)
           (ap (λ (o : Regular). showsFor (p10 .args .series) (p10 .args .side) (p10 .args .price) o) (sym (p2 .regular-at .ensures)) ∙ sym (c .before .shows-for .ensures) ∙ c .if2 .left),
     )
 
 returns-2 : tie.Need-returns-2 Inv-loop μ-loop
 returns-2 c =
     let p5 = c .before .before .before .before .before in
-    for-none (p5 .args .b .now) (p5 .pre .1) (p5 .args .series) (p5 .args .side) (p5 .args .price) (λ j q. c .before .loop .inv .1 j (omega arith))
+    for-none (p5 .args .numbers .now) (p5 .pre .1) (p5 .args .series) (p5 .args .side) (p5 .args .price) (λ j q. c .before .loop .inv .1 j (omega arith))
 
 pub first-for-spec : {M : Type 1} → statement M
 first-for-spec =

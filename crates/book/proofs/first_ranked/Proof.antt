@@ -24,14 +24,14 @@ loop-holds : tie.Need-loop-holds Inv-loop μ-loop
 loop-holds c = let e = c .regulars-used .ensures .0 in (omega (arith, e), met-start _ _ _ _ _ (omega (arith, e)))
 
 key-at-requires : tie.Need-key-at-requires Inv-loop μ-loop
-key-at-requires c κs = let w = regulars-few (c .before .before .before .before .before .before .args .b .now) in search needs
+key-at-requires c κs = let w = regulars-few (c .before .before .before .before .before .before .args .numbers .now) in search needs
 
 loop-again : tie.Need-loop-again Inv-loop μ-loop
 loop-again c =
     let l = c .before .before .before .loop in
     let a = c .before .before .before .before .before .before .before .before .args in (
       omega (arith, l .inv .0),
-      met-past (a .b .now) (a .series) (a .side) (a .price) _ _ (c .before .before .loop-test .taken) (l .inv .0) (l .inv .1)
+      met-past (a .numbers .now) (a .series) (a .side) (a .price) _ _ (c .before .before .loop-test .taken) (l .inv .0) (l .inv .1)
           (met-key (a .series) (a .side) (a .price) _
           (λ e. c .if1 .taken (c .before .key-at .ensures ∙ e ∙ ap (placeOf (a .series))
           (sym (c .before .before .before .before .before .before .opposite-of .ensures))
@@ -39,14 +39,14 @@ loop-again c =
     )
 
 regular-at-requires : tie.Need-regular-at-requires Inv-loop μ-loop
-regular-at-requires c κs = let w = regulars-few (c .before .before .before .before .before .before .before .before .args .b .now) in search needs
+regular-at-requires c κs = let w = regulars-few (c .before .before .before .before .before .before .before .before .args .numbers .now) in search needs
 
 loop-again-2 : tie.Need-loop-again-2 Inv-loop μ-loop
 loop-again-2 c =
     let l = c .before .before .before .before .before .before .loop in
     let a = c .before .before .before .before .before .before .before .before .before .before .before .args in (
       omega (arith, l .inv .0),
-      met-past (a .b .now) (a .series) (a .side) (a .price) _ _ (c .before .before .before .before .before .loop-test .taken) (l .inv .0) (l .inv .1)
+      met-past (a .numbers .now) (a .series) (a .side) (a .price) _ _ (c .before .before .before .before .before .loop-test .taken) (l .inv .0) (l .inv .1)
           (ap (isMet (a .series) (a .side) (a .price)) (sym (c .before .before .regular-at .ensures)) ∙ sym (c .before .is-met .ensures) ∙ not-true _ (c .if2 .taken)),
     )
 
@@ -55,13 +55,13 @@ loop-again-3 c =
     let l = c .before .before .before .before .before .before .before .loop in
     let a = c .before .before .before .before .before .before .before .before .before .before .before .before .args in (
       omega (arith, l .inv .0),
-      met-join (a .b .now) (a .series) (a .side) (a .price) _ _ (c .before .before .before .before .before .before .loop-test .taken) (l .inv .0)
+      met-join (a .numbers .now) (a .series) (a .side) (a .price) _ _ (c .before .before .before .before .before .before .loop-test .taken) (l .inv .0)
           (l .inv .1) _ (c .before .before .before .regular-at .ensures)
           (sym (c .before .before .is-met .ensures) ∙ not-false _ (c .before .if2 .left)) _ (c .better-pick .ensures),
     )
 
 returns : tie.Need-returns Inv-loop μ-loop
-returns c = let z : c .before .loop .i ≡ 0 = search needs in met-all (c .before .before .before .before .before .before .args .b .now) _ _ _ _ _ z (c .before .loop .inv .1)
+returns c = let z : c .before .loop .i ≡ 0 = search needs in met-all (c .before .before .before .before .before .before .args .numbers .now) _ _ _ _ _ z (c .before .loop .inv .1)
 
 pub first-ranked-spec : {M : Type 1} → statement M
 first-ranked-spec =

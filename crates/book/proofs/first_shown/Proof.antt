@@ -31,21 +31,21 @@ best-asked : (c : tie.After-reaches-any) →
     c .reaches-any .result
     ≡ reachesAny (c .before .before .before .before .args .side) (c .before .before .before .before .args .price)
     (bestIn (c .before .before .before .before .args .series) (opposite (c .before .before .before .before .args .side))
-    (venueOf (c .before .before .before .before .args .b .now) .regular))
+    (venueOf (c .before .before .before .before .args .numbers .now) .regular))
 unfolding bestRegular
 best-asked c =
     let p1 = c .before in
     let p4 = p1 .before .before .before in
     c .reaches-any .ensures
     ∙ ap (reachesAny (p4 .args .side) (p4 .args .price))
-    (p1 .best-regular .ensures ∙ ap (λ (d : ℕ). bestIn (p4 .args .series) d (venueOf (p4 .args .b .now) .regular))
+    (p1 .best-regular .ensures ∙ ap (λ (d : ℕ). bestIn (p4 .args .series) d (venueOf (p4 .args .numbers .now) .regular))
     (p1 .before .opposite-of .ensures))
 
 returns : tie.Need-returns
 unfolding pickOf
 returns c =
     let p5 = c .before .before .before .before .before in
-    sym (ap pickOf (unmet (p5 .args .series) (p5 .args .side) (p5 .args .price) (venueOf (p5 .args .b .now) .regular) (p5 .pre .1 .orders) (some (p5 .pre .1) (p5 .pre .3))
+    sym (ap pickOf (unmet (p5 .args .series) (p5 .args .side) (p5 .args .price) (venueOf (p5 .args .numbers .now) .regular) (p5 .pre .1 .orders) (some (p5 .pre .1) (p5 .pre .3))
     (sym (best-asked (c .before)) ∙ not-true _ (c .if1 .taken))))
 
 returns-2 : tie.Need-returns-2
@@ -55,7 +55,7 @@ returns-2 c =
     let p3 = p2 .before in
     let p4 = p3 .before in
     let p6 = p4 .before .before in
-    let os = venueOf (p6 .args .b .now) .regular in
+    let os = venueOf (p6 .args .numbers .now) .regular in
     c .first-for .ensures
     ∙ ap (λ (d : ℕ). pickOf (first (showsFor (p6 .args .series) d (p3 .best-regular .result)) earlier os)) (p4 .opposite-of .ensures)
     ∙ ap (λ (p : ℕ). pickOf (first (showsFor (p6 .args .series) (opposite (p6 .args .side)) p) earlier os))

@@ -28,10 +28,10 @@ unfolding pickedOf
 loop-holds c =
     let e = c .complexes-used .ensures .0 in
     let a = c .before .before .before .before .args in
-    (omega (arith, e), scan-start (crosses (venueOf (a .b .now)) (a .c)) limitThenId (complexIn (a .b .now)) _ _ (omega (arith, e)))
+    (omega (arith, e), scan-start (crosses (venueOf (a .numbers .now)) (a .c)) limitThenId (complexIn (a .numbers .now)) _ _ (omega (arith, e)))
 
 legs-at-requires : tie.Need-legs-at-requires Inv-loop μ-loop
-legs-at-requires c κs = let z = complexes-few (c .before .before .before .before .before .before .args .b .now) in (c .before .before .before .before .before .before .pre .0, omega arith)
+legs-at-requires c κs = let z = complexes-few (c .before .before .before .before .before .before .args .numbers .now) in (c .before .before .before .before .before .before .pre .0, omega arith)
 
 loop-again : tie.Need-loop-again Inv-loop μ-loop
 loop-again c =
@@ -39,19 +39,19 @@ loop-again c =
     let a = c .before .before .before .before .before .before .before .before .before .args in
     let h = c .before .before .before .loop-test .taken in (
       omega (arith, l .inv .0),
-      scan-past (crosses (venueOf (a .b .now)) (a .c)) limitThenId (complexIn (a .b .now)) (l .i) (complexesUsed (a .b .now)) h (l .inv .0) _ (l .inv .1)
-          (cross-key (a .c) (complexIn (a .b .now) (l .i - 1)) (legs-in (a .b .now) (l .i - 1)) _ _ _ (c .before .before .legs-at .ensures)
+      scan-past (crosses (venueOf (a .numbers .now)) (a .c)) limitThenId (complexIn (a .numbers .now)) (l .i) (complexesUsed (a .numbers .now)) h (l .inv .0) _ (l .inv .1)
+          (cross-key (a .c) (complexIn (a .numbers .now) (l .i - 1)) (legs-in (a .numbers .now) (l .i - 1)) _ _ _ (c .before .before .legs-at .ensures)
           (c .before .before .before .before .before .before .before .facing-key .ensures)
-          (c .before .before .before .before .before .before .facing-key2 .ensures) (off _ _ (c .before .is-either .ensures) (c .if1 .taken)) (venueOf (a .b .now))),
+          (c .before .before .before .before .before .before .facing-key2 .ensures) (off _ _ (c .before .is-either .ensures) (c .if1 .taken)) (venueOf (a .numbers .now))),
     )
 
 complex-at-requires : tie.Need-complex-at-requires Inv-loop μ-loop
-complex-at-requires c κs = let z = complexes-few (c .before .before .before .before .before .before .before .before .before .args .b .now) in
+complex-at-requires c κs = let z = complexes-few (c .before .before .before .before .before .before .before .before .before .args .numbers .now) in
     (c .before .before .before .before .before .before .before .before .before .pre .0, omega arith)
 
 can-cross-requires : tie.Need-can-cross-requires Inv-loop μ-loop
 can-cross-requires c κs = let start = c .before .before .before .before .before .before .before .before .before .before in let p = start .pre in
-    (p .0, p .1, p .2, subst LegsIn (sym (c .complex-at .ensures)) (legs-in (start .args .b .now) _))
+    (p .0, p .1, p .2, subst LegsIn (sym (c .complex-at .ensures)) (legs-in (start .args .numbers .now) _))
 
 loop-again-2 : tie.Need-loop-again-2 Inv-loop μ-loop
 loop-again-2 c =
@@ -59,8 +59,8 @@ loop-again-2 c =
     let a = c .before .before .before .before .before .before .before .before .before .before .before .before .args in
     let h = c .before .before .before .before .before .before .loop-test .taken in (
       omega (arith, l .inv .0),
-      scan-past (crosses (venueOf (a .b .now)) (a .c)) limitThenId (complexIn (a .b .now)) (l .i) (complexesUsed (a .b .now)) h (l .inv .0) _ (l .inv .1)
-          (ap (crosses (venueOf (a .b .now)) (a .c)) (sym (c .before .before .complex-at .ensures)) ∙ off _ _ (c .before .can-cross .ensures) (c .if2 .taken)),
+      scan-past (crosses (venueOf (a .numbers .now)) (a .c)) limitThenId (complexIn (a .numbers .now)) (l .i) (complexesUsed (a .numbers .now)) h (l .inv .0) _ (l .inv .1)
+          (ap (crosses (venueOf (a .numbers .now)) (a .c)) (sym (c .before .before .complex-at .ensures)) ∙ off _ _ (c .before .can-cross .ensures) (c .if2 .taken)),
     )
 
 loop-again-3 : tie.Need-loop-again-3 Inv-loop μ-loop
@@ -70,8 +70,8 @@ loop-again-3 c =
     let h = c .before .before .before .before .before .before .before .loop-test .taken in
     let e = c .before .before .before .complex-at .ensures in (
       omega (arith, l .inv .0),
-      scan-join (crosses (venueOf (a .b .now)) (a .c)) limitThenId (complexIn (a .b .now)) (l .i) (complexesUsed (a .b .now)) h (l .inv .0) _ (l .inv .1) _
-          (ap (crosses (venueOf (a .b .now)) (a .c)) (sym e) ∙ on _ _ (c .before .before .can-cross .ensures) (c .before .if2 .left))
+      scan-join (crosses (venueOf (a .numbers .now)) (a .c)) limitThenId (complexIn (a .numbers .now)) (l .i) (complexesUsed (a .numbers .now)) h (l .inv .0) _ (l .inv .1) _
+          (ap (crosses (venueOf (a .numbers .now)) (a .c)) (sym e) ∙ on _ _ (c .before .before .can-cross .ensures) (c .before .if2 .left))
           (c .better-pick .ensures ∙ ap (λ (m : Complex). ranked limitThenId (l .i - 1) m (pickedOf (l .best))) e),
     )
 
@@ -81,8 +81,8 @@ returns c =
     let a = c .before .before .before .before .before .before .args in
     let z : l .i ≡ 0 = search needs in
     l .inv .1
-    ∙ ap (λ (k : ℕ). firstFrom (crosses (venueOf (a .b .now)) (a .c)) limitThenId k (upto (complexIn (a .b .now)) k (complexesUsed (a .b .now) - k))) z
-    ∙ first-crossed (a .b .now) (a .c)
+    ∙ ap (λ (k : ℕ). firstFrom (crosses (venueOf (a .numbers .now)) (a .c)) limitThenId k (upto (complexIn (a .numbers .now)) k (complexesUsed (a .numbers .now) - k))) z
+    ∙ first-crossed (a .numbers .now) (a .c)
 
 pub first-cross-spec : {M : Type 1} → statement M
 first-cross-spec =

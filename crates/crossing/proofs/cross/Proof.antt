@@ -17,10 +17,10 @@ use Rattle.removal.proofs.remove_of.Reads as remove-of-reads
 use Rattle.records.proofs.emit_crossed.Reads as emit-crossed-reads
 
 complex-at-requires : tie.Need-complex-at-requires
-complex-at-requires c κs = let z = complexes-few (c .before .before .before .args .b .now) in (c .before .before .before .pre .0, omega (arith, c .before .before .before .pre .1))
+complex-at-requires c κs = let z = complexes-few (c .before .before .before .args .numbers .now) in (c .before .before .before .pre .0, omega (arith, c .before .before .before .pre .1))
 
 complex-at-requires-2 : tie.Need-complex-at-requires-2
-complex-at-requires-2 c κs = let z = complexes-few (c .before .before .before .before .before .args .b .now) in
+complex-at-requires-2 c κs = let z = complexes-few (c .before .before .before .before .before .args .numbers .now) in
     (c .before .before .before .before .before .pre .0, omega (arith, c .before .before .before .before .before .pre .2))
 
 remove-of-requires-2 : tie.Need-remove-of-requires-2
@@ -37,10 +37,10 @@ returns c = let start = c .before .before .before .before .before .before .befor
       cross-law (start .args .i) (start .args .j) (start .args .k) _ _ _ _ _ _ _ _ _ _ _ _ _ _ _ _
           (c .before .before .before .before .before .before .before .before .before .before .before .before .before .before .before .before .before .before
           .before .before .before .before .before .before .before .before .before .before .before .complex-at .ensures
-          ∙ sym (complex-at (start .args .b .now) (start .args .i) (start .pre .1)))
+          ∙ sym (complex-at (start .args .numbers .now) (start .args .i) (start .pre .1)))
           (c .before .before .before .before .before .before .before .before .before .before .before .before .before .before .before .before .before .before
           .before .before .before .before .before .before .before .before .before .complex-at2 .ensures
-          ∙ sym (complex-at (start .args .b .now) (start .args .j) (start .pre .2)))
+          ∙ sym (complex-at (start .args .numbers .now) (start .args .j) (start .pre .2)))
           (back {z = c .before .before .before .before .before .before .before .before .before .before .before .before .before .before .before .before
           .before .net-against .result}
           (record {

@@ -28,15 +28,15 @@ abbrev μ-loop : tie.MeasureT-loop
 μ-loop b₀ i out₀ at turns₀ pos₀ b out turns pos = turns
 
 complex-at-requires : tie.Need-complex-at-requires Inv-loop μ-loop
-complex-at-requires c κs = let z = complexes-few (c .before .before .before .args .b .now) in (c .before .before .before .pre .0, omega (arith, c .before .before .before .pre .2))
+complex-at-requires c κs = let z = complexes-few (c .before .before .before .args .numbers .now) in (c .before .before .before .pre .0, omega (arith, c .before .before .before .pre .2))
 
 loop-holds : tie.Need-loop-holds Inv-loop μ-loop
 loop-holds c = let start = c .before .before .before .before in
-    doing-start _ _ _ _ _ (start .pre .0) (ap (λ (x : Complex). repeat (x .quantity) (crossTurn (start .args .i)) (venueOf (start .args .b .now)))
-    (c .complex-at .ensures ∙ sym (complex-at (start .args .b .now) (start .args .i) (start .pre .2))))
+    doing-start _ _ _ _ _ (start .pre .0) (ap (λ (x : Complex). repeat (x .quantity) (crossTurn (start .args .i)) (venueOf (start .args .numbers .now)))
+    (c .complex-at .ensures ∙ sym (complex-at (start .args .numbers .now) (start .args .i) (start .pre .2))))
 
 complex-at-requires-2 : tie.Need-complex-at-requires-2 Inv-loop μ-loop
-complex-at-requires-2 c κs = let z = complexes-few (c .before .before .loop .b) in (
+complex-at-requires-2 c κs = let z = complexes-few (c .before .before .loop .numbers) in (
   c .before .before .loop .inv .whole,
   omega (arith, c .before .before .loop .inv .counts .complexes, c .before .before .before .before .before .before .before .pre .2),
 )
@@ -52,7 +52,7 @@ returns c = (
   doing-end (c .before .before .before .before .before .loop .inv)
       (repeat-stop _ _ _ (cross-idle (c .before .before .before .before .before .before .before .before .before .before .args .i) _ _
       (c .before .before .complex-at2 .ensures
-      ∙ sym (complex-at (c .before .before .before .before .before .loop .b)
+      ∙ sym (complex-at (c .before .before .before .before .before .loop .numbers)
       (c .before .before .before .before .before .before .before .before .before .before .args .i)
       (omega (
         arith,
@@ -68,7 +68,7 @@ first-cross-requires c κs = let start = c .before .before .before .before .befo
   c .before .before .before .before .before .before .loop .inv .counts .right
       (start .pre .1),
   subst LegsIn (sym (c .before .before .before .complex-at2 .ensures))
-      (legs-in (c .before .before .before .before .before .before .loop .b) (start .args .i)),
+      (legs-in (c .before .before .before .before .before .before .loop .numbers) (start .args .i)),
 )
 
 same-length-3 : tie.Need-same-length-3 Inv-loop μ-loop
@@ -85,7 +85,7 @@ returns-2 c = (
       (repeat-stop _ _ _ (cross-nobody
       (c .before .before .before .before .before .before .before .before .before .before .before .before .before .before .args .i) _ _
       (c .before .before .before .before .before .before .complex-at2 .ensures
-      ∙ sym (complex-at (c .before .before .before .before .before .before .before .before .before .loop .b)
+      ∙ sym (complex-at (c .before .before .before .before .before .before .before .before .before .loop .numbers)
       (c .before .before .before .before .before .before .before .before .before .before .before .before .before .before .args .i)
       (omega (
         arith,
@@ -107,7 +107,7 @@ cross-requires c κs = (
     c .before .before .before .before .before .before .before .before .before .before .before .before .before .before .before .before
         .before .before .pre .2,
   )),
-  picked-used (c .before .before .before .before .before .before .before .before .before .before .before .before .before .loop .b) _ _ _
+  picked-used (c .before .before .before .before .before .before .before .before .before .before .before .before .before .loop .numbers) _ _ _
       (sym (ap pickedOf (c .before .before .before .before .found .given .1))
       ∙ c .before .before .before .before .before .before .first-cross .ensures),
 )
@@ -127,7 +127,7 @@ loop-again c = doing-turn
     .before .before .before .before .before .before .before .args .i) _ _
     (c .before .before .before .before .before .before .before .before .before .before .before .before .before .before .before .complex-at2 .ensures
     ∙ sym (complex-at (c .before .before .before .before .before .before .before .before .before .before .before .before .before .before .before
-    .before .before .before .loop .b)
+    .before .before .before .loop .numbers)
     (c .before .before .before .before .before .before .before .before .before .before .before .before .before .before .before .before .before .before
     .before .before .before .before .before .args .i)
     (omega (

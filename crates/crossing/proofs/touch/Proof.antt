@@ -11,25 +11,28 @@ use Rattle.crossing.proofs.touch.Statement.{statement}
 use Rattle.crossing.proofs.touch.Tie as tie
 
 complex-at-requires : tie.Need-complex-at-requires
-complex-at-requires c κs = let z = complexes-few (c .before .before .before .args .b .now) in (c .before .before .before .pre .0, omega (arith, c .before .before .before .pre .2))
+complex-at-requires c κs = let z = complexes-few (c .before .before .before .args .numbers .now) in (c .before .before .before .pre .0, omega (arith, c .before .before .before .pre .2))
 
 taken-at-requires : tie.Need-taken-at-requires
 taken-at-requires c κs =
     let a = c .before .before .before .before .before .args in
     let p = c .before .before .before .before .before .pre in
-    (p .0, p .1, subst LegsIn (sym (c .before .complex-at .ensures)) (legs-in (a .b .now) (a .i)))
+    (p .0, p .1, subst LegsIn (sym (c .before .complex-at .ensures)) (legs-in (a .numbers .now) (a .i)))
 
 can-touch-requires : tie.Need-can-touch-requires
 can-touch-requires c κs =
-    let a = c .before .before .before .before .before .before .before .args in
-    (c .before .before .before .before .before .before .before .pre .0, c .before .taken-at .ensures, subst LegsIn (sym (c .before .before .before .complex-at .ensures)) (legs-in (a .b .now) (a .i)))
+    let a = c .before .before .before .before .before .before .before .args in (
+      c .before .before .before .before .before .before .before .pre .0,
+      c .before .taken-at .ensures,
+      subst LegsIn (sym (c .before .before .before .complex-at .ensures)) (legs-in (a .numbers .now) (a .i)),
+    )
 
 returns : tie.Need-returns
 returns c =
     let p5 = c .before .before .before .before .before in
     let s = p5 .before .before .before .before in
     let a = s .args in (
-      touch-not (a .i) _ _ (p5 .complex-at .ensures ∙ sym (complex-at (a .b .now) (a .i) (s .pre .2))) _ _ (off _ _ (c .before .can-touch .ensures) (c .if1 .taken)),
+      touch-not (a .i) _ _ (p5 .complex-at .ensures ∙ sym (complex-at (a .numbers .now) (a .i) (s .pre .2))) _ _ (off _ _ (c .before .can-touch .ensures) (c .if1 .taken)),
       record { regulars = refl; complexes = refl; right = λ h. h },
     )
 
@@ -48,7 +51,7 @@ returns-2 c =
     let p18 = p13 .before .before .before .before .before in
     let s = p18 .before .before .before .before in
     let a = s .args in (
-      touch-both (a .i) _ _ (p18 .complex-at .ensures ∙ sym (complex-at (a .b .now) (a .i) (s .pre .2))) _ _ _ _ _ (on _ _ (p13 .before .can-touch .ensures) (p13 .if1 .left)) _
+      touch-both (a .i) _ _ (p18 .complex-at .ensures ∙ sym (complex-at (a .numbers .now) (a .i) (s .pre .2))) _ _ _ _ _ (on _ _ (p13 .before .can-touch .ensures) (p13 .if1 .left)) _
           (p11 .touch-cause .ensures) _ _ _ _ (p10 .opposite-of .ensures) (p9 .place-of .ensures) (p8 .opposite-of2 .ensures) (p7 .place-of2 .ensures) (p4 .remove-at .ensures .0),
       p4 .remove-at .ensures .1,
     )

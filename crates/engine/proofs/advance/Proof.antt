@@ -6,7 +6,7 @@ use Rattle.engine.proofs.advance.Statement.{statement}
 use Rattle.engine.proofs.advance.Tie as tie
 
 returns : tie.Need-returns
-returns c = let s = c .before .before .before .before in turn-no-number (s .args .t) (s .args .messages .now) (s .args .b .now) (s .args .report .now)
+returns c = let s = c .before .before .before .before in turn-no-number (s .args .t) (s .args .messages .now) (s .args .numbers .now) (s .args .report .now)
     (s .pre .3) (s .pre .4) (s .pre .1) (s .pre .2) (c .if1 .taken)
 
 try-step-requires : tie.Need-try-step-requires
@@ -14,12 +14,12 @@ try-step-requires c κs = let s = c .before .before .before .before .before .bef
 
 returns-2 : tie.Need-returns-2
 returns-2 c = let s = c .before .before .before .before .before .before .before .before .before .before .before .before .before in
-    let k = c .before .before .before .before .before .try-step in turn-no-room (s .args .t) (s .args .messages .now) (s .args .b .now) (k .last .0)
+    let k = c .before .before .before .before .before .try-step in turn-no-room (s .args .t) (s .args .messages .now) (s .args .numbers .now) (k .last .0)
     (s .args .report .now) (k .last .1 .1 .1 .0) (k .result) (s .pre .3) (s .pre .4) (s .pre .2) (omega arith) (k .ensures) (omega arith)
 
 returns-3 : tie.Need-returns-3
 returns-3 c = let s = c .before .before .before .before .before .before .before .before .before .before .before .before .before .before .before in
-    let k = c .before .before .before .before .before .before .before .try-step in turn-done (s .args .t) (s .args .messages .now) (s .args .b .now)
+    let k = c .before .before .before .before .before .before .before .try-step in turn-done (s .args .t) (s .args .messages .now) (s .args .numbers .now)
     (k .last .0) (s .args .report .now) (k .last .1 .1 .1 .0) (k .result) (s .pre .3) (s .pre .4) (s .pre .2) (omega arith) (k .ensures) (omega arith)
     (s .args .head) (s .pre .5) (c .before .head-number .result) (c .head-length .result) (c .before .head-number .ensures) (c .head-length .ensures)
 

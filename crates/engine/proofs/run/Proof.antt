@@ -54,7 +54,7 @@ loop-again c = let k = c .before .before .before .before .before .advance in
 
 -- either way out of the loop
 ended : (c : tie.At-match-came Inv-loop μ-loop) → let a = c .before .before .before .before .before .before .args in
-    RunEnded (a .messages .now) (a .report .now) (c .match .b) (c .match .report) (c .match .t)
+    RunEnded (a .messages .now) (a .report .now) (c .match .numbers) (c .match .report) (c .match .t)
 ended c =
     let top = c .before .before in
     ⊎-elim
@@ -77,7 +77,7 @@ same-length c = c .before .before .before .before .zero-from .kept .0 ∙ ended 
 
 returns : tie.Need-returns Inv-loop μ-loop
 returns c = let s = c .before .before .before .before .before .before .before .before .before .before .before .before in
-    let j = c .before .before .before .before .before .before in ran (s .args .messages .now) (s .args .report .now) (j .match .b) (j .match .report)
+    let j = c .before .before .before .before .before .before in ran (s .args .messages .now) (s .args .report .now) (j .match .numbers) (j .match .report)
     (c .before .before .before .before .zero-from .last .0) (j .match .t) (c .venue-of .result) (ended j)
     (c .before .before .before .before .zero-from .ensures) (c .venue-of .ensures)
 

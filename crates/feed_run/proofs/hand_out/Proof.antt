@@ -10,7 +10,7 @@ use Rattle.feed_run.proofs.hand_out.Tie as tie
 
 returns : tie.Need-returns
 returns c = let s = c .before .before .before .before .before .before .before in let u = c .before .before .up-next in
-    rw (c .stop-at .ensures) (turn-stopped (s .args .t) (s .args .main .now) (s .args .spare .now) (s .args .b .now) (s .args .report .now) _
+    rw (c .stop-at .ensures) (turn-stopped (s .args .t) (s .args .main .now) (s .args .spare .now) (s .args .numbers .now) (s .args .report .now) _
     (u .ensures .1) (c .before .if1 .taken) (s .pre .3) (s .pre .1) (s .pre .2))
 
 next-part-requires : tie.Need-next-part-requires
@@ -25,7 +25,7 @@ returns-2 c = let s = c .before .before .before .before .before .before .before 
     .before in let u = c .before .before .before .before .before .before .before .before .before .before .before .up-next in
     let p = c .before .before .before .before .before .before .before .before .before .next-part in
     let k = c .before .before .before .before .before .before .try-step in
-    rw (c .stop-at2 .ensures) (turn-full (s .args .t) (s .args .main .now) (s .args .spare .now) (s .args .b .now) (k .last .0) (s .args .report .now)
+    rw (c .stop-at2 .ensures) (turn-full (s .args .t) (s .args .main .now) (s .args .spare .now) (s .args .numbers .now) (k .last .0) (s .args .report .now)
     (k .last .1 .1 .1 .0) _ _ (k .result)
     (sym (u .ensures .1) ∙ c .before .before .before .before .before .before .before .before .before .before .if1 .left) (u .ensures .0)
     (let f = u .ensures .2 in let n = u .ensures .0 in omega arith) (p .ensures) (s .pre .3) (s .pre .2) (k .ensures) (omega arith))
@@ -62,7 +62,7 @@ returns-3 c = let s = c .before .before .before .before .before .before .before 
     .before .before in let u = c .before .before .before .before .before .before .before .before .before .before .before .before .up-next in
     let p = c .before .before .before .before .before .before .before .before .before .before .next-part in
     let k = c .before .before .before .before .before .before .before .try-step in turn-handed (s .args .t) (s .args .main .now) (s .args .spare .now)
-    (s .args .b .now) (k .last .0) (s .args .report .now) (k .last .1 .1 .1 .0) _ _ (k .result)
+    (s .args .numbers .now) (k .last .0) (s .args .report .now) (k .last .1 .1 .1 .0) _ _ (k .result)
     (sym (u .ensures .1) ∙ c .before .before .before .before .before .before .before .before .before .before .before .if1 .left) (u .ensures .0)
     (let f = u .ensures .2 in let n = u .ensures .0 in omega arith) (p .ensures) (s .pre .3) (s .pre .2) (k .ensures) (roomy (c .before .before)) _ _
     (c .before .moved .ensures) (c .moved2 .ensures)

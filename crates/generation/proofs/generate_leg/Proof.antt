@@ -18,7 +18,7 @@ use Rattle.generation.proofs.generate_leg.Tie as tie
 
 returns : tie.Need-returns
 returns c = let a = c .before .before .before .before .before .before .args in let p = c .before .before .before .before .before .before .pre in (
-  does-nothing (venueOf (a .b .now)) (a .out .now) (a .at)
+  does-nothing (venueOf (a .numbers .now)) (a .out .now) (a .at)
       ∙ ap (λ (e : Effect). seen (a .out .now) (a .at) does e)
       (made-none _ (a .c) _ _ (a .number) (steps-some _ _ (p .1 .marked .figures) (p .3)) (c .before .before .plan-leg .result)
       (c .before .before .plan-leg .ensures) (c .if1 .taken)),

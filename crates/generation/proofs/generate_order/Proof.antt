@@ -18,15 +18,15 @@ use Rattle.generation.proofs.generate_order.Tie as tie
 returns : tie.Need-returns
 returns c =
     let a = c .before .before .before .before .before .args in (
-      does-nothing (venueOf (a .b .now)) (a .out .now) (a .at)
-          ∙ ap (λ (e : Effect). seen (a .out .now) (a .at) does e) (generate-past (a .number) (a .b .now) (a .i) (omega (arith, c .before .complexes-used .ensures .0, c .if1 .taken))),
+      does-nothing (venueOf (a .numbers .now)) (a .out .now) (a .at)
+          ∙ ap (λ (e : Effect). seen (a .out .now) (a .at) does e) (generate-past (a .number) (a .numbers .now) (a .i) (omega (arith, c .before .complexes-used .ensures .0, c .if1 .taken))),
       record { regulars = refl; complexes = refl; right = λ h. h },
     )
 
 -- the order's place is in use
 used : (c : tie.After-complex-at) →
     let a = c .before .before .before .before .before .before .before .args in
-    a .i < complexesUsed (a .b .now)
+    a .i < complexesUsed (a .numbers .now)
 used c =
     let p3 = c .before .before .before in
     omega (arith, p3 .complexes-used .ensures .0, c .before .before .if1 .left)
@@ -36,8 +36,8 @@ returns-2 c =
     let p2 = c .before .before in
     let x = p2 .complex-at in
     let a = p2 .before .before .before .before .before .before .before .args in (
-      does-nothing (venueOf (a .b .now)) (a .out .now) (a .at)
-          ∙ ap (λ (e : Effect). seen (a .out .now) (a .at) does e) (generate-gone (a .b .now) (a .i) (x .result) (x .ensures) (a .number) (used p2) (c .if2 .taken)),
+      does-nothing (venueOf (a .numbers .now)) (a .out .now) (a .at)
+          ∙ ap (λ (e : Effect). seen (a .out .now) (a .at) does e) (generate-gone (a .numbers .now) (a .i) (x .result) (x .ensures) (a .number) (used p2) (c .if2 .taken)),
       record { regulars = refl; complexes = refl; right = λ h. h },
     )
 
@@ -60,9 +60,9 @@ returns-3 c =
     let p6 = c .before .before .before .before .before .before in
     let x = p6 .complex-at in
     let a = p6 .before .before .before .before .before .before .before .args in (
-      does-nothing (venueOf (a .b .now)) (a .out .now) (a .at)
+      does-nothing (venueOf (a .numbers .now)) (a .out .now) (a .at)
           ∙ ap (λ (e : Effect). seen (a .out .now) (a .at) does e)
-          (generate-shut (a .b .now) (a .i) (x .result) (x .ensures) (a .number) (used p6) (off _ _ (c .before .may-generate .ensures) (c .if3 .taken))),
+          (generate-shut (a .numbers .now) (a .i) (x .result) (x .ensures) (a .number) (used p6) (off _ _ (c .before .may-generate .ensures) (c .if3 .taken))),
       record { regulars = refl; complexes = refl; right = λ h. h },
     )
 
@@ -92,7 +92,7 @@ generate-leg-requires-2 c κs =
       h .second,
       h .side2,
       omega (arith, p13 .if2 .left),
-      generates-kept (venueOf (s .args .b .now)) (x .result) (x .result .series1) (x .result .side1) (s .args .number) _ (stage-venue _ _ _ _ _ _ (w .0))
+      generates-kept (venueOf (s .args .numbers .now)) (x .result) (x .result .series1) (x .result .side1) (s .args .number) _ (stage-venue _ _ _ _ _ _ (w .0))
           ∙ on _ _ (p9 .before .may-generate .ensures) (p9 .if3 .left),
     )
 
@@ -105,9 +105,9 @@ returns-4 c =
     let a = p20 .before .before .before .before .before .before .before .args in
     let first = p11 .generate-leg .ensures in
     let second = p4 .generate-leg2 .ensures in (
-      follow _ (generateLeg (a .number) (x .result) (x .result .series1) (x .result .side1) (venueOf (a .b .now)))
+      follow _ (generateLeg (a .number) (x .result) (x .result .series1) (x .result .side1) (venueOf (a .numbers .now)))
           (generateLeg (a .number) (x .result) (x .result .series2) (x .result .side2)) _ _ _ _ _ _ (first .0) (second .0)
-          ∙ ap (λ (e : Effect). seen (a .out .now) (a .at) does e) (generate-is (a .b .now) (a .i) (x .result) (x .ensures) (a .number) (used p20)),
+          ∙ ap (λ (e : Effect). seen (a .out .now) (a .at) does e) (generate-is (a .numbers .now) (a .i) (x .result) (x .ensures) (a .number) (used p20)),
       counts-on _ _ _ (first .1) (second .1),
     )
 

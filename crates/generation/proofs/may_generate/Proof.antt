@@ -37,7 +37,7 @@ returns-3 c =
     let w = c .before .limit-of in
     let q = back {z = w .result} (record { sfits = w .ok }) ∙ w .ensures .0 in
     simp (on _ _ (p4 .before .is-one-to-one .ensures) (p4 .if1 .left), on _ _ (p2 .before .both-open .ensures) (p2 .if2 .left))
-    (c .in-band .ensures ∙ ap (inBand (venueOf (a .b .now)) (a .c)) q)
+    (c .in-band .ensures ∙ ap (inBand (venueOf (a .numbers .now)) (a .c)) q)
 
 pub may-generate-spec : {M : Type 1} → statement M
 may-generate-spec =

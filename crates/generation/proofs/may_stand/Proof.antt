@@ -12,7 +12,7 @@ stands-clear-requires : tie.Need-stands-clear-requires
 stands-clear-requires c κs =
     let p = c .before .pre in
     let a = c .before .args in
-    let v = venueOf (a .b .now) in
+    let v = venueOf (a .numbers .now) in
     (p .0, own-is v (a .sides) (a .c) _ _ (p .1), facing-is v (a .sides) (a .c) _ _ (p .1) _ refl, p .3, p .6)
 
 returns : tie.Need-returns

@@ -30,7 +30,7 @@ returns c =
     let second = p2 .put-legging2 .ensures in (
       p4 .others-stand .ensures ∙ ap (λ (w : Venue). othersStand w (a .n) 0 (w .legging)) (first .0),
       (
-        second .0 ∙ ap (placed (a .n) (old .result)) (first .0) ∙ placed-back (a .b .now) (a .n) (a .l) (old .result) (s .pre .2) (old .ensures),
+        second .0 ∙ ap (placed (a .n) (old .result)) (first .0) ∙ placed-back (a .numbers .now) (a .n) (a .l) (old .result) (s .pre .2) (old .ensures),
         counts-on _ _ _ (first .1) (second .1),
       ),
     )

@@ -28,7 +28,7 @@ returns-3 c =
     let s = p4 .before .before .before .before in
     let a = s .args in
     planned-new _ (a .c) _ _ _ _ (p4 .leg-price .ensures) (s .pre .5) (p2 .before .if1 .left) (on _ _ (p2 .may-stand .ensures) (c .before .if2 .left))
-    (c .leg-quantity .ensures ∙ ap (min (a .c .quantity)) (size-is (venueOf (a .b .now)) (x .result .taken) (a .c) (a .s) (x .ensures .taken) _ refl))
+    (c .leg-quantity .ensures ∙ ap (min (a .c .quantity)) (size-is (venueOf (a .numbers .now)) (x .result .taken) (a .c) (a .s) (x .ensures .taken) _ refl))
 
 pub plan-leg-spec : {M : Type 1} → statement M
 plan-leg-spec =

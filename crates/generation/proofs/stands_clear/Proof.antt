@@ -13,14 +13,14 @@ use Rattle.generation.proofs.stands_clear.Tie as tie
 
 returns : tie.Need-returns
 unfolding standsClear
-returns c = simp (off _ _ (shown-is (venueOf (c .before .before .before .args .b .now)) _ _ _ _ _ (c .before .before .before .pre .1) (c .before .shown-well .ensures)) (c .if1 .taken))
+returns c = simp (off _ _ (shown-is (venueOf (c .before .before .before .args .numbers .now)) _ _ _ _ _ (c .before .before .before .pre .1) (c .before .shown-well .ensures)) (c .if1 .taken))
 
 best-own-requires : tie.Need-best-own-requires
 best-own-requires c κs =
     let p = c .before .before .before .before .pre in
     let a = c .before .before .before .before .args in (
       p .0,
-      p .2 ∙ ap (bestRegular (venueOf (a .b .now)) (a .s)) (sym (c .opposite-of .ensures)),
+      p .2 ∙ ap (bestRegular (venueOf (a .numbers .now)) (a .s)) (sym (c .opposite-of .ensures)),
       p .3,
       rw (c .opposite-of .ensures) (opposite-in _),
     )
@@ -28,7 +28,7 @@ best-own-requires c κs =
 returns-2 : tie.Need-returns-2
 returns-2 c =
     clear-own _ _ _ _ _ (c .before .before .before .opposite-of .ensures)
-    (on _ _ (shown-is (venueOf (c .before .before .before .before .before .before .before .args .b .now)) _ _ _ _ _
+    (on _ _ (shown-is (venueOf (c .before .before .before .before .before .before .before .args .numbers .now)) _ _ _ _ _
     (c .before .before .before .before .before .before .before .pre .1) (c .before .before .before .before .before .shown-well .ensures))
     (c .before .before .before .before .if1 .left)) _
     (c .before .before .best-own .ensures) (sym (c .before .reaches-any .ensures) ∙ c .if2 .taken)
@@ -37,7 +37,7 @@ returns-3 : tie.Need-returns-3
 returns-3 c =
     ap not (c .reaches-any2 .ensures)
     ∙ clear-away _ _ _ _ _ (c .before .before .before .before .before .opposite-of .ensures)
-    (on _ _ (shown-is (venueOf (c .before .before .before .before .before .before .before .before .before .args .b .now)) _ _ _ _ _
+    (on _ _ (shown-is (venueOf (c .before .before .before .before .before .before .before .before .before .args .numbers .now)) _ _ _ _ _
     (c .before .before .before .before .before .before .before .before .before .pre .1)
     (c .before .before .before .before .before .before .before .shown-well .ensures))
     (c .before .before .before .before .before .before .if1 .left)) _

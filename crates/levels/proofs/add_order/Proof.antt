@@ -11,7 +11,7 @@ level-at-requires c κs = let p = c .before .before .before .pre in (p .0, place
 
 with-order-requires : tie.Need-with-order-requires
 with-order-requires c κs = let p = c .before .before .before .before .before .before .before .before .before .pre in
-    level-small (c .before .before .before .before .before .before .before .before .before .args .b .now)
+    level-small (c .before .before .before .before .before .before .before .before .before .args .numbers .now)
     (λ k. omega (arith, c .before .before .before .before .before .before .before .before .slice-known .given k)) _ _ _ _ (p .1) (p .3) (p .4)
     (c .before .before .before .before .before .before .before .place-of .ensures) (c .before .before .before .before .before .level-at .ensures)
 
@@ -23,7 +23,7 @@ put-level-requires c κs = let p = c .before .before .before .before .before .be
 
 returns : tie.Need-returns
 returns c = let s = c .before .before .before .before .before .before .before .before .before .before .before .before .before in let p = s .pre in
-    added (s .args .b .now) _ _ _ (s .args .o) _ _ (p .2) (p .3) (p .4) (p .5) (p .6) (p .7)
+    added (s .args .numbers .now) _ _ _ (s .args .o) _ _ (p .2) (p .3) (p .4) (p .5) (p .6) (p .7)
     (c .before .before .before .before .before .before .before .before .before .before .before .place-of .ensures)
     (c .before .before .before .before .before .before .before .before .before .level-at .ensures) (c .before .before .before .with-order .ensures)
     (c .before .before .before .before .before .before .before .add-regular .ensures .0)

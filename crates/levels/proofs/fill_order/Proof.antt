@@ -10,10 +10,11 @@ use Rattle.levels.proofs.fill_order.Statement.{statement}
 use Rattle.levels.proofs.fill_order.Tie as tie
 
 regular-at-requires : tie.Need-regular-at-requires
-regular-at-requires c κs = let f = regulars-few (c .before .before .args .b .now) in (c .before .before .pre .0, omega (arith, c .before .before .pre .1))
+regular-at-requires c κs = let f = regulars-few (c .before .before .args .numbers .now) in (c .before .before .pre .0, omega (arith, c .before .before .pre .1))
 
 key-at-requires : tie.Need-key-at-requires
-key-at-requires c κs = let f = regulars-few (c .before .before .before .before .args .b .now) in (c .before .before .before .before .pre .0, omega (arith, c .before .before .before .before .pre .1))
+key-at-requires c κs = let f = regulars-few (c .before .before .before .before .args .numbers .now) in
+    (c .before .before .before .before .pre .0, omega (arith, c .before .before .before .before .pre .1))
 
 level-at-requires : tie.Need-level-at-requires
 level-at-requires c κs = (c .before .before .before .before .before .before .pre .0, key-few _ _ _ (c .before .key-at .ensures))
@@ -21,7 +22,7 @@ level-at-requires c κs = (c .before .before .before .before .before .before .pr
 returns : tie.Need-returns
 returns c = let start = c .before .before .before .before .before .before .before .before .before .before .before .before .before .before in (
   c .before .before .before .before .before .fill-regular .ensures .0,
-  filled-off (start .args .b .now) _ (start .args .i) (start .args .k) _
+  filled-off (start .args .numbers .now) _ (start .args .i) (start .args .k) _
       (c .before .before .before .before .before .before .before .before .before .before .before .regular-at .result)
       (c .before .before .before .before .before .before .before .level-at .result) (start .pre .1)
       (c .before .before .before .before .before .before .before .before .before .before .before .regular-at .ensures)
@@ -42,7 +43,7 @@ put-level-requires c κs = (
 
 returns-2 : tie.Need-returns-2
 returns-2 c = let start = c .before .before .before .before .before .before .before .before .before .before .before .before .before .before .before
-    .before .before .before .before .before .before .before .before in filled-on (start .args .b .now) _ (start .args .i) (start .args .k) _
+    .before .before .before .before .before .before .before .before in filled-on (start .args .numbers .now) _ (start .args .i) (start .args .k) _
     (c .before .before .before .before .before .before .before .before .before .before .before .before .before .before .before .before .before .before
     .before .before .regular-at .result)
     (c .before .before .before .before .before .before .before .before .before .before .before .before .before .before .before .before .level-at
@@ -55,7 +56,7 @@ returns-2 c = let start = c .before .before .before .before .before .before .bef
     (c .before .before .before .before .before .before .before .before .before .before .before .before .before .before .fill-regular .ensures .0)
     (c .before .before .before .before .before .before .before .before .before .before .before .before .before .before .fill-regular .ensures .1) _ _
     (c .before .before .put-level .ensures)
-    (filled-rest (start .args .b .now) _ (start .args .i) (start .args .k) _
+    (filled-rest (start .args .numbers .now) _ (start .args .i) (start .args .k) _
     (c .before .before .before .before .before .before .before .before .before .before .before .before .before .before .before .before .before .before
     .before .before .regular-at .result)
     (c .before .before .before .before .before .before .before .before .before .before .before .before .before .before .before .before .level-at
@@ -76,11 +77,11 @@ level-of-requires : tie.Need-level-of-requires
 level-of-requires c κs = let start = c .before .before .before .before .before .before .before .before .before .before .before .before .before .before
     .before .before .before .before .before in (
       c .before .before .before .before .before .before .before .before .before .before .fill-regular .kept .0 ∙ start .pre .0,
-      series-in (start .args .b .now) (start .args .i)
+      series-in (start .args .numbers .now) (start .args .i)
           (c .before .before .before .before .before .before .before .before .before .before .before .before .before .before .before .before .regular-at
           .result) (c .before .before .before .before .before .before .before .before .before .before .before .before .before .before .before .before
           .regular-at .ensures),
-      side-in (start .args .b .now) (start .args .i)
+      side-in (start .args .numbers .now) (start .args .i)
           (c .before .before .before .before .before .before .before .before .before .before .before .before .before .before .before .before .regular-at
           .result) (c .before .before .before .before .before .before .before .before .before .before .before .before .before .before .before .before
           .regular-at .ensures),
@@ -97,7 +98,7 @@ put-level-requires-2 c κs = (
 
 returns-3 : tie.Need-returns-3
 returns-3 c = let start = c .before .before .before .before .before .before .before .before .before .before .before .before .before .before .before
-    .before .before .before .before .before .before .before .before .before in filled-on (start .args .b .now) _ (start .args .i) (start .args .k) _
+    .before .before .before .before .before .before .before .before .before in filled-on (start .args .numbers .now) _ (start .args .i) (start .args .k) _
     (c .before .before .before .before .before .before .before .before .before .before .before .before .before .before .before .before .before .before
     .before .before .before .regular-at .result)
     (c .before .before .before .before .before .before .before .before .before .before .before .before .before .before .before .before .before

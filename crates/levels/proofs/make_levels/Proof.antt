@@ -25,12 +25,12 @@ loop-holds c = making-start _ _ _ (c .regulars-used .ensures .0)
     (c .before .before .before .before .clear-levels .ensures)
 
 regular-at-requires : tie.Need-regular-at-requires Inv-loop μ-loop
-regular-at-requires c κs = let f = regulars-few (c .before .before .before .before .before .before .before .before .before .before .args .b .now) in
+regular-at-requires c κs = let f = regulars-few (c .before .before .before .before .before .before .before .before .before .before .args .numbers .now) in
     (c .before .before .loop .inv .long, omega (arith, c .before .before .loop .inv .below, c .before .before .loop .inv .used))
 
 key-at-requires : tie.Need-key-at-requires Inv-loop μ-loop
 key-at-requires c κs = let f = regulars-few
-    (c .before .before .before .before .before .before .before .before .before .before .before .before .args .b .now) in (
+    (c .before .before .before .before .before .before .before .before .before .before .before .before .args .numbers .now) in (
       c .before .before .before .before .loop .inv .long,
       omega (arith, c .before .before .before .before .loop .inv .below, c .before .before .before .before .loop .inv .used),
     )

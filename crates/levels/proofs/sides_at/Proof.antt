@@ -16,7 +16,7 @@ returns c = let k = c .before .before .before .before .before .args in
     record {
       own = c .before .before .before .best-regular .ensures;
       facing = c .before .best-regular2 .ensures
-          ∙ ap (bestRegular (venueOf (k .b .now)) (k .s)) (c .before .before .opposite-of .ensures);
+          ∙ ap (bestRegular (venueOf (k .numbers .now)) (k .s)) (c .before .before .opposite-of .ensures);
       taken = c .taken-at .ensures;
     }
 

@@ -15,7 +15,7 @@ level-at-requires-2 c κs = let p = c .before .before .before .before .before .b
     (p .0, place-low _ _ _ (p .2 .second) (opposite-side _ _ (c .before .opposite-of2 .ensures)) (c .place-of2 .ensures))
 
 returns : tie.Need-returns
-returns c = let start = c .before .before .before .before .before .before .before in let p = start .pre in let b = start .args .b .now in
+returns c = let start = c .before .before .before .before .before .before .before in let p = start .pre in let b = start .args .numbers .now in
     let k = start .args .c in
     record {
       first = level-read b (k .series1) (opposite (k .side1)) _ _ (p .1) (p .2 .first) (opposite-in (k .side1))

@@ -35,10 +35,10 @@ returns c =
     let a = p9 .add-order .ensures in
     let m = p4 .meet-all .ensures in
     let u = p11 .regulars-used .ensures .0 in
-    let v = venueOf (p15 .args .b .now) in (
+    let v = venueOf (p15 .args .numbers .now) in (
       m .0
           ∙ ap (λ (e : Effect). seen (p15 .args .out .now) (p15 .args .at) does e)
-          (enter-law (p15 .args .o) v _ _ (u ∙ sym (dense-regular (p15 .args .b .now) (p15 .pre .1))) (a .0 ∙ ap (λ (k : ℕ). putRegular k (p15 .args .o) v) (sym u))),
+          (enter-law (p15 .args .o) v _ _ (u ∙ sym (dense-regular (p15 .args .numbers .now) (p15 .pre .1))) (a .0 ∙ ap (λ (k : ℕ). putRegular k (p15 .args .o) v) (sym u))),
       record { regulars = m .1 .regulars ∙ a .1 .regulars; complexes = m .1 .complexes ∙ a .1 .complexes; right = λ h. m .1 .right (a .1 .right h) },
     )
 

@@ -19,7 +19,7 @@ returns : tie.Need-returns
 returns c =
     let p2 = c .before .before in
     let p4 = p2 .before .before in
-    legging-read (p4 .args .b .now) (p4 .args .series) (opposite (p4 .args .side)) _ _ (p4 .pre .1) (opposite-in _)
+    legging-read (p4 .args .numbers .now) (p4 .args .series) (opposite (p4 .args .side)) _ _ (p4 .pre .1) (opposite-in _)
     (c .before .place-of .ensures ∙ ap (placeOf (p4 .args .series)) (p2 .opposite-of .ensures)) (c .legging-at .ensures)
 
 pub facing-spec : {M : Type 1} → statement M

@@ -35,7 +35,7 @@ returns c =
     let p2 = c .before .before in
     let p5 = p2 .before .before .before in
     let p8 = p5 .before .before .before in
-    turning-stop (p5 .loop .inv) (sym (ap (turnOf (p8 .args .i) (venueOf (p5 .loop .b))) (c .enum-told .given .1)) ∙ p2 .decide .ensures .0)
+    turning-stop (p5 .loop .inv) (sym (ap (turnOf (p8 .args .i) (venueOf (p5 .loop .numbers))) (c .enum-told .given .1)) ∙ p2 .decide .ensures .0)
 
 hit-requires : tie.Need-hit-requires Inv-loop μ-loop
 hit-requires c κs =
@@ -53,7 +53,7 @@ loop-again c =
     let p13 = p12 .before in
     let p16 = p13 .before .before .before in
     turning-turn (p13 .loop .inv) _ _ _ _ (p12 .loop-test .taken)
-    (sym (ap (turnOf (p16 .args .i) (venueOf (p13 .loop .b))) (p8 .plan .given .1)) ∙ p10 .decide .ensures .0) (p4 .hit .kept .0) (p4 .hit .ensures)
+    (sym (ap (turnOf (p16 .args .i) (venueOf (p13 .loop .numbers))) (p8 .plan .given .1)) ∙ p10 .decide .ensures .0) (p4 .hit .kept .0) (p4 .hit .ensures)
 
 meet-requires : tie.Need-meet-requires Inv-loop μ-loop
 meet-requires c κs =
@@ -73,7 +73,7 @@ loop-again-2 c =
     let p13 = p12 .before in
     let p16 = p13 .before .before .before in
     turning-turn (p13 .loop .inv) _ _ _ _ (p12 .loop-test .taken)
-    (sym (ap (turnOf (p16 .args .i) (venueOf (p13 .loop .b))) (p8 .plan2 .given .1)) ∙ p10 .decide .ensures .0) (p4 .meet .kept .0) (p4 .meet .ensures)
+    (sym (ap (turnOf (p16 .args .i) (venueOf (p13 .loop .numbers))) (p8 .plan2 .given .1)) ∙ p10 .decide .ensures .0) (p4 .meet .kept .0) (p4 .meet .ensures)
 
 same-length-3 : tie.Need-same-length-3 Inv-loop μ-loop
 same-length-3 c = c .before .loop .inv .whole ∙ sym (c .before .before .before .before .pre .0)

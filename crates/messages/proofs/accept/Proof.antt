@@ -15,7 +15,7 @@ close-gaps-requires c κs =
 returns : tie.Need-returns
 returns c = let s = c .before .before .before .before .before .before .before .before .before .before .before .before .before in
     let g = c .before .before .close-gaps .ensures in (
-      accept-law _ (s .args .number) (s .args .m) (venueOf (s .args .b .now)) _ _ _ _
+      accept-law _ (s .args .number) (s .args .m) (venueOf (s .args .numbers .now)) _ _ _ _
           (c .before .before .before .before .before .before .before .before .perform .ensures .0) (g .venue),
       g .dense,
     )

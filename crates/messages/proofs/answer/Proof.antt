@@ -8,13 +8,13 @@ use Rattle.messages.proofs.answer.Tie as tie
 
 returns : tie.Need-returns
 returns c = let s = c .before .before .before .before .before .before .before .before .before .before .before .before in
-    steps-as _ _ _ _ _ _ (by-accepted (venueOf (s .args .b .now)) (s .args .number) (s .args .m)
+    steps-as _ _ _ _ _ _ (by-accepted (venueOf (s .args .numbers .now)) (s .args .number) (s .args .m)
     (sym (c .before .before .before .before .before .before .before .before .refusal-of .ensures)
     ∙ c .before .before .before .before .before .before .before .if1 .taken)) (c .before .before .before .before .answer-accepted .ensures)
 
 returns-2 : tie.Need-returns-2
 returns-2 c = let s = c .before .before .before .before .before .before .before .before .before .before in
-    steps-as _ _ _ _ _ _ (by-refused (venueOf (s .args .b .now)) (s .args .number) (s .args .m) _
+    steps-as _ _ _ _ _ _ (by-refused (venueOf (s .args .numbers .now)) (s .args .number) (s .args .m) _
     (c .before .before .before .before .before .before .refusal-of .ensures) (c .before .before .before .before .before .if1 .left))
     (c .before .before .refuse .ensures)
 

@@ -20,7 +20,7 @@ returns c = let s = c .before .before .before .before .before .before .before .b
     let a = c .before .before .before .before .before .before .before .before .before .before .before .accept .ensures in
     record {
       refused = refl;
-      staged = accepted-law _ (accept (s .args .number) (s .args .m) (venueOf (s .args .b .now))) _ _ _ _ _ _ _ _ _
+      staged = accepted-law _ (accept (s .args .number) (s .args .m) (venueOf (s .args .numbers .now))) _ _ _ _ _ _ _ _ _
           (c .before .before .before .before .before .before .before .before .before .before .before .before .before .before .before .before .emit-answer
           .ensures) (a .0) (c .before .before .before .before .before .mask-of .ensures) (c .before .before .before .before .count-of .ensures)
           (c .before .before .set-answer .ensures);

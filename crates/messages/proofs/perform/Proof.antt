@@ -30,8 +30,8 @@ unfolding wellFormed Shows
 enter-order-requires c κs =
     let s = c .before .before .before .before .before .before .before .before .before .before in
     let e = c .before .before .before .m .given .1 in
-    let r = sym (ap (refusalOf (venueOf (s .args .b .now))) e) ∙ s .pre .3 in
-    (s .pre .0, s .pre .1, order-room _ (s .pre .1) _ r, sym (ap wellFormed e) ∙ s .pre .2, s .pre .5 _ e, order-below (venueOf (s .args .b .now)) _ r (s .pre .4 .is))
+    let r = sym (ap (refusalOf (venueOf (s .args .numbers .now))) e) ∙ s .pre .3 in
+    (s .pre .0, s .pre .1, order-room _ (s .pre .1) _ r, sym (ap wellFormed e) ∙ s .pre .2, s .pre .5 _ e, order-below (venueOf (s .args .numbers .now)) _ r (s .pre .4 .is))
 
 enter-complex-requires : tie.Need-enter-complex-requires
 unfolding wellFormed
@@ -39,20 +39,20 @@ enter-complex-requires c κs = let s = c .before .before .before .before .before
     let e = c .before .before .before .m2 .given .1 in (
       s .pre .0,
       s .pre .1,
-      complex-room _ (s .pre .1) _ (sym (ap (refusalOf (venueOf (s .args .b .now))) e) ∙ s .pre .3),
+      complex-room _ (s .pre .1) _ (sym (ap (refusalOf (venueOf (s .args .numbers .now))) e) ∙ s .pre .3),
       legs-in _ (sym (ap wellFormed e) ∙ s .pre .2),
     )
 
 cancel-requires : tie.Need-cancel-requires
 cancel-requires c κs = let s = c .before .before .before .before .before .before .before .before .before .before in
     let e = c .before .before .before .m3 .given .1 in
-    (s .pre .0, s .pre .1, cancel-known _ _ (sym (ap (refusalOf (venueOf (s .args .b .now))) e) ∙ s .pre .3))
+    (s .pre .0, s .pre .1, cancel-known _ _ (sym (ap (refusalOf (venueOf (s .args .numbers .now))) e) ∙ s .pre .3))
 
 returns-2 : tie.Need-returns-2
 unfolding perform
 returns-2 c = let s = c .before .before .before .before .before .before .before .before .before .before .before .before .before .before .before in
     let k = c .before .before .before .before .enter-order .ensures in (
-      k .0 ∙ ap (λ (x : Message). seen (s .args .out .now) (s .args .at) does perform (s .args .number) x (venueOf (s .args .b .now)))
+      k .0 ∙ ap (λ (x : Message). seen (s .args .out .now) (s .args .at) does perform (s .args .number) x (venueOf (s .args .numbers .now)))
           (sym (c .before .before .before .before .before .before .before .before .m .given .1)),
       k .1,
     )
@@ -61,7 +61,7 @@ returns-3 : tie.Need-returns-3
 unfolding perform
 returns-3 c = let s = c .before .before .before .before .before .before .before .before .before .before .before .before .before .before .before in
     let k = c .before .before .before .before .enter-complex .ensures in (
-      k .0 ∙ ap (λ (x : Message). seen (s .args .out .now) (s .args .at) does perform (s .args .number) x (venueOf (s .args .b .now)))
+      k .0 ∙ ap (λ (x : Message). seen (s .args .out .now) (s .args .at) does perform (s .args .number) x (venueOf (s .args .numbers .now)))
           (sym (c .before .before .before .before .before .before .before .before .m2 .given .1)),
       k .1,
     )
@@ -70,7 +70,7 @@ returns-4 : tie.Need-returns-4
 unfolding perform
 returns-4 c = let s = c .before .before .before .before .before .before .before .before .before .before .before .before .before .before .before in
     let k = c .before .before .before .before .cancel .ensures in (
-      k .0 ∙ ap (λ (x : Message). seen (s .args .out .now) (s .args .at) does perform (s .args .number) x (venueOf (s .args .b .now)))
+      k .0 ∙ ap (λ (x : Message). seen (s .args .out .now) (s .args .at) does perform (s .args .number) x (venueOf (s .args .numbers .now)))
           (sym (c .before .before .before .before .before .before .before .before .m3 .given .1)),
       k .1 .right (s .pre .1 .right),
     )
@@ -93,7 +93,7 @@ returns-6 : tie.Need-returns-6
 unfolding perform
 returns-6 c = let s = c .before .before .before .before .before .before .before .before .before .before .before .before .before .before .before in
     let k = c .before .before .before .before .set-away .ensures in (
-      k .0 ∙ ap (λ (x : Message). seen (s .args .out .now) (s .args .at) does perform (s .args .number) x (venueOf (s .args .b .now)))
+      k .0 ∙ ap (λ (x : Message). seen (s .args .out .now) (s .args .at) does perform (s .args .number) x (venueOf (s .args .numbers .now)))
           (sym (c .before .before .before .before .before .before .before .before .m4 .given .1)),
       k .1 .right (s .pre .1 .right),
     )
@@ -102,7 +102,7 @@ returns-7 : tie.Need-returns-7
 unfolding perform
 returns-7 c = let s = c .before .before .before .before .before .before .before .before .before .before .before .before .before .before .before in
     let k = c .before .before .before .before .set-status .ensures in (
-      k .0 ∙ ap (λ (x : Message). seen (s .args .out .now) (s .args .at) does perform (s .args .number) x (venueOf (s .args .b .now)))
+      k .0 ∙ ap (λ (x : Message). seen (s .args .out .now) (s .args .at) does perform (s .args .number) x (venueOf (s .args .numbers .now)))
           (sym (c .before .before .before .before .before .before .before .before .m5 .given .1)),
       k .1 .right (s .pre .1 .right),
     )
@@ -113,7 +113,7 @@ returns-8 c = let s = c .before .before .before .before .before .before .before 
     let e = c .before .before .before .before .before .before .before .before .before .before .message-form .ensures in
     let sweeps = sweep-left (s .args .m) (c .before .before .before .before .before .before .before .match2 .keys3) (omega arith) (omega arith) in
     let k = c .before .before .before .before .sweep .ensures in (
-      k .0 ∙ ap (λ (x : Message). seen (s .args .out .now) (s .args .at) does perform (s .args .number) x (venueOf (s .args .b .now))) (sym sweeps),
+      k .0 ∙ ap (λ (x : Message). seen (s .args .out .now) (s .args .at) does perform (s .args .number) x (venueOf (s .args .numbers .now))) (sym sweeps),
       k .1 .right (s .pre .1 .right),
     )
 

@@ -20,14 +20,14 @@ use Rattle.messages.proofs.perform_later.Tie as tie
 set-figure-requires : tie.Need-set-figure-requires
 set-figure-requires c κs = let s = c .before .before .before .before .before .before .before in let e = c .before .before .before .m .given .1 in (
   s .pre .0,
-  increment-place _ _ _ _ (sym (ap (refusalOf (venueOf (s .args .b .now))) e) ∙ s .pre .3),
+  increment-place _ _ _ _ (sym (ap (refusalOf (venueOf (s .args .numbers .now))) e) ∙ s .pre .3),
   inl (increment-set _ _ _ (sym (ap wellFormed e) ∙ s .pre .2) .1),
   s .pre .4 .right,
 )
 
 set-figure-requires-2 : tie.Need-set-figure-requires-2
 set-figure-requires-2 c κs = let s = c .before .before .before .before .before .before .before in let e = c .before .before .before .m2 .given .1 in
-    (s .pre .0, percent-place _ _ _ (sym (ap (refusalOf (venueOf (s .args .b .now))) e) ∙ s .pre .3), inr (omega arith), s .pre .4 .right)
+    (s .pre .0, percent-place _ _ _ (sym (ap (refusalOf (venueOf (s .args .numbers .now))) e) ∙ s .pre .3), inr (omega arith), s .pre .4 .right)
 
 limited-sweep-requires : tie.Need-limited-sweep-requires
 limited-sweep-requires c κs = let s = c .before .before .before .before .before .before .before in (s .pre .0, s .pre .4, sound-rising _ (s .pre .5 .is))
@@ -36,7 +36,7 @@ returns : tie.Need-returns
 unfolding perform
 returns c = let s = c .before .before .before .before .before .before .before .before .before .before .before .before in
     let k = c .before .before .before .before .set-figure .ensures in (
-      k .0 ∙ ap (λ (x : Message). seen (s .args .out .now) (s .args .at) does perform (s .args .number) x (venueOf (s .args .b .now)))
+      k .0 ∙ ap (λ (x : Message). seen (s .args .out .now) (s .args .at) does perform (s .args .number) x (venueOf (s .args .numbers .now)))
           (sym (c .before .before .before .before .before .before .before .before .m .given .1)),
       k .1,
     )
@@ -45,7 +45,7 @@ returns-2 : tie.Need-returns-2
 unfolding perform
 returns-2 c = let s = c .before .before .before .before .before .before .before .before .before .before .before .before in
     let k = c .before .before .before .before .set-figure2 .ensures in (
-      k .0 ∙ ap (λ (x : Message). seen (s .args .out .now) (s .args .at) does perform (s .args .number) x (venueOf (s .args .b .now)))
+      k .0 ∙ ap (λ (x : Message). seen (s .args .out .now) (s .args .at) does perform (s .args .number) x (venueOf (s .args .numbers .now)))
           (sym (c .before .before .before .before .before .before .before .before .m2 .given .1)),
       k .1,
     )
@@ -54,7 +54,7 @@ returns-3 : tie.Need-returns-3
 unfolding perform
 returns-3 c = let s = c .before .before .before .before .before .before .before .before .before .before .before .before in
     let k = c .before .before .before .before .limited-sweep .ensures in (
-      k .0 ∙ ap (λ (x : Message). seen (s .args .out .now) (s .args .at) does perform (s .args .number) x (venueOf (s .args .b .now)))
+      k .0 ∙ ap (λ (x : Message). seen (s .args .out .now) (s .args .at) does perform (s .args .number) x (venueOf (s .args .numbers .now)))
           (sym (c .before .before .before .before .before .before .before .before .m3 .given .1)),
       k .1 .0,
     )

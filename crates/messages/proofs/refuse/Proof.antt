@@ -15,7 +15,7 @@ unfolding answered
 returns c = let s = c .before .before .before .before .before .before .before .before in
     record {
       refused = refl;
-      staged = refuse-law (venueOf (s .args .b .now)) _ _ _ _ _ _ _
+      staged = refuse-law (venueOf (s .args .numbers .now)) _ _ _ _ _ _ _
           (c .before .before .before .before .before .mask-of .ensures) (c .before .before .before .before .count-of .ensures)
           (c .before .before .emit-answer .ensures);
       dense = s .pre .1;

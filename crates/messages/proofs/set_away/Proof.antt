@@ -22,7 +22,7 @@ returns c = let s = c .before .before .before .before .before .before .before .b
     let p = c .before .before .before .before .before .before .before .before .before .put-listed .ensures in
     let q = c .before .before .before .before .settle-all .ensures in (
       q .0 ∙ ap (λ (w : Venue). seen (s .args .out .now) (s .args .at) does settle w)
-          (away-set (venueOf (s .args .b .now)) _ (s .args .s) _ _ _
+          (away-set (venueOf (s .args .numbers .now)) _ (s .args .s) _ _ _
           (c .before .before .before .before .before .before .before .before .before .before .before .status-of .ensures) (p .0)),
       counts-on _ _ _ (p .1) (q .1),
     )

@@ -14,7 +14,7 @@ use Rattle.messages.proofs.set_figure.Tie as tie
 
 put-edition-requires : tie.Need-put-edition-requires
 put-edition-requires c κs = let s = c .before .before .before .before .before in let e = c .before .free-edition .ensures in let h = s .pre .1 in
-    (s .pre .0, omega arith, place-free (s .args .b .now) _ e h, s .pre .2)
+    (s .pre .0, omega arith, place-free (s .args .numbers .now) _ e h, s .pre .2)
 
 settle-all-requires : tie.Need-settle-all-requires
 settle-all-requires c κs =
@@ -29,7 +29,7 @@ returns c =
     let q = c .before .before .before .before .settle-all .ensures in (
       q .0
           ∙ ap (λ (w : Venue). seen (s .args .out .now) (s .args .at) does settle w)
-          (figure-set (venueOf (s .args .b .now)) _ (s .args .number) (s .args .f) (s .args .x) (s .args .edition) _
+          (figure-set (venueOf (s .args .numbers .now)) _ (s .args .number) (s .args .f) (s .args .x) (s .args .edition) _
           (c .before .before .before .before .before .before .before .before .before .before .before .free-edition .ensures) (p .0)),
       counts-on _ _ _ (p .1) (q .1),
     )

@@ -23,7 +23,7 @@ returns c = let s = c .before .before .before .before .before .before .before .b
     let p = c .before .before .before .before .before .before .before .before .before .put-listed .ensures in
     let q = c .before .before .before .before .settle-all .ensures in (
       q .0 ∙ ap (λ (w : Venue). seen (s .args .out .now) (s .args .at) does settle w)
-          (status-set (venueOf (s .args .b .now)) _ (s .args .s) _
+          (status-set (venueOf (s .args .numbers .now)) _ (s .args .s) _
           (c .before .before .before .before .before .before .before .before .before .before .before .listed-at .result)
           (listed-read _ _ (c .before .before .before .before .before .before .before .before .before .before .before .listed-at .result) (s .pre .1)
           (c .before .before .before .before .before .before .before .before .before .before .before .listed-at .ensures)) (p .0)),

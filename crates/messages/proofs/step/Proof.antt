@@ -14,14 +14,14 @@ answer-requires c κs =
 
 returns : tie.Need-returns
 returns c = let s = c .before .before .before .before .before .before .before .before .before .before .before .before .before .before in
-    steps-as _ _ _ _ _ _ (step-taken (venueOf (s .args .b .now)) (s .args .number) (s .args .message .now) _
+    steps-as _ _ _ _ _ _ (step-taken (venueOf (s .args .numbers .now)) (s .args .number) (s .args .message .now) _
     (sym (c .before .before .before .before .before .before .before .before .decoded .given .1)
     ∙ c .before .before .before .before .before .before .before .before .before .before .decode .ensures))
     (c .before .before .before .before .answer .ensures)
 
 returns-2 : tie.Need-returns-2
 returns-2 c = let s = c .before .before .before .before .before .before .before .before .before .before .before .before in
-    steps-as _ _ _ _ _ _ (step-refused (venueOf (s .args .b .now)) (s .args .number) (s .args .message .now) _
+    steps-as _ _ _ _ _ _ (step-refused (venueOf (s .args .numbers .now)) (s .args .number) (s .args .message .now) _
     (sym (c .before .before .before .before .before .before .decoded2 .given .1)
     ∙ c .before .before .before .before .before .before .before .before .decode .ensures)) (c .before .before .refuse .ensures)
 

@@ -23,7 +23,7 @@ returns : tie.Need-returns
 unfolding cancel withdrawn
 returns c = let start = c .before .before .before .before .before .before .before .before .before .before .before .before .before .before .before
     .before in (
-      follow _ (withdrawn (start .args .id) (venueOf (start .args .b .now))) settle _ _ _ _ _ _
+      follow _ (withdrawn (start .args .id) (venueOf (start .args .numbers .now))) settle _ _ _ _ _ _
           (c .before .before .before .before .before .before .before .before .before .before .before .withdraw .ensures .0)
           (c .before .before .before .before .settle-all .ensures .0),
       counts-on _ _ _ (c .before .before .before .before .before .before .before .before .before .before .before .withdraw .ensures .1)

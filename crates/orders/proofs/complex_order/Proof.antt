@@ -44,8 +44,8 @@ returns c =
     .before .before .before .before .before .before .before .before .complexes-used in
     let s = c .before .before .before .before .before .before .before .before .before .before .before .before .before .before .before .before .before
     .before .before .before .before .before .before .before .before .before .before .before .before in (
-      complex-law (s .args .number) (s .args .c) _ _ _ _ _ _ _ _ _ _ _ _ _ _ (u .ensures .0 ∙ sym (dense-complex (s .args .b .now) (s .pre .1)))
-          (a .ensures .0 ∙ ap (λ (k : ℕ). putComplex k (s .args .c) (venueOf (s .args .b .now))) (sym (u .ensures .0))) (w .ensures .0) (x .ensures .0) (g .ensures .0),
+      complex-law (s .args .number) (s .args .c) _ _ _ _ _ _ _ _ _ _ _ _ _ _ (u .ensures .0 ∙ sym (dense-complex (s .args .numbers .now) (s .pre .1)))
+          (a .ensures .0 ∙ ap (λ (k : ℕ). putComplex k (s .args .c) (venueOf (s .args .numbers .now))) (sym (u .ensures .0))) (w .ensures .0) (x .ensures .0) (g .ensures .0),
       counts-more _ _ _ _ _ (a .ensures .1) (counts-on _ _ _ (counts-on _ _ _ (w .ensures .1) (x .ensures .1)) (g .ensures .1)),
     )
 

@@ -25,7 +25,7 @@ returns : tie.Need-returns
 unfolding order
 returns c = let start = c .before .before .before .before .before .before .before .before .before .before .before .before .before .before .before
     .before in (
-      follow _ (enterRegular (start .args .o) (venueOf (start .args .b .now))) settle _ _ _ _ _ _
+      follow _ (enterRegular (start .args .o) (venueOf (start .args .numbers .now))) settle _ _ _ _ _ _
           (c .before .before .before .before .before .before .before .before .before .before .before .enter-regular .ensures .0)
           (c .before .before .before .before .settle-all .ensures .0),
       counts-more _ _ _ _ _ (c .before .before .before .before .before .before .before .before .before .before .before .enter-regular .ensures .1)

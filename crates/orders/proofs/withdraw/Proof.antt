@@ -19,16 +19,16 @@ use Rattle.trades.proofs.cancel_regular.Reads as cancel-regular-reads
 withdraw-complex-requires : tie.Need-withdraw-complex-requires
 withdraw-complex-requires c κs = let start = c .before .before .before .before .before .before .before .before in (
   start .pre .0,
-  or-r (restsRegular (venueOf (start .args .b .now)) (start .args .id))
-      (restsComplex (venueOf (start .args .b .now)) (start .args .id))
-      (regular-not (start .args .b .now) (start .args .id)
+  or-r (restsRegular (venueOf (start .args .numbers .now)) (start .args .id))
+      (restsComplex (venueOf (start .args .numbers .now)) (start .args .id))
+      (regular-not (start .args .numbers .now) (start .args .id)
       (sym (c .before .before .enum-told .given .1) ∙ c .before .before .before .before .regular-place .ensures)) (start .pre .2),
 )
 
 returns : tie.Need-returns
 returns c = let start = c .before .before .before .before .before .before .before .before .before .before .before .before .before in (
   c .before .before .before .before .withdraw-complex .ensures .0 ∙ ap (λ (e : Effect). seen (start .args .out .now) (start .args .at) does e)
-      (withdraw-other _ _ (regular-not (start .args .b .now) (start .args .id)
+      (withdraw-other _ _ (regular-not (start .args .numbers .now) (start .args .id)
       (sym (c .before .before .before .before .before .before .before .enum-told .given .1)
       ∙ c .before .before .before .before .before .before .before .before .before .regular-place .ensures))),
   c .before .before .before .before .withdraw-complex .ensures .1,
@@ -37,7 +37,7 @@ returns c = let start = c .before .before .before .before .before .before .befor
 cancel-regular-requires : tie.Need-cancel-regular-requires
 cancel-regular-requires c κs = let start = c .before .before .before .before .before .before .before .before .before in (
   start .pre .0,
-  regular-used (start .args .b .now) (start .args .id) _
+  regular-used (start .args .numbers .now) (start .args .id) _
       (sym (c .before .before .before .found .given .1) ∙ c .before .before .before .before .before .regular-place .ensures),
 )
 
@@ -45,7 +45,7 @@ returns-2 : tie.Need-returns-2
 returns-2 c = let start = c .before .before .before .before .before .before .before .before .before .before .before .before .before .before in (
   c .before .before .before .before .cancel-regular .ensures .0 ∙ ap (λ (e : Effect). seen (start .args .out .now) (start .args .at) does e)
       (withdraw-regular _ _ _
-      (regular-found (start .args .b .now) (start .args .id) _
+      (regular-found (start .args .numbers .now) (start .args .id) _
       (sym (c .before .before .before .before .before .before .before .before .found .given .1)
       ∙ c .before .before .before .before .before .before .before .before .before .before .regular-place .ensures))),
   c .before .before .before .before .cancel-regular .ensures .1,

@@ -18,8 +18,8 @@ abbrev μ-loop : tie.MeasureT-loop
 loop-holds : tie.Need-loop-holds Inv-loop μ-loop
 loop-holds c = (omega arith, c .before .pre, based-first _ (c .before .pre))
 
-slice-write-b : tie.Need-slice-write-b Inv-loop μ-loop
-slice-write-b c = omega arith
+slice-write-numbers : tie.Need-slice-write-numbers Inv-loop μ-loop
+slice-write-numbers c = omega arith
 
 loop-again : tie.Need-loop-again Inv-loop μ-loop
 loop-again c = let m = based-next _ _ _ _ (c .before .before .loop .inv .2) (c .before .loop-test .taken) (c .base-figure .ensures) in (omega arith, m .aside .long, m)
@@ -43,7 +43,7 @@ base-figures-spec =
     (λ c. search needs)
     (λ c. search needs)
     (λ c. search needs)
-    slice-write-b
+    slice-write-numbers
     (λ c. search needs)
     (λ c. search needs)
     loop-again

@@ -19,18 +19,18 @@ abbrev μ-loop : tie.MeasureT-loop
 loop-holds : tie.Need-loop-holds Inv-loop μ-loop
 loop-holds c = (omega arith, omega arith, c .pre .0, written-first _ _ _ _ (c .pre .0) (omega arith))
 
-slice-read-b : tie.Need-slice-read-b Inv-loop μ-loop
-slice-read-b c = omega arith
+slice-read-numbers : tie.Need-slice-read-numbers Inv-loop μ-loop
+slice-read-numbers c = omega arith
 
-slice-write-b : tie.Need-slice-write-b Inv-loop μ-loop
-slice-write-b c = omega arith
+slice-write-numbers : tie.Need-slice-write-numbers Inv-loop μ-loop
+slice-write-numbers c = omega arith
 
 loop-again : tie.Need-loop-again Inv-loop μ-loop
 loop-again c = let m = written-next _ _ _ _ _ _ _ (c .before .before .loop .inv .3) (omega arith) (omega arith) refl
     (c .before .before .loop .inv .3 .rest _ (inr (omega arith))) in (omega arith, omega arith, m .long, m)
 
-slice-write-b-2 : tie.Need-slice-write-b-2 Inv-loop μ-loop
-slice-write-b-2 c = omega arith
+slice-write-numbers-2 : tie.Need-slice-write-numbers-2 Inv-loop μ-loop
+slice-write-numbers-2 c = omega arith
 
 same-length : tie.Need-same-length Inv-loop μ-loop
 same-length c = simp length-set (omega arith)
@@ -50,13 +50,13 @@ count-generation-spec =
     loop-holds
     (λ c. search needs)
     (λ c. search needs)
-    slice-read-b
+    slice-read-numbers
     (λ c. search needs)
-    slice-write-b
+    slice-write-numbers
     (λ c. search needs)
     (λ c. search needs)
     loop-again
     (λ c. search needs)
-    slice-write-b-2
+    slice-write-numbers-2
     same-length
     returns)

@@ -24,25 +24,25 @@ slice-read-q : tie.Need-slice-read-q
 unfolding complexesUsed
 slice-read-q c = omega arith
 
-mul-b : tie.Need-mul-b
+mul-numbers : tie.Need-mul-numbers
 unfolding complexesUsed
-mul-b c = record { fits = omega arith }
+mul-numbers c = record { fits = omega arith }
 
-add-b : tie.Need-add-b
+add-numbers : tie.Need-add-numbers
 unfolding complexesUsed
-add-b c = record { fits = omega arith }
+add-numbers c = record { fits = omega arith }
 
-mul-b-2 : tie.Need-mul-b-2
+mul-numbers-2 : tie.Need-mul-numbers-2
 unfolding complexesUsed
-mul-b-2 c = record { fits = omega arith }
+mul-numbers-2 c = record { fits = omega arith }
 
-slice-write-b : tie.Need-slice-write-b
+slice-write-numbers : tie.Need-slice-write-numbers
 unfolding complexesUsed
-slice-write-b c = omega arith
+slice-write-numbers c = omega arith
 
 returns : tie.Need-returns
 returns c = let s = c .before .before .before .before in
-    complex-stays (s .args .b .now) (s .args .i) (s .args .k) (c .before .less .result) (s .pre .0) (s .pre .1) (c .before .less .ensures) (c .if1 .taken)
+    complex-stays (s .args .numbers .now) (s .args .i) (s .args .k) (c .before .less .result) (s .pre .0) (s .pre .1) (c .before .less .ensures) (c .if1 .taken)
 
 lower-requires : tie.Need-lower-requires
 unfolding complexesUsed
@@ -54,7 +54,7 @@ same-length-2 c = c .before .before .lower .kept .0 ∙ simp length-set
 returns-2 : tie.Need-returns-2
 returns-2 c = let s = c .before .before .before .before .before .before .before .before in
     let l = c .before .before .before .before .before .less in
-    complex-leaves (s .args .b .now) (s .args .i) (s .args .k) (l .result) (s .pre .0) (s .pre .1) (l .ensures) _ (c .before .before .lower .ensures)
+    complex-leaves (s .args .numbers .now) (s .args .i) (s .args .k) (l .result) (s .pre .0) (s .pre .1) (l .ensures) _ (c .before .before .lower .ensures)
 
 pub fill-complex-spec : {M : Type 1} → statement M
 fill-complex-spec =
@@ -65,10 +65,10 @@ fill-complex-spec =
     mul-q-2
     slice-read-q
     (λ c κs. search needs)
-    mul-b
-    add-b
-    mul-b-2
-    slice-write-b
+    mul-numbers
+    add-numbers
+    mul-numbers-2
+    slice-write-numbers
     (λ c. search needs)
     returns
     lower-requires

@@ -24,21 +24,21 @@ slice-read-q : tie.Need-slice-read-q
 unfolding regularsUsed
 slice-read-q c = omega arith
 
-mul-b : tie.Need-mul-b
+mul-numbers : tie.Need-mul-numbers
 unfolding regularsUsed
-mul-b c = record { fits = omega arith }
+mul-numbers c = record { fits = omega arith }
 
-add-b : tie.Need-add-b
+add-numbers : tie.Need-add-numbers
 unfolding regularsUsed
-add-b c = record { fits = omega arith }
+add-numbers c = record { fits = omega arith }
 
-mul-b-2 : tie.Need-mul-b-2
+mul-numbers-2 : tie.Need-mul-numbers-2
 unfolding regularsUsed
-mul-b-2 c = record { fits = omega arith }
+mul-numbers-2 c = record { fits = omega arith }
 
-slice-write-b : tie.Need-slice-write-b
+slice-write-numbers : tie.Need-slice-write-numbers
 unfolding regularsUsed
-slice-write-b c = omega arith
+slice-write-numbers c = omega arith
 
 lower-requires : tie.Need-lower-requires
 unfolding regularsUsed
@@ -50,7 +50,8 @@ same-length c = c .before .before .lower .kept .0 ∙ simp length-set
 returns : tie.Need-returns
 returns c = let s = c .before .before .before .before .before .before .before .before in
     let l = c .before .before .before .before .before .less in
-    regular-leaves (s .args .b .now) (s .args .i) (s .args .k) (l .result) (s .pre .0) (s .pre .1) (l .ensures) (c .before .before .before .before .if1 .taken) _ (c .before .before .lower .ensures)
+    regular-leaves (s .args .numbers .now) (s .args .i) (s .args .k) (l .result) (s .pre .0) (s .pre .1) (l .ensures)
+    (c .before .before .before .before .if1 .taken) _ (c .before .before .lower .ensures)
 
 mul-if2 : tie.Need-mul-if2
 unfolding regularsUsed
@@ -71,12 +72,12 @@ slice-read-if2 c = simp length-set (omega arith)
 returns-2 : tie.Need-returns-2
 returns-2 c = let s = c .before .before .before .before .before .before in
     let l = c .before .before .before .less in
-    regular-stays (s .args .b .now) (s .args .i) (s .args .k) (l .result) (s .pre .0) (s .pre .1) (l .ensures) (omega arith) (c .if2 .taken)
+    regular-stays (s .args .numbers .now) (s .args .i) (s .args .k) (l .result) (s .pre .0) (s .pre .1) (l .ensures) (omega arith) (c .if2 .taken)
 
 returns-3 : tie.Need-returns-3
 returns-3 c = let s = c .before .before .before .before .before .before in
     let l = c .before .before .before .less in
-    regular-hides (s .args .b .now) (s .args .i) (s .args .k) (l .result) (s .pre .0) (s .pre .1) (l .ensures) (omega arith)
+    regular-hides (s .args .numbers .now) (s .args .i) (s .args .k) (l .result) (s .pre .0) (s .pre .1) (l .ensures) (omega arith)
 
 pub fill-regular-spec : {M : Type 1} → statement M
 fill-regular-spec =
@@ -87,10 +88,10 @@ fill-regular-spec =
     mul-q-2
     slice-read-q
     (λ c κs. search needs)
-    mul-b
-    add-b
-    mul-b-2
-    slice-write-b
+    mul-numbers
+    add-numbers
+    mul-numbers-2
+    slice-write-numbers
     lower-requires
     same-length
     returns

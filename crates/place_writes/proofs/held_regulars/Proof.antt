@@ -42,7 +42,7 @@ returns c = c .before .before .before .loop .inv
 loop-again : tie.Need-loop-again Inv-loop μ-loop
 unfolding regularIn
 loop-again c = let h = c .before .before .before in
-    (omega arith, filled-more holdsRegular (regularIn (h .before .before .before .before .before .args .b .now)) (h .loop .i) (h .loop .inv .1) (ap not (ne-eqb _ _ (c .if1 .left))))
+    (omega arith, filled-more holdsRegular (regularIn (h .before .before .before .before .before .args .numbers .now)) (h .loop .i) (h .loop .inv .1) (ap not (ne-eqb _ _ (c .if1 .left))))
 
 returns-2 : tie.Need-returns-2 Inv-loop μ-loop
 returns-2 c = (omega arith, λ k w. c .before .loop .inv .1 k (omega arith))

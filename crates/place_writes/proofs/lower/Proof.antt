@@ -10,13 +10,13 @@ use Rattle.place_writes.proofs.lower.Tie as tie
 
 returns : tie.Need-returns
 returns c = let s = c .before .before .before .before .args in
-    let e : min (getD (s .b .now) (s .at) 0) (s .i) ≡ getD (s .b .now) (s .at) 0 = omega arith in
-    sym (ap (λ (x : ℕ). set (s .b .now) (s .at) x) e ∙ set-getD (s .b .now) (s .at) 0)
+    let e : min (getD (s .numbers .now) (s .at) 0) (s .i) ≡ getD (s .numbers .now) (s .at) 0 = omega arith in
+    sym (ap (λ (x : ℕ). set (s .numbers .now) (s .at) x) e ∙ set-getD (s .numbers .now) (s .at) 0)
 
 returns-2 : tie.Need-returns-2
 returns-2 c = let s = c .before .before .before .before .args in
-    let e : s .i ≡ min (getD (s .b .now) (s .at) 0) (s .i) = omega arith in
-    ap (λ (x : ℕ). set (s .b .now) (s .at) x) e
+    let e : s .i ≡ min (getD (s .numbers .now) (s .at) 0) (s .i) = omega arith in
+    ap (λ (x : ℕ). set (s .numbers .now) (s .at) x) e
 
 pub lower-spec : {M : Type 1} → statement M
 lower-spec =

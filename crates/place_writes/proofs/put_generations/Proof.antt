@@ -19,8 +19,8 @@ abbrev μ-loop : tie.MeasureT-loop
 loop-holds : tie.Need-loop-holds Inv-loop μ-loop
 loop-holds c = (omega arith, c .before .pre .0, written-first _ _ _ _ (c .before .pre .0) (omega arith))
 
-slice-write-b : tie.Need-slice-write-b Inv-loop μ-loop
-slice-write-b c = omega arith
+slice-write-numbers : tie.Need-slice-write-numbers Inv-loop μ-loop
+slice-write-numbers c = omega arith
 
 loop-again : tie.Need-loop-again Inv-loop μ-loop
 loop-again c = let m = put-next _ _ (c .before .before .before .args .g .messages) _ _ (c .before .loop .inv .2) (omega arith) (omega arith) in (omega arith, m .long, m)
@@ -44,7 +44,7 @@ put-generations-spec =
     (λ c. search needs)
     (λ c. search needs)
     (λ c. search needs)
-    slice-write-b
+    slice-write-numbers
     (λ c. search needs)
     (λ c. search needs)
     loop-again

@@ -11,8 +11,8 @@ use Rattle.place_writes.proofs.put_last.Tie as tie
 
 returns : tie.Need-returns
 returns c = (
-  put-last (c .args .b .now) (c .args .id) (c .pre),
-  counts-kept (stored (c .args .b .now) lastIdAt (c .args .id)) (omega arith) (omega arith) (inl (omega arith)),
+  put-last (c .args .numbers .now) (c .args .id) (c .pre),
+  counts-kept (stored (c .args .numbers .now) lastIdAt (c .args .id)) (omega arith) (omega arith) (inl (omega arith)),
 )
 
 pub put-last-spec : {M : Type 1} → statement M

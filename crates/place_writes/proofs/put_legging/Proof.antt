@@ -9,14 +9,14 @@ use Rattle.place_writes.proofs.put_legging.Statement.{statement}
 use Rattle.places.specs.Offsets.{leggingParentAt, leggingPriceAt, leggingQuantityAt}
 use Rattle.place_writes.proofs.put_legging.Tie as tie
 
-slice-write-b-2 : tie.Need-slice-write-b-2
-slice-write-b-2 c = simp length-set (omega arith)
+slice-write-numbers-2 : tie.Need-slice-write-numbers-2
+slice-write-numbers-2 c = simp length-set (omega arith)
 
-slice-write-b-3 : tie.Need-slice-write-b-3
-slice-write-b-3 c = simp length-set (omega arith)
+slice-write-numbers-3 : tie.Need-slice-write-numbers-3
+slice-write-numbers-3 c = simp length-set (omega arith)
 
-slice-write-b-4 : tie.Need-slice-write-b-4
-slice-write-b-4 c = simp length-set (omega arith)
+slice-write-numbers-4 : tie.Need-slice-write-numbers-4
+slice-write-numbers-4 c = simp length-set (omega arith)
 
 returns : tie.Need-returns
 returns c = let s = c .before .before .before .before .before .before .before in
@@ -24,7 +24,7 @@ returns c = let s = c .before .before .before .before .before .before .before in
     let p1 : 3 * n + leggingPriceAt ≡ suc (3 * n + leggingParentAt) = omega arith in
     let p2 : 3 * n + leggingQuantityAt ≡ suc (suc (3 * n + leggingParentAt)) = omega arith in
     rw (p1, p2)
-    (put-legging (s .args .b .now) n (c .before .less .result) (c .before .before .weight .result) (c .weight2 .result)
+    (put-legging (s .args .numbers .now) n (c .before .less .result) (c .before .before .weight .result) (c .weight2 .result)
     (c .before .before .before .before .legging-at .result) (s .args .l) (s .pre .0) (s .pre .1)
     (c .before .before .before .before .legging-at .ensures) (c .before .less .ensures) (c .before .before .weight .ensures .0) (c .weight2 .ensures .0))
 
@@ -42,14 +42,14 @@ put-legging-spec =
     (λ c. search needs)
     (λ c. search needs)
     (λ c. search needs)
-    slice-write-b-2
+    slice-write-numbers-2
     (λ c. search needs)
     (λ c. search needs)
     (λ c. search needs)
-    slice-write-b-3
+    slice-write-numbers-3
     (λ c. search needs)
     (λ c. search needs)
     (λ c. search needs)
-    slice-write-b-4
+    slice-write-numbers-4
     (λ c. search needs)
     returns)

@@ -12,11 +12,11 @@ use Rattle.place_writes.proofs.put_listed.Statement.{statement}
 use Rattle.places.specs.Offsets.{seriesStatusAt, seriesBidAt, seriesOfferAt}
 use Rattle.place_writes.proofs.put_listed.Tie as tie
 
-slice-write-b-2 : tie.Need-slice-write-b-2
-slice-write-b-2 c = simp length-set (omega arith)
+slice-write-numbers-2 : tie.Need-slice-write-numbers-2
+slice-write-numbers-2 c = simp length-set (omega arith)
 
-slice-write-b-3 : tie.Need-slice-write-b-3
-slice-write-b-3 c = simp length-set (omega arith)
+slice-write-numbers-3 : tie.Need-slice-write-numbers-3
+slice-write-numbers-3 c = simp length-set (omega arith)
 
 returns : tie.Need-returns
 returns c = let z = c .before in
@@ -25,8 +25,8 @@ returns c = let z = c .before in
     let p2 : 3 * n + seriesOfferAt ≡ suc (suc (3 * n + seriesStatusAt)) = omega arith in
     let x = z .args .x in
     rw (p1, p2) (
-      put-listed (z .args .b .now) n x (z .pre .0) (z .pre .1) (c .struct-known .given .0 .fits),
-      counts-kept (sets-outside (z .args .b .now) (3 * n + seriesStatusAt) (x .status ∷ x .bid ∷ x .offer ∷ [])) (omega arith) (omega arith) (inr (omega arith)),
+      put-listed (z .args .numbers .now) n x (z .pre .0) (z .pre .1) (c .struct-known .given .0 .fits),
+      counts-kept (sets-outside (z .args .numbers .now) (3 * n + seriesStatusAt) (x .status ∷ x .bid ∷ x .offer ∷ [])) (omega arith) (omega arith) (inr (omega arith)),
     )
 
 pub put-listed-spec : {M : Type 1} → statement M
@@ -41,10 +41,10 @@ put-listed-spec =
     (λ c. search needs)
     (λ c. search needs)
     (λ c. search needs)
-    slice-write-b-2
+    slice-write-numbers-2
     (λ c. search needs)
     (λ c. search needs)
     (λ c. search needs)
-    slice-write-b-3
+    slice-write-numbers-3
     (λ c. search needs)
     returns)

@@ -21,15 +21,15 @@ loop-holds c = (omega arith, c .before .before .before .pre, again-start _ (c .b
 regular-at-requires : tie.Need-regular-at-requires Inv-loop μ-loop
 regular-at-requires c κs = (c .before .before .loop .inv .1, omega arith)
 
-slice-write-b : tie.Need-slice-write-b Inv-loop μ-loop
-slice-write-b c = omega arith
+slice-write-numbers : tie.Need-slice-write-numbers Inv-loop μ-loop
+slice-write-numbers c = omega arith
 
 loop-again : tie.Need-loop-again Inv-loop μ-loop
 loop-again c = let m = again-next _ _ _ (c .before .regular-at .result) _ (c .before .before .before .before .loop .inv .2) (omega arith)
     (c .before .regular-at .ensures) (c .less .ensures) in (omega arith, m .long, m)
 
-slice-write-b-2 : tie.Need-slice-write-b-2 Inv-loop μ-loop
-slice-write-b-2 c = omega arith
+slice-write-numbers-2 : tie.Need-slice-write-numbers-2 Inv-loop μ-loop
+slice-write-numbers-2 c = omega arith
 
 same-length : tie.Need-same-length Inv-loop μ-loop
 same-length c = simp length-set (omega arith)
@@ -50,10 +50,10 @@ show-again-spec =
     (λ c. search needs)
     (λ c. search needs)
     (λ c. search needs)
-    slice-write-b
+    slice-write-numbers
     (λ c. search needs)
     (λ c. search needs)
     loop-again
-    slice-write-b-2
+    slice-write-numbers-2
     same-length
     returns)

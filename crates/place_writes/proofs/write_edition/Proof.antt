@@ -9,14 +9,14 @@ use borrow.Author.Needs.{needs}
 use Rattle.place_writes.proofs.write_edition.Statement.{statement}
 use Rattle.place_writes.proofs.write_edition.Tie as tie
 
-slice-write-b-2 : tie.Need-slice-write-b-2
-slice-write-b-2 c = simp length-set (omega arith)
+slice-write-numbers-2 : tie.Need-slice-write-numbers-2
+slice-write-numbers-2 c = simp length-set (omega arith)
 
-slice-write-b-3 : tie.Need-slice-write-b-3
-slice-write-b-3 c = simp length-set (omega arith)
+slice-write-numbers-3 : tie.Need-slice-write-numbers-3
+slice-write-numbers-3 c = simp length-set (omega arith)
 
-slice-write-b-4 : tie.Need-slice-write-b-4
-slice-write-b-4 c = simp length-set (omega arith)
+slice-write-numbers-4 : tie.Need-slice-write-numbers-4
+slice-write-numbers-4 c = simp length-set (omega arith)
 
 returns : tie.Need-returns
 unfolding editionRow
@@ -40,16 +40,16 @@ write-edition-spec =
     (λ c. search needs)
     (λ c. search needs)
     (λ c. search needs)
-    slice-write-b-2
+    slice-write-numbers-2
     (λ c. search needs)
     (λ c. search needs)
     (λ c. search needs)
     (λ c. search needs)
-    slice-write-b-3
+    slice-write-numbers-3
     (λ c. search needs)
     (λ c. search needs)
     (λ c. search needs)
     (λ c. search needs)
-    slice-write-b-4
+    slice-write-numbers-4
     (λ c. search needs)
     returns)

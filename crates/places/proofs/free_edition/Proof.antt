@@ -25,15 +25,15 @@ loop-holds c = (omega arith, λ k w. absurd (omega arith))
 returns : tie.Need-returns Inv-loop μ-loop
 unfolding editionIn
 returns c = let h = c .before .before .before in
-    free-edition-is (h .before .args .b .now) _ (h .loop .inv .0) (h .loop .inv .1) (inr (ap not (eq-eqb _ _ (c .if1 .taken))))
+    free-edition-is (h .before .args .numbers .now) _ (h .loop .inv .0) (h .loop .inv .1) (inr (ap not (eq-eqb _ _ (c .if1 .taken))))
 
 loop-again : tie.Need-loop-again Inv-loop μ-loop
 unfolding editionIn
 loop-again c = let h = c .before .before .before in
-    (omega arith, filled-more holdsEdition (editionIn (h .before .args .b .now)) (h .loop .i) (h .loop .inv .1) (ap not (ne-eqb _ _ (c .if1 .left))))
+    (omega arith, filled-more holdsEdition (editionIn (h .before .args .numbers .now)) (h .loop .i) (h .loop .inv .1) (ap not (ne-eqb _ _ (c .if1 .left))))
 
 returns-2 : tie.Need-returns-2 Inv-loop μ-loop
-returns-2 c = free-edition-is (c .before .before .args .b .now) 32 (omega arith) (λ k w. c .before .loop .inv .1 k (omega arith)) (inl (omega arith))
+returns-2 c = free-edition-is (c .before .before .args .numbers .now) 32 (omega arith) (λ k w. c .before .loop .inv .1 k (omega arith)) (inl (omega arith))
 
 pub free-edition-spec : {M : Type 1} → statement M
 free-edition-spec =

@@ -23,7 +23,7 @@ loop-holds c = (omega arith, refl)
 array-write-messages : tie.Need-array-write-messages Inv-loop μ-loop
 array-write-messages c = let h = c .before .before in
     let z = ap length (h .loop .inv .1) in
-    let y = used-length (numberIn (h .before .args .b .now) (h .before .args .s)) 0 (h .loop .k) 20 (omega arith) in
+    let y = used-length (numberIn (h .before .args .numbers .now) (h .before .args .s)) 0 (h .loop .k) 20 (omega arith) in
     omega arith
 
 loop-again : tie.Need-loop-again Inv-loop μ-loop

@@ -26,7 +26,7 @@ legging-at-requires c κs = (c .before .before .before .pre, omega arith)
 array-set-from-r : tie.Need-array-set-from-r Inv-loop μ-loop
 array-set-from-r c = let h = c .before .before in
     let z = ap length (h .loop .inv .1) in
-    let y = used-length (leggingIn (c .before .before .before .before .args .b .now)) noLegging (h .loop .i) 16 (omega arith) in
+    let y = used-length (leggingIn (c .before .before .before .before .args .numbers .now)) noLegging (h .loop .i) 16 (omega arith) in
     omega arith
 
 loop-again : tie.Need-loop-again Inv-loop μ-loop
@@ -34,7 +34,7 @@ loop-again c = (omega arith, used-next _ _ _ 16 _ _ (omega arith) (c .before .be
 
 returns : tie.Need-returns Inv-loop μ-loop
 unfolding venueOf
-returns c = used-done _ _ _ _ 16 _ (omega arith) (c .before .loop .inv .1) ∙ whole (leggingIn (c .before .before .before .args .b .now)) noLegging 16
+returns c = used-done _ _ _ _ 16 _ (omega arith) (c .before .loop .inv .1) ∙ whole (leggingIn (c .before .before .before .args .numbers .now)) noLegging 16
 
 pub leggings-of-spec : {M : Type 1} → statement M
 leggings-of-spec =

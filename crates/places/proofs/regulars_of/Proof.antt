@@ -26,7 +26,7 @@ regular-at-requires c κs = (c .before .before .before .before .pre, omega arith
 array-set-from-r : tie.Need-array-set-from-r Inv-loop μ-loop
 array-set-from-r c = let h = c .before .before in
     let z = ap length (h .loop .inv .1) in
-    let y = used-length (regularIn (c .before .before .before .before .before .args .b .now)) noRegular (h .loop .i) 128 (omega arith) in
+    let y = used-length (regularIn (c .before .before .before .before .before .args .numbers .now)) noRegular (h .loop .i) 128 (omega arith) in
     omega arith
 
 loop-again : tie.Need-loop-again Inv-loop μ-loop

@@ -9,8 +9,12 @@ use Rattle.prices.proofs.in_band.Tie as tie
 
 market-best-requires : tie.Need-market-best-requires
 market-best-requires c κs =
-    let a = c .before .before .before .args in
-    (c .before .before .before .pre .0, first-best (venueOf (a .b .now)) (a .taken) (a .c) (c .before .before .before .pre .1) _ (c .opposite-of .ensures), c .before .before .before .pre .2 .first)
+    let a = c .before .before .before .args in (
+      c .before .before .before .pre .0,
+      first-best (venueOf (a .numbers .now)) (a .taken) (a .c) (c .before .before .before .pre .1) _
+          (c .opposite-of .ensures),
+      c .before .before .before .pre .2 .first,
+    )
 
 returns : tie.Need-returns
 returns c = band-none1 _ (c .before .before .before .before .before .args .c) _ _ (c .before .market-best .ensures) (c .before .before .opposite-of .ensures) _ (c .if1 .taken)
@@ -19,7 +23,7 @@ market-best-requires-2 : tie.Need-market-best-requires-2
 market-best-requires-2 c κs =
     let a = c .before .before .before .before .before .before .before .args in (
       c .before .before .before .before .before .before .before .pre .0,
-      second-best (venueOf (a .b .now)) (a .taken) (a .c)
+      second-best (venueOf (a .numbers .now)) (a .taken) (a .c)
           (c .before .before .before .before .before .before .before .pre .1) _ (c .opposite-of2 .ensures),
       c .before .before .before .before .before .before .before .pre .2 .second,
     )

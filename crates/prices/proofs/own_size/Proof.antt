@@ -23,7 +23,7 @@ add-result : tie.Need-add-result
 add-result c =
     let known = c .before .before .before .before .before .before .before .before .before in
     let a = known .before .args in
-    let z = level-most (a .b .now) (λ k. omega (arith, known .shared-slice-known .given k)) (a .s) (a .d) (a .level) (known .before .pre .1) in
+    let z = level-most (a .numbers .now) (λ k. omega (arith, known .shared-slice-known .given k)) (a .s) (a .d) (a .level) (known .before .pre .1) in
     search needs
 
 returns-2 : tie.Need-returns-2

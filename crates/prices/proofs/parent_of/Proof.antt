@@ -20,14 +20,14 @@ loop-holds : tie.Need-loop-holds Inv-loop μ-loop
 unfolding parentOf venueOf
 loop-holds c = let n = c .complexes-used .ensures in (
   search needs,
-  ap (λ (k : ℕ). findComplex (c .before .before .args .l .parent) (upto (complexIn (c .before .before .args .b .now)) 0 k))
-      (sub-zero _ ∙ n .0) ∙ find-used (complexIn (c .before .before .args .b .now)) (c .before .before .args .l .parent)
-      (complexesUsed (c .before .before .args .b .now)) 32,
+  ap (λ (k : ℕ). findComplex (c .before .before .args .l .parent) (upto (complexIn (c .before .before .args .numbers .now)) 0 k))
+      (sub-zero _ ∙ n .0) ∙ find-used (complexIn (c .before .before .args .numbers .now)) (c .before .before .args .l .parent)
+      (complexesUsed (c .before .before .args .numbers .now)) 32,
 )
 
 returns : tie.Need-returns Inv-loop μ-loop
 returns c = let start = c .before .before .before .before .before .before .before in
-    (c .before .before .complex-at .ensures) ∙ find-here (start .args .l .parent) (complexIn (start .args .b .now))
+    (c .before .before .complex-at .ensures) ∙ find-here (start .args .l .parent) (complexIn (start .args .numbers .now))
     (c .before .before .before .before .loop .i) _ (c .before .before .before .loop-test .taken)
     (ap (isComplexOf (start .args .l .parent)) (sym (c .before .before .complex-at .ensures)) ∙ sym (c .before .is-complex-of .ensures)
     ∙ c .if1 .taken) ∙ c .before .before .before .before .loop .inv .1
@@ -36,14 +36,15 @@ loop-again : tie.Need-loop-again Inv-loop μ-loop
 loop-again c = (
   search needs,
   find-past (c .before .before .before .before .before .before .before .args .l .parent)
-      (complexIn (c .before .before .before .before .before .before .before .args .b .now)) (c .before .before .before .before .loop .i) _
+      (complexIn (c .before .before .before .before .before .before .before .args .numbers .now)) (c .before .before .before .before .loop .i) _
       (c .before .before .before .loop-test .taken)
       (ap (isComplexOf (c .before .before .before .before .before .before .before .args .l .parent)) (sym (c .before .before .complex-at .ensures))
       ∙ sym (c .before .is-complex-of .ensures) ∙ c .if1 .left) ∙ c .before .before .before .before .loop .inv .1,
 )
 
 returns-2 : tie.Need-returns-2 Inv-loop μ-loop
-returns-2 c = let start = c .before .before .before .before in find-end (start .args .l .parent) (complexIn (start .args .b .now)) (c .before .loop .i) _ (c .loop-test .left) ∙ c .before .loop .inv .1
+returns-2 c = let start = c .before .before .before .before in find-end (start .args .l .parent) (complexIn (start .args .numbers .now))
+    (c .before .loop .i) _ (c .loop-test .left) ∙ c .before .loop .inv .1
 
 pub parent-of-spec : {M : Type 1} → statement M
 parent-of-spec =

@@ -11,12 +11,12 @@ use Rattle.refusals.proofs.cancel_refusal.Tie as tie
 
 returns : tie.Need-returns
 unfolding offIncrement editionTooLow inUse noEditionLeft idTooLow onClosed full unknown
-returns c = let s = c .before .before .before in accepts (venueOf (s .args .b .now)) (Cancel (s .args .id)) refl refl refl refl refl refl refl
+returns c = let s = c .before .before .before in accepts (venueOf (s .args .numbers .now)) (Cancel (s .args .id)) refl refl refl refl refl refl refl
     (ap not (sym (c .before .rests .ensures) ∙ c .if1 .taken))
 
 returns-2 : tie.Need-returns-2
 unfolding offIncrement editionTooLow inUse noEditionLeft idTooLow onClosed full unknown
-returns-2 c = let s = c .before .before .before in refuses-unknown (venueOf (s .args .b .now)) (Cancel (s .args .id)) refl refl refl refl refl refl
+returns-2 c = let s = c .before .before .before in refuses-unknown (venueOf (s .args .numbers .now)) (Cancel (s .args .id)) refl refl refl refl refl refl
     refl (ap not (sym (c .before .rests .ensures) ∙ c .if1 .left))
 
 pub cancel-refusal-spec : {M : Type 1} → statement M

@@ -29,13 +29,13 @@ loop-holds : tie.Need-loop-holds Inv-loop μ-loop
 loop-holds c = (search needs, λ j q. absurd (omega arith))
 
 returns : tie.Need-returns Inv-loop μ-loop
-returns c = let b = c .before .before .before .before .before .before .args .b .now in
+returns c = let b = c .before .before .before .before .before .before .args .numbers .now in
     let e = c .before .before .before .before .before .before .args .edition in one-fails (below e) noEdition (editionIn b) 32 32 (omega arith)
     (c .before .before .before .before .loop .i) (omega arith)
     (ap (below e) (sym (c .before .before .edition-at .ensures)) ∙ le-ltb _ _ (c .if1 .taken)) ∙ ap (all (below e)) (editions-used b)
 
 loop-again : tie.Need-loop-again Inv-loop μ-loop
-loop-again c = let b = c .before .before .before .before .before .before .args .b .now in
+loop-again c = let b = c .before .before .before .before .before .before .args .numbers .now in
     let e = c .before .before .before .before .before .before .args .edition in (
       omega arith,
       below-more (λ j. below e (editionIn b j) ≡ true) (c .before .before .before .before .loop .i)
@@ -43,7 +43,7 @@ loop-again c = let b = c .before .before .before .before .before .before .args .
     )
 
 returns-2 : tie.Need-returns-2 Inv-loop μ-loop
-returns-2 c = let b = c .before .before .before .args .b .now in let e = c .before .before .before .args .edition in
+returns-2 c = let b = c .before .before .before .args .numbers .now in let e = c .before .before .before .args .edition in
     all-pass (below e) noEdition (editionIn b) 32 32 (omega arith) (λ h. absurd (omega arith)) (λ j q. c .before .loop .inv .1 j (omega arith))
     ∙ ap (all (below e)) (editions-used b)
 

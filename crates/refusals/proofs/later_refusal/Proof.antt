@@ -14,16 +14,16 @@ is-idle-requires : tie.Need-is-idle-requires
 is-idle-requires c κs = let s = c .before .before .before .before in (s .pre .0, increment-set _ _ _ (sym (ap wellFormed (c .before .m .given .1)) ∙ s .pre .2) .0)
 
 returns : tie.Need-returns
-returns c = let v = venueOf (c .before .before .before .before .before .before .args .b .now) in
+returns c = let v = venueOf (c .before .before .before .before .before .before .args .numbers .now) in
     c .edition-refusal .ensures ∙ increment-refusal v _ _ _ _ (c .before .is-idle .ensures)
     ∙ sym (ap (refusalOf v) (c .before .before .before .m .given .1))
 
 returns-2 : tie.Need-returns-2
-returns-2 c = let v = venueOf (c .before .before .before .before .before .args .b .now) in c .edition-refusal2 .ensures ∙ percent-refusal v _ _
+returns-2 c = let v = venueOf (c .before .before .before .before .before .args .numbers .now) in c .edition-refusal2 .ensures ∙ percent-refusal v _ _
     ∙ sym (ap (refusalOf v) (c .before .before .m2 .given .1))
 
 returns-3 : tie.Need-returns-3
-returns-3 c = let v = venueOf (c .before .before .before .args .b .now) in limited-taken v _ ∙ sym (ap (refusalOf v) (c .enum-told .given .1))
+returns-3 c = let v = venueOf (c .before .before .before .args .numbers .now) in limited-taken v _ ∙ sym (ap (refusalOf v) (c .enum-told .given .1))
 
 returns-4 : tie.Need-returns-4
 returns-4 c = let s = c .before .before in let k = lower-left (s .args .m) (c .match .keys4) in absurd (omega arith)

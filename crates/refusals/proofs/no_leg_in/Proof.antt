@@ -28,20 +28,20 @@ loop-holds : tie.Need-loop-holds Inv-loop μ-loop
 loop-holds c = (search needs, λ j q. absurd (omega arith))
 
 complex-at-requires : tie.Need-complex-at-requires Inv-loop μ-loop
-complex-at-requires c κs = let w = complexes-few (c .before .before .before .before .args .b .now) in search needs
+complex-at-requires c κs = let w = complexes-few (c .before .before .before .before .args .numbers .now) in search needs
 
 returns : tie.Need-returns Inv-loop μ-loop
 unfolding venueOf
-returns c = let b = c .before .before .before .before .before .before .before .args .b .now in
+returns c = let b = c .before .before .before .before .before .before .before .args .numbers .now in
     let s = c .before .before .before .before .before .before .before .args .s in one-fails (elsewhere s) noComplex (complexIn b) (complexesUsed b) 32
     (complexes-few b) (c .before .before .before .before .loop .i) (omega arith)
     (ap (elsewhere s) (sym (c .before .before .complex-at .ensures)) ∙ ap not (sym (c .before .has-leg-in .ensures) ∙ c .if1 .taken))
 
 add-i : tie.Need-add-i Inv-loop μ-loop
-add-i c = let w = complexes-few (c .before .before .before .before .before .before .before .args .b .now) in search needs
+add-i c = let w = complexes-few (c .before .before .before .before .before .before .before .args .numbers .now) in search needs
 
 loop-again : tie.Need-loop-again Inv-loop μ-loop
-loop-again c = let b = c .before .before .before .before .before .before .before .args .b .now in
+loop-again c = let b = c .before .before .before .before .before .before .before .args .numbers .now in
     let s = c .before .before .before .before .before .before .before .args .s in (
       omega arith,
       below-more (λ j. elsewhere s (complexIn b j) ≡ true) (c .before .before .before .before .loop .i)
@@ -51,7 +51,7 @@ loop-again c = let b = c .before .before .before .before .before .before .before
 
 returns-2 : tie.Need-returns-2 Inv-loop μ-loop
 unfolding venueOf
-returns-2 c = let b = c .before .before .before .before .args .b .now in let s = c .before .before .before .before .args .s in
+returns-2 c = let b = c .before .before .before .before .args .numbers .now in let s = c .before .before .before .before .args .s in
     all-pass (elsewhere s) noComplex (complexIn b) (complexesUsed b) 32 (complexes-few b) (λ _. refl) (λ j q. c .before .loop .inv .1 j (omega arith))
 
 pub no-leg-in-spec : {M : Type 1} → statement M

@@ -28,20 +28,20 @@ loop-holds : tie.Need-loop-holds Inv-loop μ-loop
 loop-holds c = (search needs, λ j q. absurd (omega arith))
 
 regular-at-requires : tie.Need-regular-at-requires Inv-loop μ-loop
-regular-at-requires c κs = let w = regulars-few (c .before .before .before .before .args .b .now) in search needs
+regular-at-requires c κs = let w = regulars-few (c .before .before .before .before .args .numbers .now) in search needs
 
 returns : tie.Need-returns Inv-loop μ-loop
 unfolding venueOf
-returns c = let b = c .before .before .before .before .before .before .before .args .b .now in
+returns c = let b = c .before .before .before .before .before .before .before .args .numbers .now in
     let s = c .before .before .before .before .before .before .before .args .s in one-fails (elsewhere s) noRegular (regularIn b) (regularsUsed b) 128
     (regulars-few b) (c .before .before .before .before .loop .i) (omega arith)
     (ap (elsewhere s) (sym (c .before .before .regular-at .ensures)) ∙ ap not (sym (c .before .rests-in .ensures) ∙ c .if1 .taken))
 
 add-i : tie.Need-add-i Inv-loop μ-loop
-add-i c = let w = regulars-few (c .before .before .before .before .before .before .before .args .b .now) in search needs
+add-i c = let w = regulars-few (c .before .before .before .before .before .before .before .args .numbers .now) in search needs
 
 loop-again : tie.Need-loop-again Inv-loop μ-loop
-loop-again c = let b = c .before .before .before .before .before .before .before .args .b .now in
+loop-again c = let b = c .before .before .before .before .before .before .before .args .numbers .now in
     let s = c .before .before .before .before .before .before .before .args .s in (
       omega arith,
       below-more (λ j. elsewhere s (regularIn b j) ≡ true) (c .before .before .before .before .loop .i)
@@ -51,7 +51,7 @@ loop-again c = let b = c .before .before .before .before .before .before .before
 
 returns-2 : tie.Need-returns-2 Inv-loop μ-loop
 unfolding venueOf
-returns-2 c = let b = c .before .before .before .before .args .b .now in let s = c .before .before .before .before .args .s in
+returns-2 c = let b = c .before .before .before .before .args .numbers .now in let s = c .before .before .before .before .args .s in
     all-pass (elsewhere s) noRegular (regularIn b) (regularsUsed b) 128 (regulars-few b) (λ _. refl) (λ j q. c .before .loop .inv .1 j (omega arith))
 
 pub no-order-in-spec : {M : Type 1} → statement M

@@ -16,18 +16,18 @@ use Rattle.refusals.proofs.order_refusal.Statement.{statement}
 use Rattle.refusals.proofs.order_refusal.Tie as tie
 
 -- the price is on the increment
-on-increment : (c : tie.Else1) → offIncrement (venueOf (c .before .before .before .args .b .now)) (Order (c .before .before .before .args .o)) ≡ false
+on-increment : (c : tie.Else1) → offIncrement (venueOf (c .before .before .before .args .numbers .now)) (Order (c .before .before .before .args .o)) ≡ false
 on-increment c = sym (c .before .off-increment .ensures) ∙ c .if1 .left
 
 off-increment-requires : tie.Need-off-increment-requires
 off-increment-requires c κs = let s = c .before in (s .pre .0, regular-side (s .args .o) (s .pre .2) .series, s .pre .1 .right .marked .figures)
 
 returns : tie.Need-returns
-returns c = refuses-off (venueOf (c .before .before .before .args .b .now)) (Order (c .before .before .before .args .o)) (sym (c .before .off-increment .ensures) ∙ c .if1 .taken)
+returns c = refuses-off (venueOf (c .before .before .before .args .numbers .now)) (Order (c .before .before .before .args .o)) (sym (c .before .off-increment .ensures) ∙ c .if1 .taken)
 
 returns-2 : tie.Need-returns-2
 unfolding editionTooLow inUse noEditionLeft idTooLow
-returns-2 c = let start = c .before .before .before .before .before .before in refuses-low (venueOf (start .args .b .now)) (Order (start .args .o))
+returns-2 c = let start = c .before .before .before .before .before .before in refuses-low (venueOf (start .args .numbers .now)) (Order (start .args .o))
     (on-increment (c .before .before .before)) refl refl refl
     (ap (leb (start .args .o .id)) (sym (c .before .before .last-id .ensures)) ∙ le-leb _ _ (c .if2 .taken))
 
@@ -36,7 +36,7 @@ status-of-requires c κs = let s = c .before .before .before .before .before .be
 
 returns-3 : tie.Need-returns-3
 unfolding editionTooLow inUse noEditionLeft idTooLow onClosed
-returns-3 c = let start = c .before .before .before .before .before .before .before .before in refuses-closed (venueOf (start .args .b .now))
+returns-3 c = let start = c .before .before .before .before .before .before .before .before in refuses-closed (venueOf (start .args .numbers .now))
     (Order (start .args .o)) (on-increment (c .before .before .before .before .before)) refl refl refl
     (ap (leb (start .args .o .id)) (sym (c .before .before .before .before .last-id .ensures)) ∙ lt-leb _ _ (c .before .before .if2 .left))
     (ap (λ (x : ℕ). eqb x closed) (sym (c .before .status-of .ensures)) ∙ eq-eqb _ _ (c .if3 .taken))
@@ -44,22 +44,22 @@ returns-3 c = let start = c .before .before .before .before .before .before .bef
 returns-4 : tie.Need-returns-4
 unfolding editionTooLow inUse noEditionLeft idTooLow onClosed full
 returns-4 c = let start = c .before .before .before .before .before .before .before .before .before .before in
-    let s = c .before .before .before .before .before .before .before .before .before .before in refuses-full (venueOf (start .args .b .now))
+    let s = c .before .before .before .before .before .before .before .before .before .before in refuses-full (venueOf (start .args .numbers .now))
     (Order (start .args .o)) (on-increment (c .before .before .before .before .before .before .before)) refl refl refl
     (ap (leb (start .args .o .id)) (sym (c .before .before .before .before .before .before .last-id .ensures)) ∙ lt-leb _ _
     (c .before .before .before .before .if2 .left))
     (ap (λ (x : ℕ). eqb x closed) (sym (c .before .before .before .status-of .ensures)) ∙ ne-eqb _ _ (c .before .before .if3 .left))
-    (ap (leb 128) (dense-regular (s .args .b .now) (s .pre .1) ∙ sym (c .before .regulars-used .ensures .0)) ∙ le-leb _ _ (c .if4 .taken))
+    (ap (leb 128) (dense-regular (s .args .numbers .now) (s .pre .1) ∙ sym (c .before .regulars-used .ensures .0)) ∙ le-leb _ _ (c .if4 .taken))
 
 returns-5 : tie.Need-returns-5
 unfolding editionTooLow inUse noEditionLeft idTooLow onClosed full unknown
 returns-5 c = let start = c .before .before .before .before .before .before .before .before .before .before in
     let s = c .before .before .before .before .before .before .before .before .before .before in
-    accepts (venueOf (start .args .b .now)) (Order (start .args .o)) (on-increment (c .before .before .before .before .before .before .before)) refl
+    accepts (venueOf (start .args .numbers .now)) (Order (start .args .o)) (on-increment (c .before .before .before .before .before .before .before)) refl
     refl refl (ap (leb (start .args .o .id)) (sym (c .before .before .before .before .before .before .last-id .ensures)) ∙ lt-leb _ _
     (c .before .before .before .before .if2 .left))
     (ap (λ (x : ℕ). eqb x closed) (sym (c .before .before .before .status-of .ensures)) ∙ ne-eqb _ _ (c .before .before .if3 .left))
-    (ap (leb 128) (dense-regular (s .args .b .now) (s .pre .1) ∙ sym (c .before .regulars-used .ensures .0)) ∙ lt-leb _ _ (c .if4 .left)) refl
+    (ap (leb 128) (dense-regular (s .args .numbers .now) (s .pre .1) ∙ sym (c .before .regulars-used .ensures .0)) ∙ lt-leb _ _ (c .if4 .left)) refl
 
 pub order-refusal-spec : {M : Type 1} → statement M
 order-refusal-spec =

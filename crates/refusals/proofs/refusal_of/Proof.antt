@@ -17,7 +17,7 @@ returns : tie.Need-returns
 returns c = c .later-refusal .ensures
 
 returns-2 : tie.Need-returns-2
-returns-2 c = let s = c .before .before .before .before in let e = c .before .before .message-form .ensures in never-refused (venueOf (s .args .b .now)) (s .args .m) (omega arith) (omega arith)
+returns-2 c = let s = c .before .before .before .before in let e = c .before .before .message-form .ensures in never-refused (venueOf (s .args .numbers .now)) (s .args .m) (omega arith) (omega arith)
 
 order-refusal-requires : tie.Need-order-refusal-requires
 unfolding wellFormed
@@ -28,15 +28,16 @@ unfolding wellFormed
 complex-refusal-requires c κs = let s = c .before .before .before .before .before .before .before in (s .pre .0, s .pre .1, sym (ap wellFormed (c .before .m2 .given .1)) ∙ s .pre .2)
 
 returns-3 : tie.Need-returns-3
-returns-3 c = let s = c .before .before .before .before .before .before .before .before in c .order-refusal .ensures ∙ sym (ap (refusalOf (venueOf (s .args .b .now))) (c .before .before .m .given .1))
+returns-3 c = let s = c .before .before .before .before .before .before .before .before in
+    c .order-refusal .ensures ∙ sym (ap (refusalOf (venueOf (s .args .numbers .now))) (c .before .before .m .given .1))
 
 returns-4 : tie.Need-returns-4
 returns-4 c = let s = c .before .before .before .before .before .before .before .before in
-    c .complex-refusal .ensures ∙ sym (ap (refusalOf (venueOf (s .args .b .now))) (c .before .before .m2 .given .1))
+    c .complex-refusal .ensures ∙ sym (ap (refusalOf (venueOf (s .args .numbers .now))) (c .before .before .m2 .given .1))
 
 returns-5 : tie.Need-returns-5
 returns-5 c = let s = c .before .before .before .before .before .before .before .before in
-    c .cancel-refusal .ensures ∙ sym (ap (refusalOf (venueOf (s .args .b .now))) (c .before .before .m3 .given .1))
+    c .cancel-refusal .ensures ∙ sym (ap (refusalOf (venueOf (s .args .numbers .now))) (c .before .before .m3 .given .1))
 
 returns-6 : tie.Need-returns-6
 returns-6 c = let s = c .before .before .before .before .before in let k = kinds-left (s .args .m) (c .match .keys4) in let e = c .before .before .before .message-form .ensures in absurd (omega arith)

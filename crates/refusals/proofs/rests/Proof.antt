@@ -9,12 +9,12 @@ use Rattle.refusals.proofs.rests.Statement.{statement}
 use Rattle.refusals.proofs.rests.Tie as tie
 
 returns : tie.Need-returns
-returns c = let s = c .before .before .before .before .before in ap (λ (t : Bool). t || restsComplex (venueOf (s .args .b .now)) (s .args .id))
+returns c = let s = c .before .before .before .before .before in ap (λ (t : Bool). t || restsComplex (venueOf (s .args .numbers .now)) (s .args .id))
     (regular-told _ _ _ (sym (c .before .found .given .1) ∙ c .before .before .before .regular-place .ensures))
 
 returns-2 : tie.Need-returns-2
 returns-2 c = let s = c .before .before .before .before .before in
-    c .complex-rests .ensures ∙ ap (λ (t : Bool). t || restsComplex (venueOf (s .args .b .now)) (s .args .id))
+    c .complex-rests .ensures ∙ ap (λ (t : Bool). t || restsComplex (venueOf (s .args .numbers .now)) (s .args .id))
     (regular-told _ _ _ (sym (c .before .enum-told .given .1) ∙ c .before .before .before .regular-place .ensures))
 
 pub rests-spec : {M : Type 1} → statement M

@@ -24,13 +24,13 @@ loop-holds c = refl
 loop-again : tie.Need-loop-again Inv-loop μ-loop
 loop-again c = let s = c .before .before .before .before .before .before .before .before in
     left-next _ _ _ _ _ _ _ _ _ _ (c .before .before .before .before .before .loop .inv)
-    (generations-next (venueOf (s .args .b .now)) _ (omega (arith, generations-many (s .args .b .now)))) (c .before .before .put-generations .ensures)
+    (generations-next (venueOf (s .args .numbers .now)) _ (omega (arith, generations-many (s .args .numbers .now)))) (c .before .before .put-generations .ensures)
 
 same-length : tie.Need-same-length Inv-loop μ-loop
 same-length c = left-room _ _ _ _ _ _ (c .before .loop .inv)
 
 returns : tie.Need-returns Inv-loop μ-loop
-returns c = let s = c .before .before .before .before in left-none _ _ _ _ _ _ (c .before .loop .inv) (generations-none _ _ (omega (arith, generations-many (s .args .b .now))))
+returns c = let s = c .before .before .before .before in left-none _ _ _ _ _ _ (c .before .loop .inv) (generations-none _ _ (omega (arith, generations-many (s .args .numbers .now))))
 
 pub put-all-generations-spec : {M : Type 1} → statement M
 put-all-generations-spec =

@@ -30,8 +30,8 @@ loop-again : tie.Need-loop-again Inv-loop μ-loop
 loop-again c =
     let s = c .before .before .before .before .before .before .before .before .before in
     left-next _ _ _ _ _ _ _ _ _ _ (c .before .before .before .before .before .before .loop .inv)
-    (dropped-next (generationRecord (s .args .s)) held (generationsOf (venueOf (s .args .b .now)) (s .args .s)) 0 _
-    (omega (arith, generations-twenty (s .args .b .now) (s .args .s))))
+    (dropped-next (generationRecord (s .args .s)) held (generationsOf (venueOf (s .args .numbers .now)) (s .args .s)) 0 _
+    (omega (arith, generations-twenty (s .args .numbers .now) (s .args .s))))
     (adds-same _ _ _ _ (c .before .before .put-generation .ensures) (ap (λ (n : ℕ). recordIf (held n) (generationRecord (s .args .s) n)) (c .before .before .before .before .generation-at .ensures)))
 
 same-length : tie.Need-same-length Inv-loop μ-loop
@@ -39,8 +39,8 @@ same-length c = left-room _ _ _ _ _ _ (c .before .loop .inv)
 
 returns : tie.Need-returns Inv-loop μ-loop
 returns c = let s = c .before .before .before .before in left-none _ _ _ _ _ _ (c .before .loop .inv)
-    (dropped-none (generationRecord (s .args .s)) held (generationsOf (venueOf (s .args .b .now)) (s .args .s)) (c .before .loop .k)
-    (omega (arith, generations-twenty (s .args .b .now) (s .args .s))))
+    (dropped-none (generationRecord (s .args .s)) held (generationsOf (venueOf (s .args .numbers .now)) (s .args .s)) (c .before .loop .k)
+    (omega (arith, generations-twenty (s .args .numbers .now) (s .args .s))))
 
 pub put-generations-spec : {M : Type 1} → statement M
 put-generations-spec =

@@ -31,7 +31,7 @@ returns c =
     let s = c .before .before .before .before .before .before .before in
     let l = c .before .before .loop .inv in
     adds-same _ _ _ _ (left-none _ _ _ _ _ _ (l .0) (orders-none _ _ _ _ _ (omega arith) (omega arith)))
-    (ap₂ (λ (n m : ℕ). joined (ordersFrom (s .args .b .now) n m 0 0)) (c .before .before .before .before .regulars-used .ensures .0) (c .before .before .before .complexes-used .ensures .0))
+    (ap₂ (λ (n m : ℕ). joined (ordersFrom (s .args .numbers .now) n m 0 0)) (c .before .before .before .before .regulars-used .ensures .0) (c .before .before .before .complexes-used .ensures .0))
 
 pub put-orders-spec : {M : Type 1} → statement M
 put-orders-spec =

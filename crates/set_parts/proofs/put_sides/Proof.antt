@@ -20,7 +20,7 @@ returns c =
     adds-then _ _ _ _ _
     (adds-same _ _ _ _ (c .before .before .before .before .before .before .before .put-legging .ensures)
     (ap (λ (l : Legging). recordIf (held (l .quantity)) (leggingRecord (s .args .s) 0 l))
-    (c .before .before .before .before .before .before .before .before .before .legging-at .ensures ∙ ap (leggingIn (s .args .b .now)) z)))
+    (c .before .before .before .before .before .before .before .before .before .legging-at .ensures ∙ ap (leggingIn (s .args .numbers .now)) z)))
     (adds-same _ _ _ _ (c .before .before .put-legging2 .ensures)
     (ap (λ (l : Legging). recordIf (held (l .quantity)) (leggingRecord (s .args .s) 1 l))
     (c .before .before .before .before .legging-at2 .ensures)))

@@ -12,7 +12,7 @@ clear-price-requires c κs =
     let a = c .before .before .before .before .args in
     let o = c .before .before .other-leg in (
       p .0,
-      other-price (venueOf (a .b .now)) (a .taken) (a .c) (a .s) (p .1) (c .before .other-level .result) (c .before .other-level .ensures) (o .result) (o .ensures) _ (c .opposite-of .ensures),
+      other-price (venueOf (a .numbers .now)) (a .taken) (a .c) (a .s) (p .1) (c .before .other-level .result) (c .before .other-level .ensures) (o .result) (o .ensures) _ (c .opposite-of .ensures),
       other-in _ _ (o .result) (o .ensures) (p .2),
       rw (c .opposite-of .ensures) (opposite-in _),
     )

@@ -20,14 +20,14 @@ loop-holds c = (search needs, stand-all _ _)
 loop-again : tie.Need-loop-again Inv-loop μ-loop
 loop-again c = (
   search needs,
-  stand-own (c .before .before .before .before .args .b .now) (c .before .before .before .before .args .m)
+  stand-own (c .before .before .before .before .args .numbers .now) (c .before .before .before .before .args .m)
       (c .before .before .loop .n) (c .before .loop-test .taken) (c .if1 .taken) ∙ c .before .before .loop .inv .1,
 )
 
 loop-again-2 : tie.Need-loop-again-2 Inv-loop μ-loop
 loop-again-2 c = (
   search needs,
-  stand-free (c .before .before .before .before .before .before .before .args .b .now)
+  stand-free (c .before .before .before .before .before .before .before .args .numbers .now)
       (c .before .before .before .before .before .before .before .args .m) (c .before .before .before .before .before .loop .n)
       (c .before .before .before .before .loop-test .taken) (c .before .before .before .if1 .left) (c .before .before .legging-at .result)
       (c .before .before .legging-at .ensures) (c .if2 .taken)
@@ -37,7 +37,7 @@ loop-again-2 c = (
 loop-again-3 : tie.Need-loop-again-3 Inv-loop μ-loop
 loop-again-3 c = (
   search needs,
-  stand-past (c .before .before .before .before .before .before .before .before .before .before .args .b .now)
+  stand-past (c .before .before .before .before .before .before .before .before .before .before .args .numbers .now)
       (c .before .before .before .before .before .before .before .before .before .before .args .m)
       (c .before .before .before .before .before .before .before .before .loop .n)
       (c .before .before .before .before .before .before .before .loop-test .taken) (c .before .before .before .before .before .before .if1 .left)
@@ -47,7 +47,7 @@ loop-again-3 c = (
 
 returns : tie.Need-returns Inv-loop μ-loop
 returns c =
-    stand-fails (c .before .before .before .before .before .before .before .before .before .before .args .b .now)
+    stand-fails (c .before .before .before .before .before .before .before .before .before .before .args .numbers .now)
     (c .before .before .before .before .before .before .before .before .before .before .args .m)
     (c .before .before .before .before .before .before .before .before .loop .n)
     (c .before .before .before .before .before .before .before .loop-test .taken) (c .before .before .before .before .before .before .if1 .left)
@@ -55,7 +55,7 @@ returns c =
     ∙ c .before .before .before .before .before .before .before .before .loop .inv .1
 
 returns-2 : tie.Need-returns-2 Inv-loop μ-loop
-returns-2 c = stand-end (c .before .before .before .args .b .now) (c .before .before .before .args .m) (c .before .loop .n) (c .loop-test .left) ∙ c .before .loop .inv .1
+returns-2 c = stand-end (c .before .before .before .args .numbers .now) (c .before .before .before .args .m) (c .before .loop .n) (c .loop-test .left) ∙ c .before .loop .inv .1
 
 pub others-stand-spec : {M : Type 1} → statement M
 others-stand-spec =

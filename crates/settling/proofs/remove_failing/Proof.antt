@@ -16,7 +16,7 @@ returns : tie.Need-returns
 returns c =
     let p1 = c .before in
     let a = p1 .before .before .before .before .args in
-    let v = venueOf (a .b .now) in (
+    let v = venueOf (a .numbers .now) in (
       does-nothing v (a .out .now) (a .at)
           ∙ ap (λ (e : Effect). seen (a .out .now) (a .at) does e) (sym (remove-none (verdict v) v (eqb-true _ _ (sym (p1 .none-stands .ensures) ∙ c .if1 .taken)))),
       record { regulars = refl; complexes = refl; right = λ h. h },
@@ -26,10 +26,10 @@ returns-2 : tie.Need-returns-2
 returns-2 c =
     let p1 = c .before in
     let a = p1 .before .before .before .before .before .before .before .before .before .args in
-    let v = venueOf (a .b .now) in
+    let v = venueOf (a .numbers .now) in
     let m = p1 .verdicts in (
       does-nothing v (a .out .now) (a .at)
-          ∙ ap (λ (e : Effect). seen (a .out .now) (a .at) does e) (unmarked (m .result) v (c .if2 .taken) ∙ marked-is (verdict v) (m .result) (a .b .now) (m .ensures)),
+          ∙ ap (λ (e : Effect). seen (a .out .now) (a .at) does e) (unmarked (m .result) v (c .if2 .taken) ∙ marked-is (verdict v) (m .result) (a .numbers .now) (m .ensures)),
       record { regulars = refl; complexes = refl; right = λ h. h },
     )
 
@@ -40,7 +40,7 @@ returns-3 c =
     let a = p8 .before .before .before .before .before .before .before .before .before .args in
     let m = p8 .verdicts in
     let w = p4 .remove-marked in
-    (w .ensures .0 ∙ ap (λ (e : Effect). seen (a .out .now) (a .at) does e) (marked-is (verdict (venueOf (a .b .now))) (m .result) (a .b .now) (m .ensures)), w .ensures .1)
+    (w .ensures .0 ∙ ap (λ (e : Effect). seen (a .out .now) (a .at) does e) (marked-is (verdict (venueOf (a .numbers .now))) (m .result) (a .numbers .now) (m .ensures)), w .ensures .1)
 
 pub remove-failing-spec : {M : Type 1} → statement M
 remove-failing-spec =

@@ -15,7 +15,7 @@ use Rattle.settling.proofs.test_order.Tie as tie
 returns : tie.Need-returns
 unfolding verdictOf
 returns c = simp (off _ _
-    (shown-is (venueOf (c .before .before .before .args .b .now)) _ _ _ _ _
+    (shown-is (venueOf (c .before .before .before .args .numbers .now)) _ _ _ _ _
     (own-is _ (c .before .before .before .args .sides) (c .before .before .before .args .c) _ _ (c .before .before .before .pre .1))
     (c .before .shown-well .ensures)) (c .if1 .taken))
 
@@ -33,12 +33,12 @@ returns-2 c =
     let w = c .before .before .limit-of in
     let q = back {z = w .result} (record { sfits = w .ok }) ∙ w .ensures .0 in
     simp (
-      on _ _ (shown-is (venueOf (c .before .before .before .before .before .before .before .args .b .now)) _ _ _ _ _
+      on _ _ (shown-is (venueOf (c .before .before .before .before .before .before .before .args .numbers .now)) _ _ _ _ _
           (own-is _ (c .before .before .before .before .before .before .before .args .sides)
           (c .before .before .before .before .before .before .before .args .c) _ _
           (c .before .before .before .before .before .before .before .pre .1)) (c .before .before .before .before .before .shown-well .ensures))
           (c .before .before .before .before .if1 .left),
-      off _ _ (c .before .in-band .ensures ∙ ap (inBand (venueOf (a .b .now)) (a .c)) q) (c .if2 .taken),
+      off _ _ (c .before .in-band .ensures ∙ ap (inBand (venueOf (a .numbers .now)) (a .c)) q) (c .if2 .taken),
     )
 
 returns-3 : tie.Need-returns-3
@@ -48,13 +48,13 @@ returns-3 c =
     let w = c .before .before .before .before .limit-of in
     let q = back {z = w .result} (record { sfits = w .ok }) ∙ w .ensures .0 in
     simp (
-      on _ _ (shown-is (venueOf (c .before .before .before .before .before .before .before .before .before .args .b .now)) _ _ _ _ _
+      on _ _ (shown-is (venueOf (c .before .before .before .before .before .before .before .before .before .args .numbers .now)) _ _ _ _ _
           (own-is _ (c .before .before .before .before .before .before .before .before .before .args .sides)
           (c .before .before .before .before .before .before .before .before .before .args .c) _ _
           (c .before .before .before .before .before .before .before .before .before .pre .1))
           (c .before .before .before .before .before .before .before .shown-well .ensures))
           (c .before .before .before .before .before .before .if1 .left),
-      on _ _ (c .before .before .before .in-band .ensures ∙ ap (inBand (venueOf (a .b .now)) (a .c)) q) (c .before .before .if2 .left),
+      on _ _ (c .before .before .before .in-band .ensures ∙ ap (inBand (venueOf (a .numbers .now)) (a .c)) q) (c .before .before .if2 .left),
       off _ _ (c .before .can-pair .ensures) (c .if3 .taken),
     )
 
@@ -65,13 +65,13 @@ returns-4 c =
     let w = c .before .before .before .before .before .before .limit-of in
     let q = back {z = w .result} (record { sfits = w .ok }) ∙ w .ensures .0 in
     simp (
-      on _ _ (shown-is (venueOf (c .before .before .before .before .before .before .before .before .before .before .before .args .b .now)) _ _ _ _ _
+      on _ _ (shown-is (venueOf (c .before .before .before .before .before .before .before .before .before .before .before .args .numbers .now)) _ _ _ _ _
           (own-is _ (c .before .before .before .before .before .before .before .before .before .before .before .args .sides)
           (c .before .before .before .before .before .before .before .before .before .before .before .args .c) _ _
           (c .before .before .before .before .before .before .before .before .before .before .before .pre .1))
           (c .before .before .before .before .before .before .before .before .before .shown-well .ensures))
           (c .before .before .before .before .before .before .before .before .if1 .left),
-      on _ _ (c .before .before .before .before .before .in-band .ensures ∙ ap (inBand (venueOf (a .b .now)) (a .c)) q) (c .before .before .before .before .if2 .left),
+      on _ _ (c .before .before .before .before .before .in-band .ensures ∙ ap (inBand (venueOf (a .numbers .now)) (a .c)) q) (c .before .before .before .before .if2 .left),
       on _ _ (c .before .before .before .can-pair .ensures) (c .before .before .if3 .left),
       off _ _ (c .before .both-open .ensures) (c .if4 .taken),
     )
@@ -83,13 +83,13 @@ returns-5 c =
     let w = c .before .before .before .before .before .before .limit-of in
     let q = back {z = w .result} (record { sfits = w .ok }) ∙ w .ensures .0 in
     simp (
-      on _ _ (shown-is (venueOf (c .before .before .before .before .before .before .before .before .before .before .before .args .b .now)) _ _ _ _ _
+      on _ _ (shown-is (venueOf (c .before .before .before .before .before .before .before .before .before .before .before .args .numbers .now)) _ _ _ _ _
           (own-is _ (c .before .before .before .before .before .before .before .before .before .before .before .args .sides)
           (c .before .before .before .before .before .before .before .before .before .before .before .args .c) _ _
           (c .before .before .before .before .before .before .before .before .before .before .before .pre .1))
           (c .before .before .before .before .before .before .before .before .before .shown-well .ensures))
           (c .before .before .before .before .before .before .before .before .if1 .left),
-      on _ _ (c .before .before .before .before .before .in-band .ensures ∙ ap (inBand (venueOf (a .b .now)) (a .c)) q) (c .before .before .before .before .if2 .left),
+      on _ _ (c .before .before .before .before .before .in-band .ensures ∙ ap (inBand (venueOf (a .numbers .now)) (a .c)) q) (c .before .before .before .before .if2 .left),
       on _ _ (c .before .before .before .can-pair .ensures) (c .before .before .if3 .left),
       on _ _ (c .before .both-open .ensures) (c .if4 .left),
     )

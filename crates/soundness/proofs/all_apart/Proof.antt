@@ -18,25 +18,25 @@ abbrev μ-loop : tie.MeasureT-loop
 μ-loop b s₀ s = 8 - s
 
 loop-holds : tie.Need-loop-holds Inv-loop μ-loop
-loop-holds c = (search needs, series-scan (apart (venueOf (c .before .args .b .now))))
+loop-holds c = (search needs, series-scan (apart (venueOf (c .before .args .numbers .now))))
 
 is-apart-requires : tie.Need-is-apart-requires Inv-loop μ-loop
 is-apart-requires c κs = let s = c .before .before .before in (s .pre .0, s .pre .1, c .loop-test .taken)
 
 returns : tie.Need-returns Inv-loop μ-loop
-returns c = scan-stop (apart (venueOf (c .before .before .before .before .before .args .b .now))) (λ n. n) (c .before .before .before .loop .s) 8
+returns c = scan-stop (apart (venueOf (c .before .before .before .before .before .args .numbers .now))) (λ n. n) (c .before .before .before .loop .s) 8
     (c .before .before .loop-test .taken) (sym (c .before .is-apart .ensures) ∙ not-true _ (c .if1 .taken)) ∙ c .before .before .before .loop .inv .1
 
 loop-again : tie.Need-loop-again Inv-loop μ-loop
 loop-again c = (
   search needs,
-  scan-past (apart (venueOf (c .before .before .before .before .before .args .b .now))) (λ n. n)
+  scan-past (apart (venueOf (c .before .before .before .before .before .args .numbers .now))) (λ n. n)
       (c .before .before .before .loop .s) 8 (c .before .before .loop-test .taken) (sym (c .before .is-apart .ensures) ∙ not-false _ (c .if1 .left))
       ∙ c .before .before .before .loop .inv .1,
 )
 
 returns-2 : tie.Need-returns-2 Inv-loop μ-loop
-returns-2 c = scan-none (apart (venueOf (c .before .before .before .args .b .now))) (λ n. n) (c .before .loop .s) 8 (c .loop-test .left) ∙ c .before .loop .inv .1
+returns-2 c = scan-none (apart (venueOf (c .before .before .before .args .numbers .now))) (λ n. n) (c .before .loop .s) 8 (c .loop-test .left) ∙ c .before .loop .inv .1
 
 pub all-apart-spec : {M : Type 1} → statement M
 all-apart-spec =

@@ -23,13 +23,13 @@ abbrev μ-loop : tie.MeasureT-loop
 μ-loop b number i₀ i = 32 - i
 
 loop-holds : tie.Need-loop-holds Inv-loop μ-loop
-loop-holds c = (search needs, editions-scan (c .before .args .b .now) (earlier (c .before .args .number)))
+loop-holds c = (search needs, editions-scan (c .before .args .numbers .now) (earlier (c .before .args .number)))
 
 returns : tie.Need-returns Inv-loop μ-loop
 returns c =
     let s = c .before .before .before .before .before .before in
     let at = c .before .before .before .before in
-    scan-stop (earlier (s .args .number)) (editionIn (s .args .b .now)) (at .loop .i) 32 (c .before .before .before .loop-test .taken)
+    scan-stop (earlier (s .args .number)) (editionIn (s .args .numbers .now)) (at .loop .i) 32 (c .before .before .before .loop-test .taken)
     (ap (earlier (s .args .number)) (sym (c .before .before .edition-at .ensures)) ∙ le-ltb (c .before .before .edition-at .result .message) (s .args .number) (omega arith))
     ∙ at .loop .inv .1
 
@@ -38,7 +38,7 @@ loop-again c =
     let s = c .before .before .before .before .before .before in
     let at = c .before .before .before .before in (
       search needs,
-      scan-past (earlier (s .args .number)) (editionIn (s .args .b .now)) (at .loop .i) 32 (c .before .before .before .loop-test .taken)
+      scan-past (earlier (s .args .number)) (editionIn (s .args .numbers .now)) (at .loop .i) 32 (c .before .before .before .loop-test .taken)
           (ap (earlier (s .args .number)) (sym (c .before .before .edition-at .ensures)) ∙ lt-ltb (c .before .before .edition-at .result .message) (s .args .number) (omega arith))
           ∙ at .loop .inv .1,
     )
@@ -46,7 +46,7 @@ loop-again c =
 returns-2 : tie.Need-returns-2 Inv-loop μ-loop
 returns-2 c =
     let s = c .before .before .before in
-    scan-none (earlier (s .args .number)) (editionIn (s .args .b .now)) (c .before .loop .i) 32 (c .loop-test .left) ∙ c .before .loop .inv .1
+    scan-none (earlier (s .args .number)) (editionIn (s .args .numbers .now)) (c .before .loop .i) 32 (c .loop-test .left) ∙ c .before .loop .inv .1
 
 pub follows-editions-spec : {M : Type 1} → statement M
 follows-editions-spec =

@@ -32,24 +32,24 @@ loop-holds c = refl
 returns : tie.Need-returns Inv-loop μ-loop
 returns c =
     let s = c .before .before .before .before .before in
-    let n = generations-many (s .args .b .now) in
-    rest-stop (earlier (s .args .number)) noGenerations (venueOf (s .args .b .now) .generations) (c .before .before .before .loop .s) (omega arith)
+    let n = generations-many (s .args .numbers .now) in
+    rest-stop (earlier (s .args .number)) noGenerations (venueOf (s .args .numbers .now) .generations) (c .before .before .before .loop .s) (omega arith)
     (unfold generationsOf in (sym (c .before .follows-series .ensures) ∙ not-true _ (c .if1 .taken)))
     ∙ c .before .before .before .loop .inv
 
 loop-again : tie.Need-loop-again Inv-loop μ-loop
 loop-again c =
     let s = c .before .before .before .before .before in
-    let n = generations-many (s .args .b .now) in
-    rest-past (earlier (s .args .number)) noGenerations (venueOf (s .args .b .now) .generations) (c .before .before .before .loop .s) (omega arith)
+    let n = generations-many (s .args .numbers .now) in
+    rest-past (earlier (s .args .number)) noGenerations (venueOf (s .args .numbers .now) .generations) (c .before .before .before .loop .s) (omega arith)
     (unfold generationsOf in (sym (c .before .follows-series .ensures) ∙ not-false _ (c .if1 .left)))
     ∙ c .before .before .before .loop .inv
 
 returns-2 : tie.Need-returns-2 Inv-loop μ-loop
 returns-2 c =
     let s = c .before .before .before in
-    let n = generations-many (s .args .b .now) in
-    rest-none (earlier (s .args .number)) noGenerations (venueOf (s .args .b .now) .generations) (c .before .loop .s) (omega arith) ∙ c .before .loop .inv
+    let n = generations-many (s .args .numbers .now) in
+    rest-none (earlier (s .args .number)) noGenerations (venueOf (s .args .numbers .now) .generations) (c .before .loop .s) (omega arith) ∙ c .before .loop .inv
 
 pub follows-generations-spec : {M : Type 1} → statement M
 follows-generations-spec =

@@ -30,8 +30,8 @@ loop-holds c = refl
 returns : tie.Need-returns Inv-loop μ-loop
 returns c =
     let s = c .before .before .before .before .before in
-    let l = generationsOf (venueOf (s .args .b .now)) (s .args .s) in
-    let n = generations-twenty (s .args .b .now) (s .args .s) in
+    let l = generationsOf (venueOf (s .args .numbers .now)) (s .args .s) in
+    let n = generations-twenty (s .args .numbers .now) (s .args .s) in
     let k = c .before .before .before .loop .k in
     rest-stop (earlier (s .args .number)) 0 l k (omega arith)
     (ap (earlier (s .args .number)) (sym (c .before .generation-at .ensures)) ∙ le-ltb (c .before .generation-at .result) (s .args .number)
@@ -41,8 +41,8 @@ returns c =
 loop-again : tie.Need-loop-again Inv-loop μ-loop
 loop-again c =
     let s = c .before .before .before .before .before in
-    let l = generationsOf (venueOf (s .args .b .now)) (s .args .s) in
-    let n = generations-twenty (s .args .b .now) (s .args .s) in
+    let l = generationsOf (venueOf (s .args .numbers .now)) (s .args .s) in
+    let n = generations-twenty (s .args .numbers .now) (s .args .s) in
     let k = c .before .before .before .loop .k in
     rest-past (earlier (s .args .number)) 0 l k (omega arith)
     (ap (earlier (s .args .number)) (sym (c .before .generation-at .ensures)) ∙ lt-ltb (c .before .generation-at .result) (s .args .number)
@@ -52,8 +52,8 @@ loop-again c =
 returns-2 : tie.Need-returns-2 Inv-loop μ-loop
 returns-2 c =
     let s = c .before .before .before in
-    let n = generations-twenty (s .args .b .now) (s .args .s) in
-    rest-none (earlier (s .args .number)) 0 (generationsOf (venueOf (s .args .b .now)) (s .args .s)) (c .before .loop .k) (omega arith) ∙ c .before .loop .inv
+    let n = generations-twenty (s .args .numbers .now) (s .args .s) in
+    rest-none (earlier (s .args .number)) 0 (generationsOf (venueOf (s .args .numbers .now)) (s .args .s)) (c .before .loop .k) (omega arith) ∙ c .before .loop .inv
 
 pub follows-series-spec : {M : Type 1} → statement M
 follows-series-spec =

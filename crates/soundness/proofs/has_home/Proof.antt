@@ -10,14 +10,14 @@ use Rattle.soundness.proofs.has_home.Tie as tie
 returns : tie.Need-returns
 returns c =
     let s = c .before .before .before .before in
-    home-none (venueOf (s .args .b .now)) (s .args .l) (s .args .s) (s .args .d) (c .before .before .parent-of .result)
+    home-none (venueOf (s .args .numbers .now)) (s .args .l) (s .args .s) (s .args .d) (c .before .before .parent-of .result)
     (c .before .before .parent-of .ensures) (sym (c .before .has-leg .ensures) ∙ not-true _ (c .if1 .taken))
 
 returns-2 : tie.Need-returns-2
 returns-2 c =
     let h = c .before .before in
     let s = h .before .before .before .before in
-    home-uneven (venueOf (s .args .b .now)) (s .args .l) (s .args .s) (s .args .d) (h .before .before .parent-of .result)
+    home-uneven (venueOf (s .args .numbers .now)) (s .args .l) (s .args .s) (s .args .d) (h .before .before .parent-of .result)
     (h .before .before .parent-of .ensures) (sym (h .before .has-leg .ensures) ∙ not-false _ (h .if1 .left))
     (sym (c .before .is-one-to-one .ensures) ∙ not-true _ (c .if2 .taken))
 
@@ -26,7 +26,7 @@ returns-3 c =
     let o = c .before .before in
     let h = o .before .before in
     let s = h .before .before .before .before in
-    home-open (venueOf (s .args .b .now)) (s .args .l) (s .args .s) (s .args .d) (h .before .before .parent-of .result)
+    home-open (venueOf (s .args .numbers .now)) (s .args .l) (s .args .s) (s .args .d) (h .before .before .parent-of .result)
     (h .before .before .parent-of .ensures) (sym (h .before .has-leg .ensures) ∙ not-false _ (h .if1 .left))
     (sym (o .before .is-one-to-one .ensures) ∙ not-false _ (o .if2 .left))
 

@@ -19,16 +19,17 @@ abbrev μ-loop : tie.MeasureT-loop
 μ-loop b n i₀ i = n - i
 
 loop-holds : tie.Need-loop-holds Inv-loop μ-loop
-loop-holds c = let b = c .before .before .args .b .now in (search needs, ap (λ (k : ℕ). all (isAlone (venueOf b)) (upto (regularIn b) 0 k)) (sub-zero _ ∙ c .regulars-used .ensures .0) ∙ ids-scan b)
+loop-holds c = let b = c .before .before .args .numbers .now in
+    (search needs, ap (λ (k : ℕ). all (isAlone (venueOf b)) (upto (regularIn b) 0 k)) (sub-zero _ ∙ c .regulars-used .ensures .0) ∙ ids-scan b)
 
 returns : tie.Need-returns Inv-loop μ-loop
-returns c = let b = c .before .before .before .before .before .before .before .args .b .now in scan-stop (isAlone (venueOf b)) (regularIn b)
+returns c = let b = c .before .before .before .before .before .before .before .args .numbers .now in scan-stop (isAlone (venueOf b)) (regularIn b)
     (c .before .before .before .before .loop .i) _ (c .before .before .before .loop-test .taken)
     (ap (isAlone (venueOf b)) (sym (c .before .before .regular-at .ensures)) ∙ sym (c .before .is-alone .ensures) ∙ not-true _ (c .if1 .taken))
     ∙ c .before .before .before .before .loop .inv .1
 
 loop-again : tie.Need-loop-again Inv-loop μ-loop
-loop-again c = let b = c .before .before .before .before .before .before .before .args .b .now in (
+loop-again c = let b = c .before .before .before .before .before .before .before .args .numbers .now in (
   search needs,
   scan-past (isAlone (venueOf b)) (regularIn b) (c .before .before .before .before .loop .i) _
       (c .before .before .before .loop-test .taken)
@@ -37,7 +38,7 @@ loop-again c = let b = c .before .before .before .before .before .before .before
 )
 
 returns-2 : tie.Need-returns-2 Inv-loop μ-loop
-returns-2 c = let b = c .before .before .before .before .args .b .now in scan-none (isAlone (venueOf b)) (regularIn b) (c .before .loop .i) _ (c .loop-test .left) ∙ c .before .loop .inv .1
+returns-2 c = let b = c .before .before .before .before .args .numbers .now in scan-none (isAlone (venueOf b)) (regularIn b) (c .before .loop .i) _ (c .loop-test .left) ∙ c .before .loop .inv .1
 
 pub ids-distinct-spec : {M : Type 1} → statement M
 ids-distinct-spec =

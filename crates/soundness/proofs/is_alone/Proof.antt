@@ -6,15 +6,15 @@ use Rattle.soundness.proofs.is_alone.Statement.{statement}
 use Rattle.soundness.proofs.is_alone.Tie as tie
 
 returns : tie.Need-returns
-returns c = alone-free (venueOf (c .before .before .before .args .b .now)) (c .before .before .before .args .o) (c .if1 .taken)
+returns c = alone-free (venueOf (c .before .before .before .args .numbers .now)) (c .before .before .before .args .o) (c .if1 .taken)
 
 returns-2 : tie.Need-returns-2
-returns-2 c = let start = c .before .before .before .before .before .before in alone-found (venueOf (start .args .b .now)) (start .args .o)
+returns-2 c = let start = c .before .before .before .before .before .before in alone-found (venueOf (start .args .numbers .now)) (start .args .o)
     (c .before .before .before .if1 .left) (c .before .before .complex-place .result) (c .before .before .complex-place .ensures) _
     (c .enum-told2 .given .1)
 
 returns-3 : tie.Need-returns-3
-returns-3 c = let start = c .before .before .before .before .before .before in alone-none (venueOf (start .args .b .now)) (start .args .o)
+returns-3 c = let start = c .before .before .before .before .before .before in alone-none (venueOf (start .args .numbers .now)) (start .args .o)
     (c .before .before .before .if1 .left) (c .before .before .complex-place .result) (c .before .before .complex-place .ensures)
     (c .enum-told .given .1)
 

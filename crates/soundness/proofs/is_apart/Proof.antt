@@ -15,7 +15,7 @@ best-own-requires c κs = let p = c .before .before .pre in (p .0, c .best-regul
 returns : tie.Need-returns
 returns c =
     let s = c .before .before .before .before in
-    apart-no-bid (venueOf (s .args .b .now)) (s .args .s) _ _ (c .before .best-own .ensures) refl (c .if1 .taken)
+    apart-no-bid (venueOf (s .args .numbers .now)) (s .args .s) _ _ (c .before .best-own .ensures) refl (c .if1 .taken)
 
 best-regular-requires-2 : tie.Need-best-regular-requires-2
 best-regular-requires-2 c κs = let p = c .before .before .before .before .pre in (p .0, p .1, p .2, omega arith)
@@ -27,14 +27,14 @@ returns-2 : tie.Need-returns-2
 returns-2 c =
     let p3 = c .before .before .before in
     let s = p3 .before .before .before .before in
-    apart-no-offer (venueOf (s .args .b .now)) (s .args .s) _ _ (p3 .before .best-own .ensures) (c .before .best-own2 .ensures) (p3 .if1 .left)
+    apart-no-offer (venueOf (s .args .numbers .now)) (s .args .s) _ _ (p3 .before .best-own .ensures) (c .before .best-own2 .ensures) (p3 .if1 .left)
     (c .if2 .taken)
 
 returns-3 : tie.Need-returns-3
 returns-3 c =
     let p3 = c .before .before .before in
     let s = p3 .before .before .before .before in
-    apart-both (venueOf (s .args .b .now)) (s .args .s) _ _ (p3 .before .best-own .ensures) (c .before .best-own2 .ensures) (p3 .if1 .left) (c .if2 .left)
+    apart-both (venueOf (s .args .numbers .now)) (s .args .s) _ _ (p3 .before .best-own .ensures) (c .before .best-own2 .ensures) (p3 .if1 .left) (c .if2 .left)
 
 pub is-apart-spec : {M : Type 1} → statement M
 is-apart-spec =

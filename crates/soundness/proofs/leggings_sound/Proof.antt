@@ -16,23 +16,24 @@ abbrev μ-loop : tie.MeasureT-loop
 μ-loop b g n₀ n = 16 - n
 
 loop-holds : tie.Need-loop-holds Inv-loop μ-loop
-loop-holds c = (search needs, leggings-scan (c .before .args .b .now))
+loop-holds c = (search needs, leggings-scan (c .before .args .numbers .now))
 
 returns : tie.Need-returns Inv-loop μ-loop
-returns c = let start = c .before .before .before .before .before in leggings-stop (start .args .b .now) (venueOf (start .args .b .now))
+returns c = let start = c .before .before .before .before .before in leggings-stop (start .args .numbers .now) (venueOf (start .args .numbers .now))
     (c .before .before .before .loop .n) (c .before .before .loop-test .taken) (sym (c .before .legging-sound .ensures) ∙ not-true _ (c .if1 .taken))
     ∙ c .before .before .before .loop .inv .1
 
 loop-again : tie.Need-loop-again Inv-loop μ-loop
 loop-again c = (
   search needs,
-  leggings-past (c .before .before .before .before .before .args .b .now)
-      (venueOf (c .before .before .before .before .before .args .b .now)) (c .before .before .before .loop .n) (c .before .before .loop-test .taken)
+  leggings-past (c .before .before .before .before .before .args .numbers .now)
+      (venueOf (c .before .before .before .before .before .args .numbers .now)) (c .before .before .before .loop .n) (c .before .before .loop-test .taken)
       (sym (c .before .legging-sound .ensures) ∙ not-false _ (c .if1 .left)) ∙ c .before .before .before .loop .inv .1,
 )
 
 returns-2 : tie.Need-returns-2 Inv-loop μ-loop
-returns-2 c = leggings-none (c .before .before .before .args .b .now) (venueOf (c .before .before .before .args .b .now)) (c .before .loop .n) (c .loop-test .left) ∙ c .before .loop .inv .1
+returns-2 c = let start = c .before .before .before in leggings-none (start .args .numbers .now) (venueOf (start .args .numbers .now))
+    (c .before .loop .n) (c .loop-test .left) ∙ c .before .loop .inv .1
 
 pub leggings-sound-spec : {M : Type 1} → statement M
 leggings-sound-spec =

@@ -18,20 +18,20 @@ abbrev μ-loop : tie.MeasureT-loop
 μ-loop b n i₀ i = n - i
 
 loop-holds : tie.Need-loop-holds Inv-loop μ-loop
-loop-holds c = let b = c .before .before .args .b .now in
+loop-holds c = let b = c .before .before .args .numbers .now in
     (search needs, ap (λ (k : ℕ). all (pricedOn (venueOf b)) (upto (regularIn b) 0 k)) (sub-zero _ ∙ c .regulars-used .ensures .0) ∙ prices-scan b)
 
 on-increment-requires : tie.Need-on-increment-requires Inv-loop μ-loop
-on-increment-requires c κs = let s = c .before .before .before .before .before in (s .pre .0, rw (c .regular-at .ensures) (series-in (s .args .b .now) (c .before .before .loop .i)), s .pre .1)
+on-increment-requires c κs = let s = c .before .before .before .before .before in (s .pre .0, rw (c .regular-at .ensures) (series-in (s .args .numbers .now) (c .before .before .loop .i)), s .pre .1)
 
 returns : tie.Need-returns Inv-loop μ-loop
-returns c = let b = c .before .before .before .before .before .before .before .args .b .now in scan-stop (pricedOn (venueOf b)) (regularIn b)
+returns c = let b = c .before .before .before .before .before .before .before .args .numbers .now in scan-stop (pricedOn (venueOf b)) (regularIn b)
     (c .before .before .before .before .loop .i) _ (c .before .before .before .loop-test .taken)
     (ap (pricedOn (venueOf b)) (sym (c .before .before .regular-at .ensures)) ∙ sym (c .before .on-increment .ensures) ∙ not-true _ (c .if1 .taken))
     ∙ c .before .before .before .before .loop .inv .1
 
 loop-again : tie.Need-loop-again Inv-loop μ-loop
-loop-again c = let b = c .before .before .before .before .before .before .before .args .b .now in (
+loop-again c = let b = c .before .before .before .before .before .before .before .args .numbers .now in (
   search needs,
   scan-past (pricedOn (venueOf b)) (regularIn b) (c .before .before .before .before .loop .i) _
       (c .before .before .before .loop-test .taken)
@@ -40,7 +40,7 @@ loop-again c = let b = c .before .before .before .before .before .before .before
 )
 
 returns-2 : tie.Need-returns-2 Inv-loop μ-loop
-returns-2 c = let b = c .before .before .before .before .args .b .now in scan-none (pricedOn (venueOf b)) (regularIn b) (c .before .loop .i) _ (c .loop-test .left) ∙ c .before .loop .inv .1
+returns-2 c = let b = c .before .before .before .before .args .numbers .now in scan-none (pricedOn (venueOf b)) (regularIn b) (c .before .loop .i) _ (c .loop-test .left) ∙ c .before .loop .inv .1
 
 pub on-increments-spec : {M : Type 1} → statement M
 on-increments-spec =

@@ -18,13 +18,13 @@ on-increments-requires : tie.Need-on-increments-requires
 on-increments-requires c κs = let s = c .before in (s .pre .0, s .pre .1 .marked .figures)
 
 returns : tie.Need-returns
-returns c = let b = c .before .before .before .args .b .now in let v = venueOf b in first-fails (onIncrements v && idsDistinct v)
+returns c = let b = c .before .before .before .args .numbers .now in let v = venueOf b in first-fails (onIncrements v && idsDistinct v)
     (all (apart v) eight) (leggingsSound v 0 (v .legging))
     (out-of-range (onIncrements v) (idsDistinct v) (sym (c .before .on-increments .ensures) ∙ not-true _ (c .if1 .taken))) ∙ orders-are b
     (omega (arith, c .before .before .shared-slice-known .given 778))
 
 returns-2 : tie.Need-returns-2
-returns-2 c = let b = c .before .before .before .before .before .args .b .now in let v = venueOf b in first-fails (onIncrements v && idsDistinct v)
+returns-2 c = let b = c .before .before .before .before .before .args .numbers .now in let v = venueOf b in first-fails (onIncrements v && idsDistinct v)
     (all (apart v) eight) (leggingsSound v 0 (v .legging))
     (out-of-last (onIncrements v) (idsDistinct v) (sym (c .before .ids-distinct .ensures) ∙ not-true _ (c .if2 .taken))) ∙ orders-are b
     (omega (arith, c .before .before .before .before .shared-slice-known .given 778))
@@ -33,7 +33,7 @@ all-apart-requires : tie.Need-all-apart-requires
 all-apart-requires c κs = c .before .before .before .before .before .pre
 
 returns-3 : tie.Need-returns-3
-returns-3 c = let b = c .before .before .before .before .before .before .before .args .b .now in let v = venueOf b in
+returns-3 c = let b = c .before .before .before .before .before .before .before .args .numbers .now in let v = venueOf b in
     second-fails (onIncrements v && idsDistinct v) (all (apart v) eight) (leggingsSound v 0 (v .legging))
     (sym (c .before .all-apart .ensures) ∙ not-true _ (c .if3 .taken)) ∙ orders-are b
     (omega (arith, c .before .before .before .before .before .before .shared-slice-known .given 778))
@@ -45,7 +45,7 @@ leggings-sound-requires : tie.Need-leggings-sound-requires
 leggings-sound-requires c κs = let s = c .before .before .before .before .before .before .before .before in (s .pre .0, c .levels .ensures, s .pre .1 .marked .figures)
 
 returns-4 : tie.Need-returns-4
-returns-4 c = let b = c .before .before .before .before .before .before .before .before .before .args .b .now in let v = venueOf b in
+returns-4 c = let b = c .before .before .before .before .before .before .before .before .before .args .numbers .now in let v = venueOf b in
     c .leggings-sound .ensures ∙ last-decides (onIncrements v && idsDistinct v) (all (apart v) eight) (leggingsSound v 0 (v .legging))
     (and-in (onIncrements v) (idsDistinct v)
     (sym (c .before .before .before .before .before .before .before .on-increments .ensures) ∙ not-false _

@@ -23,7 +23,7 @@ loop-holds : tie.Need-loop-holds Inv-loop μ-loop
 loop-holds c = doing-start _ _ _ _ _ (c .before .before .pre .0) (eachOf-same (generate _) _ _ _ _ _ (omega arith) (omega arith))
 
 add-generate-order : tie.Need-add-generate-order Inv-loop μ-loop
-add-generate-order c = let s = c .before .before .before .before .before in omega (arith, c .before .loop-test .taken, s .pre .2, complexes-few (s .args .b .now))
+add-generate-order c = let s = c .before .before .before .before .before in omega (arith, c .before .loop-test .taken, s .pre .2, complexes-few (s .args .numbers .now))
 
 generate-order-requires : tie.Need-generate-order-requires Inv-loop μ-loop
 generate-order-requires c κs =
@@ -33,7 +33,7 @@ generate-order-requires c κs =
 
 add-k : tie.Need-add-k Inv-loop μ-loop
 add-k c = let s = c .before .before .before .before .before .before .before .before .before .before .before in
-    omega (arith, c .before .before .before .before .before .before .before .loop-test .taken, s .pre .2, complexes-few (s .args .b .now))
+    omega (arith, c .before .before .before .before .before .before .before .loop-test .taken, s .pre .2, complexes-few (s .args .numbers .now))
 
 loop-less : tie.Need-loop-less Inv-loop μ-loop
 loop-less c = omega (arith, c .before .before .before .before .before .before .before .loop-test .taken)

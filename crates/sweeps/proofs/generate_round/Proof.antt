@@ -29,8 +29,8 @@ returns c =
     let others = placesFrom 0 (a .r .others) in
     let p = c .before .before .before .before .before .before .before .before .before .before .before .generate-places .ensures in
     let q = c .before .before .before .before .generate-places2 .ensures in (
-      follow _ (eachOf (generate (a .number)) above (venueOf (a .b .now))) (eachOf (generate (a .number)) others) _ _ _ _ _ _ (p .0) (q .0)
-          ∙ ap (λ (e : Effect). seen (a .out .now) (a .at) does e) (eachOf-join (generate (a .number)) above others (venueOf (a .b .now))),
+      follow _ (eachOf (generate (a .number)) above (venueOf (a .numbers .now))) (eachOf (generate (a .number)) others) _ _ _ _ _ _ (p .0) (q .0)
+          ∙ ap (λ (e : Effect). seen (a .out .now) (a .at) does e) (eachOf-join (generate (a .number)) above others (venueOf (a .numbers .now))),
       counts-on _ _ _ (p .1) (q .1),
     )
 

@@ -9,7 +9,7 @@ use Rattle.sweeps.proofs.last_looked.Statement.{statement}
 use Rattle.sweeps.proofs.last_looked.Tie as tie
 
 complex-at-requires : tie.Need-complex-at-requires
-complex-at-requires c κs = let s = c .before .before .before .before in (s .pre .0, omega (arith, c .before .if1 .taken, s .pre .2, complexes-few (s .args .b .now)))
+complex-at-requires c κs = let s = c .before .before .before .before in (s .pre .0, omega (arith, c .before .if1 .taken, s .pre .2, complexes-few (s .args .numbers .now)))
 
 returns : tie.Need-returns
 returns c =
@@ -18,10 +18,10 @@ returns c =
     last-other _ (s .args .r) _ (x .result) (x .ensures) (omega (arith, c .before .before .if1 .taken, s .pre .2)) (omega (arith, c .before .before .if1 .taken))
 
 add-complex-at : tie.Need-add-complex-at
-add-complex-at c = let s = c .before .before .before .before .before .before in omega (arith, s .pre .1, complexes-few (s .args .b .now))
+add-complex-at c = let s = c .before .before .before .before .before .before in omega (arith, s .pre .1, complexes-few (s .args .numbers .now))
 
 complex-at-requires-2 : tie.Need-complex-at-requires-2
-complex-at-requires-2 c κs = let s = c .before .before .before .before .before .before in (s .pre .0, omega (arith, c .before .if2 .taken, s .pre .1, complexes-few (s .args .b .now)))
+complex-at-requires-2 c κs = let s = c .before .before .before .before .before .before in (s .pre .0, omega (arith, c .before .if2 .taken, s .pre .1, complexes-few (s .args .numbers .now)))
 
 returns-2 : tie.Need-returns-2
 returns-2 c =

@@ -10,10 +10,10 @@ use Rattle.sweeps.proofs.limited_sweep.Statement.{statement}
 use Rattle.sweeps.proofs.limited_sweep.Tie as tie
 
 add-looked : tie.Need-add-looked
-add-looked c = let r = c .before .round-of .ensures .1 in omega (arith, r .0, r .1, complexes-few (c .before .before .before .before .before .args .b .now))
+add-looked c = let r = c .before .round-of .ensures .1 in omega (arith, r .0, r .1, complexes-few (c .before .before .before .before .before .args .numbers .now))
 
 cast-looked : tie.Need-cast-looked
-cast-looked c = let r = c .before .round-of .ensures .1 in omega (arith, r .0, r .1, complexes-few (c .before .before .before .before .before .args .b .now))
+cast-looked c = let r = c .before .round-of .ensures .1 in omega (arith, r .0, r .1, complexes-few (c .before .before .before .before .before .args .numbers .now))
 
 work-round-requires : tie.Need-work-round-requires
 work-round-requires c κs =

@@ -22,7 +22,7 @@ loop-holds : tie.Need-loop-holds Inv-loop μ-loop
 loop-holds c = doing-start _ _ _ _ _ (c .before .before .pre .0) (eachOf-same work _ _ _ _ _ (omega arith) (omega arith))
 
 add-work : tie.Need-add-work Inv-loop μ-loop
-add-work c = let s = c .before .before .before .before .before in omega (arith, c .before .loop-test .taken, s .pre .2, complexes-few (s .args .b .now))
+add-work c = let s = c .before .before .before .before .before in omega (arith, c .before .loop-test .taken, s .pre .2, complexes-few (s .args .numbers .now))
 
 work-requires : tie.Need-work-requires Inv-loop μ-loop
 work-requires c κs =
@@ -32,7 +32,7 @@ work-requires c κs =
 
 add-k : tie.Need-add-k Inv-loop μ-loop
 add-k c = let s = c .before .before .before .before .before .before .before .before .before .before .before in
-    omega (arith, c .before .before .before .before .before .before .before .loop-test .taken, s .pre .2, complexes-few (s .args .b .now))
+    omega (arith, c .before .before .before .before .before .before .before .loop-test .taken, s .pre .2, complexes-few (s .args .numbers .now))
 
 loop-less : tie.Need-loop-less Inv-loop μ-loop
 loop-less c = omega (arith, c .before .before .before .before .before .before .before .loop-test .taken)

@@ -28,8 +28,8 @@ returns c =
     let others = placesFrom 0 (a .r .others) in
     let p = c .before .before .before .before .before .before .before .before .before .before .before .work-places .ensures in
     let q = c .before .before .before .before .work-places2 .ensures in (
-      follow _ (eachOf work above (venueOf (a .b .now))) (eachOf work others) _ _ _ _ _ _ (p .0) (q .0)
-          ∙ ap (λ (e : Effect). seen (a .out .now) (a .at) does e) (eachOf-join work above others (venueOf (a .b .now))),
+      follow _ (eachOf work above (venueOf (a .numbers .now))) (eachOf work others) _ _ _ _ _ _ (p .0) (q .0)
+          ∙ ap (λ (e : Effect). seen (a .out .now) (a .at) does e) (eachOf-join work above others (venueOf (a .numbers .now))),
       counts-on _ _ _ (p .1) (q .1),
     )
 

@@ -10,7 +10,7 @@ use Rattle.trades.proofs.cancel_complex.Statement.{statement}
 use Rattle.trades.proofs.cancel_complex.Tie as tie
 
 complex-at-requires : tie.Need-complex-at-requires
-complex-at-requires c κs = let s = c .before .before .before in let w = complexes-few (s .args .b .now) in (s .pre .0, omega arith)
+complex-at-requires c κs = let s = c .before .before .before in let w = complexes-few (s .args .numbers .now) in (s .pre .0, omega arith)
 
 returns : tie.Need-returns
 returns c =
@@ -19,8 +19,8 @@ returns c =
     let p13 = p9 .before .before .before .before in
     let p15 = p13 .before .before in
     let p19 = p15 .before .before .before .before in (
-      cancel-complex-law _ (venueOf (p19 .args .b .now)) _ _ _ _ _ _ _ _ _
-          (p15 .complex-at .ensures ∙ sym (complex-at (p19 .args .b .now) (p19 .args .i) (p19 .pre .1))) (p13 .fill-complex .ensures .0)
+      cancel-complex-law _ (venueOf (p19 .args .numbers .now)) _ _ _ _ _ _ _ _ _
+          (p15 .complex-at .ensures ∙ sym (complex-at (p19 .args .numbers .now) (p19 .args .i) (p19 .pre .1))) (p13 .fill-complex .ensures .0)
           (p9 .emit-cancelled .ensures) (p4 .remove-of .ensures .0),
       counts-on _ _ _ (p13 .fill-complex .ensures .1) (p4 .remove-of .ensures .1),
     )

@@ -9,7 +9,7 @@ use Rattle.trades.proofs.fill_pair.Tie as tie
 returns : tie.Need-returns
 returns c =
     let p4 = c .before .before .before .before in (
-      fill-unused (p4 .args .b .now) (p4 .args .i) (p4 .args .k) (omega (arith, c .if1 .taken, c .before .complexes-used .ensures .0)),
+      fill-unused (p4 .args .numbers .now) (p4 .args .i) (p4 .args .k) (omega (arith, c .if1 .taken, c .before .complexes-used .ensures .0)),
       record { regulars = refl; complexes = refl; right = λ h. h },
     )
 

@@ -11,7 +11,7 @@ use Rattle.trades.proofs.hit.Statement.{statement}
 use Rattle.trades.proofs.hit.Tie as tie
 
 regular-at-requires : tie.Need-regular-at-requires
-regular-at-requires c κs = let s = c .before .before .before in let w = regulars-few (s .args .b .now) in (s .pre .0, omega arith)
+regular-at-requires c κs = let s = c .before .before .before in let w = regulars-few (s .args .numbers .now) in (s .pre .0, omega arith)
 
 pairing-of-requires : tie.Need-pairing-of-requires
 pairing-of-requires c κs = let s = c .before .before .before .before .before in (s .pre .0, s .pre .2)
@@ -47,8 +47,8 @@ returns c =
     let p27 = p25 .before .before in
     let p31 = p27 .before .before .before .before in
     let p = p25 .pairing-of in (
-      hit-law _ _ _ (venueOf (p31 .args .b .now)) _ _ _ _ _ _ _ _ _ _ _ _ _ _ _ (back (fits-of (p .result .net) (omega (arith, p .ensures .1))))
-          (p27 .regular-at .ensures ∙ sym (regular-at (p31 .args .b .now) (p31 .args .i) (p31 .pre .1))) (p .ensures .0) (p23 .fill-order .ensures .0)
+      hit-law _ _ _ (venueOf (p31 .args .numbers .now)) _ _ _ _ _ _ _ _ _ _ _ _ _ _ _ (back (fits-of (p .result .net) (omega (arith, p .ensures .1))))
+          (p27 .regular-at .ensures ∙ sym (regular-at (p31 .args .numbers .now) (p31 .args .i) (p31 .pre .1))) (p .ensures .0) (p23 .fill-order .ensures .0)
           (p19 .emit-trade .ensures) (p14 .take .ensures .0) (p8 .place-or-end .ensures) (p4 .pair-off .ensures .0),
       counts-on _ _ _ (counts-on _ _ _ (p23 .fill-order .ensures .1) (p14 .take .ensures .1)) (p4 .pair-off .ensures .1),
     )

@@ -13,7 +13,7 @@ returns c =
     let p9 = p4 .before .before .before .before .before in
     let p13 = p9 .before .before .before .before in
     let p17 = p13 .before .before .before .before in (
-      pair-law _ _ _ _ _ (venueOf (p17 .args .b .now)) _ _ _ _ _ _ _ _ (back (p17 .fits .net)) (p13 .fill-pair .ensures .0) (p9 .emit-pair .ensures)
+      pair-law _ _ _ _ _ (venueOf (p17 .args .numbers .now)) _ _ _ _ _ _ _ _ (back (p17 .fits .net)) (p13 .fill-pair .ensures .0) (p9 .emit-pair .ensures)
           (p4 .remove-of .ensures .0),
       counts-on _ _ _ (p13 .fill-pair .ensures .1) (p4 .remove-of .ensures .1),
     )

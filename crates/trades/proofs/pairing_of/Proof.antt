@@ -14,7 +14,7 @@ best-regular-requires : tie.Need-best-regular-requires
 best-regular-requires c κs =
     let p2 = c .before .before in
     let p4 = p2 .before .before in
-    let h = leg-in (p2 .parent-of .result) (p4 .args .series) (rw (← p2 .parent-of .ensures) at (parent-legs (p4 .args .b .now) (p4 .args .l))) in
+    let h = leg-in (p2 .parent-of .result) (p4 .args .series) (rw (← p2 .parent-of .ensures) at (parent-legs (p4 .args .numbers .now) (p4 .args .l))) in
     (p4 .pre .0, p4 .pre .1, rw (c .before .other-leg .ensures) (h .0), rw (c .opposite-of .ensures) (opposite-in _))
 
 clear-price-requires : tie.Need-clear-price-requires
@@ -28,7 +28,7 @@ returns c =
     let p6 = p5 .before in
     let p8 = p6 .before .before in
     let q = back {z = c .net-of .result} (record { sfits = c .net-of .ok }) in (
-      pairing-law (venueOf (p8 .args .b .now)) (p8 .args .l) (p8 .args .series) (p8 .args .side) _ _ _ _ _ _ _ (p6 .parent-of .ensures)
+      pairing-law (venueOf (p8 .args .numbers .now)) (p8 .args .l) (p8 .args .series) (p8 .args .side) _ _ _ _ _ _ _ (p6 .parent-of .ensures)
           (p5 .other-leg .ensures) (p4 .opposite-of .ensures) (p2 .clear-price .ensures) (c .before .opposite-of2 .ensures) (c .net-of .ensures .0) q,
       omega (arith, ap natAbs q, c .net-of .ensures .1),
     )

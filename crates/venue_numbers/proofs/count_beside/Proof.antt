@@ -6,14 +6,14 @@ use borrow.Author.Needs.{needs}
 use Rattle.venue_numbers.proofs.count_beside.Statement.{statement}
 use Rattle.venue_numbers.proofs.count_beside.Tie as tie
 
-slice-write-b-2 : tie.Need-slice-write-b-2
-slice-write-b-2 c = simp length-set (omega arith)
+slice-write-numbers-2 : tie.Need-slice-write-numbers-2
+slice-write-numbers-2 c = simp length-set (omega arith)
 
-slice-write-b-3 : tie.Need-slice-write-b-3
-slice-write-b-3 c = simp length-set (omega arith)
+slice-write-numbers-3 : tie.Need-slice-write-numbers-3
+slice-write-numbers-3 c = simp length-set (omega arith)
 
-slice-write-b-4 : tie.Need-slice-write-b-4
-slice-write-b-4 c = simp length-set (omega arith)
+slice-write-numbers-4 : tie.Need-slice-write-numbers-4
+slice-write-numbers-4 c = simp length-set (omega arith)
 
 same-length : tie.Need-same-length
 same-length c = simp length-set (omega arith)
@@ -29,9 +29,9 @@ count-beside-spec =
     (λ c κs. search needs)
     (λ c κs. search needs)
     (λ c. search needs)
-    slice-write-b-2
+    slice-write-numbers-2
     (λ c. search needs)
-    slice-write-b-3
-    slice-write-b-4
+    slice-write-numbers-3
+    slice-write-numbers-4
     same-length
     returns)

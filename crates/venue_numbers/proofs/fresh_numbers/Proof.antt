@@ -17,14 +17,14 @@ abbrev μ-loop : tie.MeasureT-loop
 loop-holds : tie.Need-loop-holds Inv-loop μ-loop
 loop-holds c = (omega arith, open-first)
 
-array-write-b : tie.Need-array-write-b Inv-loop μ-loop
-array-write-b c = let e = ap length (c .before .loop .inv .1) ∙ open-length _ in omega arith
+array-write-numbers : tie.Need-array-write-numbers Inv-loop μ-loop
+array-write-numbers c = let e = ap length (c .before .loop .inv .1) ∙ open-length _ in omega arith
 
 loop-again : tie.Need-loop-again Inv-loop μ-loop
 loop-again c = (omega arith, open-next _ _ (c .before .loop .inv .1))
 
 slice-aggregate-base-figures : tie.Need-slice-aggregate-base-figures Inv-loop μ-loop
-slice-aggregate-base-figures c = let e : length (c .before .before .loop .b) ≡ 1393 = ap length (c .before .before .loop .inv .1) ∙ open-length _ in search needs
+slice-aggregate-base-figures c = let e : length (c .before .before .loop .numbers) ≡ 1393 = ap length (c .before .before .loop .inv .1) ∙ open-length _ in search needs
 
 base-figures-requires : tie.Need-base-figures-requires Inv-loop μ-loop
 base-figures-requires c κs = let e = ap length (c .before .before .loop .inv .1) ∙ open-length _ in search needs
@@ -42,7 +42,7 @@ fresh-numbers-spec =
     (λ c. search needs)
     (λ c. search needs)
     (λ c. search needs)
-    array-write-b
+    array-write-numbers
     (λ c. search needs)
     (λ c. search needs)
     loop-again

@@ -10,7 +10,7 @@ use Rattle.work.proofs.leg_in.Statement.{statement}
 use Rattle.work.proofs.leg_in.Tie as tie
 
 complex-at-requires : tie.Need-complex-at-requires
-complex-at-requires c κs = let z = complexes-few (c .before .before .before .args .b .now) in (c .before .before .before .pre .0, omega (arith, c .before .before .before .pre .2))
+complex-at-requires c κs = let z = complexes-few (c .before .before .before .args .numbers .now) in (c .before .before .before .pre .0, omega (arith, c .before .before .before .pre .2))
 
 take-requires : tie.Need-take-requires
 take-requires c κs = let p = c .before .before .before .before .before .before .before .before .before .pre in (p .0, p .1)
@@ -32,7 +32,7 @@ returns c =
     let s = p23 .before .before .before .before .before in
     let a = s .args in
     let w = p23 .net-of in (
-      leg-in-law (a .i) (a .a) (a .p) (a .k) _ _ _ _ _ _ _ _ _ _ _ _ _ _ _ _ (p23 .before .complex-at .ensures ∙ sym (complex-at (a .b .now) (a .i) (s .pre .2)))
+      leg-in-law (a .i) (a .a) (a .p) (a .k) _ _ _ _ _ _ _ _ _ _ _ _ _ _ _ _ (p23 .before .complex-at .ensures ∙ sym (complex-at (a .numbers .now) (a .i) (s .pre .2)))
           (back {z = w .result} (record { sfits = w .ok }) ∙ w .ensures .0) (p21 .before .contracts .ensures) (p21 .contracts2 .ensures) (p18 .take .ensures .0)
           (p11 .take2 .ensures .0) (p4 .pair-off .ensures .0),
       counts-on _ _ _ (counts-on _ _ _ (p18 .take .ensures .1) (p11 .take2 .ensures .1)) (p4 .pair-off .ensures .1),

@@ -24,7 +24,7 @@ loop-holds : tie.Need-loop-holds Inv-loop μ-loop
 loop-holds c = doing-start _ _ _ _ _ (c .before .before .pre .0) refl
 
 complex-at-requires : tie.Need-complex-at-requires Inv-loop μ-loop
-complex-at-requires c κs = let z = complexes-few (c .before .before .loop .b) in (
+complex-at-requires c κs = let z = complexes-few (c .before .before .loop .numbers) in (
   c .before .before .loop .inv .whole,
   omega (arith, c .before .before .loop .inv .counts .complexes, c .before .before .before .before .before .pre .2),
 )
@@ -33,7 +33,7 @@ taken-at-requires : tie.Need-taken-at-requires Inv-loop μ-loop
 taken-at-requires c κs =
     let l = c .before .before .before .before .loop in
     let s = c .before .before .before .before .before .before .before in
-    (l .inv .whole, l .inv .counts .right (s .pre .1), subst LegsIn (sym (c .before .complex-at .ensures)) (legs-in (l .b) (s .args .i)))
+    (l .inv .whole, l .inv .counts .right (s .pre .1), subst LegsIn (sym (c .before .complex-at .ensures)) (legs-in (l .numbers) (s .args .i)))
 
 can-leg-in-requires : tie.Need-can-leg-in-requires Inv-loop μ-loop
 can-leg-in-requires c κs =
@@ -41,7 +41,7 @@ can-leg-in-requires c κs =
       l .inv .whole,
       c .before .before .before .taken-at .ensures,
       subst LegsIn (sym (c .before .before .before .before .before .complex-at .ensures))
-          (legs-in (l .b) (c .before .before .before .before .before .before .before .before .before .before .before .args .i)),
+          (legs-in (l .numbers) (c .before .before .before .before .before .before .before .before .before .before .before .args .i)),
       l .inv .counts .right (c .before .before .before .before .before .before .before .before .before .before .before .pre .1) .marked .figures,
     )
 
@@ -61,7 +61,7 @@ returns c =
     let t = p5 .taken-at in (
       doing-end (l .inv)
           (repeat-stop _ _ _
-          (leg-stop _ _ (t .result) (t .ensures) (s .args .i) (p7 .complex-at .ensures ∙ sym (complex-at (l .b) (s .args .i) (omega (arith, l .inv .counts .complexes, s .pre .2))))
+          (leg-stop _ _ (t .result) (t .ensures) (s .args .i) (p7 .complex-at .ensures ∙ sym (complex-at (l .numbers) (s .args .i) (omega (arith, l .inv .counts .complexes, s .pre .2))))
           (off _ _ (c .before .can-leg-in .ensures) (c .if1 .taken)))),
       l .inv .counts,
     )
@@ -84,7 +84,7 @@ returns-2 c =
     let t = p7 .taken-at in (
       doing-end (l .inv)
           (repeat-stop _ _ _
-          (leg-short _ _ (t .result) (t .ensures) (s .args .i) (p9 .complex-at .ensures ∙ sym (complex-at (l .b) (s .args .i) (omega (arith, l .inv .counts .complexes, s .pre .2))))
+          (leg-short _ _ (t .result) (t .ensures) (s .args .i) (p9 .complex-at .ensures ∙ sym (complex-at (l .numbers) (s .args .i) (omega (arith, l .inv .counts .complexes, s .pre .2))))
           (on _ _ (p2 .before .can-leg-in .ensures) (p2 .if1 .left)) _ (c .before .units-in .ensures _ (t .ensures)) (c .if2 .taken))),
       l .inv .counts,
     )
@@ -109,7 +109,7 @@ loop-again c =
     let x = p4 .leg-in in
     doing-turn (l .inv) _ _ _ _ _
     (repeat-turn _ _ _ _ _ (omega (arith, p18 .loop-test .taken))
-    (leg-turn _ _ (t .result) (t .ensures) (s .args .i) (p16 .complex-at .ensures ∙ sym (complex-at (l .b) (s .args .i) (omega (arith, l .inv .counts .complexes, s .pre .2))))
+    (leg-turn _ _ (t .result) (t .ensures) (s .args .i) (p16 .complex-at .ensures ∙ sym (complex-at (l .numbers) (s .args .i) (omega (arith, l .inv .counts .complexes, s .pre .2))))
     (on _ _ (p9 .before .can-leg-in .ensures) (p9 .if1 .left)) _ (p7 .before .units-in .ensures _ (t .ensures)) (p7 .if2 .left)))
     (x .kept .0) (x .ensures .0) (x .ensures .1)
 

@@ -11,16 +11,16 @@ use Rattle.work.proofs.work.Statement.{statement}
 use Rattle.work.proofs.work.Tie as tie
 
 complex-at-requires : tie.Need-complex-at-requires
-complex-at-requires c κs = let z = complexes-few (c .before .before .before .args .b .now) in (c .before .before .before .pre .0, omega (arith, c .before .before .before .pre .2))
+complex-at-requires c κs = let z = complexes-few (c .before .before .before .args .numbers .now) in (c .before .before .before .pre .0, omega (arith, c .before .before .before .pre .2))
 
 any-closed-requires : tie.Need-any-closed-requires
 any-closed-requires c κs = let start = c .before .before .before .before .before in
-    (start .pre .0, subst LegsIn (sym (c .before .complex-at .ensures)) (legs-in (start .args .b .now) (start .args .i)))
+    (start .pre .0, subst LegsIn (sym (c .before .complex-at .ensures)) (legs-in (start .args .numbers .now) (start .args .i)))
 
 returns : tie.Need-returns
 returns c = let start = c .before .before .before .before .before .before .before in (
   work-closed (start .args .i) _ _
-      (c .before .before .before .complex-at .ensures ∙ sym (complex-at (start .args .b .now) (start .args .i) (start .pre .2))) _ _
+      (c .before .before .before .complex-at .ensures ∙ sym (complex-at (start .args .numbers .now) (start .args .i) (start .pre .2))) _ _
       (sym (c .before .any-closed .ensures) ∙ c .if1 .taken),
   record { regulars = refl; complexes = refl; right = λ h. h },
 )
@@ -50,7 +50,7 @@ returns-2 c =
     .before .before .before .before .before .before .before .before .before .before .before in (
       work-steps (s .args .i) _ _
           (c .before .before .before .before .before .before .before .before .before .before .before .before .before .before .before .before .before
-          .before .before .before .before .before .before .before .complex-at .ensures ∙ sym (complex-at (s .args .b .now) (s .args .i) (s .pre .2)))
+          .before .before .before .before .before .before .before .complex-at .ensures ∙ sym (complex-at (s .args .numbers .now) (s .args .i) (s .pre .2)))
           _ _ _ _ _ _ _ _ _ _ _
           (sym (c .before .before .before .before .before .before .before .before .before .before .before .before .before .before .before .before
           .before .before .before .before .before .before .any-closed .ensures)
