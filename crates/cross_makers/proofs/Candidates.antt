@@ -16,8 +16,8 @@ use Rattle.rules.specs.Prices.{bestRegular, weighed, net, inBand}
 use Rattle.rules.specs.Complex.{reversed, respectsLegs, crosses, limitThenId}
 use Rattle.rules.proofs.Tests.{not-out}
 use Rattle.places.specs.Layout.{upto, complexesUsed, complexIn, venueOf}
-use Rattle.cross_makers.specs.declared.Pick.{Pick}
-use Rattle.cross_makers.specs.declared.Pick.the-variants.{Nobody, At}
+use Rattle.cross_makers.specs.declared.Maker.{Maker}
+use Rattle.cross_makers.specs.declared.Maker.the-variants.{Nobody, At}
 use Rattle.cross_makers.specs.Picks.{pickedOf}
 use Rattle.levels.proofs.Scanning.{first-used}
 
@@ -100,7 +100,7 @@ module _ (a m : Complex) where
   unfolding limitThenId earlierComplex
   rank-equal h k = rw (h, k)
 
-module _ (best : Pick) (n : ℕ) (m : Complex) where
+module _ (best : Maker) (n : ℕ) (m : Complex) where
   pub pick-none : best ≡ Nobody → pickedOf (At n m) ≡ ranked limitThenId n m (pickedOf best)
   unfolding pickedOf ranked
   pick-none e = rw e

@@ -3,10 +3,10 @@ use Prim.Native.Nat.{ℕ, _+_, _*_}
 use Rattle.rules.specs.declared.Complex.{Complex}
 use Rattle.rules.specs.Base.{Choice, nobody, picked}
 use Rattle.rules.specs.Words.{opposite, placeOf}
-use Rattle.cross_makers.specs.declared.Pick.{Pick}
-use Rattle.cross_makers.specs.declared.Pick.the-variants.{Nobody, At}
+use Rattle.cross_makers.specs.declared.Maker.{Maker}
+use Rattle.cross_makers.specs.declared.Maker.the-variants.{Nobody, At}
 
-unfoldable pub pickedOf : Pick → Choice Complex
+unfoldable pub pickedOf : Maker → Choice Complex
 pickedOf Nobody = nobody
 pickedOf (At i c) = picked i c
 

@@ -1,6 +1,6 @@
 // Complex orders with one another: who crosses with whom, and who first.
 use arithmetic::limit_of;
-use levels::Taken;
+use levels::TakenLevels;
 use rules::Complex;
 ghost use mathlib.Core.Path.{_≡_};
 ghost use mathlib.Core.Bool.{_&&_, _||_};
@@ -18,7 +18,7 @@ ghost use Rattle.levels.specs.Grid.{LegsIn, TakenOf};
 ghost use Rattle.cross_makers.specs.Picks.{pickedOf, facingKey};
 
 // A complex order with its place, or none.
-pub enum Pick {
+pub enum Maker {
     Nobody,
     At(usize, Complex),
 }
@@ -89,7 +89,7 @@ fn limits_meet(c: Complex, m: Complex) -> bool
 }
 
 // Dealt at this net, c pays no more than at the best regular prices, where both its legs have one; taken has the levels that they take.
-fn respects_legs(taken: Taken, c: Complex, net: i64) -> bool
+fn respects_legs(taken: TakenLevels, c: Complex, net: i64) -> bool
     ensures { λ r. ⌜ ((v : Venue) → TakenOf taken c (v .regular) → r ≡ respectsLegs v c net) ⌝ }
 {
     let one = taken.first;
@@ -134,7 +134,7 @@ pub fn can_cross(numbers: &[u32], c: Complex, m: Complex) -> bool
 }
 
 // a goes before m: the higher limit, then the earlier.
-pub fn ranks_before(a: Complex, m: Complex) -> bool
+pub fn crosses_before(a: Complex, m: Complex) -> bool
     ensures { λ r. ⌜ r ≡ limitThenId a m ⌝ }
 {
     let x = a.limit;
@@ -149,16 +149,16 @@ pub fn ranks_before(a: Complex, m: Complex) -> bool
 }
 
 // The candidate m at place n, beside the best of those after it.
-fn better_pick(best: Pick, n: usize, m: Complex) -> Pick
+fn better_maker(best: Maker, n: usize, m: Complex) -> Maker
     ensures { λ r. ⌜ pickedOf r ≡ ranked limitThenId n m (pickedOf best) ⌝ }
 {
     match best {
-        Pick::Nobody => Pick::At(n, m),
-        Pick::At(i, a) => {
-            if ranks_before(a, m) {
-                return Pick::At(i, a);
+        Maker::Nobody => Maker::At(n, m),
+        Maker::At(i, a) => {
+            if crosses_before(a, m) {
+                return Maker::At(i, a);
             }
-            Pick::At(n, m)
+            Maker::At(n, m)
         }
     }
 }
@@ -183,13 +183,13 @@ fn is_either(key: usize, one: usize, two: usize) -> bool
 }
 
 // The resting order that c crosses with first. Of the others only those whose legs have the key are read.
-pub fn first_cross(numbers: &[u32], c: Complex) -> Pick
+pub fn first_cross(numbers: &[u32], c: Complex) -> Maker
     requires { ⌜ (length (now numbers) ≡ size) × (Right (now numbers)) × (LegsIn c) ⌝ }
     ensures { λ r. ⌜ pickedOf r ≡ first (crosses (venueOf (now (numbers .entry))) c) limitThenId (venueOf (now (numbers .entry)) .complex) ⌝ }
 {
     let straight = facing_key(c.series1, c.side1, c.series2, c.side2);
     let turned = facing_key(c.series2, c.side2, c.series1, c.side1);
-    let mut best = Pick::Nobody;
+    let mut best = Maker::Nobody;
     let mut i = places::complexes_used(numbers);
     while 0 < i {
         i -= 1;
@@ -200,7 +200,7 @@ pub fn first_cross(numbers: &[u32], c: Complex) -> Pick
         if !can_cross(numbers, c, m) {
             continue;
         }
-        best = better_pick(best, i, m);
+        best = better_maker(best, i, m);
     }
     best
 }

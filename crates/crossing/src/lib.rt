@@ -1,8 +1,8 @@
 // Complex orders with one another: the cross, and the touch of legging orders.
 use arithmetic::lesser;
 use arithmetic::limit_of;
-use cross_makers::Pick;
-use levels::Taken;
+use cross_makers::Maker;
+use levels::TakenLevels;
 use rules::Cause;
 use rules::Complex;
 ghost use mathlib.Core.Path.{_≡_};
@@ -50,7 +50,7 @@ pub fn cross_all(numbers: &mut [u32], i: usize, out: &mut [u8], at: usize) -> us
             return pos;
         }
         let found = cross_makers::first_cross(numbers, c);
-        let Pick::At(j, m) = found else {
+        let Maker::At(j, m) = found else {
             return pos;
         };
         pos = cross(numbers, i, j, lesser(c.quantity, m.quantity), out, pos);
@@ -59,7 +59,7 @@ pub fn cross_all(numbers: &mut [u32], i: usize, out: &mut [u8], at: usize) -> us
 }
 
 // The best own prices that c would take net to its limit or less.
-fn can_touch(numbers: &[u32], taken: Taken, c: Complex) -> bool
+fn can_touch(numbers: &[u32], taken: TakenLevels, c: Complex) -> bool
     requires { ⌜ (length (now numbers) ≡ size) × (TakenOf taken c (venueOf (now numbers) .regular)) × (LegsIn c) ⌝ }
     ensures { λ r. ⌜ r ≡ touches (venueOf (now (numbers .entry))) c ⌝ }
 {
@@ -91,7 +91,7 @@ fn can_touch(numbers: &[u32], taken: Taken, c: Complex) -> bool
 }
 
 // The sizes at the best own prices that c would take fill a unit of it.
-fn fills_unit(numbers: &[u32], taken: Taken, c: Complex) -> bool
+fn fills_unit(numbers: &[u32], taken: TakenLevels, c: Complex) -> bool
     requires { ⌜ (length (now numbers) ≡ size) × (TakenOf taken c (venueOf (now numbers) .regular)) × (LegsIn c) ⌝ }
     ensures { λ r. ⌜ r ≡ fillsUnit (venueOf (now (numbers .entry))) c ⌝ }
 {
@@ -106,7 +106,7 @@ fn fills_unit(numbers: &[u32], taken: Taken, c: Complex) -> bool
 }
 
 // Why the legging orders that c touches go.
-fn touch_cause(numbers: &[u32], taken: Taken, c: Complex) -> Cause
+fn touch_cause(numbers: &[u32], taken: TakenLevels, c: Complex) -> Cause
     requires { ⌜ (length (now numbers) ≡ size) × (TakenOf taken c (venueOf (now numbers) .regular)) × (LegsIn c) ⌝ }
     ensures { λ r. ⌜ r ≡ (if fillsUnit (venueOf (now (numbers .entry))) c then Touched else NoUnit) ⌝ }
 {

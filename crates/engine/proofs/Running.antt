@@ -26,16 +26,16 @@ use Rattle.reader.proofs.Heads.{head-torn, head-message, torn-refused, whole-re
 use Rattle.places.specs.Layout.{size, venueOf, Dense, Loaded}
 use Rattle.messages.specs.declared.Stepped.{Stepped}
 use Rattle.messages.specs.Steps.{Tries}
-use Rattle.engine.specs.declared.Turn.{Turn}
-use Rattle.engine.specs.Runs.{goesOn, Turns, callOf}
+use Rattle.engine.specs.declared.RunProgress.{RunProgress}
+use Rattle.engine.specs.Runs.{goesOn, Advances, callOf}
 use Rattle.engine.proofs.Proceeding.{goes-on, goes-not, turn-ends, too-long, venue-kept, front-kept, length-is, venue-is, turn-does, Sofar}
 use Rattle.engine.proofs.Proceeding.{sofar-start, sofar-as, sofar-turn, Ended, sofar-ends, ended-call}
 
 -- A turn --------------------------------------------------------------------------------------
 
 -- no number is left for the message
-pub turn-no-number : (t : Turn) (m b l : List ℕ) → t .at < length m → t .written ≤ length l → Dense b → SoundAt (suc (t .done)) (venueOf b) → t .done ≡ 4294967295 →
-    Turns m t b l (record { number = 10; done = t .done; at = t .at; written = t .written }) b l
+pub turn-no-number : (t : RunProgress) (m b l : List ℕ) → t .at < length m → t .written ≤ length l → Dense b → SoundAt (suc (t .done)) (venueOf b) → t .done ≡ 4294967295 →
+    Advances m t b l (record { number = 10; done = t .done; at = t .at; written = t .written }) b l
 turn-no-number t m b l a w d s e =
     record {
       turned = λ fuel. turn-ends _ _ 10 (t .done) (t .written) l b l (λ z. omega arith) w refl
@@ -47,7 +47,7 @@ turn-no-number t m b l a w d s e =
     }
 
 -- the message was tried: r is what was returned, and ys what is left of the report from t's position on
-module _ (t : Turn) (m b₀ b l ys : List ℕ) (r : Stepped) (a : t .at < length m) (w : t .written ≤ length l) (s : SoundAt (suc (t .done)) (venueOf b₀)) (d : t .done < 4294967295)
+module _ (t : RunProgress) (m b₀ b l ys : List ℕ) (r : Stepped) (a : t .at < length m) (w : t .written ≤ length l) (s : SoundAt (suc (t .done)) (venueOf b₀)) (d : t .done < 4294967295)
     (tries : Tries (step (venueOf b₀) (t .done + 1) (take (length m - t .at) (drop (t .at) m))) b₀ (take (length l - t .written) (drop (t .written) l)) r b ys) where
   abbrev bs : List ℕ
   bs = drop (t .at) m
@@ -77,7 +77,7 @@ module _ (t : Turn) (m b₀ b l ys : List ℕ) (r : Stepped) (a : t .at < length
   some = rw length-drop (omega arith)
 
   -- the records do not fit
-  pub turn-no-room : length l - t .written < r .written → Turns m t b₀ l (record { number = 10; done = t .done; at = t .at; written = t .written }) b back
+  pub turn-no-room : length l - t .written < r .written → Advances m t b₀ l (record { number = 10; done = t .done; at = t .at; written = t .written }) b back
   turn-no-room h =
       let same = venue-kept done (t .written) b₀ b l ys r w tried h in
       record {
@@ -101,7 +101,7 @@ module _ (t : Turn) (m b₀ b l ys : List ℕ) (r : Stepped) (a : t .at < length
     sound-still = rw (same-venue, add-one (t .done)) (kept v (suc (t .done)) (omega arith) s bs)
 
     -- what is torn ends the run
-    turn-torn : torn bs ≡ true → (n : ℕ) → Turns m t b₀ l (record { number = 1; done = t .done + 1; at = t .at + n; written = t .written + r .written }) b back
+    turn-torn : torn bs ≡ true → (n : ℕ) → Advances m t b₀ l (record { number = 1; done = t .done + 1; at = t .at + n; written = t .written + r .written }) b back
     unfolding step answered
     turn-torn e n =
         record {
@@ -114,7 +114,7 @@ module _ (t : Turn) (m b₀ b l ys : List ℕ) (r : Stepped) (a : t .at < length
         }
 
     -- after a message that is whole it goes on
-    turn-more : torn bs ≡ false → Turns m t b₀ l (record { number = 0; done = t .done + 1; at = t .at + lengthField bs; written = t .written + r .written }) b back
+    turn-more : torn bs ≡ false → Advances m t b₀ l (record { number = 0; done = t .done + 1; at = t .at + lengthField bs; written = t .written + r .written }) b back
     unfolding step answered
     turn-more e =
         let g = whole bs e in
@@ -137,10 +137,10 @@ module _ (t : Turn) (m b₀ b l ys : List ℕ) (r : Stepped) (a : t .at < length
 
     -- what stood at the position tells which
     pub turn-done : (h : Head) → h ≡ headAt m (t .at) → (x n : ℕ) → x ≡ headNumber h → n ≡ headLength h →
-        Turns m t b₀ l (record { number = x; done = t .done + 1; at = t .at + n; written = t .written + r .written }) b back
+        Advances m t b₀ l (record { number = x; done = t .done + 1; at = t .at + n; written = t .written + r .written }) b back
     turn-done h e x n x-is n-is = go (torn bs) refl
       where
-        go : (f : Bool) → torn bs ≡ f → Turns m t b₀ l (record { number = x; done = t .done + 1; at = t .at + n; written = t .written + r .written }) b back
+        go : (f : Bool) → torn bs ≡ f → Advances m t b₀ l (record { number = x; done = t .done + 1; at = t .at + n; written = t .written + r .written }) b back
         go true f = let k = e ∙ head-torn bs some f in rw (x-is ∙ ap headNumber k) (turn-torn f n)
         go false f = let k = e ∙ head-message bs some f in rw (x-is ∙ ap headNumber k, n-is ∙ ap headLength k) (turn-more f)
 
@@ -150,10 +150,10 @@ module _ (t : Turn) (m b₀ b l ys : List ℕ) (r : Stepped) (a : t .at < length
 abbrev wholeRun : (m l₀ : List ℕ) → Outcome
 wholeRun m l₀ = runFrom (length m) freshVenue 0 (length l₀) m
 
-abbrev leftRun : (m l₀ b : List ℕ) (t : Turn) → Outcome
+abbrev leftRun : (m l₀ b : List ℕ) (t : RunProgress) → Outcome
 leftRun m l₀ b t = runFrom (length m - t .done) (venueOf b) (t .done) (length l₀ - t .written) (drop (t .at) m)
 
-pub record Running (m l₀ b l : List ℕ) (t : Turn) : Type 0 where
+pub record Running (m l₀ b l : List ℕ) (t : RunProgress) : Type 0 where
   pub sofar : Sofar (wholeRun m l₀) l₀ b l (t .number) (t .done) (t .written) (leftRun m l₀ b t)
   pub going : t .number ≡ 0
   pub count : t .done ≤ t .at
@@ -161,10 +161,10 @@ pub record Running (m l₀ b l : List ℕ) (t : Turn) : Type 0 where
   pub dense : Dense b
   pub sound : SoundAt (suc (t .done)) (venueOf b)
 
-abbrev pub RunEnded : (m l₀ b l : List ℕ) (t : Turn) → Type 0
+abbrev pub RunEnded : (m l₀ b l : List ℕ) (t : RunProgress) → Type 0
 RunEnded m l₀ b l t = Ended (wholeRun m l₀) l₀ b l (t .number) (t .done) (t .written)
 
-module _ (m l₀ b l : List ℕ) (t : Turn) (g : Running m l₀ b l t) where
+module _ (m l₀ b l : List ℕ) (t : RunProgress) (g : Running m l₀ b l t) where
   -- the messages are at an end
   pub running-end : length m ≤ t .at → RunEnded m l₀ b l t
   running-end h =
@@ -175,7 +175,7 @@ module _ (m l₀ b l : List ℕ) (t : Turn) (g : Running m l₀ b l t) where
       ∙ ap (λ (k : ℕ). ends k (venueOf b)) (sym (g .going)))
       (g .sofar)
 
-  module _ (r : Turn) (b′ l′ : List ℕ) (ahead : t .at < length m) (slice : length b′ ≡ length b) (same : length l′ ≡ length l) (turn : Turns m t b l r b′ l′) where
+  module _ (r : RunProgress) (b′ l′ : List ℕ) (ahead : t .at < length m) (slice : length b′ ≡ length b) (same : length l′ ≡ length l) (turn : Advances m t b l r b′ l′) where
     -- one turn more, with the fuel that is left
     turned : (fuel : ℕ) → length m - t .done ≡ suc fuel →
         Sofar (wholeRun m l₀) l₀ b′ l′ (r .number) (r .done) (r .written) (runFrom fuel (venueOf b′) (r .done) (length l - r .written) (drop (r .at) m))
@@ -229,7 +229,7 @@ running-start m b l n f =
     }
 
 -- the rest of the report zeroed, and the venue read
-pub ran : (m l₀ b l z : List ℕ) (t : Turn) (v : Venue) → RunEnded m l₀ b l t → z ≡ take (t .written) l ++ replicate (length l - t .written) 0 → v ≡ venueOf b →
+pub ran : (m l₀ b l z : List ℕ) (t : RunProgress) (v : Venue) → RunEnded m l₀ b l t → z ≡ take (t .written) l ++ replicate (length l - t .written) 0 → v ≡ venueOf b →
     callOf (record { number = t .number; done = t .done; written = t .written; venue = v }) z ≡ run (length l₀) m
 unfolding run
 ran m l₀ b l z t v d e u = ended-call (wholeRun m l₀) l₀ b l (t .number) (t .done) (t .written) z v d e u

@@ -11,7 +11,7 @@ use Rattle.rules.specs.declared.Returned.{Returned}
 use Rattle.rules.specs.Calls.{Outcome, Call, ends, runFrom}
 use Rattle.demands.specs.Kept.{SoundAt}
 use Rattle.places.specs.Layout.{venueOf, Dense}
-use Rattle.engine.specs.declared.Turn.{Turn}
+use Rattle.engine.specs.declared.RunProgress.{RunProgress}
 
 -- an outcome after k messages and their records
 unfoldable pub onto : (k : ℕ) → List Report → Outcome → Outcome
@@ -31,7 +31,7 @@ pub record Turned (before : Outcome) (done written : ℕ) (l₀ : List ℕ) (num
   pub is : before ≡ onto (done′ - done) records (goesOn number (venueOf b) rest)
 
 -- from turn t of a run to turn r
-pub record Turns (m : List ℕ) (t : Turn) (b₀ l₀ : List ℕ) (r : Turn) (b l : List ℕ) : Type 0 where
+pub record Advances (m : List ℕ) (t : RunProgress) (b₀ l₀ : List ℕ) (r : RunProgress) (b l : List ℕ) : Type 0 where
   pub turned : (fuel : ℕ) →
       Turned (runFrom (suc fuel) (venueOf b₀) (t .done) (length l₀ - t .written) (drop (t .at) m)) (t .done) (t .written) l₀ (r .number) (r .done) (r .written) b l
       (runFrom fuel (venueOf b) (r .done) (length l₀ - r .written) (drop (r .at) m))

@@ -10,12 +10,12 @@ ghost use Rattle.rules.specs.Calls as calls;
 ghost use Rattle.demands.specs.Kept.{SoundAt};
 ghost use Rattle.reader.specs.Head.{headAt};
 ghost use Rattle.places.specs.Layout.{size, venueOf, Dense};
-ghost use Rattle.engine.specs.Runs.{Turns, callOf};
+ghost use Rattle.engine.specs.Runs.{Advances, callOf};
 
 // A run -----------------------------------------------------------------------------------------
 
 // Where a run stands: its number, the messages done, the position in them, and the bytes written.
-pub struct Turn {
+pub struct RunProgress {
     pub number: u8,
     pub done: u32,
     pub at: usize,
@@ -23,15 +23,21 @@ pub struct Turn {
 }
 
 // One message more, or what is torn: `head` stands at the position.
-fn advance(t: Turn, head: Head, numbers: &mut [u32], messages: &[u8], report: &mut [u8]) -> Turn
+fn advance(
+    t: RunProgress,
+    head: Head,
+    numbers: &mut [u32],
+    messages: &[u8],
+    report: &mut [u8],
+) -> RunProgress
     requires { ⌜ (length (now numbers) ≡ size) × (Dense (now numbers)) × (SoundAt (suc (t .done)) (venueOf (now numbers))) × (t .at < length (now messages)) × (t .written ≤ length (now report)) × (head ≡ headAt (now messages) (t .at)) ⌝ }
-    ensures { λ r. ⌜ Turns (now (messages .entry)) t (now (numbers .entry)) (now (report .entry)) r (now (numbers .exit)) (now (report .exit)) ⌝ }
+    ensures { λ r. ⌜ Advances (now (messages .entry)) t (now (numbers .entry)) (now (report .entry)) r (now (numbers .exit)) (now (report .exit)) ⌝ }
 {
     let at = t.at;
     let pos = t.written;
     let done = t.done;
     if done == 4294967295 {
-        return Turn {
+        return RunProgress {
             number: 10,
             done,
             at,
@@ -41,7 +47,7 @@ fn advance(t: Turn, head: Head, numbers: &mut [u32], messages: &[u8], report: &m
     let r = messages::try_step(numbers, done + 1, &messages[at..], &mut report[pos..]);
     let written = r.written;
     if report.len() - pos < written {
-        return Turn {
+        return RunProgress {
             number: 10,
             done,
             at,
@@ -50,7 +56,7 @@ fn advance(t: Turn, head: Head, numbers: &mut [u32], messages: &[u8], report: &m
     }
     let number = reader::head_number(head);
     let length = reader::head_length(head);
-    Turn {
+    RunProgress {
         number,
         done: done + 1,
         at: at + length as usize,
@@ -63,7 +69,7 @@ pub fn run(messages: &[u8], report: &mut [u8]) -> Returned
     ensures { λ r. ⌜ callOf r (now (report .exit)) ≡ calls.run (length (now (report .entry))) (now (messages .entry)) ⌝ }
 {
     let mut numbers = venue_numbers::fresh_numbers();
-    let mut t = Turn {
+    let mut t = RunProgress {
         number: 0,
         done: 0,
         at: 0,

@@ -26,7 +26,7 @@ use Rattle.feed.specs.Cursors.{ready, stopOf, partOf, upNext, advanceOf}
 use Rattle.feed.specs.Turns.{hands, fedFrom}
 use Rattle.feed.proofs.Turning.{hands-full, hands-more, fed-on, fed-stop, feed-is, feed-not}
 use Rattle.feed.proofs.Ahead.{Ahead, ahead-start, ahead-moved, ahead-ready, advance-within, some-move, next-up, next-end, next-whole, up-message, up-stop}
-use Rattle.feed_run.specs.declared.Fed.{Fed}
+use Rattle.feed_run.specs.declared.FeedProgress.{FeedProgress}
 use Rattle.engine.specs.Runs.{goesOn, callOf}
 use Rattle.feed_run.specs.Feeds.{stopsAt, Feeds}
 use Rattle.engine.proofs.Proceeding.{goes-on, goes-not, turn-ends, too-long, venue-kept, front-kept, length-is, venue-is, turn-does, Sofar}
@@ -58,7 +58,7 @@ asked n d k m s e a b f z =
 
 -- A turn --------------------------------------------------------------------------------------
 
-module _ (t : Fed) (main spare : List ℕ) where
+module _ (t : FeedProgress) (main spare : List ℕ) where
   abbrev mainLeft : List ℕ
   mainLeft = drop (t .main) main
 
@@ -153,10 +153,10 @@ module _ (t : Fed) (main spare : List ℕ) where
 abbrev wholeFeed : (main spare l₀ : List ℕ) → Outcome
 wholeFeed main spare l₀ = fedFrom (length main + length spare) freshVenue 0 (length l₀) (partsOf main) (partsOf spare)
 
-abbrev leftFeed : (main spare l₀ b : List ℕ) (t : Fed) → Outcome
+abbrev leftFeed : (main spare l₀ b : List ℕ) (t : FeedProgress) → Outcome
 leftFeed main spare l₀ b t = fedFrom (length main + length spare - t .done) (venueOf b) (t .done) (length l₀ - t .written) (partsOf main) (partsOf spare)
 
-pub record Feeding (main spare l₀ b l : List ℕ) (t : Fed) : Type 0 where
+pub record Feeding (main spare l₀ b l : List ℕ) (t : FeedProgress) : Type 0 where
   pub sofar : Sofar (wholeFeed main spare l₀) l₀ b l (t .number) (t .done) (t .written) (leftFeed main spare l₀ b t)
   pub going : t .number ≡ 0
   pub on-main : Ahead (t .done) (drop (t .main) main) (partsOf main)
@@ -167,7 +167,7 @@ pub record Feeding (main spare l₀ b l : List ℕ) (t : Fed) : Type 0 where
   pub dense : Dense b
   pub sound : SoundAt (suc (t .done)) (venueOf b)
 
-abbrev pub FeedEnded : (main spare l₀ b l : List ℕ) (t : Fed) → Type 0
+abbrev pub FeedEnded : (main spare l₀ b l : List ℕ) (t : FeedProgress) → Type 0
 FeedEnded main spare l₀ b l t = Ended (wholeFeed main spare l₀) l₀ b l (t .number) (t .done) (t .written)
 
 fed-none : (fuel : ℕ) (v : Venue) (n room : ℕ) (m s : List Part) → next (suc n) m s ≡ stop 0 → fedFrom fuel v n room m s ≡ ends 0 v
@@ -211,7 +211,7 @@ moved-to n n′ at at′ line ps d e a =
     subst (λ (k : ℕ). Ahead k (drop at′ line) ps) (sym d)
     (subst (λ (xs : List ℕ). Ahead (suc n) xs ps) (drop-drop (advanceOf (suc n) (drop at line)) at line ∙ ap (λ (k : ℕ). drop k line) (sym e)) (ahead-moved n (drop at line) ps a))
 
-module _ (main spare l₀ b l : List ℕ) (t : Fed) (g : Feeding main spare l₀ b l t) where
+module _ (main spare l₀ b l : List ℕ) (t : FeedProgress) (g : Feeding main spare l₀ b l t) where
   pub feeding-end : (leb (length main) (t .main) && leb (length spare) (t .spare)) ≡ true → FeedEnded main spare l₀ b l t
   feeding-end e =
       let x = leb-true (length main) (t .main) (and-l _ _ e) in
@@ -225,7 +225,7 @@ module _ (main spare l₀ b l : List ℕ) (t : Fed) (g : Feeding main spare l₀
       ∙ ap (λ (k : ℕ). ends k (venueOf b)) (sym (g .going)))
       (g .sofar)
 
-  module _ (ahead : t .main + t .spare < length main + length spare) (r : Fed) (b′ l′ : List ℕ) (slice : length b′ ≡ length b) (same : length l′ ≡ length l)
+  module _ (ahead : t .main + t .spare < length main + length spare) (r : FeedProgress) (b′ l′ : List ℕ) (slice : length b′ ≡ length b) (same : length l′ ≡ length l)
       (turn : Feeds main spare t b l r b′ l′) where
     some-left : 0 < length (drop (t .main) main) + length (drop (t .spare) spare)
     some-left =
@@ -286,7 +286,7 @@ module _ (main spare l₀ b l : List ℕ) (t : Fed) (g : Feeding main spare l₀
         (turned (length main + length spare - suc (t .done)) fuel-left)
 
 -- the rest of the report zeroed, and the venue read
-pub fed : (main spare l₀ b l z : List ℕ) (t : Fed) (v : Venue) → faultless main ≡ true → faultless spare ≡ true → FeedEnded main spare l₀ b l t →
+pub fed : (main spare l₀ b l z : List ℕ) (t : FeedProgress) (v : Venue) → faultless main ≡ true → faultless spare ≡ true → FeedEnded main spare l₀ b l t →
     z ≡ take (t .written) l ++ replicate (length l - t .written) 0 → v ≡ venueOf b →
     callOf (record { number = t .number; done = t .done; written = t .written; venue = v }) z ≡ feed (length l₀) main spare
 fed main spare l₀ b l z t v fm fs d e u =

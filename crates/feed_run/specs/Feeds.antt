@@ -8,15 +8,15 @@ use Rattle.places.specs.Layout.{venueOf, Dense}
 use Rattle.feed.specs.Feed.{Part, next}
 use Rattle.feed.specs.Cursors.{upNext, advanceOf}
 use Rattle.feed.specs.Turns.{fedFrom}
-use Rattle.feed_run.specs.declared.Fed.{Fed}
+use Rattle.feed_run.specs.declared.FeedProgress.{FeedProgress}
 use Rattle.engine.specs.Runs.{Turned}
 
 -- stopped with a number where it stands
-abbrev pub stopsAt : Fed → (number : ℕ) → Fed
+abbrev pub stopsAt : FeedProgress → (number : ℕ) → FeedProgress
 stopsAt t k = record { number = k; done = t .done; main = t .main; spare = t .spare; written = t .written }
 
 -- from turn t to turn r one message is handed out and done, or the call has ended; m and s are what stands on the lines
-pub record Feeds (main spare : List ℕ) (t : Fed) (b₀ l₀ : List ℕ) (r : Fed) (b l : List ℕ) : Type 0 where
+pub record Feeds (main spare : List ℕ) (t : FeedProgress) (b₀ l₀ : List ℕ) (r : FeedProgress) (b l : List ℕ) : Type 0 where
   pub turned : (fuel : ℕ) (m s : List Part) → next (suc (t .done)) m s ≡ upNext (suc (t .done)) (drop (t .main) main) (drop (t .spare) spare) →
       Turned (fedFrom (suc fuel) (venueOf b₀) (t .done) (length l₀ - t .written) m s) (t .done) (t .written) l₀ (r .number) (r .done) (r .written) b l
       (fedFrom fuel (venueOf b) (r .done) (length l₀ - r .written) m s)

@@ -14,7 +14,7 @@ ghost use Rattle.feed_run.specs.Feeds.{stopsAt, Feeds};
 // Two lines of one feed --------------------------------------------------------------------------
 
 // Where the handing out stands: its number, the messages done, the position on each line, and the bytes written.
-pub struct Fed {
+pub struct FeedProgress {
     pub number: u8,
     pub done: u32,
     pub main: usize,
@@ -23,10 +23,10 @@ pub struct Fed {
 }
 
 // The handing out stopped with a number, where it stands.
-fn stop_at(t: Fed, number: u8) -> Fed
+fn stop_at(t: FeedProgress, number: u8) -> FeedProgress
     ensures { λ r. ⌜ r ≡ stopsAt t number ⌝ }
 {
-    Fed {
+    FeedProgress {
         number,
         done: t.done,
         main: t.main,
@@ -37,12 +37,12 @@ fn stop_at(t: Fed, number: u8) -> Fed
 
 // One message more, or what stops it. The lines are not both at their ends.
 fn hand_out<'a>(
-    t: Fed,
+    t: FeedProgress,
     numbers: &mut [u32],
     main: &'a [u8],
     spare: &'a [u8],
     report: &mut [u8],
-) -> Fed
+) -> FeedProgress
     requires { ⌜ (length (now numbers) ≡ size) × (Dense (now numbers)) × (SoundAt (suc (t .done)) (venueOf (now numbers))) × (t .written ≤ length (now report)) × (ready (t .done) (drop (t .main) (now main)) ≡ true) × (ready (t .done) (drop (t .spare) (now spare)) ≡ true) × (t .main ≤ length (now main)) × (t .spare ≤ length (now spare)) × (t .main + t .spare < length (now main) + length (now spare)) ⌝ }
     ensures { λ r. ⌜ Feeds (now (main .entry)) (now (spare .entry)) t (now (numbers .entry)) (now (report .entry)) r (now (numbers .exit)) (now (report .exit)) ⌝ }
 {
@@ -63,7 +63,7 @@ fn hand_out<'a>(
     }
     let next = feed::moved(main, at, number);
     let after = feed::moved(spare, other, number);
-    Fed {
+    FeedProgress {
         number: 0,
         done: number,
         main: next,
@@ -78,7 +78,7 @@ fn feed_lines<'a>(main: &'a [u8], spare: &'a [u8], report: &mut [u8]) -> Returne
     ensures { λ r. ⌜ callOf r (now (report .exit)) ≡ feeding.feed (length (now (report .entry))) (now (main .entry)) (now (spare .entry)) ⌝ }
 {
     let mut numbers = venue_numbers::fresh_numbers();
-    let mut t = Fed {
+    let mut t = FeedProgress {
         number: 0,
         done: 0,
         main: 0,

@@ -1,7 +1,7 @@
 // Generation of legging orders.
 use arithmetic::limit_of;
 use levels::LegSides;
-use levels::Taken;
+use levels::TakenLevels;
 use rules::Cause;
 use rules::Complex;
 use rules::Legging;
@@ -63,7 +63,7 @@ fn ranged(numbers: &[u32], s: u8, d: u8, p: u64) -> u32
 }
 
 // The price of the leg of c at side d of series s: sign × (N - the other leg's sign × its clear price); 0 where there is none in range.
-pub fn leg_price(numbers: &[u32], taken: Taken, c: Complex, s: u8, d: u8) -> u32
+pub fn leg_price(numbers: &[u32], taken: TakenLevels, c: Complex, s: u8, d: u8) -> u32
     requires { ⌜ (length (now numbers) ≡ size) × (TakenOf taken c (venueOf (now numbers) .regular)) × (LegsIn c) × (s < 8) × (Figured (now numbers)) ⌝ }
     ensures { λ r. ⌜ r ≡ pricedLeg (venueOf (now (numbers .entry))) c s d ⌝ }
 {
@@ -78,7 +78,7 @@ pub fn leg_price(numbers: &[u32], taken: Taken, c: Complex, s: u8, d: u8) -> u32
 }
 
 // c is one to one, both its series are open, and N is in band.
-fn may_generate(numbers: &[u32], taken: Taken, c: Complex) -> bool
+fn may_generate(numbers: &[u32], taken: TakenLevels, c: Complex) -> bool
     requires { ⌜ (length (now numbers) ≡ size) × (TakenOf taken c (venueOf (now numbers) .regular)) × (LegsIn c) × (Figured (now numbers)) ⌝ }
     ensures { λ r. ⌜ r ≡ mayGenerate (venueOf (now (numbers .entry))) c ⌝ }
 {
@@ -140,7 +140,7 @@ fn may_stand(numbers: &[u32], sides: LegSides, c: Complex, s: u8, d: u8, p: u32)
 }
 
 // The lesser of an order's open quantity and the size at the other leg's clear price.
-fn leg_quantity(taken: Taken, c: Complex, s: u8) -> u32
+fn leg_quantity(taken: TakenLevels, c: Complex, s: u8) -> u32
     ensures { λ r. ⌜ r ≡ min (c .quantity) (otherTaken taken c s .size) ⌝ }
 {
     let open = c.quantity as u64;

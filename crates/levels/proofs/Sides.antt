@@ -10,7 +10,7 @@ use Rattle.rules.specs.Words.{opposite}
 use Rattle.rules.specs.Prices.{bestIn, bestRegular, bestSize}
 use Rattle.places.specs.Layout.{levelOf}
 use Rattle.places.specs.declared.Level.{Level}
-use Rattle.levels.specs.declared.Taken.{Taken}
+use Rattle.levels.specs.declared.TakenLevels.{TakenLevels}
 use Rattle.levels.specs.declared.LegSides.{LegSides}
 use Rattle.levels.specs.Grid.{GridOf, LegsIn, takenIn, sidesIn, TakenOf, SidesOf}
 
@@ -49,7 +49,7 @@ module _ (g : List (List Level)) (os : List Regular) (h : GridOf g os) (c : Comp
       })
 
 -- and what it says of the sides
-module _ (v : Venue) (t : Taken) (c : Complex) (h : TakenOf t c (v .regular)) (f : ℕ) where
+module _ (v : Venue) (t : TakenLevels) (c : Complex) (h : TakenOf t c (v .regular)) (f : ℕ) where
   pub first-best : f ≡ opposite (c .side1) → t .first .price ≡ bestRegular v (c .series1) f
   first-best e = level-price v (c .series1) (opposite (c .side1)) (t .first) (h .first) ∙ ap (bestRegular v (c .series1)) (sym e)
 

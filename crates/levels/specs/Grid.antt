@@ -10,7 +10,7 @@ use Rattle.rules.specs.Base.{if_then_else_, held}
 use Rattle.rules.specs.Words.{opposite}
 use Rattle.rules.specs.Prices.{better, shown, bestIn}
 use Rattle.places.specs.declared.Level.{Level}
-use Rattle.levels.specs.declared.Taken.{Taken}
+use Rattle.levels.specs.declared.TakenLevels.{TakenLevels}
 use Rattle.levels.specs.declared.LegSides.{LegSides}
 use Rattle.places.specs.Layout.{regularsUsed, complexesUsed, venueOf, levelIn, levelOf, Marked}
 
@@ -56,7 +56,7 @@ pub record LegsIn (c : Complex) : Type 0 where
   pub side2 : c .side2 < 2
 
 -- the levels that the legs of c take
-abbrev pub takenIn : List (List Level) → Complex → Taken
+abbrev pub takenIn : List (List Level) → Complex → TakenLevels
 takenIn g c = record { first = cellOf g (c .series1) (opposite (c .side1)); second = cellOf g (c .series2) (opposite (c .side2)) }
 
 -- what the test of the leg of c at side d of series s asks of the orders
@@ -64,7 +64,7 @@ abbrev pub sidesIn : List (List Level) → Complex → (series side : ℕ) → L
 sidesIn g c s d = record { own = cellOf g s d .price; facing = cellOf g s (opposite d) .price; taken = takenIn g c }
 
 -- t has the levels of these orders that the legs of c take
-pub record TakenOf (t : Taken) (c : Complex) (os : List Regular) : Type 0 where
+pub record TakenOf (t : TakenLevels) (c : Complex) (os : List Regular) : Type 0 where
   pub first : t .first ≡ levelOf (c .series1) (opposite (c .side1)) os
   pub second : t .second ≡ levelOf (c .series2) (opposite (c .side2)) os
 

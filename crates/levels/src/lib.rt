@@ -245,7 +245,7 @@ pub fn levels(numbers: &[u32]) -> [[Level; 2]; 8]
 }
 
 // The levels that the legs of a complex order take.
-pub struct Taken {
+pub struct TakenLevels {
     pub first: Level,
     pub second: Level,
 }
@@ -254,11 +254,11 @@ pub struct Taken {
 pub struct LegSides {
     pub own: u32,
     pub facing: u32,
-    pub taken: Taken,
+    pub taken: TakenLevels,
 }
 
 // The levels that the legs of c take.
-pub fn taken_at(numbers: &[u32], c: Complex) -> Taken
+pub fn taken_at(numbers: &[u32], c: Complex) -> TakenLevels
     requires { ⌜ (length (now numbers) ≡ size) × (Right (now numbers)) × (LegsIn c) ⌝ }
     ensures { λ r. ⌜ TakenOf r c (venueOf (now (numbers .entry)) .regular) ⌝ }
 {
@@ -270,7 +270,7 @@ pub fn taken_at(numbers: &[u32], c: Complex) -> Taken
         numbers,
         arithmetic::place_of(c.series2, arithmetic::opposite_of(c.side2)),
     );
-    Taken { first, second }
+    TakenLevels { first, second }
 }
 
 // What the test of the leg of c at side d of series s asks of the regular orders.

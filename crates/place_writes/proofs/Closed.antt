@@ -17,7 +17,7 @@ use Rattle.rules.specs.Prices.{bestRegular, bestSize}
 use Rattle.rules.specs.Base.{keep}
 use Rattle.rules.specs.Places.{holdsRegular, holdsComplex, closeGaps}
 use Rattle.rules.proofs.Closing.{best-closed, size-closed}
-use Rattle.places.specs.Layout.{size, inUse, regularsUsed, complexesUsed, regularIn, complexIn, venueOf, regularPut, complexRow, limitNumber, Kept}
+use Rattle.places.specs.Layout.{size, inUse, regularsUsed, complexesUsed, regularIn, complexIn, venueOf, regularPut, complexRow, limitNumber, ComplexBounded}
 use Rattle.places.specs.Layout.{levelOf, levelIn, Fully, Figured, Orderly, Right, SameCounts, Filled, Dense, closeRegulars, closeComplexes}
 use Rattle.places.specs.Layout.{regularsHeld, complexesHeld, RegularsClosed, ComplexesClosed, GapsClosed}
 use Rattle.places.specs.Offsets.{complexIdAt, complexLimitAt, leggingParentAt, regularsUsedAt, complexesUsedAt, regularsKnownAt, complexesKnownAt}
@@ -86,7 +86,7 @@ regular-again a c i k e h =
     regular-back a i (regularIn c k) e h (unfold regularIn in omega arith) (unfold regularIn in omega arith)
     (record { display = unfold regularIn in omega arith; reserve = unfold regularIn in omega arith })
 
-complex-keeps : (c : List ℕ) (k : ℕ) → Kept (complexIn c k)
+complex-keeps : (c : List ℕ) (k : ℕ) → ComplexBounded (complexIn c k)
 unfolding complexIn limitNumber
 complex-keeps c k = record {
   class = omega arith;

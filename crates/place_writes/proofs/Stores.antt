@@ -26,7 +26,7 @@ use Rattle.rules.specs.Step.{mask}
 use Rattle.rules.proofs.Showing.{less-fully, filled-fully}
 use Rattle.places.specs.declared.Level.{Level}
 use Rattle.places.specs.Layout.{size, inUse, regularsUsed, complexesUsed, regularIn, complexIn, leggingIn, listedIn, editionIn, venueOf, regularRow}
-use Rattle.places.specs.Layout.{reserveRow, regularPut, Bounded, editionRow, legsKey, ratiosNumber, limitNumber, complexRow, Kept, bitOf, levelIn}
+use Rattle.places.specs.Layout.{reserveRow, regularPut, Bounded, editionRow, legsKey, ratiosNumber, limitNumber, complexRow, ComplexBounded, bitOf, levelIn}
 use Rattle.places.specs.Layout.{Fully, Marked, Beside, SameBeside, LevelPut, Counts, SameCounts}
 use Rattle.places.specs.Offsets.{complexIdAt, complexLegsAt, complexRatiosAt, complexClassAt, complexLimitAt, complexQuantityAt, complexNextAt}
 use Rattle.places.specs.Offsets.{leggingParentAt, leggingPriceAt, leggingQuantityAt, leggingNextAt, seriesStatusAt, seriesBidAt, seriesOfferAt}
@@ -431,7 +431,7 @@ added-regular a b c n o m h s d w z p q r = rw (r, q, p) (
 
 -- A complex order -----------------------------------------------------------------------------
 
-pub complex-back : (a : List ℕ) (i : ℕ) (c : Complex) → length a ≡ size → i < 32 → c .series1 < 8 → c .side1 < 2 → c .series2 < 8 → c .side2 < 2 → Kept c →
+pub complex-back : (a : List ℕ) (i : ℕ) (c : Complex) → length a ≡ size → i < 32 → c .series1 < 8 → c .side1 < 2 → c .series2 < 8 → c .side2 < 2 → ComplexBounded c →
     complexIn (sets a (6 * i + complexIdAt) (complexRow c)) i ≡ c
 unfolding complexIn complexRow legsKey ratiosNumber placeOf
 complex-back a i c n h s1 d1 s2 d2 k =
@@ -479,7 +479,7 @@ part2 : (a b : List ℕ) → complexesUsed b ≡ complexesUsed a → venueOf b �
 part2 a b e f = ap (λ (k : ℕ). inUse (complexIn b) noComplex k 32) (sym e) ∙ whole-part2 b ∙ ap (λ (v : Venue). v .complex) f
 
 added-venue2 : (a : List ℕ) (o : Complex) → length a ≡ size → complexesUsed a < 32 →
-    o .series1 < 8 → o .side1 < 2 → o .series2 < 8 → o .side2 < 2 → Kept o →
+    o .series1 < 8 → o .side1 < 2 → o .series2 < 8 → o .side2 < 2 → ComplexBounded o →
     venueOf (set (sets a (6 * complexesUsed a + complexIdAt) (complexRow o)) complexesUsedAt (complexesUsed a + 1)) ≡ putComplex (complexesUsed a) o (venueOf a)
 unfolding putComplex
 added-venue2 a o n h s1 d1 s2 d2 k =
@@ -512,7 +512,7 @@ added-venue2 a o n h s1 d1 s2 d2 k =
         ∙ ap₂ (λ (l : List Complex) (x : Complex). set l (complexesUsed a) x) (part2 a b used-b same) (complex-back a (complexesUsed a) o n h s1 d1 s2 d2 k)
 
 pub added-complex : (a b c : List ℕ) (n : ℕ) (o : Complex) → length a ≡ size → complexesUsed a < 32 →
-    o .series1 < 8 → o .side1 < 2 → o .series2 < 8 → o .side2 < 2 → Kept o →
+    o .series1 < 8 → o .side1 < 2 → o .series2 < 8 → o .side2 < 2 → ComplexBounded o →
     n ≡ complexesUsed a → b ≡ sets a (6 * n + complexIdAt) (complexRow o) → c ≡ lowered (set b complexesUsedAt (n + 1)) complexesKnownAt n →
     (venueOf c ≡ putComplex (complexesUsed a) o (venueOf a)) × Counts (regularsUsed a) (suc (complexesUsed a)) a c
 added-complex a b c n o m h s1 d1 s2 d2 k p q r = rw (r, q, p) (

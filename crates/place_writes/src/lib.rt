@@ -11,7 +11,7 @@ ghost use Rattle.rules.specs.Generation.{placed, counted};
 ghost use Rattle.rules.specs.Places.{holdsRegular, holdsComplex, holdsEdition};
 ghost use Rattle.rules.specs.Standing.{showAgain};
 ghost use Rattle.rules.specs.Sound.{showsFully};
-ghost use Rattle.places.specs.Layout.{size, regularsUsed, complexesUsed, regularIn, complexIn, editionIn, venueOf, regularPut, limitNumber, complexRow, editionRow, Kept, bitOf};
+ghost use Rattle.places.specs.Layout.{size, regularsUsed, complexesUsed, regularIn, complexIn, editionIn, venueOf, regularPut, limitNumber, complexRow, editionRow, ComplexBounded, bitOf};
 ghost use Rattle.places.specs.Layout.{FiguresBase, FigureSet, FiguresCounted};
 ghost use Rattle.places.specs.Layout.{Marked, Right, Beside, SameBeside, LevelPut, Counts, SameCounts};
 ghost use Rattle.places.specs.Layout.{Filled, RegularsClosed, ComplexesClosed, GapsClosed};
@@ -147,7 +147,7 @@ fn limit_number(x: i32) -> u32
 // A complex order's numbers at place i.
 pub fn write_complex(numbers: &mut [u32], i: usize, c: Complex)
     requires { ⌜ (length (now numbers) ≡ size) × (i < 32) ⌝ }
-    ensures { λ _. ⌜ (now (numbers .exit) ≡ sets (now (numbers .entry)) (6 * i + complexIdAt) (complexRow c)) × Kept c ⌝ }
+    ensures { λ _. ⌜ (now (numbers .exit) ≡ sets (now (numbers .entry)) (6 * i + complexIdAt) (complexRow c)) × ComplexBounded c ⌝ }
 {
     let one = place_number(c.series1, c.side1);
     let two = place_number(c.series2, c.side2);

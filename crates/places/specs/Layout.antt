@@ -166,7 +166,7 @@ unfoldable pub editionRow : Edition → List ℕ
 editionRow e = e .edition ∷ e .message ∷ e .figure ∷ e .value ∷ []
 
 -- a class, a limit and ratios that are kept whole
-pub record Kept (c : Complex) : Type 0 where
+pub record ComplexBounded (c : Complex) : Type 0 where
   pub class : c .class < 256
   pub limit : pos (limitNumber (c .limit)) -ℤ pos 2147483648 ≡ c .limit
   pub ratio1 : c .ratio1 < 256

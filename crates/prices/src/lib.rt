@@ -1,6 +1,6 @@
 // What is read of a side: own, clear and market prices, the band, the increment; and of a complex order its legs, its parent and whether its series are open.
 use levels::LegSides;
-use levels::Taken;
+use levels::TakenLevels;
 use places::Level;
 use rules::Complex;
 use rules::Leg;
@@ -35,7 +35,7 @@ pub fn sides_of(g: [[Level; 2]; 8], c: Complex, s: u8, d: u8) -> LegSides
     let k = arithmetic::opposite_of(d) as usize;
     let own = g[i][j];
     let facing = g[i][k];
-    let taken = Taken { first, second };
+    let taken = TakenLevels { first, second };
     LegSides {
         own: own.price,
         facing: facing.price,
@@ -117,7 +117,7 @@ pub fn market_best(numbers: &[u32], best: u32, s: u8, d: u8) -> u32
 }
 
 // The net t of a complex order is in band; taken has the levels that its legs take.
-pub fn in_band(numbers: &[u32], taken: Taken, c: Complex, t: i64) -> bool
+pub fn in_band(numbers: &[u32], taken: TakenLevels, c: Complex, t: i64) -> bool
     requires { ⌜ (length (now numbers) ≡ size) × (TakenOf taken c (venueOf (now numbers) .regular)) × (LegsIn c) × (natAbs t ≤ 2190433320450) × (Figured (now numbers)) ⌝ }
     ensures { λ r. ⌜ r ≡ inBand (venueOf (now (numbers .entry))) c t ⌝ }
 {

@@ -28,7 +28,7 @@ use Rattle.records.specs.Seen.{Seen, seen}
 use Rattle.records.specs.Stage.{stage, _does_}
 use Rattle.records.proofs.Stages.{onward, does-nothing, does-room}
 use Rattle.places.specs.Layout.{size, leggingIn, venueOf, SameCounts}
-use Rattle.removal.specs.Marks.{clearAt, verdictBy, markAt, markedBy}
+use Rattle.removal.specs.Marks.{removePlace, verdictBy, markAt, markedBy}
 use Rattle.places.proofs.Beside.{counts-on}
 use Rattle.places.proofs.Parts.{legging-at, leggings-length}
 
@@ -36,15 +36,15 @@ use Rattle.places.proofs.Parts.{legging-at, leggings-length}
 
 -- a verdict that leaves a place as it is
 module _ (n : ℕ) (v : Venue) (l : Legging) (e : getD (v .legging) n noLegging ≡ l) where
-  pub clear-free : (c : Cause) → l .quantity ≡ 0 → nothing v ≡ clearAt n (Fails c) v
-  unfolding clearAt nothing placed withLegging stay goes
-  clear-free c h = simp (e, eq-eqb _ _ h)
+  pub remove-place-free : (c : Cause) → l .quantity ≡ 0 → nothing v ≡ removePlace n (Fails c) v
+  unfolding removePlace nothing placed withLegging stay goes
+  remove-place-free c h = simp (e, eq-eqb _ _ h)
       (ap (λ (ls : List Legging). record { venue = withLegging v ls; reports = [] })
       (sym (ap (λ (x : Legging). set (v .legging) n x) (sym e) ∙ set-getD (v .legging) n noLegging)))
 
-  pub clear-held : (c : Cause) → (l .quantity ≡ 0 → ⊥) → report (removed (l .parent) (n / 2) (n % 2) c) (placed n noLegging v) ≡ clearAt n (Fails c) v
-  unfolding clearAt report stay goes
-  clear-held c h = simp (e, ne-eqb _ _ h)
+  pub remove-place-held : (c : Cause) → (l .quantity ≡ 0 → ⊥) → report (removed (l .parent) (n / 2) (n % 2) c) (placed n noLegging v) ≡ removePlace n (Fails c) v
+  unfolding removePlace report stay goes
+  remove-place-held c h = simp (e, ne-eqb _ _ h)
 
 -- The places from n on ------------------------------------------------------------------------
 
@@ -83,8 +83,8 @@ module _ (f : ℕ → Legging → Verdict) (v : Venue) where
 
   -- one place, and then the rest
   module _ (n : ℕ) (x : Legging) (h : n < length (v .legging)) (e : getD (v .legging) n noLegging ≡ x) where
-    one-place : removeFrom f n v ≡ (clearAt n (f n x) v ⟫ removeFrom f (n + 1))
-    unfolding removeFrom _⟫_ stayers leavers withLegging clearAt placed
+    one-place : removeFrom f n v ≡ (removePlace n (f n x) v ⟫ removeFrom f (n + 1))
+    unfolding removeFrom _⟫_ stayers leavers withLegging removePlace placed
     one-place =
         let ls = v .legging in
         let y = stay (f n x) x in
@@ -94,16 +94,16 @@ module _ (f : ℕ → Legging → Verdict) (v : Venue) where
         rw (add-one, d, e, t, u, append-assoc)
 
     -- a turn of the loop: the place is cleared by its verdict
-    pub remove-turn : (y : Verdict) (w : Venue) (l m : List ℕ) (at j : ℕ) → f n x ≡ y → stage w l at ≡ seen m j does clearAt n y v →
+    pub remove-turn : (y : Verdict) (w : Venue) (l m : List ℕ) (at j : ℕ) → f n x ≡ y → stage w l at ≡ seen m j does removePlace n y v →
         seen l at does removeFrom f (n + 1) w ≡ seen m j does removeFrom f n v
     remove-turn y w l m at j q p =
-        sym (onward (seen m j) (clearAt n y v) (removeFrom f (n + 1)) w l at p)
-        ∙ ap (λ (z : Verdict). seen m j does (clearAt n z v ⟫ removeFrom f (n + 1))) (sym q)
+        sym (onward (seen m j) (removePlace n y v) (removeFrom f (n + 1)) w l at p)
+        ∙ ap (λ (z : Verdict). seen m j does (removePlace n z v ⟫ removeFrom f (n + 1))) (sym q)
         ∙ ap (λ (z : Effect). seen m j does z) (sym one-place)
 
     -- or it stands
-    stood : clearAt n Stands v ≡ nothing v
-    unfolding clearAt nothing placed withLegging stay goes
+    stood : removePlace n Stands v ≡ nothing v
+    unfolding removePlace nothing placed withLegging stay goes
     stood = ap (λ (ls : List Legging). record { venue = withLegging v ls; reports = [] }) (set-getD (v .legging) n noLegging)
 
     pub remove-past : (l : List ℕ) (at : ℕ) → f n x ≡ Stands → seen l at does removeFrom f (n + 1) v ≡ seen l at does removeFrom f n v
@@ -124,7 +124,7 @@ removing-start f b out at h = record { few = omega arith; whole = h; counts = re
 module _ (f : ℕ → Legging → Verdict) {b₀ out₀ b out : List ℕ} {at pos n : ℕ} (i : Removing f b₀ out₀ at b out pos n) where
   -- the order at place n goes
   pub removing-turn : (c : Cause) (b₁ out₁ : List ℕ) (r : ℕ) → n < 16 → f n (leggingIn b n) ≡ Fails c → length b₁ ≡ length b →
-      (stage (venueOf b₁) out₁ r ≡ seen out pos does clearAt n (Fails c) (venueOf b)) × SameCounts b b₁ → Removing f b₀ out₀ at b₁ out₁ r (n + 1)
+      (stage (venueOf b₁) out₁ r ≡ seen out pos does removePlace n (Fails c) (venueOf b)) × SameCounts b b₁ → Removing f b₀ out₀ at b₁ out₁ r (n + 1)
   removing-turn c b₁ out₁ r h e k q = record {
     few = omega arith;
     whole = k ∙ i .whole;

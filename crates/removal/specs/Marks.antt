@@ -14,8 +14,8 @@ use Rattle.rules.specs.Removal.{stay, goes}
 use Rattle.rules.specs.Generation.{placed}
 
 -- what the verdict x does at place n
-unfoldable pub clearAt : (place : ℕ) → Verdict → Venue → Effect
-clearAt n x v =
+unfoldable pub removePlace : (place : ℕ) → Verdict → Venue → Effect
+removePlace n x v =
     let l = getD (v .legging) n noLegging in
     record { venue = placed n (stay x l) v; reports = goes n x l }
 

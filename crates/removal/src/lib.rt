@@ -9,15 +9,15 @@ ghost use Rattle.rules.specs.Removal.{remove, removeOf, failIf};
 ghost use Rattle.records.specs.Seen.{seen};
 ghost use Rattle.records.specs.Stage.{stage, _does_};
 ghost use Rattle.places.specs.Layout.{size, venueOf, SameCounts};
-ghost use Rattle.removal.specs.Marks.{clearAt, verdictBy, markedBy};
+ghost use Rattle.removal.specs.Marks.{removePlace, verdictBy, markedBy};
 use rules::Cause;
 use rules::Legging;
 use rules::Verdict;
 
 // What stands at place n goes; a free place stays as it is.
-fn clear(numbers: &mut [u32], n: usize, cause: Cause, out: &mut [u8], at: usize) -> usize
+fn remove_place(numbers: &mut [u32], n: usize, cause: Cause, out: &mut [u8], at: usize) -> usize
     requires { ⌜ (length (now numbers) ≡ size) × (n < 16) ⌝ }
-    ensures { λ r. ⌜ stage (venueOf (now (numbers .exit))) (now (out .exit)) r ≡ seen (now (out .entry)) at does clearAt n (Fails cause) (venueOf (now (numbers .entry))) ⌝ }
+    ensures { λ r. ⌜ stage (venueOf (now (numbers .exit))) (now (out .exit)) r ≡ seen (now (out .entry)) at does removePlace n (Fails cause) (venueOf (now (numbers .entry))) ⌝ }
     ensures counts { λ _. ⌜ SameCounts (now (numbers .entry)) (now (numbers .exit)) ⌝ }
 {
     let l = places::legging_at(numbers, n);
@@ -48,7 +48,7 @@ pub fn remove_of(numbers: &mut [u32], parent: u32, cause: Cause, out: &mut [u8],
         if l.parent != parent {
             continue;
         }
-        pos = clear(numbers, place, cause, out, pos);
+        pos = remove_place(numbers, place, cause, out, pos);
     }
     pos
 }
@@ -72,11 +72,11 @@ pub fn remove_at(
         let place = n;
         n += 1;
         if place == n1 {
-            pos = clear(numbers, place, cause, out, pos);
+            pos = remove_place(numbers, place, cause, out, pos);
             continue;
         }
         if place == n2 {
-            pos = clear(numbers, place, cause, out, pos);
+            pos = remove_place(numbers, place, cause, out, pos);
             continue;
         }
     }
@@ -135,7 +135,7 @@ pub fn remove_marked(numbers: &mut [u32], marks: u64, out: &mut [u8], at: usize)
         let Verdict::Fails(cause) = found else {
             continue;
         };
-        pos = clear(numbers, place, cause, out, pos);
+        pos = remove_place(numbers, place, cause, out, pos);
     }
     pos
 }

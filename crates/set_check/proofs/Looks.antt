@@ -12,8 +12,8 @@ use Rattle.rules.specs.Bytes.{kindField, u8At, u32At}
 use Rattle.rules.specs.Messages.{twoLegAt}
 use Rattle.rules.proofs.Tests.{and-l, and-r}
 use Rattle.sets.specs.Set.{part, mark, generationTold, tellsEdition, tellsRegular, tellsComplex, tellsLegging, tellsGeneration, ofWhole, ofShort, complexTold, hasPlace}
-use Rattle.set_check.specs.declared.Standing.{Standing}
-use Rattle.set_check.specs.Order.{opens, ofThis, sameSeries, mayStand, isNext, runWith, few, oneIf, nextStage, isWhole, onward}
+use Rattle.set_check.specs.declared.SetProgress.{SetProgress}
+use Rattle.set_check.specs.Order.{opens, ofThis, sameSeries, mayStand, isNext, runWith, few, oneIf, openedAfter, isWhole, onward}
 
 or-none : (b : Bool) → (b || false) ≡ b
 or-none true = refl
@@ -100,7 +100,7 @@ module _ (r : List ℕ) where
   unfolding ofShort
   short-order k z e = rw (e, z) (sym (or-none (not (eqb (kindField r) 9))))
 
-  module _ (st : Standing) where
+  module _ (st : SetProgress) where
     pub this-whole : (t : Bool) → st .whole ≡ true → t ≡ ofWhole r → t ≡ ofThis st r
     unfolding ofThis
     this-whole t w e = rw w e
@@ -111,22 +111,22 @@ module _ (r : List ℕ) where
 
     -- The first records -------------------------------------------------------------------------
 
-    pub open-whole : st .stage ≡ 0 → kindField r ≡ 80 → true ≡ opens st r
+    pub open-whole : st .opened ≡ 0 → kindField r ≡ 80 → true ≡ opens st r
     unfolding opens
-    open-whole e k = rw (eq-eqb (st .stage) 0 e, eq-eqb (kindField r) 80 k)
+    open-whole e k = rw (eq-eqb (st .opened) 0 e, eq-eqb (kindField r) 80 k)
 
-    pub open-other : (k : ℕ) → st .stage ≡ 0 → k ≡ kindField r → (k ≡ 80 → ⊥) → eqb k 81 ≡ opens st r
+    pub open-other : (k : ℕ) → st .opened ≡ 0 → k ≡ kindField r → (k ≡ 80 → ⊥) → eqb k 81 ≡ opens st r
     unfolding opens
-    open-other k e z n = rw (eq-eqb (st .stage) 0 e, ← z, ne-eqb k 80 n)
+    open-other k e z n = rw (eq-eqb (st .opened) 0 e, ← z, ne-eqb k 80 n)
 
-    module _ (k due : ℕ) (some : st .stage ≡ 0 → ⊥) (z : k ≡ kindField r) (d : due ≡ 4 + st .stage % 2) where
+    module _ (k due : ℕ) (some : st .opened ≡ 0 → ⊥) (z : k ≡ kindField r) (d : due ≡ 4 + st .opened % 2) where
       pub open-not : (k ≡ due → ⊥) → false ≡ opens st r
       unfolding opens
-      open-not n = rw (ne-eqb (st .stage) 0 some, ← z, ← d, ne-eqb k due n)
+      open-not n = rw (ne-eqb (st .opened) 0 some, ← z, ← d, ne-eqb k due n)
 
-      pub open-series : (x : ℕ) → k ≡ due → x ≡ u8At r 4 → eqb x ((st .stage - 1) / 2) ≡ opens st r
+      pub open-series : (x : ℕ) → k ≡ due → x ≡ u8At r 4 → eqb x ((st .opened - 1) / 2) ≡ opens st r
       unfolding opens
-      open-series x e w = rw (ne-eqb (st .stage) 0 some, ← z, ← d, eq-eqb k due e, ← w)
+      open-series x e w = rw (ne-eqb (st .opened) 0 some, ← z, ← d, eq-eqb k due e, ← w)
 
     -- Order -------------------------------------------------------------------------------------
 
@@ -159,17 +159,17 @@ module _ (r : List ℕ) where
       unfolding mayStand
       stand-told k h s z = rw (le-ltb (st .part) (part r) (omega arith), eq-eqb (st .part) (part r) e, le-ltb (st .mark) (mark r) h, s, z)
 
-    pub next-opens : (t : Bool) → st .stage < 17 → t ≡ opens st r → t ≡ isNext st r
+    pub next-opens : (t : Bool) → st .opened < 17 → t ≡ opens st r → t ≡ isNext st r
     unfolding isNext
-    next-opens t h e = rw (lt-ltb (st .stage) 17 h) e
+    next-opens t h e = rw (lt-ltb (st .opened) 17 h) e
 
-    pub next-not : 17 ≤ st .stage → ofThis st r ≡ false → false ≡ isNext st r
+    pub next-not : 17 ≤ st .opened → ofThis st r ≡ false → false ≡ isNext st r
     unfolding isNext
-    next-not h e = rw (le-ltb (st .stage) 17 h, e)
+    next-not h e = rw (le-ltb (st .opened) 17 h, e)
 
-    pub next-stands : (t : Bool) → 17 ≤ st .stage → ofThis st r ≡ true → t ≡ mayStand st r → t ≡ isNext st r
+    pub next-stands : (t : Bool) → 17 ≤ st .opened → ofThis st r ≡ true → t ≡ mayStand st r → t ≡ isNext st r
     unfolding isNext
-    next-stands t h e z = rw (le-ltb (st .stage) 17 h, e) z
+    next-stands t h e z = rw (le-ltb (st .opened) 17 h, e) z
 
     pub run-same : (n : ℕ) → sameSeries st r ≡ true → n ≡ oneIf (tellsGeneration r) → st .run + n ≡ runWith st r
     unfolding runWith
@@ -268,7 +268,7 @@ module _ (r : List ℕ) where
 
 -- Counts ----------------------------------------------------------------------------------------
 
-module _ (st : Standing) where
+module _ (st : SetProgress) where
   pub record Few : Type 0 where
     pub editions : st .editions ≤ 32
     pub regulars : st .regulars ≤ 128
@@ -309,10 +309,10 @@ module _ (st : Standing) where
   few-run a b c d = rw (le-leb (st .editions) 32 a, le-leb (st .regulars) 128 b, le-leb (st .complexes) 32 c, le-leb (st .leggings) 16 d)
 
   -- a standing made of its parts
-  pub onward-made : (r : List ℕ) (a : ℕ) (b : Bool) (k m t e n x l u : ℕ) (p : Bool) → a ≡ nextStage st → b ≡ isWhole st r → k ≡ part r → m ≡ mark r → t ≡ generationTold r →
+  pub onward-made : (r : List ℕ) (a : ℕ) (b : Bool) (k m t e n x l u : ℕ) (p : Bool) → a ≡ openedAfter st → b ≡ isWhole st r → k ≡ part r → m ≡ mark r → t ≡ generationTold r →
       e ≡ oneIf (tellsEdition r) → n ≡ oneIf (tellsRegular r) → x ≡ oneIf (tellsComplex r) → l ≡ oneIf (tellsLegging r) → u ≡ runWith st r → p ≡ (st .placed && hasPlace r) →
-      _≡_ {A = Standing} (record {
-        stage = a;
+      _≡_ {A = SetProgress} (record {
+        opened = a;
         whole = b;
         part = k;
         mark = m;

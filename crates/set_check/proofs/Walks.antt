@@ -15,7 +15,7 @@ use Rattle.rules.proofs.Tests.{or-false-l, or-false-r, and-false}
 use Rattle.sets.specs.Set.{Held, broken, row, behind, heldFrom, heldIn, setLength, hasPlace}
 use Rattle.set_check.specs.declared.Front.{Front}
 use Rattle.set_check.specs.declared.Front.the-variants.{End, Broken, Record}
-use Rattle.set_check.specs.declared.Standing.{Standing}
+use Rattle.set_check.specs.declared.SetProgress.{SetProgress}
 use Rattle.set_check.specs.Order.{frontOf, isNext, onward, few, goesOn, lookedAt}
 
 -- Records held --------------------------------------------------------------------------------
@@ -100,7 +100,7 @@ in-front bs n e = go (eqb (lengthField bs) 0) (bad bs) refl e
 
 -- The standing after a record -------------------------------------------------------------------
 
-module _ (st : Standing) (r : List ℕ) where
+module _ (st : SetProgress) (r : List ℕ) where
   -- a record that may not stand there, or is one too many
   pub looked-wrong : (isNext st r && few (onward st r)) ≡ false → (h : Held) → lookedAt st (behind r h) ≡ 16
   unfolding behind lookedAt goesOn
@@ -118,14 +118,14 @@ module _ (st : Standing) (r : List ℕ) where
       let p : (st .placed && all hasPlace (r ∷ rs)) ≡ (onward st r .placed && all hasPlace rs) = unfold all onward in and-assoc (st .placed) (hasPlace r) (all hasPlace rs) in
       rw (e, f, p)
 
-module _ (st : Standing) (bs : List ℕ) (n : ℕ) (e : frontOf bs ≡ Record n) (k : ℕ) where
+module _ (st : SetProgress) (bs : List ℕ) (n : ℕ) (e : frontOf bs ≡ Record n) (k : ℕ) where
   step-held : k ≡ n → heldIn bs ≡ behind (take k bs) (heldIn (drop n bs))
   step-held same = in-front bs n e .held ∙ ap (λ (j : ℕ). behind (take j bs) (heldIn (drop n bs))) (sym same)
 
   pub step-not : isNext st (take k bs) ≡ false → k ≡ n → 16 ≡ lookedAt st (heldIn bs)
   step-not h same = sym (ap (lookedAt st) (step-held same) ∙ looked-wrong st (take k bs) (rw h) (heldIn (drop n bs)))
 
-  module _ (after : Standing) (passed : after ≡ onward st (take k bs)) where
+  module _ (after : SetProgress) (passed : after ≡ onward st (take k bs)) where
     pub step-many : few after ≡ false → k ≡ n → 16 ≡ lookedAt st (heldIn bs)
     step-many h same =
         let f : few (onward st (take k bs)) ≡ false = sym (ap few passed) ∙ h in
@@ -133,5 +133,5 @@ module _ (st : Standing) (bs : List ℕ) (n : ℕ) (e : frontOf bs ≡ Record n)
 
     pub step-on : isNext st (take k bs) ≡ true → few after ≡ true → k ≡ n → lookedAt after (heldIn (drop n bs)) ≡ lookedAt st (heldIn bs)
     step-on h f same =
-        ap (λ (x : Standing). lookedAt x (heldIn (drop n bs))) passed
+        ap (λ (x : SetProgress). lookedAt x (heldIn (drop n bs))) passed
         ∙ sym (ap (lookedAt st) (step-held same) ∙ looked-on st (take k bs) h (sym (ap few passed) ∙ f) (heldIn (drop n bs)))

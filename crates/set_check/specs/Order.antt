@@ -10,7 +10,7 @@ use Rattle.rules.specs.Refusals.{torn}
 use Rattle.sets.specs.Set.{Held, broken, row, setLength, part, mark, generationTold, tellsEdition, tellsRegular, tellsComplex, tellsLegging, tellsGeneration, ofWhole, ofShort, hasPlace}
 use Rattle.set_check.specs.declared.Front.{Front}
 use Rattle.set_check.specs.declared.Front.the-variants.{End, Broken, Record}
-use Rattle.set_check.specs.declared.Standing.{Standing}
+use Rattle.set_check.specs.declared.SetProgress.{SetProgress}
 
 -- Frames --------------------------------------------------------------------------------------
 
@@ -28,9 +28,9 @@ abbrev pub opening : ℕ
 opening = 17
 
 -- nothing read yet
-unfoldable pub noneRead : Standing
+unfoldable pub noneRead : SetProgress
 noneRead = record {
-  stage = 0;
+  opened = 0;
   whole = false;
   part = 0;
   mark = 0;
@@ -44,25 +44,25 @@ noneRead = record {
 }
 
 -- one of the first records: of kind 80 or 81, and then of kinds 5 and 4 for each series in turn
-unfoldable pub opens : Standing → List ℕ → Bool
+unfoldable pub opens : SetProgress → List ℕ → Bool
 opens st r =
-    if eqb (st .stage) 0 then eqb (kindField r) 80 || eqb (kindField r) 81
-    else eqb (kindField r) (4 + st .stage % 2) && eqb (u8At r 4) ((st .stage - 1) / 2)
+    if eqb (st .opened) 0 then eqb (kindField r) 80 || eqb (kindField r) 81
+    else eqb (kindField r) (4 + st .opened % 2) && eqb (u8At r 4) ((st .opened - 1) / 2)
 
 -- a record after them is of a kind that this set has
-unfoldable pub ofThis : Standing → List ℕ → Bool
+unfoldable pub ofThis : SetProgress → List ℕ → Bool
 ofThis st r = if st .whole then ofWhole r else ofShort r
 
 -- generations of one series
-unfoldable pub sameSeries : Standing → List ℕ → Bool
+unfoldable pub sameSeries : SetProgress → List ℕ → Bool
 sameSeries st r = eqb (st .part) 4 && eqb (st .mark) (mark r)
 
 -- it may stand after the record before it
-unfoldable pub mayStand : Standing → List ℕ → Bool
+unfoldable pub mayStand : SetProgress → List ℕ → Bool
 mayStand st r = ltb (st .part) (part r) || (eqb (st .part) (part r) && (ltb (st .mark) (mark r) || (sameSeries st r && leb (st .told) (generationTold r))))
 
-unfoldable pub isNext : Standing → List ℕ → Bool
-isNext st r = if ltb (st .stage) opening then opens st r else (ofThis st r && mayStand st r)
+unfoldable pub isNext : SetProgress → List ℕ → Bool
+isNext st r = if ltb (st .opened) opening then opens st r else (ofThis st r && mayStand st r)
 
 -- 1 for what is so
 unfoldable pub oneIf : Bool → ℕ
@@ -70,21 +70,21 @@ oneIf true = 1
 oneIf false = 0
 
 -- how many of the first records were read, this one too
-unfoldable pub nextStage : Standing → ℕ
-nextStage st = if ltb (st .stage) opening then st .stage + 1 else st .stage
+unfoldable pub openedAfter : SetProgress → ℕ
+openedAfter st = if ltb (st .opened) opening then st .opened + 1 else st .opened
 
 -- the first record tells a whole set from a short one
-unfoldable pub isWhole : Standing → List ℕ → Bool
-isWhole st r = if eqb (st .stage) 0 then eqb (kindField r) 80 else st .whole
+unfoldable pub isWhole : SetProgress → List ℕ → Bool
+isWhole st r = if eqb (st .opened) 0 then eqb (kindField r) 80 else st .whole
 
 -- how many generations of one series there are in a row, this record too
-unfoldable pub runWith : Standing → List ℕ → ℕ
+unfoldable pub runWith : SetProgress → List ℕ → ℕ
 runWith st r = if sameSeries st r then st .run + oneIf (tellsGeneration r) else oneIf (tellsGeneration r)
 
 -- what a record leaves of the standing before it
-unfoldable pub onward : Standing → List ℕ → Standing
+unfoldable pub onward : SetProgress → List ℕ → SetProgress
 onward st r = record {
-  stage = nextStage st;
+  opened = openedAfter st;
   whole = isWhole st r;
   part = part r;
   mark = mark r;
@@ -98,15 +98,15 @@ onward st r = record {
 }
 
 -- not one too many
-unfoldable pub few : Standing → Bool
+unfoldable pub few : SetProgress → Bool
 few st = leb (st .editions) 32 && leb (st .regulars) 128 && leb (st .complexes) 32 && leb (st .leggings) 16 && leb (st .run) 20
 
 -- from a standing on, the records are those of a set, to its end
-unfoldable pub goesOn : Standing → List (List ℕ) → Bool
-goesOn st [] = not (ltb (st .stage) opening)
+unfoldable pub goesOn : SetProgress → List (List ℕ) → Bool
+goesOn st [] = not (ltb (st .opened) opening)
 goesOn st (r ∷ rs) = isNext st r && few (onward st r) && goesOn (onward st r) rs
 
 -- 0, 16 or 9 from a standing on: "16 comes before 9"
-unfoldable pub lookedAt : Standing → Held → ℕ
+unfoldable pub lookedAt : SetProgress → Held → ℕ
 lookedAt st broken = 16
 lookedAt st (row rs) = if goesOn st rs then (if st .placed && all hasPlace rs then 0 else 9) else 16

@@ -10,7 +10,7 @@ ghost use Rattle.rules.specs.Words.{placeOf, isSeries, isSide, oneToOne};
 ghost use Rattle.rules.specs.Bytes.{u8At, u32At, kindField};
 ghost use Rattle.sets.specs.Set.{setLength, part, mark, generationTold, tellsEdition, tellsRegular, tellsComplex, tellsLegging, tellsGeneration, ofWhole, ofShort, hasPlace, complexTold};
 ghost use Rattle.sets.specs.Set.{row, heldIn};
-ghost use Rattle.set_check.specs.Order.{frontOf, noneRead, opens, ofThis, sameSeries, mayStand, isNext, oneIf, nextStage, isWhole, runWith, onward, few, lookedAt};
+ghost use Rattle.set_check.specs.Order.{frontOf, noneRead, opens, ofThis, sameSeries, mayStand, isNext, oneIf, openedAfter, isWhole, runWith, onward, few, lookedAt};
 
 // Records -------------------------------------------------------------------------------------
 
@@ -219,8 +219,8 @@ pub fn told_of(r: &[u8]) -> u32
 
 // Where the reading stands: how many of the first records were read, whether the set is a whole one, part, mark and message number of the record before, how
 // many of each part there were and of generations of the present series, and whether all had a place.
-pub struct Standing {
-    stage: u8,
+pub struct SetProgress {
+    opened: u8,
     whole: bool,
     part: u8,
     mark: u32,
@@ -234,11 +234,11 @@ pub struct Standing {
 }
 
 // Where the reading stands before the first record.
-fn none_read() -> Standing
+fn none_read() -> SetProgress
     ensures { λ r. ⌜ r ≡ noneRead ⌝ }
 {
-    Standing {
-        stage: 0,
+    SetProgress {
+        opened: 0,
         whole: false,
         part: 0,
         mark: 0,
@@ -253,22 +253,22 @@ fn none_read() -> Standing
 }
 
 // One of the first records: of kind 80 or 81, and then of kinds 5 and 4 for each series in turn.
-fn is_opening(st: Standing, r: &[u8]) -> bool
+fn is_opening(st: SetProgress, r: &[u8]) -> bool
     ensures { λ t. ⌜ t ≡ opens st (now (r .entry)) ⌝ }
 {
     let kind = kind_of(r);
-    let stage = st.stage;
-    if stage == 0 {
+    let opened = st.opened;
+    if opened == 0 {
         if kind == 80 {
             return true;
         }
         return kind == 81;
     }
-    let due = 4 + (stage % 2) as u16;
+    let due = 4 + (opened % 2) as u16;
     if kind != due {
         return false;
     }
-    wire::u8_at(r, 4) == (stage - 1) / 2
+    wire::u8_at(r, 4) == (opened - 1) / 2
 }
 
 // A record of a whole set.
@@ -296,7 +296,7 @@ fn of_short(r: &[u8]) -> bool
 }
 
 // A record is one of the kind of set that is read, whole or short.
-fn of_this(st: Standing, r: &[u8]) -> bool
+fn of_this(st: SetProgress, r: &[u8]) -> bool
     ensures { λ t. ⌜ t ≡ ofThis st (now (r .entry)) ⌝ }
 {
     if st.whole {
@@ -306,7 +306,7 @@ fn of_this(st: Standing, r: &[u8]) -> bool
 }
 
 // A generation is of the series of the record before it, a generation too.
-fn same_series(st: Standing, r: &[u8]) -> bool
+fn same_series(st: SetProgress, r: &[u8]) -> bool
     ensures { λ t. ⌜ t ≡ sameSeries st (now (r .entry)) ⌝ }
 {
     if st.part != 4 {
@@ -316,7 +316,7 @@ fn same_series(st: Standing, r: &[u8]) -> bool
 }
 
 // A record may stand after the one before it.
-fn may_stand(st: Standing, r: &[u8]) -> bool
+fn may_stand(st: SetProgress, r: &[u8]) -> bool
     ensures { λ t. ⌜ t ≡ mayStand st (now (r .entry)) ⌝ }
 {
     let part = part_of(r);
@@ -336,10 +336,10 @@ fn may_stand(st: Standing, r: &[u8]) -> bool
 }
 
 // A record may stand where the reading stands.
-fn is_next(st: Standing, r: &[u8]) -> bool
+fn is_next(st: SetProgress, r: &[u8]) -> bool
     ensures { λ t. ⌜ t ≡ isNext st (now (r .entry)) ⌝ }
 {
-    if st.stage < 17 {
+    if st.opened < 17 {
         return is_opening(st, r);
     }
     if !of_this(st, r) {
@@ -441,28 +441,28 @@ fn one_if(b: bool) -> u8
 }
 
 // How many of the first records are read after one more record.
-fn next_stage(st: Standing) -> u8
-    ensures { λ r. ⌜ r ≡ nextStage st ⌝ }
+fn opened_after(st: SetProgress) -> u8
+    ensures { λ r. ⌜ r ≡ openedAfter st ⌝ }
 {
-    let stage = st.stage;
-    if stage < 17 {
-        return stage + 1;
+    let opened = st.opened;
+    if opened < 17 {
+        return opened + 1;
     }
-    stage
+    opened
 }
 
 // The set is a whole one, as its first record says.
-fn is_whole(st: Standing, r: &[u8]) -> bool
+fn is_whole(st: SetProgress, r: &[u8]) -> bool
     ensures { λ t. ⌜ t ≡ isWhole st (now (r .entry)) ⌝ }
 {
-    if st.stage == 0 {
+    if st.opened == 0 {
         return kind_of(r) == 80;
     }
     st.whole
 }
 
 // How many generations of the present series there are with this record.
-fn run_with(st: Standing, r: &[u8]) -> u8
+fn run_with(st: SetProgress, r: &[u8]) -> u8
     requires { ⌜ few st ≡ true ⌝ }
     ensures { λ n. ⌜ n ≡ runWith st (now (r .entry)) ⌝ }
 {
@@ -474,7 +474,7 @@ fn run_with(st: Standing, r: &[u8]) -> u8
 }
 
 // This record and every record before it has a place.
-fn still_placed(st: Standing, r: &[u8]) -> bool
+fn still_placed(st: SetProgress, r: &[u8]) -> bool
     ensures { λ t. ⌜ t ≡ (st .placed && hasPlace (now (r .entry))) ⌝ }
 {
     if !st.placed {
@@ -484,12 +484,12 @@ fn still_placed(st: Standing, r: &[u8]) -> bool
 }
 
 // What a record leaves of the standing before it.
-fn passed(st: Standing, r: &[u8]) -> Standing
+fn passed(st: SetProgress, r: &[u8]) -> SetProgress
     requires { ⌜ few st ≡ true ⌝ }
     ensures { λ t. ⌜ t ≡ onward st (now (r .entry)) ⌝ }
 {
-    Standing {
-        stage: next_stage(st),
+    SetProgress {
+        opened: opened_after(st),
         whole: is_whole(st, r),
         part: part_of(r),
         mark: mark_of(r),
@@ -504,7 +504,7 @@ fn passed(st: Standing, r: &[u8]) -> Standing
 }
 
 // Not one too many.
-fn are_few(st: Standing) -> bool
+fn are_few(st: SetProgress) -> bool
     ensures { λ t. ⌜ t ≡ few st ⌝ }
 {
     if 32 < st.editions {
@@ -523,10 +523,10 @@ fn are_few(st: Standing) -> bool
 }
 
 // The answer where the set ends.
-fn ended(st: Standing) -> u8
+fn ended(st: SetProgress) -> u8
     ensures { λ n. ⌜ n ≡ lookedAt st (row []) ⌝ }
 {
-    if st.stage < 17 {
+    if st.opened < 17 {
         return 16;
     }
     if !st.placed {

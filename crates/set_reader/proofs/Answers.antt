@@ -9,7 +9,7 @@ use Rattle.rules.specs.declared.Venue.{Venue}
 use Rattle.rules.specs.Base.{if_then_else_, all}
 use Rattle.sets.specs.Set.{Held, broken, row, heldIn, isSet, hasPlace, carries, numberTold, venueTold, ReadSet, notRead, readRow, readSet}
 use Rattle.set_check.specs.Order.{noneRead, goesOn, lookedAt}
-use Rattle.set_tables.specs.Told.{rowIn, Taken}
+use Rattle.set_tables.specs.Told.{rowIn, ReadableSet}
 use Rattle.set_tables.proofs.Ordered.{set-goes}
 use Rattle.set_tables.proofs.Filling.{row-in}
 
@@ -23,17 +23,17 @@ unfolding lookedAt
 looked-broken = refl
 
 module _ (m : List ℕ) where
-  pub looked-taken : 0 ≡ lookedAt noneRead (heldIn m) → Taken m
+  pub looked-taken : 0 ≡ lookedAt noneRead (heldIn m) → ReadableSet m
   looked-taken h = go (heldIn m) refl h
     where
-      both : (rs : List (List ℕ)) → heldIn m ≡ row rs → (s p : Bool) → isSet rs ≡ s → all hasPlace rs ≡ p → _≡_ {A = ℕ} 0 (if s then (if p then 0 else 9) else 16) → Taken m
+      both : (rs : List (List ℕ)) → heldIn m ≡ row rs → (s p : Bool) → isSet rs ≡ s → all hasPlace rs ≡ p → _≡_ {A = ℕ} 0 (if s then (if p then 0 else 9) else 16) → ReadableSet m
       both rs e true true f g k =
           let i = row-in m rs e in
           record { framed = e ∙ ap row (sym i); ordered = ap isSet i ∙ f; placed = ap (all hasPlace) i ∙ g }
       both rs e true false f g k = absurd (omega arith)
       both rs e false p f g k = absurd (omega arith)
 
-      go : (x : Held) → heldIn m ≡ x → 0 ≡ lookedAt noneRead x → Taken m
+      go : (x : Held) → heldIn m ≡ x → 0 ≡ lookedAt noneRead x → ReadableSet m
       go broken e k = let z = k ∙ looked-broken in absurd (omega arith)
       go (row rs) e k = both rs e (isSet rs) (all hasPlace rs) refl refl (k ∙ looked-set rs)
 
@@ -54,7 +54,7 @@ module _ (m : List ℕ) where
       go broken e k = ap notRead (k ∙ looked-broken) ∙ sym (held-read broken e)
       go (row rs) e k = both rs (isSet rs) (all hasPlace rs) refl refl (k ∙ looked-set rs) ∙ sym (held-read (row rs) e)
 
-  module _ (t : Taken m) (v : Venue) (told : v ≡ venueTold (rowIn m)) (number : ℕ) (says : number ≡ numberTold (rowIn m)) (ready : Bool) (asked : ready ≡ carries number v) where
+  module _ (t : ReadableSet m) (v : Venue) (told : v ≡ venueTold (rowIn m)) (number : ℕ) (says : number ≡ numberTold (rowIn m)) (ready : Bool) (asked : ready ≡ carries number v) where
     same : ready ≡ carries (numberTold (rowIn m)) (venueTold (rowIn m))
     same = asked ∙ ap₂ carries says told
 

@@ -17,7 +17,7 @@ use Rattle.sets.proofs.Rows.{Well, AllWell, held-out}
 use Rattle.set_check.specs.declared.Front.{Front}
 use Rattle.set_check.specs.declared.Front.the-variants.{End, Broken, Record}
 use Rattle.set_check.specs.Order.{frontOf, oneIf}
-use Rattle.set_tables.specs.Told.{rowIn, Taken}
+use Rattle.set_tables.specs.Told.{rowIn, ReadableSet}
 use Rattle.set_check.proofs.Walks.{InFront, in-front, held-ended, held-broken}
 use Rattle.set_tables.proofs.Ordered.{count-more}
 

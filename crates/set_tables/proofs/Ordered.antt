@@ -14,8 +14,8 @@ use Rattle.rules.proofs.Tests.{and-in, and-l, and-r, and-false, or-false-l, or-
 use Rattle.sets.specs.Set.{part, mark, generationTold, mayFollow, inOrder, countOf, ofSeries, fewEnough, ofWhole, ofShort, seriesThen, isSet}
 use Rattle.sets.specs.Set.{tellsEdition, tellsRegular, tellsComplex, tellsLegging, tellsGeneration}
 use Rattle.sets.proofs.Parts.{sort, sort-of, whether}
-use Rattle.set_check.specs.declared.Standing.{Standing}
-use Rattle.set_check.specs.Order.{opening, noneRead, opens, ofThis, sameSeries, mayStand, isNext, oneIf, nextStage, isWhole, runWith, onward, few, goesOn}
+use Rattle.set_check.specs.declared.SetProgress.{SetProgress}
+use Rattle.set_check.specs.Order.{opening, noneRead, opens, ofThis, sameSeries, mayStand, isNext, oneIf, openedAfter, isWhole, runWith, onward, few, goesOn}
 use Rattle.set_check.proofs.Looks.{Few, few-in, few-out}
 
 -- two tests that follow from each other are equal
@@ -37,26 +37,26 @@ count-more f r rs = go (f r)
 -- Order ---------------------------------------------------------------------------------------
 
 -- from a standing on
-abbrev pub InOrder : Standing → List (List ℕ) → Type 0
+abbrev pub InOrder : SetProgress → List (List ℕ) → Type 0
 InOrder st [] = Unit {0}
 InOrder st (r ∷ rs) = (mayStand st r ≡ true) × (inOrder (r ∷ rs) ≡ true)
 
-follows-stands : (st : Standing) (q r : List ℕ) → mayStand (onward st q) r ≡ mayFollow q r
+follows-stands : (st : SetProgress) (q r : List ℕ) → mayStand (onward st q) r ≡ mayFollow q r
 unfolding mayStand sameSeries onward mayFollow
 follows-stands st q r = refl
 
-pub order-on : (st : Standing) (r : List ℕ) (rs : List (List ℕ)) → inOrder (r ∷ rs) ≡ true → InOrder (onward st r) rs
+pub order-on : (st : SetProgress) (r : List ℕ) (rs : List (List ℕ)) → inOrder (r ∷ rs) ≡ true → InOrder (onward st r) rs
 unfolding inOrder
 order-on st r [] h = tt
 order-on st r (q ∷ rs) h = (follows-stands st r q ∙ and-l (mayFollow r q) (inOrder (q ∷ rs)) h, and-r (mayFollow r q) (inOrder (q ∷ rs)) h)
 
-order-back : (st : Standing) (r : List ℕ) (rs : List (List ℕ)) → InOrder (onward st r) rs → inOrder (r ∷ rs) ≡ true
+order-back : (st : SetProgress) (r : List ℕ) (rs : List (List ℕ)) → InOrder (onward st r) rs → inOrder (r ∷ rs) ≡ true
 unfolding inOrder
 order-back st r [] h = refl
 order-back st r (q ∷ rs) h = and-in (mayFollow r q) (inOrder (q ∷ rs)) (sym (follows-stands st r q) ∙ h .0) (h .1)
 
 -- of a later part, or of the same with a mark that has not fallen
-pub stand-out : (st : Standing) (r : List ℕ) → mayStand st r ≡ true → (st .part < part r) ⊎ ((st .part ≡ part r) × (st .mark ≤ mark r))
+pub stand-out : (st : SetProgress) (r : List ℕ) → mayStand st r ≡ true → (st .part < part r) ⊎ ((st .part ≡ part r) × (st .mark ≤ mark r))
 unfolding mayStand sameSeries
 stand-out st r h = go (ltb (st .part) (part r)) (eqb (st .part) (part r)) (ltb (st .mark) (mark r)) (eqb (st .part) 4) (eqb (st .mark) (mark r)) refl refl refl refl h
   where
@@ -89,22 +89,22 @@ unfolding ofSeries
 of-series x r g e = rw (g, eq-eqb (u8At r 4) x e)
 
 -- those of series x so far, where x is the series of the record before
-pub carried : Standing → ℕ → ℕ
+pub carried : SetProgress → ℕ → ℕ
 carried st x = if eqb (st .part) 4 && eqb (st .mark) x then st .run else 0
 
-carried-is : (st : Standing) (x : ℕ) → carried st x ≡ (if eqb (st .part) 4 && eqb (st .mark) x then st .run else 0)
+carried-is : (st : SetProgress) (x : ℕ) → carried st x ≡ (if eqb (st .part) 4 && eqb (st .mark) x then st .run else 0)
 unfolding carried
 carried-is st x = refl
 
 -- no more of series x may follow
-abbrev Past : Standing → ℕ → Type 0
+abbrev Past : SetProgress → ℕ → Type 0
 Past st x = (4 < st .part) ⊎ ((st .part ≡ 4) × (x < st .mark))
 
-past-after : (st : Standing) (x : ℕ) (r : List ℕ) → (4 < part r) ⊎ ((part r ≡ 4) × (x < mark r)) → Past (onward st r) x
+past-after : (st : SetProgress) (x : ℕ) (r : List ℕ) → (4 < part r) ⊎ ((part r ≡ 4) × (x < mark r)) → Past (onward st r) x
 unfolding onward
 past-after st x r p = p
 
-past-not : (st : Standing) (x : ℕ) (r : List ℕ) → Past (onward st r) x → ofSeries x r ≡ false
+past-not : (st : SetProgress) (x : ℕ) (r : List ℕ) → Past (onward st r) x → ofSeries x r ≡ false
 unfolding ofSeries onward
 past-not st x r p = go (tellsGeneration r) refl
   where
@@ -115,13 +115,13 @@ past-not st x r p = go (tellsGeneration r) refl
         let m = gen-mark r e in
         ne-eqb (u8At r 4) x (λ z. ⊎-elim (λ l. omega arith) (λ l. let y = l .1 in omega arith) p)
 
-past-on : (st : Standing) (x : ℕ) (r : List ℕ) → mayStand st r ≡ true → Past st x → Past (onward st r) x
+past-on : (st : SetProgress) (x : ℕ) (r : List ℕ) → mayStand st r ≡ true → Past st x → Past (onward st r) x
 unfolding onward
 past-on st x r h p =
     ⊎-elim (λ l. ⊎-elim (λ k. inl (omega arith)) (λ k. inl (omega arith)) p)
     (λ l. let e = l .0 in let m = l .1 in ⊎-elim (λ k. inl (omega arith)) (λ k. let i = k .0 in let j = k .1 in inr (omega arith, omega arith)) p) (stand-out st r h)
 
-gone : (x : ℕ) (rs : List (List ℕ)) (st : Standing) → InOrder st rs → Past st x → countOf (ofSeries x) rs ≡ 0
+gone : (x : ℕ) (rs : List (List ℕ)) (st : SetProgress) → InOrder st rs → Past st x → countOf (ofSeries x) rs ≡ 0
 gone x [] st h p = unfold countOf keep in refl
 gone x (r ∷ rs) st h p =
     let q = past-on st x r (h .0) p in
@@ -129,7 +129,7 @@ gone x (r ∷ rs) st h p =
     let g = gone x rs (onward st r) (order-on st r rs (h .1)) q in
     count-more (ofSeries x) r rs ∙ rw (e, g) (unfold oneIf in refl)
 
-carried-on : (st : Standing) (x : ℕ) (r : List ℕ) → ofSeries x r ≡ true → carried (onward st r) x ≡ carried st x + 1
+carried-on : (st : SetProgress) (x : ℕ) (r : List ℕ) → ofSeries x r ≡ true → carried (onward st r) x ≡ carried st x + 1
 unfolding carried onward runWith sameSeries
 carried-on st x r h =
     let g : tellsGeneration r ≡ true = and-l (tellsGeneration r) (eqb (u8At r 4) x) (unfold ofSeries in h) in
@@ -141,7 +141,7 @@ carried-on st x r h =
     go true = unfold oneIf in refl
     go false = unfold oneIf in refl
 
-carried-off : (st : Standing) (x : ℕ) (r : List ℕ) → ofSeries x r ≡ false → carried (onward st r) x ≡ 0
+carried-off : (st : SetProgress) (x : ℕ) (r : List ℕ) → ofSeries x r ≡ false → carried (onward st r) x ≡ 0
 unfolding carried onward
 carried-off st x r h = go (eqb (part r) 4) (eqb (mark r) x) refl refl
   where
@@ -154,7 +154,7 @@ carried-off st x r h = go (eqb (part r) 4) (eqb (mark r) x) refl refl
         let y : u8At r 4 ≡ x = sym m ∙ eqb-true (mark r) x f in
         absurd (true≢false (sym (of-series x r g y) ∙ h))
 
-module _ (st : Standing) (r : List ℕ) (rs : List (List ℕ)) (x : ℕ) where
+module _ (st : SetProgress) (r : List ℕ) (rs : List (List ℕ)) (x : ℕ) where
   series-on : carried st x + countOf (ofSeries x) (r ∷ rs) ≤ 20 → carried (onward st r) x + countOf (ofSeries x) rs ≤ 20
   unfolding oneIf
   series-on h = go (ofSeries x r) refl (count-more (ofSeries x) r rs)
@@ -200,7 +200,7 @@ kindsOf true = ofWhole
 kindsOf false = ofShort
 
 -- what is so of the records from a standing on
-module _ (st : Standing) (rs : List (List ℕ)) where
+module _ (st : SetProgress) (rs : List (List ℕ)) where
   pub record Fine : Type 0 where
     pub kinds : all (kindsOf (st .whole)) rs ≡ true
     pub order : InOrder st rs
@@ -211,9 +211,9 @@ module _ (st : Standing) (rs : List (List ℕ)) where
     pub series : (x : ℕ) → carried st x + countOf (ofSeries x) rs ≤ 20
 
 -- after the first records
-module _ (st : Standing) (after : st .stage ≡ 17) (r : List ℕ) where
-  stage-on : onward st r .stage ≡ 17
-  unfolding onward nextStage
+module _ (st : SetProgress) (after : st .opened ≡ 17) (r : List ℕ) where
+  stage-on : onward st r .opened ≡ 17
+  unfolding onward openedAfter
   stage-on = rw after
 
   whole-on : onward st r .whole ≡ st .whole
@@ -222,13 +222,13 @@ module _ (st : Standing) (after : st .stage ≡ 17) (r : List ℕ) where
 
   next-is : isNext st r ≡ (kindsOf (st .whole) r && mayStand st r)
   unfolding isNext ofThis
-  next-is = rw (le-ltb (st .stage) 17 (omega arith)) (go (st .whole))
+  next-is = rw (le-ltb (st .opened) 17 (omega arith)) (go (st .whole))
     where
       go : (w : Bool) → ((if w then ofWhole r else ofShort r) && mayStand st r) ≡ (kindsOf w r && mayStand st r)
       go true = refl
       go false = refl
 
-fine-none : (st : Standing) → Few st → Fine st []
+fine-none : (st : SetProgress) → Few st → Fine st []
 unfolding all countOf keep carried
 fine-none st f =
     record {
@@ -246,7 +246,7 @@ fine-none st f =
     go false = omega arith
 
 -- a series' generations in a row are not too many
-run-on : (st : Standing) (r : List ℕ) (rs : List (List ℕ)) → st .run ≤ 20 → ((x : ℕ) → carried (onward st r) x + countOf (ofSeries x) rs ≤ 20) → runWith st r ≤ 20
+run-on : (st : SetProgress) (r : List ℕ) (rs : List (List ℕ)) → st .run ≤ 20 → ((x : ℕ) → carried (onward st r) x + countOf (ofSeries x) rs ≤ 20) → runWith st r ≤ 20
 unfolding runWith
 run-on st r rs n h = go (tellsGeneration r) refl
   where
@@ -262,7 +262,7 @@ run-on st r rs n h = go (tellsGeneration r) refl
         let l = h (mark r) in
         omega arith
 
-module _ (st : Standing) (after : st .stage ≡ 17) (r : List ℕ) (rs : List (List ℕ)) (f : Few st) where
+module _ (st : SetProgress) (after : st .opened ≡ 17) (r : List ℕ) (rs : List (List ℕ)) (f : Few st) where
   fine-back : kindsOf (st .whole) r ≡ true → mayStand st r ≡ true → Fine (onward st r) rs → Fine st (r ∷ rs)
   unfolding onward all
   fine-back k s i =
@@ -302,7 +302,7 @@ module _ (st : Standing) (after : st .stage ≡ 17) (r : List ℕ) (rs : List (L
         },
       )
 
-pub goes-fine : (rs : List (List ℕ)) (st : Standing) → st .stage ≡ 17 → Few st → goesOn st rs ≡ true → Fine st rs
+pub goes-fine : (rs : List (List ℕ)) (st : SetProgress) → st .opened ≡ 17 → Few st → goesOn st rs ≡ true → Fine st rs
 unfolding goesOn
 goes-fine [] st after f h = fine-none st f
 goes-fine (r ∷ rs) st after f h =
@@ -312,7 +312,7 @@ goes-fine (r ∷ rs) st after f h =
     fine-back st after r rs f (and-l (kindsOf (st .whole) r) (mayStand st r) n) (and-r (kindsOf (st .whole) r) (mayStand st r) n)
     (goes-fine rs (onward st r) (stage-on st after r) on (and-r (isNext st r && few (onward st r)) (goesOn (onward st r) rs) h))
 
-fine-goes : (rs : List (List ℕ)) (st : Standing) → st .stage ≡ 17 → Few st → Fine st rs → goesOn st rs ≡ true
+fine-goes : (rs : List (List ℕ)) (st : SetProgress) → st .opened ≡ 17 → Few st → Fine st rs → goesOn st rs ≡ true
 unfolding goesOn all
 fine-goes [] st after f h = rw after
 fine-goes (r ∷ rs) st after f h =
@@ -361,7 +361,7 @@ kind-part false r h = go (eqb (part r) 2) (eqb (part r) 3) refl refl h
     go false false e f k = absurd (true≢false (sym k))
 
 -- no record of a part has been read
-pub record Blank (st : Standing) : Type 0 where
+pub record Blank (st : SetProgress) : Type 0 where
   pub part : st .part ≡ 0
   pub editions : st .editions ≡ 0
   pub regulars : st .regulars ≡ 0
@@ -369,7 +369,7 @@ pub record Blank (st : Standing) : Type 0 where
   pub leggings : st .leggings ≡ 0
   pub run : st .run ≡ 0
 
-module _ (st : Standing) (b : Blank st) where
+module _ (st : SetProgress) (b : Blank st) where
   pub blank-few : Few st
   blank-few =
       let e = b .editions in
@@ -383,7 +383,7 @@ module _ (st : Standing) (b : Blank st) where
   unfolding carried
   blank-carried x = rw (b .part)
 
-  module _ (after : st .stage ≡ 17) (rs : List (List ℕ)) where
+  module _ (after : st .opened ≡ 17) (rs : List (List ℕ)) where
     blank-order : all (kindsOf (st .whole)) rs ≡ true → inOrder rs ≡ true → InOrder st rs
     blank-order = go rs
       where
@@ -466,7 +466,7 @@ pub no-part : (r : List ℕ) → (kindField r ≡ 80) ⊎ (kindField r ≡ 81) �
 unfolding part tellsEdition tellsRegular tellsComplex tellsLegging tellsGeneration
 no-part r = ⊎-elim (λ e. rw e refl) (⊎-elim (λ e. rw e refl) (⊎-elim (λ e. rw e refl) (λ e. rw e refl)))
 
-module _ (st : Standing) (b : Blank st) (r : List ℕ) where
+module _ (st : SetProgress) (b : Blank st) (r : List ℕ) where
   pub blank-on : part r ≡ 0 → Blank (onward st r)
   unfolding onward runWith oneIf
   blank-on e =
@@ -489,69 +489,69 @@ module _ (st : Standing) (b : Blank st) (r : List ℕ) where
       go true = let n = b .run in omega arith
       go false = refl
 
-  module _ (early : st .stage < 17) where
-    pub stage-more : onward st r .stage ≡ st .stage + 1
-    unfolding onward nextStage
-    stage-more = rw (lt-ltb (st .stage) 17 early)
+  module _ (early : st .opened < 17) where
+    pub stage-more : onward st r .opened ≡ st .opened + 1
+    unfolding onward openedAfter
+    stage-more = rw (lt-ltb (st .opened) 17 early)
 
-    whole-stays : (st .stage ≡ 0 → ⊥) → onward st r .whole ≡ st .whole
+    whole-stays : (st .opened ≡ 0 → ⊥) → onward st r .whole ≡ st .whole
     unfolding onward isWhole
-    whole-stays n = rw (ne-eqb (st .stage) 0 n)
+    whole-stays n = rw (ne-eqb (st .opened) 0 n)
 
     opened : (rs : List (List ℕ)) → (opens st r ≡ true → part r ≡ 0) → goesOn st (r ∷ rs) ≡ (opens st r && goesOn (onward st r) rs)
     unfolding goesOn isNext
-    opened rs p = rw (lt-ltb (st .stage) 17 early) (go (opens st r) refl)
+    opened rs p = rw (lt-ltb (st .opened) 17 early) (go (opens st r) refl)
       where
         go : (t : Bool) → opens st r ≡ t → (t && few (onward st r) && goesOn (onward st r) rs) ≡ (t && goesOn (onward st r) rs)
         go false e = refl
         go true e = rw (few-in (onward st r) (blank-few (onward st r) (blank-on (p e))))
 
 -- the first record of a series, and the second one
-module _ (st : Standing) (s : ℕ) (r : List ℕ) where
-  opens-status : st .stage ≡ 2 * s + 1 → opens st r ≡ (eqb (kindField r) 5 && eqb (u8At r 4) s)
+module _ (st : SetProgress) (s : ℕ) (r : List ℕ) where
+  opens-status : st .opened ≡ 2 * s + 1 → opens st r ≡ (eqb (kindField r) 5 && eqb (u8At r 4) s)
   unfolding opens
   opens-status e =
-      let m : 4 + st .stage % 2 ≡ 5 = omega arith in
-      let d : (st .stage - 1) / 2 ≡ s = omega arith in
-      rw (ne-eqb (st .stage) 0 (λ z. omega arith), m, d)
+      let m : 4 + st .opened % 2 ≡ 5 = omega arith in
+      let d : (st .opened - 1) / 2 ≡ s = omega arith in
+      rw (ne-eqb (st .opened) 0 (λ z. omega arith), m, d)
 
-  opens-away : st .stage ≡ 2 * s + 2 → opens st r ≡ (eqb (kindField r) 4 && eqb (u8At r 4) s)
+  opens-away : st .opened ≡ 2 * s + 2 → opens st r ≡ (eqb (kindField r) 4 && eqb (u8At r 4) s)
   unfolding opens
   opens-away e =
-      let m : 4 + st .stage % 2 ≡ 4 = omega arith in
-      let d : (st .stage - 1) / 2 ≡ s = omega arith in
-      rw (ne-eqb (st .stage) 0 (λ z. omega arith), m, d)
+      let m : 4 + st .opened % 2 ≡ 4 = omega arith in
+      let d : (st .opened - 1) / 2 ≡ s = omega arith in
+      rw (ne-eqb (st .opened) 0 (λ z. omega arith), m, d)
 
 -- a set that ends too early
-ends-early : (st : Standing) → st .stage < 17 → goesOn st [] ≡ false
+ends-early : (st : SetProgress) → st .opened < 17 → goesOn st [] ≡ false
 unfolding goesOn
-ends-early st h = rw (lt-ltb (st .stage) 17 h)
+ends-early st h = rw (lt-ltb (st .opened) 17 h)
 
 -- before the records of series s, `count` series being left
-record Before (st : Standing) (s count : ℕ) : Type 0 where
+record Before (st : SetProgress) (s count : ℕ) : Type 0 where
   blank : Blank st
-  stage : st .stage ≡ 2 * s + 1
+  opened : st .opened ≡ 2 * s + 1
   many : s + count ≡ 8
 
-module _ (st : Standing) (s count : ℕ) (at : Before st s (suc count)) where
-  early : st .stage < 17
-  early = let e = at .stage in let m = at .many in omega arith
+module _ (st : SetProgress) (s count : ℕ) (at : Before st s (suc count)) where
+  early : st .opened < 17
+  early = let e = at .opened in let m = at .many in omega arith
 
   status-part : (q : List ℕ) → opens st q ≡ true → part q ≡ 0
   status-part q h =
-      no-part q (inr (inr (inl (eqb-true (kindField q) 5 (and-l (eqb (kindField q) 5) (eqb (u8At q 4) s) (sym (opens-status st s q (at .stage)) ∙ h))))))
+      no-part q (inr (inr (inl (eqb-true (kindField q) 5 (and-l (eqb (kindField q) 5) (eqb (u8At q 4) s) (sym (opens-status st s q (at .opened)) ∙ h))))))
 
   status-goes : (q : List ℕ) (rs : List (List ℕ)) → goesOn st (q ∷ rs) ≡ ((eqb (kindField q) 5 && eqb (u8At q 4) s) && goesOn (onward st q) rs)
-  status-goes q rs = opened st (at .blank) q early rs (status-part q) ∙ ap (λ (t : Bool). t && goesOn (onward st q) rs) (opens-status st s q (at .stage))
+  status-goes q rs = opened st (at .blank) q early rs (status-part q) ∙ ap (λ (t : Bool). t && goesOn (onward st q) rs) (opens-status st s q (at .opened))
 
   module _ (q : List ℕ) (is : (eqb (kindField q) 5 && eqb (u8At q 4) s) ≡ true) where
     after-status : Blank (onward st q)
-    after-status = blank-on st (at .blank) q (status-part q (opens-status st s q (at .stage) ∙ is))
+    after-status = blank-on st (at .blank) q (status-part q (opens-status st s q (at .opened) ∙ is))
 
-    away-stage : onward st q .stage ≡ 2 * s + 2
-    away-stage = let e = stage-more st (at .blank) q early in let f = at .stage in omega arith
+    away-stage : onward st q .opened ≡ 2 * s + 2
+    away-stage = let e = stage-more st (at .blank) q early in let f = at .opened in omega arith
 
-    away-early : onward st q .stage < 17
+    away-early : onward st q .opened < 17
     away-early = let e = away-stage in let m = at .many in omega arith
 
     module _ (r : List ℕ) where
@@ -569,18 +569,18 @@ module _ (st : Standing) (s count : ℕ) (at : Before st s (suc count)) where
           let e = stage-more (onward st q) after-status r away-early in
           let f = away-stage in
           let m = at .many in
-          record { blank = blank-on (onward st q) after-status r (away-part (opens-away (onward st q) s r away-stage ∙ k)); stage = omega arith; many = omega arith }
+          record { blank = blank-on (onward st q) after-status r (away-part (opens-away (onward st q) s r away-stage ∙ k)); opened = omega arith; many = omega arith }
 
       whole-same : onward (onward st q) r .whole ≡ st .whole
       whole-same =
           let f = away-stage in
-          let g = at .stage in
+          let g = at .opened in
           whole-stays (onward st q) after-status r away-early (λ z. omega arith) ∙ whole-stays st (at .blank) q early (λ z. omega arith)
 
 -- the records of the series that are left, and then the others
-series-goes : (count s : ℕ) (st : Standing) (rs : List (List ℕ)) → Before st s count → goesOn st rs ≡ seriesThen count s (kindsOf (st .whole)) rs
+series-goes : (count s : ℕ) (st : SetProgress) (rs : List (List ℕ)) → Before st s count → goesOn st rs ≡ seriesThen count s (kindsOf (st .whole)) rs
 unfolding seriesThen
-series-goes zero s st rs at = let e = at .stage in let m = at .many in rest-is st (at .blank) (omega arith) rs
+series-goes zero s st rs at = let e = at .opened in let m = at .many in rest-is st (at .blank) (omega arith) rs
 series-goes (suc count) s st [] at = ends-early st (early st s count at)
 series-goes (suc count) s st (q ∷ []) at = status-goes st s count at q [] ∙ go (eqb (kindField q) 5 && eqb (u8At q 4) s) refl
   where
@@ -610,15 +610,15 @@ none-blank = record { part = refl; editions = refl; regulars = refl; complexes =
 
 -- the first record of all
 module _ (r : List ℕ) (first : part r ≡ 0) where
-  first-early : noneRead .stage < 17
+  first-early : noneRead .opened < 17
   unfolding noneRead
   first-early = omega arith
 
   before-series : Before (onward noneRead r) 0 8
   before-series =
       let e = stage-more noneRead none-blank r first-early in
-      let z : noneRead .stage ≡ 0 = unfold noneRead in refl in
-      record { blank = blank-on noneRead none-blank r first; stage = omega arith; many = refl }
+      let z : noneRead .opened ≡ 0 = unfold noneRead in refl in
+      record { blank = blank-on noneRead none-blank r first; opened = omega arith; many = refl }
 
   first-goes : (rs : List (List ℕ)) (w : Bool) → opens noneRead r ≡ true → onward noneRead r .whole ≡ w → goesOn noneRead (r ∷ rs) ≡ seriesThen 8 0 (kindsOf w) rs
   first-goes rs w o k =

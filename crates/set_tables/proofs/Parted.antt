@@ -14,13 +14,13 @@ use Rattle.rules.proofs.Tests.{and-in, and-l, and-r, or-r}
 use Rattle.sets.specs.Set.{part, mark, inOrder, countOf, ofSeries, isSet, tellsEdition, tellsRegular, tellsComplex, tellsLegging, tellsGeneration, generationTold}
 use Rattle.sets.proofs.Parts.{sort, sort-of}
 use Rattle.sets.proofs.Lists.{Each, keep-append, keep-none, each-more}
-use Rattle.set_check.specs.declared.Standing.{Standing}
+use Rattle.set_check.specs.declared.SetProgress.{SetProgress}
 use Rattle.set_check.specs.Order.{noneRead, opens, isNext, mayStand, sameSeries, oneIf, onward, few, goesOn}
 use Rattle.set_check.proofs.Looks.{Few, few-out}
 use Rattle.set_tables.proofs.Ordered.{count-more, InOrder, order-on, stand-out, Fine, Blank, blank-few, blank-carried, blank-on, stage-more, goes-fine, none-blank, no-part, set-goes}
 
 -- one step of a set
-module _ (st : Standing) (r : List ℕ) (rs : List (List ℕ)) (h : goesOn st (r ∷ rs) ≡ true) where
+module _ (st : SetProgress) (r : List ℕ) (rs : List (List ℕ)) (h : goesOn st (r ∷ rs) ≡ true) where
   step-both : (isNext st r && few (onward st r)) ≡ true
   unfolding goesOn
   step-both = and-l (isNext st r && few (onward st r)) (goesOn (onward st r) rs) h
@@ -35,19 +35,19 @@ module _ (st : Standing) (r : List ℕ) (rs : List (List ℕ)) (h : goesOn st (r
   unfolding goesOn
   step-goes = and-r (isNext st r && few (onward st r)) (goesOn (onward st r) rs) h
 
-  step-part : st .stage < 17 → part r ≡ 0
+  step-part : st .opened < 17 → part r ≡ 0
   unfolding isNext opens
-  step-part early = go (eqb (st .stage) 0) (rw (lt-ltb (st .stage) 17 early) at step-next)
+  step-part early = go (eqb (st .opened) 0) (rw (lt-ltb (st .opened) 17 early) at step-next)
     where
-      go : (z : Bool) → (if z then eqb (kindField r) 80 || eqb (kindField r) 81 else eqb (kindField r) (4 + st .stage % 2) && eqb (u8At r 4) ((st .stage - 1) / 2)) ≡ true → part r ≡ 0
+      go : (z : Bool) → (if z then eqb (kindField r) 80 || eqb (kindField r) 81 else eqb (kindField r) (4 + st .opened % 2) && eqb (u8At r 4) ((st .opened - 1) / 2)) ≡ true → part r ≡ 0
       go true k = first (eqb (kindField r) 80) refl k
         where
           first : (t : Bool) → eqb (kindField r) 80 ≡ t → (t || eqb (kindField r) 81) ≡ true → part r ≡ 0
           first true e f = no-part r (inl (eqb-true (kindField r) 80 e))
           first false e f = no-part r (inr (inl (eqb-true (kindField r) 81 f)))
       go false k =
-          let e = eqb-true (kindField r) (4 + st .stage % 2) (and-l (eqb (kindField r) (4 + st .stage % 2)) (eqb (u8At r 4) ((st .stage - 1) / 2)) k) in
-          half (st .stage % 2) (omega arith) e
+          let e = eqb-true (kindField r) (4 + st .opened % 2) (and-l (eqb (kindField r) (4 + st .opened % 2)) (eqb (u8At r 4) ((st .opened - 1) / 2)) k) in
+          half (st .opened % 2) (omega arith) e
         where
           half : (x : ℕ) → x < 2 → kindField r ≡ 4 + x → part r ≡ 0
           half zero l e = no-part r (inr (inr (inr e)))
@@ -60,11 +60,11 @@ pub record Tail (rs : List (List ℕ)) : Type 0 where
   pub tail : List (List ℕ)
   pub split : rs ≡ front ++ tail
   pub none : Each (λ r. part r ≡ 0) front
-  pub before : Standing
+  pub before : SetProgress
   pub blank : Blank before
   pub fine : Fine before tail
 
-tail-of : (rs : List (List ℕ)) (st : Standing) → Blank st → st .stage ≤ 17 → goesOn st rs ≡ true → Tail rs
+tail-of : (rs : List (List ℕ)) (st : SetProgress) → Blank st → st .opened ≤ 17 → goesOn st rs ≡ true → Tail rs
 tail-of [] st b s h = record {
   front = [];
   tail = [];
@@ -72,20 +72,20 @@ tail-of [] st b s h = record {
   none = tt;
   before = st;
   blank = b;
-  fine = goes-fine [] st (ended (ltb (st .stage) 17) refl (unfold goesOn in h)) (blank-few st b) h;
+  fine = goes-fine [] st (ended (ltb (st .opened) 17) refl (unfold goesOn in h)) (blank-few st b) h;
 }
   where
-    ended : (t : Bool) → ltb (st .stage) 17 ≡ t → not t ≡ true → st .stage ≡ 17
+    ended : (t : Bool) → ltb (st .opened) 17 ≡ t → not t ≡ true → st .opened ≡ 17
     ended true e k = absurd (true≢false (sym k))
-    ended false e k = let l = ltb-false (st .stage) 17 e in omega arith
-tail-of (r ∷ rs) st b s h = go (ltb (st .stage) 17) refl (λ b' s' h'. tail-of rs (onward st r) b' s' h')
+    ended false e k = let l = ltb-false (st .opened) 17 e in omega arith
+tail-of (r ∷ rs) st b s h = go (ltb (st .opened) 17) refl (λ b' s' h'. tail-of rs (onward st r) b' s' h')
   where
-    go : (t : Bool) → ltb (st .stage) 17 ≡ t → (Blank (onward st r) → onward st r .stage ≤ 17 → goesOn (onward st r) rs ≡ true → Tail rs) → Tail (r ∷ rs)
+    go : (t : Bool) → ltb (st .opened) 17 ≡ t → (Blank (onward st r) → onward st r .opened ≤ 17 → goesOn (onward st r) rs ≡ true → Tail rs) → Tail (r ∷ rs)
     go false e ih =
-        let l = ltb-false (st .stage) 17 e in
+        let l = ltb-false (st .opened) 17 e in
         record { front = []; tail = r ∷ rs; split = refl; none = tt; before = st; blank = b; fine = goes-fine (r ∷ rs) st (omega arith) (blank-few st b) h }
     go true e ih =
-        let early = ltb-true (st .stage) 17 e in
+        let early = ltb-true (st .opened) 17 e in
         let p = step-part st r rs h early in
         let k = stage-more st b r early in
         let t = ih (blank-on st b r p) (omega arith) (step-goes st r rs h) in
@@ -100,36 +100,38 @@ set-tail rs h = tail-of rs noneRead none-blank (unfold noneRead in (omega arith)
 -- Counts ----------------------------------------------------------------------------------------
 
 -- a set has its 17 first records
-long : (rs : List (List ℕ)) (st : Standing) → Blank st → st .stage ≤ 17 → goesOn st rs ≡ true → 17 ≤ st .stage + length rs
-long [] st b s h = go (ltb (st .stage) 17) refl (unfold goesOn in h)
+long : (rs : List (List ℕ)) (st : SetProgress) → Blank st → st .opened ≤ 17 → goesOn st rs ≡ true → 17 ≤ st .opened + length rs
+long [] st b s h = go (ltb (st .opened) 17) refl (unfold goesOn in h)
   where
-    go : (t : Bool) → ltb (st .stage) 17 ≡ t → not t ≡ true → 17 ≤ st .stage + 0
+    go : (t : Bool) → ltb (st .opened) 17 ≡ t → not t ≡ true → 17 ≤ st .opened + 0
     go true e k = absurd (true≢false (sym k))
-    go false e k = let l = ltb-false (st .stage) 17 e in omega arith
-long (r ∷ rs) st b s h = go (ltb (st .stage) 17) refl (λ b' s' h'. long rs (onward st r) b' s' h')
+    go false e k = let l = ltb-false (st .opened) 17 e in omega arith
+long (r ∷ rs) st b s h = go (ltb (st .opened) 17) refl (λ b' s' h'. long rs (onward st r) b' s' h')
   where
-    go : (t : Bool) → ltb (st .stage) 17 ≡ t → (Blank (onward st r) → onward st r .stage ≤ 17 → goesOn (onward st r) rs ≡ true → 17 ≤ onward st r .stage + length rs) → 17 ≤ st .stage + suc (length rs)
-    go false e ih = let l = ltb-false (st .stage) 17 e in omega arith
+    go : (t : Bool) → ltb (st .opened) 17 ≡ t →
+        (Blank (onward st r) → onward st r .opened ≤ 17 → goesOn (onward st r) rs ≡ true → 17 ≤ onward st r .opened + length rs) → 17 ≤ st .opened +
+        suc (length rs)
+    go false e ih = let l = ltb-false (st .opened) 17 e in omega arith
     go true e ih =
-        let early = ltb-true (st .stage) 17 e in
+        let early = ltb-true (st .opened) 17 e in
         let k = stage-more st b r early in
         let i = ih (blank-on st b r (step-part st r rs h early)) (omega arith) (step-goes st r rs h) in
         omega arith
 
 pub set-long : (rs : List (List ℕ)) → isSet rs ≡ true → 17 ≤ length rs
-set-long rs h = let z : noneRead .stage ≡ 0 = unfold noneRead in refl in omega (arith, long rs noneRead none-blank (omega arith) (none-goes rs h))
+set-long rs h = let z : noneRead .opened ≡ 0 = unfold noneRead in refl in omega (arith, long rs noneRead none-blank (omega arith) (none-goes rs h))
 
 -- how many records of each part
-pub record Counts (st : Standing) (rs : List (List ℕ)) : Type 0 where
+pub record Counts (st : SetProgress) (rs : List (List ℕ)) : Type 0 where
   pub editions : st .editions + countOf tellsEdition rs ≤ 32
   pub regulars : st .regulars + countOf tellsRegular rs ≤ 128
   pub complexes : st .complexes + countOf tellsComplex rs ≤ 32
 
-no-counts : (st : Standing) → Few st → Counts st []
+no-counts : (st : SetProgress) → Few st → Counts st []
 unfolding countOf keep
 no-counts st f = let a = f .editions in let b = f .regulars in let c = f .complexes in record { editions = omega arith; regulars = omega arith; complexes = omega arith }
 
-more-counts : (st : Standing) (r : List ℕ) (rs : List (List ℕ)) → Counts (onward st r) rs → Counts st (r ∷ rs)
+more-counts : (st : SetProgress) (r : List ℕ) (rs : List (List ℕ)) → Counts (onward st r) rs → Counts st (r ∷ rs)
 unfolding onward
 more-counts st r rs c =
     record {
@@ -138,7 +140,7 @@ more-counts st r rs c =
       complexes = omega (arith, count-more tellsComplex r rs, c .complexes);
     }
 
-goes-counts : (rs : List (List ℕ)) (st : Standing) → Few st → goesOn st rs ≡ true → Counts st rs
+goes-counts : (rs : List (List ℕ)) (st : SetProgress) → Few st → goesOn st rs ≡ true → Counts st rs
 goes-counts [] st f h = no-counts st f
 goes-counts (r ∷ rs) st f h = more-counts st r rs (goes-counts rs (onward st r) (few-out (onward st r) (step-few st r rs h)) (step-goes st r rs h))
 
@@ -177,7 +179,7 @@ Alone [] = Unit {0}
 Alone (r ∷ rs) = (tellsLegging r ≡ true → Untold (mark r) rs) × Alone rs
 
 -- within a part that is not the generations' marks rise
-stand-risen : (st : Standing) (r : List ℕ) → mayStand st r ≡ true → st .part ≡ part r → (st .part ≡ 4 → ⊥) → st .mark < mark r
+stand-risen : (st : SetProgress) (r : List ℕ) → mayStand st r ≡ true → st .part ≡ part r → (st .part ≡ 4 → ⊥) → st .mark < mark r
 unfolding mayStand sameSeries
 stand-risen st r h e n = go (ltb (st .mark) (mark r)) refl (rw (le-ltb (st .part) (part r) (omega arith), eq-eqb (st .part) (part r) e, ne-eqb (st .part) 4 n) at h)
   where
@@ -188,15 +190,15 @@ stand-risen st r h e n = go (ltb (st .mark) (mark r)) refl (rw (le-ltb (st .part
 leg-part : (r : List ℕ) → tellsLegging r ≡ true → part r ≡ 3
 leg-part r e = eqb-true (part r) 3 (sym (sort r .2) ∙ e)
 
-abbrev Passed : Standing → ℕ → Type 0
+abbrev Passed : SetProgress → ℕ → Type 0
 Passed st n = (3 < st .part) ⊎ ((st .part ≡ 3) × (n ≤ st .mark))
 
-passed-on : (st : Standing) (n : ℕ) (r : List ℕ) → mayStand st r ≡ true → Passed st n → (3 < part r) ⊎ ((part r ≡ 3) × (n < mark r))
+passed-on : (st : SetProgress) (n : ℕ) (r : List ℕ) → mayStand st r ≡ true → Passed st n → (3 < part r) ⊎ ((part r ≡ 3) × (n < mark r))
 passed-on st n r h p =
     ⊎-elim (λ l. ⊎-elim (λ k. inl (omega arith)) (λ k. inl (omega arith)) p)
     (λ l. let e = l .0 in ⊎-elim (λ k. inl (omega arith)) (λ k. let i = k .0 in let j = k .1 in let m = stand-risen st r h e (λ z. omega arith) in inr (omega arith, omega arith)) p) (stand-out st r h)
 
-passed-after : (st : Standing) (n : ℕ) (r : List ℕ) → (3 < part r) ⊎ ((part r ≡ 3) × (n < mark r)) → Passed (onward st r) n
+passed-after : (st : SetProgress) (n : ℕ) (r : List ℕ) → (3 < part r) ⊎ ((part r ≡ 3) × (n < mark r)) → Passed (onward st r) n
 unfolding onward
 passed-after st n r = ⊎-elim (λ l. inl l) (λ l. let i = l .0 in let j = l .1 in inr (i, omega arith))
 
@@ -207,17 +209,17 @@ untold-one n r p = go (tellsLegging r) refl
     go false e = refl
     go true e = let k = leg-part r e in ne-eqb (mark r) n (λ z. ⊎-elim (λ l. omega arith) (λ l. let j = l .1 in omega arith) p)
 
-untold : (n : ℕ) (rs : List (List ℕ)) (st : Standing) → InOrder st rs → Passed st n → Untold n rs
+untold : (n : ℕ) (rs : List (List ℕ)) (st : SetProgress) → InOrder st rs → Passed st n → Untold n rs
 untold n [] st h p = tt
 untold n (r ∷ rs) st h p =
     let q = passed-on st n r (h .0) p in
     (untold-one n r q, untold n rs (onward st r) (order-on st r rs (h .1)) (passed-after st n r q))
 
-passed-here : (st : Standing) (r : List ℕ) → tellsLegging r ≡ true → Passed (onward st r) (mark r)
+passed-here : (st : SetProgress) (r : List ℕ) → tellsLegging r ≡ true → Passed (onward st r) (mark r)
 unfolding onward
 passed-here st r t = inr (leg-part r t, omega arith)
 
-alone : (rs : List (List ℕ)) (st : Standing) → InOrder st rs → Alone rs
+alone : (rs : List (List ℕ)) (st : SetProgress) → InOrder st rs → Alone rs
 alone [] st h = tt
 alone (r ∷ rs) st h = (λ t. untold (mark r) rs (onward st r) (order-on st r rs (h .1)) (passed-here st r t), alone rs (onward st r) (order-on st r rs (h .1)))
 

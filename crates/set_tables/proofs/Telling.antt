@@ -24,7 +24,7 @@ use Rattle.sets.specs.Set.{leggingTold, listedTold, generationTold, generations
 use Rattle.sets.proofs.Lists.{Each}
 use Rattle.sets.proofs.Parts.{sort}
 use Rattle.sets.proofs.ReadBack.{upward-is}
-use Rattle.set_tables.specs.Told.{rowIn, Taken, leggingOf, listedOf}
+use Rattle.set_tables.specs.Told.{rowIn, ReadableSet, leggingOf, listedOf}
 use Rattle.set_tables.proofs.Filling.{Walk, walk-start, walk-end, walk-on, walk-next, Step, row-in}
 use Rattle.set_tables.proofs.Parted.{Untold, Alone, set-alone, set-long, set-series}
 
@@ -60,7 +60,7 @@ some-left : (m : List ℕ) (at size : ℕ) → Walk m at size → 0 < length (ro
 some-left m at zero w h = let e = ap length (walk-end m at 0 w (omega arith)) in absurd (omega arith)
 some-left m at (suc n) w h = omega arith
 
-pub first-step : (m : List ℕ) (size : ℕ) → Taken m → size ≡ lengthField (drop 0 m) → Step m 0 size
+pub first-step : (m : List ℕ) (size : ℕ) → ReadableSet m → size ≡ lengthField (drop 0 m) → Step m 0 size
 first-step m size t e =
     let w = walk-start m size (t .framed) e in
     let l = set-long (rowIn m) (t .ordered) in
@@ -80,7 +80,7 @@ pub record Listing (m : List ℕ) (l : List Listed) (at s : ℕ) : Type 0 where
   pub rows : rowIn (drop at m) ≡ drop (2 * s + 1) (rowIn m)
   pub told : (i : ℕ) → i < s → getD l i notListed ≡ listedTold (rowIn m) i
 
-pub listing-start : (m : List ℕ) (l : List Listed) (at : ℕ) → Taken m → at ≡ lengthField (drop 0 m) → length l ≡ 8 → Listing m l at 0
+pub listing-start : (m : List ℕ) (l : List Listed) (at : ℕ) → ReadableSet m → at ≡ lengthField (drop 0 m) → length l ≡ 8 → Listing m l at 0
 listing-start m l at t e n =
     let s = first-step m at t e in
     record {
@@ -91,7 +91,7 @@ listing-start m l at t e n =
       told = λ i h. absurd (omega arith);
     }
 
-module _ (m : List ℕ) (t : Taken m) (l : List Listed) (at s : ℕ) (g : Listing m l at s) (h : s < 8) where
+module _ (m : List ℕ) (t : ReadableSet m) (l : List Listed) (at s : ℕ) (g : Listing m l at s) (h : s < 8) where
   abbrev rs : List (List ℕ)
   rs = rowIn m
 
@@ -194,7 +194,7 @@ pub record Legged (m : List ℕ) (l : List Legging) (at size : ℕ) : Type 0 whe
   pub placed : all hasPlace (rowIn (drop at m)) ≡ true
   pub left : (n : ℕ) → toldOr (getD l n noLegging) (rowIn (drop at m)) n ≡ leggingTold (rowIn m) n
 
-pub legged-start : (m : List ℕ) (size : ℕ) → Taken m → size ≡ lengthField (drop 0 m) → Legged m (replicate 16 noLegging) 0 size
+pub legged-start : (m : List ℕ) (size : ℕ) → ReadableSet m → size ≡ lengthField (drop 0 m) → Legged m (replicate 16 noLegging) 0 size
 legged-start m size t e =
     record {
       walk = walk-start m size (t .framed) e;
@@ -310,7 +310,7 @@ pub record Numbered (m : List ℕ) (l : List Generations) (at size : ℕ) : Type
   pub placed : all hasPlace (rowIn (drop at m)) ≡ true
   pub left : (s : ℕ) → s < 8 → pushed (getD l s noGenerations .messages) (numbers s (rowIn (drop at m))) ≡ generationsTold (rowIn m) s .messages
 
-pub numbered-start : (m : List ℕ) (size : ℕ) → Taken m → size ≡ lengthField (drop 0 m) → Numbered m (replicate 8 noGenerations) 0 size
+pub numbered-start : (m : List ℕ) (size : ℕ) → ReadableSet m → size ≡ lengthField (drop 0 m) → Numbered m (replicate 8 noGenerations) 0 size
 numbered-start m size t e =
     record {
       walk = walk-start m size (t .framed) e;

@@ -22,7 +22,7 @@ unfoldable pub listedOf : (status away : List ℕ) → Listed
 listedOf status away = record { status = u8At status 5; bid = u32At away 5; offer = u32At away 9 }
 
 -- a memory that neither 16 nor a record without a place refuses
-pub record Taken (memory : List ℕ) : Type 0 where
+pub record ReadableSet (memory : List ℕ) : Type 0 where
   pub framed : heldIn memory ≡ row (rowIn memory)
   pub ordered : isSet (rowIn memory) ≡ true
   pub placed : all hasPlace (rowIn memory) ≡ true

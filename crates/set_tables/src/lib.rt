@@ -7,7 +7,7 @@ ghost use Rattle.rules.specs.Bytes.{u32At, lengthField};
 ghost use Rattle.sets.specs.Set.{complexTold};
 ghost use Rattle.sets.specs.Set.{regularTold, editionTold, venueTold};
 ghost use Rattle.rules.specs.Generation.{oneMore};
-ghost use Rattle.set_tables.specs.Told.{rowIn, Taken, leggingOf, listedOf};
+ghost use Rattle.set_tables.specs.Told.{rowIn, ReadableSet, leggingOf, listedOf};
 use rules::Complex;
 use rules::Edition;
 use rules::Generations;
@@ -100,7 +100,7 @@ fn size_at(memory: &[u8], at: usize) -> usize
 
 // The regular orders that a set tells, place by place.
 fn regulars_told(memory: &[u8]) -> [Regular; 128]
-    requires { ⌜ Taken (now memory) ⌝ }
+    requires { ⌜ ReadableSet (now memory) ⌝ }
     ensures { λ r. ⌜ r ≡ venueTold (rowIn (now (memory .entry))) .regular ⌝ }
 {
     let free = Regular {
@@ -132,7 +132,7 @@ fn regulars_told(memory: &[u8]) -> [Regular; 128]
 
 // The complex orders that a set tells, place by place.
 fn complexes_told(memory: &[u8]) -> [Complex; 32]
-    requires { ⌜ Taken (now memory) ⌝ }
+    requires { ⌜ ReadableSet (now memory) ⌝ }
     ensures { λ r. ⌜ r ≡ venueTold (rowIn (now (memory .entry))) .complex ⌝ }
 {
     let free = Complex {
@@ -167,7 +167,7 @@ fn complexes_told(memory: &[u8]) -> [Complex; 32]
 
 // The editions that a set tells, place by place.
 fn editions_told(memory: &[u8]) -> [Edition; 32]
-    requires { ⌜ Taken (now memory) ⌝ }
+    requires { ⌜ ReadableSet (now memory) ⌝ }
     ensures { λ r. ⌜ r ≡ venueTold (rowIn (now (memory .entry))) .editions ⌝ }
 {
     let free = Edition {
@@ -196,7 +196,7 @@ fn editions_told(memory: &[u8]) -> [Edition; 32]
 
 // The legging orders that a set tells, each at its place.
 fn leggings_told(memory: &[u8]) -> [Legging; 16]
-    requires { ⌜ Taken (now memory) ⌝ }
+    requires { ⌜ ReadableSet (now memory) ⌝ }
     ensures { λ r. ⌜ r ≡ venueTold (rowIn (now (memory .entry))) .legging ⌝ }
 {
     let free = Legging {
@@ -223,7 +223,7 @@ fn leggings_told(memory: &[u8]) -> [Legging; 16]
 
 // The status and away prices of every series that a set tells.
 fn series_told(memory: &[u8]) -> [Listed; 8]
-    requires { ⌜ Taken (now memory) ⌝ }
+    requires { ⌜ ReadableSet (now memory) ⌝ }
     ensures { λ r. ⌜ r ≡ venueTold (rowIn (now (memory .entry))) .series ⌝ }
 {
     let none = Listed {
@@ -262,7 +262,7 @@ fn one_more(g: Generations, number: u32) -> Generations
 
 // The generations of every series that a set tells.
 fn generations_told(memory: &[u8]) -> [Generations; 8]
-    requires { ⌜ Taken (now memory) ⌝ }
+    requires { ⌜ ReadableSet (now memory) ⌝ }
     ensures { λ r. ⌜ r ≡ venueTold (rowIn (now (memory .entry))) .generations ⌝ }
 {
     let none = Generations { messages: [0; 20] };
@@ -286,7 +286,7 @@ fn generations_told(memory: &[u8]) -> [Generations; 8]
 
 // The id reached by limited sweeps; 0 if no record tells one.
 fn reached_told(memory: &[u8]) -> u32
-    requires { ⌜ Taken (now memory) ⌝ }
+    requires { ⌜ ReadableSet (now memory) ⌝ }
     ensures { λ r. ⌜ r ≡ venueTold (rowIn (now (memory .entry))) .reached ⌝ }
 {
     let mut at: usize = 0;
@@ -304,7 +304,7 @@ fn reached_told(memory: &[u8]) -> u32
 
 // A number that the first record tells.
 pub fn first_told(memory: &[u8], at: usize) -> u32
-    requires { ⌜ Taken (now memory) ⌝ }
+    requires { ⌜ ReadableSet (now memory) ⌝ }
     ensures { λ r. ⌜ r ≡ u32At (getD (rowIn (now (memory .entry))) 0 []) at ⌝ }
 {
     let end = size_at(memory, 0);
@@ -313,7 +313,7 @@ pub fn first_told(memory: &[u8], at: usize) -> u32
 
 // The venue that the records of a set tell.
 pub fn venue_told(memory: &[u8]) -> Venue
-    requires { ⌜ Taken (now memory) ⌝ }
+    requires { ⌜ ReadableSet (now memory) ⌝ }
     ensures { λ r. ⌜ r ≡ venueTold (rowIn (now (memory .entry))) ⌝ }
 {
     let regular = regulars_told(memory);

@@ -20,7 +20,7 @@ use Rattle.rules.specs.Prices.{better, bestRegular, displayed, clearPrice, weig
 use Rattle.rules.specs.Standing.{otherLeg, otherClear, otherSize, parentOf, shownWell, pairs, verdictOf, verdict}
 use Rattle.places.specs.declared.Level.{Level}
 use Rattle.places.specs.Layout.{levelOf}
-use Rattle.levels.specs.declared.Taken.{Taken}
+use Rattle.levels.specs.declared.TakenLevels.{TakenLevels}
 use Rattle.levels.specs.Grid.{LegsIn, TakenOf}
 use Rattle.levels.proofs.Sides.{level-price, level-size}
 use Rattle.settling.specs.Parts.{otherTaken}
@@ -58,7 +58,7 @@ module _ (c : Complex) (s : ℕ) (o : Leg) (eo : o ≡ otherLeg c s) where
   clear-is v f r ef e = e ∙ ap (clearPrice v (o .series)) ef ∙ ap (λ (x : Leg). clearPrice v (x .series) (opposite (x .side))) eo
 
 -- the level that the other leg takes
-module _ (v : Venue) (t : Taken) (c : Complex) (s : ℕ) (h : TakenOf t c (v .regular)) where
+module _ (v : Venue) (t : TakenLevels) (c : Complex) (s : ℕ) (h : TakenOf t c (v .regular)) where
   other-right : otherTaken t c s ≡ levelOf (otherLeg c s .series) (opposite (otherLeg c s .side)) (v .regular)
   unfolding otherTaken otherLeg
   other-right = go (eqb (c .series1) s)

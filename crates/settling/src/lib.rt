@@ -1,7 +1,7 @@
 // The test by which legging orders stand, and settling.
 use arithmetic::limit_of;
 use levels::LegSides;
-use levels::Taken;
+use levels::TakenLevels;
 use places::Level;
 use rules::Cause;
 use rules::Complex;
@@ -43,7 +43,7 @@ pub fn shown_well(numbers: &[u32], best: u32, s: u8, d: u8, p: u32) -> bool
 }
 
 // The level that the leg of c takes that is not in series s.
-pub fn other_level(taken: Taken, c: Complex, s: u8) -> Level
+pub fn other_level(taken: TakenLevels, c: Complex, s: u8) -> Level
     ensures { λ r. ⌜ r ≡ otherTaken taken c s ⌝ }
 {
     if c.series1 == s {
@@ -53,7 +53,7 @@ pub fn other_level(taken: Taken, c: Complex, s: u8) -> Level
 }
 
 // The clear price of that leg.
-pub fn other_clear(numbers: &[u32], taken: Taken, c: Complex, s: u8) -> u32
+pub fn other_clear(numbers: &[u32], taken: TakenLevels, c: Complex, s: u8) -> u32
     requires { ⌜ (length (now numbers) ≡ size) × (TakenOf taken c (venueOf (now numbers) .regular)) × (LegsIn c) ⌝ }
     ensures { λ r. ⌜ r ≡ otherClear (venueOf (now (numbers .entry))) c s ⌝ }
 {
@@ -68,7 +68,7 @@ pub fn other_clear(numbers: &[u32], taken: Taken, c: Complex, s: u8) -> u32
 }
 
 // The other leg of c has a clear price, its net with the legging order's is no more than N, and its size is enough.
-pub fn can_pair(numbers: &[u32], taken: Taken, c: Complex, s: u8, d: u8, l: Legging) -> bool
+pub fn can_pair(numbers: &[u32], taken: TakenLevels, c: Complex, s: u8, d: u8, l: Legging) -> bool
     requires { ⌜ (length (now numbers) ≡ size) × (TakenOf taken c (venueOf (now numbers) .regular)) × (LegsIn c) ⌝ }
     ensures { λ r. ⌜ r ≡ pairs (venueOf (now (numbers .entry))) c s d (l .price) (l .quantity) ⌝ }
 {

@@ -13,7 +13,7 @@ use Rattle.rules.specs.Bytes.{asSigned}
 use Rattle.rules.specs.Records.{causeNumber, causeOf}
 use Rattle.records.specs.Seen.{Seen, seen, pasted, _plus_}
 use Rattle.records.proofs.Writes.{plus-in, plus-out, pasted-nil, pasted-pasted, pasted-length}
-use Rattle.text.specs.Lines.{decimal, digits, signed, word, words}
+use Rattle.text.specs.Lines.{decimal, digits, signedText, word, words}
 use Rattle.text.specs.Typing.{_types_}
 
 -- One byte ------------------------------------------------------------------------------------
@@ -87,13 +87,13 @@ unfolding decimal digits
 decimal-more zero h = absurd (omega arith)
 decimal-more (suc n) h = rw (le-ltb (suc n) 10 h, digits) (ap (λ (x : List ℕ). x ++ ((48 + suc n % 10) ∷ [])) (fuels n (suc n / 10) (suc n / 10) (omega arith) (omega arith)))
 
--- a signed number by its bits
-pub signed-small : (x : ℕ) → x < 2147483648 → signed (asSigned x) ≡ decimal x
-unfolding signed asSigned
+-- a signedText number by its bits
+pub signed-small : (x : ℕ) → x < 2147483648 → signedText (asSigned x) ≡ decimal x
+unfolding signedText asSigned
 signed-small x h = rw (lt-ltb x 2147483648 h)
 
-pub signed-large : (x : ℕ) → 2147483648 ≤ x → signed (asSigned x) ≡ 45 ∷ decimal (4294967295 - x + 1)
-unfolding signed asSigned
+pub signed-large : (x : ℕ) → 2147483648 ≤ x → signedText (asSigned x) ≡ 45 ∷ decimal (4294967295 - x + 1)
+unfolding signedText asSigned
 signed-large x h = rw (le-ltb x 2147483648 h, add-one)
 
 -- Fields --------------------------------------------------------------------------------------

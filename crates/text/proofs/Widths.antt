@@ -13,7 +13,7 @@ use Rattle.rules.specs.Lengths.{recordLength}
 use Rattle.rules.specs.Records.{Fits, FourSigned, Report, answer, trade, pair, generated, removed, crossed, cancelled, looked, causeNumber, encode, encodeAll}
 use Rattle.rules.proofs.Reading.{cause-small}
 use Rattle.rules.proofs.Worth.{lengths}
-use Rattle.text.specs.Lines.{decimal, line, lineOf, signed, signedWord, textOf, word, words}
+use Rattle.text.specs.Lines.{decimal, line, lineOf, signedText, signedWord, textOf, word, words}
 use Rattle.text.specs.Widths.{TextAtMost}
 use Rattle.text.proofs.Typing.{decimal-more, decimal-small}
 
@@ -45,7 +45,7 @@ unfolding word
 number-length n h = let i = decimal-length 9 n (omega arith) in omega arith
 
 signed-length : (z : ℤ) → FourSigned z → length (signedWord z) ≤ 12
-unfolding signedWord signed
+unfolding signedWord signedText
 signed-length (pos n) h = let i = decimal-length 9 n (omega arith) in omega arith
 signed-length (negsuc n) h = let i = decimal-length 9 (suc n) (omega arith) in omega arith
 

@@ -19,9 +19,9 @@ unfoldable pub decimal : ℕ → List ℕ
 decimal n = digits n n
 
 -- a number that may be negative: a minus sign before its size
-unfoldable pub signed : ℤ → List ℕ
-signed (pos n) = decimal n
-signed (negsuc n) = 45 ∷ decimal (suc n)
+unfoldable pub signedText : ℤ → List ℕ
+signedText (pos n) = decimal n
+signedText (negsuc n) = 45 ∷ decimal (suc n)
 
 -- A line --------------------------------------------------------------------------------------
 
@@ -30,7 +30,7 @@ unfoldable pub word : ℕ → List ℕ
 word n = 32 ∷ decimal n
 
 unfoldable pub signedWord : ℤ → List ℕ
-signedWord z = 32 ∷ signed z
+signedWord z = 32 ∷ signedText z
 
 -- the end of the line
 abbrev pub ending : List ℕ
@@ -71,5 +71,5 @@ textOf (r ∷ rs) = lineOf r ++ textOf rs
 pub printed : textOf (trade 0 1 115 5 4 3 ∷ pair 3 (negsuc 204) 10 ∷ []) ≡
     54 ∷ 53 ∷ 32 ∷ 48 ∷ 32 ∷ 49 ∷ 32 ∷ 49 ∷ 49 ∷ 53 ∷ 32 ∷ 53 ∷ 32 ∷ 52 ∷ 32 ∷ 51 ∷ 10
     ∷ 54 ∷ 54 ∷ 32 ∷ 51 ∷ 32 ∷ 45 ∷ 50 ∷ 48 ∷ 53 ∷ 32 ∷ 49 ∷ 48 ∷ 10 ∷ []
-unfolding textOf lineOf line words word signedWord signed decimal digits
+unfolding textOf lineOf line words word signedWord signedText decimal digits
 printed = refl

@@ -6,7 +6,7 @@ ghost use Prim.Native.Nat.{_+_, _<_};
 ghost use Rattle.rules.specs.Bytes.{u8At, u16At, u32At, asSigned};
 ghost use Rattle.rules.specs.Records.{answer, trade, pair, generated, removed, crossed, cancelled, looked, causeNumber, causeOf, recordOf, records};
 ghost use Rattle.records.specs.Seen.{seen};
-ghost use Rattle.text.specs.Lines.{decimal, signed, word, words, signedWord, line, lineOf, textOf};
+ghost use Rattle.text.specs.Lines.{decimal, signedText, word, words, signedWord, line, lineOf, textOf};
 ghost use Rattle.text.specs.Typing.{_types_};
 
 // Numbers -------------------------------------------------------------------------------------
@@ -44,7 +44,7 @@ fn put_number(out: &mut [u8], at: usize, n: u32) -> usize
 
 // The signed number whose 32 bits, in two's complement, are `bits`: a negative one has a minus sign.
 fn put_signed(out: &mut [u8], at: usize, bits: u32) -> usize
-    ensures { λ r. ⌜ seen (now (out .exit)) r ≡ seen (now (out .entry)) at types signed (asSigned bits) ⌝ }
+    ensures { λ r. ⌜ seen (now (out .exit)) r ≡ seen (now (out .entry)) at types signedText (asSigned bits) ⌝ }
 {
     if bits < 2147483648 {
         return put_number(out, at, bits);

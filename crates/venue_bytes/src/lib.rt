@@ -60,7 +60,7 @@ fn complex_from(row: &[u8], ratio: &[u8]) -> Complex
         series2: wire::byte_at(row, 6),
         side2: wire::byte_at(row, 7),
         class: wire::byte_at(row, 8),
-        limit: wire::signed(wire::word_at(row, 9)),
+        limit: wire::as_signed(wire::word_at(row, 9)),
         quantity: wire::word_at(row, 13),
         ratio1: wire::byte_at(ratio, 0),
         ratio2: wire::byte_at(ratio, 1),

@@ -32,7 +32,7 @@ use Rattle.rules.proofs.Arranging.{arranged-out, blank-free, blank-freeC, close
 use Rattle.places.proofs.Orderly.{sound-orderly}
 use Rattle.places.proofs.Fully.{range-bounded, sound-fully}
 use Rattle.places.specs.Layout.{size, inUse, regularIn, complexIn, listedIn, editionIn, venueOf, regularPut, Bounded, editionRow, Fully, Figured}
-use Rattle.places.specs.Layout.{FiguresCounted, Kept, SameCounts, Filled, Placed, OnSide, RegularsPlaced, ComplexesPlaced, Loadable, RegularsLoaded}
+use Rattle.places.specs.Layout.{FiguresCounted, ComplexBounded, SameCounts, Filled, Placed, OnSide, RegularsPlaced, ComplexesPlaced, Loadable, RegularsLoaded}
 use Rattle.places.specs.Layout.{ComplexesLoaded, EditionsLoaded, BesideCounted, Laid}
 use Rattle.places.specs.Offsets.{regularsUsedAt, complexesUsedAt, regularsKnownAt, complexesKnownAt, leggingMaskAt, editionNumberAt, figuresAt, regularReserveAt, showAgainAt, generationMessagesAt}
 use Rattle.places.proofs.Tables.{upto-length, used-length, used-at, used-free, whole}
@@ -143,7 +143,7 @@ pub complexes-first : (a : List ℕ) (l : List Complex) → length a ≡ size �
 complexes-first = laying-first holdsComplex noComplex 32 complexIn complexPut OutsideComplexes complex-rows
 
 pub complexes-next : (a b b′ : List ℕ) (l : List Complex) (i : ℕ) → ComplexesPlaced l → LayingComplexes a b l i → i < 32 → (o : Complex) → o ≡ getD l i noComplex →
-    holdsComplex o ≡ true → Kept o → b′ ≡ complexPut b i o → LayingComplexes a b′ l (i + 1)
+    holdsComplex o ≡ true → ComplexBounded o → b′ ≡ complexPut b i o → LayingComplexes a b′ l (i + 1)
 complexes-next a b b′ l i p m lt o is h kept e =
     let q = p .asked i (ap holdsComplex (sym is) ∙ h) in
     rw (e, is) (laying-next holdsComplex noComplex 32 complexIn complexPut OutsideComplexes complex-rows a b l i m lt (ap holdsComplex (sym is) ∙ h)

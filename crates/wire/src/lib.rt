@@ -61,8 +61,8 @@ pub fn u32_at(s: &[u8], at: usize) -> u32
     low + 65536 * high
 }
 
-// The signed number whose 32 bits, in two's complement, are `x`.
-pub fn signed(x: u32) -> i32
+// The as_signed number whose 32 bits, in two's complement, are `x`.
+pub fn as_signed(x: u32) -> i32
     ensures { λ r. ⌜ r ≡ asSigned x ⌝ }
 {
     if x < 2147483648 {
@@ -377,7 +377,7 @@ pub fn two_leg_at(s: &[u8], ratio1: u8, ratio2: u8) -> Complex
         series2: byte_at(s, 10),
         side2: byte_at(s, 11),
         class: byte_at(s, 12),
-        limit: signed(word_at(s, 13)),
+        limit: as_signed(word_at(s, 13)),
         quantity: word_at(s, 17),
         ratio1,
         ratio2,

@@ -19,7 +19,7 @@ use Rattle.records.specs.Seen.{seen}
 use Rattle.records.specs.Stage.{stage, _does_}
 use Rattle.records.proofs.Stages.{follow}
 use Rattle.wire.proofs.Decoding.{leZ-not}
-use Rattle.levels.specs.declared.Taken.{Taken}
+use Rattle.levels.specs.declared.TakenLevels.{TakenLevels}
 use Rattle.levels.specs.Grid.{TakenOf}
 use Rattle.levels.proofs.Sides.{level-price, level-size}
 
@@ -86,7 +86,7 @@ unfolding turnFor legInTurn
 turn-for i v = refl
 
 -- t has the levels that the order's legs take
-module _ (v : Venue) (c : Complex) (t : Taken) (h : TakenOf t c (v .regular)) where
+module _ (v : Venue) (c : Complex) (t : TakenLevels) (h : TakenOf t c (v .regular)) where
   -- the units that the sizes fill, and that are open
   pub units-are : (x y q r : ℕ) → x ≡ t .first .size / c .ratio1 → q ≡ min (c .quantity) x → y ≡ t .second .size / c .ratio2 → r ≡ min q y → r ≡ unitsIn v c
   unfolding unitsIn

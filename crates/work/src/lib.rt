@@ -1,6 +1,6 @@
 // How a complex order is worked: crossed, touched, and legged in, a unit at a time.
 // Each function says in one equation the venue that it leaves and all that it writes: those of its definition.
-use levels::Taken;
+use levels::TakenLevels;
 use rules::Complex;
 ghost use mathlib.Core.Path.{_≡_};
 ghost use Prim.Native.Nat.{_*_, _/_, _<_};
@@ -15,7 +15,7 @@ ghost use Rattle.places.specs.Layout.{size, complexesUsed, venueOf, Figured, Ri
 ghost use Rattle.levels.specs.Grid.{LegsIn, TakenOf};
 
 // The best regular prices a and p that c would take net to its limit or less, and that net is in band.
-fn can_leg_in(numbers: &[u32], taken: Taken, c: Complex, a: u32, p: u32) -> bool
+fn can_leg_in(numbers: &[u32], taken: TakenLevels, c: Complex, a: u32, p: u32) -> bool
     requires { ⌜ (length (now numbers) ≡ size) × (TakenOf taken c (venueOf (now numbers) .regular)) × (LegsIn c) × (Figured (now numbers)) ⌝ }
     ensures { λ r. ⌜ r ≡ legsIn (venueOf (now (numbers .entry))) c a p ⌝ }
 {
@@ -80,7 +80,7 @@ fn units(n: u64, ratio: u8) -> u64
 }
 
 // As many units as c has open and the sizes at the best prices fill; taken has their levels.
-fn units_in(taken: Taken, c: Complex) -> u32
+fn units_in(taken: TakenLevels, c: Complex) -> u32
     ensures { λ r. ⌜ ((v : Venue) → TakenOf taken c (v .regular) → r ≡ unitsIn v c) ⌝ }
 {
     let one = taken.first;

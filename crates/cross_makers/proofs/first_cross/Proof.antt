@@ -72,7 +72,7 @@ loop-again-3 c =
       omega (arith, l .inv .0),
       scan-join (crosses (venueOf (a .numbers .now)) (a .c)) limitThenId (complexIn (a .numbers .now)) (l .i) (complexesUsed (a .numbers .now)) h (l .inv .0) _ (l .inv .1) _
           (ap (crosses (venueOf (a .numbers .now)) (a .c)) (sym e) ∙ on _ _ (c .before .before .can-cross .ensures) (c .before .if2 .left))
-          (c .better-pick .ensures ∙ ap (λ (m : Complex). ranked limitThenId (l .i - 1) m (pickedOf (l .best))) e),
+          (c .better-maker .ensures ∙ ap (λ (m : Complex). ranked limitThenId (l .i - 1) m (pickedOf (l .best))) e),
     )
 
 returns : tie.Need-returns Inv-loop μ-loop

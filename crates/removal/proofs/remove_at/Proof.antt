@@ -24,7 +24,7 @@ loop-again c =
     let p7 = p4 .before .before .before in
     let p8 = p7 .before in
     let p9 = p8 .before in
-    removing-turn _ (p9 .loop .inv) _ _ _ _ (p8 .loop-test .taken) (at-one _ _ _ _ (p7 .if1 .taken)) (p4 .clear .kept .0) (p4 .clear .ensures)
+    removing-turn _ (p9 .loop .inv) _ _ _ _ (p8 .loop-test .taken) (at-one _ _ _ _ (p7 .if1 .taken)) (p4 .remove-place .kept .0) (p4 .remove-place .ensures)
 
 loop-again-2 : tie.Need-loop-again-2 Inv-loop μ-loop
 loop-again-2 c =
@@ -32,7 +32,7 @@ loop-again-2 c =
     let p7 = p4 .before .before .before in
     let p9 = p7 .before .before in
     let p10 = p9 .before in
-    removing-turn _ (p10 .loop .inv) _ _ _ _ (p9 .loop-test .taken) (at-two _ _ _ _ (p7 .if2 .taken)) (p4 .clear2 .kept .0) (p4 .clear2 .ensures)
+    removing-turn _ (p10 .loop .inv) _ _ _ _ (p9 .loop-test .taken) (at-two _ _ _ _ (p7 .if2 .taken)) (p4 .remove-place2 .kept .0) (p4 .remove-place2 .ensures)
 
 loop-again-3 : tie.Need-loop-again-3 Inv-loop μ-loop
 loop-again-3 c =

@@ -34,8 +34,8 @@ loop-again c =
       left-on (i .1) (few p3),
     )
 
-clear-requires : tie.Need-clear-requires Inv-loop μ-loop
-clear-requires c κs = (search needs, few (c .before .before .before .before .before .before))
+remove-place-requires : tie.Need-remove-place-requires Inv-loop μ-loop
+remove-place-requires c κs = (search needs, few (c .before .before .before .before .before .before))
 
 loop-again-2 : tie.Need-loop-again-2 Inv-loop μ-loop
 loop-again-2 c =
@@ -44,7 +44,7 @@ loop-again-2 c =
     let p10 = p8 .before .before in
     let p11 = p10 .before in
     let i = p11 .before .loop .inv in (
-      removing-turn _ (i .0) _ _ _ _ (few p11) (left-here (i .1) _ ∙ sym (p10 .verdict-by .ensures) ∙ p8 .found .given .1) (p4 .clear .kept .0) (p4 .clear .ensures),
+      removing-turn _ (i .0) _ _ _ _ (few p11) (left-here (i .1) _ ∙ sym (p10 .verdict-by .ensures) ∙ p8 .found .given .1) (p4 .remove-place .kept .0) (p4 .remove-place .ensures),
       left-on (i .1) (few p11),
     )
 
@@ -73,7 +73,7 @@ remove-marked-spec =
     (λ c. search needs)
     (λ c. search needs)
     loop-again
-    clear-requires
+    remove-place-requires
     (λ c. search needs)
     loop-again-2
     same-length

@@ -31,8 +31,8 @@ loop-again-2 c =
     let p9 = p7 .before .before in
     let p11 = p9 .before .before in
     let p12 = p11 .before in
-    removing-turn _ (p12 .loop .inv) _ _ _ _ (p11 .loop-test .taken) (by-parent _ _ (p9 .legging-at .ensures) (p7 .if1 .left)) (p4 .clear .kept .0)
-    (p4 .clear .ensures)
+    removing-turn _ (p12 .loop .inv) _ _ _ _ (p11 .loop-test .taken) (by-parent _ _ (p9 .legging-at .ensures) (p7 .if1 .left)) (p4 .remove-place .kept .0)
+    (p4 .remove-place .ensures)
 
 same-length : tie.Need-same-length Inv-loop μ-loop
 same-length c = c .before .loop .inv .whole ∙ sym (c .before .before .before .before .pre)

@@ -25,7 +25,7 @@ run-with-requires c κs = c .before .before .before .before .before .before .bef
 returns : tie.Need-returns
 returns c = onward-made _ _ _ _ _ _ _ _ _ _ _ _ _
     (c .before .before .before .before .before .before .before .before .before .before .before .before .before .before .before .before .before .before
-    .next-stage .ensures)
+    .opened-after .ensures)
     (c .before .before .before .before .before .before .before .before .before .before .before .before .before .before .before .before .before
     .is-whole .ensures) (c .before .before .before .before .before .before .before .before .before .before .before .before .before .before .before
     .before .part-of .ensures)

@@ -10,14 +10,14 @@ returns : tie.Need-returns
 unfolding complexFrom
 returns c =
     rw (
-      toZ-ofZ w32 (c .before .before .before .signed .result) (record { sfits = c .before .before .before .signed .ok }),
+      toZ-ofZ w32 (c .before .before .before .as-signed .result) (record { sfits = c .before .before .before .as-signed .ok }),
       c .before .before .before .before .before .before .before .before .before .before .word-at .ensures,
       c .before .before .before .before .before .before .before .before .before .byte-at .ensures,
       c .before .before .before .before .before .before .before .before .byte-at2 .ensures,
       c .before .before .before .before .before .before .before .byte-at3 .ensures,
       c .before .before .before .before .before .before .byte-at4 .ensures,
       c .before .before .before .before .before .byte-at5 .ensures,
-      c .before .before .before .signed .ensures,
+      c .before .before .before .as-signed .ensures,
       c .before .before .before .before .word-at2 .ensures,
       c .before .before .word-at3 .ensures,
       c .before .byte-at6 .ensures,

@@ -9,14 +9,14 @@ returns : tie.Need-returns
 unfolding twoLegAt
 returns c =
     rw (
-      toZ-ofZ w32 (c .before .signed .result) (record { sfits = c .before .signed .ok }),
+      toZ-ofZ w32 (c .before .as-signed .result) (record { sfits = c .before .as-signed .ok }),
       c .before .before .before .before .before .before .before .before .word-at .ensures,
       c .before .before .before .before .before .before .before .byte-at .ensures,
       c .before .before .before .before .before .before .byte-at2 .ensures,
       c .before .before .before .before .before .byte-at3 .ensures,
       c .before .before .before .before .byte-at4 .ensures,
       c .before .before .before .byte-at5 .ensures,
-      c .before .signed .ensures,
+      c .before .as-signed .ensures,
       c .before .before .word-at2 .ensures,
       c .word-at3 .ensures,
     )

@@ -1,4 +1,4 @@
--- `removal::clear` meets its contract.
+-- `removal::remove_place` meets its contract.
 use mathlib.Core.Path.{refl, sym, ap, _∙_}
 use Rattle.rules.specs.Effects.{Effect, report}
 use Rattle.records.specs.Seen.{seen}
@@ -6,10 +6,10 @@ use Rattle.records.specs.Stage.{_does_}
 use Rattle.records.proofs.Stages.{does-nothing, does-report}
 use Rattle.places.specs.Layout.{venueOf}
 use Rattle.places.proofs.Parts.{legging-at}
-use Rattle.removal.proofs.Removing.{clear-free, clear-held}
+use Rattle.removal.proofs.Removing.{remove-place-free, remove-place-held}
 use borrow.Author.Needs.{needs}
-use Rattle.removal.proofs.clear.Statement.{statement}
-use Rattle.removal.proofs.clear.Tie as tie
+use Rattle.removal.proofs.remove_place.Statement.{statement}
+use Rattle.removal.proofs.remove_place.Tie as tie
 
 returns : tie.Need-returns
 returns c =
@@ -18,7 +18,7 @@ returns c =
     let a = s .args in (
       does-nothing (venueOf (a .numbers .now)) (a .out .now) (a .at)
           ∙ ap (λ (e : Effect). seen (a .out .now) (a .at) does e)
-          (clear-free (a .n) (venueOf (a .numbers .now)) _ (legging-at (a .numbers .now) (a .n) (s .pre .1) ∙ sym (p2 .legging-at .ensures)) (a .cause) (c .if1 .taken)),
+          (remove-place-free (a .n) (venueOf (a .numbers .now)) _ (legging-at (a .numbers .now) (a .n) (s .pre .1) ∙ sym (p2 .legging-at .ensures)) (a .cause) (c .if1 .taken)),
       record { regulars = refl; complexes = refl; right = λ h. h },
     )
 
@@ -33,12 +33,12 @@ returns-2 c =
       does-report _ _ _ _ _ _ (p2 .emit-removed .ensures)
           ∙ ap (λ (e : Effect). seen (a .out .now) (a .at) does e)
           (ap (report _) (p6 .put-legging .ensures .0)
-          ∙ clear-held (a .n) (venueOf (a .numbers .now)) _ (legging-at (a .numbers .now) (a .n) (s .pre .1) ∙ sym (p10 .legging-at .ensures)) (a .cause) (p8 .if1 .left)),
+          ∙ remove-place-held (a .n) (venueOf (a .numbers .now)) _ (legging-at (a .numbers .now) (a .n) (s .pre .1) ∙ sym (p10 .legging-at .ensures)) (a .cause) (p8 .if1 .left)),
       p6 .put-legging .ensures .1,
     )
 
-pub clear-spec : {M : Type 1} → statement M
-clear-spec =
+pub remove-place-spec : {M : Type 1} → statement M
+remove-place-spec =
     tie.close
     (tie.spec
     (λ c κs. search needs)

@@ -9,8 +9,8 @@ use borrow.Author.Tests.{lt-ltb, le-ltb}
 use Rattle.rules.specs.Bytes.{asSigned}
 use Rattle.wire.proofs.Twos.{minus}
 use borrow.Author.Needs.{needs}
-use Rattle.wire.proofs.signed.Statement.{statement}
-use Rattle.wire.proofs.signed.Tie as tie
+use Rattle.wire.proofs.as_signed.Statement.{statement}
+use Rattle.wire.proofs.as_signed.Tie as tie
 
 returns : tie.Need-returns
 unfolding asSigned
@@ -29,5 +29,5 @@ returns-2 c =
     let r : negsuc 0 -ℤ toZ w32 k ≡ negsuc k = rw (toZ-pos w32 k (omega arith)) (minus k) in
     rw r (toZ-ofZ w32 (negsuc k) (record { sfits = omega arith }) ∙ simp (le-ltb _ _ (c .if1 .left)))
 
-pub signed-spec : {M : Type 1} → statement M
-signed-spec = tie.close (tie.spec (λ c. search needs) returns (λ c. search needs) (λ c. search needs) sub-result returns-2)
+pub as-signed-spec : {M : Type 1} → statement M
+as-signed-spec = tie.close (tie.spec (λ c. search needs) returns (λ c. search needs) (λ c. search needs) sub-result returns-2)

@@ -1,10 +1,10 @@
--- `cross_makers::ranks_before` meets its contract.
+-- `cross_makers::crosses_before` meets its contract.
 use Rattle.cross_makers.proofs.Limits.{test-is}
 use Rattle.cross_makers.proofs.Candidates.{rank-higher, rank-lower, rank-equal}
-use Rattle.cross_makers.proofs.ranks_before.Statement.{statement}
-use Rattle.cross_makers.proofs.ranks_before.Tie as tie
-use Rattle.cross_makers.proofs.ranks_before.Reads as reads
-use Rattle.cross_makers.proofs.ranks_before.Lts as lts
+use Rattle.cross_makers.proofs.crosses_before.Statement.{statement}
+use Rattle.cross_makers.proofs.crosses_before.Tie as tie
+use Rattle.cross_makers.proofs.crosses_before.Reads as reads
+use Rattle.cross_makers.proofs.crosses_before.Lts as lts
 
 returns : tie.Need-returns
 returns c = let start = c .before .before .before in rank-higher (start .args .a) (start .args .m)
@@ -29,5 +29,5 @@ returns-3 c = let start = c .before .before .before .before .before .before in r
     (record { sfits = c .before .before .before .before .before .struct-told .given .1 .1 .1 .1 .1 .1 .0 .1 })
     (record { sfits = c .before .before .before .before .struct-told2 .given .1 .1 .1 .1 .1 .1 .0 .1 }) _ (c .before .before .if2 .left))
 
-pub ranks-before-spec : {M : Type 1} → statement M
-ranks-before-spec = tie.close (tie.spec returns returns-2 returns-3)
+pub crosses-before-spec : {M : Type 1} → statement M
+crosses-before-spec = tie.close (tie.spec returns returns-2 returns-3)
