@@ -15,11 +15,11 @@ ghost use Prim.Native.Nat.{ℕ, min, _+_, _≤_};
 ghost use lib.Dec.{eqb};
 ghost use lib.IntN.{ℤ, pos, natAbs, _+ℤ_};
 ghost use Rattle.rules.specs.Base.{if_then_else_};
-ghost use Rattle.rules.specs.Words.{opposite, signed, placeOf, freshVenue};
-ghost use Rattle.rules.specs.Settings.{baseFigure};
+ghost use Rattle.rules.specs.Words.{opposite, signed, placeOf, freshVenue, sell, isPrice, isQuantity, isRatio, oneToOne};
+ghost use Rattle.rules.specs.Settings.{baseFigure, isIncrement};
 ghost use Rattle.rules.specs.Messages.{lengthOf, messageForm};
 ghost use Rattle.rules.specs.Records.{causeNumber};
-ghost use Rattle.rules.specs.Prices.{shown, displayed, weighed, nearNet};
+ghost use Rattle.rules.specs.Prices.{shown, displayed, weighed, nearNet, better, betterOf, reaches};
 ghost use Rattle.rules.specs.Standing.{verdictNumber};
 ghost use Rattle.rules.specs.Refusals.{decodedNumber};
 
@@ -298,4 +298,109 @@ pub fn decoded_number(decoded: Decoded) -> u8
         Decoded::Taken(_) => 0,
         Decoded::Refused(number) => number,
     }
+}
+
+// a is strictly better than b to sell: lower, and any price is better than none.
+fn is_lower(a: u64, b: u64) -> bool
+    ensures { λ r. ⌜ r ≡ better sell a b ⌝ }
+{
+    if a == 0 {
+        return false;
+    }
+    if b == 0 {
+        return true;
+    }
+    a < b
+}
+
+// a is strictly better than b at this side; any price is better than none. Both comparisons are made, so that the side only selects.
+pub fn is_better_wide(side: u8, a: u64, b: u64) -> bool
+    ensures { λ r. ⌜ r ≡ better side a b ⌝ }
+{
+    let higher = b < a;
+    let lower = is_lower(a, b);
+    if side == 0 {
+        return higher;
+    }
+    lower
+}
+
+// The same of two prices.
+pub fn is_better(side: u8, a: u32, b: u32) -> bool
+    ensures { λ r. ⌜ r ≡ better side a b ⌝ }
+{
+    is_better_wide(side, a as u64, b as u64)
+}
+
+// The better of two prices.
+pub fn better_of(side: u8, a: u32, b: u32) -> u32
+    ensures { λ r. ⌜ r ≡ betterOf side a b ⌝ }
+{
+    if is_better(side, a, b) {
+        return a;
+    }
+    b
+}
+
+// A price p of this side and a price q of the other side cross or are equal.
+pub fn reaches_price(side: u8, p: u32, q: u32) -> bool
+    ensures { λ r. ⌜ r ≡ reaches side p q ⌝ }
+{
+    if side == 0 {
+        return q <= p;
+    }
+    p <= q
+}
+
+// A number is a price: 1 to 100000.
+pub fn is_price(n: u32) -> bool
+    ensures { λ r. ⌜ r ≡ isPrice n ⌝ }
+{
+    if n == 0 {
+        return false;
+    }
+    n <= 100000
+}
+
+// A number is a quantity: 1 to 10000.
+pub fn is_quantity(n: u32) -> bool
+    ensures { λ r. ⌜ r ≡ isQuantity n ⌝ }
+{
+    if n == 0 {
+        return false;
+    }
+    n <= 10000
+}
+
+// A number is a ratio: 1 to 3.
+pub fn is_ratio(n: u8) -> bool
+    ensures { λ r. ⌜ r ≡ isRatio n ⌝ }
+{
+    if n == 0 {
+        return false;
+    }
+    n <= 3
+}
+
+// A number is an increment: 1, 5 or 10.
+pub fn is_increment(n: u8) -> bool
+    ensures { λ r. ⌜ r ≡ isIncrement n ⌝ }
+{
+    if n == 1 {
+        return true;
+    }
+    if n == 5 {
+        return true;
+    }
+    n == 10
+}
+
+// A complex order is of kind 2; every other one is of kind 10.
+pub fn is_one_to_one(c: Complex) -> bool
+    ensures { λ r. ⌜ r ≡ oneToOne c ⌝ }
+{
+    if c.ratio1 != 1 {
+        return false;
+    }
+    c.ratio2 == 1
 }

@@ -91,7 +91,7 @@ fn is_met(m: Regular, series: u8, side: u8, price: u32) -> bool
     if m.side != arithmetic::opposite_of(side) {
         return false;
     }
-    levels::reaches_price(side, price, m.price)
+    arithmetic::reaches_price(side, price, m.price)
 }
 
 // At one price a goes before m: who shows before who does not, and then the earlier.
@@ -114,7 +114,7 @@ fn shows_first(a: Regular, m: Regular) -> bool
 fn ranks_before(a: Regular, m: Regular) -> bool
     ensures { λ r. ⌜ r ≡ priceThenId a m ⌝ }
 {
-    if levels::is_better(a.side, a.price, m.price) {
+    if arithmetic::is_better(a.side, a.price, m.price) {
         return true;
     }
     if a.price != m.price {

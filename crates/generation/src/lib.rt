@@ -82,7 +82,7 @@ fn may_generate(numbers: &[u32], taken: TakenLevels, c: Complex) -> bool
     requires { ⌜ (length (now numbers) ≡ size) × (TakenOf taken c (venueOf (now numbers) .regular)) × (LegsIn c) × (Figured (now numbers)) ⌝ }
     ensures { λ r. ⌜ r ≡ mayGenerate (venueOf (now (numbers .entry))) c ⌝ }
 {
-    if !wire::is_one_to_one(c) {
+    if !arithmetic::is_one_to_one(c) {
         return false;
     }
     if !prices::both_open(numbers, c) {
@@ -112,7 +112,7 @@ pub fn gives_way(numbers: &[u32], c: Complex, s: u8, d: u8, p: u32) -> bool
     ensures { λ r. ⌜ r ≡ givesWay (venueOf (now (numbers .entry))) c d p (leggingAt (venueOf (now (numbers .entry))) s d) ⌝ }
 {
     let own = prices::own_price(numbers, s, d);
-    if levels::is_better(d, p, own) {
+    if arithmetic::is_better(d, p, own) {
         return true;
     }
     if p != own {

@@ -8,66 +8,13 @@ ghost use mathlib.Core.Bool.{true};
 ghost use Prim.Native.Nat.{suc, _≤_, _<_};
 ghost use lib.ListN.{length};
 ghost use Rattle.rules.specs.Base.{held};
-ghost use Rattle.rules.specs.Words.{sell};
-ghost use Rattle.rules.specs.Prices.{better, betterOf, reaches, bestRegular};
+ghost use Rattle.rules.specs.Prices.{better, reaches, bestRegular};
 ghost use Rattle.rules.specs.Trading.{fillRegular, putRegular};
 ghost use Rattle.rules.specs.Generation.{reachesAny};
 ghost use Rattle.rules.specs.Standing.{showAgain};
 ghost use Rattle.rules.specs.Sound.{showsFully};
 ghost use Rattle.places.specs.Layout.{size, regularsUsed, complexesUsed, venueOf, levelOf, Right, Below, Counts, SameCounts, Loadable, Loaded};
 ghost use Rattle.levels.specs.Grid.{noLevel, withOrder, levelBy, GridOf, LevelsPut, LegsIn, TakenOf, SidesOf};
-
-// a is strictly better than b to sell: lower, and any price is better than none.
-fn is_lower(a: u64, b: u64) -> bool
-    ensures { λ r. ⌜ r ≡ better sell a b ⌝ }
-{
-    if a == 0 {
-        return false;
-    }
-    if b == 0 {
-        return true;
-    }
-    a < b
-}
-
-// a is strictly better than b at this side; any price is better than none. Both comparisons are made, so that the side only selects.
-pub fn is_better_wide(side: u8, a: u64, b: u64) -> bool
-    ensures { λ r. ⌜ r ≡ better side a b ⌝ }
-{
-    let higher = b < a;
-    let lower = is_lower(a, b);
-    if side == 0 {
-        return higher;
-    }
-    lower
-}
-
-// The same of two prices.
-pub fn is_better(side: u8, a: u32, b: u32) -> bool
-    ensures { λ r. ⌜ r ≡ better side a b ⌝ }
-{
-    is_better_wide(side, a as u64, b as u64)
-}
-
-// The better of two prices.
-pub fn better_of(side: u8, a: u32, b: u32) -> u32
-    ensures { λ r. ⌜ r ≡ betterOf side a b ⌝ }
-{
-    if is_better(side, a, b) {
-        return a;
-    }
-    b
-}
-
-// A price p of this side and a price q of the other side cross or are equal.
-pub fn reaches_price(side: u8, p: u32, q: u32) -> bool
-    ensures { λ r. ⌜ r ≡ reaches side p q ⌝ }
-{
-    if side == 0 {
-        return q <= p;
-    }
-    p <= q
-}
 
 // A price p of this side reaches a price q that is there.
 pub fn reaches_any(side: u8, p: u32, q: u32) -> bool
@@ -76,7 +23,7 @@ pub fn reaches_any(side: u8, p: u32, q: u32) -> bool
     if q == 0 {
         return false;
     }
-    reaches_price(side, p, q)
+    arithmetic::reaches_price(side, p, q)
 }
 
 // Levels kept ---------------------------------------------------------------------------------
@@ -97,7 +44,7 @@ fn with_order(l: Level, o: Regular) -> Level
             size: size + l.size,
         };
     }
-    if is_better(o.side, o.price, l.price) {
+    if arithmetic::is_better(o.side, o.price, l.price) {
         return Level {
             price: o.price,
             size,

@@ -44,10 +44,10 @@ fn legging_first(o: Regular, l: Legging, p: u32) -> bool
     if own == 0 {
         return false;
     }
-    if !levels::reaches_price(o.side, o.price, own) {
+    if !arithmetic::reaches_price(o.side, o.price, own) {
         return false;
     }
-    levels::is_better(arithmetic::opposite_of(o.side), own, p)
+    arithmetic::is_better(arithmetic::opposite_of(o.side), own, p)
 }
 
 // The legging order that one of a side in a series faces.

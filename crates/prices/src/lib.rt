@@ -61,7 +61,7 @@ pub fn best_own(numbers: &[u32], best: u32, s: u8, d: u8) -> u32
     ensures { λ r. ⌜ r ≡ bestOwn (venueOf (now (numbers .entry))) s d ⌝ }
 {
     let own = own_price(numbers, s, d);
-    levels::better_of(d, own, best)
+    arithmetic::better_of(d, own, best)
 }
 
 // The size at the best own price of a side, legging included; level is that of its regular orders.
@@ -77,7 +77,7 @@ pub fn own_size(numbers: &[u32], level: Level, s: u8, d: u8) -> u64
     if l.price == level.price {
         return level.size + legging;
     }
-    if levels::is_better(d, l.price, level.price) {
+    if arithmetic::is_better(d, l.price, level.price) {
         return legging;
     }
     level.size
@@ -89,7 +89,7 @@ pub fn clear_price(numbers: &[u32], best: u32, s: u8, d: u8) -> u32
     ensures { λ r. ⌜ r ≡ clearPrice (venueOf (now (numbers .entry))) s d ⌝ }
 {
     let own = own_price(numbers, s, d);
-    if levels::is_better(d, own, best) {
+    if arithmetic::is_better(d, own, best) {
         return 0;
     }
     best
@@ -113,7 +113,7 @@ pub fn market_best(numbers: &[u32], best: u32, s: u8, d: u8) -> u32
     ensures { λ r. ⌜ r ≡ marketBest (venueOf (now (numbers .entry))) s d ⌝ }
 {
     let out = away_price(numbers, s, d);
-    levels::better_of(d, out, best)
+    arithmetic::better_of(d, out, best)
 }
 
 // The net t of a complex order is in band; taken has the levels that its legs take.

@@ -1,18 +1,19 @@
 -- Signed numbers of 64 bits: an operation whose result fits is the integers' own, and the band's test is the definition's.
-use mathlib.Core.Path.{_≡_, refl, sym, ap, ap₂, _∙_}
-use mathlib.Core.Bool.{Bool, true, false}
+use mathlib.Core.Path.{_≡_, refl, sym, ap, ap₂, _∙_, subst}
+use mathlib.Core.Bool.{Bool, true, false, true≢false}
 use Prim.Native.Nat.{ℕ, _+_, _-_, _*_, _/_, _≤_, _<_}
 use native.Mathlib.Omega.{arith}
-use native.Mathlib.Nat.{mul-add, mul-le-mul-right, mul-zero}
+use native.Mathlib.Nat.{mul-add, mul-le-mul-right, mul-zero, not-suc-le-zero}
 use lib.Dec.{leb, eqb}
 use lib.IntN.{ℤ, pos, negsuc, natAbs, negℤ, _+ℤ_, _-ℤ_, _*ℤ_, +ℤ-idl}
-use lib.Signed.{leZ}
+use lib.Signed.{leZ, ltZ}
 use mir.Syntax.{w32, w64}
 use mir.Val.{SFits, toZ, ofZ}
 use mir.ValLaws.{toZ-ofZ}
 use Rattle.rules.specs.Base.{if_then_else_}
 use Rattle.rules.specs.Words.{signed}
 use Rattle.rules.specs.Prices.{displayed, nearNet}
+use borrow.Author.Tests.{ltb-true}
 use Rattle.rules.proofs.Integers.{plus, minus, add-is, abs-is, abs-add, abs-neg, mul-plus, mul-minus, le-is, leb-same}
 
 -- a number below 2^63 in size fits
@@ -193,3 +194,19 @@ shown-none d p = none (eqb d 0)
     none : (b : Bool) → (if b then p / 0 * 0 else (p + (0 - 1)) / 0 * 0) ≡ 0
     none true = mul-zero (p / 0)
     none false = mul-zero ((p + (0 - 1)) / 0)
+
+-- x is -1 - n
+pub negative : (x : ℤ) → SFits w64 x → ltZ (toZ w64 (ofZ w64 x)) (pos 0) ≡ true → (n : ℕ) × (x ≡ negsuc n) × (n < 9223372036854775808)
+negative x f e = go x f (subst (λ (z : ℤ). ltZ z (pos 0) ≡ true) (toZ-ofZ w64 x f) e)
+  where
+    go : (x : ℤ) → SFits w64 x → ltZ x (pos 0) ≡ true → (n : ℕ) × (x ≡ negsuc n) × (n < 9223372036854775808)
+    go (pos n) f e = let h : n < 0 = ltb-true n 0 e in absurd (not-suc-le-zero h)
+    go (negsuc n) f e = (n, refl, f .sfits)
+
+-- x is n
+pub positive : (x : ℤ) → SFits w64 x → ltZ (toZ w64 (ofZ w64 x)) (pos 0) ≡ false → (n : ℕ) × (x ≡ pos n) × (n < 9223372036854775808)
+positive x f e = go x f (subst (λ (z : ℤ). ltZ z (pos 0) ≡ false) (toZ-ofZ w64 x f) e)
+  where
+    go : (x : ℤ) → SFits w64 x → ltZ x (pos 0) ≡ false → (n : ℕ) × (x ≡ pos n) × (n < 9223372036854775808)
+    go (pos n) f e = (n, refl, f .sfits)
+    go (negsuc n) f e = absurd (true≢false e)

@@ -124,7 +124,7 @@ fn put_ratios(out: &mut [u8], at: usize, c: Complex) -> usize
 fn put_complex(out: &mut [u8], at: usize, c: Complex) -> usize
     ensures { λ r. ⌜ begun (now (out .exit)) r ≡ begun (now (out .entry)) at adds complexRecord c ⌝ }
 {
-    if wire::is_one_to_one(c) {
+    if arithmetic::is_one_to_one(c) {
         return put_two_leg(out, at, 21, 2, c);
     }
     let pos = put_two_leg(out, at, 23, 10, c);

@@ -39,7 +39,7 @@ pub fn shown_well(numbers: &[u32], best: u32, s: u8, d: u8, p: u32) -> bool
     requires { ⌜ (length (now numbers) ≡ size) × (s < 8) × (Figured (now numbers)) ⌝ }
     ensures { λ r. ⌜ r ≡ not (better d best (displayed (increment (venueOf (now (numbers .entry))) s) d p)) ⌝ }
 {
-    !levels::is_better_wide(d, best as u64, shown_price(numbers, s, d, p))
+    !arithmetic::is_better_wide(d, best as u64, shown_price(numbers, s, d, p))
 }
 
 // The level that the leg of c takes that is not in series s.

@@ -21,8 +21,8 @@ use Rattle.rules.specs.Places.{holdsEdition, blankRegular, blankComplex, blankE
 use Rattle.rules.specs.Refusals.{regularInRange}
 use Rattle.rules.specs.Sound.{showsFully, figureInRange, editionInRange, unfallen}
 use Rattle.rules.proofs.Tests.{and-l, and-r, and-in, and-true, and-false}
-use Rattle.wire.proofs.Decoding.{inside, within-top}
 use Rattle.sound_places.specs.Checked.{editionsFrom, numbersFrom}
+use Rattle.rules.proofs.Ranges.{inside, within-top}
 
 drop-on : {A : Type 0} (l : List A) (d : A) (i : ℕ) → i < length l → drop i l ≡ getD l i d ∷ drop (i + 1) l
 drop-on l d i h = drop-cons l i d h ∙ ap (λ (k : ℕ). getD l i d ∷ drop k l) (sym (add-one i))

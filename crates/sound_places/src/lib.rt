@@ -236,7 +236,7 @@ fn edition_in_range(e: Edition) -> bool
     ensures { λ r. ⌜ r ≡ editionInRange e ⌝ }
 {
     if e.figure <= 7 {
-        return wire::is_increment(e.value);
+        return arithmetic::is_increment(e.value);
     }
     if e.figure != 8 {
         return false;

@@ -22,7 +22,6 @@ use Rattle.rules.specs.Standing.{hasLeg, parentOf, verdict, stands}
 use Rattle.rules.specs.Complex.{restsComplex, complexPlace}
 use Rattle.rules.specs.Places.{blankLegging}
 use Rattle.rules.specs.Sound.{apart, leggingSound, leggingsSound, idsDistinct, follows}
-use Rattle.wire.proofs.Decoding.{inside, within-top}
 use Rattle.places.specs.Layout.{upto, inUse, regularIn, regularsUsed, leggingIn, editionIn, venueOf}
 use Rattle.levels.proofs.Scans.{upto-on, upto-end}
 use Rattle.book.specs.declared.Found.{Found}
@@ -30,6 +29,7 @@ use Rattle.book.specs.declared.Found.the-variants.{At, Nothing}
 use Rattle.book.specs.Picks.{complexFound}
 use Rattle.soundness.specs.Checked.{pricedOn, onIncrements, isAlone, eight, leggingInRange, hasHome}
 use Rattle.sound_places.proofs.Passes.{all-past, all-stop, all-none, and-assoc}
+use Rattle.rules.proofs.Ranges.{inside, within-top}
 
 -- A pass over numbered places -----------------------------------------------------------------
 

@@ -174,7 +174,7 @@ fn has_home(numbers: &[u32], l: Legging, s: u8, d: u8) -> bool
     if !has_leg(c, s, d) {
         return false;
     }
-    if !wire::is_one_to_one(c) {
+    if !arithmetic::is_one_to_one(c) {
         return false;
     }
     l.quantity <= c.quantity

@@ -4,11 +4,9 @@ use mathlib.Core.Bool.{Bool, true, false, not, _&&_, _||_}
 use mathlib.Core.List.{List}
 use Prim.Native.Nat.{ℕ, _<_, _≤_}
 use native.Mathlib.Omega.{arith}
-use lib.Dec.{leb, ltb, eqb}
+use lib.Dec.{leb, eqb}
 use lib.ListN.{length}
-use lib.IntN.{ℤ, pos, negsuc}
-use lib.Signed.{leZ, ltZ}
-use borrow.Author.Tests.{le-leb, lt-leb, lt-ltb, le-ltb, eq-eqb, ne-eqb, leb-true, leb-false, eqb-true, eqb-false}
+use borrow.Author.Tests.{lt-ltb, le-ltb, eq-eqb, ne-eqb, eqb-true, eqb-false}
 use Rattle.rules.specs.declared.Regular.{Regular}
 use Rattle.rules.specs.declared.Complex.{Complex}
 use Rattle.rules.specs.declared.Message.{Message}
@@ -19,40 +17,10 @@ use Rattle.rules.specs.Settings.{isEdition}
 use Rattle.rules.specs.Bytes.{u8At, u16At, u32At, lengthField, kindField}
 use Rattle.rules.specs.Messages.{lengthOf, orderAt, twoLegAt, messageOf}
 use Rattle.rules.specs.Refusals.{torn, isKind, isLength, regularInRange, twoLegInRange, inRange, equalRatios, decoded}
-use Rattle.rules.proofs.Tests.{and-true, and-false}
+use Rattle.rules.proofs.Tests.{and-true}
+use Rattle.rules.proofs.Ranges.{below, inside, within-top}
 
 -- Ranges --------------------------------------------------------------------------------------
-
-pub below : (low high x : ℕ) → x < low → within low high x ≡ false
-unfolding within
-below low high x h = rw (lt-leb low x h)
-
-pub above : (low high x : ℕ) → high < x → within low high x ≡ false
-unfolding within
-above low high x h = rw (lt-leb x high h) (and-false (leb low x))
-
-pub inside : (low high x : ℕ) → low ≤ x → x ≤ high → within low high x ≡ true
-unfolding within
-inside low high x a b = rw (le-leb low x a, le-leb x high b)
-
--- the upper bound alone decides
-pub within-top : (low high x : ℕ) → low ≤ x → leb x high ≡ within low high x
-unfolding within
-within-top low high x a = rw (le-leb low x a)
-
--- at most is not above
-leb-not : (a b : ℕ) → leb a b ≡ not (ltb b a)
-leb-not a b = go (leb a b) refl
-  where
-    go : (t : Bool) → leb a b ≡ t → leb a b ≡ not (ltb b a)
-    go true e = rw (e, le-ltb b a (leb-true _ _ e))
-    go false e = rw (e, lt-ltb b a (leb-false _ _ e))
-
-pub leZ-not : (a b : ℤ) → leZ a b ≡ not (ltZ b a)
-leZ-not (pos a) (pos b) = leb-not a b
-leZ-not (pos a) (negsuc b) = refl
-leZ-not (negsuc a) (pos b) = refl
-leZ-not (negsuc a) (negsuc b) = leb-not b a
 
 -- an id is any number of 32 bits but 0
 pub id-is : (x : ℕ) → x < 4294967296 → not (eqb x 0) ≡ isId x

@@ -8,7 +8,7 @@ ghost use mathlib.Core.Bool.{not, _&&_};
 ghost use Prim.Native.Nat.{ℕ, _+_, _-_, _≤_, _<_};
 ghost use lib.Dec.{eqb};
 ghost use lib.ListN.{length};
-ghost use Rattle.rules.specs.Words.{within, isSeries, isSide, isStatus, isAway, isPrice, isQuantity, isLimit, isRatio, oneToOne};
+ghost use Rattle.rules.specs.Words.{within, isSeries, isSide, isStatus, isAway, isLimit};
 ghost use Rattle.rules.specs.Settings.{isIncrement};
 ghost use Rattle.rules.specs.Bytes.{u8At, u16At, u32At, asSigned};
 ghost use Rattle.rules.specs.Messages.{lengthOf, messageForm, orderAt, twoLegAt, messageOf};
@@ -102,26 +102,6 @@ pub fn word_at(s: &[u8], at: usize) -> u32
 
 // A message -----------------------------------------------------------------------------------
 
-// A number is a price: 1 to 100000.
-fn is_price(n: u32) -> bool
-    ensures { λ r. ⌜ r ≡ isPrice n ⌝ }
-{
-    if n == 0 {
-        return false;
-    }
-    n <= 100000
-}
-
-// A number is a quantity: 1 to 10000.
-fn is_quantity(n: u32) -> bool
-    ensures { λ r. ⌜ r ≡ isQuantity n ⌝ }
-{
-    if n == 0 {
-        return false;
-    }
-    n <= 10000
-}
-
 // A limit goes as far as `far` on both sides of 0.
 fn is_limit(far: u32, n: i32) -> bool
     ensures { λ r. ⌜ r ≡ isLimit far n ⌝ }
@@ -132,29 +112,6 @@ fn is_limit(far: u32, n: i32) -> bool
         return false;
     }
     x <= top
-}
-
-// A number is a ratio: 1 to 3.
-fn is_ratio(n: u8) -> bool
-    ensures { λ r. ⌜ r ≡ isRatio n ⌝ }
-{
-    if n == 0 {
-        return false;
-    }
-    n <= 3
-}
-
-// A number is an increment: 1, 5 or 10.
-pub fn is_increment(n: u8) -> bool
-    ensures { λ r. ⌜ r ≡ isIncrement n ⌝ }
-{
-    if n == 1 {
-        return true;
-    }
-    if n == 5 {
-        return true;
-    }
-    n == 10
 }
 
 // An order's fields are in their ranges; that its price is a multiple of the increment in force is asked of the venue.
@@ -170,10 +127,10 @@ pub fn regular_in_range(o: Regular) -> bool
     if 1 < o.side {
         return false;
     }
-    if !is_price(o.price) {
+    if !arithmetic::is_price(o.price) {
         return false;
     }
-    if !is_quantity(o.quantity) {
+    if !arithmetic::is_quantity(o.quantity) {
         return false;
     }
     if o.display == 0 {
@@ -217,30 +174,20 @@ fn two_leg_in_range(far: u32, c: Complex) -> bool
     if !is_limit(far, c.limit) {
         return false;
     }
-    if !is_quantity(c.quantity) {
+    if !arithmetic::is_quantity(c.quantity) {
         return false;
     }
-    if !is_ratio(c.ratio1) {
+    if !arithmetic::is_ratio(c.ratio1) {
         return false;
     }
-    is_ratio(c.ratio2)
-}
-
-// A complex order is of kind 2; every other one is of kind 10.
-pub fn is_one_to_one(c: Complex) -> bool
-    ensures { λ r. ⌜ r ≡ oneToOne c ⌝ }
-{
-    if c.ratio1 != 1 {
-        return false;
-    }
-    c.ratio2 == 1
+    arithmetic::is_ratio(c.ratio2)
 }
 
 // A complex order may rest: one of kind 2, or one of kind 10 whose ratios differ.
 pub fn complex_in_range(c: Complex) -> bool
     ensures { λ r. ⌜ r ≡ complexInRange c ⌝ }
 {
-    if is_one_to_one(c) {
+    if arithmetic::is_one_to_one(c) {
         return two_leg_in_range(200000, c);
     }
     if c.ratio1 == c.ratio2 {
@@ -279,7 +226,7 @@ fn increment_in_range(series: u8, increment: u8) -> bool
     if 7 < series {
         return false;
     }
-    is_increment(increment)
+    arithmetic::is_increment(increment)
 }
 
 // A limited sweep looks at 1 to 32 orders.

@@ -18,10 +18,10 @@ use Rattle.rules.specs.Complex.{legsIn, legIn, unitsIn, legInTurn}
 use Rattle.records.specs.Seen.{seen}
 use Rattle.records.specs.Stage.{stage, _does_}
 use Rattle.records.proofs.Stages.{follow}
-use Rattle.wire.proofs.Decoding.{leZ-not}
 use Rattle.levels.specs.declared.TakenLevels.{TakenLevels}
 use Rattle.levels.specs.Grid.{TakenOf}
 use Rattle.levels.proofs.Sides.{level-price, level-size}
+use Rattle.rules.proofs.Ranges.{leZ-not}
 
 -- The test ------------------------------------------------------------------------------------
 

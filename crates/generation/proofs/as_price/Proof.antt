@@ -1,6 +1,6 @@
 -- `generation::as_price` meets its contract.
-use Rattle.wire.proofs.Twos.{negative, positive}
 use Rattle.rules.specs.Generation.{asPrice}
+use Rattle.rules.proofs.Machine.{negative, positive}
 use mir.ValLaws.{toZ-ofZ}
 use mir.Syntax.{w64}
 use native.Mathlib.Omega.{arith}

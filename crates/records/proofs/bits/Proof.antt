@@ -6,7 +6,8 @@ use mir.Syntax.{w64}
 use mir.ValLaws.{toZ-ofZ}
 use Rattle.rules.specs.Bytes.{bytes, asUnsigned}
 use Rattle.records.proofs.Fields.{low-bytes}
-use Rattle.wire.proofs.Twos.{negative, positive, back, back-read}
+use Rattle.wire.proofs.Twos.{back, back-read}
+use Rattle.rules.proofs.Machine.{negative, positive}
 use borrow.Author.Needs.{needs}
 use Rattle.records.proofs.bits.Statement.{statement}
 use Rattle.records.proofs.bits.Tie as tie

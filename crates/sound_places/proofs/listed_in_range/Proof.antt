@@ -3,7 +3,7 @@ use native.Mathlib.Omega.{arith}
 use Rattle.rules.specs.Words.{isStatus, isAway}
 use Rattle.rules.specs.Sound.{listedInRange}
 use Rattle.rules.proofs.Tests.{and-false}
-use Rattle.wire.proofs.Decoding.{above, inside, within-top}
+use Rattle.rules.proofs.Ranges.{above, inside, within-top}
 use Rattle.sound_places.proofs.listed_in_range.Statement.{statement}
 use Rattle.sound_places.proofs.listed_in_range.Tie as tie
 

@@ -2,8 +2,8 @@
 use native.Mathlib.Omega.{arith}
 use Rattle.rules.specs.Words.{isId, isPrice, isQuantity}
 use Rattle.rules.proofs.Tests.{and-false}
-use Rattle.wire.proofs.Decoding.{below, above}
 use Rattle.soundness.specs.Checked.{leggingInRange}
+use Rattle.rules.proofs.Ranges.{below, above}
 use Rattle.soundness.proofs.Beside.{legging-quantity}
 use Rattle.soundness.proofs.legging_in_range.Statement.{statement}
 use Rattle.soundness.proofs.legging_in_range.Tie as tie

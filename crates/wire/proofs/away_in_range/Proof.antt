@@ -1,7 +1,7 @@
 use native.Mathlib.Omega.{arith}
 use Rattle.rules.specs.Words.{isSeries, isAway}
-use Rattle.wire.proofs.Decoding.{above, inside, within-top}
 use Rattle.rules.proofs.Tests.{and-false}
+use Rattle.rules.proofs.Ranges.{above, inside, within-top}
 use Rattle.wire.proofs.away_in_range.Statement.{statement}
 use Rattle.wire.proofs.away_in_range.Tie as tie
 

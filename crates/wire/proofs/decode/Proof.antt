@@ -7,7 +7,8 @@ use borrow.Author.Tests.{not-true, not-false}
 use Rattle.rules.specs.Bytes.{u8At, u16At, kindField}
 use Rattle.rules.specs.Messages.{lengthOf}
 use Rattle.rules.specs.Refusals.{torn, isKind, inRange, equalRatios}
-use Rattle.wire.proofs.Decoding.{below, above, inside, torn-short, torn-low, torn-high, whole, no-kind, no-length, no-range, equal, taken}
+use Rattle.rules.proofs.Ranges.{below, above, inside}
+use Rattle.wire.proofs.Decoding.{torn-short, torn-low, torn-high, whole, no-kind, no-length, no-range, equal, taken}
 use borrow.Author.Needs.{needs}
 use Rattle.wire.proofs.decode.Statement.{statement}
 use Rattle.wire.proofs.decode.Tie as tie

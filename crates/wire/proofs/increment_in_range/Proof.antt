@@ -1,6 +1,6 @@
 use native.Mathlib.Omega.{arith}
 use Rattle.rules.specs.Words.{isSeries}
-use Rattle.wire.proofs.Decoding.{above, inside}
+use Rattle.rules.proofs.Ranges.{above, inside}
 use borrow.Author.Needs.{needs}
 use Rattle.wire.proofs.increment_in_range.Statement.{statement}
 use Rattle.wire.proofs.increment_in_range.Tie as tie

@@ -5,7 +5,7 @@ use lib.IntN.{pos, negℤ}
 use lib.Signed.{leZ, ltZ}
 use Rattle.rules.specs.Words.{isLimit}
 use Rattle.rules.proofs.Machine.{wide-fits, wide-is, cast-of, neg-fits, neg-ok}
-use Rattle.wire.proofs.Decoding.{leZ-not}
+use Rattle.rules.proofs.Ranges.{leZ-not}
 use borrow.Author.Needs.{needs}
 use Rattle.wire.proofs.is_limit.Statement.{statement}
 use Rattle.wire.proofs.is_limit.Tie as tie

@@ -3,7 +3,8 @@ use native.Mathlib.Omega.{arith}
 use Rattle.rules.specs.Settings.{isPercent}
 use Rattle.rules.specs.Refusals.{inRange}
 use Rattle.rules.proofs.ByKind.{lower-left}
-use Rattle.wire.proofs.Decoding.{within-top, any-edition}
+use Rattle.rules.proofs.Ranges.{within-top}
+use Rattle.wire.proofs.Decoding.{any-edition}
 use borrow.Author.Needs.{needs}
 use Rattle.wire.proofs.later_in_range.Statement.{statement}
 use Rattle.wire.proofs.later_in_range.Tie as tie

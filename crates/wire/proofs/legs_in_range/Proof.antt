@@ -1,7 +1,7 @@
 use native.Mathlib.Omega.{arith}
 use Rattle.rules.specs.Words.{isSeries, isSide}
 use Rattle.rules.proofs.Tests.{and-false}
-use Rattle.wire.proofs.Decoding.{above, inside}
+use Rattle.rules.proofs.Ranges.{above, inside}
 use Rattle.wire.proofs.legs_in_range.Statement.{statement}
 use Rattle.wire.proofs.legs_in_range.Tie as tie
 

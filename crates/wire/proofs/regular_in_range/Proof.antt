@@ -4,7 +4,8 @@ use borrow.Author.Tests.{not-true, not-false}
 use Rattle.rules.specs.Words.{isId, isSeries, isSide}
 use Rattle.rules.specs.Refusals.{regularInRange}
 use Rattle.rules.proofs.Tests.{and-false}
-use Rattle.wire.proofs.Decoding.{below, above, regular-shown}
+use Rattle.rules.proofs.Ranges.{below, above}
+use Rattle.wire.proofs.Decoding.{regular-shown}
 use borrow.Author.Needs.{needs}
 use Rattle.wire.proofs.regular_in_range.Statement.{statement}
 use Rattle.wire.proofs.regular_in_range.Tie as tie

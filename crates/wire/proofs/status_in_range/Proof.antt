@@ -1,6 +1,6 @@
 use native.Mathlib.Omega.{arith}
 use Rattle.rules.specs.Words.{isSeries, isStatus}
-use Rattle.wire.proofs.Decoding.{above, inside, within-top}
+use Rattle.rules.proofs.Ranges.{above, inside, within-top}
 use Rattle.wire.proofs.status_in_range.Statement.{statement}
 use Rattle.wire.proofs.status_in_range.Tie as tie
 

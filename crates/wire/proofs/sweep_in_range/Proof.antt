@@ -1,6 +1,6 @@
 use native.Mathlib.Omega.{arith}
-use Rattle.wire.proofs.Decoding.{below, within-top}
 use Rattle.wire.proofs.sweep_in_range.Statement.{statement}
+use Rattle.rules.proofs.Ranges.{below, within-top}
 use Rattle.wire.proofs.sweep_in_range.Tie as tie
 
 returns : tie.Need-returns

@@ -6,7 +6,8 @@ use borrow.Author.Tests.{not-true, not-false}
 use Rattle.rules.specs.Words.{isId, isClass, isLimit}
 use Rattle.rules.specs.Refusals.{twoLegInRange}
 use Rattle.rules.proofs.Tests.{and-false}
-use Rattle.wire.proofs.Decoding.{below, above, two-leg-out, two-leg-ratio}
+use Rattle.rules.proofs.Ranges.{below, above}
+use Rattle.wire.proofs.Decoding.{two-leg-out, two-leg-ratio}
 use borrow.Author.Needs.{needs}
 use Rattle.wire.proofs.two_leg_in_range.Statement.{statement}
 use Rattle.wire.proofs.two_leg_in_range.Tie as tie

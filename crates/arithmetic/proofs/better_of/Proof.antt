@@ -1,9 +1,9 @@
--- `levels::better_of` meets its contract.
+-- `arithmetic::better_of` meets its contract.
 use Rattle.rules.specs.Prices.{betterOf}
 use mathlib.Core.Path.{sym, _∙_}
 use borrow.Author.Needs.{needs}
-use Rattle.levels.proofs.better_of.Statement.{statement}
-use Rattle.levels.proofs.better_of.Tie as tie
+use Rattle.arithmetic.proofs.better_of.Statement.{statement}
+use Rattle.arithmetic.proofs.better_of.Tie as tie
 
 returns : tie.Need-returns
 unfolding betterOf

@@ -1,8 +1,8 @@
--- `levels::is_lower` meets its contract.
+-- `arithmetic::is_lower` meets its contract.
 use Rattle.rules.specs.Prices.{better}
 use borrow.Author.Tests.{eq-eqb, ne-eqb}
-use Rattle.levels.proofs.is_lower.Statement.{statement}
-use Rattle.levels.proofs.is_lower.Tie as tie
+use Rattle.arithmetic.proofs.is_lower.Statement.{statement}
+use Rattle.arithmetic.proofs.is_lower.Tie as tie
 
 returns : tie.Need-returns
 unfolding better

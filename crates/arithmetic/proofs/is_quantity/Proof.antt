@@ -1,8 +1,8 @@
 use native.Mathlib.Omega.{arith}
 use Rattle.rules.specs.Words.{isQuantity}
-use Rattle.wire.proofs.Decoding.{below, within-top}
-use Rattle.wire.proofs.is_quantity.Statement.{statement}
-use Rattle.wire.proofs.is_quantity.Tie as tie
+use Rattle.rules.proofs.Ranges.{below, within-top}
+use Rattle.arithmetic.proofs.is_quantity.Statement.{statement}
+use Rattle.arithmetic.proofs.is_quantity.Tie as tie
 
 returns : tie.Need-returns
 unfolding isQuantity

@@ -1,8 +1,8 @@
--- `levels::reaches_price` meets its contract.
+-- `arithmetic::reaches_price` meets its contract.
 use Rattle.rules.specs.Prices.{reaches}
 use borrow.Author.Tests.{eq-eqb, ne-eqb}
-use Rattle.levels.proofs.reaches_price.Statement.{statement}
-use Rattle.levels.proofs.reaches_price.Tie as tie
+use Rattle.arithmetic.proofs.reaches_price.Statement.{statement}
+use Rattle.arithmetic.proofs.reaches_price.Tie as tie
 
 returns : tie.Need-returns
 unfolding reaches

@@ -1,7 +1,7 @@
 use borrow.Author.Tests.{eq-eqb, ne-eqb}
 use Rattle.rules.specs.Settings.{isIncrement}
-use Rattle.wire.proofs.is_increment.Statement.{statement}
-use Rattle.wire.proofs.is_increment.Tie as tie
+use Rattle.arithmetic.proofs.is_increment.Statement.{statement}
+use Rattle.arithmetic.proofs.is_increment.Tie as tie
 
 returns : tie.Need-returns
 unfolding isIncrement

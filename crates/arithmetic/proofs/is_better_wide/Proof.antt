@@ -1,9 +1,9 @@
--- `levels::is_better_wide` meets its contract.
+-- `arithmetic::is_better_wide` meets its contract.
 use Rattle.rules.specs.Prices.{better}
 use borrow.Author.Tests.{eq-eqb, ne-eqb}
 use borrow.Author.Needs.{needs}
-use Rattle.levels.proofs.is_better_wide.Statement.{statement}
-use Rattle.levels.proofs.is_better_wide.Tie as tie
+use Rattle.arithmetic.proofs.is_better_wide.Statement.{statement}
+use Rattle.arithmetic.proofs.is_better_wide.Tie as tie
 
 returns : tie.Need-returns
 unfolding better

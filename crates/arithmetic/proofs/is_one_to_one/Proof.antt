@@ -1,7 +1,7 @@
 use borrow.Author.Tests.{eq-eqb, ne-eqb}
 use Rattle.rules.specs.Words.{oneToOne}
-use Rattle.wire.proofs.is_one_to_one.Statement.{statement}
-use Rattle.wire.proofs.is_one_to_one.Tie as tie
+use Rattle.arithmetic.proofs.is_one_to_one.Statement.{statement}
+use Rattle.arithmetic.proofs.is_one_to_one.Tie as tie
 
 returns : tie.Need-returns
 unfolding oneToOne
