@@ -11,9 +11,8 @@ use Rattle.rules.specs.Words.{opposite, placeOf}
 use Rattle.rules.specs.Complex.{reversed, crosses}
 use Rattle.rules.proofs.Tests.{and-l, and-r, and-false, or-false-l, or-false-r}
 use Rattle.rules.proofs.Better.{is-false}
-use Rattle.places.specs.Layout.{legsKey}
+use Rattle.places.specs.Layout.{legsKey, facingKey}
 use Rattle.levels.specs.Grid.{LegsIn}
-use Rattle.cross_makers.specs.Picks.{facingKey}
 
 -- a leg of series a at side b faces one of series s at side d
 leg-faces : (a b s d : ℕ) → d < 2 → a ≡ s → b ≡ opposite d → placeOf s d ≡ placeOf a (opposite b)

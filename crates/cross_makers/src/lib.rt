@@ -15,7 +15,7 @@ ghost use Rattle.rules.specs.Words.{opposite};
 ghost use Rattle.rules.specs.Complex.{reversed, respectsLegs, crosses, limitThenId, cross};
 ghost use Rattle.places.specs.Layout.{size, venueOf, Right};
 ghost use Rattle.levels.specs.Grid.{LegsIn, TakenOf};
-ghost use Rattle.cross_makers.specs.Picks.{pickedOf, facingKey};
+ghost use Rattle.cross_makers.specs.Picks.{pickedOf};
 
 // A complex order with its place, or none.
 pub enum Maker {
@@ -163,15 +163,6 @@ fn better_maker(best: Maker, n: usize, m: Complex) -> Maker
     }
 }
 
-// The key of an order whose legs face these two: the same series, at the opposite sides.
-fn facing_key(s: u8, d: u8, t: u8, e: u8) -> usize
-    ensures { λ r. ⌜ r ≡ facingKey s d t e ⌝ }
-{
-    let one = arithmetic::place_of(s, arithmetic::opposite_of(d));
-    let two = arithmetic::place_of(t, arithmetic::opposite_of(e));
-    16 * one + two
-}
-
 // A key is one of two.
 fn is_either(key: usize, one: usize, two: usize) -> bool
     ensures { λ r. ⌜ r ≡ (eqb key one || eqb key two) ⌝ }
@@ -187,8 +178,8 @@ pub fn first_cross(numbers: &[u32], c: Complex) -> Maker
     requires { ⌜ (length (now numbers) ≡ size) × (Right (now numbers)) × (LegsIn c) ⌝ }
     ensures { λ r. ⌜ pickedOf r ≡ first (crosses (venueOf (now (numbers .entry))) c) limitThenId (venueOf (now (numbers .entry)) .complex) ⌝ }
 {
-    let straight = facing_key(c.series1, c.side1, c.series2, c.side2);
-    let turned = facing_key(c.series2, c.side2, c.series1, c.side1);
+    let straight = places::facing_key(c.series1, c.side1, c.series2, c.side2);
+    let turned = places::facing_key(c.series2, c.side2, c.series1, c.side1);
     let mut best = Maker::Nobody;
     let mut i = places::complexes_used(numbers);
     while 0 < i {

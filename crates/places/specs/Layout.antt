@@ -37,7 +37,7 @@ use Rattle.rules.specs.declared.Edition.{Edition}
 use Rattle.rules.specs.declared.Generations.{Generations}
 use Rattle.rules.specs.declared.Venue.{Venue}
 use Rattle.places.specs.declared.Level.{Level}
-use Rattle.rules.specs.Words.{placeOf, noRegular, noComplex, withRegular, withComplex, withEditions}
+use Rattle.rules.specs.Words.{opposite, placeOf, noRegular, noComplex, withRegular, withComplex, withEditions}
 use Rattle.rules.specs.Base.{if_then_else_, held, keep}
 use Rattle.rules.specs.Settings.{baseFigure, sets, figureNow, increment}
 use Rattle.rules.specs.Prices.{bestIn, sizeIn}
@@ -119,6 +119,10 @@ regularKey o = placeOf (o .series) (o .side)
 
 unfoldable pub legsKey : Complex → ℕ
 legsKey c = 16 * placeOf (c .series1) (c .side1) + placeOf (c .series2) (c .side2)
+
+-- the key (legsKey) of an order whose legs face one of series s at side d and one of t at e
+unfoldable pub facingKey : (s d t e : ℕ) → ℕ
+facingKey s d t e = 16 * placeOf s (opposite d) + placeOf t (opposite e)
 
 -- the venue that the numbers stand for
 unfoldable pub venueOf : List ℕ → Venue

@@ -8,7 +8,7 @@ ghost use Rattle.rules.specs.Settings.{figureNow, freeEdition};
 ghost use Rattle.rules.specs.Generation.{generationsOf};
 ghost use Rattle.rules.specs.Step.{mask};
 ghost use Rattle.places.specs.Layout.{size, regularsUsed, complexesUsed, regularIn, complexIn, leggingIn, listedIn, editionIn, generationsIn, levelIn, regularKey, legsKey, venueOf};
-ghost use Rattle.places.specs.Layout.{Figured};
+ghost use Rattle.places.specs.Layout.{Figured, facingKey};
 ghost use Rattle.places.specs.Layout.{isUnmarked, Right};
 use rules::Complex;
 use rules::Edition;
@@ -298,6 +298,15 @@ pub fn legs_at(numbers: &[u32], i: usize) -> usize
     ensures { λ r. ⌜ r ≡ legsKey (complexIn (now (numbers .entry)) i) ⌝ }
 {
     wide(numbers[6 * i + COMPLEX_LEGS_AT] % 256)
+}
+
+// The key of an order whose legs face these two: the same series, at the opposite sides.
+pub fn facing_key(s: u8, d: u8, t: u8, e: u8) -> usize
+    ensures { λ r. ⌜ r ≡ facingKey s d t e ⌝ }
+{
+    let one = arithmetic::place_of(s, arithmetic::opposite_of(d));
+    let two = arithmetic::place_of(t, arithmetic::opposite_of(e));
+    16 * one + two
 }
 
 // The last id accepted.

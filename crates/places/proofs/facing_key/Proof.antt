@@ -1,10 +1,10 @@
--- `cross_makers::facing_key` meets its contract.
+-- `places::facing_key` meets its contract.
 use native.Mathlib.Omega.{arith}
 use Rattle.rules.specs.Words.{placeOf}
-use Rattle.cross_makers.specs.Picks.{facingKey}
+use Rattle.places.specs.Layout.{facingKey}
 use borrow.Author.Needs.{needs}
-use Rattle.cross_makers.proofs.facing_key.Statement.{statement}
-use Rattle.cross_makers.proofs.facing_key.Tie as tie
+use Rattle.places.proofs.facing_key.Statement.{statement}
+use Rattle.places.proofs.facing_key.Tie as tie
 
 mul-result : tie.Need-mul-result
 unfolding placeOf
