@@ -28,7 +28,7 @@ use Rattle.records.specs.Seen.{Seen, seen}
 use Rattle.records.specs.Stage.{stage, _does_}
 use Rattle.records.proofs.Stages.{onward, does-nothing, does-room}
 use Rattle.places.specs.Layout.{size, leggingIn, venueOf, SameCounts}
-use Rattle.removal.specs.Marks.{removePlace, verdictBy, markAt, markedBy}
+use Rattle.removal.specs.Causes.{removePlace, verdictBy, causeAt, verdictIn}
 use Rattle.places.proofs.Beside.{counts-on}
 use Rattle.places.proofs.Parts.{legging-at, leggings-length}
 
@@ -218,22 +218,22 @@ module _ (f g : ℕ → Legging → Verdict) where
       let r = same-from 0 (v .legging) (λ i q. let z : 0 + i ≡ i = omega arith in rw z (h i q)) in
       rw (r .0, r .1)
 
--- Marks ---------------------------------------------------------------------------------------
+-- Causes ---------------------------------------------------------------------------------------
 
-no-mark : (rest n : ℕ) → rest ≡ 0 → markAt rest n ≡ 0
-unfolding markAt
-no-mark rest zero h = omega arith
-no-mark rest (suc n) h = no-mark (rest / 16) n (omega arith)
+no-cause : (rest n : ℕ) → rest ≡ 0 → causeAt rest n ≡ 0
+unfolding causeAt
+no-cause rest zero h = omega arith
+no-cause rest (suc n) h = no-cause (rest / 16) n (omega arith)
 
--- what is left of the marks at place n: those of the places from n on
-pub record Left (marks rest n : ℕ) : Type 0 where
+-- what is left of the causes at place n: those of the places from n on
+pub record Left (causes rest n : ℕ) : Type 0 where
   pub small : rest < 16 ^ (16 - n)
-  pub same : (k : ℕ) → markAt rest k ≡ markAt marks (n + k)
+  pub same : (k : ℕ) → causeAt rest k ≡ causeAt causes (n + k)
 
-pub left-start : (marks : ℕ) → marks < 18446744073709551616 → Left marks marks 0
-left-start marks h = record { small = h; same = λ k. let y : k ≡ 0 + k = omega arith in ap (markAt marks) y }
+pub left-start : (causes : ℕ) → causes < 18446744073709551616 → Left causes causes 0
+left-start causes h = record { small = h; same = λ k. let y : k ≡ 0 + k = omega arith in ap (causeAt causes) y }
 
-module _ {marks rest n : ℕ} (i : Left marks rest n) where
+module _ {causes rest n : ℕ} (i : Left causes rest n) where
   pub left-few : n ≤ 16 → 0 < rest → n < 16
   left-few h q = go (ℕ-discrete n 16)
     where
@@ -241,39 +241,39 @@ module _ {marks rest n : ℕ} (i : Left marks rest n) where
       go (yes e) = let z : rest < 16 ^ (16 - 16) = rw e at (i .small) in absurd (omega arith)
       go (no e) = omega arith
 
-  pub left-on : n < 16 → Left marks (rest / 16) (n + 1)
-  unfolding markAt
+  pub left-on : n < 16 → Left causes (rest / 16) (n + 1)
+  unfolding causeAt
   left-on h =
       let z : 16 - n ≡ suc (16 - (n + 1)) = omega arith in
       let s : rest < 16 ^ suc (16 - (n + 1)) = rw z at (i .small) in
-      record { small = omega arith; same = λ k. let y : n + suc k ≡ n + 1 + k = omega arith in i .same (suc k) ∙ ap (markAt marks) y }
+      record { small = omega arith; same = λ k. let y : n + suc k ≡ n + 1 + k = omega arith in i .same (suc k) ∙ ap (causeAt causes) y }
 
   -- the verdict of place n
-  pub left-here : (l : Legging) → markedBy marks n l ≡ verdictBy (rest % 16)
-  unfolding markedBy markAt
+  pub left-here : (l : Legging) → verdictIn causes n l ≡ verdictBy (rest % 16)
+  unfolding verdictIn causeAt
   left-here l =
       let z : n + 0 ≡ n = omega arith in
-      ap verdictBy (sym (i .same 0 ∙ ap (markAt marks) z))
+      ap verdictBy (sym (i .same 0 ∙ ap (causeAt causes) z))
 
   -- where nothing is left, the places from n on stand
-  pub left-over : rest ≡ 0 → (k : ℕ) (l : Legging) → n ≤ k → markedBy marks k l ≡ Stands
-  unfolding markedBy verdictBy
+  pub left-over : rest ≡ 0 → (k : ℕ) (l : Legging) → n ≤ k → verdictIn causes k l ≡ Stands
+  unfolding verdictIn verdictBy
   left-over h k l q =
       let z : k ≡ n + (k - n) = omega arith in
-      ap verdictBy (ap (markAt marks) z ∙ sym (i .same (k - n)) ∙ no-mark rest (k - n) h)
+      ap verdictBy (ap (causeAt causes) z ∙ sym (i .same (k - n)) ∙ no-cause rest (k - n) h)
 
--- no marks remove nothing
-pub unmarked : (marks : ℕ) (v : Venue) → marks ≡ 0 → nothing v ≡ remove (markedBy marks) v
-unfolding markedBy verdictBy removeFrom remove
-unmarked marks v h = remove-over (markedBy marks) v 0 (λ k l q. ap verdictBy (no-mark marks k h))
+-- no causes remove nothing
+pub no-causes : (causes : ℕ) (v : Venue) → causes ≡ 0 → nothing v ≡ remove (verdictIn causes) v
+unfolding verdictIn verdictBy removeFrom remove
+no-causes causes v h = remove-over (verdictIn causes) v 0 (λ k l q. ap verdictBy (no-cause causes k h))
 
--- marks that are the numbers of f's verdicts remove by f
-pub marked-is : (f : ℕ → Legging → Verdict) (marks : ℕ) (b : List ℕ) → ((n : ℕ) → n < 16 → markAt marks n ≡ verdictNumber (f n (leggingIn b n))) →
-    remove (markedBy marks) (venueOf b) ≡ remove f (venueOf b)
-unfolding markedBy
-marked-is f marks b h = remove-same (markedBy marks) f (venueOf b) (λ n q. go n (omega (arith, leggings-length b)))
+-- causes that are the numbers of f's verdicts remove by f
+pub causes-are : (f : ℕ → Legging → Verdict) (causes : ℕ) (b : List ℕ) → ((n : ℕ) → n < 16 → causeAt causes n ≡ verdictNumber (f n (leggingIn b n))) →
+    remove (verdictIn causes) (venueOf b) ≡ remove f (venueOf b)
+unfolding verdictIn
+causes-are f causes b h = remove-same (verdictIn causes) f (venueOf b) (λ n q. go n (omega (arith, leggings-length b)))
   where
-    go : (n : ℕ) → n < 16 → markedBy marks n (getD (venueOf b .legging) n noLegging) ≡ f n (getD (venueOf b .legging) n noLegging)
+    go : (n : ℕ) → n < 16 → verdictIn causes n (getD (venueOf b .legging) n noLegging) ≡ f n (getD (venueOf b .legging) n noLegging)
     go n q = ap verdictBy (h n q) ∙ verdict-back (f n (leggingIn b n)) ∙ ap (f n) (sym (legging-at b n q))
 
 -- Where nothing is held, nothing goes ---------------------------------------------------------

@@ -9,7 +9,7 @@ ghost use Rattle.rules.specs.Removal.{remove, removeOf, failIf};
 ghost use Rattle.records.specs.Seen.{seen};
 ghost use Rattle.records.specs.Stage.{stage, _does_};
 ghost use Rattle.places.specs.Layout.{size, venueOf, SameCounts};
-ghost use Rattle.removal.specs.Marks.{removePlace, verdictBy, markedBy};
+ghost use Rattle.removal.specs.Causes.{removePlace, verdictBy, verdictIn};
 use rules::Cause;
 use rules::Legging;
 use rules::Verdict;
@@ -117,15 +117,15 @@ pub fn verdict_by(x: u8) -> Verdict
     Verdict::Stands
 }
 
-// The legging orders at the places that have a cause's number in `marks` go, each for that cause.
-pub fn remove_marked(numbers: &mut [u32], marks: u64, out: &mut [u8], at: usize) -> usize
+// The legging orders at the places that have a cause's number in `causes` go, each for that cause.
+pub fn remove_by_causes(numbers: &mut [u32], causes: u64, out: &mut [u8], at: usize) -> usize
     requires { ⌜ length (now numbers) ≡ size ⌝ }
-    ensures { λ r. ⌜ stage (venueOf (now (numbers .exit))) (now (out .exit)) r ≡ seen (now (out .entry)) at does remove (markedBy marks) (venueOf (now (numbers .entry))) ⌝ }
+    ensures { λ r. ⌜ stage (venueOf (now (numbers .exit))) (now (out .exit)) r ≡ seen (now (out .entry)) at does remove (verdictIn causes) (venueOf (now (numbers .entry))) ⌝ }
     ensures counts { λ _. ⌜ SameCounts (now (numbers .entry)) (now (numbers .exit)) ⌝ }
 {
     let mut pos = at;
     let mut n: usize = 0;
-    let mut rest = marks;
+    let mut rest = causes;
     while 0 < rest {
         let place = n;
         n += 1;

@@ -23,7 +23,7 @@ ghost use Rattle.records.specs.Seen.{seen};
 ghost use Rattle.records.specs.Stage.{stage, _does_};
 ghost use Rattle.places.specs.Layout.{size, leggingIn, venueOf, Figured, Right, SameCounts};
 ghost use Rattle.levels.specs.Grid.{GridOf, LegsIn, TakenOf, SidesOf};
-ghost use Rattle.removal.specs.Marks.{markAt};
+ghost use Rattle.removal.specs.Causes.{causeAt};
 ghost use Rattle.settling.specs.Parts.{otherTaken};
 
 // A price p at side d of series s, displayed.
@@ -126,20 +126,20 @@ pub fn judge(numbers: &[u32], g: [[Level; 2]; 8], n: usize) -> Verdict
 // The number of each place's verdict, by 4 bits, the lowest that of place 0; that of a free place is 0.
 fn verdicts(numbers: &[u32], g: [[Level; 2]; 8]) -> u64
     requires { ⌜ (length (now numbers) ≡ size) × (GridOf g (venueOf (now numbers) .regular)) × (Figured (now numbers)) ⌝ }
-    ensures { λ r. ⌜ ((n : ℕ) → n < 16 → markAt r n ≡ verdictNumber (verdict (venueOf (now (numbers .entry))) n (leggingIn (now (numbers .entry)) n))) ⌝ }
+    ensures { λ r. ⌜ ((n : ℕ) → n < 16 → causeAt r n ≡ verdictNumber (verdict (venueOf (now (numbers .entry))) n (leggingIn (now (numbers .entry)) n))) ⌝ }
 {
-    let mut marks: u64 = 0;
+    let mut causes: u64 = 0;
     let mut n: usize = 16;
     while 0 < n {
         n -= 1;
-        marks = marks * 16;
+        causes = causes * 16;
         let l = places::legging_at(numbers, n);
         if l.quantity == 0 {
             continue;
         }
-        marks += arithmetic::verdict_number(judge(numbers, g, n)) as u64;
+        causes += arithmetic::verdict_number(judge(numbers, g, n)) as u64;
     }
-    marks
+    causes
 }
 
 // No legging order stands.
@@ -160,11 +160,11 @@ fn remove_failing(numbers: &mut [u32], out: &mut [u8], at: usize) -> usize
         return at;
     }
     let g = levels::levels(numbers);
-    let marks = verdicts(numbers, g);
-    if marks == 0 {
+    let causes = verdicts(numbers, g);
+    if causes == 0 {
         return at;
     }
-    removal::remove_marked(numbers, marks, out, at)
+    removal::remove_by_causes(numbers, causes, out, at)
 }
 
 // Each order shows again, and then the legging orders are tested.

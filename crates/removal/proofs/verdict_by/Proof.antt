@@ -1,7 +1,7 @@
 -- `removal::verdict_by` meets its contract.
 use mathlib.Core.Path.{sym, ap}
 use borrow.Author.Tests.{ne-eqb}
-use Rattle.removal.specs.Marks.{verdictBy}
+use Rattle.removal.specs.Causes.{verdictBy}
 use Rattle.removal.proofs.verdict_by.Statement.{statement}
 use Rattle.removal.proofs.verdict_by.Tie as tie
 

@@ -1,5 +1,5 @@
 -- `settling::others_stand` meets its contract.
-use Rattle.settling.proofs.Marking.{standFrom, stand-own, stand-free, stand-past, stand-fails, stand-end, stand-all}
+use Rattle.settling.proofs.CausesFound.{standFrom, stand-own, stand-free, stand-past, stand-fails, stand-end, stand-all}
 use Rattle.places.specs.Layout.{venueOf}
 use Rattle.rules.specs.Generation.{othersStand}
 use mathlib.Core.Path.{_≡_, _∙_}

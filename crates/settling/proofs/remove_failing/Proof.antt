@@ -1,5 +1,5 @@
 -- `settling::remove_failing` meets its contract.
-use Rattle.removal.proofs.Removing.{remove-none, unmarked, marked-is}
+use Rattle.removal.proofs.Removing.{remove-none, no-causes, causes-are}
 use Rattle.places.specs.Layout.{venueOf}
 use Rattle.records.proofs.Stages.{does-nothing}
 use Rattle.records.specs.Stage.{_does_}
@@ -29,7 +29,7 @@ returns-2 c =
     let v = venueOf (a .numbers .now) in
     let m = p1 .verdicts in (
       does-nothing v (a .out .now) (a .at)
-          ∙ ap (λ (e : Effect). seen (a .out .now) (a .at) does e) (unmarked (m .result) v (c .if2 .taken) ∙ marked-is (verdict v) (m .result) (a .numbers .now) (m .ensures)),
+          ∙ ap (λ (e : Effect). seen (a .out .now) (a .at) does e) (no-causes (m .result) v (c .if2 .taken) ∙ causes-are (verdict v) (m .result) (a .numbers .now) (m .ensures)),
       record { regulars = refl; complexes = refl; right = λ h. h },
     )
 
@@ -39,8 +39,8 @@ returns-3 c =
     let p8 = p4 .before .before .before .before in
     let a = p8 .before .before .before .before .before .before .before .before .before .args in
     let m = p8 .verdicts in
-    let w = p4 .remove-marked in
-    (w .ensures .0 ∙ ap (λ (e : Effect). seen (a .out .now) (a .at) does e) (marked-is (verdict (venueOf (a .numbers .now))) (m .result) (a .numbers .now) (m .ensures)), w .ensures .1)
+    let w = p4 .remove-by-causes in
+    (w .ensures .0 ∙ ap (λ (e : Effect). seen (a .out .now) (a .at) does e) (causes-are (verdict (venueOf (a .numbers .now))) (m .result) (a .numbers .now) (m .ensures)), w .ensures .1)
 
 pub remove-failing-spec : {M : Type 1} → statement M
 remove-failing-spec =

@@ -1,25 +1,25 @@
--- `removal::remove_marked` meets its contract.
+-- `removal::remove_by_causes` meets its contract.
 use borrow.Author.Needs.{needs}
 use mathlib.Core.Path.{sym, _∙_}
 use Prim.Native.Nat.{_<_}
 use native.Mathlib.Omega.{arith}
 use Rattle.removal.proofs.Removing.{Removing, removing-start, removing-turn, removing-past, removing-over, removing-room, Left, left-start, left-few, left-on, left-here, left-over}
-use Rattle.removal.specs.Marks.{markedBy}
-use Rattle.removal.proofs.remove_marked.Statement.{statement}
-use Rattle.removal.proofs.remove_marked.Tie as tie
+use Rattle.removal.specs.Causes.{verdictIn}
+use Rattle.removal.proofs.remove_by_causes.Statement.{statement}
+use Rattle.removal.proofs.remove_by_causes.Tie as tie
 
 abbrev Inv-loop : tie.InvT-loop
-Inv-loop b₀ marks out₀ at pos₀ n₀ rest₀ b out pos n rest = Removing (markedBy marks) b₀ out₀ at b out pos n × Left marks rest n
+Inv-loop b₀ causes out₀ at pos₀ n₀ rest₀ b out pos n rest = Removing (verdictIn causes) b₀ out₀ at b out pos n × Left causes rest n
 
 abbrev μ-loop : tie.MeasureT-loop
-μ-loop b₀ marks out₀ at pos₀ n₀ rest₀ b out pos n rest = rest
+μ-loop b₀ causes out₀ at pos₀ n₀ rest₀ b out pos n rest = rest
 
 loop-holds : tie.Need-loop-holds Inv-loop μ-loop
 loop-holds c =
     let s = c .before .before in
-    (removing-start _ _ _ _ (s .pre), left-start (s .args .marks) (search needs))
+    (removing-start _ _ _ _ (s .pre), left-start (s .args .causes) (search needs))
 
--- a place that has a mark left is one of the sixteen
+-- a place that has a cause left is one of the sixteen
 few : (c : tie.In-loop Inv-loop μ-loop) → c .before .loop .n < 16
 few c =
     let i = c .before .loop .inv in
@@ -59,8 +59,8 @@ returns c =
     let i = c .before .loop .inv in
     removing-over _ (i .0) (left-over (i .1) (omega arith))
 
-pub remove-marked-spec : {M : Type 1} → statement M
-remove-marked-spec =
+pub remove-by-causes-spec : {M : Type 1} → statement M
+remove-by-causes-spec =
     tie.close
     (tie.spec
     Inv-loop

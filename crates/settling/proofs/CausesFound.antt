@@ -1,4 +1,4 @@
--- Laws of the loops over the legging places: their marks, and whether the others stand.
+-- Laws of the loops over the legging places: their causes, and whether the others stand.
 use mathlib.Core.Path.{_≡_, refl, sym, ap, _∙_}
 use mathlib.Core.Bool.{Bool, true, false, _&&_, _||_}
 use mathlib.Core.List.{List}
@@ -19,11 +19,11 @@ use Rattle.rules.specs.Standing.{verdict, verdictNumber, stands}
 use Rattle.rules.specs.Generation.{othersStand}
 use Rattle.places.specs.Layout.{upto, leggingIn, venueOf}
 use Rattle.levels.proofs.Scans.{upto-on, upto-end}
-use Rattle.removal.specs.Marks.{markAt}
+use Rattle.removal.specs.Causes.{causeAt}
 use Rattle.places.proofs.Parts.{legging-at}
 use Rattle.settling.proofs.Testing.{verdict-free}
 
--- Marks ---------------------------------------------------------------------------------------
+-- Causes ---------------------------------------------------------------------------------------
 
 pub number-small : (x : Verdict) → verdictNumber x < 16
 number-small Stands = omega arith
@@ -37,61 +37,61 @@ number-small (Fails Replaced) = omega arith
 number-small (Fails Touched) = omega arith
 number-small (Fails NoUnit) = omega arith
 
--- a number put below the marks is that of place 0, and the others move on by one place
-module _ (marks x : ℕ) (h : x < 16) where
-  mark-first : markAt (marks * 16 + x) 0 ≡ x
-  unfolding markAt
-  mark-first = omega arith
+-- a number put below the causes is that of place 0, and the others move on by one place
+module _ (causes x : ℕ) (h : x < 16) where
+  cause-first : causeAt (causes * 16 + x) 0 ≡ x
+  unfolding causeAt
+  cause-first = omega arith
 
-  mark-next : (k : ℕ) → markAt (marks * 16 + x) (suc k) ≡ markAt marks k
-  unfolding markAt
-  mark-next k =
-      let z : (marks * 16 + x) / 16 ≡ marks = omega arith in
-      ap (λ (m : ℕ). markAt m k) z
+  cause-next : (k : ℕ) → causeAt (causes * 16 + x) (suc k) ≡ causeAt causes k
+  unfolding causeAt
+  cause-next k =
+      let z : (causes * 16 + x) / 16 ≡ causes = omega arith in
+      ap (λ (m : ℕ). causeAt m k) z
 
--- the marks of the places from n on
-pub record Marked (b : List ℕ) (marks n : ℕ) : Type 0 where
+-- the causes of the places from n on
+pub record CausesFrom (b : List ℕ) (causes n : ℕ) : Type 0 where
   pub few : n ≤ 16
-  pub small : marks < 16 ^ (16 - n)
-  pub marked : (k : ℕ) → n + k < 16 → markAt marks k ≡ verdictNumber (verdict (venueOf b) (n + k) (leggingIn b (n + k)))
+  pub small : causes < 16 ^ (16 - n)
+  pub cause : (k : ℕ) → n + k < 16 → causeAt causes k ≡ verdictNumber (verdict (venueOf b) (n + k) (leggingIn b (n + k)))
 
-pub marked-none : (b : List ℕ) → Marked b 0 16
-marked-none b = record { few = omega arith; small = omega arith; marked = λ k q. absurd (omega arith) }
+pub causes-none : (b : List ℕ) → CausesFrom b 0 16
+causes-none b = record { few = omega arith; small = omega arith; cause = λ k q. absurd (omega arith) }
 
-module _ (b : List ℕ) (marks n : ℕ) (i : Marked b marks n) (p : 0 < n) where
+module _ (b : List ℕ) (causes n : ℕ) (i : CausesFrom b causes n) (p : 0 < n) where
   -- there is room for one more
-  pub marked-room : marks < 1152921504606846976
-  marked-room =
+  pub causes-room : causes < 1152921504606846976
+  causes-room =
       let r = pow-le-pow-right {n = 16} (omega arith) {i = 16 - n} {j = 15} (omega arith) in
       omega (arith, i .small)
 
-  marked-by : (x : ℕ) → x < 16 → x ≡ verdictNumber (verdict (venueOf b) (n - 1) (leggingIn b (n - 1))) → Marked b (marks * 16 + x) (n - 1)
-  marked-by x h e =
+  causes-by : (x : ℕ) → x < 16 → x ≡ verdictNumber (verdict (venueOf b) (n - 1) (leggingIn b (n - 1))) → CausesFrom b (causes * 16 + x) (n - 1)
+  causes-by x h e =
       let z : 16 - (n - 1) ≡ suc (16 - n) = omega (arith, i .few) in
-      record { few = omega (arith, i .few); small = rw z (omega (arith, i .small)); marked = go }
+      record { few = omega (arith, i .few); small = rw z (omega (arith, i .small)); cause = go }
     where
-      go : (k : ℕ) → n - 1 + k < 16 → markAt (marks * 16 + x) k ≡ verdictNumber (verdict (venueOf b) (n - 1 + k) (leggingIn b (n - 1 + k)))
+      go : (k : ℕ) → n - 1 + k < 16 → causeAt (causes * 16 + x) k ≡ verdictNumber (verdict (venueOf b) (n - 1 + k) (leggingIn b (n - 1 + k)))
       go zero q =
           let z : n - 1 + 0 ≡ n - 1 = omega arith in
-          rw z (mark-first marks x h ∙ e)
+          rw z (cause-first causes x h ∙ e)
       go (suc k) q =
           let z : n - 1 + suc k ≡ n + k = omega arith in
-          rw z (mark-next marks x h k ∙ i .marked k (omega arith))
+          rw z (cause-next causes x h k ∙ i .cause k (omega arith))
 
   -- a free place stands
-  pub marked-free : (l : Legging) → l ≡ leggingIn b (n - 1) → l .quantity ≡ 0 → Marked b (marks * 16) (n - 1)
-  marked-free l el q =
-      let z : marks * 16 + 0 ≡ marks * 16 = omega arith in
-      rw z at (marked-by 0 (omega arith) (ap verdictNumber (verdict-free (venueOf b) (n - 1) l (leggingIn b (n - 1)) el q)))
+  pub causes-free : (l : Legging) → l ≡ leggingIn b (n - 1) → l .quantity ≡ 0 → CausesFrom b (causes * 16) (n - 1)
+  causes-free l el q =
+      let z : causes * 16 + 0 ≡ causes * 16 = omega arith in
+      rw z at (causes-by 0 (omega arith) (ap verdictNumber (verdict-free (venueOf b) (n - 1) l (leggingIn b (n - 1)) el q)))
 
-  pub marked-on : (x : ℕ) (r : Verdict) → x ≡ verdictNumber r → r ≡ verdict (venueOf b) (n - 1) (getD (venueOf b .legging) (n - 1) noLegging) → Marked b (marks * 16 + x) (n - 1)
-  marked-on x r ex er =
-      marked-by x (omega (arith, number-small r)) (ex ∙ ap verdictNumber (er ∙ ap (verdict (venueOf b) (n - 1)) (legging-at b (n - 1) (omega (arith, i .few)))))
+  pub causes-on : (x : ℕ) (r : Verdict) → x ≡ verdictNumber r → r ≡ verdict (venueOf b) (n - 1) (getD (venueOf b .legging) (n - 1) noLegging) → CausesFrom b (causes * 16 + x) (n - 1)
+  causes-on x r ex er =
+      causes-by x (omega (arith, number-small r)) (ex ∙ ap verdictNumber (er ∙ ap (verdict (venueOf b) (n - 1)) (legging-at b (n - 1) (omega (arith, i .few)))))
 
-pub marked-all : (b : List ℕ) (marks n : ℕ) → Marked b marks n → n ≡ 0 → (k : ℕ) → k < 16 → markAt marks k ≡ verdictNumber (verdict (venueOf b) k (leggingIn b k))
-marked-all b marks n i z k q =
+pub causes-all : (b : List ℕ) (causes n : ℕ) → CausesFrom b causes n → n ≡ 0 → (k : ℕ) → k < 16 → causeAt causes k ≡ verdictNumber (verdict (venueOf b) k (leggingIn b k))
+causes-all b causes n i z k q =
     let e : n + k ≡ k = omega arith in
-    rw e at (i .marked k (omega arith))
+    rw e at (i .cause k (omega arith))
 
 -- Whether the others stand --------------------------------------------------------------------
 

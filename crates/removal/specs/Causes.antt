@@ -1,4 +1,4 @@
--- Removal place by place, and by a mark for each place.
+-- Removal place by place, and by the number of a cause for each place.
 use Prim.Native.Nat.{ℕ, zero, suc, _/_, _%_}
 use lib.Dec.{eqb}
 use lib.ListN.{getD}
@@ -33,11 +33,11 @@ verdictBy x =
     else if eqb x 10 then Fails NoUnit
     else Stands
 
--- the number of a place in marks: a digit to the base 16 for each place, the lowest that of place 0
-unfoldable pub markAt : (marks place : ℕ) → ℕ
-markAt marks zero = marks % 16
-markAt marks (suc n) = markAt (marks / 16) n
+-- the number of a place in causes: a digit to the base 16 for each place, the lowest that of place 0
+unfoldable pub causeAt : (causes place : ℕ) → ℕ
+causeAt causes zero = causes % 16
+causeAt causes (suc n) = causeAt (causes / 16) n
 
 -- each place by its number
-unfoldable pub markedBy : (marks place : ℕ) → Legging → Verdict
-markedBy marks n l = verdictBy (markAt marks n)
+unfoldable pub verdictIn : (causes place : ℕ) → Legging → Verdict
+verdictIn causes n l = verdictBy (causeAt causes n)
