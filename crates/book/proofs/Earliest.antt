@@ -29,7 +29,7 @@ use Rattle.book.specs.declared.Pick.the-variants as pick
 use Rattle.book.specs.declared.Found.the-variants as found
 use Rattle.book.specs.Picks.{pickOf, regularFound}
 use Rattle.book.proofs.Finding.{where-first, foundIn, found-at, found-none, regular-free}
-use Rattle.book.proofs.Picking.{for-free}
+use Rattle.book.proofs.PicksLaws.{for-free}
 
 -- The pick, told by its place -----------------------------------------------------------------
 

@@ -1,4 +1,4 @@
-pub mod Picking
+pub mod PicksLaws
 pub mod Finding
 pub mod Unmet
 pub mod Earliest

@@ -13,7 +13,7 @@ use Rattle.levels.proofs.Scanning.{first-used, scan-start, scan-past, scan-join
 use Rattle.book.specs.declared.Pick.{Pick}
 use Rattle.book.specs.declared.Pick.the-variants as pick
 use Rattle.book.specs.Picks.{pickOf}
-use Rattle.book.proofs.Picking.{met-free}
+use Rattle.book.proofs.PicksLaws.{met-free}
 
 module _ (b : List ℕ) (s d p : ℕ) where
   abbrev pub metFrom : ℕ → Choice Regular

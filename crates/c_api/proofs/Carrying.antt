@@ -16,7 +16,7 @@ use Rattle.rules.proofs.Cases.{if-by}
 use Rattle.rules.proofs.Tests.{and-l}
 use Rattle.demands.specs.Kept.{Shaped}
 use Rattle.records.specs.Seen.{Seen, seen, pasted, _plus_}
-use Rattle.records.proofs.Writes.{plus-in}
+use Rattle.records.proofs.SeenLaws.{plus-in}
 use Rattle.venue_bytes.specs.Held.{venueSize, venueBytes, venueFrom, Declared}
 use Rattle.venue_writer.proofs.Whole.{venue-length}
 use Rattle.venue_writer.proofs.Back.{held-whole}
@@ -29,7 +29,7 @@ use Rattle.set_writer.specs.Saving.{savedOf}
 use Rattle.set_reader.specs.declared.Resumed.{Resumed}
 use Rattle.set_reader.specs.Returned.{setRead}
 use Rattle.engine.specs.Hosts.{Hosted, leaves, oneHosted, savesAs, saveHosted, readFor, resumesAs, resumeHosted, Again, HeldAgain}
-use Rattle.engine.proofs.Hosting.{declared, held-shaped, held-next}
+use Rattle.engine.proofs.HostsLaws.{declared, held-shaped, held-next}
 use Rattle.c_api.proofs.Telling.{zeros, long}
 
 -- A number's four bytes -----------------------------------------------------------------------

@@ -12,7 +12,7 @@ use Rattle.rules.specs.Sound.{sound}
 use Rattle.rules.specs.Calls.{settings}
 use Rattle.rules.proofs.Cases.{if-by}
 use Rattle.records.specs.Seen.{Seen, seen, pasted, _plus_}
-use Rattle.records.proofs.Writes.{plus-in, pasted-length, pasted-pasted}
+use Rattle.records.proofs.SeenLaws.{plus-in, pasted-length, pasted-pasted}
 use Rattle.venue_bytes.specs.Held.{venueSize, venueFrom}
 use Rattle.engine.specs.Hosts.{settingsBytes, told, settingsHosted}
 

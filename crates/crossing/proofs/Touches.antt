@@ -18,7 +18,7 @@ use Rattle.rules.specs.Removal.{remove, failIf}
 use Rattle.rules.specs.Complex.{touches, takenSide, fillsUnit, touch}
 use Rattle.records.specs.Seen.{seen}
 use Rattle.records.specs.Stage.{stage, _does_}
-use Rattle.records.proofs.Stages.{does-nothing}
+use Rattle.records.proofs.StageLaws.{does-nothing}
 
 module _ (v : Venue) (c : Complex) where
   pub touch-free : c .quantity ≡ 0 → false ≡ touches v c

@@ -10,7 +10,7 @@ use borrow.Rule.Slice.PartMut.{putMid}
 use Rattle.rules.specs.Bytes.{bytes}
 use Rattle.rules.specs.Calls.{one}
 use Rattle.records.specs.Seen.{Seen, seen, pasted}
-use Rattle.records.proofs.Writes.{plus-in}
+use Rattle.records.proofs.SeenLaws.{plus-in}
 use Rattle.venue_bytes.specs.Held.{rows}
 use Rattle.venue_bytes.proofs.Rows.{Written, written-all, written-room, written-next}
 use Rattle.layer.specs.Layer.{Lane, freshLane, freshLayer}

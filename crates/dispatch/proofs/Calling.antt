@@ -28,7 +28,7 @@ use Rattle.dispatch.specs.Hosts.{replyOf, arriveHeld, TurnReply, idleRet
 use Rattle.lanes.proofs.Bytes.{part-back}
 use Rattle.lanes.proofs.Figures.{waits-at}
 use Rattle.lanes.proofs.Places.{waits-short}
-use Rattle.lanes.proofs.Checking.{but-wait, but-sound, but-none}
+use Rattle.lanes.proofs.ChecksLaws.{but-wait, but-sound, but-none}
 use Rattle.lanes.proofs.Joining.{joined-size}
 use Rattle.lanes.proofs.Taking.{head-called, advanced-size}
 use Rattle.dispatch.proofs.Held.{Lends, lends, lends-next}

@@ -12,9 +12,9 @@ use Rattle.rules.specs.Step.{StepOutcome, step}
 use Rattle.rules.specs.Sound.{sound, follows}
 use Rattle.rules.specs.Calls.{called, exceeds, ends, after, oneFrom, one}
 use Rattle.rules.proofs.Calling.{no-number, no-room, not-exceeds}
-use Rattle.records.proofs.Stages.{stage-venue, stage-written}
+use Rattle.records.proofs.StageLaws.{stage-venue, stage-written}
 use Rattle.records.specs.Seen.{seen, _writes_}
-use Rattle.records.proofs.Writes.{wrote, overflowed, seen-room, sheet-left}
+use Rattle.records.proofs.SeenLaws.{wrote, overflowed, seen-room, sheet-left}
 use Rattle.places.specs.Layout.{venueOf}
 use Rattle.places.proofs.Generations.{generations-twenty}
 use Rattle.places.proofs.Parts.{regulars-few, complexes-few}

@@ -1,5 +1,5 @@
 pub mod Proceeding
-pub mod Running
+pub mod RunsLaws
 pub mod Calling
-pub mod Hosting
-pub mod Sheets
+pub mod HostsLaws
+pub mod SheetsLaws

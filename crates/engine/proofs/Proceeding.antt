@@ -14,7 +14,7 @@ use Rattle.rules.specs.Step.{StepOutcome}
 use Rattle.rules.specs.Calls.{Outcome, called, ends, after}
 use Rattle.rules.proofs.Calling.{encode-append}
 use Rattle.rules.proofs.Tests.{if-same}
-use Rattle.records.proofs.Writes.{wrote, overflowed, pasted-to, part-all, tail-front, tail-more}
+use Rattle.records.proofs.SeenLaws.{wrote, overflowed, pasted-to, part-all, tail-front, tail-more}
 use Rattle.places.specs.Layout.{size, venueOf}
 use Rattle.messages.specs.declared.Stepped.{Stepped}
 use Rattle.messages.specs.Steps.{Tries}

@@ -1,2 +1,2 @@
-pub mod Feeding
-pub mod Lists
+pub mod FeedsLaws
+pub mod ListsLaws

@@ -7,7 +7,7 @@ use lib.ListN.{length, getD, take, drop, length-drop, List·getD-append}
 use lib.Seq.{getD-take, getD-drop, drop-drop, length-take-le, ext-getD}
 use borrow.Rule.Slice.PartMut.{putMid}
 use Rattle.records.specs.Seen.{pasted}
-use Rattle.records.proofs.Writes.{pasted-below, pasted-from, pasted-above}
+use Rattle.records.proofs.SeenLaws.{pasted-below, pasted-from, pasted-above}
 
 module _ (l bs : List ℕ) (at : ℕ) (inside : at ≤ length l) where
   pub byte-below : (k : ℕ) → k < at → getD (pasted l at bs) k 0 ≡ getD l k 0

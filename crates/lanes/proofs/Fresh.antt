@@ -16,7 +16,7 @@ use Rattle.places.proofs.Tables.{upto-length, upto-at}
 use Rattle.venue_bytes.specs.Held.{venueSize, venueBytes, venueFrom, rows, Sized}
 use Rattle.venue_writer.proofs.Whole.{venue-length}
 use Rattle.engine.specs.Hosts.{freshHosted}
-use Rattle.engine.proofs.Hosting.{held-first}
+use Rattle.engine.proofs.HostsLaws.{held-first}
 use Rattle.layer.specs.Layer.{Lane, Layer, freshLane, freshLayer, laneAt}
 use Rattle.lanes.specs.Memory.{doneAt, countAt, laneSize, lastAt, layerSize, placeFrom, laneFrom, lanePart, laneOf, layerFrom, laneBytes, layerBytes}
 use Rattle.lanes.proofs.Joining.{lane-eq}

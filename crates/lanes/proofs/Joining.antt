@@ -11,7 +11,7 @@ use lib.Seq.{getD-set-same, getD-set-other}
 use Rattle.rules.specs.Bytes.{u8At, u16At, u32At}
 use Rattle.records.specs.Seen.{pasted}
 use Rattle.wire.proofs.Numbers.{u8-drop}
-use Rattle.records.proofs.Writes.{pasted-length}
+use Rattle.records.proofs.SeenLaws.{pasted-length}
 use Rattle.places.specs.Layout.{upto}
 use Rattle.places.proofs.Tables.{upto-more, upto-same}
 use Rattle.venue_bytes.specs.Held.{venueSize, venueFrom}

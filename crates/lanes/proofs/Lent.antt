@@ -9,7 +9,7 @@ use lib.ListN.{length, set, length-set}
 use lib.Seq.{take-at, getD-set-same, getD-set-other}
 use Rattle.rules.specs.Bytes.{u8At}
 use Rattle.records.specs.Seen.{pasted}
-use Rattle.records.proofs.Writes.{pasted-from, pasted-length}
+use Rattle.records.proofs.SeenLaws.{pasted-from, pasted-length}
 use Rattle.places.specs.Layout.{upto}
 use Rattle.places.proofs.Tables.{upto-same, upto-set}
 use Rattle.layer.specs.Layer.{Layer, freshLane, withLane}

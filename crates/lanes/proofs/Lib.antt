@@ -11,7 +11,7 @@
 --   Writing    what each small function writes
 pub mod Bytes
 pub mod Figures
-pub mod Checking
+pub mod ChecksLaws
 pub mod Lent
 pub mod Places
 pub mod Joining

@@ -21,7 +21,7 @@ use Rattle.places.proofs.Tables.{upto-at, upto-same}
 use Rattle.venue_bytes.specs.Held.{venueSize, venueBytes, venueFrom}
 use Rattle.venue_writer.proofs.Whole.{venue-length}
 use Rattle.engine.specs.Hosts.{oneHosted, leaves}
-use Rattle.engine.proofs.Hosting.{held-shaped, held-next}
+use Rattle.engine.proofs.HostsLaws.{held-shaped, held-next}
 use Rattle.layer.specs.Layer.{waitSound, head, headCall, advanced}
 use Rattle.layer.proofs.Ways.{sound-for-in, sound-for-out, ending, does}
 use Rattle.lanes.specs.Memory.{doneAt, countAt, placesAt, placeSize, laneSize, messageFrom, placeFrom, laneFrom, headCalled, venuePart, advancedBytes}

@@ -3,5 +3,5 @@ pub mod Scanning
 pub mod Joining
 pub mod Keeping
 pub mod Sides
-pub mod Grids
+pub mod GridLaws
 pub mod Kept

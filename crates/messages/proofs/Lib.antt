@@ -1,4 +1,4 @@
 pub mod Setting
 pub mod Entering
-pub mod Stepping
+pub mod StepsLaws
 pub mod Trying

@@ -12,8 +12,8 @@ use Rattle.rules.specs.Step.{StepOutcome, step}
 use Rattle.demands.specs.Kept.{SoundVenue}
 use Rattle.demands.proofs.Most.{writes-at-most}
 use Rattle.records.specs.Seen.{Seen, seen}
-use Rattle.records.proofs.Stages.{stage-venue, stage-written}
-use Rattle.records.proofs.Writes.{writes-in}
+use Rattle.records.proofs.StageLaws.{stage-venue, stage-written}
+use Rattle.records.proofs.SeenLaws.{writes-in}
 use Rattle.places.specs.Layout.{venueOf, Dense}
 use Rattle.messages.specs.declared.Stepped.{Stepped}
 use Rattle.messages.specs.Steps.{Steps, Tries}

@@ -1,2 +1,2 @@
-pub mod Arriving
+pub mod OrderLaws
 pub mod Finding

@@ -1,4 +1,4 @@
 pub mod Fields
-pub mod Writes
-pub mod Stages
-pub mod Reading
+pub mod SeenLaws
+pub mod StageLaws
+pub mod NextLaws

@@ -1,2 +1,2 @@
-pub mod Removing
+pub mod RemovalLaws
 pub mod Loops

@@ -7,7 +7,7 @@ use Rattle.rules.specs.declared.Venue.{Venue}
 use Rattle.rules.specs.Effects.{Effect, nothing, _⟫_, Turn, ended, turned, repeat}
 use Rattle.records.specs.Seen.{seen}
 use Rattle.records.specs.Stage.{stage, _does_}
-use Rattle.records.proofs.Stages.{onward, does-nothing, does-room}
+use Rattle.records.proofs.StageLaws.{onward, does-nothing, does-room}
 use Rattle.places.specs.Layout.{size, venueOf, SameCounts}
 use Rattle.places.proofs.Beside.{counts-on}
 

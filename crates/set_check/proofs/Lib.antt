@@ -1,3 +1,3 @@
 pub mod Fronts
-pub mod Looks
+pub mod OrderLaws
 pub mod Walks

@@ -1,2 +1,2 @@
-pub mod Begin
-pub mod Steps
+pub mod BegunLaws
+pub mod PartsLaws

@@ -16,7 +16,7 @@ use Rattle.sets.specs.Set.{tellsEdition, tellsRegular, tellsComplex, tellsLeggi
 use Rattle.sets.proofs.Parts.{sort, sort-of, whether}
 use Rattle.set_check.specs.declared.SetProgress.{SetProgress}
 use Rattle.set_check.specs.Order.{opening, noneRead, opens, ofThis, sameSeries, mayStand, isNext, oneIf, openedAfter, isWhole, runWith, onward, few, goesOn}
-use Rattle.set_check.proofs.Looks.{Few, few-in, few-out}
+use Rattle.set_check.proofs.OrderLaws.{Few, few-in, few-out}
 
 -- two tests that follow from each other are equal
 same-test : (a b : Bool) → (a ≡ true → b ≡ true) → (b ≡ true → a ≡ true) → a ≡ b

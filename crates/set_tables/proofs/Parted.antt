@@ -16,7 +16,7 @@ use Rattle.sets.proofs.Parts.{sort, sort-of}
 use Rattle.sets.proofs.Lists.{Each, keep-append, keep-none, each-more}
 use Rattle.set_check.specs.declared.SetProgress.{SetProgress}
 use Rattle.set_check.specs.Order.{noneRead, opens, isNext, mayStand, sameSeries, oneIf, onward, few, goesOn}
-use Rattle.set_check.proofs.Looks.{Few, few-out}
+use Rattle.set_check.proofs.OrderLaws.{Few, few-out}
 use Rattle.set_tables.proofs.Ordered.{count-more, InOrder, order-on, stand-out, Fine, Blank, blank-few, blank-carried, blank-on, stage-more, goes-fine, none-blank, no-part, set-goes}
 
 -- one step of a set

@@ -21,7 +21,7 @@ use Rattle.places.specs.Layout.{upto, leggingIn, venueOf}
 use Rattle.levels.proofs.Scans.{upto-on, upto-end}
 use Rattle.removal.specs.Causes.{causeAt}
 use Rattle.places.proofs.Parts.{legging-at}
-use Rattle.settling.proofs.Testing.{verdict-free}
+use Rattle.settling.proofs.PartsLaws.{verdict-free}
 
 -- Causes ---------------------------------------------------------------------------------------
 

@@ -1,2 +1,2 @@
-pub mod Testing
+pub mod PartsLaws
 pub mod CausesFound

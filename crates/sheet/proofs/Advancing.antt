@@ -24,11 +24,11 @@ use Rattle.demands.proofs.Calls.{fresh-sound, kept, step-fits}
 use Rattle.demands.proofs.Most.{writes-at-most}
 use Rattle.engine.specs.Runs.{callOf}
 use Rattle.records.specs.Seen.{Seen, seen, pasted}
-use Rattle.records.proofs.Writes.{part-all, pasted-length, pasted-to}
+use Rattle.records.proofs.SeenLaws.{part-all, pasted-length, pasted-to}
 use Rattle.text.specs.Lines.{textOf}
 use Rattle.text.specs.Typing.{_types_}
-use Rattle.text.proofs.Typing.{types-fits}
-use Rattle.text.proofs.Widths.{text-at-most}
+use Rattle.text.proofs.TypingLaws.{types-fits}
+use Rattle.text.proofs.WidthsLaws.{text-at-most}
 use Rattle.sheet.specs.declared.Progress.{Progress}
 use Rattle.sheet.specs.Sheet.{Printed, Prints, Stands, Whole, begun, messageEnd, left, more, mostInput, mostText, sheetText, started, textFrom}
 use Rattle.sheet.proofs.Texts.{begins, text-last, text-none, text-on}

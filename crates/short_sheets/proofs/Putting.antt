@@ -5,7 +5,7 @@ use Prim.Native.Nat.{ℕ, suc, _+_, _*_, _≤_, _<_}
 use native.Mathlib.Omega.{arith}
 use lib.ListN.{length, take}
 use Rattle.records.specs.Seen.{Seen, _plus_, pasted, seen}
-use Rattle.records.proofs.Writes.{pasted-length, pasted-to, plus-in}
+use Rattle.records.proofs.SeenLaws.{pasted-length, pasted-to, plus-in}
 use Rattle.short_sessions.specs.Sessions.{Within}
 use Rattle.short_sessions.specs.declared.Session.{Session}
 use Rattle.short_sessions.specs.Values.{placesOf}

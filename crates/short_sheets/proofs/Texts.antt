@@ -12,8 +12,8 @@ use Rattle.rules.proofs.Reading.{reads-back}
 use Rattle.records.specs.Seen.{Seen, seen}
 use Rattle.text.specs.Lines.{decimal, line, textOf, word, words}
 use Rattle.text.specs.Typing.{_types_}
-use Rattle.text.proofs.Typing.{types-append, types-fits}
-use Rattle.text.proofs.Widths.{text-at-most}
+use Rattle.text.proofs.TypingLaws.{types-append, types-fits}
+use Rattle.text.proofs.WidthsLaws.{text-at-most}
 use Rattle.short_sessions.specs.declared.Session.{Session}
 use Rattle.short_sessions.specs.declared.Session.the-variants.{Empty, One, Two, Three}
 use Rattle.short_sessions.specs.Sessions.{Within}

@@ -1,3 +1,3 @@
 pub mod Beside
-pub mod Whole
+pub mod CheckedLaws
 pub mod Following

@@ -1,3 +1,3 @@
 pub mod Walking
-pub mod Sweeping
-pub mod Rounds
+pub mod SweepLaws
+pub mod RoundLaws

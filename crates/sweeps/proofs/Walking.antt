@@ -27,7 +27,7 @@ use Rattle.rules.proofs.Sweeping.{then-same, work-fewer}
 use Rattle.rules.proofs.Arranging.{arranged-out, blank-freeC}
 use Rattle.records.specs.Seen.{seen}
 use Rattle.records.specs.Stage.{stage, _does_}
-use Rattle.records.proofs.Stages.{stage-venue}
+use Rattle.records.proofs.StageLaws.{stage-venue}
 use Rattle.places.specs.Layout.{complexesUsed, venueOf}
 use Rattle.places.proofs.Parts.{complexes-few, complex-past}
 use Rattle.removal.proofs.Loops.{Doing}

@@ -1,3 +1,3 @@
-pub mod Typing
+pub mod TypingLaws
 pub mod Sheets
-pub mod Widths
+pub mod WidthsLaws

@@ -8,11 +8,11 @@ use Rattle.rules.specs.Records.{Report, recordOf, recordsFrom, records}
 use Rattle.records.specs.declared.Next.the-variants.{Found, End}
 use Rattle.records.specs.Next.{nextRecord}
 use Rattle.records.specs.Seen.{Seen}
-use Rattle.records.proofs.Reading.{Follows, next-follows, next-ends}
-use Rattle.records.proofs.Writes.{part-all}
+use Rattle.records.proofs.NextLaws.{Follows, next-follows, next-ends}
+use Rattle.records.proofs.SeenLaws.{part-all}
 use Rattle.text.specs.Lines.{lineOf, textOf}
 use Rattle.text.specs.Typing.{_types_}
-use Rattle.text.proofs.Typing.{types-append}
+use Rattle.text.proofs.TypingLaws.{types-append}
 
 -- Typing the lines of the records that stand from a position on would leave w of x.
 pub record Left (w : Seen) (report : List ℕ) (x : Seen) (from : ℕ) : Type 0 where

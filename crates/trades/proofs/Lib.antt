@@ -1,2 +1,2 @@
 pub mod Trades
-pub mod Pairs
+pub mod HitsLaws

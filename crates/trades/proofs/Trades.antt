@@ -19,11 +19,11 @@ use Rattle.rules.proofs.Tests.{and-l, held-pos}
 use Rattle.rules.proofs.Picking.{first-chosen}
 use Rattle.records.specs.Seen.{seen, _writes_}
 use Rattle.records.specs.Stage.{stage, _does_}
-use Rattle.records.proofs.Stages.{onward, does-nothing, does-report, does-room}
+use Rattle.records.proofs.StageLaws.{onward, does-nothing, does-report, does-room}
 use Rattle.places.specs.Layout.{size, regularsUsed, venueOf, SameCounts}
 use Rattle.book.specs.declared.Pick.the-variants as pick
 use Rattle.book.specs.Picks.{pickOf}
-use Rattle.book.proofs.Picking.{picked-is, nobody-is, regular-used, for-free}
+use Rattle.book.proofs.PicksLaws.{picked-is, nobody-is, regular-used, for-free}
 use Rattle.places.proofs.Beside.{counts-on}
 
 -- One trade -----------------------------------------------------------------------------------

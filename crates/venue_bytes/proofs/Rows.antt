@@ -8,7 +8,7 @@ use native.Mathlib.Numerals.{add-one}
 use lib.ListN.{length, getD, take, drop, length-append}
 use lib.Seq.{take-suc, take-all, length-take-le}
 use Rattle.records.specs.Seen.{Seen, seen, pasted, _plus_}
-use Rattle.records.proofs.Writes.{plus-in, pasted-nil, pasted-length, pasted-pasted, part-all}
+use Rattle.records.proofs.SeenLaws.{plus-in, pasted-nil, pasted-length, pasted-pasted, part-all}
 use Rattle.venue_bytes.specs.Held.{rows, rowAt, rowsAt}
 
 module _ {A : Type 0} (row : A → List ℕ) where

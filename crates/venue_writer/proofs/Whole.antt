@@ -7,7 +7,7 @@ use lib.ListN.{length, length-append, drop-of-length-le}
 use Rattle.rules.specs.declared.Venue.{Venue}
 use Rattle.rules.specs.Bytes.{u32, bytes}
 use Rattle.records.specs.Seen.{Seen, seen, pasted, _plus_}
-use Rattle.records.proofs.Writes.{plus-in, pasted-length, pasted-pasted}
+use Rattle.records.proofs.SeenLaws.{plus-in, pasted-length, pasted-pasted}
 use Rattle.venue_bytes.specs.Held.{editionsAt, reservesAt, ratiosAt, generationsAt, reachedAt, venueSize, rows, venueBytes, Sized}
 use Rattle.venue_bytes.specs.Held.{regularBytes, complexBytes, leggingBytes, listedBytes, editionBytes, reserveBytes, ratioBytes, generationsBytes}
 use Rattle.venue_bytes.proofs.Rows.{rows-length}

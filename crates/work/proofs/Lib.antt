@@ -1,2 +1,2 @@
 pub mod Pairing
-pub mod Working
+pub mod WorkLaws

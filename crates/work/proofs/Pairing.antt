@@ -17,7 +17,7 @@ use Rattle.rules.specs.Trading.{take, pairOff}
 use Rattle.rules.specs.Complex.{legsIn, legIn, unitsIn, legInTurn}
 use Rattle.records.specs.Seen.{seen}
 use Rattle.records.specs.Stage.{stage, _does_}
-use Rattle.records.proofs.Stages.{follow}
+use Rattle.records.proofs.StageLaws.{follow}
 use Rattle.levels.specs.declared.TakenLevels.{TakenLevels}
 use Rattle.levels.specs.Grid.{TakenOf}
 use Rattle.levels.proofs.Sides.{level-price, level-size}

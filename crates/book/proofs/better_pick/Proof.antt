@@ -1,6 +1,6 @@
 -- `book::better_pick` meets its contract.
 use mathlib.Core.Path.{sym, _∙_}
-use Rattle.book.proofs.Picking.{pick-none, pick-kept, pick-new}
+use Rattle.book.proofs.PicksLaws.{pick-none, pick-kept, pick-new}
 use borrow.Author.Needs.{needs}
 use Rattle.book.proofs.better_pick.Statement.{statement}
 use Rattle.book.proofs.better_pick.Tie as tie

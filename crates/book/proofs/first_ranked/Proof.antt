@@ -8,7 +8,7 @@ use Rattle.rules.specs.Order.{isMet}
 use Rattle.places.specs.Layout.{regularsUsed}
 use Rattle.places.proofs.Parts.{regulars-few}
 use Rattle.book.specs.Picks.{pickOf}
-use Rattle.book.proofs.Picking.{met-key}
+use Rattle.book.proofs.PicksLaws.{met-key}
 use Rattle.book.proofs.Ranking.{metFrom, met-start, met-past, met-join, met-all}
 use borrow.Author.Needs.{needs}
 use Rattle.book.proofs.first_ranked.Statement.{statement}

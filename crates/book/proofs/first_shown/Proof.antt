@@ -11,7 +11,7 @@ use Rattle.rules.specs.Prices.{shown, showsFor, bestIn, bestRegular}
 use Rattle.rules.specs.Generation.{reachesAny}
 use Rattle.places.specs.Layout.{isUnmarked, venueOf, Right}
 use Rattle.book.specs.Picks.{pickOf}
-use Rattle.book.proofs.Picking.{fully-some}
+use Rattle.book.proofs.PicksLaws.{fully-some}
 use Rattle.book.proofs.Unmet.{unmet}
 use Rattle.book.proofs.Earliest.{met-earliest}
 use borrow.Author.Needs.{needs}

@@ -1,5 +1,5 @@
 -- `book::is_met` meets its contract.
-use Rattle.book.proofs.Picking.{met-none, met-aside, met-own, met-reached}
+use Rattle.book.proofs.PicksLaws.{met-none, met-aside, met-own, met-reached}
 use borrow.Author.Needs.{needs}
 use Rattle.book.proofs.is_met.Statement.{statement}
 use Rattle.book.proofs.is_met.Tie as tie

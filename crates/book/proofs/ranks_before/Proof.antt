@@ -1,6 +1,6 @@
 -- `book::ranks_before` meets its contract.
 use mathlib.Core.Path.{sym, _∙_}
-use Rattle.book.proofs.Picking.{rank-better, rank-worse, rank-same}
+use Rattle.book.proofs.PicksLaws.{rank-better, rank-worse, rank-same}
 use borrow.Author.Needs.{needs}
 use Rattle.book.proofs.ranks_before.Statement.{statement}
 use Rattle.book.proofs.ranks_before.Tie as tie

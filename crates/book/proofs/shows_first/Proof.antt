@@ -1,5 +1,5 @@
 -- `book::shows_first` meets its contract.
-use Rattle.book.proofs.Picking.{shown-alone, shown-after, shown-neither, shown-both}
+use Rattle.book.proofs.PicksLaws.{shown-alone, shown-after, shown-neither, shown-both}
 use borrow.Author.Needs.{needs}
 use Rattle.book.proofs.shows_first.Statement.{statement}
 use Rattle.book.proofs.shows_first.Tie as tie

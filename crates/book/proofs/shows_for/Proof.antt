@@ -1,5 +1,5 @@
 -- `book::shows_for` meets its contract.
-use Rattle.book.proofs.Picking.{shows-none, shows-aside, shows-facing, shows-price}
+use Rattle.book.proofs.PicksLaws.{shows-none, shows-aside, shows-facing, shows-price}
 use borrow.Author.Needs.{needs}
 use Rattle.book.proofs.shows_for.Statement.{statement}
 use Rattle.book.proofs.shows_for.Tie as tie

@@ -1,5 +1,5 @@
 -- `c_api::legging_fresh` meets its contract.
-use Rattle.engine.proofs.Hosting.{none-begun, fresh-begun}
+use Rattle.engine.proofs.HostsLaws.{none-begun, fresh-begun}
 use borrow.Author.Needs.{needs}
 use Rattle.c_api.proofs.legging_fresh.Statement.{statement}
 use Rattle.c_api.proofs.legging_fresh.Tie as tie

@@ -1,6 +1,6 @@
 -- `c_api::legging_message` meets its contract.
 use native.Mathlib.Omega.{arith}
-use Rattle.engine.proofs.Hosting.{none-held, left-held, accepted-held}
+use Rattle.engine.proofs.HostsLaws.{none-held, left-held, accepted-held}
 use borrow.Author.Needs.{needs}
 use Rattle.c_api.proofs.legging_message.Statement.{statement}
 use Rattle.c_api.proofs.legging_message.Tie as tie

@@ -4,7 +4,7 @@ use native.Mathlib.Omega.{arith}
 use Rattle.rules.proofs.Machine.{back}
 use Rattle.places.proofs.Parts.{complexes-few, complex-at}
 use Rattle.places.proofs.Beside.{counts-on}
-use Rattle.crossing.proofs.Turns.{cross-law}
+use Rattle.crossing.proofs.CrossLaws.{cross-law}
 use borrow.Author.Needs.{needs}
 use Rattle.crossing.proofs.cross.Statement.{statement}
 use Rattle.crossing.proofs.cross.Tie as tie

@@ -11,7 +11,7 @@ use Rattle.places.proofs.Parts.{complexes-few, complex-at}
 use Rattle.levels.specs.Grid.{LegsIn}
 use Rattle.prices.proofs.Prices.{legs-in}
 use Rattle.cross_makers.specs.Picks.{pickedOf}
-use Rattle.crossing.proofs.Turns.{cross-idle, cross-nobody, cross-some, picked-used}
+use Rattle.crossing.proofs.CrossLaws.{cross-idle, cross-nobody, cross-some, picked-used}
 use borrow.Author.Needs.{needs}
 use Rattle.crossing.proofs.cross_all.Statement.{statement}
 use Rattle.crossing.proofs.cross_all.Tie as tie

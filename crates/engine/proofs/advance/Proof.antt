@@ -1,6 +1,6 @@
 -- `engine::advance` meets its contract.
 use native.Mathlib.Omega.{arith}
-use Rattle.engine.proofs.Running.{turn-no-number, turn-no-room, turn-done}
+use Rattle.engine.proofs.RunsLaws.{turn-no-number, turn-no-room, turn-done}
 use borrow.Author.Needs.{needs}
 use Rattle.engine.proofs.advance.Statement.{statement}
 use Rattle.engine.proofs.advance.Tie as tie

@@ -11,7 +11,7 @@ use denote.Enum.Declared.{tagOf}
 use Rattle.reader.specs.declared.Head.{Head}
 use Rattle.reader.proofs.Head as head
 use Rattle.reader.proofs.Heads.{at-none, at-some}
-use Rattle.engine.proofs.Running.{Running, RunEnded, running-start, running-again, running-end, running-stop, ran}
+use Rattle.engine.proofs.RunsLaws.{Running, RunEnded, running-start, running-again, running-end, running-stop, ran}
 use Rattle.engine.proofs.run.Statement.{statement}
 use Rattle.engine.proofs.run.Tie as tie
 

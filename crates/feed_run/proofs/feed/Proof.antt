@@ -2,7 +2,7 @@
 use mathlib.Core.Path.{sym, _∙_}
 use borrow.Author.Needs.{needs}
 use borrow.Author.Tests.{not-true, not-false}
-use Rattle.feed_run.proofs.Feeding.{main-faulty, spare-faulty}
+use Rattle.feed_run.proofs.FeedsLaws.{main-faulty, spare-faulty}
 use Rattle.feed_run.proofs.feed.Statement.{statement}
 use Rattle.feed_run.proofs.feed.Tie as tie
 

@@ -5,7 +5,7 @@ use native.Mathlib.Omega.{arith}
 use Prim.Native.Nat.{_+_, _-_, _<_}
 use lib.ListN.{length}
 use Rattle.feed.proofs.Ahead.{ahead-ready}
-use Rattle.feed_run.proofs.Feeding.{Feeding, FeedEnded, feeding-start, feeding-again, feeding-end, feeding-stop, not-ends, fed}
+use Rattle.feed_run.proofs.FeedsLaws.{Feeding, FeedEnded, feeding-start, feeding-again, feeding-end, feeding-stop, not-ends, fed}
 use borrow.Author.Needs.{needs}
 use Rattle.feed_run.proofs.feed_lines.Statement.{statement}
 use Rattle.feed_run.proofs.feed_lines.Tie as tie

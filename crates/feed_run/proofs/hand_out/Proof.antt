@@ -3,7 +3,7 @@ use mathlib.Core.Path.{sym, _∙_}
 use native.Mathlib.Omega.{arith}
 use Prim.Native.Nat.{_+_, _-_, _^_, _≤_, _<_}
 use lib.ListN.{length}
-use Rattle.feed_run.proofs.Feeding.{asked, asked-one, turn-stopped, turn-full, turn-handed}
+use Rattle.feed_run.proofs.FeedsLaws.{asked, asked-one, turn-stopped, turn-full, turn-handed}
 use borrow.Author.Needs.{needs}
 use Rattle.feed_run.proofs.hand_out.Statement.{statement}
 use Rattle.feed_run.proofs.hand_out.Tie as tie

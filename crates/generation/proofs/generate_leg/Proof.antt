@@ -1,9 +1,9 @@
 -- `generation::generate_leg` meets its contract.
-use Rattle.generation.proofs.Making.{steps-some, made-none, made-alone, made-over, made-is, planned-shown}
-use Rattle.settling.proofs.Testing.{off, on}
+use Rattle.generation.proofs.PartsLaws.{steps-some, made-none, made-alone, made-over, made-is, planned-shown}
+use Rattle.settling.proofs.PartsLaws.{off, on}
 use Rattle.generation.specs.Parts.{madeBy}
 use Rattle.places.specs.Layout.{venueOf}
-use Rattle.records.proofs.Stages.{does-nothing}
+use Rattle.records.proofs.StageLaws.{does-nothing}
 use Rattle.records.specs.Stage.{_does_}
 use Rattle.records.specs.Seen.{seen}
 use Rattle.rules.specs.Effects.{Effect, nothing}

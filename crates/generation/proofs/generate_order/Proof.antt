@@ -1,8 +1,8 @@
 -- `generation::generate_order` meets its contract.
-use Rattle.generation.proofs.Making.{generates-kept, generate-past, generate-gone, generate-shut, generate-is, complex-in}
-use Rattle.settling.proofs.Testing.{off, on}
+use Rattle.generation.proofs.PartsLaws.{generates-kept, generate-past, generate-gone, generate-shut, generate-is, complex-in}
+use Rattle.settling.proofs.PartsLaws.{off, on}
 use Rattle.places.specs.Layout.{venueOf, complexesUsed}
-use Rattle.records.proofs.Stages.{does-nothing, follow, stage-venue}
+use Rattle.records.proofs.StageLaws.{does-nothing, follow, stage-venue}
 use Rattle.records.specs.Stage.{_does_}
 use Rattle.records.specs.Seen.{seen}
 use Rattle.rules.specs.Generation.{generateLeg}

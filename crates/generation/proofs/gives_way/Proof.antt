@@ -1,5 +1,5 @@
 -- `generation::gives_way` meets its contract.
-use Rattle.generation.proofs.Making.{way-better, way-worse, way-other, way-class}
+use Rattle.generation.proofs.PartsLaws.{way-better, way-worse, way-other, way-class}
 use Rattle.places.specs.Layout.{venueOf}
 use Rattle.rules.specs.Standing.{parentOf}
 use Rattle.rules.specs.Words.{placeOf}

@@ -1,5 +1,5 @@
 -- `generation::is_under_ceiling` meets its contract.
-use Rattle.generation.proofs.Making.{under-none, under-old}
+use Rattle.generation.proofs.PartsLaws.{under-none, under-old}
 use borrow.Author.Needs.{needs}
 use Rattle.generation.proofs.is_under_ceiling.Statement.{statement}
 use Rattle.generation.proofs.is_under_ceiling.Tie as tie

@@ -1,5 +1,5 @@
 -- `generation::leg_price` meets its contract.
-use Rattle.generation.proofs.Making.{diff-fits, diff-is, diff-abs, priced-none, priced-is}
+use Rattle.generation.proofs.PartsLaws.{diff-fits, diff-is, diff-abs, priced-none, priced-is}
 use Rattle.rules.proofs.Machine.{back}
 use native.Mathlib.Omega.{arith}
 use mathlib.Core.Path.{_∙_}

@@ -1,5 +1,5 @@
 -- `generation::make_leg` meets its contract.
-use Rattle.generation.proofs.Making.{made-law}
+use Rattle.generation.proofs.PartsLaws.{made-law}
 use Rattle.rules.specs.Words.{placeOf}
 use Rattle.places.proofs.Beside.{counts-on}
 use borrow.Author.Needs.{needs}

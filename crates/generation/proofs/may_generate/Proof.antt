@@ -1,5 +1,5 @@
 -- `generation::may_generate` meets its contract.
-use Rattle.settling.proofs.Testing.{off, on}
+use Rattle.settling.proofs.PartsLaws.{off, on}
 use Rattle.generation.specs.Parts.{mayGenerate}
 use Rattle.places.specs.Layout.{venueOf}
 use Rattle.rules.proofs.Machine.{back}

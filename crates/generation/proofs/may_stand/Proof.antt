@@ -1,5 +1,5 @@
 -- `generation::may_stand` meets its contract.
-use Rattle.settling.proofs.Testing.{off, on}
+use Rattle.settling.proofs.PartsLaws.{off, on}
 use Rattle.generation.specs.Parts.{mayStand}
 use Rattle.levels.proofs.Sides.{own-is, facing-is}
 use Rattle.places.specs.Layout.{venueOf}

@@ -1,5 +1,5 @@
 -- `generation::others_stand_with` meets its contract.
-use Rattle.generation.proofs.Making.{grid-kept, placed-regular, placed-back}
+use Rattle.generation.proofs.PartsLaws.{grid-kept, placed-regular, placed-back}
 use Rattle.rules.specs.Generation.{placed, othersStand}
 use Rattle.rules.specs.declared.Venue.{Venue}
 use Rattle.places.proofs.Beside.{counts-on}

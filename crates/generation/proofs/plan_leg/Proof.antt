@@ -1,6 +1,6 @@
 -- `generation::plan_leg` meets its contract.
-use Rattle.settling.proofs.Testing.{off, on, size-is}
-use Rattle.generation.proofs.Making.{planned-free, planned-not, planned-new}
+use Rattle.settling.proofs.PartsLaws.{off, on, size-is}
+use Rattle.generation.proofs.PartsLaws.{planned-free, planned-not, planned-new}
 use Rattle.places.specs.Layout.{venueOf}
 use Prim.Native.Nat.{min}
 use mathlib.Core.Path.{refl, ap, _∙_}

@@ -1,6 +1,6 @@
 -- `generation::ranged` meets its contract.
 use native.Mathlib.Omega.{arith}
-use Rattle.generation.proofs.Making.{ranged-far, ranged-low, ranged-high, ranged-in}
+use Rattle.generation.proofs.PartsLaws.{ranged-far, ranged-low, ranged-high, ranged-in}
 use borrow.Author.Needs.{needs}
 use Rattle.generation.proofs.ranged.Statement.{statement}
 use Rattle.generation.proofs.ranged.Tie as tie

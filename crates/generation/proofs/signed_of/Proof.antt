@@ -1,5 +1,5 @@
 -- `generation::signed_of` meets its contract.
-use Rattle.generation.proofs.Making.{sign-buy, sign-sell, turned-fits, turned-is}
+use Rattle.generation.proofs.PartsLaws.{sign-buy, sign-sell, turned-fits, turned-is}
 use Rattle.rules.proofs.Machine.{back}
 use mathlib.Core.Path.{_∙_}
 use Rattle.generation.proofs.signed_of.Statement.{statement}

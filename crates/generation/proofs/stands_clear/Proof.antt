@@ -1,6 +1,6 @@
 -- `generation::stands_clear` meets its contract.
-use Rattle.settling.proofs.Testing.{off, on, shown-is}
-use Rattle.generation.proofs.Making.{clear-own, clear-away}
+use Rattle.settling.proofs.PartsLaws.{off, on, shown-is}
+use Rattle.generation.proofs.PartsLaws.{clear-own, clear-away}
 use Rattle.generation.specs.Parts.{standsClear}
 use Rattle.places.specs.Layout.{venueOf}
 use Rattle.rules.specs.Prices.{bestRegular}

@@ -2,7 +2,7 @@
 use borrow.Author.Needs.{needs}
 use Prim.Native.Nat.{_-_}
 use native.Mathlib.Omega.{arith}
-use Rattle.levels.proofs.Grids.{Filling, filling-start, filling-turn, filling-end}
+use Rattle.levels.proofs.GridLaws.{Filling, filling-start, filling-turn, filling-end}
 use Rattle.levels.proofs.levels.Statement.{statement}
 use Rattle.levels.proofs.levels.Tie as tie
 

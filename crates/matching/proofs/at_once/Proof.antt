@@ -1,5 +1,5 @@
 -- `matching::at_once` meets its contract.
-use Rattle.matching.proofs.Turns.{once-reserve, once-size}
+use Rattle.matching.proofs.TurnsLaws.{once-reserve, once-size}
 use borrow.Author.Needs.{needs}
 use Rattle.matching.proofs.at_once.Statement.{statement}
 use Rattle.matching.proofs.at_once.Tie as tie

@@ -5,7 +5,7 @@ use Rattle.places.specs.Layout.{venueOf}
 use Rattle.places.proofs.Parts.{regulars-few, regular-at}
 use Rattle.levels.proofs.Joining.{series-in}
 use Rattle.matching.specs.Turns.{turnOf}
-use Rattle.matching.proofs.Turns.{turn-idle, none-hit, none-end, some-hit, some-meet, met-used}
+use Rattle.matching.proofs.TurnsLaws.{turn-idle, none-hit, none-end, some-hit, some-meet, met-used}
 use borrow.Author.Needs.{needs}
 use Rattle.matching.proofs.decide.Statement.{statement}
 use Rattle.matching.proofs.decide.Tie as tie

@@ -7,7 +7,7 @@ use Rattle.rules.specs.Trading.{putRegular}
 use Rattle.records.specs.Seen.{seen}
 use Rattle.records.specs.Stage.{_does_}
 use Rattle.places.specs.Layout.{venueOf}
-use Rattle.matching.proofs.Turns.{enter-law}
+use Rattle.matching.proofs.TurnsLaws.{enter-law}
 use Rattle.place_writes.proofs.Closed.{dense-regular}
 use borrow.Author.Needs.{needs}
 use Rattle.matching.proofs.enter_regular.Statement.{statement}

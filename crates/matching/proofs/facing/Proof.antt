@@ -2,7 +2,7 @@
 use mathlib.Core.Path.{ap, _∙_}
 use native.Mathlib.Omega.{arith}
 use Rattle.rules.specs.Words.{opposite, placeOf}
-use Rattle.trades.proofs.Pairs.{opposite-in}
+use Rattle.trades.proofs.HitsLaws.{opposite-in}
 use Rattle.places.proofs.Parts.{legging-read}
 use borrow.Author.Needs.{needs}
 use Rattle.matching.proofs.facing.Statement.{statement}

@@ -1,7 +1,7 @@
 -- `matching::legging_first` meets its contract.
 use mathlib.Core.Path.{sym, _∙_}
 use borrow.Author.Tests.{not-true, not-false}
-use Rattle.matching.proofs.Turns.{first-none, first-far, first-near}
+use Rattle.matching.proofs.TurnsLaws.{first-none, first-far, first-near}
 use borrow.Author.Needs.{needs}
 use Rattle.matching.proofs.legging_first.Statement.{statement}
 use Rattle.matching.proofs.legging_first.Tie as tie

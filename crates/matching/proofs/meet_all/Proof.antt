@@ -3,7 +3,7 @@ use mathlib.Core.Path.{sym, ap, _∙_}
 use Rattle.rules.specs.Order.{meetTurn}
 use Rattle.places.specs.Layout.{venueOf}
 use Rattle.matching.specs.Turns.{turnOf}
-use Rattle.matching.proofs.Turns.{Turning, turning-start, turning-end, turning-stop, turning-turn, turning-room}
+use Rattle.matching.proofs.TurnsLaws.{Turning, turning-start, turning-end, turning-stop, turning-turn, turning-room}
 use borrow.Author.Needs.{needs}
 use Rattle.matching.proofs.meet_all.Statement.{statement}
 use Rattle.matching.proofs.meet_all.Tie as tie

@@ -1,7 +1,7 @@
 -- `messages::accept` meets its contract.
 use mathlib.Core.Path.{_∙_}
 use Rattle.places.specs.Layout.{venueOf}
-use Rattle.messages.proofs.Stepping.{accept-law}
+use Rattle.messages.proofs.StepsLaws.{accept-law}
 use borrow.Author.Needs.{needs}
 use Rattle.messages.proofs.accept.Statement.{statement}
 use Rattle.messages.proofs.accept.Tie as tie

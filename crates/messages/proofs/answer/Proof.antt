@@ -1,7 +1,7 @@
 -- `messages::answer` meets its contract.
 use mathlib.Core.Path.{_≡_, refl, sym, ap, _∙_}
 use Rattle.places.specs.Layout.{venueOf}
-use Rattle.messages.proofs.Stepping.{steps-as, by-accepted, by-refused}
+use Rattle.messages.proofs.StepsLaws.{steps-as, by-accepted, by-refused}
 use borrow.Author.Needs.{needs}
 use Rattle.messages.proofs.answer.Statement.{statement}
 use Rattle.messages.proofs.answer.Tie as tie

@@ -2,7 +2,7 @@
 use Rattle.rules.specs.Step.{accept, answered}
 use mathlib.Core.Path.{_≡_, refl, sym, ap, _∙_}
 use Rattle.places.specs.Layout.{venueOf}
-use Rattle.messages.proofs.Stepping.{accepted-law}
+use Rattle.messages.proofs.StepsLaws.{accepted-law}
 use borrow.Author.Needs.{needs}
 use Rattle.messages.proofs.answer_accepted.Statement.{statement}
 use Rattle.messages.proofs.answer_accepted.Tie as tie

@@ -6,7 +6,7 @@ use Rattle.rules.specs.Complex.{complex}
 use Rattle.records.specs.Seen.{seen}
 use Rattle.records.specs.Stage.{_does_}
 use Rattle.places.specs.Layout.{venueOf}
-use Rattle.messages.proofs.Stepping.{last-dense}
+use Rattle.messages.proofs.StepsLaws.{last-dense}
 use borrow.Author.Needs.{needs}
 use Rattle.messages.proofs.enter_complex.Statement.{statement}
 use Rattle.messages.proofs.enter_complex.Tie as tie

@@ -9,7 +9,7 @@ use Rattle.places.specs.Layout.{venueOf}
 use Rattle.venue_numbers.proofs.Loaded.{regular-side}
 use Rattle.places.proofs.Orderly.{range-priced, range-displayed}
 use Rattle.places.proofs.Fully.{range-bounded}
-use Rattle.messages.proofs.Stepping.{last-dense, last-below}
+use Rattle.messages.proofs.StepsLaws.{last-dense, last-below}
 use borrow.Author.Needs.{needs}
 use Rattle.messages.proofs.enter_order.Statement.{statement}
 use Rattle.messages.proofs.enter_order.Tie as tie

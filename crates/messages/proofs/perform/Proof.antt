@@ -12,7 +12,7 @@ use Rattle.wire.specs.Brought.{Shows}
 use Rattle.places.specs.Layout.{venueOf}
 use Rattle.sweeps.proofs.Walking.{sound-rising}
 use Rattle.refusals.proofs.Refusing.{legs-in, away-series, status-series}
-use Rattle.messages.proofs.Stepping.{order-below, order-room, complex-room, cancel-known}
+use Rattle.messages.proofs.StepsLaws.{order-below, order-room, complex-room, cancel-known}
 use borrow.Author.Needs.{needs}
 use Rattle.messages.proofs.perform.Statement.{statement}
 use Rattle.messages.proofs.perform.Tie as tie

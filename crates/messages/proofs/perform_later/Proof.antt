@@ -12,7 +12,7 @@ use Rattle.records.specs.Stage.{_does_}
 use Rattle.places.specs.Layout.{venueOf}
 use Rattle.sweeps.proofs.Walking.{sound-rising}
 use Rattle.refusals.proofs.Refusing.{increment-set}
-use Rattle.messages.proofs.Stepping.{increment-place, percent-place}
+use Rattle.messages.proofs.StepsLaws.{increment-place, percent-place}
 use borrow.Author.Needs.{needs}
 use Rattle.messages.proofs.perform_later.Statement.{statement}
 use Rattle.messages.proofs.perform_later.Tie as tie

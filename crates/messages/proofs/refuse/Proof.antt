@@ -2,7 +2,7 @@
 use Rattle.rules.specs.Step.{answered}
 use mathlib.Core.Path.{_≡_, refl, sym, ap, _∙_}
 use Rattle.places.specs.Layout.{venueOf}
-use Rattle.messages.proofs.Stepping.{refuse-law}
+use Rattle.messages.proofs.StepsLaws.{refuse-law}
 use borrow.Author.Needs.{needs}
 use Rattle.messages.proofs.refuse.Statement.{statement}
 use Rattle.messages.proofs.refuse.Tie as tie

@@ -1,7 +1,7 @@
 -- `messages::step` meets its contract.
 use mathlib.Core.Path.{_≡_, refl, sym, ap, _∙_}
 use Rattle.places.specs.Layout.{venueOf}
-use Rattle.messages.proofs.Stepping.{steps-as, taken-out, taken-shows, step-taken, step-refused}
+use Rattle.messages.proofs.StepsLaws.{steps-as, taken-out, taken-shows, step-taken, step-refused}
 use borrow.Author.Needs.{needs}
 use Rattle.messages.proofs.step.Statement.{statement}
 use Rattle.messages.proofs.step.Tie as tie

@@ -2,7 +2,7 @@
 use mathlib.Core.Path.{_∙_}
 use Rattle.rules.specs.Standing.{settle}
 use Rattle.rules.specs.Complex.{cancel}
-use Rattle.records.proofs.Stages.{follow}
+use Rattle.records.proofs.StageLaws.{follow}
 use Rattle.places.specs.Layout.{venueOf}
 use Rattle.orders.specs.Effects.{withdrawn}
 use Rattle.places.proofs.Beside.{counts-on}

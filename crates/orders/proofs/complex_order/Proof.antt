@@ -6,7 +6,7 @@ use Rattle.rules.specs.Trading.{putComplex}
 use Rattle.places.specs.Layout.{venueOf}
 use Rattle.place_writes.proofs.Closed.{dense-complex}
 use Rattle.places.proofs.Beside.{counts-on}
-use Rattle.orders.proofs.Arriving.{complex-law, counts-more}
+use Rattle.orders.proofs.OrderLaws.{complex-law, counts-more}
 use borrow.Author.Needs.{needs}
 use Rattle.orders.proofs.complex_order.Statement.{statement}
 use Rattle.orders.proofs.complex_order.Tie as tie

@@ -2,9 +2,9 @@
 use mathlib.Core.Path.{_∙_}
 use Rattle.rules.specs.Standing.{settle}
 use Rattle.rules.specs.Order.{enterRegular, order}
-use Rattle.records.proofs.Stages.{follow}
+use Rattle.records.proofs.StageLaws.{follow}
 use Rattle.places.specs.Layout.{venueOf}
-use Rattle.orders.proofs.Arriving.{counts-more}
+use Rattle.orders.proofs.OrderLaws.{counts-more}
 use borrow.Author.Needs.{needs}
 use Rattle.orders.proofs.order.Statement.{statement}
 use Rattle.orders.proofs.order.Tie as tie

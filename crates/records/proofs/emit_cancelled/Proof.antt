@@ -2,7 +2,7 @@ use Rattle.rules.specs.Bytes.{framed, bytes}
 use Rattle.rules.specs.Records.{cancelled, encode}
 use Rattle.records.specs.Seen.{wordBytes}
 use mathlib.Core.Path.{refl}
-use Rattle.records.proofs.Writes.{emitted}
+use Rattle.records.proofs.SeenLaws.{emitted}
 use borrow.Author.Needs.{needs}
 use Rattle.records.proofs.emit_cancelled.Statement.{statement}
 use Rattle.records.proofs.emit_cancelled.Tie as tie

@@ -1,7 +1,7 @@
 use Rattle.rules.specs.Bytes.{framed, bytes}
 use Rattle.rules.specs.Records.{removed, causeNumber, encode}
 use Rattle.rules.proofs.Reading.{byte, cause-small}
-use Rattle.records.proofs.Writes.{emitted}
+use Rattle.records.proofs.SeenLaws.{emitted}
 use borrow.Author.Needs.{needs}
 use Rattle.records.proofs.emit_removed.Statement.{statement}
 use Rattle.records.proofs.emit_removed.Tie as tie

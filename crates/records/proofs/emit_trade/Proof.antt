@@ -2,7 +2,7 @@ use Rattle.rules.specs.Bytes.{framed, bytes}
 use Rattle.rules.specs.Records.{trade, encode}
 use Rattle.records.specs.Seen.{wordBytes}
 use Rattle.rules.proofs.Reading.{byte}
-use Rattle.records.proofs.Writes.{emitted}
+use Rattle.records.proofs.SeenLaws.{emitted}
 use borrow.Author.Needs.{needs}
 use Rattle.records.proofs.emit_trade.Statement.{statement}
 use Rattle.records.proofs.emit_trade.Tie as tie

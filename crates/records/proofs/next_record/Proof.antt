@@ -1,7 +1,7 @@
 use mathlib.Core.Path.{sym}
 use native.Mathlib.Omega.{arith}
 use Rattle.wire.proofs.Numbers.{u16-past}
-use Rattle.records.proofs.Reading.{next-none, next-found}
+use Rattle.records.proofs.NextLaws.{next-none, next-found}
 use borrow.Author.Needs.{needs}
 use Rattle.records.proofs.next_record.Statement.{statement}
 use Rattle.records.proofs.next_record.Tie as tie

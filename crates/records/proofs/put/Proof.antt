@@ -4,7 +4,7 @@ use native.Mathlib.Omega.{arith}
 use native.Mathlib.Numerals.{add-one}
 use lib.ListN.{length, length-set}
 use lib.Seq.{paste, paste-zero, paste-suc}
-use Rattle.records.proofs.Writes.{plus-out, plus-copied}
+use Rattle.records.proofs.SeenLaws.{plus-out, plus-copied}
 use Rattle.records.proofs.put.Statement.{statement}
 use Rattle.records.proofs.put.Tie as tie
 

@@ -1,6 +1,6 @@
 use native.Mathlib.Omega.{arith}
 use native.Mathlib.Numerals.{add-one}
-use Rattle.records.proofs.Writes.{head-words, head-room, words-out}
+use Rattle.records.proofs.SeenLaws.{head-words, head-room, words-out}
 use borrow.Author.Needs.{needs}
 use Rattle.records.proofs.put_words.Statement.{statement}
 use Rattle.records.proofs.put_words.Tie as tie

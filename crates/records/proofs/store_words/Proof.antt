@@ -1,7 +1,7 @@
 use native.Mathlib.Omega.{arith}
 use Prim.Native.Nat.{_-_}
 use lib.ListN.{length}
-use Rattle.records.proofs.Writes.{Laid, laid-start, laid-room, laid-next, laid-end}
+use Rattle.records.proofs.SeenLaws.{Laid, laid-start, laid-room, laid-next, laid-end}
 use Rattle.records.proofs.store_words.Statement.{statement}
 use Rattle.records.proofs.store_words.Tie as tie
 

@@ -4,7 +4,7 @@ use native.Mathlib.Omega.{arith}
 use native.Mathlib.Numerals.{add-one}
 use lib.ListN.{length, replicate, getD, length-set, set, length-replicate, getD-replicate}
 use lib.Seq.{paste, paste-zero, paste-suc}
-use Rattle.records.proofs.Writes.{zeroed, zeroed-none}
+use Rattle.records.proofs.SeenLaws.{zeroed, zeroed-none}
 use Rattle.records.proofs.zero_from.Statement.{statement}
 use Rattle.records.proofs.zero_from.Tie as tie
 

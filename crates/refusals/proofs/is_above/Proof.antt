@@ -12,7 +12,7 @@ use Rattle.rules.specs.declared.Edition.{Edition}
 use Rattle.rules.specs.Base.{all}
 use Rattle.rules.specs.Words.{noEdition}
 use Rattle.places.specs.Layout.{editionIn}
-use Rattle.refusals.proofs.Testing.{all-pass, one-fails, editions-used}
+use Rattle.refusals.proofs.EditionsLaws.{all-pass, one-fails, editions-used}
 use Rattle.refusals.proofs.is_above.Statement.{statement}
 use Rattle.refusals.proofs.is_above.Tie as tie
 

@@ -11,7 +11,7 @@ use Rattle.rules.specs.Base.{held}
 use Rattle.rules.specs.Words.{noComplex}
 use Rattle.places.specs.Layout.{complexesUsed, complexIn, venueOf}
 use Rattle.places.proofs.Parts.{complexes-few}
-use Rattle.refusals.proofs.Testing.{all-pass, one-fails}
+use Rattle.refusals.proofs.EditionsLaws.{all-pass, one-fails}
 use Rattle.refusals.proofs.no_leg_in.Statement.{statement}
 use Rattle.refusals.proofs.no_leg_in.Tie as tie
 

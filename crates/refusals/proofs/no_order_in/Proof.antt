@@ -11,7 +11,7 @@ use Rattle.rules.specs.Base.{held}
 use Rattle.rules.specs.Words.{noRegular}
 use Rattle.places.specs.Layout.{regularsUsed, regularIn, venueOf}
 use Rattle.places.proofs.Parts.{regulars-few}
-use Rattle.refusals.proofs.Testing.{all-pass, one-fails}
+use Rattle.refusals.proofs.EditionsLaws.{all-pass, one-fails}
 use Rattle.refusals.proofs.no_order_in.Statement.{statement}
 use Rattle.refusals.proofs.no_order_in.Tie as tie
 

@@ -5,7 +5,7 @@ use Prim.Native.Nat.{_-_}
 use mathlib.Core.Bool.{_||_}
 use lib.Dec.{eqb}
 use Rattle.rules.specs.Removal.{failIf}
-use Rattle.removal.proofs.Removing.{Removing, removing-start, removing-turn, removing-past, removing-end, removing-room, at-one, at-two, at-neither}
+use Rattle.removal.proofs.RemovalLaws.{Removing, removing-start, removing-turn, removing-past, removing-end, removing-room, at-one, at-two, at-neither}
 use Rattle.removal.proofs.remove_at.Statement.{statement}
 use Rattle.removal.proofs.remove_at.Tie as tie
 

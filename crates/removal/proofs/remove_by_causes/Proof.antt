@@ -3,7 +3,7 @@ use borrow.Author.Needs.{needs}
 use mathlib.Core.Path.{sym, _∙_}
 use Prim.Native.Nat.{_<_}
 use native.Mathlib.Omega.{arith}
-use Rattle.removal.proofs.Removing.{Removing, removing-start, removing-turn, removing-past, removing-over, removing-room, Left, left-start, left-few, left-on, left-here, left-over}
+use Rattle.removal.proofs.RemovalLaws.{Removing, removing-start, removing-turn, removing-past, removing-over, removing-room, Left, left-start, left-few, left-on, left-here, left-over}
 use Rattle.removal.specs.Causes.{verdictIn}
 use Rattle.removal.proofs.remove_by_causes.Statement.{statement}
 use Rattle.removal.proofs.remove_by_causes.Tie as tie

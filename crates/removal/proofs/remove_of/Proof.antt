@@ -4,7 +4,7 @@ use mathlib.Core.Path.{sym, _∙_}
 use Prim.Native.Nat.{_-_}
 use lib.Dec.{eqb}
 use Rattle.rules.specs.Removal.{failIf, removeOf}
-use Rattle.removal.proofs.Removing.{Removing, removing-start, removing-turn, removing-past, removing-end, removing-room, by-parent, not-parent}
+use Rattle.removal.proofs.RemovalLaws.{Removing, removing-start, removing-turn, removing-past, removing-end, removing-room, by-parent, not-parent}
 use Rattle.removal.proofs.remove_of.Statement.{statement}
 use Rattle.removal.proofs.remove_of.Tie as tie
 

@@ -3,10 +3,10 @@ use mathlib.Core.Path.{refl, sym, ap, _∙_}
 use Rattle.rules.specs.Effects.{Effect, report}
 use Rattle.records.specs.Seen.{seen}
 use Rattle.records.specs.Stage.{_does_}
-use Rattle.records.proofs.Stages.{does-nothing, does-report}
+use Rattle.records.proofs.StageLaws.{does-nothing, does-report}
 use Rattle.places.specs.Layout.{venueOf}
 use Rattle.places.proofs.Parts.{legging-at}
-use Rattle.removal.proofs.Removing.{remove-place-free, remove-place-held}
+use Rattle.removal.proofs.RemovalLaws.{remove-place-free, remove-place-held}
 use borrow.Author.Needs.{needs}
 use Rattle.removal.proofs.remove_place.Statement.{statement}
 use Rattle.removal.proofs.remove_place.Tie as tie

@@ -1,6 +1,6 @@
 -- `set_check::are_few` meets its contract.
 use native.Mathlib.Omega.{arith}
-use Rattle.set_check.proofs.Looks.{few-not, few-run}
+use Rattle.set_check.proofs.OrderLaws.{few-not, few-run}
 use Rattle.set_check.proofs.are_few.Statement.{statement}
 use Rattle.set_check.proofs.are_few.Tie as tie
 

@@ -1,6 +1,6 @@
 -- `set_check::complex_placed` meets its contract.
 use native.Mathlib.Omega.{arith}
-use Rattle.set_check.proofs.Looks.{complex-free, complex-pair, complex-first, complex-second}
+use Rattle.set_check.proofs.OrderLaws.{complex-free, complex-pair, complex-first, complex-second}
 use borrow.Author.Needs.{needs}
 use Rattle.set_check.proofs.complex_placed.Statement.{statement}
 use Rattle.set_check.proofs.complex_placed.Tie as tie

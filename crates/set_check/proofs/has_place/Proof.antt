@@ -1,7 +1,7 @@
 -- `set_check::has_place` meets its contract.
 use native.Mathlib.Omega.{arith}
 use mathlib.Core.Path.{_≡_, refl, sym, ap, _∙_}
-use Rattle.set_check.proofs.Looks.{placed-increment, placed-percent, placed-regular, placed-complex, placed-legging, placed-generation, placed-other, placed-reached}
+use Rattle.set_check.proofs.OrderLaws.{placed-increment, placed-percent, placed-regular, placed-complex, placed-legging, placed-generation, placed-other, placed-reached}
 use borrow.Author.Needs.{needs}
 use Rattle.set_check.proofs.has_place.Statement.{statement}
 use Rattle.set_check.proofs.has_place.Tie as tie

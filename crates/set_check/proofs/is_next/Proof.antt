@@ -2,7 +2,7 @@
 use mathlib.Core.Path.{_≡_, refl, sym, ap, _∙_}
 use borrow.Author.Tests.{not-true, not-false}
 use native.Mathlib.Omega.{arith}
-use Rattle.set_check.proofs.Looks.{next-opens, next-not, next-stands}
+use Rattle.set_check.proofs.OrderLaws.{next-opens, next-not, next-stands}
 use borrow.Author.Needs.{needs}
 use Rattle.set_check.proofs.is_next.Statement.{statement}
 use Rattle.set_check.proofs.is_next.Tie as tie

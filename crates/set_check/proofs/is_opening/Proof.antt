@@ -1,7 +1,7 @@
 -- `set_check::is_opening` meets its contract.
 use mathlib.Core.Path.{_≡_, refl, sym, ap, _∙_}
 use native.Mathlib.Omega.{arith}
-use Rattle.set_check.proofs.Looks.{open-whole, open-other, open-not, open-series}
+use Rattle.set_check.proofs.OrderLaws.{open-whole, open-other, open-not, open-series}
 use borrow.Author.Needs.{needs}
 use Rattle.set_check.proofs.is_opening.Statement.{statement}
 use Rattle.set_check.proofs.is_opening.Tie as tie

@@ -1,6 +1,6 @@
 -- `set_check::legging_placed` meets its contract.
 use native.Mathlib.Omega.{arith}
-use Rattle.set_check.proofs.Looks.{legging-series, legging-side, legging-quantity}
+use Rattle.set_check.proofs.OrderLaws.{legging-series, legging-side, legging-quantity}
 use borrow.Author.Needs.{needs}
 use Rattle.set_check.proofs.legging_placed.Statement.{statement}
 use Rattle.set_check.proofs.legging_placed.Tie as tie

@@ -1,6 +1,6 @@
 -- `set_check::mark_of` meets its contract.
 use native.Mathlib.Omega.{arith}
-use Rattle.set_check.proofs.Looks.{mark-increment, mark-percent, mark-order, mark-legging, mark-generation, mark-none}
+use Rattle.set_check.proofs.OrderLaws.{mark-increment, mark-percent, mark-order, mark-legging, mark-generation, mark-none}
 use borrow.Author.Needs.{needs}
 use Rattle.set_check.proofs.mark_of.Statement.{statement}
 use Rattle.set_check.proofs.mark_of.Tie as tie

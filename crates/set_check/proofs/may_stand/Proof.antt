@@ -2,7 +2,7 @@
 use mathlib.Core.Path.{_≡_, refl, sym, ap, _∙_}
 use borrow.Author.Tests.{not-true, not-false}
 use native.Mathlib.Omega.{arith}
-use Rattle.set_check.proofs.Looks.{stand-later, stand-earlier, stand-risen, stand-fallen, stand-told}
+use Rattle.set_check.proofs.OrderLaws.{stand-later, stand-earlier, stand-risen, stand-fallen, stand-told}
 use borrow.Author.Needs.{needs}
 use Rattle.set_check.proofs.may_stand.Statement.{statement}
 use Rattle.set_check.proofs.may_stand.Tie as tie

@@ -1,6 +1,6 @@
 -- `set_check::of_short` meets its contract.
 use native.Mathlib.Omega.{arith}
-use Rattle.set_check.proofs.Looks.{short-legging, short-none, short-order}
+use Rattle.set_check.proofs.OrderLaws.{short-legging, short-none, short-order}
 use borrow.Author.Needs.{needs}
 use Rattle.set_check.proofs.of_short.Statement.{statement}
 use Rattle.set_check.proofs.of_short.Tie as tie

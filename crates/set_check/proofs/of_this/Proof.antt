@@ -1,6 +1,6 @@
 -- `set_check::of_this` meets its contract.
 use native.Mathlib.Omega.{arith}
-use Rattle.set_check.proofs.Looks.{this-whole, this-short}
+use Rattle.set_check.proofs.OrderLaws.{this-whole, this-short}
 use borrow.Author.Needs.{needs}
 use Rattle.set_check.proofs.of_this.Statement.{statement}
 use Rattle.set_check.proofs.of_this.Tie as tie

@@ -1,6 +1,6 @@
 -- `set_check::of_whole` meets its contract.
 use native.Mathlib.Omega.{arith}
-use Rattle.set_check.proofs.Looks.{whole-none, whole-some}
+use Rattle.set_check.proofs.OrderLaws.{whole-none, whole-some}
 use borrow.Author.Needs.{needs}
 use Rattle.set_check.proofs.of_whole.Statement.{statement}
 use Rattle.set_check.proofs.of_whole.Tie as tie

@@ -1,7 +1,7 @@
 -- `set_check::part_of` meets its contract.
 use mathlib.Core.Path.{sym, _∙_}
 use native.Mathlib.Omega.{arith}
-use Rattle.set_check.proofs.Looks.{part-edition, part-regular, part-complex, part-legging, part-generation, part-reached, part-none}
+use Rattle.set_check.proofs.OrderLaws.{part-edition, part-regular, part-complex, part-legging, part-generation, part-reached, part-none}
 use borrow.Author.Needs.{needs}
 use Rattle.set_check.proofs.part_of.Statement.{statement}
 use Rattle.set_check.proofs.part_of.Tie as tie

@@ -1,7 +1,7 @@
 -- `set_check::passed` meets its contract.
 use native.Mathlib.Omega.{arith}
 use mathlib.Core.Path.{_≡_, refl, sym, ap, _∙_}
-use Rattle.set_check.proofs.Looks.{few-out, onward-made}
+use Rattle.set_check.proofs.OrderLaws.{few-out, onward-made}
 use Rattle.set_check.specs.Order.{oneIf}
 use borrow.Author.Needs.{needs}
 use Rattle.set_check.proofs.passed.Statement.{statement}

@@ -1,7 +1,7 @@
 -- `set_check::run_with` meets its contract.
 use native.Mathlib.Omega.{arith}
 use mathlib.Core.Path.{_≡_, refl, sym, ap, _∙_}
-use Rattle.set_check.proofs.Looks.{run-same, run-other, few-out}
+use Rattle.set_check.proofs.OrderLaws.{run-same, run-other, few-out}
 use Rattle.set_check.specs.Order.{oneIf}
 use borrow.Author.Needs.{needs}
 use Rattle.set_check.proofs.run_with.Statement.{statement}

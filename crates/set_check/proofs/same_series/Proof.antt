@@ -1,6 +1,6 @@
 -- `set_check::same_series` meets its contract.
 use native.Mathlib.Omega.{arith}
-use Rattle.set_check.proofs.Looks.{same-not, same-so}
+use Rattle.set_check.proofs.OrderLaws.{same-not, same-so}
 use borrow.Author.Needs.{needs}
 use Rattle.set_check.proofs.same_series.Statement.{statement}
 use Rattle.set_check.proofs.same_series.Tie as tie

@@ -7,8 +7,8 @@ use borrow.Author.Needs.{needs}
 use Rattle.places.specs.Layout.{venueOf}
 use Rattle.places.proofs.Generations.{generations-many}
 use Rattle.sets.specs.Set.{generationRecords, joined}
-use Rattle.set_parts.proofs.Begin.{Left, left-next, left-none, left-room}
-use Rattle.set_parts.proofs.Steps.{generations-next, generations-none}
+use Rattle.set_parts.proofs.BegunLaws.{Left, left-next, left-none, left-room}
+use Rattle.set_parts.proofs.PartsLaws.{generations-next, generations-none}
 use Rattle.set_parts.proofs.put_all_generations.Statement.{statement}
 use Rattle.set_parts.proofs.put_all_generations.Tie as tie
 

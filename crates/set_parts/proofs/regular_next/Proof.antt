@@ -4,7 +4,7 @@ use native.Mathlib.Omega.{arith}
 use lib.Dec.{ltb}
 use borrow.Author.Needs.{needs}
 use Rattle.rules.specs.declared.Complex.{Complex}
-use Rattle.set_parts.proofs.Steps.{next-none, next-alone, next-by-id}
+use Rattle.set_parts.proofs.PartsLaws.{next-none, next-alone, next-by-id}
 use Rattle.set_parts.proofs.regular_next.Statement.{statement}
 use Rattle.set_parts.proofs.regular_next.Tie as tie
 

@@ -2,7 +2,7 @@
 use mathlib.Core.Path.{_≡_, sym, _∙_}
 use borrow.Author.Tests.{not-true, not-false}
 use Rattle.sets.specs.Set.{numberTold}
-use Rattle.set_reader.proofs.Answers.{looked-taken, looked-refused, carries-refused, carries-read}
+use Rattle.set_reader.proofs.ReturnedLaws.{looked-taken, looked-refused, carries-refused, carries-read}
 use borrow.Author.Needs.{needs}
 use Rattle.set_reader.proofs.read_set.Statement.{statement}
 use Rattle.set_reader.proofs.read_set.Tie as tie

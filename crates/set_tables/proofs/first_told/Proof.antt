@@ -5,7 +5,7 @@ use mathlib.Core.List.{List}
 use Prim.Native.Nat.{ℕ, _-_}
 use lib.ListN.{take}
 use Rattle.rules.specs.Bytes.{u32At}
-use Rattle.set_tables.proofs.Telling.{first-step, first-is}
+use Rattle.set_tables.proofs.ToldLaws.{first-step, first-is}
 use borrow.Author.Needs.{needs}
 use Rattle.set_tables.proofs.first_told.Statement.{statement}
 use Rattle.set_tables.proofs.first_told.Tie as tie

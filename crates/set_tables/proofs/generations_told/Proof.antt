@@ -11,7 +11,7 @@ use Rattle.set_tables.proofs.Filling.{walk-on}
 use Rattle.rules.specs.Bytes.{u8At}
 use Rattle.sets.specs.Set.{tellsGeneration, generationTold, venueTold}
 use Rattle.rules.specs.Generation.{oneMore}
-use Rattle.set_tables.proofs.Telling.{Numbered, numbered-start, numbered-skip, numbered-room, numbered-put, numbered-end}
+use Rattle.set_tables.proofs.ToldLaws.{Numbered, numbered-start, numbered-skip, numbered-room, numbered-put, numbered-end}
 use borrow.Author.Needs.{needs}
 use Rattle.set_tables.proofs.generations_told.Statement.{statement}
 use Rattle.set_tables.proofs.generations_told.Tie as tie

@@ -10,7 +10,7 @@ use Rattle.rules.specs.Bytes.{u8At}
 use Rattle.sets.specs.Set.{tellsLegging, venueTold}
 use Rattle.rules.specs.Words.{placeOf}
 use Rattle.set_tables.specs.Told.{leggingOf}
-use Rattle.set_tables.proofs.Telling.{Legged, legged-start, legged-skip, legged-room, legged-put, legged-end}
+use Rattle.set_tables.proofs.ToldLaws.{Legged, legged-start, legged-skip, legged-room, legged-put, legged-end}
 use borrow.Author.Needs.{needs}
 use Rattle.set_tables.proofs.leggings_told.Statement.{statement}
 use Rattle.set_tables.proofs.leggings_told.Tie as tie

@@ -2,7 +2,7 @@
 use native.Mathlib.Omega.{arith}
 use mathlib.Core.Path.{_≡_, refl, sym, ap, ap₂, _∙_}
 use Prim.Native.Nat.{ℕ, _-_}
-use Rattle.set_tables.proofs.Telling.{Shifted, shifted-next, shifted-end}
+use Rattle.set_tables.proofs.ToldLaws.{Shifted, shifted-next, shifted-end}
 use borrow.Author.Needs.{needs}
 use Rattle.set_tables.proofs.one_more.Statement.{statement}
 use Rattle.set_tables.proofs.one_more.Tie as tie

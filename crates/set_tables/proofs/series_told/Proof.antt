@@ -6,7 +6,7 @@ use lib.ListN.{length-replicate}
 use Rattle.sets.specs.Set.{venueTold}
 use Rattle.rules.specs.Words.{notListed}
 use Rattle.set_tables.specs.Told.{listedOf}
-use Rattle.set_tables.proofs.Telling.{Listing, listing-start, status-step, away-step, listing-next, listing-end}
+use Rattle.set_tables.proofs.ToldLaws.{Listing, listing-start, status-step, away-step, listing-next, listing-end}
 use borrow.Author.Needs.{needs}
 use Rattle.set_tables.proofs.series_told.Statement.{statement}
 use Rattle.set_tables.proofs.series_told.Tie as tie

@@ -9,8 +9,8 @@ use Rattle.rules.specs.declared.Venue.{Venue}
 use Rattle.rules.specs.Sound.{sound, follows}
 use Rattle.sets.specs.Set.{setOf, joined}
 use Rattle.set_parts.specs.Begun.{begun, _adds_}
-use Rattle.set_parts.proofs.Begin.{adds-same}
-use Rattle.set_writer.proofs.Whole.{not-carried, no-room, all-written}
+use Rattle.set_parts.proofs.BegunLaws.{adds-same}
+use Rattle.set_writer.proofs.SavingLaws.{not-carried, no-room, all-written}
 use Rattle.set_writer.proofs.write_set.Statement.{statement}
 use Rattle.set_writer.proofs.write_set.Tie as tie
 

@@ -1,7 +1,7 @@
 -- `settings::settings` meets its contract.
 use mathlib.Core.Path.{sym, _∙_}
 use borrow.Author.Tests.{not-true, not-false}
-use Rattle.settings.proofs.Telling.{settings-not, settings-told}
+use Rattle.settings.proofs.ForcedLaws.{settings-not, settings-told}
 use borrow.Author.Needs.{needs}
 use Rattle.settings.proofs.settings.Statement.{statement}
 use Rattle.settings.proofs.settings.Tie as tie

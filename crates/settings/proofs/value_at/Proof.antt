@@ -5,7 +5,7 @@ use native.Mathlib.Omega.{arith}
 use lib.ListN.{length, drop}
 use borrow.Author.Needs.{needs}
 use Rattle.settings.specs.Forced.{valueAt}
-use Rattle.settings.proofs.Telling.{valueFrom, value-first, value-next, value-last}
+use Rattle.settings.proofs.ForcedLaws.{valueFrom, value-first, value-next, value-last}
 use Rattle.settings.proofs.value_at.Statement.{statement}
 use Rattle.settings.proofs.value_at.Tie as tie
 

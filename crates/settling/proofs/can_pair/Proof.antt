@@ -1,5 +1,5 @@
 -- `settling::can_pair` meets its contract.
-use Rattle.settling.proofs.Testing.{pair-none, pair-dear, pair-size, size-is}
+use Rattle.settling.proofs.PartsLaws.{pair-none, pair-dear, pair-size, size-is}
 use Rattle.places.specs.Layout.{venueOf}
 use Rattle.rules.proofs.Machine.{back}
 use mathlib.Core.Path.{_∙_}

@@ -1,5 +1,5 @@
 -- `settling::judge` meets its contract.
-use Rattle.settling.proofs.Testing.{verdict-free, verdict-held}
+use Rattle.settling.proofs.PartsLaws.{verdict-free, verdict-held}
 use Rattle.levels.specs.Grid.{LegsIn}
 use Rattle.levels.proofs.Sides.{sides-right}
 use Rattle.prices.proofs.Prices.{parent-legs}

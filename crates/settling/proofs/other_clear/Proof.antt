@@ -1,5 +1,5 @@
 -- `settling::other_clear` meets its contract.
-use Rattle.settling.proofs.Testing.{other-in, other-price, clear-is}
+use Rattle.settling.proofs.PartsLaws.{other-in, other-price, clear-is}
 use Rattle.levels.proofs.Sides.{opposite-in}
 use Rattle.places.specs.Layout.{venueOf}
 use borrow.Author.Needs.{needs}

@@ -1,7 +1,7 @@
 -- `settling::remove_failing` meets its contract.
-use Rattle.removal.proofs.Removing.{remove-none, no-causes, causes-are}
+use Rattle.removal.proofs.RemovalLaws.{remove-none, no-causes, causes-are}
 use Rattle.places.specs.Layout.{venueOf}
-use Rattle.records.proofs.Stages.{does-nothing}
+use Rattle.records.proofs.StageLaws.{does-nothing}
 use Rattle.records.specs.Stage.{_does_}
 use Rattle.records.specs.Seen.{seen}
 use Rattle.rules.specs.Standing.{verdict}

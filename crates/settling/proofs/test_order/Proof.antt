@@ -1,5 +1,5 @@
 -- `settling::test_order` meets its contract.
-use Rattle.settling.proofs.Testing.{off, on, shown-is}
+use Rattle.settling.proofs.PartsLaws.{off, on, shown-is}
 use Rattle.levels.proofs.Sides.{own-is}
 use Rattle.places.specs.Layout.{venueOf}
 use Rattle.rules.proofs.Machine.{back}

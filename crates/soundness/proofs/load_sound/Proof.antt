@@ -1,7 +1,7 @@
 -- `soundness::load_sound` meets its contract.
 use mathlib.Core.Path.{sym, _∙_}
 use borrow.Author.Tests.{not-true, not-false}
-use Rattle.soundness.proofs.Whole.{checked-not, checked, places-load}
+use Rattle.soundness.proofs.CheckedLaws.{checked-not, checked, places-load}
 use borrow.Author.Needs.{needs}
 use Rattle.soundness.proofs.load_sound.Statement.{statement}
 use Rattle.soundness.proofs.load_sound.Tie as tie

@@ -3,7 +3,7 @@ use mathlib.Core.Path.{_∙_}
 use native.Mathlib.Omega.{arith}
 use Prim.Native.Nat.{_-_}
 use Rattle.places.proofs.Parts.{complexes-few}
-use Rattle.sweeps.proofs.Rounds.{last-other, last-above, last-none}
+use Rattle.sweeps.proofs.RoundLaws.{last-other, last-above, last-none}
 use borrow.Author.Needs.{needs}
 use Rattle.sweeps.proofs.last_looked.Statement.{statement}
 use Rattle.sweeps.proofs.last_looked.Tie as tie

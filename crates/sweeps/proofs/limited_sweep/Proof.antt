@@ -4,7 +4,7 @@ use native.Mathlib.Omega.{arith}
 use Rattle.places.proofs.Parts.{complexes-few}
 use Rattle.sweeps.specs.Round.{roundPlaces}
 use Rattle.places.proofs.Beside.{counts-on}
-use Rattle.sweeps.proofs.Rounds.{round-examined, limited-law}
+use Rattle.sweeps.proofs.RoundLaws.{round-examined, limited-law}
 use borrow.Author.Needs.{needs}
 use Rattle.sweeps.proofs.limited_sweep.Statement.{statement}
 use Rattle.sweeps.proofs.limited_sweep.Tie as tie

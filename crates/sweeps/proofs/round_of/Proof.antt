@@ -5,7 +5,7 @@ use Prim.Native.Nat.{ℕ, _-_}
 use native.Mathlib.Omega.{arith}
 use lib.ListN.{take as firsts}
 use Rattle.sweeps.specs.Round.{placesFrom, roundPlaces}
-use Rattle.sweeps.proofs.Rounds.{round-within, round-on, round-whole}
+use Rattle.sweeps.proofs.RoundLaws.{round-within, round-on, round-whole}
 use borrow.Author.Needs.{needs}
 use Rattle.sweeps.proofs.round_of.Statement.{statement}
 use Rattle.sweeps.proofs.round_of.Tie as tie

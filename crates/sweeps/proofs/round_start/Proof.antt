@@ -4,7 +4,7 @@ use Prim.Native.Nat.{ℕ, _-_, _≤_, _<_}
 use native.Mathlib.Omega.{arith}
 use Rattle.rules.specs.declared.Complex.{Complex}
 use Rattle.places.specs.Layout.{complexIn}
-use Rattle.sweeps.proofs.Rounds.{low-more, going-round}
+use Rattle.sweeps.proofs.RoundLaws.{low-more, going-round}
 use Rattle.sweeps.proofs.round_start.Statement.{statement}
 use Rattle.sweeps.proofs.round_start.Tie as tie
 

@@ -1,6 +1,6 @@
 -- `sweeps::sweep` meets its contract.
 use mathlib.Core.Path.{_∙_}
-use Rattle.sweeps.proofs.Sweeping.{sweep-law}
+use Rattle.sweeps.proofs.SweepLaws.{sweep-law}
 use Rattle.sweeps.proofs.Walking.{swept-rising}
 use borrow.Author.Needs.{needs}
 use Rattle.sweeps.proofs.sweep.Statement.{statement}

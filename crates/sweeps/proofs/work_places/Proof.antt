@@ -7,7 +7,7 @@ use Rattle.places.specs.Layout.{venueOf}
 use Rattle.places.proofs.Parts.{complexes-few}
 use Rattle.removal.proofs.Loops.{Doing, doing-start, doing-turn, doing-end, doing-room}
 use Rattle.sweeps.specs.Round.{placesFrom}
-use Rattle.sweeps.proofs.Rounds.{eachOf-none, eachOf-same, eachOf-turn}
+use Rattle.sweeps.proofs.RoundLaws.{eachOf-none, eachOf-same, eachOf-turn}
 use Rattle.sweeps.proofs.work_places.Statement.{statement}
 use Rattle.sweeps.proofs.work_places.Tie as tie
 

@@ -1,6 +1,6 @@
 use mathlib.Core.Path.{sym, _∙_}
 use native.Mathlib.Omega.{arith}
-use Rattle.text.proofs.Typing.{cause-none, cause-large, cause-same}
+use Rattle.text.proofs.TypingLaws.{cause-none, cause-large, cause-same}
 use borrow.Author.Needs.{needs}
 use Rattle.text.proofs.cause_at.Statement.{statement}
 use Rattle.text.proofs.cause_at.Tie as tie

@@ -8,7 +8,7 @@ use Rattle.records.specs.Seen.{seen}
 use Rattle.text.specs.Lines.{textOf}
 use Rattle.text.specs.Typing.{_types_}
 use Rattle.text.proofs.Sheets.{Left, left-start, left-more, left-end}
-use Rattle.records.proofs.Reading.{next-follows}
+use Rattle.records.proofs.NextLaws.{next-follows}
 use Rattle.text.proofs.put_sheet.Statement.{statement}
 use Rattle.text.proofs.put_sheet.Tie as tie
 

@@ -1,6 +1,6 @@
 use mathlib.Core.Path.{sym}
 use native.Mathlib.Omega.{arith}
-use Rattle.text.proofs.Typing.{typed, typed-as, _then_, signed-small, signed-large}
+use Rattle.text.proofs.TypingLaws.{typed, typed-as, _then_, signed-small, signed-large}
 use borrow.Author.Needs.{needs}
 use Rattle.text.proofs.put_signed.Statement.{statement}
 use Rattle.text.proofs.put_signed.Tie as tie

@@ -1,5 +1,5 @@
 use Rattle.text.specs.Lines.{word}
-use Rattle.text.proofs.Typing.{typed, _then_}
+use Rattle.text.proofs.TypingLaws.{typed, _then_}
 use borrow.Author.Needs.{needs}
 use Rattle.text.proofs.put_word.Statement.{statement}
 use Rattle.text.proofs.put_word.Tie as tie

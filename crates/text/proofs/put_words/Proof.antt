@@ -6,7 +6,7 @@ use lib.ListN.{length, drop}
 use Rattle.records.specs.Seen.{seen}
 use Rattle.text.specs.Lines.{words}
 use Rattle.text.specs.Typing.{_types_}
-use Rattle.text.proofs.Typing.{words-more, words-end}
+use Rattle.text.proofs.TypingLaws.{words-more, words-end}
 use Rattle.text.proofs.put_words.Statement.{statement}
 use Rattle.text.proofs.put_words.Tie as tie
 

@@ -4,7 +4,7 @@ use native.Mathlib.Omega.{arith}
 use Rattle.places.specs.Layout.{venueOf}
 use Rattle.places.proofs.Parts.{complexes-few, complex-at}
 use Rattle.places.proofs.Beside.{counts-on}
-use Rattle.trades.proofs.Pairs.{cancel-complex-law}
+use Rattle.trades.proofs.HitsLaws.{cancel-complex-law}
 use borrow.Author.Needs.{needs}
 use Rattle.trades.proofs.cancel_complex.Statement.{statement}
 use Rattle.trades.proofs.cancel_complex.Tie as tie

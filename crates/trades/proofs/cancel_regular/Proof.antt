@@ -3,7 +3,7 @@ use mathlib.Core.Path.{sym, _∙_}
 use native.Mathlib.Omega.{arith}
 use Rattle.places.specs.Layout.{venueOf}
 use Rattle.places.proofs.Parts.{regulars-few, regular-at}
-use Rattle.trades.proofs.Pairs.{cancel-law}
+use Rattle.trades.proofs.HitsLaws.{cancel-law}
 use borrow.Author.Needs.{needs}
 use Rattle.trades.proofs.cancel_regular.Statement.{statement}
 use Rattle.trades.proofs.cancel_regular.Tie as tie

@@ -1,7 +1,7 @@
 -- `trades::fill_pair` meets its contract.
 use mathlib.Core.Path.{refl}
 use native.Mathlib.Omega.{arith}
-use Rattle.trades.proofs.Pairs.{fill-unused}
+use Rattle.trades.proofs.HitsLaws.{fill-unused}
 use borrow.Author.Needs.{needs}
 use Rattle.trades.proofs.fill_pair.Statement.{statement}
 use Rattle.trades.proofs.fill_pair.Tie as tie

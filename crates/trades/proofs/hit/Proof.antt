@@ -5,7 +5,7 @@ use Rattle.rules.proofs.Machine.{back, fits-of}
 use Rattle.places.specs.Layout.{venueOf}
 use Rattle.places.proofs.Parts.{regulars-few, regular-at}
 use Rattle.places.proofs.Beside.{counts-on}
-use Rattle.trades.proofs.Pairs.{hit-law}
+use Rattle.trades.proofs.HitsLaws.{hit-law}
 use borrow.Author.Needs.{needs}
 use Rattle.trades.proofs.hit.Statement.{statement}
 use Rattle.trades.proofs.hit.Tie as tie

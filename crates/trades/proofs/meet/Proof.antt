@@ -4,7 +4,7 @@ use native.Mathlib.Omega.{arith}
 use Rattle.places.specs.Layout.{venueOf}
 use Rattle.places.proofs.Parts.{regulars-few, regular-at}
 use Rattle.places.proofs.Beside.{counts-on}
-use Rattle.trades.proofs.Pairs.{meet-law}
+use Rattle.trades.proofs.HitsLaws.{meet-law}
 use borrow.Author.Needs.{needs}
 use Rattle.trades.proofs.meet.Statement.{statement}
 use Rattle.trades.proofs.meet.Tie as tie

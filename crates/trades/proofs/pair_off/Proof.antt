@@ -2,7 +2,7 @@
 use Rattle.rules.proofs.Machine.{back}
 use Rattle.places.specs.Layout.{venueOf}
 use Rattle.places.proofs.Beside.{counts-on}
-use Rattle.trades.proofs.Pairs.{pair-law}
+use Rattle.trades.proofs.HitsLaws.{pair-law}
 use borrow.Author.Needs.{needs}
 use Rattle.trades.proofs.pair_off.Statement.{statement}
 use Rattle.trades.proofs.pair_off.Tie as tie

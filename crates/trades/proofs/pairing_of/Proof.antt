@@ -5,7 +5,7 @@ use native.Mathlib.Omega.{arith}
 use Rattle.rules.proofs.Machine.{back}
 use Rattle.places.specs.Layout.{venueOf}
 use Rattle.prices.proofs.Prices.{parent-legs}
-use Rattle.trades.proofs.Pairs.{leg-in, opposite-in, pairing-law}
+use Rattle.trades.proofs.HitsLaws.{leg-in, opposite-in, pairing-law}
 use borrow.Author.Needs.{needs}
 use Rattle.trades.proofs.pairing_of.Statement.{statement}
 use Rattle.trades.proofs.pairing_of.Tie as tie

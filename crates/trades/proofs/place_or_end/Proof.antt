@@ -1,6 +1,6 @@
 -- `trades::place_or_end` meets its contract.
 use mathlib.Core.Path.{sym, _∙_}
-use Rattle.trades.proofs.Pairs.{place-found, place-nothing}
+use Rattle.trades.proofs.HitsLaws.{place-found, place-nothing}
 use borrow.Author.Needs.{needs}
 use Rattle.trades.proofs.place_or_end.Statement.{statement}
 use Rattle.trades.proofs.place_or_end.Tie as tie

@@ -6,7 +6,7 @@ use lib.ListN.{length}
 use borrow.Author.Needs.{needs}
 use Rattle.rules.specs.Bytes.{u32}
 use Rattle.records.specs.Seen.{Seen, seen}
-use Rattle.records.proofs.Writes.{plus-in}
+use Rattle.records.proofs.SeenLaws.{plus-in}
 use Rattle.venue_bytes.specs.Held.{messagesOf, generationsBytes}
 use Rattle.venue_bytes.proofs.Rows.{Written, written-none, written-room, written-next, written-all, row-put}
 use Rattle.venue_writer.proofs.Widths.{number-width, messages-many, message-at, generations-width}

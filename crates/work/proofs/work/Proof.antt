@@ -5,7 +5,7 @@ use Rattle.places.proofs.Parts.{complexes-few, complex-at}
 use Rattle.levels.specs.Grid.{LegsIn}
 use Rattle.prices.proofs.Prices.{legs-in}
 use Rattle.places.proofs.Beside.{counts-on}
-use Rattle.work.proofs.Working.{work-closed, work-steps}
+use Rattle.work.proofs.WorkLaws.{work-closed, work-steps}
 use borrow.Author.Needs.{needs}
 use Rattle.work.proofs.work.Statement.{statement}
 use Rattle.work.proofs.work.Tie as tie

@@ -19,7 +19,7 @@ use Rattle.rules.proofs.Calling.{no-number, no-room, not-exceeds, run-full, run
 use Rattle.rules.proofs.Refusing.{whole}
 use Rattle.demands.specs.Kept.{SoundAt}
 use Rattle.demands.proofs.Calls.{kept, fresh-sound}
-use Rattle.records.proofs.Writes.{part-all}
+use Rattle.records.proofs.SeenLaws.{part-all}
 use Rattle.reader.specs.declared.Head.{Head}
 use Rattle.reader.specs.Head.{headAt, headNumber, headLength}
 use Rattle.reader.proofs.Heads.{head-torn, head-message, torn-refused, whole-refused}

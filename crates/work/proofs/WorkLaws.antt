@@ -10,7 +10,7 @@ use Rattle.rules.specs.Effects.{_⟫_, repeat}
 use Rattle.rules.specs.Complex.{anyClosed, crossTurn, touch, legInTurn, work}
 use Rattle.records.specs.Seen.{seen}
 use Rattle.records.specs.Stage.{stage, _does_}
-use Rattle.records.proofs.Stages.{follow, does-nothing}
+use Rattle.records.proofs.StageLaws.{follow, does-nothing}
 
 module _ (i : ℕ) (v : Venue) (c : Complex) (ec : c ≡ complexAt v i) where
   pub work-closed : (l : List ℕ) (at : ℕ) → anyClosed v c ≡ true → stage v l at ≡ seen l at does work i v

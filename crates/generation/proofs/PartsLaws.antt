@@ -34,13 +34,13 @@ use Rattle.rules.proofs.Machine.{fits-of, back}
 use Rattle.rules.proofs.Generating.{Makes, made, zero-out, make-venue}
 use Rattle.records.specs.Seen.{seen, _writes_}
 use Rattle.records.specs.Stage.{stage, _does_}
-use Rattle.records.proofs.Stages.{follow, does-report}
+use Rattle.records.proofs.StageLaws.{follow, does-report}
 use Rattle.places.specs.Layout.{leggingIn, complexIn, venueOf, complexesUsed, levelOf, Figured}
 use Rattle.places.proofs.Parts.{complex-at, complex-past, legging-at}
 use Rattle.places.specs.declared.Level.{Level}
 use Rattle.levels.specs.Grid.{GridOf, LegsIn}
 use Rattle.prices.proofs.Prices.{legs-in}
-use Rattle.removal.proofs.Removing.{remove-same}
+use Rattle.removal.proofs.RemovalLaws.{remove-same}
 use Rattle.generation.specs.Parts.{rangedPrice, pricedLeg, mayGenerate, standsClear, mayStand, plannedLeg, madeBy}
 
 -- Signed numbers of 64 bits -------------------------------------------------------------------

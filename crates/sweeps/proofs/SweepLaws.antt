@@ -9,7 +9,7 @@ use Rattle.rules.specs.Generation.{generate}
 use Rattle.rules.specs.Complex.{work, each, sweep}
 use Rattle.records.specs.Seen.{seen}
 use Rattle.records.specs.Stage.{stage, _does_}
-use Rattle.records.proofs.Stages.{follow}
+use Rattle.records.proofs.StageLaws.{follow}
 
 pub sweep-law : (number : ℕ) (v v₁ v₂ v₃ : Venue) (l₀ l₁ l₂ l₃ : List ℕ) (a₀ a₁ a₂ a₃ : ℕ) →
     stage v₁ l₁ a₁ ≡ seen l₀ a₀ does each 32 work 0 v → stage v₂ l₂ a₂ ≡ seen l₁ a₁ does settle v₁ → stage v₃ l₃ a₃ ≡ seen l₂ a₂ does each 32 (generate number) 0 v₂ →

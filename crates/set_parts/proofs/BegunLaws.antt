@@ -9,7 +9,7 @@ use lib.ListN.{length, take, length-append}
 use borrow.Author.Tests.{le-leb, lt-leb, leb-true, leb-false}
 use Rattle.rules.specs.Base.{if_then_else_}
 use Rattle.records.specs.Seen.{Seen, seen, pasted, _plus_}
-use Rattle.records.proofs.Writes.{plus-in, plus-out, pasted-to, pasted-length}
+use Rattle.records.proofs.SeenLaws.{plus-in, plus-out, pasted-to, pasted-length}
 use Rattle.set_parts.specs.Begun.{Begun, over, begun, _adds_}
 use Rattle.set_parts.specs.Parts.{recordIf}
 

@@ -26,7 +26,7 @@ use Rattle.rules.specs.Generation.{placed}
 use Rattle.rules.specs.Step.{mask}
 use Rattle.records.specs.Seen.{Seen, seen}
 use Rattle.records.specs.Stage.{stage, _does_}
-use Rattle.records.proofs.Stages.{onward, does-nothing, does-room}
+use Rattle.records.proofs.StageLaws.{onward, does-nothing, does-room}
 use Rattle.places.specs.Layout.{size, leggingIn, venueOf, SameCounts}
 use Rattle.removal.specs.Causes.{removePlace, verdictBy, causeAt, verdictIn}
 use Rattle.places.proofs.Beside.{counts-on}

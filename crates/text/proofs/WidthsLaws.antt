@@ -15,7 +15,7 @@ use Rattle.rules.proofs.Reading.{cause-small}
 use Rattle.rules.proofs.Worth.{lengths}
 use Rattle.text.specs.Lines.{decimal, line, lineOf, signedText, signedWord, textOf, word, words}
 use Rattle.text.specs.Widths.{TextAtMost}
-use Rattle.text.proofs.Typing.{decimal-more, decimal-small}
+use Rattle.text.proofs.TypingLaws.{decimal-more, decimal-small}
 
 -- a number below 10 ^ suc k has at most suc k digits
 decimal-length : (k n : ℕ) → n < 10 ^ suc k → length (decimal n) ≤ suc k

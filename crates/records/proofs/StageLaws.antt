@@ -8,7 +8,7 @@ use Rattle.rules.specs.Records.{Report}
 use Rattle.rules.specs.Effects.{Effect, nothing, report, _⟫_}
 use Rattle.records.specs.Seen.{Seen, seen, _writes_}
 use Rattle.records.specs.Stage.{Stage, stage, _does_}
-use Rattle.records.proofs.Writes.{writes-nil, writes-writes, writes-room}
+use Rattle.records.proofs.SeenLaws.{writes-nil, writes-writes, writes-room}
 
 -- nothing done
 pub does-nothing : (v : Venue) (l : List ℕ) (at : ℕ) → stage v l at ≡ seen l at does nothing v

@@ -20,7 +20,7 @@ use Rattle.rules.specs.Complex.{crosses, limitThenId, cross, crossTurn}
 use Rattle.rules.proofs.Picking.{At, first-chosen}
 use Rattle.records.specs.Seen.{seen, _writes_}
 use Rattle.records.specs.Stage.{stage, _does_}
-use Rattle.records.proofs.Stages.{follow, does-report}
+use Rattle.records.proofs.StageLaws.{follow, does-report}
 use Rattle.places.specs.Layout.{complexesUsed, venueOf}
 use Rattle.places.proofs.Parts.{complex-past}
 use Rattle.cross_makers.proofs.Candidates.{cross-free}

@@ -12,7 +12,7 @@ use borrow.Author.Tests.{lt-ltb, le-ltb, ltb-false, ne-eqb}
 use Rattle.rules.specs.Bytes.{asSigned}
 use Rattle.rules.specs.Records.{causeNumber, causeOf}
 use Rattle.records.specs.Seen.{Seen, seen, pasted, _plus_}
-use Rattle.records.proofs.Writes.{plus-in, plus-out, pasted-nil, pasted-pasted, pasted-length}
+use Rattle.records.proofs.SeenLaws.{plus-in, plus-out, pasted-nil, pasted-pasted, pasted-length}
 use Rattle.text.specs.Lines.{decimal, digits, signedText, word, words}
 use Rattle.text.specs.Typing.{_types_}
 

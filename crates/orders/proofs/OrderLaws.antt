@@ -11,7 +11,7 @@ use Rattle.rules.specs.Generation.{generate}
 use Rattle.rules.specs.Complex.{work, complex}
 use Rattle.records.specs.Seen.{seen}
 use Rattle.records.specs.Stage.{stage, _does_}
-use Rattle.records.proofs.Stages.{follow}
+use Rattle.records.proofs.StageLaws.{follow}
 use Rattle.places.specs.Layout.{Counts, SameCounts}
 
 pub complex-law : (number : ℕ) (c : Complex) (i : ℕ) (v v₁ v₂ v₃ v₄ : Venue) (l₀ l₁ l₂ l₃ : List ℕ) (a₀ a₁ a₂ a₃ : ℕ) →

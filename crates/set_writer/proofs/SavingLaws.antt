@@ -18,8 +18,8 @@ use Rattle.places.proofs.Tables.{upto-length}
 use Rattle.sets.specs.Set.{firstRecord, seriesRecords, editionRecord, byId, leggingRecords, generationRecords, reachedRecords, setOf, joined, carries, notWritten, writeSet}
 use Rattle.set_parts.specs.Begun.{begun, _adds_}
 use Rattle.set_parts.specs.Parts.{ordersFrom}
-use Rattle.set_parts.proofs.Begin.{room-is, stands, does-not-fit}
-use Rattle.set_parts.proofs.Steps.{joined-append, all-kept}
+use Rattle.set_parts.proofs.BegunLaws.{room-is, stands, does-not-fit}
+use Rattle.set_parts.proofs.PartsLaws.{joined-append, all-kept}
 
 -- Its parts -------------------------------------------------------------------------------------
 

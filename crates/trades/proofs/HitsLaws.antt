@@ -26,7 +26,7 @@ use Rattle.rules.specs.Order.{meet, hit}
 use Rattle.rules.specs.Complex.{complexPlace, restsComplex, cancelRegular, cancelComplex}
 use Rattle.records.specs.Seen.{seen, _writes_}
 use Rattle.records.specs.Stage.{stage, _does_}
-use Rattle.records.proofs.Stages.{follow, does-report}
+use Rattle.records.proofs.StageLaws.{follow, does-report}
 use Rattle.places.specs.Layout.{complexesUsed, complexIn, venueOf}
 use Rattle.places.proofs.Parts.{complex-past, complexes-few}
 use Rattle.places.proofs.Tables.{used-length}

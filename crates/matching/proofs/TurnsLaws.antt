@@ -17,12 +17,12 @@ use Rattle.rules.specs.Trading.{freeRegular, putRegular}
 use Rattle.rules.specs.Order.{isMet, priceThenId, atOnce, firstMet, leggingFirst, meet, hit, meetTurn, enterRegular}
 use Rattle.records.specs.Seen.{seen}
 use Rattle.records.specs.Stage.{stage, _does_}
-use Rattle.records.proofs.Stages.{onward, does-nothing, does-room}
+use Rattle.records.proofs.StageLaws.{onward, does-nothing, does-room}
 use Rattle.places.specs.Layout.{size, regularsUsed, venueOf, SameCounts}
 use Rattle.book.specs.declared.Pick.{Pick}
 use Rattle.book.specs.declared.Pick.the-variants as pick
 use Rattle.book.specs.Picks.{pickOf}
-use Rattle.book.proofs.Picking.{picked-is, nobody-is, regular-used, met-free}
+use Rattle.book.proofs.PicksLaws.{picked-is, nobody-is, regular-used, met-free}
 use Rattle.places.proofs.Beside.{counts-on}
 
 -- Who comes first -----------------------------------------------------------------------------

@@ -34,8 +34,8 @@ use Rattle.rules.proofs.Showing.{message-fully}
 use Rattle.records.specs.Seen.{Seen, seen, _writes_}
 use Rattle.records.specs.Stage.{stage, _does_}
 use Rattle.wire.specs.Brought.{Shows}
-use Rattle.records.proofs.Writes.{answer-last}
-use Rattle.records.proofs.Stages.{does-nothing, follow, stage-venue, stage-written}
+use Rattle.records.proofs.SeenLaws.{answer-last}
+use Rattle.records.proofs.StageLaws.{does-nothing, follow, stage-venue, stage-written}
 use Rattle.places.specs.Layout.{regularsUsed, complexesUsed, venueOf, Below, SameCounts, Dense}
 use Rattle.place_writes.proofs.Closed.{dense-regular, dense-complex, dense-kept}
 use Rattle.book.proofs.Masks.{ones-mask}

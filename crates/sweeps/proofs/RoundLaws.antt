@@ -22,7 +22,7 @@ use Rattle.rules.proofs.Sweeping.{then-same}
 use Rattle.rules.proofs.Traffic.{looked-count}
 use Rattle.records.specs.Seen.{seen, _writes_}
 use Rattle.records.specs.Stage.{stage, _does_}
-use Rattle.records.proofs.Stages.{follow, does-report}
+use Rattle.records.proofs.StageLaws.{follow, does-report}
 use Rattle.places.specs.Layout.{complexesUsed, complexIn, venueOf, Dense}
 use Rattle.places.proofs.Parts.{complex-at, complex-past}
 use Rattle.sweeps.specs.declared.Round.{Round}
