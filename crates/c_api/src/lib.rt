@@ -9,7 +9,7 @@ ghost use Rattle.rules.specs.Bytes.{u32};
 ghost use Rattle.records.specs.Seen.{pasted};
 ghost use Rattle.feed.specs.Feed as feeding;
 ghost use Rattle.set_reader.specs.Returned.{setRead};
-ghost use Rattle.engine.specs.Hosts.{begun, freshHosted, hosted, oneHosted, settingsBytes, told, settingsHosted};
+ghost use Rattle.engine.specs.Hosts.{firstVenue, freshHosted, hosted, oneHosted, settingsBytes, told, settingsHosted};
 ghost use Rattle.engine.specs.Hosts.{savesAs, saveHosted, readFor, resumesAs, resumeHosted};
 
 // The run, for a host: messages in, the report out, and the number that ended it returned.
@@ -24,7 +24,7 @@ pub extern "C" fn legging_run(messages: &[u8], report: &mut [u8]) -> u8
 // The first venue of a host's memory: the fresh one, as `state` holds it. A memory of another length can hold none.
 #[no_mangle]
 pub extern "C" fn legging_fresh(venue: &mut [u8]) -> u8
-    ensures { λ r. ⌜ begun r (now (venue .exit)) ≡ freshHosted (now (venue .entry)) ⌝ }
+    ensures { λ r. ⌜ firstVenue r (now (venue .exit)) ≡ freshHosted (now (venue .entry)) ⌝ }
 {
     if venue.len() != venue_bytes::VENUE_SIZE {
         return 9;

@@ -39,20 +39,20 @@ use Rattle.places.proofs.Tables.{upto-length, upto-at}
 use Rattle.venue_bytes.specs.Held.{generationsAt, venueSize, venueBytes, generationsFrom, rowAt, venueFrom, Declared}
 use Rattle.venue_writer.proofs.Back.{held-whole}
 use Rattle.engine.specs.Runs.{callOf}
-use Rattle.engine.specs.Hosts.{begun, freshHosted, HeldFirst, hosted, leaves, oneHosted, HeldNext}
+use Rattle.engine.specs.Hosts.{firstVenue, freshHosted, HeldFirst, hosted, leaves, oneHosted, HeldNext}
 use Rattle.soundness.proofs.Following.{editions-fit, generations-fit}
 use Rattle.rules.specs.Fields.{ListedFits}
 use Rattle.engine.proofs.Calling.{one-unready, one-ends, one-does}
 
 -- The first venue -----------------------------------------------------------------------------
 
-pub none-begun : (memory : List ℕ) → (length memory ≡ venueSize → ⊥) → begun 9 memory ≡ freshHosted memory
+pub none-first : (memory : List ℕ) → (length memory ≡ venueSize → ⊥) → firstVenue 9 memory ≡ freshHosted memory
 unfolding freshHosted
-none-begun memory h = rw (ne-eqb (length memory) venueSize h)
+none-first memory h = rw (ne-eqb (length memory) venueSize h)
 
-pub fresh-begun : (memory m : List ℕ) (v : Venue) → length memory ≡ venueSize → v ≡ freshVenue → m ≡ venueBytes v → begun 0 m ≡ freshHosted memory
+pub fresh-first : (memory m : List ℕ) (v : Venue) → length memory ≡ venueSize → v ≡ freshVenue → m ≡ venueBytes v → firstVenue 0 m ≡ freshHosted memory
 unfolding freshHosted
-fresh-begun memory m v size f e = ap (begun 0) (e ∙ ap venueBytes f) ∙ rw (eq-eqb (length memory) venueSize size)
+fresh-first memory m v size f e = ap (firstVenue 0) (e ∙ ap venueBytes f) ∙ rw (eq-eqb (length memory) venueSize size)
 
 -- One message ---------------------------------------------------------------------------------
 

@@ -16,16 +16,16 @@ use Rattle.sets.specs.Set.{ReadSet, writeSet, notRead, readSet}
 
 -- The first venue -----------------------------------------------------------------------------
 
-pub record Begun : Type 0 where
+pub record FirstVenue : Type 0 where
   pub number : ℕ
   pub venue : List ℕ
 
-abbrev pub begun : (number : ℕ) (venue : List ℕ) → Begun
-begun n v = record { number = n; venue = v }
+abbrev pub firstVenue : (number : ℕ) (venue : List ℕ) → FirstVenue
+firstVenue n v = record { number = n; venue = v }
 
 -- the fresh venue's bytes; a memory of another length can hold no venue: 9, "venue unsound"
-unfoldable pub freshHosted : (memory : List ℕ) → Begun
-freshHosted memory = if eqb (length memory) venueSize then begun 0 (venueBytes freshVenue) else begun 9 memory
+unfoldable pub freshHosted : (memory : List ℕ) → FirstVenue
+freshHosted memory = if eqb (length memory) venueSize then firstVenue 0 (venueBytes freshVenue) else firstVenue 9 memory
 
 -- so the first call after it is upon a fresh venue
 abbrev pub HeldFirst : Type 0

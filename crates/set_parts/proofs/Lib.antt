@@ -1,2 +1,2 @@
-pub mod BegunLaws
+pub mod SetMemoryLaws
 pub mod PartsLaws

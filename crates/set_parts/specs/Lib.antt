@@ -1,2 +1,2 @@
-pub mod Begun
+pub mod SetMemory
 pub mod Parts

@@ -8,7 +8,7 @@ use Rattle.rules.specs.Base.{if_then_else_, held}
 use Rattle.places.specs.Layout.{upto, regularIn, complexIn, leggingIn}
 use Rattle.sets.specs.Set.{byId, joined, leggingRecord}
 use Rattle.set_parts.specs.declared.Orders.{Orders}
-use Rattle.set_parts.specs.Begun.{begun, _adds_}
+use Rattle.set_parts.specs.SetMemory.{setMemory, _adds_}
 
 -- a record, where there is one
 unfoldable pub recordIf : Bool → List ℕ → List ℕ
@@ -24,7 +24,7 @@ regularNext b n m i j = if leb n i then false else if leb m j then true else ltb
 
 -- from t to r one order more is written
 pub record OneMore (b : List ℕ) (n m : ℕ) (t : Orders) (l₀ : List ℕ) (r : Orders) (l : List ℕ) : Type 0 where
-  pub same : begun l (r .at) adds joined (ordersFrom b n m (r .regular) (r .complex)) ≡ begun l₀ (t .at) adds joined (ordersFrom b n m (t .regular) (t .complex))
+  pub same : setMemory l (r .at) adds joined (ordersFrom b n m (r .regular) (r .complex)) ≡ setMemory l₀ (t .at) adds joined (ordersFrom b n m (t .regular) (t .complex))
   pub regular : r .regular ≤ n
   pub complex : r .complex ≤ m
   pub one : r .regular + r .complex ≡ suc (t .regular + t .complex)

@@ -16,7 +16,7 @@ ghost use Rattle.rules.specs.Generation.{generationsOf};
 ghost use Rattle.rules.specs.Places.{holdsEdition};
 ghost use Rattle.places.specs.Layout.{size, venueOf, regularsUsed, complexesUsed};
 ghost use Rattle.sets.specs.Set.{firstRecord, seriesRecords, editionRecord, regularRecord, complexRecord, leggingRecord, leggingRecords, generationRecord, generationRecords, reachedRecords, joined};
-ghost use Rattle.set_parts.specs.Begun.{begun, _adds_};
+ghost use Rattle.set_parts.specs.SetMemory.{setMemory, _adds_};
 ghost use Rattle.set_parts.specs.Parts.{recordIf, ordersFrom, regularNext, OneMore, sideRecord};
 
 // Where the orders of both books stand: the position, and the next place of either.
@@ -30,7 +30,7 @@ pub struct Orders {
 
 // 80: the message number and the last id.
 pub fn put_first(out: &mut [u8], at: usize, number: u32, last: u32) -> usize
-    ensures { λ r. ⌜ begun (now (out .exit)) r ≡ begun (now (out .entry)) at adds firstRecord number last ⌝ }
+    ensures { λ r. ⌜ setMemory (now (out .exit)) r ≡ setMemory (now (out .entry)) at adds firstRecord number last ⌝ }
 {
     let head = [12u8, 0, 80, 0];
     let words = [number, last];
@@ -39,7 +39,7 @@ pub fn put_first(out: &mut [u8], at: usize, number: u32, last: u32) -> usize
 
 // 5: a series' status.
 fn put_status(out: &mut [u8], at: usize, s: u8, status: u8) -> usize
-    ensures { λ r. ⌜ begun (now (out .exit)) r ≡ begun (now (out .entry)) at adds encodeMessage (Status s status) ⌝ }
+    ensures { λ r. ⌜ setMemory (now (out .exit)) r ≡ setMemory (now (out .entry)) at adds encodeMessage (Status s status) ⌝ }
 {
     let record = [6u8, 0, 5, 0, s, status];
     records::put(out, at, &record)
@@ -47,7 +47,7 @@ fn put_status(out: &mut [u8], at: usize, s: u8, status: u8) -> usize
 
 // 4: its away prices.
 fn put_away(out: &mut [u8], at: usize, s: u8, bid: u32, offer: u32) -> usize
-    ensures { λ r. ⌜ begun (now (out .exit)) r ≡ begun (now (out .entry)) at adds encodeMessage (Away s bid offer) ⌝ }
+    ensures { λ r. ⌜ setMemory (now (out .exit)) r ≡ setMemory (now (out .entry)) at adds encodeMessage (Away s bid offer) ⌝ }
 {
     let head = [13u8, 0, 4, 0, s];
     let words = [bid, offer];
@@ -56,7 +56,7 @@ fn put_away(out: &mut [u8], at: usize, s: u8, bid: u32, offer: u32) -> usize
 
 // 5 and 4 of a series.
 fn put_listed(out: &mut [u8], at: usize, s: u8, x: Listed) -> usize
-    ensures { λ r. ⌜ begun (now (out .exit)) r ≡ begun (now (out .entry)) at adds (encodeMessage (Status s (x .status)) ++ encodeMessage (Away s (x .bid) (x .offer))) ⌝ }
+    ensures { λ r. ⌜ setMemory (now (out .exit)) r ≡ setMemory (now (out .entry)) at adds (encodeMessage (Status s (x .status)) ++ encodeMessage (Away s (x .bid) (x .offer))) ⌝ }
 {
     let pos = put_status(out, at, s, x.status);
     put_away(out, pos, s, x.bid, x.offer)
@@ -64,7 +64,7 @@ fn put_listed(out: &mut [u8], at: usize, s: u8, x: Listed) -> usize
 
 // 7 or 8: an edition, where the place holds one, with its message number.
 fn put_edition(out: &mut [u8], at: usize, e: Edition) -> usize
-    ensures { λ r. ⌜ begun (now (out .exit)) r ≡ begun (now (out .entry)) at adds recordIf (holdsEdition e) (editionRecord e) ⌝ }
+    ensures { λ r. ⌜ setMemory (now (out .exit)) r ≡ setMemory (now (out .entry)) at adds recordIf (holdsEdition e) (editionRecord e) ⌝ }
 {
     if e.edition == 0 {
         return at;
@@ -80,7 +80,7 @@ fn put_edition(out: &mut [u8], at: usize, e: Edition) -> usize
 
 // 9: a regular order, with what is left and what shows.
 fn put_regular(out: &mut [u8], at: usize, o: Regular) -> usize
-    ensures { λ r. ⌜ begun (now (out .exit)) r ≡ begun (now (out .entry)) at adds regularRecord o ⌝ }
+    ensures { λ r. ⌜ setMemory (now (out .exit)) r ≡ setMemory (now (out .entry)) at adds regularRecord o ⌝ }
 {
     let i = records::bytes4(o.id);
     let head = [22u8, 0, 9, 0, i[0], i[1], i[2], i[3], o.series, o.side];
@@ -90,7 +90,7 @@ fn put_regular(out: &mut [u8], at: usize, o: Regular) -> usize
 
 // The fields of kind 2, which kind 10 begins with, after a length and a kind.
 fn put_two_leg(out: &mut [u8], at: usize, length: u8, kind: u8, c: Complex) -> usize
-    ensures { λ r. ⌜ begun (now (out .exit)) r ≡ begun (now (out .entry)) at adds (length ∷ 0 ∷ kind ∷ 0 ∷ twoLegFields c) ⌝ }
+    ensures { λ r. ⌜ setMemory (now (out .exit)) r ≡ setMemory (now (out .entry)) at adds (length ∷ 0 ∷ kind ∷ 0 ∷ twoLegFields c) ⌝ }
 {
     let i = records::bytes4(c.id);
     let head = [
@@ -114,7 +114,7 @@ fn put_two_leg(out: &mut [u8], at: usize, length: u8, kind: u8, c: Complex) -> u
 
 // A complex order's ratios, a byte each.
 fn put_ratios(out: &mut [u8], at: usize, c: Complex) -> usize
-    ensures { λ r. ⌜ begun (now (out .exit)) r ≡ begun (now (out .entry)) at adds (u8 (c .ratio1) ++ u8 (c .ratio2)) ⌝ }
+    ensures { λ r. ⌜ setMemory (now (out .exit)) r ≡ setMemory (now (out .entry)) at adds (u8 (c .ratio1) ++ u8 (c .ratio2)) ⌝ }
 {
     let ratios = [c.ratio1, c.ratio2];
     records::put(out, at, &ratios)
@@ -122,7 +122,7 @@ fn put_ratios(out: &mut [u8], at: usize, c: Complex) -> usize
 
 // 2 or 10: a complex order, with what is left.
 fn put_complex(out: &mut [u8], at: usize, c: Complex) -> usize
-    ensures { λ r. ⌜ begun (now (out .exit)) r ≡ begun (now (out .entry)) at adds complexRecord c ⌝ }
+    ensures { λ r. ⌜ setMemory (now (out .exit)) r ≡ setMemory (now (out .entry)) at adds complexRecord c ⌝ }
 {
     if arithmetic::is_one_to_one(c) {
         return put_two_leg(out, at, 21, 2, c);
@@ -133,7 +133,7 @@ fn put_complex(out: &mut [u8], at: usize, c: Complex) -> usize
 
 // 82: a legging order, where the place holds one.
 fn put_legging(out: &mut [u8], at: usize, s: u8, d: u8, l: Legging) -> usize
-    ensures { λ r. ⌜ begun (now (out .exit)) r ≡ begun (now (out .entry)) at adds recordIf (held (l .quantity)) (leggingRecord s d l) ⌝ }
+    ensures { λ r. ⌜ setMemory (now (out .exit)) r ≡ setMemory (now (out .entry)) at adds recordIf (held (l .quantity)) (leggingRecord s d l) ⌝ }
 {
     if l.quantity == 0 {
         return at;
@@ -146,7 +146,7 @@ fn put_legging(out: &mut [u8], at: usize, s: u8, d: u8, l: Legging) -> usize
 
 // 83: a generation of a series, where there is one.
 fn put_generation(out: &mut [u8], at: usize, s: u8, number: u32) -> usize
-    ensures { λ r. ⌜ begun (now (out .exit)) r ≡ begun (now (out .entry)) at adds recordIf (held number) (generationRecord s number) ⌝ }
+    ensures { λ r. ⌜ setMemory (now (out .exit)) r ≡ setMemory (now (out .entry)) at adds recordIf (held number) (generationRecord s number) ⌝ }
 {
     if number == 0 {
         return at;
@@ -158,7 +158,7 @@ fn put_generation(out: &mut [u8], at: usize, s: u8, number: u32) -> usize
 
 // 84: the id reached, if any.
 pub fn put_reached(out: &mut [u8], at: usize, id: u32) -> usize
-    ensures { λ r. ⌜ begun (now (out .exit)) r ≡ begun (now (out .entry)) at adds joined (reachedRecords id) ⌝ }
+    ensures { λ r. ⌜ setMemory (now (out .exit)) r ≡ setMemory (now (out .entry)) at adds joined (reachedRecords id) ⌝ }
 {
     if id == 0 {
         return at;
@@ -173,7 +173,7 @@ pub fn put_reached(out: &mut [u8], at: usize, id: u32) -> usize
 // 5 and 4 for each series in turn.
 pub fn put_series(numbers: &[u32], out: &mut [u8], at: usize) -> usize
     requires { ⌜ length (now numbers) ≡ size ⌝ }
-    ensures { λ r. ⌜ begun (now (out .exit)) r ≡ begun (now (out .entry)) at adds joined (seriesRecords 0 (venueOf (now (numbers .entry)) .series)) ⌝ }
+    ensures { λ r. ⌜ setMemory (now (out .exit)) r ≡ setMemory (now (out .entry)) at adds joined (seriesRecords 0 (venueOf (now (numbers .entry)) .series)) ⌝ }
 {
     let mut pos = at;
     let mut s: usize = 0;
@@ -188,7 +188,7 @@ pub fn put_series(numbers: &[u32], out: &mut [u8], at: usize) -> usize
 // The editions by rising edition, as their places stand.
 pub fn put_editions(numbers: &[u32], out: &mut [u8], at: usize) -> usize
     requires { ⌜ length (now numbers) ≡ size ⌝ }
-    ensures { λ r. ⌜ begun (now (out .exit)) r ≡ begun (now (out .entry)) at adds joined (map editionRecord (keep holdsEdition (venueOf (now (numbers .entry)) .editions))) ⌝ }
+    ensures { λ r. ⌜ setMemory (now (out .exit)) r ≡ setMemory (now (out .entry)) at adds joined (map editionRecord (keep holdsEdition (venueOf (now (numbers .entry)) .editions))) ⌝ }
 {
     let mut pos = at;
     let mut i: usize = 0;
@@ -244,7 +244,7 @@ fn put_next(numbers: &[u32], n: usize, m: usize, t: Orders, out: &mut [u8]) -> O
 // The resting orders of both books by rising id.
 pub fn put_orders(numbers: &[u32], out: &mut [u8], at: usize) -> usize
     requires { ⌜ length (now numbers) ≡ size ⌝ }
-    ensures { λ r. ⌜ begun (now (out .exit)) r ≡ begun (now (out .entry)) at adds joined (ordersFrom (now (numbers .entry)) (regularsUsed (now (numbers .entry))) (complexesUsed (now (numbers .entry))) 0 0) ⌝ }
+    ensures { λ r. ⌜ setMemory (now (out .exit)) r ≡ setMemory (now (out .entry)) at adds joined (ordersFrom (now (numbers .entry)) (regularsUsed (now (numbers .entry))) (complexesUsed (now (numbers .entry))) 0 0) ⌝ }
 {
     let n = places::regulars_used(numbers);
     let m = places::complexes_used(numbers);
@@ -262,7 +262,7 @@ pub fn put_orders(numbers: &[u32], out: &mut [u8], at: usize) -> usize
 // The legging orders of a series, its first side's first.
 fn put_sides(numbers: &[u32], out: &mut [u8], at: usize, s: usize) -> usize
     requires { ⌜ (length (now numbers) ≡ size) × (s < 8) ⌝ }
-    ensures { λ r. ⌜ begun (now (out .exit)) r ≡ begun (now (out .entry)) at adds (sideRecord (now (numbers .entry)) s 0 ++ sideRecord (now (numbers .entry)) s 1) ⌝ }
+    ensures { λ r. ⌜ setMemory (now (out .exit)) r ≡ setMemory (now (out .entry)) at adds (sideRecord (now (numbers .entry)) s 0 ++ sideRecord (now (numbers .entry)) s 1) ⌝ }
 {
     let l = places::legging_at(numbers, 2 * s);
     let pos = put_legging(out, at, s as u8, 0, l);
@@ -273,7 +273,7 @@ fn put_sides(numbers: &[u32], out: &mut [u8], at: usize, s: usize) -> usize
 // The legging orders by rising place.
 pub fn put_leggings(numbers: &[u32], out: &mut [u8], at: usize) -> usize
     requires { ⌜ length (now numbers) ≡ size ⌝ }
-    ensures { λ r. ⌜ begun (now (out .exit)) r ≡ begun (now (out .entry)) at adds joined (leggingRecords 0 (venueOf (now (numbers .entry)) .legging)) ⌝ }
+    ensures { λ r. ⌜ setMemory (now (out .exit)) r ≡ setMemory (now (out .entry)) at adds joined (leggingRecords 0 (venueOf (now (numbers .entry)) .legging)) ⌝ }
 {
     let mut pos = at;
     let mut s: usize = 0;
@@ -287,7 +287,7 @@ pub fn put_leggings(numbers: &[u32], out: &mut [u8], at: usize) -> usize
 // A series' last generations, oldest first.
 fn put_generations(numbers: &[u32], out: &mut [u8], at: usize, s: usize) -> usize
     requires { ⌜ (length (now numbers) ≡ size) × (s < 8) ⌝ }
-    ensures { λ r. ⌜ begun (now (out .exit)) r ≡ begun (now (out .entry)) at adds joined (map (generationRecord s) (keep held (generationsOf (venueOf (now (numbers .entry))) s))) ⌝ }
+    ensures { λ r. ⌜ setMemory (now (out .exit)) r ≡ setMemory (now (out .entry)) at adds joined (map (generationRecord s) (keep held (generationsOf (venueOf (now (numbers .entry))) s))) ⌝ }
 {
     let mut pos = at;
     let mut k: usize = 0;
@@ -302,7 +302,7 @@ fn put_generations(numbers: &[u32], out: &mut [u8], at: usize, s: usize) -> usiz
 // Those of each series in turn.
 pub fn put_all_generations(numbers: &[u32], out: &mut [u8], at: usize) -> usize
     requires { ⌜ length (now numbers) ≡ size ⌝ }
-    ensures { λ r. ⌜ begun (now (out .exit)) r ≡ begun (now (out .entry)) at adds joined (generationRecords 0 (venueOf (now (numbers .entry)) .generations)) ⌝ }
+    ensures { λ r. ⌜ setMemory (now (out .exit)) r ≡ setMemory (now (out .entry)) at adds joined (generationRecords 0 (venueOf (now (numbers .entry)) .generations)) ⌝ }
 {
     let mut pos = at;
     let mut s: usize = 0;

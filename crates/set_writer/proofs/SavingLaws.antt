@@ -16,9 +16,9 @@ use Rattle.rules.specs.Sound.{sound, follows}
 use Rattle.places.specs.Layout.{upto, regularIn, complexIn, regularsUsed, complexesUsed, venueOf, Dense}
 use Rattle.places.proofs.Tables.{upto-length}
 use Rattle.sets.specs.Set.{firstRecord, seriesRecords, editionRecord, byId, leggingRecords, generationRecords, reachedRecords, setOf, joined, carries, notWritten, writeSet}
-use Rattle.set_parts.specs.Begun.{begun, _adds_}
+use Rattle.set_parts.specs.SetMemory.{setMemory, _adds_}
 use Rattle.set_parts.specs.Parts.{ordersFrom}
-use Rattle.set_parts.proofs.BegunLaws.{room-is, stands, does-not-fit}
+use Rattle.set_parts.proofs.SetMemoryLaws.{room-is, stands, does-not-fit}
 use Rattle.set_parts.proofs.PartsLaws.{joined-append, all-kept}
 
 -- Its parts -------------------------------------------------------------------------------------
@@ -63,7 +63,7 @@ module _ (v : Venue) (number : ℕ) (l : List ℕ) where
   unfolding writeSet carries
   not-carried h = rw h
 
-  module _ (fine : (sound v && follows (suc number) v) ≡ true) (m : List ℕ) (end : ℕ) (e : begun m end ≡ begun l 0 adds joined (setOf number v)) where
+  module _ (fine : (sound v && follows (suc number) v) ≡ true) (m : List ℕ) (end : ℕ) (e : setMemory m end ≡ setMemory l 0 adds joined (setOf number v)) where
     pub no-room : length m < end → notWritten 15 (length m) ≡ writeSet number v (length l)
     unfolding writeSet carries
     no-room h = rw (fine, lt-ltb _ _ (does-not-fit l m _ end e h), room-is l m _ end e)

@@ -10,7 +10,7 @@ use borrow.Author.Tests.{ltb-true, ltb-false}
 use lib.Dec.{ltb}
 use lib.ListN.{length, length-replicate, replicate}
 use Rattle.short_sessions.specs.Sessions.{following, ofLength, raised}
-use Rattle.short_sessions.proofs.Listing.{begun-number}
+use Rattle.short_sessions.proofs.Listing.{beginning-number}
 use Rattle.short_sessions.proofs.Following.{at-last, goes-up, longer, longest, no-places, of-none, raised-length, same-length, stays}
 
 -- how many sessions there are of n messages
@@ -19,7 +19,7 @@ number k n = length (ofLength k n)
 
 number-suc : (k n : ℕ) → number k (suc n) ≡ k * number k n
 unfolding number ofLength
-number-suc k n = begun-number 0 k (ofLength k n)
+number-suc k n = beginning-number 0 k (ofLength k n)
 
 -- how many of the same length come after one
 after : (k : ℕ) → List ℕ → ℕ

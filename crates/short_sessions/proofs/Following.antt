@@ -9,7 +9,7 @@ use native.Mathlib.Omega.{arith}
 use borrow.Author.Tests.{lt-ltb, le-ltb, ltb-true, ltb-false}
 use lib.Dec.{ltb}
 use lib.ListN.{length, length-replicate, replicate}
-use Rattle.short_sessions.specs.Sessions.{Follow, Followed, OneAfterAnother, begun, following, ofLength, raised, sessions}
+use Rattle.short_sessions.specs.Sessions.{Follow, Followed, OneAfterAnother, beginningAt, following, ofLength, raised, sessions}
 
 -- What follows a session ----------------------------------------------------------------------
 
@@ -92,11 +92,11 @@ put-before k p s (t ∷ l) more x end = (stays k p s t (x .0), put-before k p t 
 
 -- those that begin at p and at each place after it
 from-place : (k n p count : ℕ) (l : List (List ℕ)) → p + suc count ≡ k → Raise k (replicate n 0) l →
-    Raise k (p ∷ replicate n 0) (map (λ (t : List ℕ). p ∷ t) l ++ begun (suc p) count (replicate n 0 ∷ l))
-unfolding begun
+    Raise k (p ∷ replicate n 0) (map (λ (t : List ℕ). p ∷ t) l ++ beginningAt (suc p) count (replicate n 0 ∷ l))
+unfolding beginningAt
 from-place k n p zero l e x = put-before k p (replicate n 0) l [] x (λ t _ y. at-last k p t y (omega arith))
 from-place k n p (suc count) l e x =
-    put-before k p (replicate n 0) l (begun (suc p) (suc count) (replicate n 0 ∷ l)) x
+    put-before k p (replicate n 0) l (beginningAt (suc p) (suc count) (replicate n 0 ∷ l)) x
     (λ t len y. (
       goes-up k p t y (omega arith) ∙ ap (λ (j : ℕ). some (suc p ∷ replicate j 0)) (len ∙ length-replicate n 0),
       from-place k n (suc p) count l (omega arith) x,
@@ -109,13 +109,13 @@ record Raised (k n : ℕ) : Type 0 where
   raise : Raise k (replicate n 0) rest
 
 raised-all : (k n : ℕ) → Raised (suc k) n
-unfolding ofLength begun
+unfolding ofLength beginningAt
 raised-all k zero = record { rest = []; all = refl; raise = no-places (suc k) }
 raised-all k (suc n) =
     let x = raised-all k n in
     record {
-      rest = map (λ (t : List ℕ). 0 ∷ t) (x .rest) ++ begun 1 k (replicate n 0 ∷ x .rest);
-      all = ap (begun 0 (suc k)) (x .all);
+      rest = map (λ (t : List ℕ). 0 ∷ t) (x .rest) ++ beginningAt 1 k (replicate n 0 ∷ x .rest);
+      all = ap (beginningAt 0 (suc k)) (x .all);
       raise = from-place (suc k) n 0 k (x .rest) (omega arith) (x .raise);
     }
 
@@ -161,7 +161,7 @@ of-three k =
 
 pub one-after-another : OneAfterAnother
 unfolding sessions
-one-after-another zero = record { rest = []; all = unfold ofLength begun in refl; follow = unfold Follow in (of-none []) }
+one-after-another zero = record { rest = []; all = unfold ofLength beginningAt in refl; follow = unfold Follow in (of-none []) }
 one-after-another (suc k) =
     let x = lengthen k 0 _ (omega arith) (lengthen k 1 _ (omega arith) (lengthen k 2 _ (omega arith) (of-three k))) in
     record { rest = x .rest; all = x .all; follow = x .follow }

@@ -7,17 +7,17 @@ use Prim.Native.Nat.{ℕ, zero, suc, _+_, _*_, _≤_, _<_}
 use native.Mathlib.Omega.{arith}
 use native.Mathlib.Nat.{mul-assoc, mul-one, suc-mul}
 use lib.ListN.{length, length-append}
-use Rattle.short_sessions.specs.Sessions.{Before, EachOnce, InOrder, Lower, NoOther, NoneLeftOut, Number, Pairwise, Within, begun, ofLength, sessions}
+use Rattle.short_sessions.specs.Sessions.{Before, EachOnce, InOrder, Lower, NoOther, NoneLeftOut, Number, Pairwise, Within, beginningAt, ofLength, sessions}
 
 abbrev on : ℕ → List ℕ → List ℕ
 on p s = p ∷ s
 
 -- None left out -------------------------------------------------------------------------------
 
-begun-in : (p count q : ℕ) (s : List ℕ) (l : List (List ℕ)) → p ≤ q → q < p + count → List·Memᴰ s l → List·Memᴰ (q ∷ s) (begun p count l)
-unfolding begun
-begun-in p zero q s l a b m = absurd (omega arith)
-begun-in p (suc count) q s l a b m = go (split p q a) (λ c. begun-in (suc p) count q s l c (omega arith) m)
+beginning-in : (p count q : ℕ) (s : List ℕ) (l : List (List ℕ)) → p ≤ q → q < p + count → List·Memᴰ s l → List·Memᴰ (q ∷ s) (beginningAt p count l)
+unfolding beginningAt
+beginning-in p zero q s l a b m = absurd (omega arith)
+beginning-in p (suc count) q s l a b m = go (split p q a) (λ c. beginning-in (suc p) count q s l c (omega arith) m)
   where
     split : (p q : ℕ) → p ≤ q → (q ≡ p) ⊎ (suc p ≤ q)
     split zero zero h = inl refl
@@ -25,14 +25,14 @@ begun-in p (suc count) q s l a b m = go (split p q a) (λ c. begun-in (suc p) co
     split (suc p) zero h = absurd (omega arith)
     split (suc p) (suc q) h = elim (split p q (omega arith)) [ inl e ↦ inl (ap suc e) | inr g ↦ inr (omega arith) ]
 
-    go : (q ≡ p) ⊎ (suc p ≤ q) → (suc p ≤ q → List·Memᴰ (q ∷ s) (begun (suc p) count l)) → List·Memᴰ (q ∷ s) (begun p (suc count) l)
-    go (inl e) later = Memᴰ·append-left (begun (suc p) count l) (Memᴰ·cast (ap (λ (x : ℕ). x ∷ s) e) (Memᴰ·map (on p) m))
+    go : (q ≡ p) ⊎ (suc p ≤ q) → (suc p ≤ q → List·Memᴰ (q ∷ s) (beginningAt (suc p) count l)) → List·Memᴰ (q ∷ s) (beginningAt p (suc count) l)
+    go (inl e) later = Memᴰ·append-left (beginningAt (suc p) count l) (Memᴰ·cast (ap (λ (x : ℕ). x ∷ s) e) (Memᴰ·map (on p) m))
     go (inr c) later = Memᴰ·append-right (map (on p) l) (later c)
 
 length-in : (k : ℕ) (s : List ℕ) → Within k s → List·Memᴰ s (ofLength k (length s))
 unfolding ofLength Within
 length-in k [] w = List·Memᴰ·head refl
-length-in k (p ∷ s) w = begun-in 0 k p s (ofLength k (length s)) (omega arith) (let h = w .0 in omega arith) (length-in k s (w .1))
+length-in k (p ∷ s) w = beginning-in 0 k p s (ofLength k (length s)) (omega arith) (let h = w .0 in omega arith) (length-in k s (w .1))
 
 pub none-left-out : NoneLeftOut
 unfolding sessions
@@ -47,7 +47,7 @@ none-left-out k s few w = go (length s) few (length-in k s w)
 
 -- and no other --------------------------------------------------------------------------------
 
--- a session of `begun`
+-- a session of `beginningAt`
 record Begins (p count : ℕ) (l : List (List ℕ)) (t : List ℕ) : Type 0 where
   place : ℕ
   others : List ℕ
@@ -56,12 +56,12 @@ record Begins (p count : ℕ) (l : List (List ℕ)) (t : List ℕ) : Type 0 wher
   to : place < p + count
   others-in : List·Memᴰ others l
 
-begun-out : (p count : ℕ) (l : List (List ℕ)) (t : List ℕ) → List·Memᴰ t (begun p count l) → Begins p count l t
-unfolding begun
-begun-out p zero l t m = absurd (List·Memᴰ·not-nil m)
-begun-out p (suc count) l t m = go (List·Memᴰ·append-cases (map (on p) l) m) (λ n. begun-out (suc p) count l t n)
+beginning-out : (p count : ℕ) (l : List (List ℕ)) (t : List ℕ) → List·Memᴰ t (beginningAt p count l) → Begins p count l t
+unfolding beginningAt
+beginning-out p zero l t m = absurd (List·Memᴰ·not-nil m)
+beginning-out p (suc count) l t m = go (List·Memᴰ·append-cases (map (on p) l) m) (λ n. beginning-out (suc p) count l t n)
   where
-    go : List·Memᴰ t (map (on p) l) ⊎ List·Memᴰ t (begun (suc p) count l) → (List·Memᴰ t (begun (suc p) count l) → Begins (suc p) count l t) → Begins p (suc count) l t
+    go : List·Memᴰ t (map (on p) l) ⊎ List·Memᴰ t (beginningAt (suc p) count l) → (List·Memᴰ t (beginningAt (suc p) count l) → Begins (suc p) count l t) → Begins p (suc count) l t
     go (inl n) later = let x = Memᴰ·of-map (on p) l n in record { place = p; others = x .0; is = sym (x .2); from = omega arith; to = omega arith; others-in = x .1 }
     go (inr n) later =
         let x = later n in
@@ -73,7 +73,7 @@ length-out k zero s m =
     let e : s ≡ [] = elim (List·Memᴰ·cases-cons m) [ inl e ↦ e | inr n ↦ absurd (List·Memᴰ·not-nil n) ] in
     (ap length e, subst (Within k) (sym e) tt)
 length-out k (suc n) s m =
-    let b = begun-out 0 k (ofLength k n) s m in
+    let b = beginning-out 0 k (ofLength k n) s m in
     let o = length-out k n (b .others) (b .others-in) in
     (ap length (b .is) ∙ ap suc (o .0), subst (Within k) (sym (b .is)) (let h = b .to in omega arith, o .1))
 
@@ -129,20 +129,20 @@ pair-map p (s ∷ l) x = (
   pair-map p l (x .1),
 )
 
-begun-order : (p count : ℕ) (l : List (List ℕ)) → Pairwise Lower l → Pairwise Lower (begun p count l)
-unfolding begun
-begun-order p zero l x = unfold Pairwise in tt
-begun-order p (suc count) l x =
-    pair-append Lower (map (on p) l) (begun (suc p) count l) (pair-map p l x) (begun-order (suc p) count l x)
+beginning-order : (p count : ℕ) (l : List (List ℕ)) → Pairwise Lower l → Pairwise Lower (beginningAt p count l)
+unfolding beginningAt
+beginning-order p zero l x = unfold Pairwise in tt
+beginning-order p (suc count) l x =
+    pair-append Lower (map (on p) l) (beginningAt (suc p) count l) (pair-map p l x) (beginning-order (suc p) count l x)
     (λ s t m n.
     let y = Memᴰ·of-map (on p) l m in
-    let z = begun-out (suc p) count l t n in
+    let z = beginning-out (suc p) count l t n in
     subst (λ (u : List ℕ). Lower u t) (y .2) (subst (Lower (p ∷ y .0)) (sym (z .is)) (lower-first p (z .place) (y .0) (z .others) (z .from))))
 
 length-order : (k n : ℕ) → Pairwise Lower (ofLength k n)
 unfolding ofLength
 length-order k zero = unfold Pairwise in (λ t m. absurd (List·Memᴰ·not-nil m), tt)
-length-order k (suc n) = begun-order 0 k (ofLength k n) (length-order k n)
+length-order k (suc n) = beginning-order 0 k (ofLength k n) (length-order k n)
 
 -- lists of one length that stand by their places stand in order
 pair-same : (n : ℕ) (l : List (List ℕ)) → ((s : List ℕ) → List·Memᴰ s l → length s ≡ n) → Pairwise Lower l → Pairwise Before l
@@ -195,17 +195,17 @@ length-map : (p : ℕ) (l : List (List ℕ)) → length (map (on p) l) ≡ lengt
 length-map p [] = refl
 length-map p (s ∷ l) = ap suc (length-map p l)
 
-pub begun-number : (p count : ℕ) (l : List (List ℕ)) → length (begun p count l) ≡ count * length l
-unfolding begun
-begun-number p zero l = omega arith
-begun-number p (suc count) l =
-    let a = length-append (map (on p) l) (begun (suc p) count l) in
+pub beginning-number : (p count : ℕ) (l : List (List ℕ)) → length (beginningAt p count l) ≡ count * length l
+unfolding beginningAt
+beginning-number p zero l = omega arith
+beginning-number p (suc count) l =
+    let a = length-append (map (on p) l) (beginningAt (suc p) count l) in
     let b = length-map p l in
-    let c = begun-number (suc p) count l in
+    let c = beginning-number (suc p) count l in
     let d = suc-mul count (length l) in
     omega arith
 
 pub number : Number
 unfolding sessions ofLength
 number k =
-    simp (length-append, begun-number, mul-one) (rw mul-assoc (omega arith))
+    simp (length-append, beginning-number, mul-one) (rw mul-assoc (omega arith))

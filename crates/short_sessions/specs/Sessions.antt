@@ -12,14 +12,14 @@ use lib.ListN.{length, replicate}
 -- The sessions --------------------------------------------------------------------------------
 
 -- the sessions that begin at one of `count` places from p on and go on as those of l do
-unfoldable pub begun : (p count : ℕ) → List (List ℕ) → List (List ℕ)
-begun p zero l = []
-begun p (suc count) l = map (λ (s : List ℕ). p ∷ s) l ++ begun (suc p) count l
+unfoldable pub beginningAt : (p count : ℕ) → List (List ℕ) → List (List ℕ)
+beginningAt p zero l = []
+beginningAt p (suc count) l = map (λ (s : List ℕ). p ∷ s) l ++ beginningAt (suc p) count l
 
 -- the sessions of n messages, by their places
 unfoldable pub ofLength : (k n : ℕ) → List (List ℕ)
 ofLength k zero = [] ∷ []
-ofLength k (suc n) = begun 0 k (ofLength k n)
+ofLength k (suc n) = beginningAt 0 k (ofLength k n)
 
 -- "every session of 0 to 3 messages, shorter first"
 unfoldable pub sessions : (k : ℕ) → List (List ℕ)

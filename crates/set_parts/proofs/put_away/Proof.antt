@@ -4,7 +4,7 @@ use Rattle.rules.specs.Bytes.{framed, bytes}
 use Rattle.rules.specs.Messages.{encodeMessage}
 use Rattle.rules.proofs.Reading.{byte}
 use Rattle.records.specs.Seen.{wordBytes}
-use Rattle.set_parts.proofs.BegunLaws.{wrote}
+use Rattle.set_parts.proofs.SetMemoryLaws.{wrote}
 use Rattle.set_parts.proofs.put_away.Statement.{statement}
 use Rattle.set_parts.proofs.put_away.Tie as tie
 

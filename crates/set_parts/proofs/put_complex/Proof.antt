@@ -1,7 +1,7 @@
 -- `set_parts::put_complex` meets its contract.
 use mathlib.Core.Path.{sym, _∙_}
 use borrow.Author.Needs.{needs}
-use Rattle.set_parts.proofs.BegunLaws.{adds-same, adds-then}
+use Rattle.set_parts.proofs.SetMemoryLaws.{adds-same, adds-then}
 use Rattle.set_parts.proofs.PartsLaws.{complex-even, complex-uneven}
 use Rattle.set_parts.proofs.put_complex.Statement.{statement}
 use Rattle.set_parts.proofs.put_complex.Tie as tie

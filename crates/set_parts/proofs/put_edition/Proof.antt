@@ -5,7 +5,7 @@ use Rattle.rules.specs.Bytes.{framed, bytes}
 use Rattle.rules.proofs.Reading.{byte}
 use Rattle.records.specs.Seen.{wordBytes}
 use Rattle.sets.specs.Set.{editionRecord}
-use Rattle.set_parts.proofs.BegunLaws.{absent, present, wrote}
+use Rattle.set_parts.proofs.SetMemoryLaws.{absent, present, wrote}
 use Rattle.set_parts.proofs.put_edition.Statement.{statement}
 use Rattle.set_parts.proofs.put_edition.Tie as tie
 

@@ -10,7 +10,7 @@ use Rattle.rules.specs.Places.{holdsEdition}
 use Rattle.places.specs.Layout.{upto, editionIn, venueOf}
 use Rattle.sets.specs.Set.{editionRecord, joined}
 use Rattle.set_parts.specs.Parts.{recordIf}
-use Rattle.set_parts.proofs.BegunLaws.{adds-same, Left, left-next, left-none, left-room}
+use Rattle.set_parts.proofs.SetMemoryLaws.{adds-same, Left, left-next, left-none, left-room}
 use Rattle.set_parts.proofs.PartsLaws.{kept-next, kept-none}
 use Rattle.set_parts.proofs.put_editions.Statement.{statement}
 use Rattle.set_parts.proofs.put_editions.Tie as tie

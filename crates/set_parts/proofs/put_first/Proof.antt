@@ -4,7 +4,7 @@ use borrow.Author.Needs.{needs}
 use Rattle.rules.specs.Bytes.{framed, bytes}
 use Rattle.records.specs.Seen.{wordBytes}
 use Rattle.sets.specs.Set.{firstRecord}
-use Rattle.set_parts.proofs.BegunLaws.{wrote}
+use Rattle.set_parts.proofs.SetMemoryLaws.{wrote}
 use Rattle.set_parts.proofs.put_first.Statement.{statement}
 use Rattle.set_parts.proofs.put_first.Tie as tie
 

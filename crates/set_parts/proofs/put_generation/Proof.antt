@@ -5,7 +5,7 @@ use Rattle.rules.specs.Bytes.{framed, bytes}
 use Rattle.rules.proofs.Reading.{byte}
 use Rattle.records.specs.Seen.{wordBytes}
 use Rattle.sets.specs.Set.{generationRecord}
-use Rattle.set_parts.proofs.BegunLaws.{absent, present, wrote}
+use Rattle.set_parts.proofs.SetMemoryLaws.{absent, present, wrote}
 use Rattle.set_parts.proofs.put_generation.Statement.{statement}
 use Rattle.set_parts.proofs.put_generation.Tie as tie
 

@@ -11,7 +11,7 @@ use Rattle.places.specs.Layout.{venueOf}
 use Rattle.places.proofs.Generations.{generations-twenty}
 use Rattle.sets.specs.Set.{generationRecord, joined}
 use Rattle.set_parts.specs.Parts.{recordIf}
-use Rattle.set_parts.proofs.BegunLaws.{adds-same, Left, left-next, left-none, left-room}
+use Rattle.set_parts.proofs.SetMemoryLaws.{adds-same, Left, left-next, left-none, left-room}
 use Rattle.set_parts.proofs.PartsLaws.{dropped-next, dropped-none}
 use Rattle.set_parts.proofs.put_generations.Statement.{statement}
 use Rattle.set_parts.proofs.put_generations.Tie as tie

@@ -5,7 +5,7 @@ use native.Mathlib.Omega.{arith}
 use borrow.Author.Needs.{needs}
 use Rattle.places.specs.Layout.{upto, leggingIn, venueOf}
 use Rattle.sets.specs.Set.{leggingRecords, joined}
-use Rattle.set_parts.proofs.BegunLaws.{Left, left-next, left-none, left-room}
+use Rattle.set_parts.proofs.SetMemoryLaws.{Left, left-next, left-none, left-room}
 use Rattle.set_parts.proofs.PartsLaws.{leggings-next, leggings-none}
 use Rattle.set_parts.proofs.put_leggings.Statement.{statement}
 use Rattle.set_parts.proofs.put_leggings.Tie as tie

@@ -1,6 +1,6 @@
 -- `set_parts::put_listed` meets its contract.
 use borrow.Author.Needs.{needs}
-use Rattle.set_parts.proofs.BegunLaws.{adds-then}
+use Rattle.set_parts.proofs.SetMemoryLaws.{adds-then}
 use Rattle.set_parts.proofs.put_listed.Statement.{statement}
 use Rattle.set_parts.proofs.put_listed.Tie as tie
 

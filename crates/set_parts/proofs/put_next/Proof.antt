@@ -3,7 +3,7 @@ use mathlib.Core.Path.{refl, sym, ap, _∙_}
 use native.Mathlib.Omega.{arith}
 use borrow.Author.Needs.{needs}
 use Rattle.sets.specs.Set.{regularRecord, complexRecord}
-use Rattle.set_parts.proofs.BegunLaws.{adds-same, left-next}
+use Rattle.set_parts.proofs.SetMemoryLaws.{adds-same, left-next}
 use Rattle.set_parts.proofs.PartsLaws.{regular-there, complex-there, regular-after, complex-after}
 use Rattle.set_parts.proofs.put_next.Statement.{statement}
 use Rattle.set_parts.proofs.put_next.Tie as tie

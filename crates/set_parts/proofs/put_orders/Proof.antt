@@ -5,7 +5,7 @@ use native.Mathlib.Omega.{arith}
 use borrow.Author.Needs.{needs}
 use Rattle.sets.specs.Set.{joined}
 use Rattle.set_parts.specs.Parts.{ordersFrom}
-use Rattle.set_parts.proofs.BegunLaws.{adds-same, Left, left-none, left-room}
+use Rattle.set_parts.proofs.SetMemoryLaws.{adds-same, Left, left-none, left-room}
 use Rattle.set_parts.proofs.PartsLaws.{orders-none}
 use Rattle.set_parts.proofs.put_orders.Statement.{statement}
 use Rattle.set_parts.proofs.put_orders.Tie as tie

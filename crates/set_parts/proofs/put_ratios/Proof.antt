@@ -2,7 +2,7 @@
 use borrow.Author.Needs.{needs}
 use Rattle.rules.specs.Bytes.{bytes}
 use Rattle.rules.proofs.Reading.{byte}
-use Rattle.set_parts.proofs.BegunLaws.{wrote}
+use Rattle.set_parts.proofs.SetMemoryLaws.{wrote}
 use Rattle.set_parts.proofs.put_ratios.Statement.{statement}
 use Rattle.set_parts.proofs.put_ratios.Tie as tie
 

@@ -5,7 +5,7 @@ use borrow.Author.Needs.{needs}
 use Rattle.rules.specs.Bytes.{framed, bytes}
 use Rattle.records.specs.Seen.{wordBytes}
 use Rattle.sets.specs.Set.{reachedRecords}
-use Rattle.set_parts.proofs.BegunLaws.{absent, present, wrote}
+use Rattle.set_parts.proofs.SetMemoryLaws.{absent, present, wrote}
 use Rattle.set_parts.proofs.PartsLaws.{one-joined}
 use Rattle.set_parts.proofs.put_reached.Statement.{statement}
 use Rattle.set_parts.proofs.put_reached.Tie as tie

@@ -5,7 +5,7 @@ use Rattle.rules.specs.Messages.{orderFields}
 use Rattle.rules.proofs.Reading.{byte}
 use Rattle.records.specs.Seen.{wordBytes}
 use Rattle.sets.specs.Set.{regularRecord}
-use Rattle.set_parts.proofs.BegunLaws.{wrote}
+use Rattle.set_parts.proofs.SetMemoryLaws.{wrote}
 use Rattle.set_parts.proofs.put_regular.Statement.{statement}
 use Rattle.set_parts.proofs.put_regular.Tie as tie
 

@@ -9,7 +9,7 @@ use Rattle.rules.specs.declared.Message.the-variants.{Away, Status}
 use Rattle.rules.specs.Messages.{encodeMessage}
 use Rattle.places.specs.Layout.{upto, listedIn, venueOf}
 use Rattle.sets.specs.Set.{seriesRecords, joined}
-use Rattle.set_parts.proofs.BegunLaws.{adds-same, Left, left-next, left-none, left-room}
+use Rattle.set_parts.proofs.SetMemoryLaws.{adds-same, Left, left-next, left-none, left-room}
 use Rattle.set_parts.proofs.PartsLaws.{series-next, series-none}
 use Rattle.set_parts.proofs.put_series.Statement.{statement}
 use Rattle.set_parts.proofs.put_series.Tie as tie

@@ -8,7 +8,7 @@ use Rattle.rules.specs.Base.{held}
 use Rattle.places.specs.Layout.{leggingIn}
 use Rattle.sets.specs.Set.{leggingRecord}
 use Rattle.set_parts.specs.Parts.{recordIf, sideRecord}
-use Rattle.set_parts.proofs.BegunLaws.{adds-same, adds-then}
+use Rattle.set_parts.proofs.SetMemoryLaws.{adds-same, adds-then}
 use Rattle.set_parts.proofs.put_sides.Statement.{statement}
 use Rattle.set_parts.proofs.put_sides.Tie as tie
 

@@ -3,7 +3,7 @@ use borrow.Author.Needs.{needs}
 use Rattle.rules.specs.Bytes.{framed, bytes}
 use Rattle.rules.specs.Messages.{encodeMessage}
 use Rattle.rules.proofs.Reading.{byte}
-use Rattle.set_parts.proofs.BegunLaws.{wrote}
+use Rattle.set_parts.proofs.SetMemoryLaws.{wrote}
 use Rattle.set_parts.proofs.put_status.Statement.{statement}
 use Rattle.set_parts.proofs.put_status.Tie as tie
 

@@ -11,7 +11,7 @@ use Rattle.rules.specs.Messages.{twoLegFields}
 use Rattle.rules.proofs.Reading.{byte}
 use Rattle.records.specs.Seen.{wordBytes}
 use Rattle.places.proofs.Limits.{number-cast, back32}
-use Rattle.set_parts.proofs.BegunLaws.{wrote}
+use Rattle.set_parts.proofs.SetMemoryLaws.{wrote}
 use Rattle.set_parts.proofs.put_two_leg.Statement.{statement}
 use Rattle.set_parts.proofs.put_two_leg.Tie as tie
 

@@ -1,6 +1,6 @@
 -- `set_writer::put_set` meets its contract.
 use borrow.Author.Needs.{needs}
-use Rattle.set_parts.proofs.BegunLaws.{adds-same, adds-then}
+use Rattle.set_parts.proofs.SetMemoryLaws.{adds-same, adds-then}
 use Rattle.set_writer.proofs.SavingLaws.{parts-joined}
 use Rattle.set_writer.proofs.put_set.Statement.{statement}
 use Rattle.set_writer.proofs.put_set.Tie as tie

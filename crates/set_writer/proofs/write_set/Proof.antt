@@ -8,8 +8,8 @@ use borrow.Author.Needs.{needs}
 use Rattle.rules.specs.declared.Venue.{Venue}
 use Rattle.rules.specs.Sound.{sound, follows}
 use Rattle.sets.specs.Set.{setOf, joined}
-use Rattle.set_parts.specs.Begun.{begun, _adds_}
-use Rattle.set_parts.proofs.BegunLaws.{adds-same}
+use Rattle.set_parts.specs.SetMemory.{setMemory, _adds_}
+use Rattle.set_parts.proofs.SetMemoryLaws.{adds-same}
 use Rattle.set_writer.proofs.SavingLaws.{not-carried, no-room, all-written}
 use Rattle.set_writer.proofs.write_set.Statement.{statement}
 use Rattle.set_writer.proofs.write_set.Tie as tie
@@ -21,7 +21,7 @@ passed : (c : tie.Else1) →
 passed c = sym (c .before .before .load-ready .ensures .answer) ∙ not-false _ (c .if1 .left)
 
 -- its set is written
-put : (c : tie.After-put-set) → begun (c .put-set .last .1 .1 .0) (c .put-set .result) ≡ begun
+put : (c : tie.After-put-set) → setMemory (c .put-set .last .1 .1 .0) (c .put-set .result) ≡ setMemory
     (c .before .before .before .before .before .before .before .before .args .memory .now) 0 adds joined
     (setOf (c .before .before .before .before .before .before .before .before .args .number)
     (c .before .before .before .before .before .before .before .before .args .venue))
