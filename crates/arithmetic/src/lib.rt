@@ -11,7 +11,7 @@ use rules::Regular;
 use rules::Venue;
 use rules::Verdict;
 ghost use mathlib.Core.Path.{_≡_};
-ghost use Prim.Native.Nat.{ℕ, min, _+_, _≤_};
+ghost use Prim.Native.Nat.{ℕ, min, _+_, _≤_, _-_};
 ghost use lib.Dec.{eqb};
 ghost use lib.IntN.{ℤ, pos, natAbs, _+ℤ_};
 ghost use Rattle.rules.specs.Base.{if_then_else_};
@@ -403,4 +403,14 @@ pub fn is_one_to_one(c: Complex) -> bool
         return false;
     }
     c.ratio2 == 1
+}
+
+// q less k, and no less than 0.
+pub fn less(q: u32, k: u32) -> u32
+    ensures { λ r. ⌜ r ≡ q - k ⌝ }
+{
+    if q < k {
+        return 0;
+    }
+    q - k
 }

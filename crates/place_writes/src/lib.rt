@@ -46,16 +46,6 @@ fn lower(numbers: &mut [u32], at: usize, i: usize)
     numbers[at] = i as u32;
 }
 
-// q less k, and no less than 0.
-fn less(q: u32, k: u32) -> u32
-    ensures { λ r. ⌜ r ≡ q - k ⌝ }
-{
-    if q < k {
-        return 0;
-    }
-    q - k
-}
-
 // The order at place i is filled for k contracts. The levels stay as they are. What is left of an order with reserve has to show again.
 pub fn fill_regular(numbers: &mut [u32], i: usize, k: u32)
     requires { ⌜ (length (now numbers) ≡ size) × (i < regularsUsed (now numbers)) ⌝ }
@@ -63,7 +53,7 @@ pub fn fill_regular(numbers: &mut [u32], i: usize, k: u32)
     ensures beside { λ _. ⌜ SameBeside (now (numbers .entry)) (now (numbers .exit)) ⌝ }
 {
     let q = numbers[4 * i + places::REGULAR_QUANTITY_AT];
-    numbers[4 * i + places::REGULAR_QUANTITY_AT] = less(q, k);
+    numbers[4 * i + places::REGULAR_QUANTITY_AT] = arithmetic::less(q, k);
     if q <= k {
         lower(numbers, places::REGULARS_KNOWN_AT, i);
         return;
@@ -81,7 +71,7 @@ pub fn fill_complex(numbers: &mut [u32], i: usize, k: u32)
     ensures counts { λ _. ⌜ SameCounts (now (numbers .entry)) (now (numbers .exit)) ⌝ }
 {
     let q = numbers[6 * i + places::COMPLEX_QUANTITY_AT];
-    numbers[6 * i + places::COMPLEX_QUANTITY_AT] = less(q, k);
+    numbers[6 * i + places::COMPLEX_QUANTITY_AT] = arithmetic::less(q, k);
     if k < q {
         return;
     }
@@ -131,7 +121,7 @@ pub fn show_again(numbers: &mut [u32])
     let mut i: usize = 0;
     while i < n {
         let o = places::regular_at(numbers, i);
-        numbers[2 * i + places::REGULAR_RESERVE_AT] = less(o.quantity, o.display);
+        numbers[2 * i + places::REGULAR_RESERVE_AT] = arithmetic::less(o.quantity, o.display);
         i += 1;
     }
     numbers[places::SHOW_AGAIN_AT] = 0;
@@ -190,7 +180,7 @@ pub fn put_legging(numbers: &mut [u32], n: usize, l: Legging)
     ensures counts { λ _. ⌜ SameCounts (now (numbers .entry)) (now (numbers .exit)) ⌝ }
 {
     let old = places::legging_at(numbers, n);
-    let rest = less(numbers[places::LEGGING_MASK_AT] % 65536, weight(n, old));
+    let rest = arithmetic::less(numbers[places::LEGGING_MASK_AT] % 65536, weight(n, old));
     numbers[places::LEGGING_MASK_AT] = rest + weight(n, l);
     numbers[3 * n + places::LEGGING_PARENT_AT] = l.parent;
     numbers[3 * n + places::LEGGING_PRICE_AT] = l.price;

@@ -285,16 +285,6 @@ fn in_range(kind: u16, m: Message) -> bool
     }
 }
 
-// What is left of a quantity beside what is shown of it; 0 where more is shown than there is, which is out of range.
-fn reserve_of(quantity: u32, display: u32) -> u32
-    ensures { λ r. ⌜ r ≡ quantity - display ⌝ }
-{
-    if quantity < display {
-        return 0;
-    }
-    quantity - display
-}
-
 // The order at the front of `s`, which shows `display` of its quantity.
 pub fn order_at(s: &[u8], display: u32) -> Regular
     requires { ⌜ 18 ≤ length (now s) ⌝ }
@@ -308,7 +298,8 @@ pub fn order_at(s: &[u8], display: u32) -> Regular
         price: word_at(s, 10),
         quantity,
         display,
-        reserve: reserve_of(quantity, display),
+        // 0 where more is shown than there is, which is out of range
+        reserve: arithmetic::less(quantity, display),
     }
 }
 

@@ -6,7 +6,7 @@ use Rattle.wire.proofs.order_at.Tie as tie
 returns : tie.Need-returns
 unfolding orderAt
 returns c = rw (
-  c .reserve-of .ensures,
+  c .less .ensures,
   c .before .word-at3 .ensures,
   c .before .before .byte-at2 .ensures,
   c .before .before .before .byte-at .ensures,
