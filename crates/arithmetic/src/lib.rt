@@ -2,9 +2,6 @@
 use rules::Cause;
 use rules::Complex;
 use rules::Decoded;
-use rules::Edition;
-use rules::Generations;
-use rules::Legging;
 use rules::Listed;
 use rules::Message;
 use rules::Regular;
@@ -27,44 +24,16 @@ ghost use Rattle.rules.specs.Refusals.{decodedNumber};
 pub fn fresh() -> Venue
     ensures { λ r. ⌜ r ≡ freshVenue ⌝ }
 {
-    let regular = Regular {
-        id: 0,
-        series: 0,
-        side: 0,
-        price: 0,
-        quantity: 0,
-        display: 0,
-        reserve: 0,
-    };
-    let complex = Complex {
-        id: 0,
-        series1: 0,
-        side1: 0,
-        series2: 0,
-        side2: 0,
-        class: 0,
-        limit: 0,
-        quantity: 0,
-        ratio1: 0,
-        ratio2: 0,
-    };
-    let legging = Legging {
-        parent: 0,
-        price: 0,
-        quantity: 0,
-    };
+    let regular = rules::NO_REGULAR;
+    let complex = rules::NO_COMPLEX;
+    let legging = rules::NO_LEGGING;
     let listed = Listed {
         status: 1,
         bid: 0,
         offer: 0,
     };
-    let edition = Edition {
-        edition: 0,
-        message: 0,
-        figure: 0,
-        value: 0,
-    };
-    let generations = Generations { messages: [0; 20] };
+    let edition = rules::NO_EDITION;
+    let generations = rules::NO_GENERATIONS;
     Venue {
         regular: [regular; 128],
         complex: [complex; 32],

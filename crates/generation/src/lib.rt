@@ -171,11 +171,7 @@ fn plan_leg(numbers: &[u32], c: Complex, s: u8, d: u8) -> Legging
     requires { ⌜ (length (now numbers) ≡ size) × (Right (now numbers)) × (LegsIn c) × (s < 8) × (d < 2) × (0 < c .quantity) × (mayGenerate (venueOf (now numbers)) c ≡ true) ⌝ }
     ensures { λ r. ⌜ r ≡ plannedLeg (venueOf (now (numbers .entry))) c s d ⌝ }
 {
-    let none = Legging {
-        parent: 0,
-        price: 0,
-        quantity: 0,
-    };
+    let none = rules::NO_LEGGING;
     let sides = levels::sides_at(numbers, c, s, d);
     let taken = sides.taken;
     let price = leg_price(numbers, taken, c, s, d);

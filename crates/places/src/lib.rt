@@ -361,15 +361,7 @@ fn regulars_of(numbers: &[u32]) -> [Regular; 128]
     requires { ⌜ length (now numbers) ≡ size ⌝ }
     ensures { λ r. ⌜ r ≡ venueOf (now (numbers .entry)) .regular ⌝ }
 {
-    let free = Regular {
-        id: 0,
-        series: 0,
-        side: 0,
-        price: 0,
-        quantity: 0,
-        display: 0,
-        reserve: 0,
-    };
+    let free = rules::NO_REGULAR;
     let mut r = [free; 128];
     let n = regulars_used(numbers);
     let mut i: usize = 0;
@@ -386,18 +378,7 @@ fn complexes_of(numbers: &[u32]) -> [Complex; 32]
     requires { ⌜ length (now numbers) ≡ size ⌝ }
     ensures { λ r. ⌜ r ≡ venueOf (now (numbers .entry)) .complex ⌝ }
 {
-    let free = Complex {
-        id: 0,
-        series1: 0,
-        side1: 0,
-        series2: 0,
-        side2: 0,
-        class: 0,
-        limit: 0,
-        quantity: 0,
-        ratio1: 0,
-        ratio2: 0,
-    };
+    let free = rules::NO_COMPLEX;
     let mut r = [free; 32];
     let n = complexes_used(numbers);
     let mut i: usize = 0;
@@ -414,11 +395,7 @@ fn leggings_of(numbers: &[u32]) -> [Legging; 16]
     requires { ⌜ length (now numbers) ≡ size ⌝ }
     ensures { λ r. ⌜ r ≡ venueOf (now (numbers .entry)) .legging ⌝ }
 {
-    let free = Legging {
-        parent: 0,
-        price: 0,
-        quantity: 0,
-    };
+    let free = rules::NO_LEGGING;
     let mut r = [free; 16];
     let mut i: usize = 0;
     while i < 16 {
@@ -434,11 +411,7 @@ fn series_of(numbers: &[u32]) -> [Listed; 8]
     requires { ⌜ length (now numbers) ≡ size ⌝ }
     ensures { λ r. ⌜ r ≡ venueOf (now (numbers .entry)) .series ⌝ }
 {
-    let free = Listed {
-        status: 0,
-        bid: 0,
-        offer: 0,
-    };
+    let free = rules::NOT_LISTED;
     let mut r = [free; 8];
     let mut i: usize = 0;
     while i < 8 {
@@ -454,12 +427,7 @@ fn editions_of(numbers: &[u32]) -> [Edition; 32]
     requires { ⌜ length (now numbers) ≡ size ⌝ }
     ensures { λ r. ⌜ r ≡ venueOf (now (numbers .entry)) .editions ⌝ }
 {
-    let free = Edition {
-        edition: 0,
-        message: 0,
-        figure: 0,
-        value: 0,
-    };
+    let free = rules::NO_EDITION;
     let mut r = [free; 32];
     let mut i: usize = 0;
     while i < 32 {
@@ -489,7 +457,7 @@ fn generations_of(numbers: &[u32]) -> [Generations; 8]
     requires { ⌜ length (now numbers) ≡ size ⌝ }
     ensures { λ r. ⌜ r ≡ venueOf (now (numbers .entry)) .generations ⌝ }
 {
-    let none = Generations { messages: [0; 20] };
+    let none = rules::NO_GENERATIONS;
     let mut r = [none; 8];
     let mut i: usize = 0;
     while i < 8 {

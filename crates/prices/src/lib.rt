@@ -193,18 +193,7 @@ pub fn parent_of(numbers: &[u32], l: Legging) -> Complex
         }
         i += 1;
     }
-    Complex {
-        id: 0,
-        series1: 0,
-        side1: 0,
-        series2: 0,
-        side2: 0,
-        class: 0,
-        limit: 0,
-        quantity: 0,
-        ratio1: 0,
-        ratio2: 0,
-    }
+    rules::NO_COMPLEX
 }
 
 // A series' status.

@@ -11,7 +11,6 @@ ghost use Rattle.records.specs.Stage.{stage, _does_};
 ghost use Rattle.places.specs.Layout.{size, venueOf, SameCounts};
 ghost use Rattle.removal.specs.Causes.{removePlace, verdictBy, verdictIn};
 use rules::Cause;
-use rules::Legging;
 use rules::Verdict;
 
 // What stands at place n goes; a free place stays as it is.
@@ -24,11 +23,7 @@ fn remove_place(numbers: &mut [u32], n: usize, cause: Cause, out: &mut [u8], at:
     if l.quantity == 0 {
         return at;
     }
-    let none = Legging {
-        parent: 0,
-        price: 0,
-        quantity: 0,
-    };
+    let none = rules::NO_LEGGING;
     place_writes::put_legging(numbers, n, none);
     records::emit_removed(out, at, l.parent, (n / 2) as u8, (n % 2) as u8, cause)
 }

@@ -126,3 +126,55 @@ pub enum Verdict {
     Stands,
     Fails(Cause),
 }
+
+// Free places (specs/Words.antt has the same names) ----------------------------------------------
+
+// A free place of the regular orders.
+pub const NO_REGULAR: Regular = Regular {
+    id: 0,
+    series: 0,
+    side: 0,
+    price: 0,
+    quantity: 0,
+    display: 0,
+    reserve: 0,
+};
+
+// A free place of the complex orders.
+pub const NO_COMPLEX: Complex = Complex {
+    id: 0,
+    series1: 0,
+    side1: 0,
+    series2: 0,
+    side2: 0,
+    class: 0,
+    limit: 0,
+    quantity: 0,
+    ratio1: 0,
+    ratio2: 0,
+};
+
+// A free legging place.
+pub const NO_LEGGING: Legging = Legging {
+    parent: 0,
+    price: 0,
+    quantity: 0,
+};
+
+// A closed series without away prices.
+pub const NOT_LISTED: Listed = Listed {
+    status: 0,
+    bid: 0,
+    offer: 0,
+};
+
+// A free place of the editions.
+pub const NO_EDITION: Edition = Edition {
+    edition: 0,
+    message: 0,
+    figure: 0,
+    value: 0,
+};
+
+// No generations.
+pub const NO_GENERATIONS: Generations = Generations { messages: [0; 20] };

@@ -103,15 +103,7 @@ fn regulars_told(memory: &[u8]) -> [Regular; 128]
     requires { ⌜ ReadableSet (now memory) ⌝ }
     ensures { λ r. ⌜ r ≡ venueTold (rowIn (now (memory .entry))) .regular ⌝ }
 {
-    let free = Regular {
-        id: 0,
-        series: 0,
-        side: 0,
-        price: 0,
-        quantity: 0,
-        display: 0,
-        reserve: 0,
-    };
+    let free = rules::NO_REGULAR;
     let mut l = [free; 128];
     let mut n: usize = 0;
     let mut at: usize = 0;
@@ -135,18 +127,7 @@ fn complexes_told(memory: &[u8]) -> [Complex; 32]
     requires { ⌜ ReadableSet (now memory) ⌝ }
     ensures { λ r. ⌜ r ≡ venueTold (rowIn (now (memory .entry))) .complex ⌝ }
 {
-    let free = Complex {
-        id: 0,
-        series1: 0,
-        side1: 0,
-        series2: 0,
-        side2: 0,
-        class: 0,
-        limit: 0,
-        quantity: 0,
-        ratio1: 0,
-        ratio2: 0,
-    };
+    let free = rules::NO_COMPLEX;
     let mut l = [free; 32];
     let mut n: usize = 0;
     let mut at: usize = 0;
@@ -170,12 +151,7 @@ fn editions_told(memory: &[u8]) -> [Edition; 32]
     requires { ⌜ ReadableSet (now memory) ⌝ }
     ensures { λ r. ⌜ r ≡ venueTold (rowIn (now (memory .entry))) .editions ⌝ }
 {
-    let free = Edition {
-        edition: 0,
-        message: 0,
-        figure: 0,
-        value: 0,
-    };
+    let free = rules::NO_EDITION;
     let mut l = [free; 32];
     let mut n: usize = 0;
     let mut at: usize = 0;
@@ -199,11 +175,7 @@ fn leggings_told(memory: &[u8]) -> [Legging; 16]
     requires { ⌜ ReadableSet (now memory) ⌝ }
     ensures { λ r. ⌜ r ≡ venueTold (rowIn (now (memory .entry))) .legging ⌝ }
 {
-    let free = Legging {
-        parent: 0,
-        price: 0,
-        quantity: 0,
-    };
+    let free = rules::NO_LEGGING;
     let mut l = [free; 16];
     let mut at: usize = 0;
     let mut size = size_at(memory, 0);
@@ -226,11 +198,7 @@ fn series_told(memory: &[u8]) -> [Listed; 8]
     requires { ⌜ ReadableSet (now memory) ⌝ }
     ensures { λ r. ⌜ r ≡ venueTold (rowIn (now (memory .entry))) .series ⌝ }
 {
-    let none = Listed {
-        status: 0,
-        bid: 0,
-        offer: 0,
-    };
+    let none = rules::NOT_LISTED;
     let mut l = [none; 8];
     let mut at = size_at(memory, 0);
     let mut s: usize = 0;
@@ -265,7 +233,7 @@ fn generations_told(memory: &[u8]) -> [Generations; 8]
     requires { ⌜ ReadableSet (now memory) ⌝ }
     ensures { λ r. ⌜ r ≡ venueTold (rowIn (now (memory .entry))) .generations ⌝ }
 {
-    let none = Generations { messages: [0; 20] };
+    let none = rules::NO_GENERATIONS;
     let mut l = [none; 8];
     let mut at: usize = 0;
     let mut size = size_at(memory, 0);

@@ -126,15 +126,7 @@ fn regulars_from(bytes: &[u8]) -> [Regular; 128]
     requires { ⌜ length (now bytes) ≡ venueSize ⌝ }
     ensures { λ r. ⌜ r ≡ venueFrom (now (bytes .entry)) .regular ⌝ }
 {
-    let free = Regular {
-        id: 0,
-        series: 0,
-        side: 0,
-        price: 0,
-        quantity: 0,
-        display: 0,
-        reserve: 0,
-    };
+    let free = rules::NO_REGULAR;
     let mut r = [free; 128];
     let mut i: usize = 0;
     while i < 128 {
@@ -152,18 +144,7 @@ fn complexes_from(bytes: &[u8]) -> [Complex; 32]
     requires { ⌜ length (now bytes) ≡ venueSize ⌝ }
     ensures { λ r. ⌜ r ≡ venueFrom (now (bytes .entry)) .complex ⌝ }
 {
-    let free = Complex {
-        id: 0,
-        series1: 0,
-        side1: 0,
-        series2: 0,
-        side2: 0,
-        class: 0,
-        limit: 0,
-        quantity: 0,
-        ratio1: 0,
-        ratio2: 0,
-    };
+    let free = rules::NO_COMPLEX;
     let mut r = [free; 32];
     let mut i: usize = 0;
     while i < 32 {
@@ -181,11 +162,7 @@ fn leggings_from(bytes: &[u8]) -> [Legging; 16]
     requires { ⌜ length (now bytes) ≡ venueSize ⌝ }
     ensures { λ r. ⌜ r ≡ venueFrom (now (bytes .entry)) .legging ⌝ }
 {
-    let free = Legging {
-        parent: 0,
-        price: 0,
-        quantity: 0,
-    };
+    let free = rules::NO_LEGGING;
     let mut r = [free; 16];
     let mut i: usize = 0;
     while i < 16 {
@@ -202,11 +179,7 @@ fn series_from(bytes: &[u8]) -> [Listed; 8]
     requires { ⌜ length (now bytes) ≡ venueSize ⌝ }
     ensures { λ r. ⌜ r ≡ venueFrom (now (bytes .entry)) .series ⌝ }
 {
-    let free = Listed {
-        status: 0,
-        bid: 0,
-        offer: 0,
-    };
+    let free = rules::NOT_LISTED;
     let mut r = [free; 8];
     let mut i: usize = 0;
     while i < 8 {
@@ -223,12 +196,7 @@ fn editions_from(bytes: &[u8]) -> [Edition; 32]
     requires { ⌜ length (now bytes) ≡ venueSize ⌝ }
     ensures { λ r. ⌜ r ≡ venueFrom (now (bytes .entry)) .editions ⌝ }
 {
-    let free = Edition {
-        edition: 0,
-        message: 0,
-        figure: 0,
-        value: 0,
-    };
+    let free = rules::NO_EDITION;
     let mut r = [free; 32];
     let mut i: usize = 0;
     while i < 32 {
@@ -245,7 +213,7 @@ fn all_generations_from(bytes: &[u8]) -> [Generations; 8]
     requires { ⌜ length (now bytes) ≡ venueSize ⌝ }
     ensures { λ r. ⌜ r ≡ venueFrom (now (bytes .entry)) .generations ⌝ }
 {
-    let none = Generations { messages: [0; 20] };
+    let none = rules::NO_GENERATIONS;
     let mut r = [none; 8];
     let mut i: usize = 0;
     while i < 8 {
