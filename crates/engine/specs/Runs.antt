@@ -10,7 +10,9 @@ use Rattle.rules.specs.Records.{Report, encodeAll}
 use Rattle.rules.specs.declared.Returned.{Returned}
 use Rattle.rules.specs.Calls.{Outcome, Call, ends, runFrom}
 use Rattle.demands.specs.Kept.{SoundAt}
-use Rattle.places.specs.Layout.{venueOf, Dense}
+use Rattle.places.specs.Layout.{size, venueOf, Dense}
+use Rattle.reader.specs.declared.Head.{Head}
+use Rattle.reader.specs.Head.{headAt}
 use Rattle.engine.specs.declared.RunProgress.{RunProgress}
 
 -- an outcome after k messages and their records
@@ -29,6 +31,15 @@ pub record Turned (before : Outcome) (done written : ℕ) (l₀ : List ℕ) (num
   pub within : written′ ≤ length l₀
   pub counted : done ≤ done′
   pub is : before ≡ onto (done′ - done) records (goesOn number (venueOf b) rest)
+
+-- what a turn of a run asks: a sound venue, a message or what is torn at the position, and room
+pub record RunReady (t : RunProgress) (head : Head) (b m l : List ℕ) : Type 0 where
+  pub slice : length b ≡ size
+  pub dense : Dense b
+  pub sound : SoundAt (suc (t .done)) (venueOf b)
+  pub ahead : t .at < length m
+  pub within : t .written ≤ length l
+  pub headed : head ≡ headAt m (t .at)
 
 -- from turn t of a run to turn r
 pub record Advances (m : List ℕ) (t : RunProgress) (b₀ l₀ : List ℕ) (r : RunProgress) (b l : List ℕ) : Type 0 where

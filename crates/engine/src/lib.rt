@@ -3,14 +3,10 @@ use reader::Head;
 use rules::Returned;
 use rules::Venue;
 ghost use mathlib.Core.Path.{_≡_};
-ghost use Prim.Native.Nat.{suc, _≤_, _<_};
 ghost use lib.ListN.{length};
 ghost use Rattle.rules.specs.Calls.{called, ends};
 ghost use Rattle.rules.specs.Calls as calls;
-ghost use Rattle.demands.specs.Kept.{SoundAt};
-ghost use Rattle.reader.specs.Head.{headAt};
-ghost use Rattle.places.specs.Layout.{size, venueOf, Dense};
-ghost use Rattle.engine.specs.Runs.{Advances, callOf};
+ghost use Rattle.engine.specs.Runs.{RunReady, Advances, callOf};
 
 // A run -----------------------------------------------------------------------------------------
 
@@ -30,7 +26,7 @@ fn advance(
     messages: &[u8],
     report: &mut [u8],
 ) -> RunProgress
-    requires { ⌜ (length (now numbers) ≡ size) × (Dense (now numbers)) × (SoundAt (suc (t .done)) (venueOf (now numbers))) × (t .at < length (now messages)) × (t .written ≤ length (now report)) × (head ≡ headAt (now messages) (t .at)) ⌝ }
+    requires { ⌜ RunReady t head (now numbers) (now messages) (now report) ⌝ }
     ensures { λ r. ⌜ Advances (now (messages .entry)) t (now (numbers .entry)) (now (report .entry)) r (now (numbers .exit)) (now (report .exit)) ⌝ }
 {
     let at = t.at;

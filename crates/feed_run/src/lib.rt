@@ -2,14 +2,10 @@
 use rules::Returned;
 ghost use mathlib.Core.Path.{_≡_};
 ghost use mathlib.Core.Bool.{true};
-ghost use Prim.Native.Nat.{suc, _+_, _≤_, _<_};
-ghost use lib.ListN.{length, drop};
-ghost use Rattle.demands.specs.Kept.{SoundAt};
-ghost use Rattle.places.specs.Layout.{size, venueOf, Dense};
-ghost use Rattle.feed.specs.Cursors.{ready};
+ghost use lib.ListN.{length};
 ghost use Rattle.feed.specs.Feed as feeding;
 ghost use Rattle.engine.specs.Runs.{callOf};
-ghost use Rattle.feed_run.specs.Feeds.{stopsAt, Feeds};
+ghost use Rattle.feed_run.specs.Feeds.{stopsAt, FeedReady, Feeds};
 
 // Two lines of one feed --------------------------------------------------------------------------
 
@@ -43,7 +39,7 @@ fn hand_out<'a>(
     spare: &'a [u8],
     report: &mut [u8],
 ) -> FeedProgress
-    requires { ⌜ (length (now numbers) ≡ size) × (Dense (now numbers)) × (SoundAt (suc (t .done)) (venueOf (now numbers))) × (t .written ≤ length (now report)) × (ready (t .done) (drop (t .main) (now main)) ≡ true) × (ready (t .done) (drop (t .spare) (now spare)) ≡ true) × (t .main ≤ length (now main)) × (t .spare ≤ length (now spare)) × (t .main + t .spare < length (now main) + length (now spare)) ⌝ }
+    requires { ⌜ FeedReady t (now numbers) (now main) (now spare) (now report) ⌝ }
     ensures { λ r. ⌜ Feeds (now (main .entry)) (now (spare .entry)) t (now (numbers .entry)) (now (report .entry)) r (now (numbers .exit)) (now (report .exit)) ⌝ }
 {
     let at = t.main;

@@ -1,6 +1,6 @@
 -- What a step leaves of the venue's slice and of the report memory.
 use mathlib.Core.Path.{_≡_}
-use mathlib.Core.Bool.{not}
+use mathlib.Core.Bool.{not, true}
 use mathlib.Core.List.{List}
 use Prim.Native.Nat.{ℕ, _≤_, _<_}
 use lib.Dec.{eqb}
@@ -13,7 +13,10 @@ use Rattle.rules.specs.Refusals.{refusalOf}
 use Rattle.rules.specs.Step.{StepOutcome, answered, accept}
 use Rattle.records.specs.Seen.{seen, _writes_}
 use Rattle.records.specs.Stage.{stage, _does_}
-use Rattle.places.specs.Layout.{venueOf, Dense}
+use Rattle.places.specs.Layout.{size, venueOf, Dense}
+use Rattle.rules.proofs.Refusing.{wellFormed}
+use Rattle.demands.specs.Kept.{SoundVenue}
+use Rattle.wire.specs.Brought.{Shows}
 use Rattle.messages.specs.declared.Stepped.{Stepped}
 
 -- the answer to a message whose fields are in range
@@ -21,6 +24,15 @@ unfoldable pub answeredBy : Venue → (number : ℕ) → Message → StepOutcome
 answeredBy v number m =
     let x = refusalOf v m in
     answered number x (if eqb x 0 then accept number m v else nothing v)
+
+-- what a message that is accepted brings: a sound venue without gaps, which does not refuse it, and fields in their ranges
+pub record Acceptable (b : List ℕ) (m : Message) : Type 0 where
+  pub slice : length b ≡ size
+  pub dense : Dense b
+  pub formed : wellFormed m ≡ true
+  pub taken : refusalOf (venueOf b) m ≡ 0
+  pub sound : SoundVenue (venueOf b)
+  pub shows : Shows m
 
 -- the answered message, done: its venue, its records from the start of the memory, and no gaps left
 pub record Steps (a : StepOutcome) (out₀ : List ℕ) (r : Stepped) (b out : List ℕ) : Type 0 where

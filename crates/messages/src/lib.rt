@@ -28,7 +28,7 @@ ghost use Rattle.records.specs.Stage.{stage, _does_};
 ghost use Rattle.wire.specs.Brought.{Shows};
 ghost use Rattle.places.specs.Layout.{size, regularsUsed, complexesUsed, venueOf, Right, Below, SameCounts, Dense};
 ghost use Rattle.levels.specs.Grid.{LegsIn};
-ghost use Rattle.messages.specs.Steps.{answeredBy, Steps, Tries};
+ghost use Rattle.messages.specs.Steps.{answeredBy, Acceptable, Steps, Tries};
 
 // What an accepted message does ---------------------------------------------------------------
 
@@ -126,7 +126,7 @@ fn perform_later(numbers: &mut [u32], number: u32, m: Message, out: &mut [u8], a
 
 // What a message of this number that is not refused does, by its form, in parts as in `wire::in_range`.
 fn perform(numbers: &mut [u32], number: u32, m: Message, out: &mut [u8], at: usize) -> usize
-    requires { ⌜ (length (now numbers) ≡ size) × (Dense (now numbers)) × (wellFormed m ≡ true) × (refusalOf (venueOf (now numbers)) m ≡ 0) × (SoundVenue (venueOf (now numbers))) × (Shows m) ⌝ }
+    requires { ⌜ Acceptable (now numbers) m ⌝ }
     ensures { λ r. ⌜ stage (venueOf (now (numbers .exit))) (now (out .exit)) r ≡ seen (now (out .entry)) at does step.perform number m (venueOf (now (numbers .entry))) ⌝ }
     ensures right { λ _. ⌜ Right (now (numbers .exit)) ⌝ }
 {
@@ -151,7 +151,7 @@ fn perform(numbers: &mut [u32], number: u32, m: Message, out: &mut [u8], at: usi
 
 // The same, and then the gaps that it left are closed.
 fn accept(numbers: &mut [u32], number: u32, m: Message, out: &mut [u8], at: usize) -> usize
-    requires { ⌜ (length (now numbers) ≡ size) × (Dense (now numbers)) × (wellFormed m ≡ true) × (refusalOf (venueOf (now numbers)) m ≡ 0) × (SoundVenue (venueOf (now numbers))) × (Shows m) ⌝ }
+    requires { ⌜ Acceptable (now numbers) m ⌝ }
     ensures { λ r. ⌜ stage (venueOf (now (numbers .exit))) (now (out .exit)) r ≡ seen (now (out .entry)) at does step.accept number m (venueOf (now (numbers .entry))) ⌝ }
     ensures dense { λ _. ⌜ Dense (now (numbers .exit)) ⌝ }
 {
@@ -181,7 +181,7 @@ fn refuse(numbers: &[u32], number: u32, refused: u8, out: &mut [u8]) -> Stepped
 
 // An accepted message: the answer's record first, then its effects; mask and count are set last.
 fn answer_accepted(numbers: &mut [u32], number: u32, m: Message, out: &mut [u8]) -> Stepped
-    requires { ⌜ (length (now numbers) ≡ size) × (Dense (now numbers)) × (wellFormed m ≡ true) × (refusalOf (venueOf (now numbers)) m ≡ 0) × (SoundVenue (venueOf (now numbers))) × (Shows m) ⌝ }
+    requires { ⌜ Acceptable (now numbers) m ⌝ }
     ensures { λ r. ⌜ Steps (answered number 0 (step.accept number m (venueOf (now (numbers .entry))))) (now (out .entry)) r (now (numbers .exit)) (now (out .exit)) ⌝ }
 {
     let at = records::emit_answer(out, 0, number, 0, 0, 0);

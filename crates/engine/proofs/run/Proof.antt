@@ -41,7 +41,7 @@ slice-aggregate-advance c = let e = c .before .before .before .loop .inv .sofar 
 
 advance-requires : tie.Need-advance-requires Inv-loop μ-loop
 advance-requires c κs = let g = c .before .before .before .before .loop .inv in let w = g .sofar .within in let e = g .sofar .len in
-    (g .sofar .slice, g .dense, g .sound, ahead (c .before .before), omega arith, c .before .before .before .message-head .ensures)
+    record { slice = g .sofar .slice; dense = g .dense; sound = g .sound; ahead = ahead (c .before .before); within = omega arith; headed = c .before .before .before .message-head .ensures }
 
 loop-less : tie.Need-loop-less Inv-loop μ-loop
 loop-less c = let v = c .before .before .before .before .before .advance .ensures .moved (c .if1 .left) in let p = v .0 in let q = v .1 in omega arith

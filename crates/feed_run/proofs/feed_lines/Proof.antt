@@ -45,17 +45,17 @@ slice-aggregate-hand-out : tie.Need-slice-aggregate-hand-out Inv-loop μ-loop
 slice-aggregate-hand-out c = let e = c .before .before .before .loop .inv .sofar .slice in search needs
 
 hand-out-requires : tie.Need-hand-out-requires Inv-loop μ-loop
-hand-out-requires c κs = let g = c .before .before .before .before .loop .inv in let w = g .sofar .within in let e = g .sofar .len in (
-  g .sofar .slice,
-  g .dense,
-  g .sound,
-  omega arith,
-  ahead-ready _ _ _ (g .on-main),
-  ahead-ready _ _ _ (g .on-spare),
-  g .main-in,
-  g .spare-in,
-  ahead (c .before .before),
-)
+hand-out-requires c κs = let g = c .before .before .before .before .loop .inv in let w = g .sofar .within in let e = g .sofar .len in record {
+  slice = g .sofar .slice;
+  dense = g .dense;
+  sound = g .sound;
+  within = omega arith;
+  main-ready = ahead-ready _ _ _ (g .on-main);
+  spare-ready = ahead-ready _ _ _ (g .on-spare);
+  main-in = g .main-in;
+  spare-in = g .spare-in;
+  left = ahead (c .before .before);
+}
 
 loop-less : tie.Need-loop-less Inv-loop μ-loop
 loop-less c = let v = c .before .before .before .before .before .hand-out .ensures .moved (c .if2 .left) in let p = v .3 in

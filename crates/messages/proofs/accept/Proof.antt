@@ -10,7 +10,7 @@ close-gaps-requires : tie.Need-close-gaps-requires
 close-gaps-requires c κs =
     let p5 = c .before .before .before .before .before in
     let s = p5 .before .before .before .before .before in
-    (p5 .perform .kept .0 ∙ s .pre .0, p5 .perform .ensures .1)
+    (p5 .perform .kept .0 ∙ s .pre .slice, p5 .perform .ensures .1)
 
 returns : tie.Need-returns
 returns c = let s = c .before .before .before .before .before .before .before .before .before .before .before .before .before in

@@ -11,7 +11,7 @@ mask-of-requires : tie.Need-mask-of-requires
 mask-of-requires c κs =
     let p5 = c .before .before .before .before .before in
     let s = p5 .before .before .before .before .before .before .before .before .before in
-    (p5 .accept .kept .0 ∙ s .pre .0, p5 .accept .ensures .1 .right)
+    (p5 .accept .kept .0 ∙ s .pre .slice, p5 .accept .ensures .1 .right)
 
 returns : tie.Need-returns
 unfolding answered

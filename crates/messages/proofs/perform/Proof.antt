@@ -19,34 +19,34 @@ use Rattle.messages.proofs.perform.Tie as tie
 
 perform-later-requires : tie.Need-perform-later-requires
 perform-later-requires c κs = let s = c .before .before .before .before .before .before in let e = c .before .before .before .message-form .ensures in
-    (s .pre .0, omega arith, s .pre .2, s .pre .3, s .pre .1, s .pre .4)
+    (s .pre .slice, omega arith, s .pre .formed, s .pre .taken, s .pre .dense, s .pre .sound)
 
 returns : tie.Need-returns
 returns c = let s = c .before .before .before .before .before .before .before .before .before .before .before in
-    let k = c .before .before .before .before .perform-later .ensures in (k .0, k .1 .right (s .pre .1 .right))
+    let k = c .before .before .before .before .perform-later .ensures in (k .0, k .1 .right (s .pre .dense .right))
 
 enter-order-requires : tie.Need-enter-order-requires
 unfolding wellFormed Shows
 enter-order-requires c κs =
     let s = c .before .before .before .before .before .before .before .before .before .before in
     let e = c .before .before .before .m .given .1 in
-    let r = sym (ap (refusalOf (venueOf (s .args .numbers .now))) e) ∙ s .pre .3 in
-    (s .pre .0, s .pre .1, order-room _ (s .pre .1) _ r, sym (ap wellFormed e) ∙ s .pre .2, s .pre .5 _ e, order-below (venueOf (s .args .numbers .now)) _ r (s .pre .4 .is))
+    let r = sym (ap (refusalOf (venueOf (s .args .numbers .now))) e) ∙ s .pre .taken in
+    (s .pre .slice, s .pre .dense, order-room _ (s .pre .dense) _ r, sym (ap wellFormed e) ∙ s .pre .formed, s .pre .shows _ e, order-below (venueOf (s .args .numbers .now)) _ r (s .pre .sound .is))
 
 enter-complex-requires : tie.Need-enter-complex-requires
 unfolding wellFormed
 enter-complex-requires c κs = let s = c .before .before .before .before .before .before .before .before .before .before in
     let e = c .before .before .before .m2 .given .1 in (
-      s .pre .0,
-      s .pre .1,
-      complex-room _ (s .pre .1) _ (sym (ap (refusalOf (venueOf (s .args .numbers .now))) e) ∙ s .pre .3),
-      legs-in _ (sym (ap wellFormed e) ∙ s .pre .2),
+      s .pre .slice,
+      s .pre .dense,
+      complex-room _ (s .pre .dense) _ (sym (ap (refusalOf (venueOf (s .args .numbers .now))) e) ∙ s .pre .taken),
+      legs-in _ (sym (ap wellFormed e) ∙ s .pre .formed),
     )
 
 cancel-requires : tie.Need-cancel-requires
 cancel-requires c κs = let s = c .before .before .before .before .before .before .before .before .before .before in
     let e = c .before .before .before .m3 .given .1 in
-    (s .pre .0, s .pre .1, cancel-known _ _ (sym (ap (refusalOf (venueOf (s .args .numbers .now))) e) ∙ s .pre .3))
+    (s .pre .slice, s .pre .dense, cancel-known _ _ (sym (ap (refusalOf (venueOf (s .args .numbers .now))) e) ∙ s .pre .taken))
 
 returns-2 : tie.Need-returns-2
 unfolding perform
@@ -72,7 +72,7 @@ returns-4 c = let s = c .before .before .before .before .before .before .before 
     let k = c .before .before .before .before .cancel .ensures in (
       k .0 ∙ ap (λ (x : Message). seen (s .args .out .now) (s .args .at) does perform (s .args .number) x (venueOf (s .args .numbers .now)))
           (sym (c .before .before .before .before .before .before .before .before .m3 .given .1)),
-      k .1 .right (s .pre .1 .right),
+      k .1 .right (s .pre .dense .right),
     )
 
 returns-5 : tie.Need-returns-5
@@ -80,14 +80,14 @@ returns-5 c = let k = kinds-left (c .before .before .before .before .before .bef
 
 set-away-requires : tie.Need-set-away-requires
 set-away-requires c κs = let s = c .before .before .before .before .before .before .before .before .before .before in
-    let e = c .before .before .before .m4 .given .1 in (s .pre .0, away-series _ _ _ (sym (ap wellFormed e) ∙ s .pre .2), s .pre .1 .right)
+    let e = c .before .before .before .m4 .given .1 in (s .pre .slice, away-series _ _ _ (sym (ap wellFormed e) ∙ s .pre .formed), s .pre .dense .right)
 
 set-status-requires : tie.Need-set-status-requires
 set-status-requires c κs = let s = c .before .before .before .before .before .before .before .before .before .before in
-    let e = c .before .before .before .m5 .given .1 in (s .pre .0, status-series _ _ (sym (ap wellFormed e) ∙ s .pre .2), s .pre .1 .right)
+    let e = c .before .before .before .m5 .given .1 in (s .pre .slice, status-series _ _ (sym (ap wellFormed e) ∙ s .pre .formed), s .pre .dense .right)
 
 sweep-requires : tie.Need-sweep-requires
-sweep-requires c κs = let s = c .before .before .before .before .before .before .before .before in (s .pre .0, s .pre .1 .right, sound-rising _ (s .pre .4 .is))
+sweep-requires c κs = let s = c .before .before .before .before .before .before .before .before in (s .pre .slice, s .pre .dense .right, sound-rising _ (s .pre .sound .is))
 
 returns-6 : tie.Need-returns-6
 unfolding perform
@@ -95,7 +95,7 @@ returns-6 c = let s = c .before .before .before .before .before .before .before 
     let k = c .before .before .before .before .set-away .ensures in (
       k .0 ∙ ap (λ (x : Message). seen (s .args .out .now) (s .args .at) does perform (s .args .number) x (venueOf (s .args .numbers .now)))
           (sym (c .before .before .before .before .before .before .before .before .m4 .given .1)),
-      k .1 .right (s .pre .1 .right),
+      k .1 .right (s .pre .dense .right),
     )
 
 returns-7 : tie.Need-returns-7
@@ -104,7 +104,7 @@ returns-7 c = let s = c .before .before .before .before .before .before .before 
     let k = c .before .before .before .before .set-status .ensures in (
       k .0 ∙ ap (λ (x : Message). seen (s .args .out .now) (s .args .at) does perform (s .args .number) x (venueOf (s .args .numbers .now)))
           (sym (c .before .before .before .before .before .before .before .before .m5 .given .1)),
-      k .1 .right (s .pre .1 .right),
+      k .1 .right (s .pre .dense .right),
     )
 
 returns-8 : tie.Need-returns-8
@@ -114,7 +114,7 @@ returns-8 c = let s = c .before .before .before .before .before .before .before 
     let sweeps = sweep-left (s .args .m) (c .before .before .before .before .before .before .before .match2 .keys3) (omega arith) (omega arith) in
     let k = c .before .before .before .before .sweep .ensures in (
       k .0 ∙ ap (λ (x : Message). seen (s .args .out .now) (s .args .at) does perform (s .args .number) x (venueOf (s .args .numbers .now))) (sym sweeps),
-      k .1 .right (s .pre .1 .right),
+      k .1 .right (s .pre .dense .right),
     )
 
 pub perform-spec : {M : Type 1} → statement M
