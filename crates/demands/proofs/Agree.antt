@@ -1,33 +1,75 @@
 -- A run and one-message calls agree, call by call; and a call reads one message.
-use mathlib.Core.Path.{_∙_, _≡_, ap, refl, sym}
+use mathlib.Core.Path.{_∙_, _≡_, ap, refl, subst, sym}
 use mathlib.Core.Logic.{_≢_}
-use mathlib.Core.Bool.{false, true, true≢false}
+use mathlib.Core.Bool.{Bool, false, true, true≢false}
 use mathlib.Core.List.{List, [], _++_, _∷_, append-assoc, append-nil}
 use Prim.Native.Nat.{_*_, _+_, _-_, _<_, _≤_, suc, zero, ℕ}
+use native.Mathlib.Decide.{decLe}
 use native.Mathlib.Nat.{add-zero}
 use native.Mathlib.Numerals.{add-one}
 use native.Mathlib.Omega.{arith}
-use lib.ListN.{drop, length, length-append, length-drop}
-use lib.Seq.{take-append-seam}
+use lib.Dec.{eqb}
+use lib.ListN.{drop, length, length-append, length-drop, take}
+use lib.Seq.{length-take-le, take-all, take-append-seam}
+use borrow.Author.Tests.{eqb-true, lt-ltb}
 use Rattle.rules.specs.declared.Venue.{Venue}
 use Rattle.rules.specs.Words.{freshVenue}
 use Rattle.rules.specs.Bytes.{lengthField}
 use Rattle.rules.specs.Records.{Report, encodeAll, sheet}
 use Rattle.rules.specs.Effects.{Effect}
-use Rattle.rules.specs.Refusals.{torn}
+use Rattle.rules.specs.Refusals.{refusal, torn}
+use Rattle.rules.specs.Sound.{follows, sound}
 use Rattle.rules.specs.Step.{step}
 use Rattle.rules.specs.Calls.{Outcome, after, called, ends, exceeds, one, oneFrom, run, runFrom}
-use Rattle.demands.specs.Agree.{Agree, Ended, Enough, NeverFills, Progress, ReadsOne, atEnd, atFull, atTorn, begun, byCalls, onward, wrote}
+use Rattle.demands.specs.Agree.{Agree, Ended, NeverFills, NoneFull, Progress, ReadsOne, atEnd, atFull, atTorn, begun, byCalls, onward, wrote}
 use Rattle.demands.specs.Kept.{SoundAt}
 use Rattle.demands.specs.Most.{most}
-use Rattle.rules.proofs.Calling.{encode-append, no-bytes, not-exceeds, oneFrom-done, runFrom-by, torn-not}
+use Rattle.rules.proofs.Calling.{encode-append, no-bytes, not-exceeds, oneFrom-by, runFrom-by, torn-not}
 use Rattle.rules.proofs.Front.{reads-one}
-use Rattle.rules.proofs.Refusing.{whole}
+use Rattle.rules.proofs.Refusing.{not-torn, whole, whole-in}
+use Rattle.rules.proofs.Tests.{and-in}
 use Rattle.demands.proofs.Calls.{fresh-sound, kept}
 use Rattle.demands.proofs.Most.{writes-at-most}
 
+-- A call reads one message --------------------------------------------------------------------
+
+torn-refused : (v : Venue) (bs : List ℕ) → torn bs ≡ true → refusal v bs ≡ 1
+torn-refused v bs t = go (eqb (refusal v bs) 1) refl
+  where
+    go : (b : Bool) → eqb (refusal v bs) 1 ≡ b → refusal v bs ≡ 1
+    go true e = eqb-true (refusal v bs) 1 e
+    go false e = absurd (true≢false (sym t ∙ not-torn v bs e))
+
+-- torn bytes are refused alike
+torn-same : (v : Venue) (number : ℕ) (bs cs : List ℕ) → torn bs ≡ true → torn cs ≡ true → step v number bs ≡ step v number cs
+unfolding step
+torn-same v number bs cs t u = rw (torn-refused v bs t, torn-refused v cs u)
+
+-- so are those of a length below 4, whatever stands behind them
+torn-short : (bs : List ℕ) → torn bs ≡ true → lengthField bs < length bs → torn (take (lengthField bs) bs) ≡ true
+unfolding torn
+torn-short bs t lt =
+    let n = length-take-le (lengthField bs) bs (omega arith) in
+    rw (lt-ltb (length (take (lengthField bs) bs)) 4 (omega (arith, short)))
+  where
+    short : lengthField bs < 4
+    short = elim (decLe 4 (lengthField bs)) [
+      | yes le ↦ absurd (true≢false (sym t ∙ unfold torn in (whole-in bs (le, omega arith))))
+      | no gt ↦ omega arith
+    ]
+
 pub one-read : ReadsOne
-one-read = reads-one
+unfolding one oneFrom
+one-read v before room bs = go (torn bs) refl
+  where
+    go : (b : Bool) → torn bs ≡ b → one v before room bs ≡ one v before room (take (lengthField bs) bs)
+    go false e = reads-one v before room bs e
+    go true e = elim (decLe (length bs) (lengthField bs)) [
+      | yes le ↦ ap (one v before room) (sym (take-all (lengthField bs) bs le))
+      | no gt ↦ rw (torn-same v (suc before) bs (take (lengthField bs) bs) e (torn-short bs e (omega arith)))
+    ]
+
+-- Calls one after another ---------------------------------------------------------------------
 
 -- what a call wrote is its records' bytes
 pub wrote-is : (room : ℕ) (o : Outcome) → wrote (called room o) ≡ encodeAll (o .reports)
@@ -77,24 +119,25 @@ module _ (v : Venue) (n room : ℕ) (bs : List ℕ) (s : SoundAt (suc n) v) (x :
   unfolding onward called after ends
   called-on r y f = rw (wrote-is r (after f (ends y (f .venue))), append-nil (f .reports), add-one n)
 
-  pub moved : (r : ℕ) → most ≤ r → Done → onward here (one v n r bs) ≡ there
-  unfolding one
-  moved r enough e =
-      let w = writes-at-most v (s .venue) (suc n) bs in
-      let few = e .0 in
-      let f = not-exceeds (suc n) r reports (omega arith) (omega arith) in
-      ap (λ (o : Outcome). onward here (called r o)) (oneFrom-done v n r bs (s .venue .is) (s .next) f) ∙ called-on r (step v (suc n) bs .refused) (step v (suc n) bs .effect)
+  -- a call that is not ended by 10 does the message
+  pub moved : (r : ℕ) → one v n r bs .returned .number ≢ 10 → onward here (one v n r bs) ≡ there
+  unfolding one called ends
+  moved r =
+      oneFrom-by (λ o. o .number ≢ 10 → onward here (called r o) ≡ there) v n r bs
+      (λ u _. absurd (true≢false (sym (and-in (sound v) (follows (suc n) v) (s .venue .is) (s .next)) ∙ u)))
+      (λ _ _ k. absurd (k refl))
+      (λ _ _ _. called-on r (step v (suc n) bs .refused) (step v (suc n) bs .effect))
 
   same-room : Done → room - size + length (b ++ encodeAll reports) ≡ room + length b
   same-room e = let h = e .1 in rw (length-append b (encodeAll reports)) (omega arith)
 
   -- and the same message done by the run
-  joins : (r : ℕ) → most ≤ r → Done → (o : Outcome) (rooms : List ℕ) →
+  joins : (r : ℕ) → one v n r bs .returned .number ≢ 10 → Done → (o : Outcome) (rooms : List ℕ) →
       Follows (suc n) (room - size) (b ++ encodeAll reports) o (byCalls rooms there) →
       Follows n room b (after (step v (suc n) bs .effect) o) (byCalls (r ∷ rooms) here)
   unfolding after byCalls
-  joins r enough e o rooms f =
-      rw (moved r enough e) (record {
+  joins r holds e o rooms f =
+      rw (moved r holds) (record {
         done = let d = f .done in omega arith;
         venue = f .venue;
         bytes = f .bytes ∙ rw (encode-append reports (o .reports)) (append-assoc b (encodeAll reports) (encodeAll (o .reports)));
@@ -113,42 +156,45 @@ back a b = omega arith
 -- what a run with this fuel does, calls do
 abbrev Followed : (fuel : ℕ) → Type 0
 Followed fuel = (v : Venue) (n room : ℕ) (bs : List ℕ) (s : SoundAt (suc n) v) → length bs ≤ fuel → (x : ℕ) (b : List ℕ) → x ≢ 1 →
-    (rooms : List ℕ) → Enough rooms → length rooms ≡ runFrom fuel v n room bs .done → Follows n room b (runFrom fuel v n room bs) (byCalls rooms (here v n room bs s x b))
+    (rooms : List ℕ) → NoneFull rooms (here v n room bs s x b) → length rooms ≡ runFrom fuel v n room bs .done →
+    Follows n room b (runFrom fuel v n room bs) (byCalls rooms (here v n room bs s x b))
 
 -- one message more, by what the run does then
 module _ (v : Venue) (n room : ℕ) (bs : List ℕ) (s : SoundAt (suc n) v) (x : ℕ) (b : List ℕ) where
   -- as many calls as o has messages do what o does
   abbrev FollowedBy : Outcome → Type 0
-  FollowedBy o = (rooms : List ℕ) → Enough rooms → length rooms ≡ o .done → Follows n room b o (byCalls rooms (here v n room bs s x b))
+  FollowedBy o = (rooms : List ℕ) → NoneFull rooms (here v n room bs s x b) → length rooms ≡ o .done → Follows n room b o (byCalls rooms (here v n room bs s x b))
 
   -- the message is done, and then the rest
   done-follows : Done v n room bs s x b → (o : Outcome) →
-      ((rooms : List ℕ) → Enough rooms → length rooms ≡ o .done → Follows (suc n) (room - size v n room bs s x b) (b ++ encodeAll (reports v n room bs s x b)) o (byCalls rooms (there v n room bs s x b))) →
+      ((rooms : List ℕ) → NoneFull rooms (there v n room bs s x b) → length rooms ≡ o .done →
+      Follows (suc n) (room - size v n room bs s x b) (b ++ encodeAll (reports v n room bs s x b)) o (byCalls rooms (there v n room bs s x b))) →
       FollowedBy (after (step v (suc n) bs .effect) o)
   unfolding after
-  done-follows d o rest [] enough h = absurd (omega arith)
-  done-follows d o rest (r ∷ rs) enough h = joins v n room bs s x b r (enough .0) d o rs (rest rs (enough .1) (omega arith))
+  done-follows d o rest [] holds h = absurd (omega arith)
+  done-follows d o rest (r ∷ rs) holds h =
+      joins v n room bs s x b r (holds .0) d o rs (rest rs (subst (NoneFull rs) (moved v n room bs s x b r (holds .0)) (holds .1)) (omega arith))
 
 -- what is left is shorter
 pub shorter : (fuel : ℕ) (bs : List ℕ) → length bs ≤ suc fuel → torn bs ≡ false → length (drop (lengthField bs) bs) ≤ fuel
 shorter fuel bs le t = let w = whole bs t in rw (length-drop (lengthField bs) bs) (omega arith)
 
 followed : (fuel : ℕ) → Followed fuel
-followed zero v n room bs s le x b not-one = unfold runFrom in (λ rooms enough h. stops n room b 0 v _ refl refl refl (atEnd not-one (no-bytes bs (omega arith))) rooms h)
+followed zero v n room bs s le x b not-one = unfold runFrom in (λ rooms _ h. stops n room b 0 v _ refl refl refl (atEnd not-one (no-bytes bs (omega arith))) rooms h)
 followed (suc fuel) v n room bs s le x b not-one =
     runFrom-by (FollowedBy v n room bs s x b) v n room bs fuel
     (λ e rooms _ h. stops n room b 0 v _ refl refl refl (atEnd not-one (no-bytes bs e)) rooms h)
     (λ _ e rooms _ h. stops n room b 10 v _ refl refl refl (atFull not-one (rw (back room (length b)) (full-too v n room bs s e))) rooms h)
     (λ d t. done-follows v n room bs s x b d _ (λ rooms _ h. stops (suc n) _ _ 1 _ _ refl refl refl (atTorn t) rooms h))
     (λ d t. done-follows v n room bs s x b d _
-    (λ rooms enough h.
-    followed fuel _ (suc n) _ _ (kept v (suc n) (d .0) s bs) (shorter fuel bs le (torn-not v n bs t)) (step v (suc n) bs .refused) _ t rooms enough h))
+    (λ rooms holds h.
+    followed fuel _ (suc n) _ _ (kept v (suc n) (d .0) s bs) (shorter fuel bs le (torn-not v n bs t)) (step v (suc n) bs .refused) _ t rooms holds h))
 
 pub agree : Agree
 unfolding run called begun
-agree room bs rooms enough h =
+agree room bs rooms holds h =
     let o = runFrom (length bs) freshVenue 0 room bs in
-    let f = followed (length bs) freshVenue 0 room bs fresh-sound (omega arith) 0 [] (λ e. omega arith) rooms enough h in
+    let f = followed (length bs) freshVenue 0 room bs fresh-sound (omega arith) 0 [] (λ e. omega arith) rooms holds h in
     record {
       done = let d = f .done in omega arith;
       venue = f .venue;

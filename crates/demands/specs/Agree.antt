@@ -1,23 +1,20 @@
 -- The two calls agree: what a run does, one-message calls upon fresh do, one after another, given the same messages.
 use mathlib.Core.Path.{_≡_}
 use mathlib.Core.Logic.{_≢_}
-use mathlib.Core.Bool.{false}
 use mathlib.Core.List.{List, [], _∷_, _++_}
 use Prim.Native.Nat.{ℕ, _+_, _-_, _*_, _≤_}
 use lib.ListN.{length, take, drop}
 use Rattle.rules.specs.declared.Venue.{Venue}
 use Rattle.rules.specs.Words.{freshVenue}
 use Rattle.rules.specs.Bytes.{lengthField}
-use Rattle.rules.specs.Refusals.{torn}
 use Rattle.rules.specs.Calls.{Call, run, one}
 use Rattle.demands.specs.Most.{most}
 
 -- A call reads one message --------------------------------------------------------------------
 
--- "The second reads one message and nothing after it": given a list whose first message is whole, it does what it does given that message alone.
+-- "The second reads one message and nothing after it": given any bytes, it does what it does given as many of them as their length says, below 4 or not.
 abbrev pub ReadsOne : Type 0
-ReadsOne = (v : Venue) (before room : ℕ) (messages : List ℕ) → torn messages ≡ false →
-    one v before room messages ≡ one v before room (take (lengthField messages) messages)
+ReadsOne = (v : Venue) (before room : ℕ) (messages : List ℕ) → one v before room messages ≡ one v before room (take (lengthField messages) messages)
 
 -- Calls one after another ---------------------------------------------------------------------
 
@@ -56,10 +53,11 @@ unfoldable pub byCalls : (rooms : List ℕ) → Progress → Progress
 byCalls [] p = p
 byCalls (room ∷ rooms) p = byCalls rooms (onward p (one (p .venue) (p .done) room (p .left)))
 
--- each memory holds whatever a message may write
-abbrev pub Enough : (rooms : List ℕ) → Type 0
-Enough [] = Unit {0}
-Enough (room ∷ rooms) = (most ≤ room) × Enough rooms
+-- each memory holds what its call has to write: no call is ended by 10 (Most: `RoomEnough`, memories that always do)
+abbrev pub NoneFull : (rooms : List ℕ) → Progress → Type 0
+NoneFull [] p = Unit {0}
+NoneFull (room ∷ rooms) p =
+    (one (p .venue) (p .done) room (p .left) .returned .number ≢ 10) × NoneFull rooms (onward p (one (p .venue) (p .done) room (p .left)))
 
 -- The claim -----------------------------------------------------------------------------------
 
@@ -78,7 +76,7 @@ pub record Agrees (room : ℕ) (r : Call) (p : Progress) : Type 0 where
   pub number : Ended room p (r .returned .number)
 
 abbrev pub Agree : Type 0
-Agree = (room : ℕ) (messages rooms : List ℕ) → Enough rooms → length rooms ≡ run room messages .returned .done →
+Agree = (room : ℕ) (messages rooms : List ℕ) → NoneFull rooms (begun messages) → length rooms ≡ run room messages .returned .done →
     Agrees room (run room messages) (byCalls rooms (begun messages))
 
 -- "a run whose report memory never fills": lent so many bytes for each byte of the list, a run is not ended by 10

@@ -1,5 +1,5 @@
 -- A day that is cut by sets goes on as if it were not.
-use mathlib.Core.Path.{_≡_, refl}
+use mathlib.Core.Path.{_≡_, refl, subst}
 use mathlib.Core.List.{List, [], _∷_}
 use Prim.Native.Nat.{ℕ, suc, _+_, _≤_}
 use native.Mathlib.Nat.{add-zero}
@@ -16,9 +16,8 @@ use Rattle.demands.specs.Agree.{Progress, begun, byCalls, onward}
 use Rattle.demands.proofs.Agree.{agree}
 use Rattle.demands.proofs.Calls.{fresh-sound, kept}
 use Rattle.sets.specs.Set.{carries, joined, setOf, writeSet}
-use Rattle.sets.specs.Promises.{Cut, CutCalls, Going, SetsFit, call, carried, cut, goingOn, most, rooms}
+use Rattle.sets.specs.Promises.{Cut, CutCalls, Going, SetsFit, call, carried, cut, goingOn, rooms}
 use Rattle.sets.proofs.ReadBack.{reads-back}
-use Rattle.sets.proofs.Most.{at-most}
 
 -- a sound venue after a number of messages that is a u32
 pub record Stands (n : ℕ) (v : Venue) : Type 0 where
@@ -33,26 +32,26 @@ one-stands n room v bs s =
     (λ _ d. rw (add-one n) (record { at = kept v (suc n) (d .0) (s .at) bs; few = d .0 }))
 
 -- and so does a set
-written : (n room : ℕ) (v : Venue) → Stands n v → most ≤ room → writeSet n v room .number ≡ 0
+written : (n room : ℕ) (v : Venue) → Stands n v → length (joined (setOf n v)) ≤ room → writeSet n v room .number ≡ 0
 unfolding writeSet carries
-written n room v s le =
-    let m = at-most n v (s .at .venue .shaped) in
-    rw (s .at .venue .is, s .at .next, le-ltb room (length (joined (setOf n v))) (omega arith))
+written n room v s le = rw (s .at .venue .is, s .at .next, le-ltb room (length (joined (setOf n v))) le)
 
-carried-same : (room : ℕ) (p : Progress) → Stands (p .done) (p .venue) → most ≤ room → carried room p ≡ p
+carried-same : (room : ℕ) (p : Progress) → Stands (p .done) (p .venue) → length (joined (setOf (p .done) (p .venue))) ≤ room → carried room p ≡ p
 unfolding carried
 carried-same room p s le = rw (reads-back (p .done) room (p .venue) (s .few) (s .at .venue .shaped) (written (p .done) room (p .venue) s le))
 
-pub going : (gs : List Going) (p : Progress) → Stands (p .done) (p .venue) → SetsFit gs → goingOn gs p ≡ byCalls (rooms gs) p
+pub going : (gs : List Going) (p : Progress) → Stands (p .done) (p .venue) → SetsFit gs p → goingOn gs p ≡ byCalls (rooms gs) p
 unfolding goingOn byCalls rooms onward
 going [] p s fit = refl
 going (call room ∷ gs) p s fit = going gs (onward p (one (p .venue) (p .done) room (p .left))) (one-stands (p .done) room (p .venue) (p .left) s) fit
-going (cut room ∷ gs) p s fit = rw (carried-same room p s (fit .0)) (going gs p s (fit .1))
+going (cut room ∷ gs) p s fit =
+    let same = carried-same room p s (fit .0) in
+    rw same (going gs p s (subst (SetsFit gs) same (fit .1)))
 
 pub cut-calls : CutCalls
 cut-calls gs p at few fit = going gs p (record { at = at; few = few }) fit
 
 pub cuts : Cut
 unfolding begun
-cuts room messages gs enough fit n =
-    rw (going gs (begun messages) (record { at = fresh-sound; few = omega arith }) fit) (agree room messages (rooms gs) enough n)
+cuts room messages gs fit holds n =
+    rw (going gs (begun messages) (record { at = fresh-sound; few = omega arith }) fit) (agree room messages (rooms gs) holds n)

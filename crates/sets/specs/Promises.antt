@@ -8,7 +8,7 @@ use Rattle.rules.specs.Bytes.{kindField}
 use Rattle.rules.specs.Records.{FourBytes}
 use Rattle.rules.specs.Calls.{one, run}
 use Rattle.demands.specs.Kept.{Shaped, SoundAt}
-use Rattle.demands.specs.Agree.{Agrees, Enough, Progress, begun, byCalls, onward, wrote}
+use Rattle.demands.specs.Agree.{Agrees, NoneFull, Progress, begun, byCalls, onward, wrote}
 use Rattle.sets.specs.Set.{row, heldIn, joined, readSet, setOf, writeSet}
 
 -- Both ways -----------------------------------------------------------------------------------
@@ -73,17 +73,18 @@ rooms [] = []
 rooms (call room ∷ gs) = room ∷ rooms gs
 rooms (cut room ∷ gs) = rooms gs
 
--- each set's memory holds whatever a set may be
-abbrev pub SetsFit : List Going → Type 0
-SetsFit [] = Unit {0}
-SetsFit (call room ∷ gs) = SetsFit gs
-SetsFit (cut room ∷ gs) = (most ≤ room) × SetsFit gs
+-- "given memory that holds them": each set's memory holds the set that there is to write when its cut comes (`AtMost`: memory that always does)
+abbrev pub SetsFit : List Going → Progress → Type 0
+SetsFit [] p = Unit {0}
+SetsFit (call room ∷ gs) p = SetsFit gs (onward p (one (p .venue) (p .done) room (p .left)))
+SetsFit (cut room ∷ gs) p = (length (joined (setOf (p .done) (p .venue))) ≤ room) × SetsFit gs (carried room p)
 
 -- "Cutting a message list between any two messages that a run does, writing, reading and going on gives the same records as going on without the cut, given
--- memory that holds them": with any number of cuts, wherever they are, as many calls as the run did messages write its bytes and leave its venue
+-- memory that holds them": with any number of cuts, wherever they are, as many calls as the run did messages write its bytes and leave its venue, given that
+-- each set fits its memory and no call is ended by 10
 abbrev pub Cut : Type 0
-Cut = (room : ℕ) (messages : List ℕ) (gs : List Going) → Enough (rooms gs) → SetsFit gs → length (rooms gs) ≡ run room messages .returned .done →
-    Agrees room (run room messages) (goingOn gs (begun messages))
+Cut = (room : ℕ) (messages : List ℕ) (gs : List Going) → SetsFit gs (begun messages) → NoneFull (rooms gs) (begun messages) →
+    length (rooms gs) ≡ run room messages .returned .done → Agrees room (run room messages) (goingOn gs (begun messages))
 
 -- and so after a run of the first part of the list, which ended with number 0 as it did all of it, with the rest left
 unfoldable pub runThen : (room : ℕ) (first rest : List ℕ) → Progress
@@ -92,10 +93,11 @@ runThen room first rest =
     record { number = c .returned .number; done = c .returned .done; venue = c .returned .venue; bytes = wrote c; left = rest }
 
 abbrev pub CutRun : Type 0
-CutRun = (before room : ℕ) (first rest : List ℕ) (gs : List Going) → run before first .returned .number ≡ 0 → Enough (rooms gs) → SetsFit gs →
+CutRun = (before room : ℕ) (first rest : List ℕ) (gs : List Going) → run before first .returned .number ≡ 0 →
+    SetsFit gs (runThen before first rest) → NoneFull (rooms gs) (runThen before first rest) →
     run before first .returned .done + length (rooms gs) ≡ run room (first ++ rest) .returned .done →
     Agrees room (run room (first ++ rest)) (goingOn gs (runThen before first rest))
 
--- and the same of the calls alone, from a sound venue with its number on: cut or not, they come to the same
+-- and the same of the calls alone, from a sound venue with its number on: cut or not, they come to the same, a call ended by 10 too
 abbrev pub CutCalls : Type 0
-CutCalls = (gs : List Going) (p : Progress) → SoundAt (suc (p .done)) (p .venue) → FourBytes (p .done) → SetsFit gs → goingOn gs p ≡ byCalls (rooms gs) p
+CutCalls = (gs : List Going) (p : Progress) → SoundAt (suc (p .done)) (p .venue) → FourBytes (p .done) → SetsFit gs p → goingOn gs p ≡ byCalls (rooms gs) p
