@@ -10,23 +10,19 @@ use Rattle.rules.specs.declared.Venue.{Venue}
 use Rattle.rules.specs.Base.{if_then_else_}
 use Rattle.rules.specs.Records.{Report, records}
 use Rattle.rules.specs.Calls.{Call, one}
-use Rattle.demands.specs.Demand.{Given, Seen, alone, calls, extend, opening, parts, start, Holds}
+use Rattle.demands.specs.Demand.{Given, Seen, calls, extend, opening, parts, start, Holds}
 use Rattle.demands.specs.Truth.{Truthful}
 use Rattle.demands.proofs.Calls.{demand3}
 use Rattle.demands.proofs.Truth.{truth}
-use Rattle.layer.specs.Layer.{Lane, Layer, Asked, arrival, turning, freshLane, freshLayer, laneAt, head, headCall, advanced, turn, arrive, after, afterAll}
-use Rattle.layer.specs.Promises.{takes, takenBy, messagesOf, tells, toldBy, seenOf, Apart, EachHolds}
+use Rattle.layer.specs.Layer.{Lane, Layer, Asked, arrival, turning, freshLane, laneAt, head, headCall, advanced, turn, arrive, after, afterAll}
+use Rattle.layer.specs.Promises.{takes, takenBy, messagesOf, tells, toldBy, seenOf, LeftBy, Apart, EachHolds, FreshLeft}
 use Rattle.layer.proofs.Ways.{ending, does}
+use Rattle.layer.proofs.Keeping.{fresh-at}
 use Rattle.layer.proofs.Order.{Turn, took, left, turn-lane, Arrival, joined, apart, arrival-lane, still-four, messages-append}
-
--- what calls have seen of a lane: its venue and its count
-record Of (c : Lane) (s : Seen) : Type 0 where
-  venue : c .venue ≡ s .venue
-  done : c .done ≡ s .done
 
 -- from s on, by calls given gs, to a lane: these messages and records more
 record Onward (s z : Seen) (c : Lane) (ms : List (List ℕ)) (rs : List Report) : Type 0 where
-  of : Of c z
+  of : LeftBy z c
   messages : z .messages ≡ s .messages ++ ms
   reports : z .reports ≡ s .reports ++ rs
 
@@ -38,11 +34,11 @@ unfolding calls
 calls-append s [] b = refl
 calls-append s (g ∷ a) b = calls-append (extend s (g .bytes) (one (s .venue) (s .done) (g .room) (g .bytes))) a b
 
-nothing-more : (s : Seen) (c : Lane) → Of c s → Onward s s c [] []
+nothing-more : (s : Seen) (c : Lane) → LeftBy s c → Onward s s c [] []
 nothing-more s c o = record { of = o; messages = sym (append-nil (s .messages)); reports = sym (append-nil (s .reports)) }
 
 -- one call
-one-apart : (l : Layer) (a : Asked) (v : ℕ) (s : Seen) → length (l .lanes) ≡ 4 → v < 4 → Of (laneAt l v) s →
+one-apart : (l : Layer) (a : Asked) (v : ℕ) (s : Seen) → length (l .lanes) ≡ 4 → v < 4 → LeftBy s (laneAt l v) →
     Onward s (calls s (takes v l a)) (laneAt (after l a) v) (messagesOf (takes v l a)) (tells v l a)
 unfolding takes tells messagesOf after calls
 one-apart l (arrival w m) v s four h o = go (arrival-lane l w m v four h)
@@ -76,7 +72,7 @@ one-apart l (turning room) v s four h o = go (turn-lane l room v four h)
         }))
     go (left e f) = rw (ne-eqb (turn l room .served) v e, f) (nothing-more s c o)
 
-all-apart : (l : Layer) (list : List Asked) (v : ℕ) (s : Seen) → length (l .lanes) ≡ 4 → v < 4 → Of (laneAt l v) s →
+all-apart : (l : Layer) (list : List Asked) (v : ℕ) (s : Seen) → length (l .lanes) ≡ 4 → v < 4 → LeftBy s (laneAt l v) →
     Onward s (calls s (takenBy v l list)) (laneAt (afterAll l list) v) (messagesOf (takenBy v l list)) (toldBy v l list)
 unfolding takenBy toldBy messagesOf afterAll
 all-apart l [] v s four h o = unfold calls in (nothing-more s (laneAt l v) o)
@@ -91,16 +87,18 @@ all-apart l (a ∷ list) v s four h o =
       reports = y .reports ∙ ap (λ (q : List Report). q ++ toldBy v (after l a) list) (x .reports) ∙ append-assoc (s .reports) _ _;
     })
 
-fresh-of : (v : ℕ) → v < 4 → Of (laneAt freshLayer v) start
-unfolding laneAt freshLayer start
-fresh-of v h = rw (lib.ListN.getD-replicate 4 v freshLane freshLane h) (unfold freshLane in (record { venue = refl; done = refl }))
-
 pub each-apart : Apart
-unfolding seenOf opening start freshLayer
-each-apart list v h =
-    let x = all-apart freshLayer list v start refl h (fresh-of v h) in
+unfolding seenOf
+each-apart s l list v four h o =
+    let x = all-apart l list v s four h o in
     seen-is _ _ (x .of .venue) (x .of .done) (sym (x .messages)) (sym (x .reports))
 
 pub each-holds : EachHolds
-each-holds list v h =
-    (subst Holds (sym (each-apart list v h)) (demand3 alone (takenBy v freshLayer list)), subst Truthful (sym (each-apart list v h)) (truth alone (takenBy v freshLayer list)))
+each-holds o gs l list v four h was =
+    let s = calls (opening o) gs in
+    let is = calls-append (opening o) gs (takenBy v l list) ∙ sym (each-apart s l list v four h was) in
+    (subst Holds is (demand3 o (gs ++ takenBy v l list)), subst Truthful is (truth o (gs ++ takenBy v l list)))
+
+pub fresh-left : FreshLeft
+unfolding calls opening start
+fresh-left v = rw (fresh-at v) (unfold freshLane in (record { venue = refl; done = refl }))

@@ -1,7 +1,7 @@
 -- The layer stays sound under every call, no call upon one that came from the calls answers 9, and what is refused changes nothing.
 use mathlib.Core.Path.{_≡_, refl, sym, ap, _∙_}
 use mathlib.Core.Bool.{Bool, true, false, not, _&&_, _||_, true≢false}
-use mathlib.Core.Logic.{_≢_, ⊎-elim}
+use mathlib.Core.Logic.{_≢_, _⊎_, inl, inr, ⊎-elim}
 use mathlib.Core.List.{List, [], _∷_, _++_}
 use Prim.Native.Nat.{ℕ, zero, suc, _+_, _≤_, _<_}
 use native.Mathlib.Omega.{arith}
@@ -16,9 +16,9 @@ use Rattle.demands.specs.Kept.{Shaped}
 use Rattle.demands.proofs.Most as most
 use Rattle.layer.specs.Layer.{Lane, Layer, Asked, arrival, turning, freshLane, freshLayer, laneAt, withLane, getsNine, waitSound, laneSound, layerSound}
 use Rattle.layer.specs.Layer.{refusalOf, joins, arrive, next, headCall, head, idle, advanced, serve, after, afterAll}
-use Rattle.layer.specs.Promises.{GetsNine, SoundLayer, FreshSound, Kept, NeverNine, RoomEnough, Answered, Unchanged}
-use Rattle.layer.proofs.Ways.{ready, SoundFor, sound-for-in, sound-for-out, fresh-sound-for, ending, Did, does, nine-unready, Waits, arrive-by, turn-by}
-use Rattle.layer.proofs.Lanes.{each-set, next-some, sound-last, sound-lane, layer-sound}
+use Rattle.layer.specs.Promises.{GetsNine, SoundLayer, FreshSound, Kept, NeverNine, RoomEnough, Answered, NoneWaiting, Unchanged}
+use Rattle.layer.proofs.Ways.{ready, SoundFor, sound-for-in, sound-for-out, fresh-sound-for, ending, Did, does, not-done-number, nine-unready, Waits, arrive-by, turn-by}
+use Rattle.layer.proofs.Lanes.{each-set, next-none, next-some, none-next, sound-last, sound-lane, layer-sound}
 
 -- A lane --------------------------------------------------------------------------------------
 
@@ -93,7 +93,7 @@ same-at d zero v = refl
 same-at d (suc k) zero = refl
 same-at d (suc k) (suc v) = same-at d k v
 
-fresh-at : (v : ℕ) → laneAt freshLayer v ≡ freshLane
+pub fresh-at : (v : ℕ) → laneAt freshLayer v ≡ freshLane
 unfolding laneAt freshLayer
 fresh-at v = same-at freshLane 4 v
 
@@ -210,7 +210,15 @@ unchanged = record {
   turns = λ l room. turn-by (λ t. t .served ≡ 4 → t .layer ≡ l) l room (λ _ _. refl) (λ _ _ _. refl) (λ _ _ _ _. refl) (λ _ n _ e. absurd (n e));
   ended9 = λ l room. turn-by (λ t. t .number ≡ 9 → t .served ≡ 4) l room (λ _ _. refl) (λ _ _ _. refl) (λ _ _ _ _. refl) (λ _ _ d e. absurd (own l room d .not9 e));
   ended10 = λ l room. turn-by (λ t. t .number ≡ 10 → t .served ≡ 4) l room (λ _ _. refl) (λ _ _ _. refl) (λ _ _ _ _. refl) (λ _ _ d e. absurd (own l room d .not10 e));
+  none = λ l room s w. turn-by (λ t. (t .number ≡ 0) × (t .served ≡ 4)) l room (λ u. absurd (true≢false (sym s ∙ u))) (λ _ _. (refl, refl))
+      (λ _ n _. absurd (n (none-next l w))) (λ _ n _. absurd (n (none-next l w)));
+  four = λ l room. turn-by (λ t. t .served ≡ 4 → (t .number ≡ 9) ⊎ ((t .number ≡ 10) ⊎ ((t .number ≡ 0) × NoneWaiting l))) l room
+      (λ _ _. inl refl) (λ _ e _. inr (inr (refl, next-none l e))) (λ _ _ d _. ⊎-elim inl (λ z. inr (inl z)) (stopped l room d)) (λ _ n _ e. absurd (n e));
 }
   where
     own : (l : Layer) (room : ℕ) → headCall (laneAt l (next l)) room .returned .done ≢ 0 → let c : Lane = laneAt l (next l) in Did (c .venue) (c .done) room (headCall c room)
     own l room d = let c : Lane = laneAt l (next l) in does (c .venue) (c .done) room _ (ending (c .venue) (c .done) room (head c)) d
+
+    stopped : (l : Layer) (room : ℕ) → headCall (laneAt l (next l)) room .returned .done ≡ 0 →
+        (headCall (laneAt l (next l)) room .returned .number ≡ 9) ⊎ (headCall (laneAt l (next l)) room .returned .number ≡ 10)
+    stopped l room d = let c : Lane = laneAt l (next l) in not-done-number (c .venue) (c .done) room _ (ending (c .venue) (c .done) room (head c)) d

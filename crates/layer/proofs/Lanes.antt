@@ -2,7 +2,7 @@
 use mathlib.Core.Path.{_≡_, refl, sym, ap, _∙_}
 use mathlib.Core.Bool.{Bool, true, false, true≢false}
 use mathlib.Core.Logic.{_≢_}
-use mathlib.Core.List.{List, _∷_}
+use mathlib.Core.List.{List, [], _∷_}
 use Prim.Native.Nat.{ℕ, zero, suc, _+_, _-_, _%_, _≤_, _<_}
 use native.Mathlib.Omega.{arith}
 use native.Mathlib.Decide.{ℕ-discrete}
@@ -39,6 +39,10 @@ each-set P l v last c h p each w =
 pub waiting-some : (c : Lane) (m : List ℕ) (others : List (List ℕ)) → c .wait ≡ m ∷ others → waiting c ≡ true
 unfolding waiting
 waiting-some c m others e = rw (ne-eqb (length (c .wait)) 0 (λ z. (let k : length (c .wait) ≡ suc (length others) = ap length e in omega arith)))
+
+waiting-none : (c : Lane) → c .wait ≡ [] → waiting c ≡ false
+unfolding waiting
+waiting-none c e = rw e
 
 pub head-is : (c : Lane) (m : List ℕ) (others : List (List ℕ)) → c .wait ≡ m ∷ others → head c ≡ m
 unfolding head
@@ -91,6 +95,24 @@ first-near l v (suc tries) from w h k d = go (waiting (laneAt l from)) refl (λ 
           | yes z ↦ absurd (true≢false (sym w ∙ ap (λ (x : ℕ). waiting (laneAt l x)) (sym z) ∙ e))
           | no z ↦ let j = ahead-next from v k h z in let p = ih (omega arith) in let q = p .1 in (p .0, omega arith)
         ]
+
+-- none waits, and 4 is next
+pub none-next : (l : Layer) → ((v : ℕ) → v < 4 → laneAt l v .wait ≡ []) → next l ≡ 4
+none-next l none = elim (ℕ-discrete (next l) 4) [
+  | yes e ↦ e
+  | no n ↦ let s = next-some l n in absurd (true≢false (sym (s .1) ∙ waiting-none (laneAt l (next l)) (none (next l) (s .0))))
+]
+
+pub next-none : (l : Layer) → next l ≡ 4 → (v : ℕ) → v < 4 → laneAt l v .wait ≡ []
+unfolding next
+next-none l e v h = go (laneAt l v .wait) refl
+  where
+    near : waiting (laneAt l v) ≡ true → firstWaiting l 4 ((l .last + 1) % 4) < 4
+    near w = first-near l v 4 ((l .last + 1) % 4) w h (omega arith) (ahead-few ((l .last + 1) % 4) v) .0
+
+    go : (w : List (List ℕ)) → laneAt l v .wait ≡ w → w ≡ []
+    go [] z = refl
+    go (m ∷ others) z = absurd (let k = near (waiting-some (laneAt l v) m others z) in omega arith)
 
 -- A sound layer -------------------------------------------------------------------------------
 

@@ -5,7 +5,7 @@
 --   Keeping     gets-nine, fresh-layer, kept, never-nine, room-enough, answered, unchanged
 --   Fairness    fair
 --   Order       ordered
---   Apart       each-apart, each-holds
+--   Apart       each-apart, each-holds, fresh-left
 --   Witness     the claims are not empty
 pub mod Ways
 pub mod Lanes

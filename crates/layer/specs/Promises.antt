@@ -9,7 +9,7 @@ use lib.ListN.{length}
 use Rattle.rules.specs.Base.{if_then_else_}
 use Rattle.rules.specs.Records.{Report, records}
 use Rattle.rules.specs.Calls.{one}
-use Rattle.demands.specs.Demand.{Given, Seen, alone, calls, opening, Holds}
+use Rattle.demands.specs.Demand.{Given, Opening, Seen, alone, calls, opening, Holds}
 use Rattle.demands.specs.Kept.{Shaped}
 use Rattle.demands.specs.Most.{most}
 use Rattle.demands.specs.Truth.{Truthful}
@@ -57,13 +57,20 @@ pub record Answers (l : Layer) (v : ℕ) (m : List ℕ) : Type 0 where
 abbrev pub Answered : Type 0
 Answered = (l : Layer) (v : ℕ) (m : List ℕ) → Answers l v m
 
+-- no venue has a message waiting
+abbrev pub NoneWaiting : Layer → Type 0
+NoneWaiting l = (v : ℕ) → v < 4 → laneAt l v .wait ≡ []
+
 -- "each leaving every wait and venue unchanged"; a turn "ended by 9 or 10, or with none waiting (number 0), returns 4 for it and changes no wait, venue or
--- last one served", and one that returns 4 was so
+-- last one served", and one that returns 4 was ended by 9 or 10 or had none waiting
 pub record Unchanged : Type 0 where
   pub arrives : (l : Layer) (v : ℕ) (m : List ℕ) → arrive l v m .number ≢ 0 → arrive l v m .layer ≡ l
   pub turns : (l : Layer) (room : ℕ) → turn l room .served ≡ 4 → turn l room .layer ≡ l
   pub ended9 : (l : Layer) (room : ℕ) → turn l room .number ≡ 9 → turn l room .served ≡ 4
   pub ended10 : (l : Layer) (room : ℕ) → turn l room .number ≡ 10 → turn l room .served ≡ 4
+  pub none : (l : Layer) (room : ℕ) → layerSound l ≡ true → NoneWaiting l → (turn l room .number ≡ 0) × (turn l room .served ≡ 4)
+  pub four : (l : Layer) (room : ℕ) → turn l room .served ≡ 4 →
+      (turn l room .number ≡ 9) ⊎ ((turn l room .number ≡ 10) ⊎ ((turn l room .number ≡ 0) × NoneWaiting l))
 
 -- No venue waits long -------------------------------------------------------------------------
 
@@ -133,19 +140,32 @@ unfoldable pub toldBy : (v : ℕ) → Layer → List Asked → List Report
 toldBy v l [] = []
 toldBy v l (a ∷ rest) = tells v l a ++ toldBy v (after l a) rest
 
--- what callers have seen of venue v, from a fresh layer on
-unfoldable pub seenOf : (v : ℕ) → List Asked → Seen
-seenOf v list = record {
-  venue = laneAt (afterAll freshLayer list) v .venue;
-  done = laneAt (afterAll freshLayer list) v .done;
-  messages = messagesOf (takenBy v freshLayer list);
-  reports = toldBy v freshLayer list;
+-- what callers have seen of venue v: s before, and then by calls from a layer on
+unfoldable pub seenOf : (v : ℕ) → Seen → Layer → List Asked → Seen
+seenOf v s l list = record {
+  venue = laneAt (afterAll l list) v .venue;
+  done = laneAt (afterAll l list) v .done;
+  messages = s .messages ++ messagesOf (takenBy v l list);
+  reports = s .reports ++ toldBy v l list;
 }
 
--- "Each venue's records then equal those of a venue served alone, by one-message calls, with the messages taken from its wait."
-abbrev pub Apart : Type 0
-Apart = (list : List Asked) (v : ℕ) → v < 4 → seenOf v list ≡ calls (opening alone) (takenBy v freshLayer list)
+-- a lane has the venue that callers saw last, and as many messages done
+pub record LeftBy (s : Seen) (c : Lane) : Type 0 where
+  pub venue : c .venue ≡ s .venue
+  pub done : c .done ≡ s .done
 
--- so Demand 3 holds of each, and its sheet tells the truth
+-- "Each venue's records then equal those of a venue served alone, by one-message calls, with the messages taken from its wait": from any layer of four venues
+-- on, sound or not, whatever was seen of that venue before
+abbrev pub Apart : Type 0
+Apart = (s : Seen) (l : Layer) (list : List Asked) (v : ℕ) → length (l .lanes) ≡ 4 → v < 4 → LeftBy s (laneAt l v) →
+    seenOf v s l list ≡ calls s (takenBy v l list)
+
+-- so where a layer's venue was left by a list of calls from fresh, Demand 3 holds of that list and the layer's, and their sheet tells the truth
 abbrev pub EachHolds : Type 0
-EachHolds = (list : List Asked) (v : ℕ) → v < 4 → Holds (seenOf v list) × Truthful (seenOf v list)
+EachHolds = (o : Opening) (gs : List Given) (l : Layer) (list : List Asked) (v : ℕ) → length (l .lanes) ≡ 4 → v < 4 → LeftBy (calls (opening o) gs) (laneAt l v) →
+    let s = seenOf v (calls (opening o) gs) l list in
+    Holds s × Truthful s
+
+-- as every venue of the fresh layer was, by no call
+abbrev pub FreshLeft : Type 0
+FreshLeft = (v : ℕ) → LeftBy (calls (opening alone) []) (laneAt freshLayer v)
