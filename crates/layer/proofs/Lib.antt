@@ -5,6 +5,7 @@
 --   Keeping     gets-nine, fresh-layer, kept, never-nine, room-enough, answered, unchanged
 --   Fairness    fair
 --   Order       ordered
+--   Returning   returns
 --   Apart       each-apart, each-holds, fresh-left
 --   Witness     the claims are not empty
 pub mod Ways
@@ -12,5 +13,6 @@ pub mod Lanes
 pub mod Keeping
 pub mod Fairness
 pub mod Order
+pub mod Returning
 pub mod Apart
 pub mod Witness

@@ -5,16 +5,16 @@ use mathlib.Core.Bool.{true, false, _&&_}
 use mathlib.Core.List.{List, [], _∷_, _++_}
 use Prim.Native.Nat.{ℕ, suc, _≤_, _<_}
 use lib.Dec.{eqb}
-use lib.ListN.{length}
+use lib.ListN.{length, replicate}
 use Rattle.rules.specs.Base.{if_then_else_}
 use Rattle.rules.specs.Records.{Report, records}
-use Rattle.rules.specs.Calls.{one}
+use Rattle.rules.specs.Calls.{Call, one}
 use Rattle.demands.specs.Demand.{Given, Opening, Seen, alone, calls, opening, Holds}
 use Rattle.demands.specs.Kept.{Shaped}
 use Rattle.demands.specs.Most.{most}
 use Rattle.demands.specs.Truth.{Truthful}
-use Rattle.layer.specs.Layer.{Lane, Layer, Asked, arrival, turning, freshLayer, laneAt, getsNine, layerSound}
-use Rattle.layer.specs.Layer.{arrive, turn, serve, head, after, afterAll}
+use Rattle.layer.specs.Layer.{Lane, Layer, Turned, Asked, arrival, turning, freshLayer, laneAt, getsNine, layerSound}
+use Rattle.layer.specs.Layer.{arrive, next, turn, serve, head, after, afterAll}
 
 -- Soundness -----------------------------------------------------------------------------------
 
@@ -71,6 +71,34 @@ pub record Unchanged : Type 0 where
   pub none : (l : Layer) (room : ℕ) → layerSound l ≡ true → NoneWaiting l → (turn l room .number ≡ 0) × (turn l room .served ≡ 4)
   pub four : (l : Layer) (room : ℕ) → turn l room .served ≡ 4 →
       (turn l room .number ≡ 9) ⊎ ((turn l room .number ≡ 10) ⊎ ((turn l room .number ≡ 0) × NoneWaiting l))
+
+-- What a turn returns -------------------------------------------------------------------------
+
+-- a turn returns what a one-message call does, and leaves its report
+pub record SameCall (t : Turned) (c : Call) : Type 0 where
+  pub number : t .number ≡ c .returned .number
+  pub done : t .done ≡ c .returned .done
+  pub written : t .written ≡ c .returned .written
+  pub report : t .report ≡ c .report
+
+-- a turn that served venue v: it is the one-message call upon it with the message at the head of its wait
+pub record ServedAt (l : Layer) (room v : ℕ) (t : Turned) : Type 0 where
+  pub message : List ℕ
+  pub others : List (List ℕ)
+  pub wait : laneAt l v .wait ≡ message ∷ others
+  pub same : SameCall t (one (laneAt l v .venue) (laneAt l v .done) room message)
+
+pub record Returns : Type 0 where
+  -- "It also returns the venue served; … 4"
+  pub few : (l : Layer) (room : ℕ) → turn l room .served ≤ 4
+  pub served : (l : Layer) (room v : ℕ) → v < 4 → turn l room .served ≡ v → ServedAt l room v (turn l room)
+  -- "ended by 9 or 10, or with none waiting": no message, no byte, and zeros as long as the memory
+  pub nobody : (l : Layer) (room : ℕ) → turn l room .served ≡ 4 →
+      (turn l room .done ≡ 0) × (turn l room .written ≡ 0) × (turn l room .report ≡ replicate room 0)
+  -- its number upon an unsound layer, and upon a sound one where a message waits: that of the call upon the venue next in turn
+  pub nine : (l : Layer) (room : ℕ) → layerSound l ≡ false → turn l room .number ≡ 9
+  pub number : (l : Layer) (room : ℕ) → layerSound l ≡ true → next l < 4 →
+      turn l room .number ≡ one (laneAt l (next l) .venue) (laneAt l (next l) .done) room (head (laneAt l (next l))) .returned .number
 
 -- No venue waits long -------------------------------------------------------------------------
 
