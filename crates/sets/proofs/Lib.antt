@@ -21,6 +21,7 @@
 --   Taken       each record that is read, by its part
 --   Again       the parts of the set of the venue that a set tells
 --   WriteBack   writing what was read
+--   ReadSound   what is read is sound
 pub mod Lists
 pub mod Rows
 pub mod Records
@@ -42,3 +43,4 @@ pub mod Pieces
 pub mod Taken
 pub mod Again
 pub mod WriteBack
+pub mod ReadSound

@@ -33,7 +33,7 @@ use Rattle.sets.proofs.Again.{ReachedOf, books-again, complexes-so, com
 
 -- Bytes ---------------------------------------------------------------------------------------
 
-bytes-take : (n : ℕ) (l : List ℕ) → AllBytes l → AllBytes (take n l)
+pub bytes-take : (n : ℕ) (l : List ℕ) → AllBytes l → AllBytes (take n l)
 bytes-take zero l h = tt
 bytes-take (suc n) [] h = tt
 bytes-take (suc n) (x ∷ l) h = (h .0, bytes-take n l (h .1))
@@ -43,7 +43,7 @@ bytes-split [] b h = (tt, h)
 bytes-split (x ∷ a) b h = let z = bytes-split a b (h .1) in ((h .0, z .0), z .1)
 
 -- each record of a row whose bytes are bytes
-cleans : (rs : List (List ℕ)) → AllWell rs → AllBytes (joined rs) → Each Clean rs
+pub cleans : (rs : List (List ℕ)) → AllWell rs → AllBytes (joined rs) → Each Clean rs
 unfolding joined
 cleans [] w h = tt
 cleans (r ∷ rs) w h = let z = bytes-split r (joined rs) h in (record { well = w .0; bytes = z .0 }, cleans rs (w .1) (z .1))

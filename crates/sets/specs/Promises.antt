@@ -38,6 +38,14 @@ BytesBack = (memory : List ℕ) (rs : List (List ℕ)) → AllBytes memory → h
 abbrev pub RowsAre : Type 0
 RowsAre = (memory : List ℕ) (rs : List (List ℕ)) → heldIn memory ≡ row rs → take (length (joined rs)) memory ≡ joined rs
 
+-- What is read ----------------------------------------------------------------------------------
+
+-- "What is read or written must be sound, no message number in it above its own, else 9"; "Refused, reading returns a fresh venue and message number 0":
+-- whatever the memory, the venue that is read has the declared lengths, is sound and goes with its number, which is a u32 where the memory is of bytes
+pub record ReadsSound : Type 0 where
+  pub sound : (memory : List ℕ) → SoundAt (suc (readSet memory .message)) (readSet memory .venue)
+  pub number : (memory : List ℕ) → AllBytes memory → FourBytes (readSet memory .message)
+
 -- The most bytes of a set ---------------------------------------------------------------------
 
 -- the first record, eight series, 32 editions, 128 regular and 32 complex orders, 16 legging orders, 20 generations of each series, the id reached
