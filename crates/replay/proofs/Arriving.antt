@@ -2,15 +2,17 @@
 use mathlib.Core.Path.{_∙_, _≡_, ap, refl, subst, sym}
 use mathlib.Core.Bool.{Bool, false, not, true}
 use mathlib.Core.List.{List}
-use Prim.Native.Nat.{min, ℕ}
+use Prim.Native.Nat.{_≤_, min, ℕ}
+use native.Mathlib.Omega.{arith}
 use lib.ListN.{getD}
+use borrow.Author.Tests.{eq-eqb}
 use Rattle.rules.specs.declared.Complex.{Complex}
 use Rattle.rules.specs.declared.Leg.{Leg}
 use Rattle.rules.specs.declared.Legging.{Legging}
 use Rattle.rules.specs.declared.Regular.{Regular}
 use Rattle.rules.specs.declared.Venue.{Venue}
 use Rattle.rules.specs.Base.{Choice, first, held, if_then_else_, nobody, picked, placeWhere}
-use Rattle.rules.specs.Words.{isComplexOf, leggingAt, noComplex, noRegular, opposite, placeOf, regularAt}
+use Rattle.rules.specs.Words.{complexAt, isComplexOf, leggingAt, noComplex, noRegular, opposite, placeOf, regularAt}
 use Rattle.rules.specs.Records.{trade}
 use Rattle.rules.specs.Effects.{Effect, Turn, _⟫_, ended, repeat, report, turned}
 use Rattle.rules.specs.Prices.{restsAt}
@@ -23,13 +25,13 @@ use Rattle.rules.proofs.Hitting.{hitting, hitting-complex}
 use Rattle.rules.proofs.Keeping.{keeps-take}
 use Rattle.rules.proofs.Meeting.{legging-alone, met-first}
 use Rattle.rules.proofs.Picking.{At, Chosen, first-chosen}
-use Rattle.rules.proofs.Sizes.{rests-held, rests-series, rests-side}
+use Rattle.rules.proofs.Sizes.{once-most, rests-held, rests-series, rests-side}
 use Rattle.rules.proofs.Tests.{and-l}
 use Rattle.demands.proofs.Carrying.{TurnOk, fine-after, opposite-not}
 use Rattle.demands.proofs.Entering.{Pays, Ready, meetTurn-ok}
 use Rattle.demands.proofs.Homes.{Fine, home-held, parent-found, place-at}
 use Rattle.replay.specs.Replay.{lessenOrder}
-use Rattle.replay.specs.Moments.{NonePassedOver}
+use Rattle.replay.specs.Moments.{MakerStands, NonePassedOver, legging}
 use Rattle.replay.proofs.Telling.{Any, Tells, TellsTurn, tells-report, tells-repeat, tells-then}
 use Rattle.replay.proofs.Lessening.{Apart, apart-lasts, good-apart, lessen-no-order, lessen-order}
 use Rattle.replay.proofs.Passing.{HitsFirst, Positive, clear-best-price, hit-passes-none, hits-first, met-passes-none, nobody-met, positive-kept}
@@ -104,7 +106,7 @@ module _ (v : Venue) (f : Fine v) (i k : ℕ) (h : held (reg v i .quantity) ≡ 
     abbrev pairing : Venue → Effect
     pairing x = pairOff (placeWhere (isComplexOf (c .id)) (x .complex)) (c .id) (legNet c (o .series) (opposite (o .side)) (l .price) clear) k x
 
-    tells-own : NonePassedOver v (o .series) (o .side) (l .price) (o .id) (c .id) → Tells v own
+    tells-own : NonePassedOver v (o .series) (o .side) (l .price) k (o .id) (c .id) → Tells v own
     tells-own none = tells-report _ v w (next-trade (o .series) (o .side) (l .price) k (o .id) (c .id) v w filled) none
 
     tells-other : Tells w (taking w)
@@ -116,7 +118,12 @@ module _ (v : Venue) (f : Fine v) (i k : ℕ) (h : held (reg v i .quantity) ≡ 
     tells-pair : Tells (hitting v i k l) (pairing (hitting v i k l))
     tells-pair = tells-pairOff at (c .id) _ k (hitting v i k l) (keeps-take apart-lasts (c .id) (leg .series) (leg .side) clear k k w (apart-lasts .fillR i k v a)) there named
 
-    pub tells-hit : NonePassedOver v (o .series) (o .side) (l .price) (o .id) (c .id) → Tells v (hit i l k v)
+    -- its complex order rests behind it
+    pub behind-legging : k ≤ l .quantity → MakerStands v (o .series) (opposite (o .side)) (l .price) k (c .id)
+    unfolding leggingAt complexAt isComplexOf
+    behind-legging le = legging j (rw (holds, eq-eqb (cx v j .id) (c .id) is)) hl (sym (f .homes .home n hl .id) ∙ is) refl le
+
+    pub tells-hit : NonePassedOver v (o .series) (o .side) (l .price) k (o .id) (c .id) → Tells v (hit i l k v)
     unfolding hit regularAt _⟫_ report
     tells-hit none = tells-then v (own ⟫ taking) pairing (tells-then v own taking (tells-own none) tells-other) tells-pair
 
@@ -136,21 +143,23 @@ module _ (i s d : ℕ) (v : Venue) (f : Fine v) (r : Ready i s d v) (some : Posi
   unfolding leggingAt
   pays-here = rw (r .series, r .side) (r .pays)
 
-  hits : held (own-order .quantity) ≡ true → HitsFirst v own-order some → (k : ℕ) → Tells v (hit i its-legging k v)
+  hits : held (own-order .quantity) ≡ true → HitsFirst v own-order some → (k : ℕ) → k ≤ its-legging .quantity → Tells v (hit i its-legging k v)
   unfolding leggingAt
-  hits h first k = tells-hit v f i k h (first .there) (pays-here (first .there)) (hit-passes-none v own-order some first _ _)
+  hits h first k le =
+      let pays = pays-here (first .there) in
+      tells-hit v f i k h (first .there) pays (hit-passes-none v own-order some first k _ _ (behind-legging v f i k h (first .there) pays le))
 
   meets-one : held (own-order .quantity) ≡ true → (j : ℕ) (m : Regular) → first meets priceThenId (v .regular) ≡ picked j m → At noRegular meets (v .regular) j m →
-      leggingFirst own-order its-legging (m .price) ≡ false → (k : ℕ) → Tells v (meet i j k v)
+      leggingFirst own-order its-legging (m .price) ≡ false → (k : ℕ) → k ≤ m .quantity → Tells v (meet i j k v)
   unfolding isMet
-  meets-one h j m picks at worse k =
+  meets-one h j m picks at worse k le =
       let rests : restsAt (own-order .series) (opposite (own-order .side)) m ≡ true = and-l _ _ (at .is) in
-      let none = met-passes-none v own-order some j m (at .at) (at .is) picks (good-apart (f .good)) worse (own-order .id) in
+      let none = met-passes-none v own-order some j m (at .at) (at .is) picks (good-apart (f .good)) worse k le (own-order .id) in
       tells-meet i j k v (good-apart (f .good))
       (λ e. opposite-not (own-order .side) (ap (λ (n : ℕ). reg v n .side) (sym e) ∙ ap (λ (x : Regular). x .side) (at .at) ∙ rests-side _ _ m rests))
       h (rw (at .at) (rests-held _ _ m rests))
-      (subst (λ (x : Regular). NonePassedOver v (x .series) (own-order .side) (x .price) (own-order .id) (x .id)) (sym (at .at))
-      (subst (λ (n : ℕ). NonePassedOver v n (own-order .side) (m .price) (own-order .id) (m .id)) (sym (rests-series _ _ m rests)) none))
+      (subst (λ (x : Regular). NonePassedOver v (x .series) (own-order .side) (x .price) k (own-order .id) (x .id)) (sym (at .at))
+      (subst (λ (n : ℕ). NonePassedOver v n (own-order .side) (m .price) k (own-order .id) (m .id)) (sym (rests-series _ _ m rests)) none))
 
   told-turn : TellsTurn Any v (meetTurn i v)
   unfolding meetTurn firstMet regularAt
@@ -158,6 +167,9 @@ module _ (i s d : ℕ) (v : Venue) (f : Fine v) (r : Ready i s d v) (some : Posi
     where
       hit-for : ℕ
       hit-for = min (own-order .quantity) (its-legging .quantity)
+
+      hit-few : hit-for ≤ its-legging .quantity
+      hit-few = omega arith
 
       go : (b : Bool) → held (own-order .quantity) ≡ b → (x : Choice Regular) → first meets priceThenId (v .regular) ≡ x → Chosen noRegular meets (v .regular) x →
           TellsTurn Any v (if not b then ended else elim x as (λ _. Turn) [
@@ -169,15 +181,15 @@ module _ (i s d : ℕ) (v : Venue) (f : Fine v) (r : Ready i s d v) (some : Posi
       go false e x is c = tt
       go true e nobody is c =
           if-by (TellsTurn Any v) (leggingFirst own-order its-legging 0)
-          (λ t. (hits e (hits-first v own-order some 0 t (λ n q. absurd (nobody-met v own-order some c n q))) _, tt)) (λ _. tt)
+          (λ t. (hits e (hits-first v own-order some 0 t (λ n q. absurd (nobody-met v own-order some c n q))) hit-for hit-few, tt)) (λ _. tt)
       go true e (picked j m) is c =
           if-by (TellsTurn Any v) (leggingFirst own-order its-legging (m .price))
           (λ t. (
             hits e (hits-first v own-order some (m .price) t
-                (legging-alone _ _ _ (v .regular) m (met-first _ _ _ (v .regular) j m is) own-order refl its-legging t)) _,
+                (legging-alone _ _ _ (v .regular) m (met-first _ _ _ (v .regular) j m is) own-order refl its-legging t)) hit-for hit-few,
             tt,
           ))
-          (λ t. (meets-one e j m is c t _, tt))
+          (λ t. (meets-one e j m is c t (min (own-order .quantity) (atOnce m)) (let most = once-most m in omega arith), tt))
 
 -- All turns -----------------------------------------------------------------------------------
 

@@ -2,7 +2,7 @@
 use mathlib.Core.Path.{_∙_, _≡_, ap, refl, subst, sym}
 use mathlib.Core.Bool.{Bool, _&&_, _||_, false, false≢true, not, true, true≢false}
 use mathlib.Core.Logic.{_≢_}
-use Prim.Native.Nat.{_-_, _<_, ℕ}
+use Prim.Native.Nat.{_-_, _<_, _≤_, ℕ}
 use native.Mathlib.Omega.{arith}
 use lib.Dec.{eqb, leb, ltb}
 use borrow.Author.Tests.{eqb-false, eqb-true, le-leb, leb-true, ltb-true}
@@ -21,7 +21,7 @@ use Rattle.rules.proofs.Picking.{Chosen}
 use Rattle.rules.proofs.Settling.{clear-best}
 use Rattle.rules.proofs.Sizes.{rests-held, shows-rests}
 use Rattle.rules.proofs.Tests.{and-l, and-r, held-pos, or-r, pos-held}
-use Rattle.replay.specs.Moments.{NonePassedOver}
+use Rattle.replay.specs.Moments.{MakerStands, NonePassedOver, resting}
 use Rattle.replay.proofs.Lessening.{Apart}
 
 -- Prices --------------------------------------------------------------------------------------
@@ -115,9 +115,10 @@ module _ (v : Venue) (o : Regular) (some : Positive v) where
     unfolding leggingFirst
     no-legging h = is-false (better e (ownPrice l) (m .price)) (λ b. clash (rw (better-held e (ownPrice l) (m .price) b, reached (ownPrice l) b, b)) h)
 
-    pub met-passes-none : Apart v → leggingFirst o l (m .price) ≡ false → (taker : ℕ) → NonePassedOver v s (o .side) (m .price) taker (m .id)
-    unfolding complexAt isComplexOf
-    met-passes-none a h taker = record {
+    pub met-passes-none : Apart v → leggingFirst o l (m .price) ≡ false → (k : ℕ) → k ≤ m .quantity → (taker : ℕ) → NonePassedOver v s (o .side) (m .price) k taker (m .id)
+    unfolding complexAt isComplexOf regularAt
+    met-passes-none a h k le taker = record {
+      stands = resting j (rw at (met-rests s (o .side) (o .price) m is)) (ap (λ (x : Regular). x .id) at) (ap (λ (x : Regular). x .price) at) (rw at le);
       shown = λ n t. none-resting n (shows-rests s e (regularAt v n) t);
       legging = no-legging h;
       reserve = λ _ _ n t. none-resting n t;
@@ -166,8 +167,9 @@ module _ (v : Venue) (o : Regular) (some : Positive v) where
         let same : ownPrice l ≡ reg v n .price = own ∙ sym q in
         better-irrefl e (reg v n .price) (subst (λ (p : ℕ). better e p (reg v n .price) ≡ true) same (worse n r (subst (λ (p : ℕ). reaches (o .side) (o .price) p ≡ true) same (h .reached))))
 
-    pub hit-passes-none : (taker maker : ℕ) → NonePassedOver v s (o .side) (l .price) taker maker
-    hit-passes-none taker maker = record {
+    pub hit-passes-none : (k taker maker : ℕ) → MakerStands v s e (l .price) k maker → NonePassedOver v s (o .side) (l .price) k taker maker
+    hit-passes-none k taker maker there = record {
+      stands = there;
       shown = λ n t. none-before n (shows-rests s e (regularAt v n) t);
       legging = subst (λ (p : ℕ). better e (ownPrice l) p ≡ false) own (is-false (better e (ownPrice l) (ownPrice l)) (better-irrefl e (ownPrice l)));
       reserve = λ _ _ n t. none-before n t;
@@ -197,13 +199,14 @@ clear-best-price v s e h =
 
 -- with the regular order at place i
 pub taking-passes-none : (v : Venue) → Apart v → (s d p x : ℕ) → Best v s (opposite d) p → (c : ℕ) → held (cx v c .quantity) ≡ true → cx v c .id ≡ x →
-    (i : ℕ) → held (reg v i .quantity) ≡ true → NonePassedOver v s d p x (reg v i .id)
+    (i k : ℕ) → restsAt s (opposite d) (reg v i) ≡ true → reg v i .price ≡ p → k ≤ reg v i .quantity → NonePassedOver v s d p k x (reg v i .id)
 unfolding regularAt complexAt isRegularOf isComplexOf
-taking-passes-none v a s d p x b c hc ex i hi = record {
+taking-passes-none v a s d p x b c hc ex i k hi e le = record {
+  stands = resting i hi refl e le;
   shown = b .shown;
   legging = b .legging;
   reserve = λ n t.
       absurd (a .both n c (and-l (held (reg v n .quantity)) (eqb (reg v n .id) x) t) hc (eqb-true (reg v n .id) x (and-r (held (reg v n .quantity)) (eqb (reg v n .id) x) t) ∙ sym ex));
   hit = λ n t.
-      absurd (a .both i n hi (and-l (held (cx v n .quantity)) (eqb (cx v n .id) (reg v i .id)) t) (sym (eqb-true (cx v n .id) (reg v i .id) (and-r (held (cx v n .quantity)) (eqb (cx v n .id) (reg v i .id)) t))));
+      absurd (a .both i n (rests-held s (opposite d) (reg v i) hi) (and-l (held (cx v n .quantity)) (eqb (cx v n .id) (reg v i .id)) t) (sym (eqb-true (cx v n .id) (reg v i .id) (and-r (held (cx v n .quantity)) (eqb (cx v n .id) (reg v i .id)) t))));
 }

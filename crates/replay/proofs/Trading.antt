@@ -18,7 +18,7 @@ use Rattle.rules.specs.Removal.{removeOf}
 use Rattle.rules.specs.Trading.{fillComplex, fillRegular, pairOff, take, tradeWith}
 use Rattle.rules.specs.Order.{meet}
 use Rattle.rules.proofs.Filling.{Lesser, cx, fill-complex, fill-fewer, filled-other, reg}
-use Rattle.rules.proofs.Sizes.{fill-shown, rests-series, shows-held, shows-rests}
+use Rattle.rules.proofs.Sizes.{fill-shown, rests-series, shown-most, shows-held, shows-rests}
 use Rattle.rules.proofs.Taking.{Chain, no-more, take-chain, traded}
 use Rattle.rules.proofs.Tests.{and-l, and-r, held-pos, pos-held}
 use Rattle.replay.specs.Replay.{State, lessenComplex, lessenOrder, next, noted}
@@ -65,15 +65,17 @@ module _ (v : Venue) (a : Apart v) (s d p x c : ℕ) (b : Best v s (opposite d) 
   lessens i q hi =
       ap (lessenOrder (reg v i .id) q) (subst (λ (y : ℕ). lessenOrder y q v ≡ v) ex (lessen-no-order v a c q hc)) ∙ lessen-order v a i q hi
 
-  one-trade : (i q : ℕ) → showsAt s (opposite d) (regularAt v i) ≡ true → regularAt v i .price ≡ p →
+  one-trade : (i q : ℕ) → showsAt s (opposite d) (regularAt v i) ≡ true → regularAt v i .price ≡ p → q ≤ shown (regularAt v i) →
       Tells v (report (trade (regularAt v i .series) d (regularAt v i .price) q x (regularAt v i .id)) (fillRegular i q v))
   unfolding regularAt
-  one-trade i q sh e =
+  one-trade i q sh e le =
       let hi = shows-held s (opposite d) (reg v i) sh in
-      let t = rests-series s (opposite d) (reg v i) (shows-rests s (opposite d) (reg v i) sh) in
+      let rests = shows-rests s (opposite d) (reg v i) sh in
+      let t = rests-series s (opposite d) (reg v i) rests in
+      let most = shown-most (reg v i) in
       tells-report _ v _ (next-trade (reg v i .series) d (reg v i .price) q x (reg v i .id) v (fillRegular i q v) (lessens i q hi))
-      (subst (λ (n : ℕ). NonePassedOver v n d (reg v i .price) x (reg v i .id)) (sym t)
-      (subst (λ (n : ℕ). NonePassedOver v s d n x (reg v i .id)) (sym e) (taking-passes-none v a s d p x b c hc ex i hi)))
+      (subst (λ (n : ℕ). NonePassedOver v n d (reg v i .price) q x (reg v i .id)) (sym t)
+      (subst (λ (n : ℕ). NonePassedOver v s d n q x (reg v i .id)) (sym e) (taking-passes-none v a s d p x b c hc ex i q rests e (omega arith))))
 
 -- all of them
 pub tells-chain : {x s d p : ℕ} {v w : Venue} {rs : List Report} → Chain x s d p v rs w → Apart v → Best v s (opposite d) p →
@@ -82,7 +84,7 @@ unfolding report _⟫_ nothing
 tells-chain {v = v} no-more a b c hc ex = tells-nothing v
 tells-chain {x = x} {s = s} {d = d} {p = p} (traded {v = v} i q {rs} {w} f sh e le rest) a b c hc ex =
     tells-then v (report (trade (regularAt v i .series) d (regularAt v i .price) q x (regularAt v i .id)) (fillRegular i q v)) (λ _. record { venue = w; reports = rs })
-    (one-trade v a s d p x c b hc ex i q sh e)
+    (one-trade v a s d p x c b hc ex i q sh e le)
     (tells-chain rest (apart-lasts .fillR i q v a) (best-fill i q v s (opposite d) p b) c (rw (fill-complex i q v) hc) (rw (fill-complex i q v) ex))
 
 pub tells-take : (x s d p fuel k : ℕ) (v : Venue) → Apart v → Best v s (opposite d) p → (c : ℕ) → held (cx v c .quantity) ≡ true → cx v c .id ≡ x → Tells v (take fuel x s d p k v)
@@ -100,7 +102,7 @@ tells-pairOff i id n k v a h e =
 -- A regular order meets another ---------------------------------------------------------------
 
 pub tells-meet : (i j k : ℕ) (v : Venue) → Apart v → j ≢ i → held (reg v i .quantity) ≡ true → held (reg v j .quantity) ≡ true →
-    NonePassedOver v (reg v j .series) (reg v i .side) (reg v j .price) (reg v i .id) (reg v j .id) → Tells v (meet i j k v)
+    NonePassedOver v (reg v j .series) (reg v i .side) (reg v j .price) k (reg v i .id) (reg v j .id) → Tells v (meet i j k v)
 unfolding meet tradeWith regularAt
 tells-meet i j k v a ne hi hj none =
     subst (λ (o : Regular). Tells v (report (trade (o .series) (reg v i .side) (o .price) k (reg v i .id) (o .id)) (fillRegular j k (fillRegular i k v)))) (sym same)

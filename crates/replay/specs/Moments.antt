@@ -5,9 +5,10 @@ use mathlib.Core.Path.{_≡_}
 use mathlib.Core.Bool.{false, true}
 use mathlib.Core.Logic.{_≢_}
 use mathlib.Core.List.{List, [], _∷_}
-use Prim.Native.Nat.{ℕ}
+use Prim.Native.Nat.{_≤_, ℕ}
 use lib.IntN.{ℤ, negℤ}
 use Rattle.rules.specs.declared.Venue.{Venue}
+use Rattle.rules.specs.Base.{held}
 use Rattle.rules.specs.Words.{complexAt, freshVenue, isComplexOf, isRegularOf, leggingAt, opposite, regularAt}
 use Rattle.rules.specs.Records.{Report, answer, cancelled, crossed, generated, looked, pair, removed, trade}
 use Rattle.rules.specs.Prices.{better, ownPrice, restsAt, showsAt}
@@ -19,8 +20,18 @@ use Rattle.replay.specs.Replay.{State, next, upon}
 
 -- A trade -------------------------------------------------------------------------------------
 
--- a trade at price p in series s by a taker of side d, upon the books v: it takes the side opposite to d
-pub record NonePassedOver (v : Venue) (s d p taker maker : ℕ) : Type 0 where
+-- The maker of a trade stands in the books at that moment, on side e of series s at price p, with k contracts or more: it is a regular order that rests there,
+-- or the complex order of the legging order that stands there.
+pub data MakerStands (v : Venue) (s e p k maker : ℕ) : Type 0 where
+  resting : (i : ℕ) → restsAt s e (regularAt v i) ≡ true → regularAt v i .id ≡ maker → regularAt v i .price ≡ p → k ≤ regularAt v i .quantity →
+      MakerStands v s e p k maker
+  legging : (j : ℕ) → isComplexOf maker (complexAt v j) ≡ true → held (leggingAt v s e .quantity) ≡ true → leggingAt v s e .parent ≡ maker →
+      leggingAt v s e .price ≡ p → k ≤ leggingAt v s e .quantity → MakerStands v s e p k maker
+
+-- a trade of k contracts at price p in series s by a taker of side d, upon the books v: it takes the side opposite to d
+pub record NonePassedOver (v : Venue) (s d p k taker maker : ℕ) : Type 0 where
+  -- the maker stands there: were it lost from the books, what is asked below would say nothing
+  pub stands : MakerStands v s (opposite d) p k maker
   -- "no … strictly better shown … price stood on that side"
   pub shown : (i : ℕ) → showsAt s (opposite d) (regularAt v i) ≡ true → better (opposite d) (regularAt v i .price) p ≡ false
   -- "… or legging price"
@@ -45,7 +56,7 @@ pub record BothRespected (v : Venue) (taker maker : ℕ) (n : ℤ) : Type 0 wher
 -- what is asked of a record upon the books just before it
 abbrev pub AtItsMoment : Venue → Report → Type 0
 AtItsMoment v (answer number refusal mask count) = Unit {0}
-AtItsMoment v (trade series side price quantity taker maker) = NonePassedOver v series side price taker maker
+AtItsMoment v (trade series side price quantity taker maker) = NonePassedOver v series side price quantity taker maker
 AtItsMoment v (pair id n quantity) = Unit {0}
 AtItsMoment v (generated id series side price shown quantity) = Unit {0}
 AtItsMoment v (removed id series side cause) = Unit {0}
