@@ -4,18 +4,19 @@ use mathlib.Core.Bool.{Bool, false, not, true}
 use mathlib.Core.List.{List}
 use Prim.Native.Nat.{_≤_, min, ℕ}
 use native.Mathlib.Omega.{arith}
+use lib.Dec.{eqb}
 use lib.ListN.{getD}
-use borrow.Author.Tests.{eq-eqb}
+use borrow.Author.Tests.{eq-eqb, eqb-true}
 use Rattle.rules.specs.declared.Complex.{Complex}
 use Rattle.rules.specs.declared.Leg.{Leg}
 use Rattle.rules.specs.declared.Legging.{Legging}
 use Rattle.rules.specs.declared.Regular.{Regular}
 use Rattle.rules.specs.declared.Venue.{Venue}
 use Rattle.rules.specs.Base.{Choice, first, held, if_then_else_, nobody, picked, placeWhere}
-use Rattle.rules.specs.Words.{complexAt, isComplexOf, leggingAt, noComplex, noRegular, opposite, placeOf, regularAt}
+use Rattle.rules.specs.Words.{complexAt, isComplexOf, isRegularOf, leggingAt, noComplex, noRegular, opposite, placeOf, regularAt}
 use Rattle.rules.specs.Records.{trade}
 use Rattle.rules.specs.Effects.{Effect, Turn, _⟫_, ended, repeat, report, turned}
-use Rattle.rules.specs.Prices.{restsAt}
+use Rattle.rules.specs.Prices.{restsAt, shown}
 use Rattle.rules.specs.Standing.{legNet, otherClear, otherLeg, parentOf}
 use Rattle.rules.specs.Trading.{fillRegular, pairOff, take}
 use Rattle.rules.specs.Order.{atOnce, firstMet, hit, isMet, leggingFirst, meet, meetTurn, priceThenId}
@@ -25,8 +26,8 @@ use Rattle.rules.proofs.Hitting.{hitting, hitting-complex}
 use Rattle.rules.proofs.Keeping.{keeps-take}
 use Rattle.rules.proofs.Meeting.{legging-alone, met-first}
 use Rattle.rules.proofs.Picking.{At, Chosen, first-chosen}
-use Rattle.rules.proofs.Sizes.{once-most, rests-held, rests-series, rests-side}
-use Rattle.rules.proofs.Tests.{and-l}
+use Rattle.rules.proofs.Sizes.{once-most, once-shown, rests-held, rests-series, rests-side}
+use Rattle.rules.proofs.Tests.{and-l, and-r}
 use Rattle.demands.proofs.Carrying.{TurnOk, fine-after, opposite-not}
 use Rattle.demands.proofs.Entering.{Pays, Ready, meetTurn-ok}
 use Rattle.demands.proofs.Homes.{Fine, home-held, parent-found, place-at}
@@ -123,6 +124,13 @@ module _ (v : Venue) (f : Fine v) (i k : ℕ) (h : held (reg v i .quantity) ≡ 
     unfolding leggingAt complexAt isComplexOf
     behind-legging le = legging j (rw (holds, eq-eqb (cx v j .id) (c .id) is)) hl (sym (f .homes .home n hl .id) ∙ is) refl le
 
+    -- and no regular order has its id
+    pub no-order : (m : ℕ) → isRegularOf (c .id) (regularAt v m) ≡ true → ⊥
+    unfolding regularAt isRegularOf
+    no-order m t =
+        a .both m j (and-l (held (reg v m .quantity)) (eqb (reg v m .id) (c .id)) t) holds
+        (eqb-true (reg v m .id) (c .id) (and-r (held (reg v m .quantity)) (eqb (reg v m .id) (c .id)) t) ∙ sym is)
+
     pub tells-hit : NonePassedOver v (o .series) (o .side) (l .price) k (o .id) (c .id) → Tells v (hit i l k v)
     unfolding hit regularAt _⟫_ report
     tells-hit none = tells-then v (own ⟫ taking) pairing (tells-then v own taking (tells-own none) tells-other) tells-pair
@@ -147,14 +155,14 @@ module _ (i s d : ℕ) (v : Venue) (f : Fine v) (r : Ready i s d v) (some : Posi
   unfolding leggingAt
   hits h first k le =
       let pays = pays-here (first .there) in
-      tells-hit v f i k h (first .there) pays (hit-passes-none v own-order some first k _ _ (behind-legging v f i k h (first .there) pays le))
+      tells-hit v f i k h (first .there) pays (hit-passes-none v own-order some first k _ _ (behind-legging v f i k h (first .there) pays le) (no-order v f i k h (first .there) pays))
 
   meets-one : held (own-order .quantity) ≡ true → (j : ℕ) (m : Regular) → first meets priceThenId (v .regular) ≡ picked j m → At noRegular meets (v .regular) j m →
-      leggingFirst own-order its-legging (m .price) ≡ false → (k : ℕ) → k ≤ m .quantity → Tells v (meet i j k v)
+      leggingFirst own-order its-legging (m .price) ≡ false → (k : ℕ) → k ≤ m .quantity → (held (shown m) ≡ true → k ≤ shown m) → Tells v (meet i j k v)
   unfolding isMet
-  meets-one h j m picks at worse k le =
+  meets-one h j m picks at worse k le own =
       let rests : restsAt (own-order .series) (opposite (own-order .side)) m ≡ true = and-l _ _ (at .is) in
-      let none = met-passes-none v own-order some j m (at .at) (at .is) picks (good-apart (f .good)) worse k le (own-order .id) in
+      let none = met-passes-none v own-order some j m (at .at) (at .is) picks (good-apart (f .good)) worse k le own (own-order .id) in
       tells-meet i j k v (good-apart (f .good))
       (λ e. opposite-not (own-order .side) (ap (λ (n : ℕ). reg v n .side) (sym e) ∙ ap (λ (x : Regular). x .side) (at .at) ∙ rests-side _ _ m rests))
       h (rw (at .at) (rests-held _ _ m rests))
@@ -189,7 +197,11 @@ module _ (i s d : ℕ) (v : Venue) (f : Fine v) (r : Ready i s d v) (some : Posi
                 (legging-alone _ _ _ (v .regular) m (met-first _ _ _ (v .regular) j m is) own-order refl its-legging t)) hit-for hit-few,
             tt,
           ))
-          (λ t. (meets-one e j m is c t (min (own-order .quantity) (atOnce m)) (let most = once-most m in omega arith), tt))
+          (λ t. (
+            meets-one e j m is c t (min (own-order .quantity) (atOnce m)) (let most = once-most m in omega arith)
+                (λ t. let once = once-shown m t in omega arith),
+            tt,
+          ))
 
 -- All turns -----------------------------------------------------------------------------------
 

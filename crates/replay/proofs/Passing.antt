@@ -11,17 +11,17 @@ use Rattle.rules.specs.declared.Regular.{Regular}
 use Rattle.rules.specs.declared.Venue.{Venue}
 use Rattle.rules.specs.Base.{first, held, if_then_else_, nobody, picked}
 use Rattle.rules.specs.Words.{buy, complexAt, isComplexOf, isRegularOf, leggingAt, noRegular, opposite, regularAt}
-use Rattle.rules.specs.Prices.{bestRegular, better, clearPrice, ownPrice, reaches, restsAt, showsAt}
+use Rattle.rules.specs.Prices.{bestRegular, better, clearPrice, ownPrice, reaches, restsAt, shown, showsAt}
 use Rattle.rules.specs.Order.{isMet, leggingFirst, priceThenId}
 use Rattle.rules.proofs.Better.{best-best, better-irrefl, better-trans, is-false}
 use Rattle.rules.proofs.Filling.{Fewer, cx, held-fits, reg, still-held}
-use Rattle.rules.proofs.Meeting.{met-first}
+use Rattle.rules.proofs.Meeting.{MetFirst, met-first}
 use Rattle.rules.proofs.Owning.{first-held, own-is}
 use Rattle.rules.proofs.Picking.{Chosen}
 use Rattle.rules.proofs.Settling.{clear-best}
 use Rattle.rules.proofs.Sizes.{rests-held, shows-rests}
 use Rattle.rules.proofs.Tests.{and-l, and-r, held-pos, or-r, pos-held}
-use Rattle.replay.specs.Moments.{MakerStands, NonePassedOver, resting}
+use Rattle.replay.specs.Moments.{InTurn, MakerStands, NonePassedOver, resting}
 use Rattle.replay.proofs.Lessening.{Apart}
 
 -- Prices --------------------------------------------------------------------------------------
@@ -78,6 +78,10 @@ met-reached : (s d p : ℕ) (x : Regular) → isMet s d p x ≡ true → reaches
 unfolding isMet
 met-reached s d p x h = and-r (restsAt s (opposite d) x) _ h
 
+shows-shown : (s e : ℕ) (x : Regular) → showsAt s e x ≡ true → held (shown x) ≡ true
+unfolding showsAt
+shows-shown s e x h = search (and-l, and-r, h)
+
 clash : {b : Bool} → b ≡ true → b ≡ false → ⊥
 clash h k = true≢false (sym h ∙ k)
 
@@ -115,9 +119,37 @@ module _ (v : Venue) (o : Regular) (some : Positive v) where
     unfolding leggingFirst
     no-legging h = is-false (better e (ownPrice l) (m .price)) (λ b. clash (rw (better-held e (ownPrice l) (m .price) b, reached (ownPrice l) b, b)) h)
 
-    pub met-passes-none : Apart v → leggingFirst o l (m .price) ≡ false → (k : ℕ) → k ≤ m .quantity → (taker : ℕ) → NonePassedOver v s (o .side) (m .price) k taker (m .id)
-    unfolding complexAt isComplexOf regularAt
-    met-passes-none a h k le taker = record {
+    -- at its price it is met in its turn
+    met-at-price : (n : ℕ) → restsAt s e (reg v n) ≡ true → reg v n .price ≡ m .price → met (reg v n) ≡ true
+    met-at-price n r q = met-in s (o .side) (o .price) (reg v n) r (rw q (met-reached s (o .side) (o .price) m is))
+
+    met-in-turn : (k : ℕ) → (held (shown m) ≡ true → k ≤ shown m) → InTurn v s e (m .price) k j
+    unfolding regularAt
+    met-in-turn k own = record {
+      own = subst (λ (x : Regular). held (shown x) ≡ true → k ≤ shown x) (sym at) own;
+      shownById = λ t n h q. early n (met-at-price n (shows-rests s e (reg v n) h) q) q (shows-shown s e (reg v n) h ∙ sym (of-m true t));
+      allShown = λ t n h q. f .shows n (met-at-price n h q) q (of-m false t);
+      reserveById = λ t n h q. early n (met-at-price n h q) q (f .shows n (met-at-price n h q) q (of-m false t) ∙ sym (of-m false t));
+    }
+      where
+        f : MetFirst s (o .side) (o .price) (v .regular) m
+        f = met-first s (o .side) (o .price) (v .regular) j m picks
+
+        of-m : (b : Bool) → held (shown (reg v j)) ≡ b → held (shown m) ≡ b
+        of-m b t = sym (ap (λ (x : Regular). held (shown x)) at) ∙ t
+
+        early : (n : ℕ) → met (reg v n) ≡ true → reg v n .price ≡ m .price → held (shown (reg v n)) ≡ held (shown m) → reg v j .id ≤ reg v n .id
+        early n h q t = subst (λ (x : Regular). x .id ≤ reg v n .id) (sym at) (f .early n h q t)
+
+    pub met-passes-none : Apart v → leggingFirst o l (m .price) ≡ false → (k : ℕ) → k ≤ m .quantity → (held (shown m) ≡ true → k ≤ shown m) → (taker : ℕ) →
+        NonePassedOver v s (o .side) (m .price) k taker (m .id)
+    unfolding complexAt isComplexOf regularAt isRegularOf
+    met-passes-none a h k le own taker = record {
+      turn = λ _ _ n t.
+          subst (InTurn v s e (m .price) k)
+          (a .orders j n (rw at (rests-held s e m (met-rests s (o .side) (o .price) m is))) (and-l (held (reg v n .quantity)) (eqb (reg v n .id) (m .id)) t)
+          (ap (λ (x : Regular). x .id) at ∙ sym (eqb-true (reg v n .id) (m .id) (and-r (held (reg v n .quantity)) (eqb (reg v n .id) (m .id)) t))))
+          (met-in-turn k own);
       stands = resting j (rw at (met-rests s (o .side) (o .price) m is)) (ap (λ (x : Regular). x .id) at) (ap (λ (x : Regular). x .price) at) (rw at le);
       shown = λ n t. none-resting n (shows-rests s e (regularAt v n) t);
       legging = no-legging h;
@@ -167,9 +199,12 @@ module _ (v : Venue) (o : Regular) (some : Positive v) where
         let same : ownPrice l ≡ reg v n .price = own ∙ sym q in
         better-irrefl e (reg v n .price) (subst (λ (p : ℕ). better e p (reg v n .price) ≡ true) same (worse n r (subst (λ (p : ℕ). reaches (o .side) (o .price) p ≡ true) same (h .reached))))
 
-    pub hit-passes-none : (k taker maker : ℕ) → MakerStands v s e (l .price) k maker → NonePassedOver v s (o .side) (l .price) k taker maker
-    hit-passes-none k taker maker there = record {
+    -- the maker is no regular order
+    pub hit-passes-none : (k taker maker : ℕ) → MakerStands v s e (l .price) k maker → ((i : ℕ) → isRegularOf maker (regularAt v i) ≡ true → ⊥) →
+        NonePassedOver v s (o .side) (l .price) k taker maker
+    hit-passes-none k taker maker there none = record {
       stands = there;
+      turn = λ _ _ i t. absurd (none i t);
       shown = λ n t. none-before n (shows-rests s e (regularAt v n) t);
       legging = subst (λ (p : ℕ). better e (ownPrice l) p ≡ false) own (is-false (better e (ownPrice l) (ownPrice l)) (better-irrefl e (ownPrice l)));
       reserve = λ _ _ n t. none-before n t;
@@ -203,6 +238,8 @@ pub taking-passes-none : (v : Venue) → Apart v → (s d p x : ℕ) → Best v 
 unfolding regularAt complexAt isRegularOf isComplexOf
 taking-passes-none v a s d p x b c hc ex i k hi e le = record {
   stands = resting i hi refl e le;
+  turn = λ n t.
+      absurd (a .both n c (and-l (held (reg v n .quantity)) (eqb (reg v n .id) x) t) hc (eqb-true (reg v n .id) x (and-r (held (reg v n .quantity)) (eqb (reg v n .id) x) t) ∙ sym ex));
   shown = b .shown;
   legging = b .legging;
   reserve = λ n t.

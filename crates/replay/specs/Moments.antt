@@ -11,7 +11,7 @@ use Rattle.rules.specs.declared.Venue.{Venue}
 use Rattle.rules.specs.Base.{held}
 use Rattle.rules.specs.Words.{complexAt, freshVenue, isComplexOf, isRegularOf, leggingAt, opposite, regularAt}
 use Rattle.rules.specs.Records.{Report, answer, cancelled, crossed, generated, looked, pair, removed, trade}
-use Rattle.rules.specs.Prices.{better, ownPrice, restsAt, showsAt}
+use Rattle.rules.specs.Prices.{better, ownPrice, restsAt, shown, showsAt}
 use Rattle.rules.specs.Step.{step}
 use Rattle.demands.specs.Crosses.{Respects}
 use Rattle.demands.specs.Demand.{Given, Opening, calls, opening}
@@ -28,6 +28,16 @@ pub data MakerStands (v : Venue) (s e p k maker : ℕ) : Type 0 where
   legging : (j : ℕ) → isComplexOf maker (complexAt v j) ≡ true → held (leggingAt v s e .quantity) ≡ true → leggingAt v s e .parent ≡ maker →
       leggingAt v s e .price ≡ p → k ≤ leggingAt v s e .quantity → MakerStands v s e p k maker
 
+-- (e): "At one price all shown size trades by id, then, in trades of its own, all reserve by id, then the legging order": of a trade of k contracts with the
+-- order that rests at place i, on side e of series s at price p. "Then the legging order" is `hit` below.
+pub record InTurn (v : Venue) (s e p k i : ℕ) : Type 0 where
+  -- while it shows any, the trade is of what it shows, and of those at that price that show none is earlier
+  pub own : held (shown (regularAt v i)) ≡ true → k ≤ shown (regularAt v i)
+  pub shownById : held (shown (regularAt v i)) ≡ true → (n : ℕ) → showsAt s e (regularAt v n) ≡ true → regularAt v n .price ≡ p → regularAt v i .id ≤ regularAt v n .id
+  -- its reserve is traded when none at that price shows any, and of those that rest there none is earlier
+  pub allShown : held (shown (regularAt v i)) ≡ false → (n : ℕ) → restsAt s e (regularAt v n) ≡ true → regularAt v n .price ≡ p → held (shown (regularAt v n)) ≡ false
+  pub reserveById : held (shown (regularAt v i)) ≡ false → (n : ℕ) → restsAt s e (regularAt v n) ≡ true → regularAt v n .price ≡ p → regularAt v i .id ≤ regularAt v n .id
+
 -- a trade of k contracts at price p in series s by a taker of side d, upon the books v: it takes the side opposite to d
 pub record NonePassedOver (v : Venue) (s d p k taker maker : ℕ) : Type 0 where
   -- the maker stands there: were it lost from the books, what is asked below would say nothing
@@ -39,6 +49,8 @@ pub record NonePassedOver (v : Venue) (s d p k taker maker : ℕ) : Type 0 where
   -- beyond the request: an incoming regular order passes no better reserve over either
   pub reserve : (j : ℕ) → isRegularOf taker (regularAt v j) ≡ true →
       (i : ℕ) → restsAt s (opposite d) (regularAt v i) ≡ true → better (opposite d) (regularAt v i .price) p ≡ false
+  -- request (e), of an incoming regular order and the regular order that it meets
+  pub turn : (j : ℕ) → isRegularOf taker (regularAt v j) ≡ true → (i : ℕ) → isRegularOf maker (regularAt v i) ≡ true → InTurn v s (opposite d) p k i
   -- "when an incoming regular order hits a legging order, no regular contract, shown or reserve, stood at that price": the maker is a complex order
   pub hit : (j : ℕ) → isComplexOf maker (complexAt v j) ≡ true →
       (i : ℕ) → restsAt s (opposite d) (regularAt v i) ≡ true → regularAt v i .price ≢ p
