@@ -1,19 +1,26 @@
--- What stopped the handing out, and that its fuel is enough.
+-- What stopped the handing out, that its fuel is enough, and that the call never returns 1.
 use mathlib.Core.Path.{_≡_, refl, sym, ap, subst, _∙_}
 use mathlib.Core.Bool.{Bool, true, false, _&&_, _||_}
+use mathlib.Core.Logic.{_≢_}
 use mathlib.Core.List.{List, [], _∷_}
 use Prim.Native.Nat.{ℕ, zero, suc, _+_, _<_, _≤_}
 use native.Mathlib.Omega.{arith}
 use lib.Dec.{ltb, eqb}
 use lib.ListN.{length, drop, length-drop}
 use borrow.Author.Tests.{eqb-true, eqb-false, ltb-false, ne-eqb}
+use Rattle.rules.specs.declared.Venue.{Venue}
 use Rattle.rules.specs.Base.{if_then_else_}
+use Rattle.rules.specs.Words.{freshVenue}
+use Rattle.rules.specs.Step.{step}
+use Rattle.rules.specs.Calls.{Call, Outcome, after, called, ends, exceeds}
 use Rattle.rules.proofs.Tests.{and-l, and-r, or-false-l, or-false-r}
-use Rattle.feed.specs.Feed.{faultless, Part, partsOf, Under, absent, stands, under, later, same, Next, message, stop, nextBy, next, Handed, stopped, first, handedFrom, handed}
+use Rattle.feed.specs.Feed.{faultless, Part, partsOf, Under, absent, stands, under, later, same, Next, message, stop, nextBy, next, Handed, stopped, first, handedFrom, handed, feed}
 use Rattle.feed.specs.Cursors.{stopOf, advanceOf}
-use Rattle.feed.specs.Stops.{StopsThere, NoneLeft}
+use Rattle.feed.specs.Turns.{fedFrom, hands}
+use Rattle.feed.specs.Stops.{StopsThere, NoneLeft, NeverTorn}
 use Rattle.feed.proofs.Handing.{handed-on, handed-stop}
-use Rattle.feed.proofs.Ahead.{Ahead, ahead-start, ahead-moved, ahead-ready, advance-within, some-move, next-up, next-end, up-stop, stop-not}
+use Rattle.feed.proofs.Turning.{hands-full, hands-more, fed-on, fed-stop, feed-is, feed-not}
+use Rattle.feed.proofs.Ahead.{Ahead, ahead-start, ahead-moved, ahead-ready, advance-within, some-move, next-up, next-end, next-whole, up-stop, stop-not}
 
 -- The number after the last -------------------------------------------------------------------
 
@@ -145,3 +152,52 @@ none-left main spare z k h =
       beyond n k (partsOf main) (a .0) (or-false-l (later (suc n) (partsOf main)) (later (suc n) (partsOf spare)) (a .2)) h,
       beyond n k (partsOf spare) (a .1) (or-false-r (later (suc n) (partsOf main)) (later (suc n) (partsOf spare)) (a .2)) h,
     )
+
+-- Never 1 -------------------------------------------------------------------------------------
+
+-- what stops the handing out is no 1
+stop-by : (a b : Under) (ahead : Bool) (k : ℕ) → nextBy a b ahead ≡ stop k → k ≢ 1
+unfolding nextBy
+stop-by (stands x) (stands y) ahead k = go (same x y)
+  where
+    go : (t : Bool) → (if t then message x else stop 19) ≡ stop k → k ≢ 1
+    go true e one = absurd (stop-not k x (sym e))
+    go false e one = let z : _≡_ {A = ℕ} 19 k = cc in omega arith
+stop-by (stands x) absent ahead k = λ e. absurd (stop-not k x (sym e))
+stop-by absent (stands y) ahead k = λ e. absurd (stop-not k y (sym e))
+stop-by absent absent ahead k = go ahead
+  where
+    go : (t : Bool) → (if t then stop 20 else stop 0) ≡ stop k → k ≢ 1
+    go true e one = let z : _≡_ {A = ℕ} 20 k = cc in omega arith
+    go false e one = let z : _≡_ {A = ℕ} 0 k = cc in omega arith
+
+next-stops : (n : ℕ) (m s : List Part) (k : ℕ) → next n m s ≡ stop k → k ≢ 1
+unfolding next
+next-stops n m s k = stop-by (under n m) (under n s) (later n m || later n s) k
+
+hands-whole : (v : Venue) (n room : ℕ) (bs : List ℕ) (rest : Venue → ℕ → Outcome) → ((w : Venue) (left : ℕ) → rest w left .number ≢ 1) → hands v n room bs rest .number ≢ 1
+hands-whole v n room bs rest on = go (exceeds (suc n) room (step v (suc n) bs .effect .reports)) refl
+  where
+    go : (b : Bool) → exceeds (suc n) room (step v (suc n) bs .effect .reports) ≡ b → hands v n room bs rest .number ≢ 1
+    go true e = rw (hands-full v n room bs rest e) (unfold ends in (λ z. omega arith))
+    go false e = rw (hands-more v n room bs rest e) (unfold after in (on _ _))
+
+fed-whole : (fuel : ℕ) (v : Venue) (n room : ℕ) (m s : List Part) → fedFrom fuel v n room m s .number ≢ 1
+fed-whole zero v n room m s = unfold fedFrom ends in (λ z. omega arith)
+fed-whole (suc fuel) v n room m s = go (next (suc n) m s) refl (λ w left. fed-whole fuel w (suc n) left m s)
+  where
+    go : (x : Next) → next (suc n) m s ≡ x → ((w : Venue) (left : ℕ) → fedFrom fuel w (suc n) left m s .number ≢ 1) → fedFrom (suc fuel) v n room m s .number ≢ 1
+    go (stop k) e on = rw (fed-stop fuel v n room m s k e) (unfold ends in (next-stops (suc n) m s k e))
+    go (message bs) e on = rw (fed-on fuel v n room m s bs e) (hands-whole v n room bs (λ w left. fedFrom fuel w (suc n) left m s) on)
+
+pub never-torn : NeverTorn
+unfolding called ends
+never-torn room main spare = go (faultless main && faultless spare) refl
+  where
+    go : (b : Bool) → (faultless main && faultless spare) ≡ b → feed room main spare .returned .number ≢ 1
+    go true e =
+        let a = and-l (faultless main) (faultless spare) e in
+        let b = and-r (faultless main) (faultless spare) e in
+        subst (λ (c : Call). c .returned .number ≢ 1) (feed-is (partsOf main) (partsOf spare) (next-whole main spare a b) room main spare refl refl a b)
+        (fed-whole (length main + length spare) freshVenue 0 room (partsOf main) (partsOf spare))
+    go false e = subst (λ (c : Call). c .returned .number ≢ 1) (feed-not room main spare e) (λ z. omega arith)
