@@ -177,7 +177,7 @@ module _ (i s d : ℕ) (v : Venue) (f : Fine v) (r : Ready i s d v) where
         place-then = rw (hitting-complex v i k l, parent-is) (place-at v (f .good) j (home .fits) holdsC)
 
     -- its place is free afterwards
-    emptied : held (lg (hit i l k v .venue) (placeOf s (opposite d)) .quantity) ≡ true → ⊥
+    pub emptied : held (lg (hit i l k v .venue) (placeOf s (opposite d)) .quantity) ≡ true → ⊥
     emptied q =
         hit-removes v i k l (placeOf s (opposite d)) q
         (ap (λ (x : Legging). x .parent) (hit-stays v i k l (placeOf s (opposite d)) q) ∙ sym (home .id) ∙ ap (λ (c : Complex). c .id) (sym parent-is))

@@ -1,18 +1,18 @@
--- Request (e), "Reserve size": what the trades of one message take from an order that rests, by what it showed when the message began.
+-- Request (e), "Reserve size": what the trades of one message take from an order that rests, by what it showed when the message began, and in which order.
 use mathlib.Core.Path.{_≡_}
 use mathlib.Core.Bool.{not, true, _&&_}
 use mathlib.Core.List.{List, [], _++_, _∷_}
-use Prim.Native.Nat.{_≤_, ℕ}
+use Prim.Native.Nat.{_≤_, suc, ℕ}
 use lib.Dec.{eqb}
 use Rattle.rules.specs.declared.Message.{Message}
 use Rattle.rules.specs.declared.Message.the-variants.{Away, Cancel, Increment, LimitedSweep, Order, Percent, Status, Sweep, TwoLeg}
 use Rattle.rules.specs.declared.Regular.{Regular}
 use Rattle.rules.specs.declared.Venue.{Venue}
 use Rattle.rules.specs.Base.{held, if_then_else_}
-use Rattle.rules.specs.Words.{regularAt}
+use Rattle.rules.specs.Words.{leggingAt, opposite, regularAt}
 use Rattle.rules.specs.Messages.{messageOf}
 use Rattle.rules.specs.Records.{Report, answer, cancelled, crossed, generated, looked, pair, removed, trade}
-use Rattle.rules.specs.Prices.{shown}
+use Rattle.rules.specs.Prices.{restsAt, shown}
 use Rattle.rules.specs.Step.{step}
 use Rattle.rules.specs.Sums.{total}
 use Rattle.demands.specs.Kept.{SoundVenue}
@@ -41,12 +41,60 @@ pub data AtMostTwo (shown reserve : ℕ) : List ℕ → Type 0 where
   ofShown : (k : ℕ) → k ≤ shown → AtMostTwo shown reserve (k ∷ [])
   ofBoth : (k : ℕ) → k ≤ reserve → AtMostTwo shown reserve (shown ∷ k ∷ [])
 
--- "all shown size trades by id, then, in trades of its own, all reserve by id": of any message that brings an order, upon a sound venue, with the order that
--- rests at place i
+-- "in trades of its own": of any message that brings an order, upon a sound venue, with the order that rests at place i
 abbrev pub TwoTrades : Type 0
 TwoTrades = (v : Venue) → SoundVenue v → (number : ℕ) (message : List ℕ) (o : Regular) → messageOf message ≡ Order o →
     (i : ℕ) → held (regularAt v i .quantity) ≡ true →
     AtMostTwo (shown (regularAt v i)) (regularAt v i .reserve) (tradesOf (o .id) (regularAt v i .id) (step v number message .effect .reports))
+
+-- The order among makers ----------------------------------------------------------------------
+
+-- a trade of an order that arrives: its maker and its quantity
+pub record Fill : Type 0 where
+  pub maker : ℕ
+  pub quantity : ℕ
+
+-- what a record tells of the trades of a taker at a price, and of all of them, in order
+unfoldable pub fillOf : (taker price : ℕ) → Report → List Fill
+fillOf x p (answer n f m c) = []
+fillOf x p (trade s d price q taker maker) = if eqb taker x && eqb price p then record { maker = maker; quantity = q } ∷ [] else []
+fillOf x p (pair i n q) = []
+fillOf x p (generated i s d price shown q) = []
+fillOf x p (removed i s d c) = []
+fillOf x p (crossed taker maker n q) = []
+fillOf x p (cancelled i q) = []
+fillOf x p (looked n) = []
+
+unfoldable pub fillsOf : (taker price : ℕ) → List Report → List Fill
+fillsOf x p [] = []
+fillsOf x p (r ∷ rs) = fillOf x p r ++ fillsOf x p rs
+
+-- of what is traded: shown size, reserve, the legging order
+pub data Stage : Type 0 where
+  atShown : Stage
+  atReserve : Stage
+  atLegging : Stage
+
+-- "At one price all shown size trades by id, then, in trades of its own, all reserve by id, then the legging order": trades with makers that stood on side e of
+-- series s at price p when the message began, from a stage on and there from an id on. That none is passed over is said of each trade at its moment: replay
+-- Moments, `InTurn`.
+pub data InOrder (v : Venue) (s e p : ℕ) : Stage → (low : ℕ) → List Fill → Type 0 where
+  noMore : {stage : Stage} {low : ℕ} → InOrder v s e p stage low []
+  ofShown : {low : ℕ} {rest : List Fill} (i k : ℕ) → restsAt s e (regularAt v i) ≡ true → regularAt v i .price ≡ p → low ≤ regularAt v i .id →
+      k ≤ shown (regularAt v i) → InOrder v s e p atShown (suc (regularAt v i .id)) rest →
+      InOrder v s e p atShown low (record { maker = regularAt v i .id; quantity = k } ∷ rest)
+  thenReserve : {low : ℕ} {rest : List Fill} → InOrder v s e p atReserve 0 rest → InOrder v s e p atShown low rest
+  ofReserve : {low : ℕ} {rest : List Fill} (i k : ℕ) → restsAt s e (regularAt v i) ≡ true → regularAt v i .price ≡ p → low ≤ regularAt v i .id →
+      k ≤ regularAt v i .reserve → InOrder v s e p atReserve (suc (regularAt v i .id)) rest →
+      InOrder v s e p atReserve low (record { maker = regularAt v i .id; quantity = k } ∷ rest)
+  thenLegging : {low : ℕ} {rest : List Fill} → InOrder v s e p atLegging 0 rest → InOrder v s e p atReserve low rest
+  ofLegging : {low : ℕ} (k : ℕ) → leggingAt v s e .price ≡ p → k ≤ leggingAt v s e .quantity →
+      InOrder v s e p atLegging low (record { maker = leggingAt v s e .parent; quantity = k } ∷ [])
+
+-- of any message that brings an order, upon a sound venue, at any price
+abbrev pub MakersInOrder : Type 0
+MakersInOrder = (v : Venue) → SoundVenue v → (number : ℕ) (message : List ℕ) (o : Regular) → messageOf message ≡ Order o → (p : ℕ) →
+    InOrder v (o .series) (opposite (o .side)) p atShown 0 (fillsOf (o .id) p (step v number message .effect .reports))
 
 -- Complex orders ------------------------------------------------------------------------------
 
