@@ -3,7 +3,7 @@
 use mathlib.Core.Bool.{true, false, not}
 use mathlib.Core.Path.{_≡_, refl, sym, ap₂, _∙_}
 use mathlib.Core.List.{List, [], _∷_, _++_, map, map-append}
-use Prim.Native.Nat.{ℕ, zero, suc, _-_}
+use Prim.Native.Nat.{ℕ, zero, suc, _+_, _-_}
 use lib.IntN.{ℤ, pos, negℤ}
 use lib.ListN.{set, drop, length, replicate}
 use Rattle.rules.specs.declared.Regular.{Regular}
@@ -19,7 +19,9 @@ use Rattle.rules.specs.declared.Message.{Message}
 use Rattle.rules.specs.declared.Message.the-variants.{Order, TwoLeg, Cancel, Away, Status, Sweep, Increment, Percent, LimitedSweep}
 use Rattle.rules.specs.declared.Cause.the-variants.{Worse, Unpaired, Executed, Withdrawn, OutOfBand, NotOpen, Replaced, Touched, NoUnit}
 use Rattle.rules.specs.declared.Verdict.the-variants.{Stands, Fails}
+use Rattle.rules.specs.Base.{if_then_else_}
 use Rattle.rules.specs.Words.{buy, sell, closed, opened, noRegular, noComplex, noLegging, notListed, noEdition, freshVenue, withRegular, withComplex, withLegging, withSeries, withEditions, withLast, withReached}
+use Rattle.rules.specs.Settings.{isIncrement}
 use Rattle.rules.specs.Messages.{lengthOf, encodeMessage}
 use Rattle.rules.specs.Records.{Report, answer, trade, pair, generated, removed, crossed, cancelled, looked}
 use Rattle.rules.specs.Standing.{verdictNumber}
@@ -196,6 +198,8 @@ respecting =
     -- best regular prices: neither the away offers nor order 5's legging order at 105 make the offers' 210 less
     ∷ session 250 (dearer ++ opens 2 ++ enters 4 2 sell 50 5 ++ twoLeg 5 0 sell 2 buy 1 (minus 55) 5 ++ pairUp 6 0 1 sell (minus 208) 3) 0 11
     (accepted 1 9 ++ (answer 10 0 2 1 ∷ generated 5 0 1 105 105 5 ∷ answer 11 0 2 1 ∷ crossed 6 1 (minus 208) 3 ∷ []))
+    -- "where both legs have one": order 1's first leg has an offer of 100, and its second none
+    ∷ session 150 (quoted ++ buysBoth 1 (pos 195) 5 ++ enters 2 0 sell 100 5 ++ pairUp 3 0 1 sell (minus 195) 3) 0 7 (accepted 1 7 ++ (crossed 3 1 (minus 195) 3 ∷ []))
     ∷ []
 
 -- Request (e) -----------------------------------------------------------------------------------
@@ -269,6 +273,17 @@ reserved =
     -- "Best price … count shown size only": 135 is the best when what shows at 130 is gone
     ∷ session 300 (reserves 1 0 sell 130 15 4 ++ enters 2 1 sell 90 12 ++ enters 3 0 sell 135 9 ++ buysBoth 4 (pos 225) 20) 0 4
     (accepted 1 4 ++ (trade 0 0 130 4 4 1 ∷ trade 1 0 90 4 4 2 ∷ pair 4 (pos 220) 4 ∷ trade 0 0 135 8 4 3 ∷ trade 1 0 90 8 4 2 ∷ pair 4 (pos 225) 8 ∷ []))
+    -- O too, and with it the band: 220 is in that of 220, and was not in that of 200
+    ∷ session 200 (reserves 1 0 sell 100 15 4 ++ enters 2 1 sell 100 12 ++ enters 3 0 sell 120 9 ++ buysBoth 4 (pos 225) 20) 0 4
+    (accepted 1 4 ++ (trade 0 0 100 4 4 1 ∷ trade 1 0 100 4 4 2 ∷ pair 4 (pos 200) 4 ∷ trade 0 0 120 8 4 3 ∷ trade 1 0 100 8 4 2 ∷ pair 4 (pos 220) 8 ∷ []))
+    -- and request (b): in the sweep order 1 takes what shows at 100, and then no offer in series 0 keeps order 2 from crossing at 195, though 100 and 90 are 190
+    ∷ session 250 (quoted ++ pairUp 1 0 2 buy (pos 150) 4 ++ buysBoth 2 (pos 195) 5 ++ reserves 3 0 sell 100 15 4 ++ enters 4 1 sell 90 5
+    ++ pairUp 5 0 1 sell (minus 195) 3 ++ enters 6 2 sell 50 4 ++ sweeps) 0 11
+    (accepted 1 11 ++ (trade 0 0 100 4 1 3 ∷ trade 2 0 50 4 1 6 ∷ pair 1 (pos 150) 4 ∷ crossed 2 5 (pos 195) 3 ∷ []))
+    -- and touch: then 120 and the legging order's 60 are more than order 2's 170
+    ∷ session 200 (pairUp 1 0 2 buy (pos 150) 4 ++ buysBoth 2 (pos 170) 5 ++ reserves 3 0 sell 100 15 4 ++ enters 4 0 sell 120 9 ++ enters 5 3 sell 40 5
+    ++ encodeMessage (Away 1 55 0) ++ twoLeg 6 1 sell 3 buy 1 (minus 20) 3 ++ enters 7 2 sell 50 4 ++ sweeps) 0 9
+    (accepted 1 6 ++ (answer 7 0 8 1 ∷ generated 6 1 1 60 60 3 ∷ answer 8 0 8 1 ∷ answer 9 0 8 1 ∷ trade 0 0 100 4 1 3 ∷ trade 2 0 50 4 1 7 ∷ pair 1 (pos 150) 4 ∷ []))
     -- "Before settling": 8 of 8 left show again, and order 3's legging orders stand; of 7 left 7 show, and the one for 8 fails
     ∷ session 400 (half ++ enters 4 1 buy 90 4 ++ enters 5 1 buy 90 1) 0 7
     (leggedSheet ++ (answer 6 0 5 2 ∷ trade 1 0 90 4 4 2 ∷ answer 7 0 4 1 ∷ trade 1 0 90 1 5 2 ∷ removed 3 0 0 Unpaired ∷ []))
@@ -462,6 +477,11 @@ whole i s d p q = Order (rest i s d p q)
 double : (s d t e class : ℕ) (n : ℤ) (quantity : ℕ) → Message
 double s d t e k n q = TwoLeg (record { id = 1; series1 = s; side1 = d; series2 = t; side2 = e; class = k; limit = n; quantity = q; ratio1 = 1; ratio2 = 1 })
 
+-- how many numbers below n are increments
+incrementsBelow : (n : ℕ) → ℕ
+incrementsBelow zero = 0
+incrementsBelow (suc n) = (if isIncrement n then 1 else 0) + incrementsBelow n
+
 -- each range at its ends and one beyond
 pub edges : List Trial
 edges =
@@ -482,6 +502,8 @@ edges =
     ∷ ranged (Increment 7 1 0) true ∷ ranged (Increment 0 5 4294967295) true ∷ ranged (Increment 0 10 1) true
     ∷ ranged (Increment 8 5 1) false ∷ ranged (Increment 0 0 1) false ∷ ranged (Increment 0 2 1) false
     ∷ ranged (Percent 0 0) true ∷ ranged (Percent 50 4294967295) true ∷ ranged (Percent 51 1) false
+    -- "1, 5 or 10": three of all that a u8 tells
+    ∷ counted (incrementsBelow 256) 3
     ∷ ranged (LimitedSweep 0) false ∷ ranged (LimitedSweep 1) true ∷ ranged (LimitedSweep 32) true ∷ ranged (LimitedSweep 33) false
     ∷ []
 
@@ -950,6 +972,15 @@ full e n = withEditions freshVenue (kept 31 1)
     kept zero k = record { edition = e; message = n; figure = 8; value = 5 } ∷ []
     kept (suc count) k = record { edition = k; message = k; figure = 8; value = 5 } ∷ kept count (suc k)
 
+-- series 0 has an increment of 1
+finer : List ℕ
+finer = closes 0 ++ increments 0 1 1 ++ opens 0
+
+-- it has one of 10, and an order rests there at a price
+coarser : (price : ℕ) → Venue
+coarser p =
+    withEditions (legsUp 0 (rest 1 0 sell p 15 ∷ []) 0 noComplex 0 noLegging) (record { edition = 1; message = 1; figure = 0; value = 10 } ∷ replicate 31 noEdition)
+
 inAll : (first sixth percent : ℕ) → Settings
 inAll a g x = record { number = 0; increments = a ∷ 5 ∷ 5 ∷ 5 ∷ 5 ∷ 5 ∷ g ∷ 10 ∷ []; percent = x }
 
@@ -963,6 +994,8 @@ seasons =
     ∷ inforce twice 1 (record { number = 9; increments = 0 ∷ 0 ∷ 0 ∷ 0 ∷ 0 ∷ 0 ∷ 0 ∷ 0 ∷ []; percent = 0 })
     ∷ upon (full 31 32) 40 100 sweeps 9 0 [] (full 31 32)
     ∷ upon (full 32 31) 40 100 sweeps 9 0 [] (full 32 31)
+    -- "from 0": an edition entered by message 0
+    ∷ unsound (withEditions freshVenue (record { edition = 1; message = 0; figure = 8; value = 5 } ∷ replicate 31 noEdition))
     -- "A one-message call whose number is not above every kept edition's gets 9."
     ∷ upon dated 3 100 sweeps 9 0 [] dated
     ∷ upon dated 4 100 sweeps 0 1 (answer 5 0 0 0 ∷ []) dated
@@ -974,6 +1007,19 @@ seasons =
     -- an edition holds from its own message on: the settling of that message reads it
     ∷ session 300 (encodeMessage (Away 0 0 100) ++ enters 1 0 sell 130 15 ++ enters 2 1 sell 90 12 ++ buysBoth 3 (pos 195) 8 ++ bands 2 1) 0 5
     (accepted 1 3 ++ (answer 4 0 4 1 ∷ generated 3 1 0 65 65 8 ∷ answer 5 0 0 0 ∷ removed 3 1 0 OutOfBand ∷ []))
+    -- the last of several editions: 195 is in the band of 190 by 5 percent, and not by 2
+    ∷ session 100 (encodeMessage (Away 0 0 100) ++ enters 1 0 sell 130 15 ++ enters 2 1 sell 90 12 ++ bands 2 1 ++ bands 5 2 ++ buysBoth 3 (pos 195) 8) 0 6
+    (accepted 1 5 ++ (answer 6 0 4 1 ∷ generated 3 1 0 65 65 8 ∷ []))
+    -- the leg in's band, 200 in that of 190 by 10 percent; and the cross's, the maker's 225 in that of 210
+    ∷ session 150 (bands 10 1 ++ encodeMessage (Away 0 0 100) ++ enters 1 0 sell 110 5 ++ enters 2 1 sell 90 5 ++ buysBoth 3 (pos 200) 5) 0 5
+    (accepted 1 5 ++ (trade 0 0 110 5 3 1 ∷ trade 1 0 90 5 3 2 ∷ pair 3 (pos 200) 5 ∷ []))
+    ∷ session 150 (bands 10 1 ++ quoted ++ buysBoth 2 (pos 225) 5 ++ pairUp 3 0 1 sell (minus 190) 3) 0 7 (accepted 1 7 ++ (crossed 3 2 (minus 225) 3 ∷ []))
+    -- by an increment of 1 a bid shown at 113 is no worse than one of 112, and one at 3 is shown
+    ∷ session 150 (finer ++ enters 1 1 sell 90 12 ++ encodeMessage (Away 0 0 130) ++ enters 2 0 buy 112 5 ++ buysBoth 3 (pos 203) 8) 0 7
+    (accepted 1 6 ++ (answer 7 0 1 1 ∷ generated 3 0 0 113 113 8 ∷ []))
+    ∷ session 100 (finer ++ enters 1 1 sell 90 12 ++ encodeMessage (Away 0 0 10) ++ buysBoth 2 (pos 93) 3) 0 6 (accepted 1 5 ++ (answer 6 0 1 1 ∷ generated 2 0 0 3 3 3 ∷ []))
+    -- and by one of 10 a price that rests is on it, and 105 is not: a given venue with that is unsound
+    ∷ isSound (coarser 110) 0 0 ∷ unsound (coarser 105)
     -- by an increment of 1, too: no legging order below it, and none shown above 100,000
     ∷ session 300 (closes 0 ++ increments 0 1 1 ++ opening ++ buysBoth 3 (pos 50) 8) 0 7 (accepted 1 7)
     ∷ session 300 (closes 0 ++ increments 0 1 1 ++ opens 0 ++ enters 1 0 buy 130 15 ++ enters 2 1 buy 90 12 ++ pairUp 3 0 1 sell (negℤ (pos 100091)) 8) 0 6
@@ -986,8 +1032,13 @@ seasons =
     ++ cancels 3 ++ increments 0 1 1 ++ closes 2 ++ increments 2 1 2) 0 14
     (accepted 1 5 ++ (answer 6 12 0 0 ∷ answer 7 0 0 0 ∷ answer 8 12 0 0 ∷ answer 9 0 0 0 ∷ cancelled 1 15 ∷ answer 10 12 0 0 ∷ answer 11 0 0 0 ∷ cancelled 3 1
     ∷ answer 12 0 0 0 ∷ answer 13 0 0 0 ∷ answer 14 0 0 0 ∷ []))
-    -- 13: "32 editions held already", after 11 and 12
-    ∷ session 500 (many 33 1 ++ bands 5 32 ++ opens 0 ++ increments 0 1 33) 0 36 (accepted 1 32 ++ (answer 33 13 0 0 ∷ answer 34 11 0 0 ∷ answer 35 0 0 0 ∷ answer 36 12 0 0 ∷ []))
+    -- a series in auction is not closed, and 25 is no increment; the second leg rests in its series, and neither in another
+    ∷ session 100 (inAuction 0 ++ increments 0 1 1 ++ closes 0 ++ increments 0 25 1) 0 4 (answer 1 0 0 0 ∷ answer 2 12 0 0 ∷ answer 3 0 0 0 ∷ answer 4 4 0 0 ∷ [])
+    ∷ session 100 (buysBoth 1 (pos 100) 1 ++ closes 1 ++ increments 1 1 1 ++ closes 2 ++ increments 2 1 1) 0 5
+    (accepted 1 2 ++ (answer 3 12 0 0 ∷ answer 4 0 0 0 ∷ answer 5 0 0 0 ∷ []))
+    -- 13: "32 editions held already", after 11 and 12, of either kind
+    ∷ session 500 (many 33 1 ++ bands 5 32 ++ opens 0 ++ increments 0 1 33 ++ closes 0 ++ increments 0 1 33) 0 38
+    (accepted 1 32 ++ (answer 33 13 0 0 ∷ answer 34 11 0 0 ∷ answer 35 0 0 0 ∷ answer 36 12 0 0 ∷ answer 37 0 0 0 ∷ answer 38 13 0 0 ∷ []))
     ∷ []
 
 -- A ceiling on legging traffic: request (m) -----------------------------------------------------
@@ -1033,6 +1084,8 @@ traffic =
     ∷ upon (three 5) 0 100 (limited 2) 0 1 (answer 1 0 0 0 ∷ looked 2 ∷ []) (three 4)
     ∷ upon (three 4) 0 100 (limited 32) 0 1 (answer 1 0 0 0 ∷ looked 3 ∷ []) (three 4)
     ∷ upon freshVenue 0 100 (limited 32) 0 1 (answer 1 0 0 0 ∷ looked 0 ∷ []) freshVenue
+    -- "that a kind 11 looked at": a sweep leaves it
+    ∷ upon (three 4) 0 100 sweeps 0 1 (answer 1 0 0 0 ∷ []) (three 4)
     -- the id reached is the last one looked at, though it is gone
     ∷ upon (withComplex meeting (both 3 1 ∷ sellsBoth ∷ drop 2 (freshVenue .complex))) 0 100 (limited 2) 0 1
     (answer 1 0 0 0 ∷ looked 2 ∷ crossed 3 4 (pos 205) 1 ∷ []) (withReached meeting 4)
@@ -1050,6 +1103,24 @@ traffic =
     (accepted 1 8 ++ (answer 9 0 8 1 ∷ generated 5 1 1 121 125 4 ∷ answer 10 0 8 1 ∷ answer 11 0 8 1 ∷ answer 12 0 8 1
     ∷ answer 13 0 28 3 ∷ trade 0 0 100 5 7 1 ∷ trade 2 0 50 5 7 8 ∷ pair 7 (pos 150) 5 ∷ generated 6 1 0 85 85 3 ∷ generated 7 2 0 20 20 2
     ∷ answer 14 0 24 2 ∷ looked 3 ∷ crossed 5 6 (minus 215) 3 ∷ removed 5 1 1 Executed ∷ removed 6 1 0 Executed ∷ generated 5 1 1 121 125 1 ∷ []))
+    -- "a sweep": order 1 legs in, order 2 touches, and all this before the settling: order 5's legging orders are touched, do not fail, and come anew for 3
+    ∷ session 250 (buysBoth 1 (pos 220) 2 ++ pairUp 2 0 1 sell (minus 190) 5 ++ enters 3 0 sell 130 5 ++ enters 4 1 sell 90 5 ++ buysBoth 5 (pos 205) 5 ++ limited 3) 0 6
+    (accepted 1 4 ++ (answer 5 0 5 2 ∷ generated 5 0 0 115 115 5 ∷ generated 5 1 0 75 75 5 ∷ answer 6 0 5 2 ∷ looked 3 ∷ trade 0 0 130 2 1 3 ∷ trade 1 0 90 2 1 4 ∷ pair 1 (pos 220) 2
+    ∷ removed 5 0 0 Touched ∷ removed 5 1 0 Touched ∷ generated 5 0 0 115 115 3 ∷ generated 5 1 0 75 75 3 ∷ []))
+    -- settling before generation: order 4's, made for 5, fail and come anew for 3
+    ∷ session 250 (buysBoth 1 (pos 220) 2 ++ enters 2 0 sell 130 5 ++ enters 3 1 sell 90 5 ++ buysBoth 4 (pos 205) 5 ++ limited 2) 0 5
+    (accepted 1 3 ++ (answer 4 0 5 2 ∷ generated 4 0 0 115 115 5 ∷ generated 4 1 0 75 75 5 ∷ answer 5 0 5 2 ∷ looked 2 ∷ trade 0 0 130 2 1 2 ∷ trade 1 0 90 2 1 3 ∷ pair 1 (pos 220) 2
+    ∷ removed 4 0 0 Unpaired ∷ removed 4 1 0 Unpaired ∷ generated 4 0 0 115 115 3 ∷ generated 4 1 0 75 75 3 ∷ []))
+    -- touch alone
+    ∷ session 200 (pairUp 1 0 1 sell (minus 190) 5 ++ enters 2 0 sell 130 15 ++ enters 3 1 sell 90 12 ++ buysBoth 4 (pos 205) 8 ++ limited 2) 0 5
+    (accepted 1 3 ++ (answer 4 0 5 2 ∷ generated 4 0 0 115 115 8 ∷ generated 4 1 0 75 75 8 ∷ answer 5 0 5 2 ∷ looked 2
+    ∷ removed 4 0 0 Touched ∷ removed 4 1 0 Touched ∷ generated 4 0 0 115 115 8 ∷ generated 4 1 0 75 75 8 ∷ []))
+    -- "limited to n resting orders": order 2 would leg in too
+    ∷ session 150 (buysBoth 1 (pos 220) 2 ++ buysBoth 2 (pos 220) 2 ++ enters 3 0 sell 130 15 ++ enters 4 1 sell 90 12 ++ limited 1) 0 5
+    (accepted 1 5 ++ (looked 1 ∷ trade 0 0 130 2 1 3 ∷ trade 1 0 90 2 1 4 ∷ pair 1 (pos 220) 2 ∷ []))
+    -- all that it works find the shown size once: 3 of 15, for two orders that want 2 each
+    ∷ session 200 (buysBoth 1 (pos 220) 2 ++ buysBoth 2 (pos 220) 2 ++ reserves 3 0 sell 130 15 3 ++ enters 4 1 sell 90 12 ++ limited 2) 0 5
+    (accepted 1 5 ++ (looked 2 ∷ trade 0 0 130 2 1 3 ∷ trade 1 0 90 2 1 4 ∷ pair 1 (pos 220) 2 ∷ trade 0 0 130 1 2 3 ∷ trade 1 0 90 1 2 4 ∷ pair 2 (pos 220) 1 ∷ []))
     -- units of what shows alone, which shows again for the sweep and again for the limited one
     ∷ session 400 (reserves 1 0 sell 130 15 4 ++ enters 2 1 sell 90 12 ++ ratioed 3 buy 2 1 (pos 350) 5 ++ sweeps ++ limited 1) 0 5
     (accepted 1 3 ++ (trade 0 0 130 4 3 1 ∷ trade 1 0 90 2 3 2 ∷ pair 3 (pos 350) 2 ∷ answer 4 0 0 0 ∷ trade 0 0 130 4 3 1 ∷ trade 1 0 90 2 3 2 ∷ pair 3 (pos 350) 2
@@ -1064,7 +1135,7 @@ traffic =
 
 -- `unfolding staged` opens every trial of these lists, as `opened-rules` does every definition
 unfoldable staged : Unit {0}
-unfolding together wrongs quoted relying inAuction restingBefore keptApart choices dearer respecting pairs gone layouts whole double edges offers twice refused met settled threeOpen farApart worked awayAlone nearTop made standing base atTop isSound unsound weighed misweighed locked stale staleComplex staleLegging listing market spreading faults lone quoting idle allHeld lefts named numbers withOne half allShown tooShort reserved weighing ratioed oneEach oneEachSheet tenth unequal increments bands dating dated many full inAll seasons limited three outbid meeting sellsBoth traffic
+unfolding together wrongs quoted relying inAuction restingBefore keptApart choices dearer respecting pairs gone layouts whole double incrementsBelow edges offers twice refused met settled threeOpen farApart worked awayAlone nearTop made standing base atTop isSound unsound weighed misweighed locked stale staleComplex staleLegging listing market spreading faults lone quoting idle allHeld lefts named numbers withOne half allShown tooShort reserved weighing ratioed oneEach oneEachSheet tenth unequal increments bands dating dated many full finer coarser inAll seasons limited three outbid meeting sellsBoth traffic
 staged = tt
 
 -- every trial of a list comes out as it should; asked list by list, which takes the checker less than all at once
