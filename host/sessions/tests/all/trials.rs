@@ -1,4 +1,4 @@
-//! The trials and the printed session of document 01.
+//! The trials and the printed session of document 01, and the examples of the filing.
 
 use crate::common::{last_lines, sheet, with_legging, with_offers};
 
@@ -121,4 +121,71 @@ fn selling_6_to_regular_2_and_legging_8_at_one_price_trades_2_then_4() {
 #[test]
 fn empty_list_writes_no_record() {
     assert_eq!(sheet(""), "");
+}
+
+/// The sheet of an example that the filing works out in its Item 3 is the one stored beside it.
+macro_rules! assert_as_filed {
+    ($name:literal) => {
+        let text = include_str!(concat!(
+            "../../../venue/tests/sessions/filing-",
+            $name,
+            ".txt"
+        ));
+        let stored = include_str!(concat!(
+            "../../../venue/tests/sessions/filing-",
+            $name,
+            ".sheet"
+        ));
+        assert_eq!(sheet(text), stored);
+    };
+}
+
+#[test]
+fn filing_generating_legging_orders() {
+    assert_as_filed!("1-generating");
+}
+
+#[test]
+fn filing_execution_of_legging_orders() {
+    assert_as_filed!("2-execution");
+}
+
+#[test]
+fn filing_removal_no_longer_best_nor_at_the_net_price() {
+    assert_as_filed!("3-removal-i-ii");
+}
+
+#[test]
+fn filing_removal_outside_the_ace_parameter() {
+    assert_as_filed!("4-removal-v");
+}
+
+#[test]
+fn filing_removal_by_an_auction() {
+    assert_as_filed!("5-removal-vi");
+}
+
+#[test]
+fn filing_removal_for_a_customer_at_the_same_price() {
+    assert_as_filed!("6-removal-vii");
+}
+
+#[test]
+fn filing_removal_with_legs_in_common() {
+    assert_as_filed!("7-removal-viii");
+}
+
+#[test]
+fn filing_removal_by_a_trade_with_the_complex_order() {
+    assert_as_filed!("8-removal-viii-revised");
+}
+
+#[test]
+fn filing_removal_of_multiple_legging_orders() {
+    assert_as_filed!("9-removal-ix");
+}
+
+#[test]
+fn filing_removal_by_an_unequal_quantity_of_components() {
+    assert_as_filed!("10-removal-x");
 }
