@@ -11,7 +11,7 @@ use Rattle.demands.specs.Demand.{calls, extend, opening, parts, start}
 use Rattle.witness.specs.Witness.{Witness, arriving, atEnd, bytesOf, causes, kindOf, later, ofKind, regularSums, session, sums, unitSums}
 
 -- what stands at a place of a list is one of it
-at-mem : (l : List Report) (n : ℕ) (d r : Report) → n < length l → getD l n d ≡ r → List·Memᴰ r l
+pub at-mem : {A : Type 0} (l : List A) (n : ℕ) (d r : A) → n < length l → getD l n d ≡ r → List·Memᴰ r l
 at-mem [] n d r h e = absurd (omega arith)
 at-mem (x ∷ l) zero d r h e = List·Memᴰ·head (sym e)
 at-mem (x ∷ l) (suc n) d r h e = List·Memᴰ·tail (at-mem l n d r (omega arith) e)
