@@ -80,14 +80,19 @@ pub data Stage : Type 0 where
 -- Moments, `InTurn`.
 pub data InOrder (v : Venue) (s e p : ℕ) : Stage → (low : ℕ) → List Fill → Type 0 where
   noMore : {stage : Stage} {low : ℕ} → InOrder v s e p stage low []
+  -- of what a maker showed, the ids rising
   ofShown : {low : ℕ} {rest : List Fill} (i k : ℕ) → restsAt s e (regularAt v i) ≡ true → regularAt v i .price ≡ p → low ≤ regularAt v i .id →
       k ≤ shown (regularAt v i) → InOrder v s e p atShown (suc (regularAt v i .id)) rest →
       InOrder v s e p atShown low (record { maker = regularAt v i .id; quantity = k } ∷ rest)
+  -- from here on no more of shown size
   thenReserve : {low : ℕ} {rest : List Fill} → InOrder v s e p atReserve 0 rest → InOrder v s e p atShown low rest
+  -- of a maker's reserve, the ids rising from the first one on again
   ofReserve : {low : ℕ} {rest : List Fill} (i k : ℕ) → restsAt s e (regularAt v i) ≡ true → regularAt v i .price ≡ p → low ≤ regularAt v i .id →
       k ≤ regularAt v i .reserve → InOrder v s e p atReserve (suc (regularAt v i .id)) rest →
       InOrder v s e p atReserve low (record { maker = regularAt v i .id; quantity = k } ∷ rest)
+  -- from here on no more of regular orders
   thenLegging : {low : ℕ} {rest : List Fill} → InOrder v s e p atLegging 0 rest → InOrder v s e p atReserve low rest
+  -- the legging order that stood there, once
   ofLegging : {low : ℕ} (k : ℕ) → leggingAt v s e .price ≡ p → k ≤ leggingAt v s e .quantity →
       InOrder v s e p atLegging low (record { maker = leggingAt v s e .parent; quantity = k } ∷ [])
 
