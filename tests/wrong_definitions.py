@@ -1,5 +1,5 @@
 #!/usr/bin/env python3
-"""Tries wrong definitions, one at a time, and says which of them the trials refuse.
+"""Tries wrong definitions, one at a time, and says what refuses each.
 
     tests/wrong_definitions.py [--seed N] [--count K] [--skip M] [--jobs J] [--log FILE] [FILE ...]
 
@@ -7,16 +7,29 @@ A list of wrong definitions (tests/wrong_definitions.txt), and then K edits (150
 places of crates/rules/specs (or of the files named) where an operator, a number, a name or a condition can be
 changed, a conjunct or a step dropped, two steps or two arguments exchanged. Definitions are gone through in an
 order drawn by the seed, one edit of each in a round. With --skip the list and the first M draws are left out, for a
-run in parts. Each edit is made in a copy of the crate `rules` that has its types, its definitions and its trials
-alone, with those of the crate `trials`: no law and no function. There `trials-hold` must fail, over one part of the
-trials (the cheap lists first, then list by list), or a statement of rules' own trials or of a request's: that is a
-failure of the whole. An edit that passes all parts is checked against the whole from nothing. One that does not compile is not counted, and another is drawn.
-Left out: Trials itself, Opened (a list of names), Lengths (bounds of what is written, for the proofs alone), Fields
-(the widths of fields), and what only states a type. So are edits that tell nothing: the order of a table's rows (`if eqb k 1 .. else if eqb k 2
-..`), the arguments of `eqb` exchanged, `leb x 0` for `eqb x 0`.
-Edits that mean the same stand in tests/wrong_definitions.txt with the reason, and are no failure.
-A line is printed for each edit; the last line has the counts. The status is 1 where an edit survives that is not
-known to mean the same, where a line of the list fits no definition, or where the check ended without a verdict.
+run in parts. Left out: Trials itself, Opened (a list of names), Lengths (bounds of what is written, for the proofs
+alone), Fields (the widths of fields), and what only states a type. So are edits that tell nothing: the order of a table's rows (`if eqb k 1 .. else
+if eqb k 2 ..`), the arguments of `eqb` exchanged, `leb x 0` for `eqb x 0`.
+
+Each edit is tried twice at most:
+
+1. against the trials alone, in a copy of the crate `rules` that has its types, its definitions and its trials, with
+   those of the crate `trials`: no law and no function. There `trials-hold` must fail, over one part of the trials (the
+   cheap lists first, then list by list), or a statement of rules' own trials, of a request's or of the filing's: that
+   is a failure of the whole. These are computed, so the edit is refused by its meaning. An edit that passes all parts
+   is checked against the whole from nothing.
+2. against the proofs, in a copy of all crates, where the trials let it pass or where it is an edit of another crate
+   (`file: sets Set` in the list). Where a statement by computation of that crate fails (its Trials or its Witness),
+   the edit is refused by its meaning there, too. Else nothing tells a statement that has become false from a proof
+   text that does not fit the new form: the list says by hand which statement is false and why, and the crate that has
+   it is checked. Without such a line the edit is told as one that a proof text alone refuses.
+
+A run begins with the definitions as they are, which must pass every part and the whole; where they do not, it ends
+there with status 2. A line is printed for each edit; on a terminal a line below them tells how far the run is. The last
+line has the counts. An edit that does not compile is not counted, and another is drawn. Edits that mean the same stand
+in the list with the reason, and are no failure. The status is 1 where an edit survives, or is refused by a proof text
+alone, that is not known to mean the same; where a line of the list fits no definition or does not compile; or where a check ended
+without a verdict. It is 2 for a wrong command line.
 """
 import argparse
 import itertools
@@ -29,9 +42,15 @@ import subprocess
 import sys
 import tempfile
 import threading
+import time
 
 LEFT_OUT = {"Trials", "Opened", "Lengths", "Fields", "Lib"}
 MORE = "MoreTrials.antt"  # the file of the crate trials, in the copy of rules
+FILING = "Filing.antt"  # and the one of the filing's examples
+# a statement by computation that fails, and one that is not computed to its end
+TRIAL = re.compile(r"(?:Trials|Filing)\.antt:\d+:\d+: error: `(?:trials|starred|telling|reserves|units|seasons|traffic|filing)-[\w-]+`: expected type")
+ENDLESS = re.compile(r"(?:Trials|Filing)\.antt:.*steps")
+COMPUTED = re.compile(r"(?:Trials|Filing|Witness|Longer)\.antt:\d+:\d+: error.*(?:expected type|steps)")
 TYPES = {"OneByte", "TwoBytes", "FourBytes", "FourSigned", "Fits", "ForAll"}
 SIGNATURE = re.compile(r"\s*(abbrev|unfoldable|pub|use|infix|infixl|data|record|module|--)\b|\s*--")
 # what a name may be mistaken for
@@ -308,21 +327,51 @@ def shown(old, new):
     return f"`{one_line(' '.join(a))}` -> `{one_line(' '.join(b))}`"
 
 
+class Wrong:
+    """A wrong definition of the list: of a file of a crate, what is put for what, what is wrong, and which statement is false."""
+
+    def __init__(self, place, why):
+        self.crate, self.file = place.split() if " " in place else ("rules", place)
+        self.why, self.olds, self.news, self.false = why, [], [], ""
+
+    def edited(self, text):
+        """The file's text with the edit; None where a line of it fits nothing, or several places."""
+        if not self.olds or len(self.olds) != len(self.news):
+            return None
+        for old, new in zip(self.olds, self.news):
+            if text.count(old) != 1:
+                return None
+            text = text.replace(old, new)
+        return text
+
+
 def listed(path):
-    """The fixed edits (file, olds, news, why) and the edits that mean the same (line: why)."""
+    """The wrong definitions of the list, and the edits that mean the same (line: why)."""
     fixed, same, why = [], {}, ""
-    for line in open(path, encoding="utf-8").read().split("\n"):
+    for line in read(path).split("\n"):
         if line.startswith("# "):
             why = line[2:]
         elif line.startswith("file: "):
-            fixed.append((line[6:], [], [], why))
+            fixed.append(Wrong(line[6:], why))
         elif line.startswith("old: "):
-            fixed[-1][1].append(line[5:].replace("\\n", "\n"))
+            fixed[-1].olds.append(line[5:].replace("\\n", "\n"))
         elif line.startswith("new:"):
-            fixed[-1][2].append(line[5:].replace("\\n", "\n"))
+            fixed[-1].news.append(line[5:].replace("\\n", "\n"))
+        elif line.startswith("false: "):
+            fixed[-1].false = line[7:]
         elif line.startswith("same: "):
             same[line[6:]] = why
     return fixed, same
+
+
+def read(path):
+    with open(path, encoding="utf-8") as file:
+        return file.read()
+
+
+def write(path, text):
+    with open(path, "w", encoding="utf-8") as file:
+        file.write(text)
 
 
 def with_imports(text):
@@ -335,64 +384,121 @@ def with_imports(text):
     return "\n".join(lines)
 
 
+def said_by(command, tree, proved):
+    """Whether a check passed, with a line that begins so; its errors; and the end of what it said."""
+    done = subprocess.run(command, cwd=tree, capture_output=True, text=True, check=False)
+    said = (done.stdout + done.stderr).split("\n")
+    errors = [re.sub(r"^.*?((?:specs|proofs|src)/)", r"\1", line) for line in said if ": error" in line]
+    passed = done.returncode == 0 and any(line.startswith(proved) for line in said)
+    return passed, errors, " ".join(said)[-300:]
+
+
 class Copy:
-    """A copy of the crate: types, definitions and trials."""
+    """A copy of the crate rules with types, definitions and trials alone, those of the crate trials among them."""
 
     def __init__(self, root, place, files):
         self.tree = place
         self.specs = f"{place}/crates/rules/specs"
         shutil.copytree(f"{root}/crates/rules/specs", self.specs)
         shutil.copytree(f"{root}/crates/rules/src", f"{place}/crates/rules/src")
-        with open(f"{place}/crates.txt", "w", encoding="utf-8") as crates:
-            crates.write("rules:\n")
+        write(f"{place}/crates.txt", "rules:\n")
         for name, text in files.items():
             self.write(f"{name}.antt", text)
-        with open(f"{root}/crates/trials/specs/Trials.antt", encoding="utf-8") as trials:
-            self.trials = trials.read().replace("Rattle.rules.specs.", "Rattle.rules.specs.")
-        self.write(MORE, self.trials)
-        self.write("Lib.antt", files["Lib"].rstrip("\n") + "\npub mod MoreTrials\n")
+        self.trials, self.filing = self.inside(root, "Trials.antt"), self.inside(root, FILING)
+        self.lib = files["Lib"].rstrip("\n") + "\npub mod MoreTrials\n"
+        self.whole()
         names = re.search(r"(?m)^trials = (.*)$", self.trials).group(1).split(" ++ ")
         early = [[n for n in part if n in names] for part in PARTS]
         self.parts = [p for p in early if p] + [[n] for n in names if not any(n in part for part in PARTS)]
 
-    def write(self, name, text):
-        with open(f"{self.specs}/{name}", "w", encoding="utf-8") as file:
-            file.write(text)
+    @staticmethod
+    def inside(root, name):
+        """A file of the crate trials as one of the crate rules."""
+        return read(f"{root}/crates/trials/specs/{name}").replace("Rattle.rules.specs.", "Rattle.rules.specs.")
 
-    def of_part(self, part):
-        """The trials with one statement over some of the lists in the place of that over all, which is asked list by list."""
+    def write(self, name, text):
+        write(f"{self.specs}/{name}", text)
+
+    def whole(self):
+        """All trials, and the filing's."""
+        self.write(MORE, self.trials)
+        self.write(FILING, self.filing)
+        self.write("Lib.antt", self.lib + "pub mod Filing\n")
+
+    def only(self, part):
+        """One statement over some of the lists in the place of that over all, which is asked list by list; and not the filing's file, which no
+        line of Lib names then."""
         lists = "pub trials : List Trial\ntrials = " + " ++ ".join(part) + "\n\n"
         holds = "pub trials-hold : map outcome trials ≡ map expected trials\nunfolding opened-rules tried staged trials\ntrials-hold = refl\n\n"
-        return re.sub(r"(?s)-- every trial of a list comes out.*?(?=pub reserves-hold)", lambda _: lists + holds, self.trials)
+        self.write(MORE, re.sub(r"(?s)-- every trial of a list comes out.*?(?=pub reserves-hold)", lambda _: lists + holds, self.trials))
+        self.write("Lib.antt", self.lib)
+        if os.path.exists(f"{self.specs}/{FILING}"):
+            os.remove(f"{self.specs}/{FILING}")
 
     def checked(self):
         """survives, refused, compiles-not or NO VERDICT, with the line that says why."""
-        done = subprocess.run(["rt", "dev", "rules"], cwd=self.tree, capture_output=True, text=True, check=False)
-        said = (done.stdout + done.stderr).split("\n")
-        if done.returncode == 0 and any(l.startswith("logic=proved") for l in said):
+        passed, errors, said = said_by(["rt", "dev", "rules"], self.tree, "logic=proved")
+        if passed:
             return "survives", ""
-        errors = [line[line.find("specs/"):] for line in said if ": error" in line]
-        if errors and all(re.search(r"Trials\.antt:\d+:\d+: error: `(?:trials|starred|telling|reserves|units|seasons|traffic)-[\w-]+`: expected type", e) for e in errors):
+        if errors and all(TRIAL.search(e) or ENDLESS.search(e) for e in errors):
             return "refused", errors[0]
-        if errors and all("Trials.antt" in e and "steps" in e for e in errors):
-            return "refused", errors[0]
-        if errors and done.returncode == 1:
+        if errors:
             return "compiles-not", errors[0]
-        return "NO VERDICT", " ".join(said)[-300:]
+        return "NO VERDICT", said
 
     def tried(self, name, new, old):
+        """A file with a new text, part by part and then whole from nothing; then the old text again."""
         self.write(name, new)
         for part in self.parts:
-            self.write(MORE, self.of_part(part))
+            self.only(part)
             what, why = self.checked()
             if what != "survives":
                 break
-        self.write(MORE, self.trials)
+        self.whole()
         if what == "survives":
             shutil.rmtree(f"{self.tree}/target/inc", ignore_errors=True)
             what, why = self.checked()
         self.write(name, old)
         return what, why
+
+
+class Proofs:
+    """A copy of all crates, in which an edit that no trial of the rules refuses is held against the proofs; made when it is first asked for."""
+
+    def __init__(self, root, place):
+        self.root, self.tree, self.lock = root, place, threading.Lock()
+        self.proved = set()  # the crates that are proved as they are
+
+    def tried(self, wrong, name, new):
+        """survives, refused, false, text or NO VERDICT, and why, of an edit of a file of specs/: `wrong` of the list, or None."""
+        crate = wrong.crate if wrong else "rules"
+        false = wrong.false if wrong else ""
+        with self.lock:
+            if not os.path.exists(self.tree):
+                shutil.copytree(f"{self.root}/crates", f"{self.tree}/crates", ignore=shutil.ignore_patterns("must-fail"))
+                shutil.copy(f"{self.root}/crates.txt", f"{self.tree}/crates.txt")
+            asked = list(dict.fromkeys([crate] + false.split()[:1]))
+            if not self.proved.issuperset(asked):
+                what, why = self.checked(asked, "")
+                if what != "survives":
+                    return "NO VERDICT", f"{', '.join(asked)} as they are: {why}"
+                self.proved.update(asked)
+            path = f"{self.tree}/crates/{crate}/specs/{name}.antt"
+            old = read(path)
+            write(path, new)
+            found = self.checked(asked, false)
+            write(path, old)
+            return found
+
+    def checked(self, asked, false):
+        passed, errors, said = said_by(["rt", "check"] + asked, self.tree, "rt: ok")
+        if passed:
+            return "survives", ""
+        if not errors:
+            return "NO VERDICT", said
+        if COMPUTED.search(errors[0]):
+            return "refused", errors[0]
+        return ("false", f"{false}: {errors[0]}") if false else ("text", errors[0])
 
 
 def drawn(files, seed, wanted):
@@ -417,40 +523,132 @@ def drawn(files, seed, wanted):
         turn += 1
 
 
-def fixed_edits(files, fixed):
-    """The fixed list as (file, why, new text); None where a line fits nothing."""
-    for name, olds, news, why in fixed:
-        new = files[name]
-        fits = bool(olds) and len(olds) == len(news)
-        for old, put in zip(olds, news):
-            fits = fits and new.count(old) == 1
-            new = new.replace(old, put, 1)
-        yield name, why, new if fits else None
+OUTCOMES = {
+    "refused": "refused by a trial",
+    "false": "refused by a statement that becomes false",
+    "text": "refused by a proof text alone",
+    "means the same": "that mean the same",
+    "survives": "that survive",
+    "compiles-not": "that do not compile",
+    "NO VERDICT": "without a verdict",
+    "NO PLACE": "of the list without a place",
+}
+
+FAILURES = ("text", "survives", "NO VERDICT", "NO PLACE")
 
 
 class Tally:
-    """The lines said and counted; how many edits are still to be drawn."""
+    """The lines said and counted; how many edits are still to be drawn; and how far the run is, on a terminal."""
 
     def __init__(self, count, log, same):
         self.left, self.log, self.same = count, log, same
-        self.counts = {"refused": 0, "means the same": 0, "survives": 0, "compiles-not": 0, "NO VERDICT": 0, "NO PLACE": 0}
-        self.of_list = 0
+        self.counts = dict.fromkeys(OUTCOMES, 0)
+        self.total, self.begun = count, time.monotonic()
+        self.failed = False
         self.lock = threading.Lock()
 
     def told(self, fixed, what, line, why):
         with self.lock:
-            if what == "survives" and line in self.same:
-                what, why = "means the same", self.same[line]
             self.counts[what] += 1
-            if fixed:
-                self.of_list += what == "refused"
-            elif what == "compiles-not":
+            self.failed |= what in FAILURES or (fixed and what == "compiles-not")
+            if what == "compiles-not" and not fixed:
                 self.left += 1
+                self.total += 1
             said = f"{what}: {line} | {why[:160]}"
+            self.progress("")
             print(said, flush=True)
             if self.log:
                 with open(self.log, "a", encoding="utf-8") as file:
                     print(said, file=file)
+            self.progress(self.how_far())
+
+    def how_far(self):
+        done, gone = sum(self.counts.values()), time.monotonic() - self.begun
+        left = gone / max(done, 1) * max(self.total - done, 0)
+        passed = sum(self.counts[k] for k in FAILURES)
+        return f"{done} of {self.total} tried, {passed} not refused, {gone / 60:.0f} min gone, about {left / 60:.0f} min to go"
+
+    def progress(self, line):
+        """A line that the next one takes the place of; nothing where no one looks at it."""
+        if sys.stderr.isatty():
+            print(f"\r\x1b[K{line}", end="", file=sys.stderr, flush=True)
+
+    def ended(self):
+        self.progress("")
+        print(", ".join(f"{self.counts[k]} {words}" for k, words in OUTCOMES.items()))
+        return 1 if self.failed else 0
+
+
+class Run:
+    """The edits to be tried, and the copies in which they are."""
+
+    def __init__(self, given, root, folder):
+        specs = f"{root}/crates/rules/specs"
+        self.root, self.folder = root, folder
+        self.files = {n[:-5]: with_imports(read(f"{specs}/{n}")) for n in sorted(os.listdir(specs))}
+        fixed, same = listed(f"{root}/tests/wrong_definitions.txt")
+        self.wanted = [w for w in fixed if given.skip == 0 and (not given.files or w.file in given.files)]
+        self.tally = Tally(given.count, given.log, same)
+        self.tally.total += len(self.wanted)
+        self.todo = queue.Queue()
+        for wrong in self.wanted:
+            self.todo.put(wrong)
+        self.draws = itertools.islice(drawn(self.files, given.seed, given.files), given.skip, None)
+        self.lock = threading.Lock()
+        self.proofs = Proofs(root, f"{folder}/all")
+
+    def unknown(self, names):
+        return [n for n in names if n not in self.files and not any(n == w.file for w in self.wanted)]
+
+    def unedited(self):
+        """Why the definitions as they are do not pass the trials; nothing where they do."""
+        self.tally.progress("the definitions as they are ...")
+        what, why = Copy(self.root, f"{self.folder}/unedited", self.files).tried("Base.antt", self.files["Base"], self.files["Base"])
+        self.tally.progress("")
+        return "" if what == "survives" else f"{what}: {why}"
+
+    def text_of(self, wrong):
+        """The file that an edit of the list is of; nothing where there is no such file."""
+        if wrong.crate == "rules":
+            return self.files.get(wrong.file, "")
+        path = f"{self.root}/crates/{wrong.crate}/specs/{wrong.file}.antt"
+        return read(path) if os.path.exists(path) else ""
+
+    def next_edit(self):
+        """A wrong definition of the list, or one drawn: the file, what the line says, the new text and the one of the list; None at the end."""
+        with self.lock:
+            if not self.todo.empty():
+                wrong = self.todo.get()
+                place = wrong.file if wrong.crate == "rules" else f"{wrong.crate} {wrong.file}"
+                return wrong.file, f"{place}: {wrong.why}", wrong.edited(self.text_of(wrong)), wrong
+            with self.tally.lock:
+                if self.tally.left == 0:
+                    return None
+                self.tally.left -= 1
+            name, definition, new = next(self.draws, (None, None, None))
+            return new and (name, f"{name}.{definition}: {shown(self.files[name], new)}", new, None)
+
+    def outcome(self, copy, name, line, new, wrong):
+        if new is None:
+            return "NO PLACE", ""
+        what, why = "survives", ""
+        if wrong is None or wrong.crate == "rules":
+            what, why = copy.tried(f"{name}.antt", new, self.files[name])
+        if what == "survives" and line in self.tally.same:
+            return "means the same", self.tally.same[line]
+        if what == "survives":
+            what, why = self.proofs.tried(wrong, name, new)
+        return what, why
+
+    def work(self, number):
+        copy = Copy(self.root, f"{self.folder}/{number}", self.files)
+        while edit := self.next_edit():
+            name, line, new, wrong = edit
+            try:
+                what, why = self.outcome(copy, name, line, new, wrong)
+            except OSError as fault:
+                what, why = "NO VERDICT", str(fault)
+            self.tally.told(wrong is not None, what, line, why)
 
 
 def main():
@@ -463,55 +661,22 @@ def main():
     arguments.add_argument("files", nargs="*", help="names of files of specs/, as Complex")
     given = arguments.parse_args()
     root = os.path.dirname(os.path.dirname(os.path.abspath(__file__)))
-    specs = f"{root}/crates/rules/specs"
-    files = {n[:-5]: with_imports(open(f"{specs}/{n}", encoding="utf-8").read()) for n in sorted(os.listdir(specs))}
-    fixed, same = listed(f"{root}/tests/wrong_definitions.txt")
-    tally = Tally(given.count, given.log, same)
     folder = tempfile.mkdtemp(prefix="wrong-definitions-")
-    todo = queue.Queue()
-    wanted = [f for f in fixed if given.skip == 0 and (not given.files or f[0] in given.files)]
-    known = list(fixed_edits(files, wanted))
-    for name, why, new in known:
-        if new is None:
-            tally.told(True, "NO PLACE", f"{name}: {why}", "")
-        else:
-            todo.put((True, name, f"{name}: {why}", new))
-    draws = itertools.islice(drawn(files, given.seed, given.files), given.skip, None)
-    lock = threading.Lock()
-
-    def next_edit():
-        with lock:
-            if not todo.empty():
-                return todo.get()
-            with tally.lock:
-                if tally.left == 0:
-                    return None
-                tally.left -= 1
-            name, definition, new = next(draws, (None, None, None))
-            return new and (False, name, f"{name}.{definition}: {shown(files[name], new)}", new)
-
-    def work(number):
-        copy = Copy(root, f"{folder}/{number}", files)
-        what, why = copy.checked() if number == 0 else ("survives", "")
-        if what != "survives":
-            tally.told(True, "NO VERDICT", "the definitions as they are", why)
-            return
-        while edit := next_edit():
-            of_list, name, line, new = edit
-            what, why = copy.tried(f"{name}.antt", new, files[name])
-            tally.told(of_list, what, line, why)
-
-    threads = [threading.Thread(target=work, args=(n,)) for n in range(given.jobs)]
-    for thread in threads:
-        thread.start()
-    for thread in threads:
-        thread.join()
-    shutil.rmtree(folder)
-    c = tally.counts
-    print(f"{c['refused']} refused ({tally.of_list} of the list of {len(known)}), {c['means the same']} that mean the same, "
-          f"{c['survives']} that survive, {c['NO VERDICT']} without a verdict, {c['NO PLACE']} of the list without a place, "
-          f"{c['compiles-not']} that do not compile")
-    return 1 if c["survives"] + c["NO VERDICT"] + c["NO PLACE"] or tally.of_list < len(known) else 0
+    try:
+        run = Run(given, root, folder)
+        if unknown := run.unknown(given.files):
+            arguments.error(f"{', '.join(unknown)}: no file of crates/rules/specs and of no line of the list")
+        if why := run.unedited():
+            print(f"wrong_definitions.py: the definitions as they are do not pass the trials: {why}", file=sys.stderr)
+            return 2
+        threads = [threading.Thread(target=run.work, args=(n,), daemon=True) for n in range(given.jobs)]
+        for thread in threads:
+            thread.start()
+        for thread in threads:
+            thread.join()
+        return run.tally.ended()
+    finally:
+        shutil.rmtree(folder, ignore_errors=True)
 
 
 if __name__ == "__main__":
