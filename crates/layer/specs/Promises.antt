@@ -89,7 +89,7 @@ pub record ServedAt (l : Layer) (room v : ℕ) (t : Turned) : Type 0 where
   pub same : SameCall t (one (laneAt l v .venue) (laneAt l v .done) room message)
 
 pub record Returns : Type 0 where
-  -- "It also returns the venue served; … 4"
+  -- "It also returns the venue served; a turn ended by 9 or 10, or with none waiting …, returns 4 for it"
   pub few : (l : Layer) (room : ℕ) → turn l room .served ≤ 4
   pub served : (l : Layer) (room v : ℕ) → v < 4 → turn l room .served ≡ v → ServedAt l room v (turn l room)
   -- "ended by 9 or 10, or with none waiting": no message, no byte, and zeros as long as the memory
