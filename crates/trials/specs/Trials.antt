@@ -1014,11 +1014,11 @@ seasons =
     ∷ session 150 (bands 10 1 ++ encodeMessage (Away 0 0 100) ++ enters 1 0 sell 110 5 ++ enters 2 1 sell 90 5 ++ buysBoth 3 (pos 200) 5) 0 5
     (accepted 1 5 ++ (trade 0 0 110 5 3 1 ∷ trade 1 0 90 5 3 2 ∷ pair 3 (pos 200) 5 ∷ []))
     ∷ session 150 (bands 10 1 ++ quoted ++ buysBoth 2 (pos 225) 5 ++ pairUp 3 0 1 sell (minus 190) 3) 0 7 (accepted 1 7 ++ (crossed 3 2 (minus 225) 3 ∷ []))
-    -- by an increment of 1 a bid shown at 113 is no worse than one of 112, and one at 3 is shown
+    -- where the increment is 1, a bid of 113 is shown at 113 and is no worse than one of 112; and a bid of 3 is shown
     ∷ session 150 (finer ++ enters 1 1 sell 90 12 ++ encodeMessage (Away 0 0 130) ++ enters 2 0 buy 112 5 ++ buysBoth 3 (pos 203) 8) 0 7
     (accepted 1 6 ++ (answer 7 0 1 1 ∷ generated 3 0 0 113 113 8 ∷ []))
     ∷ session 100 (finer ++ enters 1 1 sell 90 12 ++ encodeMessage (Away 0 0 10) ++ buysBoth 2 (pos 93) 3) 0 6 (accepted 1 5 ++ (answer 6 0 1 1 ∷ generated 2 0 0 3 3 3 ∷ []))
-    -- and by one of 10 a price that rests is on it, and 105 is not: a given venue with that is unsound
+    -- where the increment is 10, a given venue with an order at 110 is sound, and one with an order at 105 is not
     ∷ isSound (coarser 110) 0 0 ∷ unsound (coarser 105)
     -- by an increment of 1, too: no legging order below it, and none shown above 100,000
     ∷ session 300 (closes 0 ++ increments 0 1 1 ++ opening ++ buysBoth 3 (pos 50) 8) 0 7 (accepted 1 7)
@@ -1032,7 +1032,7 @@ seasons =
     ++ cancels 3 ++ increments 0 1 1 ++ closes 2 ++ increments 2 1 2) 0 14
     (accepted 1 5 ++ (answer 6 12 0 0 ∷ answer 7 0 0 0 ∷ answer 8 12 0 0 ∷ answer 9 0 0 0 ∷ cancelled 1 15 ∷ answer 10 12 0 0 ∷ answer 11 0 0 0 ∷ cancelled 3 1
     ∷ answer 12 0 0 0 ∷ answer 13 0 0 0 ∷ answer 14 0 0 0 ∷ []))
-    -- a series in auction is not closed, and 25 is no increment; the second leg rests in its series, and neither in another
+    -- a series in auction is not closed, and 25 is no increment; a complex order's second leg counts in its series, and neither leg in another
     ∷ session 100 (inAuction 0 ++ increments 0 1 1 ++ closes 0 ++ increments 0 25 1) 0 4 (answer 1 0 0 0 ∷ answer 2 12 0 0 ∷ answer 3 0 0 0 ∷ answer 4 4 0 0 ∷ [])
     ∷ session 100 (buysBoth 1 (pos 100) 1 ++ closes 1 ++ increments 1 1 1 ++ closes 2 ++ increments 2 1 1) 0 5
     (accepted 1 2 ++ (answer 3 12 0 0 ∷ answer 4 0 0 0 ∷ answer 5 0 0 0 ∷ []))
