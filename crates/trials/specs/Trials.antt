@@ -1032,6 +1032,8 @@ seasons =
     ++ cancels 3 ++ increments 0 1 1 ++ closes 2 ++ increments 2 1 2) 0 14
     (accepted 1 5 ++ (answer 6 12 0 0 ∷ answer 7 0 0 0 ∷ answer 8 12 0 0 ∷ answer 9 0 0 0 ∷ cancelled 1 15 ∷ answer 10 12 0 0 ∷ answer 11 0 0 0 ∷ cancelled 3 1
     ∷ answer 12 0 0 0 ∷ answer 13 0 0 0 ∷ answer 14 0 0 0 ∷ []))
+    -- a regular order alone
+    ∷ session 50 (enters 1 0 sell 100 1 ++ closes 0 ++ increments 0 1 1) 0 3 (accepted 1 2 ++ (answer 3 12 0 0 ∷ []))
     -- a series in auction is not closed, and 25 is no increment; a complex order's second leg counts in its series, and neither leg in another
     ∷ session 100 (inAuction 0 ++ increments 0 1 1 ++ closes 0 ++ increments 0 25 1) 0 4 (answer 1 0 0 0 ∷ answer 2 12 0 0 ∷ answer 3 0 0 0 ∷ answer 4 4 0 0 ∷ [])
     ∷ session 100 (buysBoth 1 (pos 100) 1 ++ closes 1 ++ increments 1 1 1 ++ closes 2 ++ increments 2 1 1) 0 5
