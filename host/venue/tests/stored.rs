@@ -33,6 +33,16 @@ fn from_text(name: &str, text: &str) -> Session {
     session(name, encode_session(text).unwrap())
 }
 
+/// An example that the filing works out in its Item 3.
+macro_rules! filed {
+    ($name:literal) => {
+        from_text(
+            concat!("filing-", $name),
+            include_str!(concat!("sessions/filing-", $name, ".txt")),
+        )
+    };
+}
+
 /// "the 129th resting", of each kind: 128 regular and 32 complex orders rest already.
 fn full() -> Session {
     let mut text = String::from("open 0\nopen 1\n");
@@ -95,6 +105,16 @@ fn all() -> Vec<Session> {
         from_text("hidden", include_str!("sessions/hidden.txt")),
         from_text("together", include_str!("sessions/together.txt")),
         from_text("credit-band", include_str!("sessions/credit-band.txt")),
+        filed!("1-generating"),
+        filed!("2-execution"),
+        filed!("3-removal-i-ii"),
+        filed!("4-removal-v"),
+        filed!("5-removal-vi"),
+        filed!("6-removal-vii"),
+        filed!("7-removal-viii"),
+        filed!("8-removal-viii-revised"),
+        filed!("9-removal-ix"),
+        filed!("10-removal-x"),
         from_text("refused", include_str!("sessions/refused.txt")),
         editions(),
         from_text("shown", include_str!("sessions/shown.txt")),
