@@ -2,7 +2,7 @@
 //! of a few messages that leave the state as it was is repeated. Between units that
 //! generate, refused messages keep the series below their ceiling.
 
-use sessions::message::{Leg, Message};
+use sessions::message::{Away, Cancel, Leg, LimitedSweep, Message, NewComplex, NewOrder, Status};
 
 /// What a unit does.
 #[derive(Clone, Copy, Debug, PartialEq, Eq)]
@@ -201,13 +201,13 @@ impl Script {
         shows: Option<u32>,
     ) {
         self.last += 1;
-        self.send(Message::Order {
+        self.send(Message::Order(NewOrder {
             id: self.last,
             leg: Leg { series, side },
             price,
             quantity,
             shows,
-        });
+        }));
     }
 
     /// Two offers that show one of two each.
@@ -233,23 +233,23 @@ impl Script {
         ratios: Option<[u8; 2]>,
     ) {
         self.last += 1;
-        self.send(Message::Complex {
+        self.send(Message::Complex(NewComplex {
             id: self.last,
             legs: series.map(|series| Leg { series, side }),
             class: 1,
             limit,
             quantity,
             ratios,
-        });
+        }));
     }
 
     fn cancel_last(&mut self) {
-        self.send(Message::Cancel { id: self.last });
+        self.send(Message::Cancel(Cancel { id: self.last }));
     }
 
     fn away_offer(&mut self, series: u8, offer: u32) {
         let bid = 0;
-        self.send(Message::Away { series, bid, offer });
+        self.send(Message::Away(Away { series, bid, offer }));
     }
 
     /// Opens all series; those of a plain cross are in auction, where no legging
@@ -257,7 +257,7 @@ impl Script {
     fn open(&mut self, layer: Layer) {
         let status = if layer == Layer::Cross { 2 } else { 1 };
         for series in 0..8 {
-            self.send(Message::Status { series, status });
+            self.send(Message::Status(Status { series, status }));
         }
     }
 
@@ -358,7 +358,7 @@ impl Script {
                     self.send(Message::Sweep);
                 }
             }
-            Layer::Limited(most) => self.send(Message::LimitedSweep { most }),
+            Layer::Limited(most) => self.send(Message::LimitedSweep(LimitedSweep { most })),
             Layer::Settles => self.away_offer(0, 50_000),
         }
     }
@@ -368,7 +368,7 @@ impl Script {
 mod tests {
     use super::*;
     use crate::race::Track;
-    use sessions::record::{read_report, Record};
+    use sessions::record::{read_report, Answer, Record};
 
     /// The kinds of the records of the last unit.
     fn kinds(layer: Layer, book: usize) -> Vec<u16> {
@@ -382,7 +382,7 @@ mod tests {
         track.list(case.list).expect("both agree");
         let records = read_report(track.memory()).expect("whole records");
         let answers = records.iter().rev();
-        let answered = |record: &&Record| matches!(record, Record::Answer { .. });
+        let answered = |record: &&Record| matches!(record, Record::Answer(_));
         let mut left = case.messages_in_unit;
         let from = answers
             .enumerate()
@@ -394,7 +394,7 @@ mod tests {
             .expect("a unit has answers");
         let unit = &records[records.len() - from..];
         for record in unit {
-            if let Record::Answer { refusal, .. } = record {
+            if let Record::Answer(Answer { refusal, .. }) = record {
                 assert_eq!(*refusal, 0, "{layer:?} {book}");
             }
         }
@@ -442,7 +442,7 @@ mod tests {
         let mut track = Track::new();
         track.list(case.list).expect("both agree");
         let records = read_report(track.memory()).expect("whole records");
-        let Some(Record::Answer { count, .. }) = records.last() else {
+        let Some(Record::Answer(Answer { count, .. })) = records.last() else {
             panic!("the sweep's answer is last");
         };
         assert_eq!(*count, 8);

@@ -2,7 +2,7 @@
 
 use reference::Venue;
 use sessions::generator::Generator;
-use sessions::message::Message;
+use sessions::message::{Away, Cancel, Message, NewComplex, NewOrder, Status};
 use sessions::profile::Profile;
 use sessions::soak::{drawn, session_length};
 use sessions::view::{held_complex, held_regular};
@@ -44,12 +44,14 @@ fn closed(pieces: Vec<Vec<u8>>) -> Option<Closed> {
 fn taken_back(venue: &Venue) -> Vec<Message> {
     let complex = held_complex(venue).map(|order| order.id);
     let regular = held_regular(venue).map(|order| order.id);
-    let cancels = complex.chain(regular).map(|id| Message::Cancel { id });
+    let cancels = complex
+        .chain(regular)
+        .map(|id| Message::Cancel(Cancel { id }));
     let series = (0..8).flat_map(|series| {
         let (bid, offer, status) = (0, 0, 0);
         [
-            Message::Away { series, bid, offer },
-            Message::Status { series, status },
+            Message::Away(Away { series, bid, offer }),
+            Message::Status(Status { series, status }),
         ]
     });
     let refused = std::iter::repeat_n(Message::Raw(vec![4, 0, 99, 0]), 256);
@@ -75,7 +77,9 @@ pub fn messages_in(sessions: &[Closed]) -> usize {
 fn moved(message: &Message, base: u32) -> Message {
     let mut message = message.clone();
     match &mut message {
-        Message::Order { id, .. } | Message::Complex { id, .. } | Message::Cancel { id }
+        Message::Order(NewOrder { id, .. })
+        | Message::Complex(NewComplex { id, .. })
+        | Message::Cancel(Cancel { id })
             if *id > 0 =>
         {
             *id = id.saturating_add(base);

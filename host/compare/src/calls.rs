@@ -228,8 +228,9 @@ impl<'a> Comparer<'a> {
             Some(_) => self.records.iter_mut().for_each(spoil_trade),
             None => {}
         }
-        let Some((Record::Answer { refusal: 0, .. }, effects)) = self.records.split_first() else {
-            return Ok(());
+        let effects = match self.records.split_first() {
+            Some((Record::Answer(answer), effects)) if answer.refusal == 0 => effects,
+            _ => return Ok(()),
         };
         let (number, message) = (before.wrapping_add(1), Message::decode(message));
         let moments = check_moments(&given, number, &message, effects, &left)
@@ -321,7 +322,7 @@ impl<'a> Comparer<'a> {
         self.counts.bytes += self.report.memory().len() as u64;
         read_report_into(self.report.memory(), &mut self.records)?;
         let bytes: usize = self.records.iter().map(Record::length).sum();
-        let is_answer = |record: &&Record| matches!(record, Record::Answer { .. });
+        let is_answer = |record: &&Record| matches!(record, Record::Answer(_));
         let answers = self.records.iter().filter(is_answer).count();
         if bytes != written || answers != done as usize {
             return Err(format!(
@@ -384,8 +385,9 @@ impl<'a> Comparer<'a> {
 
 /// Moves a trade to a worse price for its taker.
 fn spoil_trade(record: &mut Record) {
-    if let Record::Trade { side, price, .. } = record {
-        *price = price.wrapping_add_signed(1 - 2 * i32::from(*side));
+    if let Record::Trade(trade) = record {
+        let worse = 1 - 2 * i32::from(trade.side);
+        trade.price = trade.price.wrapping_add_signed(worse);
     }
 }
 

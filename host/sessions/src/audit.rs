@@ -5,7 +5,7 @@
 use crate::ledger::{Account, Ledger};
 use crate::message::{split, Message};
 use crate::moments::{replay_sheet, Moment, Parties};
-use crate::record::{read_report, Record};
+use crate::record::{read_report, Generated, Record};
 use crate::settings::{figure_name, held_editions};
 use crate::sheet::run_whole;
 use crate::traffic::{Traffic, CEILING};
@@ -105,8 +105,8 @@ fn generations(records: &[Record]) -> Generations {
     let mut answered = 0;
     for (line, record) in (1..).zip(records) {
         match *record {
-            Record::Answer { number, .. } => answered = number,
-            Record::Generated { series, .. } => {
+            Record::Answer(answer) => answered = answer.number,
+            Record::Generated(Generated { series, .. }) => {
                 let recent = traffic.note(answered, record).unwrap_or(0);
                 if recent > CEILING {
                     told.faults.push(format!(
@@ -166,10 +166,7 @@ fn sum(pieces: &[&[u8]], records: &[Record]) -> Result<(Ledger, usize, Vec<Strin
     let mut faults = Vec::new();
     let mut answered = 0;
     for (index, record) in records.iter().enumerate() {
-        let Record::Answer {
-            number, refusal, ..
-        } = *record
-        else {
+        let Record::Answer(answer) = record else {
             if answered == 0 {
                 return Err(format!("line 1: expected record 64, found \"{record}\""));
             }
@@ -177,6 +174,7 @@ fn sum(pieces: &[&[u8]], records: &[Record]) -> Result<(Ledger, usize, Vec<Strin
             continue;
         };
         let line = index + 1;
+        let number = answer.number;
         if number as usize != answered + 1 {
             return Err(format!(
                 "line {line}: expected the answer to message {}, found {number}",
@@ -189,7 +187,7 @@ fn sum(pieces: &[&[u8]], records: &[Record]) -> Result<(Ledger, usize, Vec<Strin
             ));
         };
         answered += 1;
-        if refusal == 0 {
+        if answer.refusal == 0 {
             faults.extend(ledger.enter(&Message::decode(piece)).err());
         }
     }

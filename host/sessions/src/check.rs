@@ -2,13 +2,12 @@
 //! caller sees: the bytes given, the numbers and venues returned, the records.
 
 use crate::ledger::Ledger;
-use crate::message::Leg;
-use crate::message::Message;
+use crate::message::{Leg, Message};
 use crate::model::{refusal, work, AboveLegs, OutOfBand, ShortOfUnit, Work};
 use crate::moments::{check_moments, Moment};
 use crate::phases::{expected_generation, expected_settling, phases, Attempt, Phases};
-use crate::record::Record;
-use crate::settings::{InForce, PERCENT};
+use crate::record::{Answer, Record};
+use crate::settings::{entered_by, InForce};
 use crate::sound::fault;
 use crate::takings::check_takings;
 use crate::traffic::Traffic;
@@ -72,7 +71,7 @@ impl Checker {
     /// at its ends and its own number, and after a setting about each one kept.
     pub fn check_settings(&self, step: &Step) -> Result<(), String> {
         let mut numbers = vec![0, self.done, u32::MAX];
-        if let Message::Increment { .. } | Message::Percent { .. } = step.message {
+        if let Message::Increment(_) | Message::Percent(_) = step.message {
             let about = |entry: &Edition| [entry.number - 1, entry.number];
             numbers.extend(self.entered.iter().flat_map(about));
         }
@@ -93,21 +92,7 @@ impl Checker {
 
     /// Takes note of an accepted setting.
     fn enter(&mut self, message: &Message) {
-        let (edition, figure, value) = match *message {
-            Message::Increment {
-                series,
-                increment,
-                edition,
-            } => (edition, series, increment),
-            Message::Percent { percent, edition } => (edition, PERCENT, percent),
-            _ => return,
-        };
-        self.entered.push(Edition {
-            edition,
-            number: self.done,
-            figure,
-            value,
-        });
+        self.entered.extend(entered_by(message, self.done));
     }
 
     /// Checks one message done; tells what an accepted one did.
@@ -221,12 +206,12 @@ fn check_answer<'a>(step: &Step<'a>, number: u32) -> Result<&'a [Record], String
     let after = &step.returned.venue;
     let filled = (0..16).filter(|place| after.legging[*place].quantity > 0);
     let mask = filled.fold(0, |mask, place| mask | 1u16 << place);
-    let expected = Record::Answer {
+    let expected = Record::Answer(Answer {
         number,
         refusal: step.returned.number,
         mask,
         count: mask.count_ones() as u8,
-    };
+    });
     let Some((first, effects)) = step.records.split_first() else {
         return Err("no record was written".to_string());
     };
@@ -322,6 +307,7 @@ fn check_hit(
 mod tests {
     use super::*;
     use crate::record::{parse_sheet, read_report};
+    use crate::settings::PERCENT;
     use crate::text::encode_session;
     use reference::{one_message, run};
 

@@ -7,11 +7,11 @@ mod traffic;
 use crate::check::{Seen, Step};
 use crate::feed_check::FeedCoverage;
 use crate::layer_check::LayerCoverage;
-use crate::message::{Leg, Message};
+use crate::message::{Leg, Message, NewOrder};
 use crate::model::{in_use, AboveLegs};
 use crate::moments::Parties;
 use crate::phases::Phases;
-use crate::record::Record;
+use crate::record::{Cross, Record, Trade};
 use crate::set_check::SetCoverage;
 use crate::settings::{held_editions, InForce};
 use crate::view::{beats, find_complex, held_complex, held_regular, leg_at, legs_of};
@@ -420,8 +420,8 @@ impl Coverage {
         for record in step.records {
             let kind = RECORD_KINDS.iter().position(|kind| *kind == record.kind());
             self.records[kind.unwrap_or(0)] += 1;
-            if let Record::Removed { cause, .. } = record {
-                let cause = CAUSES.iter().position(|known| known == cause);
+            if let Record::Removed(gone) = record {
+                let cause = CAUSES.iter().position(|known| *known == gone.cause);
                 self.causes[cause.unwrap_or(0)] += 1;
             }
         }
@@ -457,9 +457,9 @@ impl Coverage {
     /// Settings entered or refused, and orders taken or refused by an increment.
     fn observe_settings(&mut self, step: &Step) {
         match *step.message {
-            Message::Increment { series, .. } => self.observe_setting(step, Some(series)),
-            Message::Percent { .. } => self.observe_setting(step, None),
-            Message::Order { leg, price, .. } if leg.series <= 7 && price > 0 => {
+            Message::Increment(set) => self.observe_setting(step, Some(set.series)),
+            Message::Percent(_) => self.observe_setting(step, None),
+            Message::Order(NewOrder { leg, price, .. }) if leg.series <= 7 && price > 0 => {
                 let on = |in_force: InForce| {
                     price % u32::from(in_force.increment(leg.series).value) == 0
                 };
@@ -546,29 +546,20 @@ impl Coverage {
         let mut standing = phases.settled_view.legging;
         let mut holder = None;
         for record in phases.generation {
-            match *record {
-                Record::Removed { series, side, .. } => {
-                    holder = Some(standing[place_of(Leg { series, side })]);
-                }
-                Record::Generated {
-                    id,
-                    series,
-                    side,
-                    price,
-                    displayed,
-                    quantity,
-                } => {
-                    let leg = Leg { series, side };
+            match record {
+                Record::Removed(gone) => holder = Some(standing[place_of(gone.leg())]),
+                Record::Generated(told) => {
+                    let leg = told.leg();
                     let made = Legging {
-                        parent: id,
-                        price,
-                        quantity,
+                        parent: told.id,
+                        price: told.price,
+                        quantity: told.quantity,
                     };
                     if let Some(holder) = holder.take() {
                         self.observe_replacement(step, leg, holder, made);
                     }
-                    self.observe_price(&phases.settled_view, leg, price, displayed);
-                    self.observe_limit(phases, &step.returned.venue, id);
+                    self.observe_price(&phases.settled_view, leg, told.price, told.displayed);
+                    self.observe_limit(phases, &step.returned.venue, told.id);
                     standing[place_of(leg)] = made;
                 }
                 _ => {}
@@ -609,20 +600,20 @@ impl Coverage {
         let mut pairs = 0;
         for (index, record) in step.records.iter().enumerate() {
             match *record {
-                Record::Trade { .. } => self.observe_trade(step, record),
-                Record::Pair { .. } => pairs += 1,
-                Record::Cross { taker, maker, .. } => {
+                Record::Trade(trade) => self.observe_trade(step, &trade),
+                Record::Pair(_) => pairs += 1,
+                Record::Cross(Cross { taker, maker, .. }) => {
                     let after = &step.records[index + 1..];
                     let both = removals_after(after, taker) && removals_after(after, maker);
                     self.add(Rare::CrossInSweep, step.message.is_sweep());
                     self.add(Rare::CrossOfTwoWithLegging, both);
                 }
-                Record::Removed { cause: 8 | 10, .. } => touched = true,
+                Record::Removed(gone) => touched |= matches!(gone.cause, 8 | 10),
                 _ => {}
             }
         }
         self.add(Rare::TouchWithoutPair, touched && pairs == 0);
-        let complex = matches!(step.message, Message::Complex { .. });
+        let complex = matches!(step.message, Message::Complex(_));
         self.add(Rare::SeveralRounds, complex && pairs > 1);
     }
 
@@ -635,22 +626,12 @@ impl Coverage {
     }
 
     /// A trade of an arriving order with a legging order.
-    fn observe_trade(&mut self, step: &Step, record: &Record) {
-        let Record::Trade {
-            series,
-            side,
-            quantity,
-            maker,
-            ..
-        } = *record
-        else {
-            return;
-        };
-        let standing = step.before.legging[place_of(opposite(Leg { series, side }))];
-        let arrived = matches!(step.message, Message::Order { .. });
-        if arrived && standing.quantity > 0 && standing.parent == maker {
-            self.add(Rare::HitInPart, quantity < standing.quantity);
-            self.add(Rare::HitInFull, quantity == standing.quantity);
+    fn observe_trade(&mut self, step: &Step, trade: &Trade) {
+        let standing = step.before.legging[place_of(opposite(trade.leg()))];
+        let arrived = matches!(step.message, Message::Order(_));
+        if arrived && standing.quantity > 0 && standing.parent == trade.maker {
+            self.add(Rare::HitInPart, trade.quantity < standing.quantity);
+            self.add(Rare::HitInFull, trade.quantity == standing.quantity);
         }
     }
 
@@ -707,10 +688,10 @@ impl Coverage {
 fn removals_after(records: &[Record], id: u32) -> bool {
     let removals = records
         .iter()
-        .take_while(|record| matches!(record, Record::Removed { cause: 3, .. }));
+        .take_while(|record| matches!(record, Record::Removed(gone) if gone.cause == 3));
     removals
         .into_iter()
-        .any(|record| matches!(record, Record::Removed { id: named, .. } if *named == id))
+        .any(|record| matches!(record, Record::Removed(gone) if gone.id == id))
 }
 
 impl Display for Coverage {

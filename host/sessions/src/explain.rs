@@ -7,7 +7,7 @@ use crate::message::{split, Leg, Message};
 use crate::model::{fields_in_range, off_increment, only_ratios_are_out, only_shown_is_out};
 use crate::model::{looked_at, AboveLegs, OutOfBand, ShortOfUnit, Turn};
 use crate::phases::Attempt;
-use crate::record::{read_report, Record};
+use crate::record::{read_report, Answer, Cross, Generated, Pair, Record, Removed, Trade};
 use crate::settings::{figure_name, InForce, PERCENT};
 use crate::takings::Takings;
 use crate::view::{find_complex, find_regular, held_regular, parts_of, ratios_of, shown};
@@ -79,6 +79,12 @@ fn shown_in_words(order: &Regular) -> String {
     format!("order {id} shows {} of {quantity} left", shown(order))
 }
 
+fn trade_in_words(trade: &Trade) -> String {
+    let (taker, leg, maker) = (trade.taker, leg_name(trade.leg()), trade.maker);
+    let (quantity, price) = (trade.quantity, trade.price);
+    format!("trade: {taker} {leg}, {quantity} at {price}, maker {maker}")
+}
+
 fn passed_in_words(passed: &AboveLegs) -> String {
     let AboveLegs {
         taker,
@@ -135,52 +141,42 @@ impl Told<'_> {
     }
 
     fn in_words(&self, record: &Record) -> String {
-        match *record {
-            Record::Answer {
-                refusal,
-                mask,
-                count,
-                ..
-            } => self.answer_in_words(refusal, mask, count),
-            Record::Trade {
-                series,
-                side,
-                price,
-                quantity,
-                taker,
-                maker,
-            } => {
-                let leg = leg_name(Leg { series, side });
-                format!("trade: {taker} {leg}, {quantity} at {price}, maker {maker}")
-            }
-            Record::Pair { id, net, quantity } => {
-                let (units, in_band) = (self.units_of(id, quantity), self.paired_in_band());
+        match record {
+            Record::Answer(answer) => self.answer_in_words(answer),
+            Record::Trade(trade) => trade_in_words(trade),
+            Record::Pair(Pair { id, net, quantity }) => {
+                let (units, in_band) = (self.units_of(*id, *quantity), self.paired_in_band());
                 format!("pair: {id}, {quantity}{units} at net {net}{in_band}")
             }
-            Record::Generated { .. } | Record::Removed { .. } => self.legging_in_words(record),
-            Record::Cross {
-                taker,
-                maker,
-                net,
-                quantity,
-            } => {
-                let (units, in_band) = (self.units_of(taker, quantity), self.in_band());
-                format!("cross: {taker} with {maker}, {quantity}{units} at the taker's net {net}{in_band}")
-            }
-            Record::Cancelled { id, quantity } => {
+            Record::Generated(made) => self.generated_in_words(made),
+            Record::Removed(gone) => self.removed_in_words(gone),
+            Record::Cross(cross) => self.cross_in_words(cross),
+            Record::Cancelled(gone) => {
+                let (id, quantity) = (gone.id, gone.quantity);
                 let (units, reserve) = (self.units_of(id, quantity), self.reserve_of(id));
                 format!("cancelled: {id}, {quantity}{units} were open{reserve}")
             }
-            Record::Looked { count } => self.looked_in_words(count),
+            Record::Looked(looked) => self.looked_in_words(looked.count),
         }
+    }
+
+    fn cross_in_words(&self, cross: &Cross) -> String {
+        let Cross {
+            taker,
+            maker,
+            net,
+            quantity,
+        } = cross;
+        let (units, in_band) = (self.units_of(*taker, *quantity), self.in_band());
+        format!("cross: {taker} with {maker}, {quantity}{units} at the taker's net {net}{in_band}")
     }
 
     /// The orders that a limited sweep looks at, in their turn.
     fn looked_in_words(&self, count: u8) -> String {
-        let Message::LimitedSweep { most } = *self.step.message else {
+        let Message::LimitedSweep(sweep) = self.step.message else {
             return format!("looks at {count}");
         };
-        let looked = looked_at(self.step.before, most).into_iter();
+        let looked = looked_at(self.step.before, sweep.most).into_iter();
         let ids: Vec<String> = looked.map(|id| id.to_string()).collect();
         match ids.is_empty() {
             true => format!("looks at {count}"),
@@ -188,9 +184,10 @@ impl Told<'_> {
         }
     }
 
-    fn answer_in_words(&self, refusal: u8, mask: u16, count: u8) -> String {
+    fn answer_in_words(&self, answer: &Answer) -> String {
+        let Answer { refusal, count, .. } = *answer;
         if refusal == 0 {
-            let (increment, places) = (self.on_increment(), places(mask));
+            let (increment, places) = (self.on_increment(), places(answer.mask));
             return format!(
                 "accepted{increment}; legging orders standing after it: {count}{places}"
             );
@@ -206,10 +203,8 @@ impl Told<'_> {
 
     /// The ratios of a complex order that rested before the message, or came with it.
     fn ratios_of(&self, id: u32) -> [u8; 2] {
-        match *self.step.message {
-            Message::Complex {
-                id: came, ratios, ..
-            } if came == id => ratios.unwrap_or([1, 1]),
+        match self.step.message {
+            Message::Complex(came) if came.id == id => came.unit(),
             _ => find_complex(self.step.before, id).map_or([1, 1], ratios_of),
         }
     }
@@ -227,11 +222,12 @@ impl Told<'_> {
     /// The ratios, where nothing else is out of range.
     fn ratios_out_of_range(&self, refusal: u8) -> String {
         let message = self.step.message;
-        match message {
-            Message::Complex {
-                ratios: Some([first, second]),
-                ..
-            } if refusal == 4 && only_ratios_are_out(message) => {
+        let ratios = match message {
+            Message::Complex(order) => order.ratios,
+            _ => None,
+        };
+        match ratios {
+            Some([first, second]) if refusal == 4 && only_ratios_are_out(message) => {
                 format!(", ratios {first} and {second} are not of 1 to 3")
             }
             _ => String::new(),
@@ -248,10 +244,10 @@ impl Told<'_> {
 
     /// Of a maker that has reserve: whether a trade took shown size or reserve.
     fn taken_in_words(&self, record: &Record, turn: Option<Turn>) -> &'static str {
-        let Record::Trade { maker, .. } = *record else {
+        let Record::Trade(trade) = record else {
             return "";
         };
-        let maker = find_regular(self.step.before, maker);
+        let maker = find_regular(self.step.before, trade.maker);
         match turn {
             Some(Turn::Reserve) => ", of its reserve",
             Some(Turn::Shown) if maker.is_some_and(|maker| maker.reserve > 0) => {
@@ -264,9 +260,7 @@ impl Told<'_> {
     /// The orders that had reserve and traded, and one of kind 9 that came to rest.
     fn showing_anew(&self) -> impl Iterator<Item = &Regular> {
         let came = match self.step.message {
-            Message::Order {
-                id, shows: Some(_), ..
-            } => Some(*id),
+            Message::Order(order) => order.shows.map(|_| order.id),
             _ => None,
         };
         let traded = move |order: &Regular| {
@@ -281,47 +275,29 @@ impl Told<'_> {
     fn shown_out_of_range(&self, refusal: u8) -> String {
         let message = self.step.message;
         match message {
-            Message::Order {
-                quantity,
-                shows: Some(shows),
-                ..
-            } if refusal == 4 && only_shown_is_out(message, &self.in_force) => {
+            Message::Order(order) if refusal == 4 && only_shown_is_out(message, &self.in_force) => {
+                let (shows, quantity) = (order.shown(), order.quantity);
                 format!(", {shows} of {quantity} cannot be shown")
             }
             _ => String::new(),
         }
     }
 
-    fn legging_in_words(&self, record: &Record) -> String {
-        match *record {
-            Record::Generated {
-                id,
-                series,
-                side,
-                price,
-                displayed,
-                quantity,
-            } => {
-                let leg = leg_name(Leg { series, side });
-                let increment = self.in_force.increment(series);
-                format!(
-                    "legging order of {id}, {leg}: {quantity} at {price}, shown at {displayed} by increment {increment}{}",
-                    self.in_band()
-                )
-            }
-            Record::Removed {
-                id,
-                series,
-                side,
-                cause,
-            } => {
-                let leg = leg_name(Leg { series, side });
-                let why = cause_name(cause);
-                let by = self.by_setting(id, series, cause);
-                format!("removed the legging order of {id}, {leg}: cause {cause}, {why}{by}")
-            }
-            _ => String::new(),
-        }
+    fn generated_in_words(&self, made: &Generated) -> String {
+        let (id, leg, quantity) = (made.id, leg_name(made.leg()), made.quantity);
+        let (price, displayed) = (made.price, made.displayed);
+        let increment = self.in_force.increment(made.series);
+        format!(
+            "legging order of {id}, {leg}: {quantity} at {price}, shown at {displayed} by increment {increment}{}",
+            self.in_band()
+        )
+    }
+
+    fn removed_in_words(&self, gone: &Removed) -> String {
+        let Removed { id, cause, .. } = *gone;
+        let (leg, why) = (leg_name(gone.leg()), cause_name(cause));
+        let by = self.by_setting(id, gone.series, cause);
+        format!("removed the legging order of {id}, {leg}: cause {cause}, {why}{by}")
     }
 
     /// The setting by which a settling removes: the increment for 1, the percentage
@@ -369,15 +345,16 @@ impl Told<'_> {
     /// The band is asked of a pair that legs in, not of one that a hit makes.
     fn paired_in_band(&self) -> String {
         match self.step.message {
-            Message::Order { .. } => String::new(),
+            Message::Order(_) => String::new(),
             _ => self.in_band(),
         }
     }
 
     fn on_increment(&self) -> String {
         match self.step.message {
-            Message::Order { leg, .. } => {
-                format!(" on increment {}", self.in_force.increment(leg.series))
+            Message::Order(order) => {
+                let increment = self.in_force.increment(order.leg.series);
+                format!(" on increment {increment}")
             }
             _ => String::new(),
         }
@@ -399,12 +376,12 @@ impl Told<'_> {
     fn setting_in_words(&self) -> Option<String> {
         let before = InForce::of(self.step.before);
         let (name, set, held) = match self.step.message {
-            Message::Increment { series, .. } => (
-                figure_name(*series),
-                self.in_force.increment(*series),
-                before.increment(*series),
+            Message::Increment(set) => (
+                figure_name(set.series),
+                self.in_force.increment(set.series),
+                before.increment(set.series),
             ),
-            Message::Percent { .. } => (
+            Message::Percent(_) => (
                 figure_name(PERCENT),
                 self.in_force.percent(),
                 before.percent(),

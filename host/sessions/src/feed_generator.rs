@@ -2,7 +2,7 @@
 //! drawn places: equal numbers drawn, equal lines.
 
 use crate::line::{line_bytes, numbered, Numbered};
-use crate::message::Message;
+use crate::message::{Cancel, Message};
 use crate::random::Random;
 
 /// The lines, and the list that was sent over them.
@@ -159,7 +159,7 @@ fn differ(parts: &mut Parts, random: &mut Random) {
 fn exchange(parts: &mut Parts, random: &mut Random) {
     with_both(parts, random, |message, _| {
         let sweep = Message::Sweep.encode();
-        let cancel = Message::Cancel { id: 1 }.encode();
+        let cancel = Message::Cancel(Cancel { id: 1 }).encode();
         *message = if message.len() == sweep.len() {
             cancel
         } else {
@@ -233,7 +233,7 @@ fn begin_message(line: &mut Vec<u8>, random: &mut Random) {
 
 /// A number, and a message without its last bytes.
 fn leave_out_end(line: &mut Vec<u8>, random: &mut Random) {
-    let message = Message::Cancel { id: 1 }.encode();
+    let message = Message::Cancel(Cancel { id: 1 }).encode();
     line.extend(HIGH);
     line.extend(&message[..random.between(4, 7) as usize]);
 }

@@ -5,7 +5,9 @@ mod ratios;
 mod reserve;
 mod settings;
 
-use crate::message::{Leg, Message};
+use crate::message::{
+    Away, Cancel, Increment, Leg, Message, NewComplex, NewOrder, Percent, Status,
+};
 use crate::profile::{Profile, Shape};
 use crate::random::Random;
 use crate::scripts;
@@ -66,13 +68,14 @@ impl Generator {
     fn plan_opening(&mut self) {
         let closes = self.random.chance(self.shape.closed_first);
         if closes {
-            let close = |series| Message::Status { series, status: 0 };
+            let close = |series| Message::Status(Status { series, status: 0 });
             self.queue.extend((0..8).map(close));
         }
         let opens = if closes { 97 } else { 50 };
         for &series in self.shape.series {
             if self.random.chance(opens) {
-                self.queue.push_back(Message::Status { series, status: 1 });
+                self.queue
+                    .push_back(Message::Status(Status { series, status: 1 }));
             }
             if self.random.chance(70) {
                 let message = self.away_of(series);
@@ -143,8 +146,11 @@ impl Generator {
     /// Gives an order that was planned the next id, and a setting the next edition.
     fn numbered(&mut self, mut message: Message, venue: &Venue) -> Message {
         match &mut message {
-            Message::Order { id, .. } | Message::Complex { id, .. } => *id = self.next_id(venue),
-            Message::Increment { edition, .. } | Message::Percent { edition, .. } => {
+            Message::Order(NewOrder { id, .. }) | Message::Complex(NewComplex { id, .. }) => {
+                *id = self.next_id(venue)
+            }
+            Message::Increment(Increment { edition, .. })
+            | Message::Percent(Percent { edition, .. }) => {
                 *edition = self.next_edition(venue);
             }
             _ => {}
@@ -254,13 +260,13 @@ impl Generator {
                 self.centre(leg.series) - sign(leg) * step * apart
             }
         };
-        Message::Order {
+        Message::Order(NewOrder {
             id: self.next_id(venue),
             leg,
             price: Self::on_increment(view, leg.series, price),
             quantity: self.quantity(),
             shows: None,
-        }
+        })
     }
 
     /// An order that reaches a standing legging order, for less than, all of or
@@ -285,13 +291,13 @@ impl Generator {
             _ => ahead + order.quantity + self.quantity(),
         };
         let reached = view.displayed(made, i64::from(order.price));
-        Some(Message::Order {
+        Some(Message::Order(NewOrder {
             id: self.next_id(venue),
             leg: opposite(made),
             price: Self::on_increment(view, made.series, reached),
             quantity: quantity.clamp(1, 10_000),
             shows: None,
-        })
+        }))
     }
 
     fn legs(&mut self) -> [Leg; 2] {
@@ -331,14 +337,14 @@ impl Generator {
             }
         };
         let most = if is_even(parts) { 200_000 } else { 600_000 };
-        Message::Complex {
+        Message::Complex(NewComplex {
             id: self.next_id(venue),
             legs: parts.map(|part| part.leg),
             class: self.random.below(2) as u8,
             limit: limit.clamp(-most, most) as i32,
             quantity: self.quantity(),
             ratios: self.ratio_bytes(parts),
-        }
+        })
     }
 
     /// Legs and limit of an order that crosses another, or competes with it.
@@ -420,7 +426,7 @@ impl Generator {
         } else {
             self.random.pick(&ids)
         };
-        Message::Cancel { id }
+        Message::Cancel(Cancel { id })
     }
 
     fn away_of(&mut self, series: u8) -> Message {
@@ -432,21 +438,21 @@ impl Generator {
                 [0, 99_998, 99_999, 100_000, 100_000]
             };
             let [bid, offer] = [0, 1].map(|_| self.random.pick(&ends));
-            return Message::Away { series, bid, offer };
+            return Message::Away(Away { series, bid, offer });
         }
         let near = |random: &mut Random, towards: i64| {
             (centre + towards * random.between(-8, 40)).clamp(1, 100_000) as u32
         };
-        Message::Away {
+        Message::Away(Away {
             series,
             bid: near(&mut self.random, -1),
             offer: near(&mut self.random, 1),
-        }
+        })
     }
 
     /// Away prices near the centre, near the best own prices, or none.
     fn away(&mut self, series: u8, view: &View) -> Message {
-        let Message::Away { bid, offer, .. } = self.away_of(series) else {
+        let Message::Away(Away { bid, offer, .. }) = self.away_of(series) else {
             return Message::Sweep;
         };
         let mut prices = [bid, offer];
@@ -462,7 +468,7 @@ impl Generator {
             }
         }
         let [bid, offer] = prices;
-        Message::Away { series, bid, offer }
+        Message::Away(Away { series, bid, offer })
     }
 
     /// A status for a series in use; a series that is not open is mostly opened.
@@ -475,12 +481,12 @@ impl Generator {
             .copied()
             .find(|series| !is_open(*series));
         if let Some(series) = shut.filter(|_| self.random.chance(60)) {
-            return Message::Status { series, status: 1 };
+            return Message::Status(Status { series, status: 1 });
         }
-        Message::Status {
+        Message::Status(Status {
             series: self.random.pick(self.shape.series),
             status: self.random.pick(&[0, 1, 1, 1, 1, 2]),
-        }
+        })
     }
 
     /// A message meant to be refused with one of 2 to 8, or 14.
@@ -490,9 +496,9 @@ impl Generator {
             2 | 3 => self.out_of_range(venue, view),
             4 => self.stale_id(venue, view),
             5 => self.in_closed_series(venue, view),
-            6 => Message::Cancel {
+            6 => Message::Cancel(Cancel {
                 id: venue.last.saturating_add(1),
-            },
+            }),
             _ => Message::Raw(self.unknown_kind()),
         }
     }
@@ -536,7 +542,7 @@ impl Generator {
             _ => self.status(venue),
         };
         let mut bytes = message.encode();
-        if let Message::Complex { .. } = message {
+        if let Message::Complex(_) = message {
             if self.random.chance(30) {
                 bytes[10] = bytes[8];
                 return Message::decode(&bytes);
@@ -557,7 +563,9 @@ impl Generator {
         } else {
             self.complex(venue, view)
         };
-        if let Message::Order { id, .. } | Message::Complex { id, .. } = &mut message {
+        if let Message::Order(NewOrder { id, .. }) | Message::Complex(NewComplex { id, .. }) =
+            &mut message
+        {
             *id = venue.last - venue.last.min(self.random.below(4) as u32);
         }
         message
@@ -573,16 +581,16 @@ impl Generator {
             self.complex(venue, view)
         };
         match &mut message {
-            Message::Order { leg, price, .. } => {
+            Message::Order(NewOrder { leg, price, .. }) => {
                 leg.series = series;
                 *price = 100;
             }
-            Message::Complex { legs, .. } => legs[1].series = series,
+            Message::Complex(NewComplex { legs, .. }) => legs[1].series = series,
             _ => {}
         }
         if closed.is_none() {
             self.queue.push_back(message);
-            return Message::Status { series, status: 0 };
+            return Message::Status(Status { series, status: 0 });
         }
         message
     }

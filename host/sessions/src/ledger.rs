@@ -27,29 +27,17 @@ pub struct Account {
 impl Account {
     /// The account of an order before any record names it.
     fn of(message: &Message) -> Option<Account> {
-        let account = match *message {
-            Message::Order {
-                id,
-                leg,
-                quantity,
-                shows,
-                ..
-            } => Account {
-                series: [leg.series; 2],
-                shown: u64::from(shows.unwrap_or(quantity)),
-                ..Account::new(id, quantity)
+        let account = match message {
+            Message::Order(order) => Account {
+                series: [order.leg.series; 2],
+                shown: u64::from(order.shown()),
+                ..Account::new(order.id, order.quantity)
             },
-            Message::Complex {
-                id,
-                legs,
-                quantity,
-                ratios,
-                ..
-            } => Account {
-                series: legs.map(|leg| leg.series),
-                ratios: ratios.unwrap_or([1, 1]),
+            Message::Complex(order) => Account {
+                series: order.legs.map(|leg| leg.series),
+                ratios: order.unit(),
                 is_complex: true,
-                ..Account::new(id, quantity)
+                ..Account::new(order.id, order.quantity)
             },
             _ => return None,
         };
@@ -141,39 +129,30 @@ impl Ledger {
 
     /// Adds one record's quantities to the accounts that it names.
     pub fn add(&mut self, record: &Record) -> Result<(), String> {
-        match *record {
-            Record::Trade {
-                series,
-                quantity,
-                taker,
-                maker,
-                ..
-            } => {
-                for id in [taker, maker] {
+        match record {
+            Record::Trade(trade) => {
+                let series = usize::from(trade.series);
+                for id in [trade.taker, trade.maker] {
                     let account = self.account(id, record)?;
-                    let Some(contracts) = account.contracts.get_mut(usize::from(series)) else {
+                    let Some(contracts) = account.contracts.get_mut(series) else {
                         return Err(format!("record \"{record}\" has a series above 7"));
                     };
-                    *contracts += u64::from(quantity);
+                    *contracts += u64::from(trade.quantity);
                 }
             }
-            Record::Pair { id, quantity, .. } => {
-                self.account(id, record)?.paired += u64::from(quantity);
+            Record::Pair(pair) => {
+                self.account(pair.id, record)?.paired += u64::from(pair.quantity);
             }
-            Record::Cross {
-                taker,
-                maker,
-                quantity,
-                ..
-            } => {
-                self.account(taker, record)?.crossed += u64::from(quantity);
-                self.account(maker, record)?.crossed += u64::from(quantity);
+            Record::Cross(cross) => {
+                for id in [cross.taker, cross.maker] {
+                    self.account(id, record)?.crossed += u64::from(cross.quantity);
+                }
             }
-            Record::Cancelled { id, quantity } => {
-                self.account(id, record)?.cancelled += u64::from(quantity);
+            Record::Cancelled(gone) => {
+                self.account(gone.id, record)?.cancelled += u64::from(gone.quantity);
             }
-            Record::Answer { .. } | Record::Looked { .. } => {}
-            Record::Generated { .. } | Record::Removed { .. } => {}
+            Record::Answer(_) | Record::Looked(_) => {}
+            Record::Generated(_) | Record::Removed(_) => {}
         }
         Ok(())
     }

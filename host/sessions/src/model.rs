@@ -2,12 +2,12 @@
 //! of documents 01 and 02: every choice looks at all orders, every price is worked
 //! out anew. It is slow, and shares nothing with the reference but its types.
 
-use crate::message::{split, Leg, Message};
-use crate::record::Record;
-use crate::settings::{held_editions, last_edition, Figure, InForce, PERCENT};
+use crate::message::{split, Leg, Message, NewComplex, NewOrder};
+use crate::record::{Cancelled, Cross, Looked, Pair, Record, Removed, Trade};
+use crate::settings::{entered_by, held_editions, last_edition, Figure, InForce};
 use crate::view::{held_complex, held_regular, legs_of, opposite, place_of, side_of, sign};
-use crate::view::{parts, parts_of, ratios_of, shown, Level, Part, View};
-use reference::{Complex, Edition, Legging, Regular, Venue};
+use crate::view::{parts, parts_of, ratios_of, shown, to_rest, Level, Part, View};
+use reference::{Complex, Legging, Regular, Venue};
 
 /// The refusal that a message meets, or 0. `left` is all that is left to read.
 pub fn refusal(venue: &Venue, left: &[u8]) -> u8 {
@@ -34,17 +34,17 @@ fn in_range(message: &Message, in_force: &InForce) -> bool {
 
 /// The increment that the price of an order is off, if it is; its fields are in range.
 pub fn off_increment(message: &Message, in_force: &InForce) -> Option<Figure> {
-    let Message::Order { leg, price, .. } = message else {
+    let Message::Order(order) = message else {
         return None;
     };
-    let increment = in_force.increment(leg.series);
-    (*price % u32::from(increment.value) != 0).then_some(increment)
+    let increment = in_force.increment(order.leg.series);
+    (order.price % u32::from(increment.value) != 0).then_some(increment)
 }
 
 /// Whether ratios are named, and are the same.
 pub fn has_equal_ratios(message: &Message) -> bool {
     match message {
-        Message::Complex { ratios, .. } => ratios.is_some_and(|[first, second]| first == second),
+        Message::Complex(order) => order.ratios.is_some_and(|[first, second]| first == second),
         _ => false,
     }
 }
@@ -64,63 +64,46 @@ fn leg_in_range(leg: &Leg) -> bool {
     leg.series <= 7 && leg.side <= 1
 }
 
+fn order_in_range(order: &NewOrder) -> bool {
+    order.id >= 1
+        && leg_in_range(&order.leg)
+        && (1..=100_000).contains(&order.price)
+        && (1..=10_000).contains(&order.quantity)
+        && (1..=order.quantity).contains(&order.shown())
+}
+
+fn complex_in_range(order: &NewComplex) -> bool {
+    let [first, second] = &order.legs;
+    order.id >= 1
+        && leg_in_range(first)
+        && leg_in_range(second)
+        && first.series != second.series
+        && order.class <= 1
+        && limit_in_range(order.limit, order.ratios)
+        && (1..=10_000).contains(&order.quantity)
+}
+
 /// Whether every field is in a range that no setting moves.
 pub fn fields_in_range(message: &Message) -> bool {
     match message {
-        Message::Order {
-            id,
-            leg,
-            price,
-            quantity,
-            shows,
-        } => {
-            *id >= 1
-                && leg_in_range(leg)
-                && (1..=100_000).contains(price)
-                && (1..=10_000).contains(quantity)
-                && shows.is_none_or(|shows| (1..=*quantity).contains(&shows))
-        }
-        Message::Complex {
-            id,
-            legs,
-            class,
-            limit,
-            quantity,
-            ratios,
-        } => {
-            *id >= 1
-                && legs.iter().all(leg_in_range)
-                && legs[0].series != legs[1].series
-                && *class <= 1
-                && limit_in_range(*limit, *ratios)
-                && (1..=10_000).contains(quantity)
-        }
-        Message::Cancel { id } => *id >= 1,
-        Message::Away { series, bid, offer } => {
-            *series <= 7 && *bid <= 100_000 && *offer <= 100_000
-        }
-        Message::Status { series, status } => *series <= 7 && *status <= 2,
+        Message::Order(order) => order_in_range(order),
+        Message::Complex(order) => complex_in_range(order),
+        Message::Cancel(cancel) => cancel.id >= 1,
+        Message::Away(away) => away.series <= 7 && away.bid <= 100_000 && away.offer <= 100_000,
+        Message::Status(status) => status.series <= 7 && status.status <= 2,
         Message::Sweep => true,
-        Message::LimitedSweep { most } => (1..=32).contains(most),
-        _ => setting_in_range(message),
-    }
-}
-
-fn setting_in_range(message: &Message) -> bool {
-    match message {
-        Message::Increment {
-            series, increment, ..
-        } => *series <= 7 && [1, 5, 10].contains(increment),
-        Message::Percent { percent, .. } => *percent <= 50,
-        _ => false,
+        Message::LimitedSweep(sweep) => (1..=32).contains(&sweep.most),
+        Message::Increment(set) => set.series <= 7 && [1, 5, 10].contains(&set.increment),
+        Message::Percent(set) => set.percent <= 50,
+        Message::Raw(_) => false,
     }
 }
 
 /// Whether nothing of an order is out of range but its shown quantity.
 pub fn only_shown_is_out(message: &Message, in_force: &InForce) -> bool {
     let mut whole = message.clone();
-    if let Message::Order { shows, .. } = &mut whole {
-        *shows = None;
+    if let Message::Order(order) = &mut whole {
+        order.shows = None;
     }
     in_range(&whole, in_force) && !in_range(message, in_force)
 }
@@ -128,21 +111,25 @@ pub fn only_shown_is_out(message: &Message, in_force: &InForce) -> bool {
 /// Whether nothing of a complex order is out of range but its ratios.
 pub fn only_ratios_are_out(message: &Message) -> bool {
     let mut even = message.clone();
-    if let Message::Complex { ratios, .. } = &mut even {
-        *ratios = ratios.map(|_| [1, 1]);
+    if let Message::Complex(order) = &mut even {
+        order.ratios = order.ratios.map(|_| [1, 1]);
     }
     fields_in_range(&even) && !fields_in_range(message)
 }
 
 fn venue_refusal(venue: &Venue, message: &Message) -> u8 {
     let (id, legs, full) = match message {
-        Message::Order { id, leg, .. } => (*id, vec![*leg], venue.regular[127].quantity > 0),
-        Message::Complex { id, legs, .. } => (*id, legs.to_vec(), venue.complex[31].quantity > 0),
-        Message::Cancel { id } => return if rests(venue, *id) { 0 } else { 8 },
-        Message::Increment {
-            series, edition, ..
-        } => return setting_refusal(venue, *edition, Some(*series)),
-        Message::Percent { edition, .. } => return setting_refusal(venue, *edition, None),
+        Message::Order(order) => {
+            let full = venue.regular[127].quantity > 0;
+            (order.id, vec![order.leg], full)
+        }
+        Message::Complex(order) => {
+            let full = venue.complex[31].quantity > 0;
+            (order.id, order.legs.to_vec(), full)
+        }
+        Message::Cancel(cancel) => return if rests(venue, cancel.id) { 0 } else { 8 },
+        Message::Increment(set) => return setting_refusal(venue, set.edition, Some(set.series)),
+        Message::Percent(set) => return setting_refusal(venue, set.edition, None),
         _ => return 0,
     };
     if id <= venue.last {
@@ -248,31 +235,26 @@ pub fn work(before: &Venue, message: &Message, number: u32) -> Work {
         out_of_band: Vec::new(),
         short: Vec::new(),
     };
-    match *message {
-        Message::Order { .. } => work.order(message),
-        Message::Complex { id, .. } => {
-            work.rest(message);
-            work.complex(id);
+    match message {
+        Message::Order(order) => work.order(order),
+        Message::Complex(order) => {
+            work.rest(order);
+            work.complex(order.id);
         }
-        Message::Cancel { id } => work.cancel(id),
-        Message::Away { series, bid, offer } => {
-            let listed = &mut work.venue.series[usize::from(series)];
-            (listed.bid, listed.offer) = (bid, offer);
+        Message::Cancel(cancel) => work.cancel(cancel.id),
+        Message::Away(away) => {
+            let listed = &mut work.venue.series[usize::from(away.series)];
+            (listed.bid, listed.offer) = (away.bid, away.offer);
         }
-        Message::Status { series, status } => {
-            work.venue.series[usize::from(series)].status = status;
+        Message::Status(set) => {
+            work.venue.series[usize::from(set.series)].status = set.status;
         }
         Message::Sweep => {
             let ids: Vec<u32> = held_complex(before).map(|order| order.id).collect();
             ids.into_iter().for_each(|id| work.complex(id));
         }
-        Message::LimitedSweep { most } => work.limited_sweep(before, most),
-        Message::Increment {
-            series,
-            increment,
-            edition,
-        } => work.set(edition, number, series, increment),
-        Message::Percent { percent, edition } => work.set(edition, number, PERCENT, percent),
+        Message::LimitedSweep(sweep) => work.limited_sweep(before, sweep.most),
+        Message::Increment(_) | Message::Percent(_) => work.set(message, number),
         Message::Raw(_) => {}
     }
     work.show_again();
@@ -311,53 +293,25 @@ pub enum Turn {
 
 impl Work {
     /// Puts a setting in the first free place of the row.
-    fn set(&mut self, edition: u32, number: u32, figure: u8, value: u8) {
+    fn set(&mut self, setting: &Message, number: u32) {
         let place = held_editions(&self.venue).count();
-        self.venue.editions[place] = Edition {
-            edition,
-            number,
-            figure,
-            value,
-        };
+        self.venue.editions[place] = entered_by(setting, number).unwrap_or_default();
     }
 
     /// The list is fixed when it starts: who is gone by his turn was looked at too.
     fn limited_sweep(&mut self, before: &Venue, most: u8) {
         let ids = looked_at(before, most);
         let count = ids.len() as u8;
-        self.records.push(Record::Looked { count });
+        self.records.push(Record::Looked(Looked { count }));
         self.venue.reached = ids.last().copied().unwrap_or(before.reached);
         ids.into_iter().for_each(|id| self.complex(id));
     }
 
     /// Puts an arriving complex order in the first free place.
-    fn rest(&mut self, message: &Message) {
-        let Message::Complex {
-            id,
-            legs,
-            class,
-            limit,
-            quantity,
-            ratios,
-        } = *message
-        else {
-            return;
-        };
-        let [ratio1, ratio2] = ratios.unwrap_or([1, 1]);
+    fn rest(&mut self, order: &NewComplex) {
         let place = held_complex(&self.venue).count();
-        self.venue.last = id;
-        self.venue.complex[place] = Complex {
-            id,
-            series1: legs[0].series,
-            side1: legs[0].side,
-            series2: legs[1].series,
-            side2: legs[1].side,
-            class,
-            limit,
-            quantity,
-            ratio1,
-            ratio2,
-        };
+        self.venue.last = order.id;
+        self.venue.complex[place] = to_rest(order);
     }
 
     fn find(&self, id: u32) -> Option<Complex> {
@@ -406,12 +360,12 @@ impl Work {
             if order.quantity == 0 || !goes(place, &order) {
                 continue;
             }
-            self.records.push(Record::Removed {
+            self.records.push(Record::Removed(Removed {
                 id: order.parent,
                 series: (place / 2) as u8,
                 side: (place % 2) as u8,
                 cause,
-            });
+            }));
             self.venue.legging[place] = Legging::default();
         }
     }
@@ -421,37 +375,27 @@ impl Work {
     }
 
     fn trade(&mut self, leg: Leg, price: u32, quantity: u32, taker: u32, maker: u32) {
-        self.records.push(Record::Trade {
+        self.records.push(Record::Trade(Trade {
             series: leg.series,
             side: leg.side,
             price,
             quantity,
             taker,
             maker,
-        });
+        }));
     }
 
     /// An arriving order, which meets with all of its quantity.
-    fn order(&mut self, message: &Message) {
-        let Message::Order {
-            id,
-            leg,
-            price,
-            quantity,
-            shows,
-        } = *message
-        else {
-            return;
-        };
-        self.venue.last = id;
+    fn order(&mut self, entered: &NewOrder) {
+        self.venue.last = entered.id;
         let mut order = Regular {
-            id,
-            series: leg.series,
-            side: leg.side,
-            price,
-            quantity,
+            id: entered.id,
+            series: entered.leg.series,
+            side: entered.leg.side,
+            price: entered.price,
+            quantity: entered.quantity,
             reserve: 0,
-            display: shows.unwrap_or(quantity),
+            display: entered.shown(),
         };
         while order.quantity > 0 {
             let Some(traded) = self.meet(&order) else {
@@ -519,11 +463,11 @@ impl Work {
     }
 
     fn pair(&mut self, id: u32, net: i64, quantity: u32) {
-        self.records.push(Record::Pair {
+        self.records.push(Record::Pair(Pair {
             id,
             net: net as i32,
             quantity,
-        });
+        }));
         self.remove_of(id, 3);
         self.fill_complex(id, quantity);
     }
@@ -646,12 +590,12 @@ impl Work {
             return false;
         };
         let quantity = taker.quantity.min(maker.quantity);
-        self.records.push(Record::Cross {
+        self.records.push(Record::Cross(Cross {
             taker: taker.id,
             maker: maker.id,
             net: -maker.limit,
             quantity,
-        });
+        }));
         self.remove_of(taker.id, 3);
         self.remove_of(maker.id, 3);
         self.fill_complex(taker.id, quantity);
@@ -723,7 +667,8 @@ impl Work {
             Some(place) => self.venue.regular[place].quantity,
             None => self.find(id).map_or(0, |order| order.quantity),
         };
-        self.records.push(Record::Cancelled { id, quantity: open });
+        self.records
+            .push(Record::Cancelled(Cancelled { id, quantity: open }));
         self.remove_of(id, 4);
         match place {
             Some(place) => self.fill_regular(place, open),

@@ -2,7 +2,7 @@
 //! upon the books just before it, all that was written before it done.
 
 use crate::message::{Leg, Message};
-use crate::record::Record;
+use crate::record::{Record, Trade};
 use crate::replay::{taken_side, Books, Resting};
 use crate::view::{beats, opposite, parts_of, sign, Part};
 use reference::{one_message, Complex, Venue};
@@ -46,34 +46,11 @@ pub struct Moment {
 impl Moment {
     /// What a record is; nothing but a trade or a cross is looked at.
     pub fn of(books: &Books, record: &Record) -> Option<Moment> {
-        match *record {
-            Record::Trade {
-                series,
-                side,
-                price,
-                taker,
-                maker,
-                ..
-            } => {
-                let taken = taken_side(series, side).ok()?;
-                let parties = match (books.complex(taker), books.complex(maker)) {
-                    (Some(_), _) => Parties::ComplexAndOrder,
-                    (None, Some(_)) => Parties::OrderAndLegging,
-                    (None, None) => Parties::Orders,
-                };
-                let had_choice = books.resting(taken).any(|order| order.price != price)
-                    || books
-                        .standing(taken)
-                        .is_some_and(|order| order.price != price);
-                Some(Moment {
-                    parties,
-                    had_choice,
-                })
-            }
-            Record::Cross { taker, maker, .. } => {
-                let mut parties = [taker, maker]
-                    .into_iter()
-                    .filter_map(|id| books.complex(id));
+        match record {
+            Record::Trade(trade) => Moment::of_trade(books, trade),
+            Record::Cross(cross) => {
+                let ids = [cross.taker, cross.maker].into_iter();
+                let mut parties = ids.filter_map(|id| books.complex(id));
                 Some(Moment {
                     parties: Parties::Cross,
                     had_choice: parties.any(|party| legs_net(books, party).is_some()),
@@ -82,6 +59,22 @@ impl Moment {
             _ => None,
         }
     }
+
+    fn of_trade(books: &Books, trade: &Trade) -> Option<Moment> {
+        let taken = taken_side(trade).ok()?;
+        let parties = match (books.complex(trade.taker), books.complex(trade.maker)) {
+            (Some(_), _) => Parties::ComplexAndOrder,
+            (None, Some(_)) => Parties::OrderAndLegging,
+            (None, None) => Parties::Orders,
+        };
+        let standing = books.standing(taken);
+        let had_choice = books.resting(taken).any(|order| order.price != trade.price)
+            || standing.is_some_and(|order| order.price != trade.price);
+        Some(Moment {
+            parties,
+            had_choice,
+        })
+    }
 }
 
 /// What a record passed over, in words. Of a trade: a strictly better shown or legging
@@ -89,35 +82,30 @@ impl Moment {
 /// where the maker is a complex order, any regular contract at that price. Of a cross: a
 /// party's net above what the best regular prices of both its legs give it.
 pub fn passed_over(books: &Books, record: &Record) -> Option<String> {
-    match *record {
-        Record::Trade {
-            series,
-            side,
-            price,
-            taker,
-            maker,
-            ..
-        } => {
-            let taken = taken_side(series, side).ok()?;
-            let with_reserve = books.order(taker).is_some();
-            let passed = better(books, taken, price, with_reserve);
-            let passed = passed.map(|what| format!("passes over {what}"));
-            passed.or_else(|| {
-                books.complex(maker)?;
-                let at_price = books.resting(taken).find(|order| order.price == price)?;
-                let what = in_words(at_price);
-                Some(format!("takes the legging order of {maker} before {what}"))
-            })
-        }
-        Record::Cross {
-            taker, maker, net, ..
-        } => {
-            let nets = [(taker, i64::from(net)), (maker, -i64::from(net))];
+    match record {
+        Record::Trade(trade) => passed_by_trade(books, trade),
+        Record::Cross(cross) => {
+            let net = i64::from(cross.net);
+            let nets = [(cross.taker, net), (cross.maker, -net)];
             nets.into_iter()
                 .find_map(|(party, net)| above_legs(books, party, net))
         }
         _ => None,
     }
+}
+
+fn passed_by_trade(books: &Books, trade: &Trade) -> Option<String> {
+    let Trade { price, maker, .. } = *trade;
+    let taken = taken_side(trade).ok()?;
+    let with_reserve = books.order(trade.taker).is_some();
+    let passed = better(books, taken, price, with_reserve);
+    let passed = passed.map(|what| format!("passes over {what}"));
+    passed.or_else(|| {
+        books.complex(maker)?;
+        let at_price = books.resting(taken).find(|order| order.price == price)?;
+        let what = in_words(at_price);
+        Some(format!("takes the legging order of {maker} before {what}"))
+    })
 }
 
 /// The first of the best that stands at a strictly better price.
@@ -222,7 +210,7 @@ pub fn replay_sheet(pieces: &[&[u8]], records: &[Record]) -> Replayed {
     };
     for (line, record) in (1..).zip(records) {
         match *record {
-            Record::Answer { refusal, .. } => reader.begin(line, refusal),
+            Record::Answer(answer) => reader.begin(line, answer.refusal),
             _ => reader.record(line, record),
         }
     }

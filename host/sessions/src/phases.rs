@@ -1,9 +1,8 @@
 //! A message's records by phase: the work, the settling, the generation.
 
-use crate::message::Leg;
-use crate::message::Message;
+use crate::message::{Leg, Message};
 use crate::model::looked_at;
-use crate::record::Record;
+use crate::record::{Generated, Record, Removed};
 use crate::view::{find_complex, held_complex, leg_at, legs_of, place_of, Declined, View};
 use reference::{Complex, Legging, Venue};
 
@@ -20,20 +19,14 @@ pub struct Phases<'a> {
 }
 
 fn is_settling(record: &Record) -> bool {
-    matches!(
-        record,
-        Record::Removed {
-            cause: 1 | 2 | 5 | 6,
-            ..
-        }
-    )
+    matches!(record, Record::Removed(gone) if matches!(gone.cause, 1 | 2 | 5 | 6))
 }
 
 fn is_generation(record: &Record) -> bool {
-    matches!(
-        record,
-        Record::Removed { cause: 7, .. } | Record::Generated { .. }
-    )
+    match record {
+        Record::Removed(gone) => gone.cause == 7,
+        record => matches!(record, Record::Generated(_)),
+    }
 }
 
 /// Cuts the effects of an accepted message into phases.
@@ -75,25 +68,19 @@ pub fn phases<'a>(
 
 /// Takes a removed legging order out of the view; tells its place and cause.
 fn take_away(view: &mut View, record: &Record) -> Result<Option<(usize, u8)>, String> {
-    let Record::Removed {
-        id,
-        series,
-        side,
-        cause,
-    } = *record
-    else {
+    let Record::Removed(gone) = record else {
         return Ok(None);
     };
-    let place = place_of(Leg { series, side });
+    let place = place_of(gone.leg());
     match view.legging.get_mut(place) {
-        Some(order) if order.quantity > 0 && order.parent == id => *order = Legging::default(),
-        _ => {
-            return Err(format!(
-                "record \"{record}\" removes an order that does not stand"
-            ))
+        Some(order) if order.quantity > 0 && order.parent == gone.id => {
+            *order = Legging::default();
+            Ok(Some((place, gone.cause)))
         }
+        _ => Err(format!(
+            "record \"{record}\" removes an order that does not stand"
+        )),
     }
-    Ok(Some((place, cause)))
 }
 
 /// What a settling of this state removes, by place.
@@ -123,10 +110,10 @@ pub struct Attempt {
 /// The orders that a message generates for: those resting afterwards.
 fn generates_for<'a>(message: &Message, before: &Venue, after: &'a Venue) -> Vec<&'a Complex> {
     match message {
-        Message::Complex { id, .. } => find_complex(after, *id).into_iter().collect(),
+        Message::Complex(order) => find_complex(after, order.id).into_iter().collect(),
         Message::Sweep => held_complex(after).collect(),
-        Message::LimitedSweep { most } => {
-            let looked = looked_at(before, *most).into_iter();
+        Message::LimitedSweep(sweep) => {
+            let looked = looked_at(before, sweep.most).into_iter();
             looked.filter_map(|id| find_complex(after, id)).collect()
         }
         _ => Vec::new(),
@@ -165,21 +152,23 @@ impl View {
     /// Puts a legging order in its place; tells the records of it.
     fn make(&mut self, leg: Leg, made: Legging) -> impl Iterator<Item = Record> {
         let Leg { series, side } = leg;
-        let replaced = self.standing(leg).map(|holder| Record::Removed {
-            id: holder.parent,
-            series,
-            side,
-            cause: 7,
+        let replaced = self.standing(leg).map(|holder| {
+            Record::Removed(Removed {
+                id: holder.parent,
+                series,
+                side,
+                cause: 7,
+            })
         });
         self.legging[place_of(leg)] = made;
-        let generated = Record::Generated {
+        let generated = Record::Generated(Generated {
             id: made.parent,
             series,
             side,
             price: made.price,
             displayed: self.displayed(leg, i64::from(made.price)) as u32,
             quantity: made.quantity,
-        };
+        });
         replaced.into_iter().chain([generated])
     }
 }

@@ -2,11 +2,12 @@
 //! and the records, one by one. No rule is asked; what a record says is done.
 
 use crate::explain::leg_name;
-use crate::message::{Leg, Message};
+use crate::message::{Leg, Message, NewOrder};
 use crate::model::fields_in_range;
-use crate::record::Record;
-use crate::settings::{figure_name, held_editions, PERCENT};
-use crate::view::{held_complex, held_regular, leg_at, legs_of, place_of, shown, side_of};
+use crate::record::{Record, Trade};
+use crate::settings::{entered_by, figure_name, held_editions};
+use crate::view::{held_complex, held_regular, leg_at, legs_of, opposite, place_of};
+use crate::view::{shown, side_of, to_rest};
 use reference::{Complex, Edition, Legging, Listed, Venue};
 
 /// A regular order in the books.
@@ -94,88 +95,39 @@ impl Books {
     /// of its quantity, and shows a part of what is left when its message ends.
     pub fn enter(&mut self, number: u32, message: &Message) -> Result<(), String> {
         self.number = number;
-        self.due = matches!(message, Message::LimitedSweep { .. });
+        self.due = matches!(message, Message::LimitedSweep(_));
         if !fields_in_range(message) {
             return Err("a message with a field outside its range was accepted".to_string());
         }
-        match *message {
-            Message::Order { .. } => self.enter_order(message),
-            Message::Complex { .. } => self.enter_complex(message),
-            Message::Away { series, bid, offer } => {
-                let listed = &mut self.series[usize::from(series)];
-                (listed.bid, listed.offer) = (bid, offer);
+        match message {
+            Message::Order(order) => self.enter_order(order),
+            Message::Complex(order) => {
+                self.last = order.id;
+                self.complex.push(to_rest(order));
             }
-            Message::Status { series, status } => {
-                self.series[usize::from(series)].status = status;
+            Message::Away(away) => {
+                let listed = &mut self.series[usize::from(away.series)];
+                (listed.bid, listed.offer) = (away.bid, away.offer);
             }
-            Message::Increment {
-                series,
-                increment,
-                edition,
-            } => self.set(edition, number, series, increment),
-            Message::Percent { percent, edition } => self.set(edition, number, PERCENT, percent),
-            Message::Cancel { .. } | Message::Raw(_) => {}
-            Message::Sweep | Message::LimitedSweep { .. } => {}
+            Message::Status(set) => self.series[usize::from(set.series)].status = set.status,
+            Message::Increment(_) | Message::Percent(_) => {
+                self.editions.extend(entered_by(message, number));
+            }
+            Message::Cancel(_) | Message::Raw(_) => {}
+            Message::Sweep | Message::LimitedSweep(_) => {}
         }
         Ok(())
     }
 
-    fn enter_order(&mut self, message: &Message) {
-        let Message::Order {
-            id,
-            leg,
-            price,
-            quantity,
-            shows,
-        } = *message
-        else {
-            return;
-        };
-        self.last = id;
+    fn enter_order(&mut self, order: &NewOrder) {
+        self.last = order.id;
         self.regular.push(Resting {
-            id,
-            side: leg,
-            price,
-            left: quantity,
-            shown: quantity,
-            display: shows.unwrap_or(quantity),
-        });
-    }
-
-    fn enter_complex(&mut self, message: &Message) {
-        let Message::Complex {
-            id,
-            legs: [first, second],
-            class,
-            limit,
-            quantity,
-            ratios,
-        } = *message
-        else {
-            return;
-        };
-        let [ratio1, ratio2] = ratios.unwrap_or([1, 1]);
-        self.last = id;
-        self.complex.push(Complex {
-            id,
-            series1: first.series,
-            side1: first.side,
-            series2: second.series,
-            side2: second.side,
-            class,
-            limit,
-            quantity,
-            ratio1,
-            ratio2,
-        });
-    }
-
-    fn set(&mut self, edition: u32, number: u32, figure: u8, value: u8) {
-        self.editions.push(Edition {
-            edition,
-            number,
-            figure,
-            value,
+            id: order.id,
+            side: order.leg,
+            price: order.price,
+            left: order.quantity,
+            shown: order.quantity,
+            display: order.shown(),
         });
     }
 
@@ -196,57 +148,33 @@ impl Books {
     /// it is noted.
     pub fn note(&mut self, record: &Record) -> Result<(), String> {
         match *record {
-            Record::Answer { .. } => Ok(()),
-            Record::Trade { .. } => self.note_trade(record),
-            Record::Pair { id, quantity, .. } => self.lessen_complex(id, quantity),
-            Record::Generated {
-                id,
-                series,
-                side,
-                price,
-                quantity,
-                ..
-            } => self.note_generated(
-                leg_of(series, side)?,
+            Record::Answer(_) => Ok(()),
+            Record::Trade(trade) => self.note_trade(trade),
+            Record::Pair(pair) => self.lessen_complex(pair.id, pair.quantity),
+            Record::Generated(made) => self.note_generated(
+                known_side(made.leg())?,
                 Legging {
-                    parent: id,
-                    price,
-                    quantity,
+                    parent: made.id,
+                    price: made.price,
+                    quantity: made.quantity,
                 },
             ),
-            Record::Removed {
-                id, series, side, ..
-            } => self.note_removed(leg_of(series, side)?, id),
-            Record::Cross {
-                taker,
-                maker,
-                quantity,
-                ..
-            } => {
-                let taking = self.lessen_complex(taker, quantity);
-                taking.and(self.lessen_complex(maker, quantity))
+            Record::Removed(gone) => self.note_removed(known_side(gone.leg())?, gone.id),
+            Record::Cross(cross) => {
+                let taking = self.lessen_complex(cross.taker, cross.quantity);
+                taking.and(self.lessen_complex(cross.maker, cross.quantity))
             }
-            Record::Cancelled { id, quantity } => self.note_cancelled(id, quantity),
-            Record::Looked { count } => self.note_looked(count),
+            Record::Cancelled(gone) => self.note_cancelled(gone.id, gone.quantity),
+            Record::Looked(looked) => self.note_looked(looked.count),
         }
     }
 
     /// Both parties have so much less. A complex order that takes, or whose legging order
     /// is taken, is lessened by its 66, and the legging order stands until its 68.
-    fn note_trade(&mut self, record: &Record) -> Result<(), String> {
-        let Record::Trade {
-            series,
-            side,
-            price,
-            quantity,
-            taker,
-            maker,
-        } = *record
-        else {
-            return Ok(());
-        };
-        let taken = taken_side(series, side)?;
-        let is_maker = self.makes(maker, taken, price, quantity);
+    fn note_trade(&mut self, trade: Trade) -> Result<(), String> {
+        let Trade { taker, maker, .. } = trade;
+        let (price, quantity) = (trade.price, trade.quantity);
+        let is_maker = self.makes(maker, taken_side(&trade)?, price, quantity);
         let taking = match self.complex(taker) {
             Some(_) => Ok(()),
             None => self.lessen_order(taker, quantity),
@@ -349,20 +277,19 @@ impl Books {
 }
 
 /// A side as a record names it.
-fn leg_of(series: u8, side: u8) -> Result<Leg, String> {
-    match (series, side) {
-        (0..=7, 0..=1) => Ok(Leg { series, side }),
-        _ => Err(format!("there is no side {side} of series {series}")),
+fn known_side(leg: Leg) -> Result<Leg, String> {
+    match leg {
+        Leg {
+            series: 0..=7,
+            side: 0..=1,
+        } => Ok(leg),
+        Leg { series, side } => Err(format!("there is no side {side} of series {series}")),
     }
 }
 
-/// The side that a taker of a side takes.
-pub fn taken_side(series: u8, side: u8) -> Result<Leg, String> {
-    let Leg { series, side } = leg_of(series, side)?;
-    Ok(Leg {
-        series,
-        side: 1 - side,
-    })
+/// The side that the taker of a trade takes.
+pub fn taken_side(trade: &Trade) -> Result<Leg, String> {
+    known_side(trade.leg()).map(opposite)
 }
 
 fn not_there(id: u32) -> String {

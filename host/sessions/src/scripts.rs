@@ -1,45 +1,47 @@
 //! Short scripts that lead to states that chance alone seldom finds. Prices,
 //! series and quantities are drawn; ids are given when a message is sent.
 
-use crate::message::{Leg, Message};
+use crate::message::{Away, Cancel, Leg, Message, NewComplex, NewOrder, Status};
 use crate::random::Random;
 use crate::view::{held_complex, held_regular};
 use reference::Venue;
 
 fn order(series: u8, side: u8, price: i64, quantity: i64) -> Message {
-    Message::Order {
+    Message::Order(NewOrder {
         id: 0,
         leg: Leg { series, side },
         price: price as u32,
         quantity: quantity as u32,
         shows: None,
-    }
+    })
 }
 
 fn complex(legs: [(u8, u8); 2], limit: i64, quantity: i64, random: &mut Random) -> Message {
-    Message::Complex {
+    Message::Complex(NewComplex {
         id: 0,
         legs: legs.map(|(series, side)| Leg { series, side }),
         class: random.below(2) as u8,
         limit: limit as i32,
         quantity: quantity as u32,
         ratios: None,
-    }
+    })
 }
 
 fn away(series: u8, bid: i64, offer: i64) -> Message {
-    Message::Away {
+    Message::Away(Away {
         series,
         bid: bid as u32,
         offer: offer as u32,
-    }
+    })
 }
 
 /// Cancels every order, takes back the away prices and opens the series.
 pub fn clear(venue: &Venue) -> Vec<Message> {
     let complex = held_complex(venue).map(|order| order.id);
     let regular = held_regular(venue).map(|order| order.id);
-    let cancels = complex.chain(regular).map(|id| Message::Cancel { id });
+    let cancels = complex
+        .chain(regular)
+        .map(|id| Message::Cancel(Cancel { id }));
     let mut messages: Vec<Message> = cancels.collect();
     for series in 0..8u8 {
         let listed = venue.series[usize::from(series)];
@@ -47,7 +49,7 @@ pub fn clear(venue: &Venue) -> Vec<Message> {
             messages.push(away(series, 0, 0));
         }
         if listed.status != 1 {
-            messages.push(Message::Status { series, status: 1 });
+            messages.push(Message::Status(Status { series, status: 1 }));
         }
     }
     messages

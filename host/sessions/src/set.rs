@@ -17,8 +17,8 @@
 //! ```
 //! What an order has in a message stands in its line here too.
 
-use crate::message::{first_whole, framed, Leg, Message};
-use crate::text::{bodies, parse_message, LineError, Side, Words};
+use crate::message::{first_whole, framed, Leg, Message, Side};
+use crate::text::{bodies, parse_message, LineError, Words};
 use std::fmt::{self, Display};
 
 #[derive(Clone, Debug, PartialEq, Eq)]

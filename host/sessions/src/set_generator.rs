@@ -1,6 +1,6 @@
 //! Sets to be read: as they are written, short ones, and spoiled in every way.
 
-use crate::message::{Leg, Message};
+use crate::message::{Leg, Message, NewComplex, NewOrder, Percent};
 use crate::random::Random;
 use crate::set::{split_set, Entry};
 use reference::{write_set, Venue, MOST_SET};
@@ -33,19 +33,10 @@ pub fn short_of(set: &[u8]) -> Vec<u8> {
             last,
         }),
         Entry::Setting { .. } | Entry::Generated { .. } | Entry::Reached { .. } => None,
-        Entry::Told(Message::Order {
-            id,
-            leg,
-            price,
-            quantity,
-            ..
-        }) => Some(Entry::Told(Message::Order {
-            id,
-            leg,
-            price,
-            quantity,
+        Entry::Told(Message::Order(order)) => Some(Entry::Told(Message::Order(NewOrder {
             shows: None,
-        })),
+            ..order
+        }))),
         other => Some(other),
     });
     bytes_of(&shortened.collect::<Vec<_>>())
@@ -89,8 +80,8 @@ impl Many {
     fn has(self, entry: &Entry) -> bool {
         match (self, entry) {
             (Many::Editions, Entry::Setting { .. }) => true,
-            (Many::Regular, Entry::Told(Message::Order { .. })) => true,
-            (Many::Complex, Entry::Told(Message::Complex { .. })) => true,
+            (Many::Regular, Entry::Told(Message::Order(_))) => true,
+            (Many::Complex, Entry::Told(Message::Complex(_))) => true,
             (Many::Legging, Entry::Legging { .. }) => true,
             (Many::Generations(of), Entry::Generated { series, .. }) => of == *series,
             (Many::Reached, Entry::Reached { .. }) => true,
@@ -106,27 +97,27 @@ impl Many {
         };
         match self {
             Many::Editions => Entry::Setting {
-                setting: Message::Percent {
+                setting: Message::Percent(Percent {
                     percent: 5,
                     edition: at + 1,
-                },
+                }),
                 number: at + 1,
             },
-            Many::Regular => Entry::Told(Message::Order {
+            Many::Regular => Entry::Told(Message::Order(NewOrder {
                 id: 3 * at + 1,
                 leg: leg(0),
                 price: 5,
                 quantity: 1,
                 shows: Some(1),
-            }),
-            Many::Complex => Entry::Told(Message::Complex {
+            })),
+            Many::Complex => Entry::Told(Message::Complex(NewComplex {
                 id: 3 * at + 2,
                 legs: [leg(0), leg(2)],
                 class: 1,
                 limit: 0,
                 quantity: 1,
                 ratios: None,
-            }),
+            })),
             Many::Legging => Entry::Legging {
                 id: 1,
                 leg: leg(at),
@@ -160,7 +151,7 @@ fn comes_after(part: Many, entry: &Entry) -> bool {
     let rank = |entry: &Entry| match entry {
         Entry::First { .. } => 0,
         Entry::Setting { .. } => 2,
-        Entry::Told(Message::Order { .. } | Message::Complex { .. }) => 3,
+        Entry::Told(Message::Order(_) | Message::Complex(_)) => 3,
         Entry::Told(_) => 1,
         Entry::Legging { .. } => 4,
         Entry::Generated { .. } => 5,

@@ -1,11 +1,12 @@
 //! What is wrong with a set, told in words: a second reader of sets, record by record,
 //! apart from the reference's.
 
-use crate::message::Message;
+use crate::message::{Message, NewComplex, NewOrder};
 use crate::set::{split_set, Entry};
+use crate::settings::entered_by;
 use crate::sound::fault;
-use crate::view::place_of;
-use reference::{Complex, Edition, Legging, Regular, Venue};
+use crate::view::{place_of, to_rest};
+use reference::{Legging, Regular, Venue};
 use std::fmt::{self, Display};
 
 /// Why a set is refused.
@@ -128,8 +129,8 @@ impl Looking {
             (Part::Start, _) => self.take_first(&entry),
             (Part::Series, _) if self.listed < 16 => self.take_series(&entry),
             (_, Entry::Setting { setting, number }) => self.take_setting(setting, *number),
-            (_, Entry::Told(message @ Message::Order { .. })) => self.take_order(message),
-            (_, Entry::Told(message @ Message::Complex { .. })) => self.take_complex(message),
+            (_, Entry::Told(Message::Order(order))) => self.take_order(order),
+            (_, Entry::Told(Message::Complex(order))) => self.take_complex(order),
             (_, Entry::Legging { .. }) => self.take_legging(&entry),
             (_, Entry::Generated { series, number }) => self.take_generated(*series, *number),
             (_, Entry::Reached { id }) => self.take_reached(*id),
@@ -177,11 +178,11 @@ impl Looking {
         let at = self.listed / 2;
         let is_next = |series: u8, of: usize| usize::from(series) == at && self.listed % 2 == of;
         match entry {
-            Entry::Told(Message::Status { series, status }) if is_next(*series, 0) => {
-                self.venue.series[at].status = *status;
+            Entry::Told(Message::Status(set)) if is_next(set.series, 0) => {
+                self.venue.series[at].status = set.status;
             }
-            Entry::Told(Message::Away { series, bid, offer }) if is_next(*series, 1) => {
-                (self.venue.series[at].bid, self.venue.series[at].offer) = (*bid, *offer);
+            Entry::Told(Message::Away(away)) if is_next(away.series, 1) => {
+                (self.venue.series[at].bid, self.venue.series[at].offer) = (away.bid, away.offer);
             }
             _ => return Err(format!("expected {}, found {entry}", self.next_of_series())),
         }
@@ -229,40 +230,27 @@ impl Looking {
 
     fn take_setting(&mut self, setting: &Message, number: u32) -> Taken {
         self.only_whole("editions")?;
-        let (figure, value, edition) = match *setting {
-            Message::Increment {
-                series,
-                increment,
-                edition,
-            } => (series, increment, edition),
-            Message::Percent { percent, edition } => (8, percent, edition),
-            _ => return Err("expected a setting".to_string()),
+        let Some(entry) = entered_by(setting, number) else {
+            return Err("expected a setting".to_string());
         };
+        let edition = entry.edition;
         self.rise(Part::Editions, "an edition", edition.into())?;
         let count = one_more(&mut self.editions, 32, "editions")?;
-        let is_series = figure < 8 || matches!(setting, Message::Percent { .. });
+        let is_series = entry.figure < 8 || matches!(setting, Message::Percent(_));
         if self.require(is_series, "a series above 7") && self.require(edition > 0, "edition 0") {
-            self.venue.editions[count] = Edition {
-                edition,
-                number,
-                figure,
-                value,
-            };
+            self.venue.editions[count] = entry;
         }
         Ok(())
     }
 
-    fn take_order(&mut self, order: &Message) -> Taken {
-        let Message::Order {
+    fn take_order(&mut self, order: &NewOrder) -> Taken {
+        let NewOrder {
             id,
             leg,
             price,
             quantity,
             shows,
-        } = *order
-        else {
-            return Err("expected an order".to_string());
-        };
+        } = *order;
         if self.short == shows.is_some() {
             return Err(match self.short {
                 true => "a short set has no order with a shown quantity".to_string(),
@@ -271,7 +259,7 @@ impl Looking {
         }
         self.rise(Part::Orders, "an id", id.into())?;
         let count = one_more(&mut self.regular, 128, "regular orders")?;
-        let display = shows.unwrap_or(quantity);
+        let display = order.shown();
         if self.require(quantity > 0, "an order of quantity 0") {
             self.venue.regular[count] = Regular {
                 id,
@@ -286,36 +274,13 @@ impl Looking {
         Ok(())
     }
 
-    fn take_complex(&mut self, order: &Message) -> Taken {
-        let Message::Complex {
-            id,
-            legs: [first, second],
-            class,
-            limit,
-            quantity,
-            ratios,
-        } = *order
-        else {
-            return Err("expected a complex order".to_string());
-        };
-        self.rise(Part::Orders, "an id", id.into())?;
+    fn take_complex(&mut self, order: &NewComplex) -> Taken {
+        self.rise(Part::Orders, "an id", order.id.into())?;
         let count = one_more(&mut self.complex, 32, "complex orders")?;
-        let [ratio1, ratio2] = ratios.unwrap_or([1, 1]);
-        if self.require(quantity > 0, "an order of quantity 0")
-            && self.require(ratios != Some([1, 1]), "kind 10 with ratios 1 and 1")
+        if self.require(order.quantity > 0, "an order of quantity 0")
+            && self.require(order.ratios != Some([1, 1]), "kind 10 with ratios 1 and 1")
         {
-            self.venue.complex[count] = Complex {
-                id,
-                series1: first.series,
-                side1: first.side,
-                series2: second.series,
-                side2: second.side,
-                class,
-                limit,
-                quantity,
-                ratio1,
-                ratio2,
-            };
+            self.venue.complex[count] = to_rest(order);
         }
         Ok(())
     }

@@ -2,6 +2,7 @@
 //! each with the edition that set it. Nothing here is shared with the reference
 //! but its types.
 
+use crate::message::Message;
 use reference::{Edition, Venue};
 use std::fmt::{self, Display};
 
@@ -90,6 +91,21 @@ impl Display for InForce {
         }
         Ok(())
     }
+}
+
+/// What a setting enters by the message of a number; none of another message.
+pub fn entered_by(message: &Message, number: u32) -> Option<Edition> {
+    let (edition, figure, value) = match message {
+        Message::Increment(set) => (set.edition, set.series, set.increment),
+        Message::Percent(set) => (set.edition, PERCENT, set.percent),
+        _ => return None,
+    };
+    Some(Edition {
+        edition,
+        number,
+        figure,
+        value,
+    })
 }
 
 /// The editions of a venue's row, up to the first free place.

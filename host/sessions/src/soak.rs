@@ -10,7 +10,7 @@ use crate::feed_check::check_feeds;
 use crate::generator::Generator;
 use crate::layer_check::check_layer;
 use crate::lent::Lent;
-use crate::message::{split, Message};
+use crate::message::{split, LimitedSweep, Message};
 use crate::profile::Profile;
 use crate::record::{read_report_into, Record};
 use crate::set_check::check_set;
@@ -237,7 +237,7 @@ impl<'a> Session<'a> {
         let last = one_message(&self.venue, before, &message, self.lent.lend(ROOM));
         read_report_into(self.lent.written(last.written)?, &mut self.records)?;
         match self.records.first() {
-            Some(Record::Answer { number, .. }) if *number == u32::MAX => Ok(()),
+            Some(Record::Answer(answer)) if answer.number == u32::MAX => Ok(()),
             _ => Err("the last message number was not answered".to_string()),
         }
     }
@@ -312,7 +312,7 @@ impl<'a> Session<'a> {
         }
         self.expect_taken(&busy, u32::MAX)?;
         let most = 1 + at as u8 % 32;
-        for message in [Message::Sweep, Message::LimitedSweep { most }] {
+        for message in [Message::Sweep, Message::LimitedSweep(LimitedSweep { most })] {
             for before in [last + 245, last + 246, last + 254, last + 255] {
                 self.check_upon(&busy, before, &message)?;
             }

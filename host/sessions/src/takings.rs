@@ -50,20 +50,18 @@ impl Takings {
     /// What a trade takes: shown size while its maker shows some, and then reserve; of
     /// a maker that is no regular order, its legging order.
     pub fn take(&mut self, record: &Record) -> Result<Option<Turn>, String> {
-        let Record::Trade {
-            quantity, maker, ..
-        } = *record
-        else {
+        let Record::Trade(trade) = record else {
             return Ok(None);
         };
-        let Some(maker) = self.makers.iter_mut().find(|order| order.id == maker) else {
+        let mut makers = self.makers.iter_mut();
+        let Some(maker) = makers.find(|order| order.id == trade.maker) else {
             return Ok(Some(Turn::Legging));
         };
         let (turn, left) = match maker.shown {
             0 => (Turn::Reserve, &mut maker.reserve),
             _ => (Turn::Shown, &mut maker.shown),
         };
-        match left.checked_sub(quantity) {
+        match left.checked_sub(trade.quantity) {
             Some(less) => {
                 *left = less;
                 Ok(Some(turn))
@@ -90,8 +88,7 @@ pub fn check_takings(before: &Venue, message: &Message, effects: &[Record]) -> R
         let Some(turn) = takings.take(record)? else {
             continue;
         };
-        if matches!(message, Message::Order { .. }) && with_maker_of(record, &effects[..index]) > 1
-        {
+        if matches!(message, Message::Order(_)) && with_maker_of(record, &effects[..index]) > 1 {
             return Err(format!(
                 "record \"{record}\" is a third trade with one maker"
             ));
@@ -115,7 +112,7 @@ pub fn check_takings(before: &Venue, message: &Message, effects: &[Record]) -> R
 /// How many of some records are trades with the maker of this one.
 fn with_maker_of(record: &Record, earlier: &[Record]) -> usize {
     let maker_of = |record: &Record| match *record {
-        Record::Trade { maker, .. } => Some(maker),
+        Record::Trade(trade) => Some(trade.maker),
         _ => None,
     };
     let earlier = earlier.iter().map(maker_of);
@@ -125,19 +122,11 @@ fn with_maker_of(record: &Record, earlier: &[Record]) -> usize {
 /// The rank of an arriving order's trade: price, what is taken, id; none of a trade that
 /// is a complex order's.
 fn arriving_turn(message: &Message, record: &Record, turn: Turn) -> Option<(i64, Turn, u32)> {
-    let (
-        Message::Order { id, leg, .. },
-        Record::Trade {
-            price,
-            taker,
-            maker,
-            ..
-        },
-    ) = (message, record)
-    else {
+    let (Message::Order(order), Record::Trade(trade)) = (message, record) else {
         return None;
     };
-    (taker == id).then_some((sign(*leg) * i64::from(*price), turn, *maker))
+    let rank = sign(order.leg) * i64::from(trade.price);
+    (trade.taker == order.id).then_some((rank, turn, trade.maker))
 }
 
 #[cfg(test)]

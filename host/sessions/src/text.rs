@@ -23,7 +23,10 @@
 //! number is bytes that no number goes before.
 
 use crate::line::NUMBER_BYTES;
-use crate::message::{first_whole, split, Leg, Message};
+use crate::message::{
+    first_whole, split, Away, Cancel, Increment, Leg, LimitedSweep, Message, NewComplex, NewOrder,
+    Percent, Status,
+};
 use std::fmt::{self, Display};
 use std::str::FromStr;
 
@@ -118,30 +121,30 @@ pub(crate) fn parse_message(words: &mut Words) -> Result<Message, LineError> {
     match words.next() {
         Some("order") => parse_order(words),
         Some("complex") => parse_complex(words),
-        Some("cancel") => Ok(Message::Cancel {
+        Some("cancel") => Ok(Message::Cancel(Cancel {
             id: words.number("an id")?,
-        }),
+        })),
         Some("away") => parse_away(words),
-        Some("status") => Ok(Message::Status {
+        Some("status") => Ok(Message::Status(Status {
             series: words.number("a series")?,
             status: words.status()?,
-        }),
+        })),
         Some("open") => words.status_of_series(1),
         Some("close") => words.status_of_series(0),
         Some("auction") => words.status_of_series(2),
         Some("sweep") => Ok(Message::Sweep),
-        Some("limited") => Ok(Message::LimitedSweep {
+        Some("limited") => Ok(Message::LimitedSweep(LimitedSweep {
             most: words.number("a number of orders")?,
-        }),
-        Some("increment") => Ok(Message::Increment {
+        })),
+        Some("increment") => Ok(Message::Increment(Increment {
             series: words.number("a series")?,
             increment: words.number("an increment")?,
             edition: words.number("an edition")?,
-        }),
-        Some("percent") => Ok(Message::Percent {
+        })),
+        Some("percent") => Ok(Message::Percent(Percent {
             percent: words.number("a percentage")?,
             edition: words.number("an edition")?,
-        }),
+        })),
         Some("raw") => words.bytes().map(Message::Raw),
         found => Err(words.error(KINDS, found)),
     }
@@ -162,13 +165,13 @@ fn parse_order(words: &mut Words) -> Result<Message, LineError> {
         }
         _ => None,
     };
-    Ok(Message::Order {
+    Ok(Message::Order(NewOrder {
         id,
         leg: Leg { series, side },
         price,
         quantity,
         shows,
-    })
+    }))
 }
 
 fn parse_complex(words: &mut Words) -> Result<Message, LineError> {
@@ -187,14 +190,14 @@ fn parse_complex(words: &mut Words) -> Result<Message, LineError> {
         }
         _ => None,
     };
-    Ok(Message::Complex {
+    Ok(Message::Complex(NewComplex {
         id,
         legs,
         class,
         limit,
         quantity,
         ratios,
-    })
+    }))
 }
 
 fn parse_away(words: &mut Words) -> Result<Message, LineError> {
@@ -203,7 +206,7 @@ fn parse_away(words: &mut Words) -> Result<Message, LineError> {
     let bid = words.number("a bid")?;
     words.literal("offer")?;
     let offer = words.number("an offer")?;
-    Ok(Message::Away { series, bid, offer })
+    Ok(Message::Away(Away { series, bid, offer }))
 }
 
 /// The words of one line, read from left to right.
@@ -297,7 +300,7 @@ impl<'a> Words<'a> {
 
     fn status_of_series(&mut self, status: u8) -> Result<Message, LineError> {
         let series = self.number("a series")?;
-        Ok(Message::Status { series, status })
+        Ok(Message::Status(Status { series, status }))
     }
 
     fn bytes(&mut self) -> Result<Vec<u8>, LineError> {
@@ -325,84 +328,6 @@ impl<'a> Words<'a> {
 fn numbered(word: Option<&str>, prefix: &str) -> Option<u8> {
     let digits = word?.strip_prefix(prefix)?;
     digits.parse().ok().filter(|_| !digits.starts_with('+'))
-}
-
-pub(crate) struct Side(pub u8);
-
-impl Display for Side {
-    fn fmt(&self, f: &mut fmt::Formatter) -> fmt::Result {
-        match self.0 {
-            0 => write!(f, "buy"),
-            1 => write!(f, "sell"),
-            other => write!(f, "side={other}"),
-        }
-    }
-}
-
-struct Status(u8);
-
-impl Display for Status {
-    fn fmt(&self, f: &mut fmt::Formatter) -> fmt::Result {
-        match self.0 {
-            0 => write!(f, "closed"),
-            1 => write!(f, "open"),
-            2 => write!(f, "auction"),
-            other => write!(f, "status={other}"),
-        }
-    }
-}
-
-impl Display for Message {
-    fn fmt(&self, f: &mut fmt::Formatter) -> fmt::Result {
-        match self {
-            Message::Order {
-                id,
-                leg,
-                price,
-                quantity,
-                shows,
-            } => {
-                let (side, series) = (Side(leg.side), leg.series);
-                write!(f, "order {id} {side} {quantity} series {series} at {price}")?;
-                shows.map_or(Ok(()), |shows| write!(f, " shows {shows}"))
-            }
-            Message::Complex {
-                id,
-                legs: [first, second],
-                class,
-                limit,
-                quantity,
-                ratios,
-            } => {
-                let (side1, series1) = (Side(first.side), first.series);
-                let (side2, series2) = (Side(second.side), second.series);
-                write!(f, "complex {id} {side1} {series1} {side2} {series2} ")?;
-                write!(f, "class {class} net {limit} quantity {quantity}")?;
-                ratios.map_or(Ok(()), |[first, second]| {
-                    write!(f, " ratio {first} {second}")
-                })
-            }
-            Message::Cancel { id } => write!(f, "cancel {id}"),
-            Message::Away { series, bid, offer } => {
-                write!(f, "away {series} bid {bid} offer {offer}")
-            }
-            Message::Status { series, status } => {
-                write!(f, "status {series} {}", Status(*status))
-            }
-            Message::Sweep => write!(f, "sweep"),
-            Message::LimitedSweep { most } => write!(f, "limited {most}"),
-            Message::Increment {
-                series,
-                increment,
-                edition,
-            } => write!(f, "increment {series} {increment} {edition}"),
-            Message::Percent { percent, edition } => write!(f, "percent {percent} {edition}"),
-            Message::Raw(bytes) => {
-                write!(f, "raw")?;
-                bytes.iter().try_for_each(|byte| write!(f, " {byte:02x}"))
-            }
-        }
-    }
 }
 
 #[cfg(test)]

@@ -3,7 +3,7 @@
 
 use crate::check::Step;
 use crate::message::Message;
-use crate::record::Record;
+use crate::record::{Looked, Record};
 use crate::view::held_complex;
 use reference::Venue;
 
@@ -29,10 +29,10 @@ impl Traffic {
     /// One record of the message of a number; of a 67 it tells how many of its series there
     /// are in the 256 messages that end with this one.
     pub fn note(&mut self, number: u32, record: &Record) -> Option<usize> {
-        let Record::Generated { series, .. } = *record else {
+        let Record::Generated(told) = record else {
             return None;
         };
-        let made = self.made.get_mut(usize::from(series))?;
+        let made = self.made.get_mut(usize::from(told.series))?;
         made.push(number);
         let recent = |by: &&u32| u64::from(**by) + 256 > u64::from(number);
         Some(made.iter().rev().take_while(recent).count())
@@ -76,13 +76,13 @@ fn check_looked(step: &Step) -> Result<(), String> {
         .collect();
     let (before, after) = (step.before, &step.returned.venue);
     let most = match step.message {
-        Message::LimitedSweep { most } if step.returned.number == 0 => usize::from(*most),
+        Message::LimitedSweep(sweep) if step.returned.number == 0 => usize::from(sweep.most),
         _ if !looked.is_empty() => return Err("a 72 was written".to_string()),
         _ if before.reached != after.reached => return Err("the id reached moved".to_string()),
         _ => return Ok(()),
     };
     let count = held_complex(before).count().min(most);
-    let expected = Record::Looked { count: count as u8 };
+    let expected = Record::Looked(Looked { count: count as u8 });
     if looked != [1] || step.records[1] != expected {
         return Err(format!("no \"{expected}\" right after the 64, or another"));
     }
@@ -111,6 +111,7 @@ fn check_round(before: &Venue, to: u32, count: usize) -> Result<(), String> {
 #[cfg(test)]
 mod tests {
     use super::*;
+    use crate::message::LimitedSweep;
     use crate::record::parse_sheet;
     use crate::text::encode_session;
     use reference::{run, Returned};
@@ -155,7 +156,7 @@ mod tests {
             (7, 3, 3, 5),
             (5, 32, 3, 5),
         ] {
-            let message = Message::LimitedSweep { most };
+            let message = Message::LimitedSweep(LimitedSweep { most });
             let sheet = |count| format!("64 4 0 0 0\n72 {count}\n");
             let found = checked(from, &message, &sheet(count), to);
             assert_eq!(found, Ok(()), "{most} after {from}");
@@ -169,7 +170,7 @@ mod tests {
 
     #[test]
     fn a_72_stands_right_after_the_64_of_a_limited_sweep_alone() {
-        let limited = Message::LimitedSweep { most: 1 };
+        let limited = Message::LimitedSweep(LimitedSweep { most: 1 });
         for sheet in [
             "64 4 0 0 0\n",
             "64 4 0 0 0\n68 3 0 0 3\n72 1\n",
@@ -189,7 +190,10 @@ mod tests {
         let other = parse_sheet("67 3 5 0 115 115 8").unwrap()[0];
         for number in 1..=20 {
             assert_eq!(traffic.note(number, &made), Some(number as usize));
-            assert_eq!(traffic.note(number, &Record::Looked { count: 1 }), None);
+            assert_eq!(
+                traffic.note(number, &Record::Looked(Looked { count: 1 })),
+                None
+            );
         }
         assert_eq!(traffic.clone().note(257, &made), Some(20));
         assert_eq!(traffic.note(256, &other), Some(1));

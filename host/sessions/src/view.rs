@@ -1,7 +1,7 @@
 //! The rules of prices, standing and generation, worked out from a venue as a
 //! caller sees it. Nothing here is shared with the reference but its types.
 
-use crate::message::Leg;
+use crate::message::{Leg, NewComplex};
 use crate::settings::{Figure, InForce};
 use reference::{Complex, Legging, Listed, Regular, Venue};
 use std::fmt::{self, Display};
@@ -45,6 +45,23 @@ pub fn legs_of(order: &Complex) -> [Leg; 2] {
             side: order.side2,
         },
     ]
+}
+
+/// A complex order as it comes to rest.
+pub fn to_rest(order: &NewComplex) -> Complex {
+    let ([first, second], [ratio1, ratio2]) = (order.legs, order.unit());
+    Complex {
+        id: order.id,
+        series1: first.series,
+        side1: first.side,
+        series2: second.series,
+        side2: second.side,
+        class: order.class,
+        limit: order.limit,
+        quantity: order.quantity,
+        ratio1,
+        ratio2,
+    }
 }
 
 /// A leg with the contracts that one unit of its order has of it.

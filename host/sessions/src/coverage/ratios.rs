@@ -4,7 +4,7 @@ use super::{Coverage, Rare};
 use crate::check::{Seen, Step};
 use crate::message::Message;
 use crate::model::{only_ratios_are_out, ShortOfUnit};
-use crate::record::Record;
+use crate::record::{Cross, Record};
 use crate::view::{find_complex, has_ratios, held_complex, held_regular, legs_of, opposite};
 use crate::view::{ratios_of, side_of};
 use reference::{Complex, Venue};
@@ -13,26 +13,21 @@ impl Coverage {
     /// Orders of kind 10 as they come and are cancelled.
     pub(super) fn observe_ratios(&mut self, step: &Step) {
         let number = step.returned.number;
-        match *step.message {
-            Message::Complex {
-                id,
-                legs,
-                limit,
-                ratios: Some(_),
-                ..
-            } => {
+        match step.message {
+            Message::Complex(order) if order.ratios.is_some() => {
                 let out = only_ratios_are_out(step.message);
                 self.add(Rare::RatiosRefused, number == 4 && out);
                 let closed = |series: u8| step.before.series[usize::from(series)].status == 0;
-                let others = id <= step.before.last
-                    || legs.iter().any(|leg| leg.series <= 7 && closed(leg.series))
+                let mut legs = order.legs.iter();
+                let others = order.id <= step.before.last
+                    || legs.any(|leg| leg.series <= 7 && closed(leg.series))
                     || held_complex(step.before).count() == 32;
                 self.add(Rare::EqualBeforeOthers, number == 14 && others);
-                let beyond = limit.abs_diff(0) > 200_000;
+                let beyond = order.limit.abs_diff(0) > 200_000;
                 self.add(Rare::LimitOfRatios, number == 0 && beyond);
             }
-            Message::Cancel { id } => {
-                let order = find_complex(step.before, id);
+            Message::Cancel(cancel) => {
+                let order = find_complex(step.before, cancel.id);
                 self.add(Rare::UnitsCancelled, order.is_some_and(has_ratios));
             }
             _ => {}
@@ -44,11 +39,11 @@ impl Coverage {
         let swept = step.message.is_sweep();
         for record in step.records {
             match *record {
-                Record::Pair { id, .. } if of_ratios(step, id) => {
+                Record::Pair(pair) if of_ratios(step, pair.id) => {
                     self.add(Rare::PairOfUnits, true);
                     self.add(Rare::UnitsInSweep, swept);
                 }
-                Record::Cross { taker, maker, .. } if of_ratios(step, maker) => {
+                Record::Cross(Cross { taker, maker, .. }) if of_ratios(step, maker) => {
                     let named = (first_series(step, taker), first_series(step, maker));
                     self.add(Rare::CrossOfUnits, true);
                     self.add(Rare::CrossNamedOtherwise, named.0 != named.1);
@@ -71,19 +66,18 @@ impl Coverage {
 
     /// The touch, the rounds and the crosses not made of an arriving order.
     fn observe_arrived(&mut self, step: &Step) {
-        let Message::Complex { id, ratios, .. } = *step.message else {
+        let Message::Complex(order) = step.message else {
             return;
         };
-        self.add(Rare::OtherRatios, meets_other_ratios(step, id));
-        if ratios.is_none() {
+        self.add(Rare::OtherRatios, meets_other_ratios(step, order.id));
+        if order.ratios.is_none() {
             return;
         }
         let removed = |by: u8| {
-            let at =
-                |record: &Record| matches!(record, Record::Removed { cause, .. } if *cause == by);
+            let at = |record: &Record| matches!(record, Record::Removed(gone) if gone.cause == by);
             step.records.iter().any(at)
         };
-        let pairs = pairs_of(step, id);
+        let pairs = pairs_of(step, order.id);
         self.add(Rare::TouchOfUnits, removed(8));
         self.add(Rare::TouchShortThenPair, removed(10) && pairs > 0);
         self.add(Rare::RoundsOfUnits, pairs > 1);
@@ -95,13 +89,8 @@ fn order_of(step: &Step, id: u32) -> Option<([u8; 2], u8)> {
     if let Some(order) = find_complex(step.before, id) {
         return Some((ratios_of(order), order.series1));
     }
-    match *step.message {
-        Message::Complex {
-            id: came,
-            legs,
-            ratios,
-            ..
-        } if came == id => Some((ratios.unwrap_or([1, 1]), legs[0].series)),
+    match step.message {
+        Message::Complex(came) if came.id == id => Some((came.unit(), came.legs[0].series)),
         _ => None,
     }
 }
@@ -115,7 +104,7 @@ fn first_series(step: &Step, id: u32) -> Option<u8> {
 }
 
 fn pairs_of(step: &Step, order: u32) -> usize {
-    let of = |record: &&Record| matches!(record, Record::Pair { id, .. } if *id == order);
+    let of = |record: &&Record| matches!(record, Record::Pair(pair) if pair.id == order);
     step.records.iter().filter(of).count()
 }
 

@@ -5,7 +5,7 @@ use crate::check::Step;
 use crate::message::{Leg, Message};
 use crate::model::{only_shown_is_out, Turn};
 use crate::phases::Phases;
-use crate::record::Record;
+use crate::record::{Generated, Record, Trade};
 use crate::settings::InForce;
 use crate::takings::{Maker, Takings};
 use crate::view::{beats, find_complex, find_regular, held_regular, leg_at, legs_of, opposite};
@@ -29,22 +29,19 @@ impl Coverage {
     /// Orders of kind 9 as they come, are cancelled and run out of reserve.
     pub(super) fn observe_shown(&mut self, step: &Step) {
         let (number, after) = (step.returned.number, &step.returned.venue);
-        match *step.message {
-            Message::Order {
-                id,
-                quantity,
-                shows: Some(shows),
-                ..
-            } => {
+        match step.message {
+            Message::Order(order) if order.shows.is_some() => {
+                let quantity = order.quantity;
                 let out = only_shown_is_out(step.message, &InForce::of(step.before));
                 self.add(Rare::ShownRefused, number == 4 && out);
-                self.add(Rare::ShowsAll, number == 0 && shows == quantity);
-                let rest = find_regular(after, id);
+                self.add(Rare::ShowsAll, number == 0 && order.shown() == quantity);
+                let rest = find_regular(after, order.id);
                 let less = rest.is_some_and(|rest| rest.quantity < quantity && rest.reserve > 0);
                 self.add(Rare::RestHasReserve, number == 0 && less);
             }
-            Message::Cancel { id } => {
-                let had = find_regular(step.before, id).is_some_and(|order| order.reserve > 0);
+            Message::Cancel(cancel) => {
+                let order = find_regular(step.before, cancel.id);
+                let had = order.is_some_and(|order| order.reserve > 0);
                 self.add(Rare::ReserveCancelled, had);
             }
             _ => {}
@@ -61,45 +58,35 @@ impl Coverage {
     /// What the trades of an accepted message took of their makers.
     pub(super) fn observe_takings(&mut self, step: &Step) {
         let mut takings = Takings::before(step.before);
-        let mut earlier: Vec<(Turn, &Record)> = Vec::new();
+        let mut earlier: Vec<(Turn, Trade)> = Vec::new();
         for record in step.records {
             let Ok(Some(turn)) = takings.take(record) else {
                 continue;
             };
-            let Record::Trade { taker, .. } = *record else {
+            let Record::Trade(trade) = *record else {
                 continue;
             };
-            let arrived = matches!(step.message, Message::Order { id, .. } if *id == taker);
-            if arrived {
-                self.observe_met(&earlier, turn, record);
-            } else {
-                self.observe_taken(step, &earlier, &takings, record);
+            match step.message {
+                Message::Order(order) if order.id == trade.taker => {
+                    self.observe_met(&earlier, turn, &trade);
+                }
+                _ => self.observe_taken(step, &earlier, &takings, &trade),
             }
-            earlier.push((turn, record));
+            earlier.push((turn, trade));
         }
     }
 
     /// A trade of an arriving order, after those before it.
-    fn observe_met(&mut self, earlier: &[(Turn, &Record)], turn: Turn, record: &Record) {
-        let Record::Trade { price, taker, .. } = *record else {
-            return;
-        };
+    fn observe_met(&mut self, earlier: &[(Turn, Trade)], turn: Turn, trade: &Trade) {
         self.add(Rare::ReserveTaken, turn == Turn::Reserve);
-        let own = |held: &Record| matches!(held, Record::Trade { taker: by, .. } if *by == taker);
-        let equal = |held: &Record| matches!(held, Record::Trade { price: at, .. } if *at == price);
-        let last = earlier.iter().rev().find(|(_, held)| own(held));
-        let Some((Turn::Reserve, last)) = last else {
+        let mut own = earlier.iter().filter(|(_, held)| held.taker == trade.taker);
+        let Some((Turn::Reserve, last)) = own.next_back() else {
             return;
         };
-        self.add(Rare::ReserveById, turn == Turn::Reserve && equal(last));
-        self.add(
-            Rare::ReserveBeforeWorse,
-            turn == Turn::Shown && !equal(last),
-        );
-        self.add(
-            Rare::ReserveBeforeLegging,
-            turn == Turn::Legging && equal(last),
-        );
+        let equal = last.price == trade.price;
+        self.add(Rare::ReserveById, turn == Turn::Reserve && equal);
+        self.add(Rare::ReserveBeforeWorse, turn == Turn::Shown && !equal);
+        self.add(Rare::ReserveBeforeLegging, turn == Turn::Legging && equal);
     }
 
     /// A trade of a complex order: of the last that its maker shows, past reserve at a
@@ -107,31 +94,20 @@ impl Coverage {
     fn observe_taken(
         &mut self,
         step: &Step,
-        earlier: &[(Turn, &Record)],
+        earlier: &[(Turn, Trade)],
         takings: &Takings,
-        record: &Record,
+        trade: &Trade,
     ) {
-        let Record::Trade {
-            series,
-            side,
-            price,
-            taker,
-            maker,
-            ..
-        } = *record
-        else {
-            return;
-        };
-        let taken = opposite(Leg { series, side });
+        let (taken, maker) = (opposite(trade.leg()), trade.maker);
         let spent = |order: &Maker| order.shown == 0 && order.reserve > 0;
         self.add(Rare::UsedUp, takings.maker(maker).is_some_and(spent));
-        let better = |order: &Maker| beats(taken, i64::from(order.price), i64::from(price));
+        let better = |order: &Maker| beats(taken, i64::from(order.price), i64::from(trade.price));
         let mut sides = takings.makers().iter().filter(|order| order.side == taken);
         self.add(
             Rare::BehindReserve,
             sides.any(|order| spent(order) && better(order)),
         );
-        let by_another = |held: &Record| matches!(held, Record::Trade { taker: by, maker: of, .. } if *by != taker && *of == maker);
+        let by_another = |held: &Trade| held.taker != trade.taker && held.maker == maker;
         let shared = earlier.iter().any(|(_, held)| by_another(held));
         let reserve = find_regular(step.before, maker).is_some_and(|order| order.reserve > 0);
         let swept = step.message.is_sweep();
@@ -142,16 +118,8 @@ impl Coverage {
     pub(super) fn observe_sizes(&mut self, step: &Step, phases: &Phases) {
         let after = &step.returned.venue;
         for record in phases.generation {
-            if let Record::Generated {
-                id,
-                series,
-                side,
-                quantity,
-                ..
-            } = *record
-            {
-                let leg = Leg { series, side };
-                let limited = generated_by_shown(after, phases, id, leg, quantity);
+            if let Record::Generated(made) = record {
+                let limited = generated_by_shown(after, phases, made);
                 self.add(Rare::GeneratedByShown, limited);
             }
         }
@@ -169,13 +137,13 @@ fn behind(venue: &Venue, side: Leg, level: Level) -> i64 {
     left_at(venue, side, level.price) - level.size
 }
 
-fn generated_by_shown(after: &Venue, phases: &Phases, id: u32, leg: Leg, quantity: u32) -> bool {
-    let Some(parent) = find_complex(after, id) else {
+fn generated_by_shown(after: &Venue, phases: &Phases, made: &Generated) -> bool {
+    let Some(parent) = find_complex(after, made.id) else {
         return false;
     };
-    let taken = taken_by_other(legs_of(parent), leg);
+    let taken = taken_by_other(legs_of(parent), made.leg());
     let level = phases.settled_view.best(taken);
-    level.is_some_and(|level| quantity < parent.quantity && behind(after, taken, level) > 0)
+    level.is_some_and(|level| made.quantity < parent.quantity && behind(after, taken, level) > 0)
 }
 
 fn removed_by_shown(after: &Venue, phases: &Phases, place: usize) -> bool {

@@ -2,16 +2,16 @@
 
 use super::{Coverage, Rare};
 use crate::check::{Seen, Step};
-use crate::message::Message;
+use crate::message::{LimitedSweep, Message};
 use crate::model::looked_at;
-use crate::record::Record;
+use crate::record::{Answer, Record};
 use crate::view::{find_complex, held_complex, legs_of, place_of, Declined};
 use reference::Complex;
 
 impl Coverage {
     /// Limited sweeps as they are accepted and refused.
     pub(super) fn observe_limited(&mut self, step: &Step) {
-        let Message::LimitedSweep { most } = *step.message else {
+        let Message::LimitedSweep(LimitedSweep { most }) = *step.message else {
             return;
         };
         if step.returned.number != 0 {
@@ -47,13 +47,13 @@ impl Coverage {
             let stopped = matches!(attempt.outcome, Err(Declined::AtCeiling { .. }));
             self.add(Rare::HolderStays, stopped && holder.quantity > 0);
         }
-        let Some(Record::Answer { number, .. }) = step.records.first() else {
+        let Some(Record::Answer(Answer { number, .. })) = step.records.first() else {
             return;
         };
         let mut generations = step.before.generations;
         for record in seen.phases.generation {
-            if let Record::Generated { series, .. } = *record {
-                let last = &mut generations[usize::from(series)];
+            if let Record::Generated(made) = record {
+                let last = &mut generations[usize::from(made.series)];
                 self.add(Rare::JustAllowed, last[0] > 0 && last[0] + 256 == *number);
                 self.add(Rare::SeveralInOne, last[19] == *number);
                 last.rotate_left(1);
@@ -65,7 +65,7 @@ impl Coverage {
 
 fn generated_by(record: &Record) -> Option<u32> {
     match *record {
-        Record::Generated { id, .. } => Some(id),
+        Record::Generated(made) => Some(made.id),
         _ => None,
     }
 }
@@ -78,8 +78,8 @@ fn is_closed(step: &Step, order: &Complex) -> bool {
 /// Whether an order was used up by others of the sweep.
 fn gone_by_turn(step: &Step, looked: u32) -> bool {
     let worked = |record: &Record| match *record {
-        Record::Cross { taker, .. } => taker == looked,
-        Record::Pair { id, .. } => id == looked,
+        Record::Cross(cross) => cross.taker == looked,
+        Record::Pair(pair) => pair.id == looked,
         _ => false,
     };
     find_complex(&step.returned.venue, looked).is_none() && !step.records.iter().any(worked)

@@ -1,7 +1,7 @@
 //! Limited sweeps.
 
 use super::Generator;
-use crate::message::Message;
+use crate::message::{LimitedSweep, Message};
 
 impl Generator {
     /// A sweep, or one that is limited; now and then to a number out of its range, or of
@@ -13,9 +13,9 @@ impl Generator {
         match self.limited.below(60) {
             0 => Message::Raw(vec![4, 0, 11, 0]),
             1 => Message::Raw(vec![6, 0, 11, 0, 1, 0]),
-            _ => Message::LimitedSweep {
+            _ => Message::LimitedSweep(LimitedSweep {
                 most: self.most_looked_at(),
-            },
+            }),
         }
     }
 

@@ -9,11 +9,8 @@ impl Generator {
         if !self.shown.chance(self.shape.reserve) {
             return order;
         }
-        if let Message::Order {
-            quantity, shows, ..
-        } = &mut order
-        {
-            *shows = Some(self.shown_of(*quantity));
+        if let Message::Order(order) = &mut order {
+            order.shows = Some(self.shown_of(order.quantity));
         }
         order
     }

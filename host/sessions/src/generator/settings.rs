@@ -2,7 +2,7 @@
 //! closed for it, and settings to be refused.
 
 use super::Generator;
-use crate::message::{Leg, Message};
+use crate::message::{Cancel, Increment, Leg, Message, NewOrder, Percent, Status};
 use crate::settings::last_edition;
 use crate::view::{held_complex, held_regular, legs_of, parts_of, sign, View};
 use reference::{Complex, Venue};
@@ -45,7 +45,7 @@ impl Generator {
             _ => self.apart.between(0, 50) as u8,
         };
         let edition = 0;
-        Message::Percent { percent, edition }
+        Message::Percent(Percent { percent, edition })
     }
 
     /// The least percentage that has some resting order's limit in band, or one less;
@@ -80,11 +80,11 @@ impl Generator {
     }
 
     fn increment(&mut self, series: u8) -> Message {
-        Message::Increment {
+        Message::Increment(Increment {
             series,
             increment: self.apart.pick(&[1, 1, 5, 10]),
             edition: 0,
-        }
+        })
     }
 
     /// Empties and closes a series between two sweeps, sets its increment and opens
@@ -95,12 +95,12 @@ impl Generator {
         if ids.len() > MOST_CANCELS {
             return self.plan_increment_as_it_is(series);
         }
-        let status = |status| Message::Status { series, status };
+        let status = |status| Message::Status(Status { series, status });
         if self.apart.chance(12) {
             ids.pop();
         }
         let mut plan = vec![Message::Sweep];
-        plan.extend(ids.into_iter().map(|id| Message::Cancel { id }));
+        plan.extend(ids.into_iter().map(|id| Message::Cancel(Cancel { id })));
         plan.push(status(self.apart.pick(&[0, 0, 0, 0, 0, 0, 0, 2])));
         for _ in 0..self.apart.between(1, 2) {
             plan.push(self.increment(series));
@@ -137,13 +137,13 @@ impl Generator {
         let step = self.apart.pick(&[1, 1, 5, 5, 10]);
         let apart = step * self.apart.between(0, 6);
         let price = (self.centre(series) - sign(leg) * apart).clamp(1, 100_000);
-        Message::Order {
+        Message::Order(NewOrder {
             id: 0,
             leg,
             price: price as u32,
             quantity: self.apart.between(1, 9) as u32,
             shows: None,
-        }
+        })
     }
 
     /// A setting meant to be refused with 11, 3 or 4: its bytes, which keep its edition.
@@ -154,7 +154,8 @@ impl Generator {
             _ => self.percent(venue),
         };
         let (last, _) = last_edition(venue);
-        if let Message::Increment { edition, .. } | Message::Percent { edition, .. } = &mut message
+        if let Message::Increment(Increment { edition, .. })
+        | Message::Percent(Percent { edition, .. }) = &mut message
         {
             *edition = last - last.min(self.apart.below(4) as u32);
         }

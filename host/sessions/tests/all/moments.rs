@@ -7,7 +7,9 @@ use sessions::message::{split, Message};
 use sessions::moments::{check_moments, replay_sheet, Parties};
 use sessions::profile::Profile;
 use sessions::random::Random;
-use sessions::record::{parse_sheet, read_report, Record};
+use sessions::record::{
+    parse_sheet, read_report, Cancelled, Cross, Generated, Pair, Record, Removed, Trade,
+};
 use sessions::sheet::run_whole;
 use sessions::soak::generate;
 
@@ -426,15 +428,12 @@ fn done(profile: Profile) -> Vec<Done> {
 
 /// A trade moved by a cent to a worse price for its taker.
 fn worse(record: &Record) -> Option<Record> {
-    let Record::Trade { side, price, .. } = record else {
+    let Record::Trade(mut trade) = *record else {
         return None;
     };
-    let moved = price.wrapping_add_signed(1 - 2 * i32::from(*side));
-    let mut record = *record;
-    if let Record::Trade { price, .. } = &mut record {
-        *price = moved;
-    }
-    Some(record)
+    let worse = 1 - 2 * i32::from(trade.side);
+    trade.price = trade.price.wrapping_add_signed(worse);
+    Some(Record::Trade(trade))
 }
 
 #[test]
@@ -474,12 +473,7 @@ fn every_record_left_out_or_doubled_is_found() {
 /// Taker, series and price of a trade.
 fn of_trade(record: &Record) -> Option<(u32, u8, u32)> {
     match *record {
-        Record::Trade {
-            taker,
-            series,
-            price,
-            ..
-        } => Some((taker, series, price)),
+        Record::Trade(trade) => Some((trade.taker, trade.series, trade.price)),
         _ => None,
     }
 }
@@ -524,40 +518,40 @@ fn any_record(random: &mut Random) -> Record {
         (word(any), word(any), word(any), word(byte), word(byte));
     let (series, side, quantity) = (series as u8, side as u8, word(any).max(1));
     match word(5) {
-        0 => Record::Pair {
+        0 => Record::Pair(Pair {
             id,
             net: price as i32,
             quantity,
-        },
-        1 => Record::Generated {
+        }),
+        1 => Record::Generated(Generated {
             id,
             series,
             side,
             price,
             displayed: price,
             quantity,
-        },
-        2 => Record::Removed {
+        }),
+        2 => Record::Removed(Removed {
             id,
             series,
             side,
             cause: 8,
-        },
-        3 => Record::Cross {
+        }),
+        3 => Record::Cross(Cross {
             taker: id,
             maker: other,
             net: price as i32,
             quantity,
-        },
-        4 => Record::Cancelled { id, quantity },
-        _ => Record::Trade {
+        }),
+        4 => Record::Cancelled(Cancelled { id, quantity }),
+        _ => Record::Trade(Trade {
             series,
             side,
             price,
             quantity,
             taker: id,
             maker: other,
-        },
+        }),
     }
 }
 

@@ -4,7 +4,7 @@
 use crate::common::{by_calls, bytes, last_lines, one, sheet, venue_after, with_legging};
 use reference::{one_message, run, Venue};
 use sessions::lent::Lent;
-use sessions::message::{Leg, Message};
+use sessions::message::{Leg, Message, NewComplex};
 use sessions::sheet::run_whole;
 
 #[test]
@@ -272,14 +272,14 @@ fn message_number_past_the_last_is_10_even_for_a_torn_message() {
 fn every_byte_of_every_field_is_read() {
     // Each field of a message changes something that a caller can see.
     let venue = venue_after("open 0\nopen 1\nopen 2\n");
-    let order = Message::Complex {
+    let order = Message::Complex(NewComplex {
         id: 0x0102_0304,
         legs: [Leg { series: 0, side: 0 }, Leg { series: 1, side: 1 }],
         class: 1,
         limit: -70_000,
         quantity: 0x1234,
         ratios: Some([3, 2]),
-    };
+    });
     let (returned, _) = one(&venue, &order.encode());
     let held = returned.venue.complex[0];
     assert_eq!(
