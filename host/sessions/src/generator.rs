@@ -18,12 +18,21 @@ use ratios::is_even;
 use reference::{Complex, Venue};
 use std::collections::VecDeque;
 
+/// Ids are drawn one or a few above the last; a jump leads no higher than this, so that
+/// they last for ten million messages.
+const HIGHEST_JUMP: u32 = u32::MAX - 10_000_000 * MOST_STEP;
+
+/// The most by which an id is above the last one without a jump.
+const MOST_STEP: u32 = 7;
+
 pub struct Generator {
     random: Random,
     profile: Profile,
     shape: Shape,
     queue: VecDeque<Message>,
     since_script: usize,
+    /// Whether the ids are to last for a long session.
+    lasting: bool,
     /// Draws the settings, apart from all else.
     apart: Random,
     /// Draws what orders show, apart from all else too.
@@ -43,6 +52,7 @@ impl Generator {
             shape: profile.shape(),
             queue: VecDeque::new(),
             since_script: usize::MAX - 1,
+            lasting: false,
             apart: Random::new(!mixed),
             shown: Random::new(mixed.rotate_left(32)),
             ratios: Random::new(mixed.rotate_left(16)),
@@ -59,6 +69,15 @@ impl Generator {
     pub fn up_to(self, last: u16) -> Self {
         Generator {
             shape: self.shape.up_to(last),
+            ..self
+        }
+    }
+
+    /// Keeps ids for a long session. It is the same session up to the first id that would
+    /// leave too few.
+    pub fn lasting(self) -> Self {
+        Generator {
+            lasting: true,
             ..self
         }
     }
@@ -101,7 +120,10 @@ impl Generator {
             Some(message) => self.numbered(message, venue),
             None => self.random_message(venue),
         };
-        message.encode()
+        match self.lasting {
+            true => leaving_ids(message, venue.last).encode(),
+            false => message.encode(),
+        }
     }
 
     /// Bytes that end a list in the middle of a message.
@@ -159,7 +181,7 @@ impl Generator {
     }
 
     fn next_id(&mut self, venue: &Venue) -> u32 {
-        let step = if self.random.chance(90) { 1 } else { 7 };
+        let step = if self.random.chance(90) { 1 } else { MOST_STEP };
         let jump = if self.random.below(4000) == 0 {
             1 << 31
         } else {
@@ -594,4 +616,14 @@ impl Generator {
         }
         message
     }
+}
+
+/// The message with the next id where its own is a jump that leaves too few.
+fn leaving_ids(mut message: Message, last: u32) -> Message {
+    if let Message::Order { id, .. } | Message::Complex { id, .. } = &mut message {
+        if *id > HIGHEST_JUMP.max(last.saturating_add(MOST_STEP)) {
+            *id = last.saturating_add(1);
+        }
+    }
+    message
 }

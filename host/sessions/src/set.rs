@@ -154,6 +154,20 @@ pub fn encode_set(text: &str) -> Result<Vec<u8>, LineError> {
     Ok(bytes)
 }
 
+/// The line of a set's text that has a byte of it; the last one where the set has ended.
+pub fn line_at(text: &str, byte: usize) -> Option<usize> {
+    let mut end = 0;
+    let mut last = None;
+    for mut words in bodies(text) {
+        last = Some(words.line);
+        end += parse_entry(&mut words).ok()?.encode().len();
+        if byte < end {
+            break;
+        }
+    }
+    last
+}
+
 /// A set's text from its bytes, one record a line.
 pub fn decode_set(memory: &[u8]) -> String {
     let records = split_set(memory);
@@ -296,6 +310,14 @@ mod tests {
         }
         assert_eq!(decode_set(&[0, 1]), "raw 00 01\n");
         assert_eq!(decode_set(&[7]), "raw 07\n");
+    }
+
+    #[test]
+    fn each_byte_of_a_set_has_its_line() {
+        let text = "# a set\nset 7 last 9\n\nreached 5 # an id\nraw 09\n# its end\n";
+        let lines = [0, 11, 12, 19, 20, 21, 99].map(|byte| line_at(text, byte));
+        assert_eq!(lines, [2, 2, 4, 4, 5, 5, 5].map(Some));
+        assert_eq!(line_at("# none\n", 0), None);
     }
 
     #[test]

@@ -14,6 +14,8 @@ use std::fmt::{self, Display};
 pub struct Refused {
     /// 16, or 9.
     pub number: u8,
+    /// Where the record begins for which it is; the set's length where it ends too early.
+    pub byte: Option<usize>,
     pub what: String,
 }
 
@@ -30,27 +32,47 @@ pub fn look_at(memory: &[u8]) -> Result<(Venue, u32), Refused> {
     for (record, index) in split_set(memory).into_iter().zip(1..) {
         let told = |what| format!("record {index} at byte {byte}: {what}");
         if let Err(what) = looking.take(record) {
-            return Err(refused(16, told(what)));
+            return Err(refused(16, Some(byte), told(what)));
         }
         looking.unplaced = looking.unplaced.take().map(|unplaced| match unplaced {
-            Unplaced::Now(what) => Unplaced::At(told(what)),
+            Unplaced::Now(what) => Unplaced::At(byte, told(what)),
             at => at,
         });
         byte += record.len();
     }
-    looking.end().map_err(|what| refused(16, what))?;
-    if let Some(Unplaced::At(what) | Unplaced::Now(what)) = looking.unplaced {
-        return Err(refused(9, what));
+    looking
+        .end()
+        .map_err(|what| refused(16, Some(byte), what))?;
+    match looking.unplaced {
+        Some(Unplaced::At(at, what)) => return Err(refused(9, Some(at), what)),
+        Some(Unplaced::Now(what)) => return Err(refused(9, None, what)),
+        None => {}
     }
     let number = looking.message;
     match fault(&looking.venue).or_else(|| above_its_own(&looking.venue, number)) {
-        Some(what) => Err(refused(9, what)),
+        Some(what) => Err(refused(9, None, what)),
         None => Ok((looking.venue, number)),
     }
 }
 
-fn refused(number: u8, what: String) -> Refused {
-    Refused { number, what }
+fn refused(number: u8, byte: Option<usize>, what: String) -> Refused {
+    Refused { number, byte, what }
+}
+
+/// Where the first record begins with which the venue of a set is unsound, or has a message
+/// number above the set's own.
+pub fn first_unsound(memory: &[u8]) -> Option<usize> {
+    let mut looking = Looking::default();
+    let mut byte = 0;
+    for record in split_set(memory) {
+        looking.take(record).ok()?;
+        let venue = &looking.venue;
+        if fault(venue).is_some() || above_its_own(venue, looking.message).is_some() {
+            return Some(byte);
+        }
+        byte += record.len();
+    }
+    None
 }
 
 /// A message number above the set's own.
@@ -64,7 +86,7 @@ fn above_its_own(venue: &Venue, number: u32) -> Option<String> {
 /// A field that no venue has a place for: of the record looked at, or told before.
 enum Unplaced {
     Now(String),
-    At(String),
+    At(usize, String),
 }
 
 /// The parts of a set, in their order.

@@ -1,8 +1,7 @@
 //! A run whose report memory never fills, and the sheet of it.
 
 use crate::asked::ENOUGH;
-use crate::message::split;
-use crate::record::{read_report, Record};
+use crate::record::{read_report, read_report_into, Record};
 use reference::{feed, one_message, run, Returned, Venue};
 
 /// The most bytes that the printing program reads.
@@ -20,21 +19,40 @@ pub fn feed_whole(main: &[u8], spare: &[u8]) -> (Returned, Vec<u8>) {
     with_room(main.len() + spare.len(), |report| feed(main, spare, report))
 }
 
-/// The records of a list that goes on upon a venue, `before` messages of which were done;
-/// false with them where its message numbers are used up before its end.
-pub fn go_on(venue: Venue, before: u32, list: &[u8]) -> (Vec<u8>, bool) {
-    let (mut venue, mut before) = (venue, before);
-    let mut records = Vec::new();
-    let mut report = vec![0; ENOUGH as usize];
-    for piece in split(list) {
-        let returned = one_message(&venue, before, piece, &mut report);
-        if returned.done == 0 {
-            return (records, false);
-        }
-        records.extend_from_slice(&report[..returned.written]);
-        (venue, before) = (returned.venue, before + returned.done);
+/// A run that takes its messages one by one.
+pub struct Running {
+    venue: Venue,
+    before: u32,
+    report: Vec<u8>,
+    records: Vec<Record>,
+}
+
+impl Running {
+    pub fn fresh() -> Self {
+        Running::upon(Venue::fresh(), 0)
     }
-    (records, true)
+
+    /// A run that goes on upon a venue, `before` messages of which were done.
+    pub fn upon(venue: Venue, before: u32) -> Self {
+        Running {
+            venue,
+            before,
+            report: vec![0; ENOUGH as usize],
+            records: Vec::new(),
+        }
+    }
+
+    /// The records of the next message; nothing where the message numbers are used up.
+    pub fn take(&mut self, message: &[u8]) -> Result<Option<&[Record]>, String> {
+        let returned = one_message(&self.venue, self.before, message, &mut self.report);
+        if returned.done == 0 {
+            return Ok(None);
+        }
+        read_report_into(&self.report[..returned.written], &mut self.records)?;
+        self.venue = returned.venue;
+        self.before += returned.done;
+        Ok(Some(&self.records))
+    }
 }
 
 /// A call upon message bytes, made again with more report memory until it is enough.

@@ -67,22 +67,65 @@ pub fn session_length(profile: Profile, seed: u64) -> usize {
     }
 }
 
+/// The most messages of a session that is generated.
+pub const MOST_MESSAGES: u64 = 10_000_000;
+
+/// Longer than any session of the checks: from here on a session's ids must last.
+const LONG: u64 = 1_000;
+
 /// The messages of a session, as the checks send them.
 pub fn generate(profile: Profile, seed: u64, messages: usize) -> Vec<Vec<u8>> {
-    drawn(Generator::new(profile, seed), messages)
+    Drawn::new(profile, seed, messages as u64).collect()
 }
 
-/// The messages that a generator draws, each upon the venue that those before it left.
-pub fn drawn(mut generator: Generator, messages: usize) -> Vec<Vec<u8>> {
-    let mut venue = Venue::fresh();
-    let mut lent = Lent::new();
-    let mut pieces = Vec::new();
-    for before in 0..messages as u32 {
-        let message = generator.next(&venue);
-        venue = one_message(&venue, before, &message, lent.lend(ROOM)).venue;
-        pieces.push(message);
+/// The messages that a generator draws.
+pub fn drawn(generator: Generator, messages: usize) -> Vec<Vec<u8>> {
+    Drawn::by(generator, messages as u64).collect()
+}
+
+/// Messages that a generator draws one by one, each upon the venue that those before it
+/// left.
+pub struct Drawn {
+    generator: Generator,
+    venue: Venue,
+    lent: Lent,
+    before: u32,
+    left: u64,
+}
+
+impl Drawn {
+    /// The messages of a session. Where it is longer than those of the checks, its ids
+    /// last for as many messages as can be asked for.
+    pub fn new(profile: Profile, seed: u64, messages: u64) -> Self {
+        let generator = Generator::new(profile, seed);
+        match messages > LONG {
+            true => Drawn::by(generator.lasting(), messages),
+            false => Drawn::by(generator, messages),
+        }
     }
-    pieces
+
+    fn by(generator: Generator, messages: u64) -> Self {
+        Drawn {
+            generator,
+            venue: Venue::fresh(),
+            lent: Lent::new(),
+            before: 0,
+            left: messages,
+        }
+    }
+}
+
+impl Iterator for Drawn {
+    type Item = Vec<u8>;
+
+    fn next(&mut self) -> Option<Vec<u8>> {
+        self.left = self.left.checked_sub(1)?;
+        let message = self.generator.next(&self.venue);
+        let report = self.lent.lend(ROOM);
+        self.venue = one_message(&self.venue, self.before, &message, report).venue;
+        self.before += 1;
+        Some(message)
+    }
 }
 
 /// Runs one session with all checks, adding to the coverage.

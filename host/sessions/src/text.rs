@@ -56,11 +56,25 @@ pub fn parse_session(text: &str) -> Result<Vec<Message>, LineError> {
 
 /// The lines that say something, without their comments.
 pub(crate) fn bodies(text: &str) -> impl Iterator<Item = Words<'_>> {
-    let lines = text.lines().enumerate().map(|(index, line)| Words {
+    let lines = text.lines().enumerate();
+    lines.filter_map(|(index, line)| body(line, index + 1))
+}
+
+/// The words of a line without its comment; nothing where it says nothing.
+fn body(line: &str, number: usize) -> Option<Words<'_>> {
+    let words = Words {
         words: line.split('#').next().unwrap_or("").split_whitespace(),
-        line: index + 1,
-    });
-    lines.filter(|words| words.first().is_some())
+        line: number,
+    };
+    words.first().is_some().then_some(words)
+}
+
+/// The bytes of one line of a session's text, which has this number.
+pub fn encode_text_line(line: &str, number: usize) -> Result<Vec<u8>, LineError> {
+    match body(line, number) {
+        Some(words) => Ok(parse_line(words)?.encode()),
+        None => Ok(Vec::new()),
+    }
 }
 
 /// The bytes of a session's text.

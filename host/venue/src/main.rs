@@ -5,10 +5,16 @@
 mod arguments;
 mod commands;
 mod help;
-mod short;
+mod input;
+mod output;
 
-use std::io::{ErrorKind, Write};
+use output::{tell, Out};
+use std::ffi::OsString;
+use std::io::ErrorKind;
 use std::process::ExitCode;
+
+/// The status of a program whose reader left, as a shell tells it.
+const READER_LEFT: u8 = 141;
 
 /// Why a command did not succeed.
 pub enum Failure {
@@ -17,38 +23,61 @@ pub enum Failure {
     /// The input was wrong.
     Input(String),
     /// The output is good and tells of something that does not agree.
-    Disagreement(Vec<u8>, String),
+    Disagreement(String),
+    /// The output was not written.
+    Output(std::io::Error),
 }
 
+impl From<std::io::Error> for Failure {
+    /// Of writing; what goes wrong in reading is told with the file's name.
+    fn from(error: std::io::Error) -> Self {
+        Failure::Output(error)
+    }
+}
+
+/// What a command came to.
+pub type Outcome = Result<(), Failure>;
+
 fn main() -> ExitCode {
-    let arguments: Vec<String> = std::env::args().skip(1).collect();
-    let name = arguments.first().map_or("", String::as_str).to_string();
-    match commands::perform(arguments) {
-        Ok(output) => write_out(&output, ExitCode::SUCCESS),
+    let words: Vec<OsString> = std::env::args_os().skip(1).collect();
+    let (name, hint) = commands::told_name(&words);
+    let mut out = Out::new();
+    let outcome = commands::perform(&words, &mut out);
+    match end(outcome, out, &name) {
+        Ok(status) => status,
         Err(Failure::Usage(what)) => {
-            eprintln!("venue: {what}\ntry: venue help");
+            tell(&name, &format!("{what}\ntry: {hint}"));
             ExitCode::from(2)
         }
-        Err(Failure::Input(what)) => {
-            eprintln!("venue {name}: {what}");
+        Err(Failure::Output(error)) if error.kind() == ErrorKind::BrokenPipe => {
+            ExitCode::from(READER_LEFT)
+        }
+        Err(Failure::Output(error)) => {
+            tell(&name, &format!("the output was not written: {error}"));
             ExitCode::FAILURE
         }
-        Err(Failure::Disagreement(output, what)) => {
-            eprintln!("venue {name}: {what}");
-            write_out(&output, ExitCode::FAILURE)
+        Err(Failure::Input(what) | Failure::Disagreement(what)) => {
+            tell(&name, &what);
+            ExitCode::FAILURE
         }
     }
 }
 
-/// Writes the whole output at once; a reader that left is no error to report.
-fn write_out(output: &[u8], status: ExitCode) -> ExitCode {
-    let mut stdout = std::io::stdout().lock();
-    match stdout.write_all(output).and_then(|()| stdout.flush()) {
-        Ok(()) => status,
-        Err(error) if error.kind() == ErrorKind::BrokenPipe => ExitCode::FAILURE,
-        Err(error) => {
-            eprintln!("venue: the output was not written: {error}");
-            ExitCode::FAILURE
+/// Writes out what is still held, unless the input was wrong.
+fn end(outcome: Outcome, out: Out, name: &str) -> Result<ExitCode, Failure> {
+    match outcome {
+        Ok(()) => {
+            out.finish()?;
+            Ok(ExitCode::SUCCESS)
+        }
+        Err(Failure::Disagreement(what)) => {
+            tell(name, &what);
+            out.finish()?;
+            Ok(ExitCode::FAILURE)
+        }
+        Err(failure) => {
+            out.discard();
+            Err(failure)
         }
     }
 }

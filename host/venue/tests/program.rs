@@ -19,9 +19,15 @@ fn venue(arguments: &[&str], input: &[u8]) -> Output {
         .stderr(Stdio::piped())
         .spawn()
         .unwrap();
-    // A command that refuses its arguments does not read its input.
-    let _ = child.stdin.take().unwrap().write_all(input);
-    child.wait_with_output().unwrap()
+    let mut stdin = child.stdin.take().unwrap();
+    // A command may write before it has read all, and one that refuses its arguments reads
+    // nothing.
+    std::thread::scope(|scope| {
+        scope.spawn(move || {
+            let _ = stdin.write_all(input);
+        });
+        child.wait_with_output().unwrap()
+    })
 }
 
 /// The output of a command that succeeds.
@@ -99,7 +105,7 @@ fn bytes_that_are_no_text_are_told_with_their_line() {
     let errors = bad(&["encode"], b"open 0\nopen 1\n\xff\xfe\n", 1);
     assert_eq!(
         errors,
-        "venue encode: line 3: expected text, found other bytes\n"
+        "venue encode: standard input: line 3: expected text, found other bytes\n"
     );
 }
 
@@ -167,7 +173,7 @@ fn help_names_every_command() {
     let text = String::from_utf8(good(&["help"], b"")).unwrap();
     for command in [
         "sheet", "encode", "decode", "print", "feed", "four", "short", "audit", "explain",
-        "settings", "set", "resume", "generate", "check",
+        "settings", "set", "resume", "compare", "generate", "check",
     ] {
         assert!(text.contains(&format!("venue {command}")), "{command}");
         let more = String::from_utf8(good(&["help", command], b"")).unwrap();
@@ -177,16 +183,54 @@ fn help_names_every_command() {
 }
 
 #[test]
-fn sheet_runs_the_first_65536_bytes_and_no_more() {
+fn sheet_runs_a_session_of_any_length() {
+    let sweeps = [4, 0, 6, 0].repeat(100_000);
+    let lines = String::from_utf8(good(&["sheet"], &sweeps)).unwrap();
+    assert_eq!(lines.lines().count(), 100_000);
+    assert!(lines.ends_with("64 100000 0 0 0\n"));
+    let text = good(&["sheet", "--text"], "sweep\n".repeat(100_000).as_bytes());
+    assert_eq!(text, lines.into_bytes());
+}
+
+#[test]
+fn sheet_runs_the_first_bytes_that_are_asked_for() {
     let sweeps = [4, 0, 6, 0].repeat(16_384 + 5);
-    let output = venue(&["sheet"], &sweeps);
+    let output = venue(&["sheet", "--first", "65536"], &sweeps);
     let lines = String::from_utf8(output.stdout).unwrap();
     assert_eq!(lines.lines().count(), 16_384);
     assert!(lines.ends_with("64 16384 0 0 0\n"));
+    let told = "venue sheet: standard input: only the first 65536 bytes are run\n";
+    assert_eq!(String::from_utf8(output.stderr).unwrap(), told);
     let mut cut = vec![6, 0, 5, 0, 0, 1];
     cut.extend([4, 0, 6, 0].repeat(16_384));
-    let lines = String::from_utf8(venue(&["sheet"], &cut).stdout).unwrap();
+    let output = venue(&["sheet", "--first=65536"], &cut);
+    let lines = String::from_utf8(output.stdout).unwrap();
     assert!(lines.ends_with("64 16383 0 0 0\n64 16384 1 0 0\n"));
+    let output = venue(&["sheet", "--first=65542"], &cut);
+    assert!(output.stdout.ends_with(b"64 16385 0 0 0\n"));
+    assert!(output.stderr.is_empty());
+}
+
+#[test]
+fn sessions_without_an_end_are_told_at_once() {
+    for command in [
+        &["sheet", "/dev/zero"][..],
+        &["explain", "/dev/zero"],
+        &["audit", "/dev/zero"],
+        &["settings", "/dev/zero", "1"],
+        &["set", "/dev/zero"],
+        &["decode", "/dev/zero"],
+    ] {
+        let expected = format!(
+            "venue {}: /dev/zero: message 1 at byte 0 is torn: its length is 0, below 4, and \
+             more than 65535 bytes follow\n",
+            command[0]
+        );
+        assert_eq!(bad(command, b"", 1), expected);
+    }
+    let errors = bad(&["sheet", "--text", "/dev/zero"], b"", 1);
+    let expected = "venue sheet: /dev/zero: line 1: it has more than 1048576 bytes\n";
+    assert_eq!(errors, expected);
 }
 
 #[test]
@@ -291,7 +335,8 @@ fn lines_of_a_feed_are_encoded_and_decoded() {
     assert!(text.starts_with(b"1 status 0 open\n2 status 1 open\n4 order 2 "));
     assert_eq!(good(&["encode", "--line"], &text), bytes);
     let errors = bad(&["encode", "--line"], b"1 sweep\nsweep\n", 1);
-    assert!(errors.contains("venue encode: line 2: expected the message's number"));
+    let expected = "venue encode: standard input: line 2: expected the message's number";
+    assert!(errors.starts_with(expected), "{errors}");
 }
 
 #[test]
@@ -306,7 +351,7 @@ fn feed_names_the_file_that_is_wrong() {
     );
     let errors = bad(&["feed", "--text", main.path(), "-"], b"1 sweeps\n", 1);
     assert!(
-        errors.starts_with("venue feed: -: line 1: expected a message ("),
+        errors.starts_with("venue feed: standard input: line 1: expected a message ("),
         "{errors}"
     );
     let errors = bad(&["feed", "no-such-file", main.path()], b"", 1);
@@ -324,10 +369,10 @@ fn four_prints_the_sheet_of_each_venue() {
         68 3 0 0 3\n68 3 1 0 3\n# venue 1\n64 1 0 0 0\n64 2 5 0 0\n# venue 2\n# venue 3\n64 1 1 0 0\n";
     assert_eq!(String::from_utf8(output.stdout).unwrap(), sheets);
     let told = "\
-        venue four: line 11: turn ended by 10: the records do not fit, or the message numbers are used up\n\
-        venue four: line 13: arrival for venue 2 refused with 17: its wait holds 8, or the message is over 32 bytes\n\
-        venue four: line 14: arrival for venue 4 refused with 18: there is no such venue\n\
-        venue four: line 15: turn with number 0: nothing waits\n\
+        venue four: standard input: line 11: turn ended by 10: the records do not fit, or the message numbers are used up\n\
+        venue four: standard input: line 13: arrival for venue 2 refused with 17: its wait holds 8, or the message is over 32 bytes\n\
+        venue four: standard input: line 14: arrival for venue 4 refused with 18: there is no such venue\n\
+        venue four: standard input: line 15: turn with number 0: nothing waits\n\
         venue four: 1 still waiting for venue 2\n";
     assert_eq!(String::from_utf8(output.stderr).unwrap(), told);
 }
@@ -335,7 +380,8 @@ fn four_prints_the_sheet_of_each_venue() {
 #[test]
 fn four_names_the_line_that_is_wrong() {
     let errors = bad(&["four"], b"turn\nserve\n", 1);
-    let expected = "venue four: line 2: expected a call (arrive, turn or turns), found \"serve\"\n";
+    let expected = "venue four: standard input: line 2: expected a call (arrive, turn or turns), \
+        found \"serve\"\n";
     assert_eq!(errors, expected);
     let errors = bad(&["four", "no-such-file"], b"", 1);
     assert!(errors.starts_with("venue four: no-such-file: "), "{errors}");
@@ -674,7 +720,8 @@ fn settings_tells_what_held_at_a_message() {
         assert_eq!(told(number), (increment.to_string(), percent.to_string()));
     }
     let beyond = venue(&["settings", "--text", "-", "4711"], DATED.as_bytes());
-    let note = "venue settings: the session has 22 messages; told is what it leaves\n";
+    let note = "venue settings: standard input: the session has 22 messages; told is what it \
+        leaves\n";
     assert_eq!(String::from_utf8(beyond.stderr).unwrap(), note);
 }
 
@@ -947,7 +994,7 @@ fn check_prints_the_coverage() {
 }
 
 #[test]
-fn reader_that_leaves_causes_no_panic() {
+fn a_reader_that_leaves_ends_it_silently() {
     let mut child = Command::new(env!("CARGO_BIN_EXE_venue"))
         .args([
             "generate",
@@ -964,7 +1011,7 @@ fn reader_that_leaves_causes_no_panic() {
         .unwrap();
     drop(child.stdout.take());
     let output = child.wait_with_output().unwrap();
-    assert_eq!(output.status.code(), Some(1));
+    assert_eq!(output.status.code(), Some(141));
     assert!(output.stderr.is_empty());
 }
 
@@ -1012,34 +1059,64 @@ fn sets_go_to_text_and_back() {
 }
 
 #[test]
-fn a_refused_set_is_told_with_its_record() {
+fn a_refused_set_is_told_with_its_line() {
     let set = good(&["set", "--text"], LIMITED.as_bytes());
     let set = String::from_utf8(set).unwrap();
-    for (from, to, told) in [
+    let cases = [
         (
             "reached 2",
             "reached 0",
+            None,
             "refused with 9: record 32 at byte 316: id 0 reached",
         ),
-        ("reached 2", "reached 9", "refused with 9: "),
-        ("set 30", "set 26", "message 27 is above the set's own, 26"),
+        ("reached 2", "reached 9", None, "refused with 9: "),
+        (
+            "set 30",
+            "set 26",
+            Some("message 27"),
+            "message 27 is above the set's own, 26",
+        ),
         (
             "status 3",
             "status 4",
+            None,
             "refused with 16: record 8 at byte 69: expected status of series 3",
         ),
-        ("set 30", "short 30", "a short set has no "),
-        ("order 5", "order 4", "expected an id above 4, found 4"),
-        ("order 5", "cancel 5 #", "expected a record of a set"),
-    ] {
-        let changed = Kept::new("refused", set.replace(from, to).as_bytes());
+        ("set 30", "short 30", Some("shows"), "a short set has no "),
+        (
+            "order 5",
+            "order 4",
+            None,
+            "expected an id above 4, found 4",
+        ),
+        ("order 5", "cancel 5 #", None, "expected a record of a set"),
+    ];
+    for (from, to, line, told) in cases {
+        let line = line.unwrap_or(from);
+        let before = set.lines().position(|found| found.contains(line));
+        let text = format!("# noon\n\n{}", set.replacen(from, to, 1));
+        let changed = Kept::new("refused", text.as_bytes());
         let error = bad(&["resume", "--text", changed.path(), "-"], b"", 1);
-        let start = format!("venue resume: {}: ", changed.path());
-        assert!(error.starts_with(&start) && error.contains(told), "{error}");
+        let number = before.unwrap() + 3;
+        let start = format!("venue resume: {}: line {number}: ", changed.path());
+        assert!(
+            error.starts_with(&start) && error.contains(told),
+            "{start}\n{error}"
+        );
     }
+    let cut: String = set
+        .lines()
+        .take(9)
+        .map(|line| format!("{line}\n"))
+        .collect();
+    let cut = Kept::new("cut.set", cut.as_bytes());
+    let error = bad(&["resume", "--text", cut.path(), "-"], b"", 1);
+    let told = "line 9: the set is refused with 16: expected status of series 4, found the end";
+    assert!(error.contains(told), "{error}");
     let text = Kept::new("text", set.as_bytes());
     let error = bad(&["resume", text.path(), "-"], b"", 1);
-    assert!(error.ends_with("; text needs --text\n"), "{error}");
+    let told = format!("{}: this looks like text: use --text", text.path());
+    assert!(error.contains(&told), "{error}");
     let torn = Kept::new("torn", &[12, 0, 80]);
     let error = bad(&["resume", torn.path(), "-"], b"", 1);
     let told = "refused with 16: record 1 at byte 0: expected a record's length and kind, found 3";
@@ -1083,7 +1160,10 @@ fn sets_used_wrongly_are_told() {
     let torn = venue(&["set"], &[9, 0, 6]);
     let told = String::from_utf8(torn.stderr).unwrap();
     assert_eq!((torn.status.code(), torn.stdout[4]), (Some(0), 1));
-    assert_eq!(told, "venue set: message 1 is torn, and the last\n");
+    assert_eq!(
+        told,
+        "venue set: standard input: message 1 is torn, and the last\n"
+    );
 }
 
 #[test]
@@ -1095,5 +1175,271 @@ fn message_numbers_that_are_used_up_end_a_session_that_goes_on() {
     assert_eq!(output.status.code(), Some(1));
     assert_eq!(output.stdout, b"64 4294967295 0 0 0\n");
     let told = String::from_utf8(output.stderr).unwrap();
-    assert_eq!(told, "venue resume: the message numbers are used up\n");
+    let expected = "venue resume: standard input: the message numbers are used up\n";
+    assert_eq!(told, expected);
+}
+
+/// The commands that read a session from standard input.
+const READ_A_SESSION: [&[&str]; 6] = [
+    &["sheet"],
+    &["explain"],
+    &["audit", "-"],
+    &["settings", "-", "1"],
+    &["set"],
+    &["decode"],
+];
+
+#[test]
+fn text_is_not_read_as_bytes() {
+    let long = PRINTED_TEXT.repeat(1000);
+    for command in READ_A_SESSION {
+        for text in [PRINTED_TEXT, &long, "\u{feff}sweep\n", "# café\n", "x"] {
+            let errors = bad(command, text.as_bytes(), 1);
+            let expected = format!(
+                "venue {}: standard input: this looks like text: use --text, or --bytes to take \
+                 it as bytes\n",
+                command[0]
+            );
+            assert_eq!(errors, expected);
+        }
+        let insisted = [command, &["--bytes"]].concat();
+        good(&insisted, b"open 0\n");
+    }
+    let sheet = good(&["sheet", "--bytes"], b"open 0\n");
+    assert_eq!(sheet, b"64 1 1 0 0\n");
+    let errors = bad(&["sheet", "--bytes", "--text"], b"", 2);
+    let expected = "venue sheet: only one of --text and --bytes can be asked for\n";
+    assert!(errors.starts_with(expected), "{errors}");
+}
+
+#[test]
+fn text_lines_of_a_feed_and_sets_are_not_read_as_bytes() {
+    let bytes = Kept::new(
+        "feed.bytes",
+        &good(&["encode", "--line"], MAIN_TEXT.as_bytes()),
+    );
+    let errors = bad(&["feed", bytes.path(), "-"], SPARE_TEXT.as_bytes(), 1);
+    let expected = "venue feed: standard input: this looks like text: use --text";
+    assert!(errors.starts_with(expected), "{errors}");
+    let set = Kept::new("bytes.set", &good(&["set"], &[4, 0, 6, 0]));
+    let errors = bad(&["resume", set.path(), "-"], b"sweep\n", 1);
+    let expected = "venue resume: standard input: this looks like text: use --text";
+    assert!(errors.starts_with(expected), "{errors}");
+    for kind in ["--line", "--set"] {
+        let errors = bad(&["decode", kind], b"reached 5\n", 1);
+        assert!(errors.contains("this looks like text"), "{errors}");
+        assert_eq!(good(&["decode", kind, "--bytes"], b"r"), b"raw 72\n");
+    }
+}
+
+#[test]
+fn a_byte_order_mark_goes_before_any_text() {
+    let marked = |text: &str| format!("\u{feff}{text}").into_bytes();
+    let sheet = good(&["sheet", "--text"], &marked(PRINTED_TEXT));
+    assert_eq!(sheet, PRINTED_SHEET.as_bytes());
+    let line = good(&["encode", "--line"], &marked(MAIN_TEXT));
+    assert_eq!(line, good(&["encode", "--line"], MAIN_TEXT.as_bytes()));
+    let set = good(&["set", "--text"], LIMITED.as_bytes());
+    let set = marked(&String::from_utf8(set).unwrap());
+    let set = Kept::new("marked.set", &set);
+    good(&["resume", "--text", set.path(), "-"], &marked("sweep\n"));
+    let printed = Kept::new("marked.sheet", &marked(PRINTED_SHEET));
+    let told = ["audit", "--text", "-", printed.path()];
+    good(&told, &marked(PRINTED_TEXT));
+    let four = venue(&["four"], &marked(FOUR_SCRIPT));
+    assert_eq!(four.status.code(), Some(0));
+    assert_eq!(good(&["short", "-"], &marked("")), b"\n");
+}
+
+#[test]
+fn every_error_of_text_names_its_file_and_line() {
+    let file = Kept::new("named.txt", b"sweep\n\nswep\n");
+    for command in [
+        &["sheet", "--text"][..],
+        &["explain", "--text"],
+        &["audit", "--text"],
+        &["set", "--text"],
+        &["encode"],
+        &["encode", "--line"],
+        &["encode", "--set"],
+        &["four"],
+        &["short"],
+    ] {
+        let line = if command.len() == 2 && command[0] == "encode" || command[0] == "four" {
+            1
+        } else {
+            3
+        };
+        let errors = bad(&[command, &[file.path()]].concat(), b"", 1);
+        let start = format!("venue {}: {}: line {line}: ", command[0], file.path());
+        assert!(errors.starts_with(&start), "{errors}");
+    }
+    let errors = bad(&["settings", "--text", file.path(), "1"], b"", 1);
+    let start = format!("venue settings: {}: line 3: ", file.path());
+    assert!(errors.starts_with(&start), "{errors}");
+    let errors = bad(&["print", file.path()], b"", 1);
+    let start = format!("venue print: {}: byte 0: ", file.path());
+    assert!(errors.starts_with(&start), "{errors}");
+    let session = Kept::new("named.session", b"sweep\n");
+    let errors = bad(&["audit", "--text", session.path(), file.path()], b"", 1);
+    let start = format!("venue audit: {}: line 1: ", file.path());
+    assert!(errors.starts_with(&start), "{errors}");
+}
+
+#[test]
+fn help_and_version_are_told_by_every_command() {
+    let version = format!("venue {}\n", env!("CARGO_PKG_VERSION"));
+    assert_eq!(good(&["--version"], b""), version.as_bytes());
+    let overview = good(&["help"], b"");
+    assert_eq!(good(&["--help"], b""), overview);
+    assert_eq!(good(&["-h"], b""), overview);
+    let overview = String::from_utf8(overview).unwrap();
+    let lines = overview
+        .lines()
+        .filter_map(|line| line.strip_prefix("  venue "));
+    let names: Vec<&str> = lines.filter_map(|line| line.split(' ').next()).collect();
+    assert!(names.len() > 15, "{names:?}");
+    for name in names {
+        if name == "help" || name.starts_with('-') {
+            continue;
+        }
+        let more = good(&["help", name], b"");
+        assert!(
+            more.starts_with(format!("venue {name} ").as_bytes()),
+            "{name}"
+        );
+        assert_eq!(good(&[name, "-h"], b""), more);
+        assert_eq!(good(&[name, "x", "--help", "--nothing"], b""), more);
+        assert_eq!(good(&[name, "--version"], b""), version.as_bytes());
+        let errors = bad(&[name, "--nothing"], b"", 2);
+        let expected =
+            format!("venue {name}: option --nothing is not known here\ntry: venue help {name}\n");
+        assert_eq!(errors, expected);
+        let errors = bad(&[name, "-x"], b"", 2);
+        assert!(errors.contains("option -x is not known here"), "{errors}");
+        let errors = bad(&[name, "--", "-h", "-h", "-h"], b"", 2);
+        assert!(
+            errors.contains("argument \"-h\" is one too many"),
+            "{errors}"
+        );
+    }
+    let text = good(&["help", "text"], b"");
+    assert!(text.starts_with(b"The text form"));
+    let errors = bad(&["help", "shet"], b"", 2);
+    assert_eq!(
+        errors,
+        "venue: command \"shet\" is not known\ntry: venue help\n"
+    );
+    let errors = bad(&["help", "sheet", "x"], b"", 2);
+    assert!(
+        errors.contains("argument \"x\" is one too many"),
+        "{errors}"
+    );
+}
+
+#[test]
+fn values_may_follow_an_equals_sign() {
+    let apart = good(
+        &[
+            "generate",
+            "--profile",
+            "hits",
+            "--seed",
+            "9",
+            "--messages",
+            "20",
+        ],
+        b"",
+    );
+    let joined = good(
+        &["generate", "--profile=hits", "--seed=9", "--messages=20"],
+        b"",
+    );
+    assert_eq!(apart, joined);
+    let errors = bad(&["sheet", "--text=yes"], b"", 2);
+    assert!(errors.contains("option --text takes no value"), "{errors}");
+    let errors = bad(&["set", "--after="], b"", 2);
+    assert!(
+        errors.contains("expected a number after --after, found \"\""),
+        "{errors}"
+    );
+}
+
+#[test]
+fn what_follows_two_dashes_is_a_file() {
+    let folder = std::env::temp_dir().join(format!("venue-dashes-{}", std::process::id()));
+    std::fs::create_dir_all(&folder).unwrap();
+    std::fs::write(folder.join("--text"), PRINTED_TEXT).unwrap();
+    let output = Command::new(env!("CARGO_BIN_EXE_venue"))
+        .args(["sheet", "--text", "--", "--text"])
+        .current_dir(&folder)
+        .output()
+        .unwrap();
+    std::fs::remove_dir_all(&folder).unwrap();
+    assert_eq!(output.stdout, PRINTED_SHEET.as_bytes());
+}
+
+#[test]
+fn a_file_name_that_is_no_text_is_opened_and_told() {
+    use std::ffi::OsStr;
+    use std::os::unix::ffi::OsStrExt;
+    let folder = std::env::temp_dir().join(format!("venue-name-{}", std::process::id()));
+    std::fs::create_dir_all(&folder).unwrap();
+    let name = folder.join(OsStr::from_bytes(b"a\xffb"));
+    std::fs::write(&name, PRINTED_TEXT).unwrap();
+    let run = |command: &str, file: &OsStr| {
+        Command::new(env!("CARGO_BIN_EXE_venue"))
+            .args([command, "--text"])
+            .arg(file)
+            .output()
+            .unwrap()
+    };
+    let sheet = run("sheet", name.as_os_str());
+    assert_eq!(sheet.stdout, PRINTED_SHEET.as_bytes());
+    std::fs::write(&name, "swep\n").unwrap();
+    for command in ["sheet", "explain", "set", "audit"] {
+        let output = run(command, name.as_os_str());
+        let told = String::from_utf8(output.stderr).unwrap();
+        assert_eq!(output.status.code(), Some(1));
+        assert!(
+            told.contains("a\u{fffd}b: line 1: expected a message"),
+            "{told}"
+        );
+    }
+    std::fs::remove_dir_all(&folder).unwrap();
+    let output = run("sheet", OsStr::from_bytes(b"--\xff"));
+    let told = String::from_utf8(output.stderr).unwrap();
+    assert_eq!(output.status.code(), Some(2));
+    assert!(
+        told.contains("option --\u{fffd} is not known here"),
+        "{told}"
+    );
+}
+
+#[test]
+fn output_that_is_not_written_is_told() {
+    let full = std::fs::OpenOptions::new().write(true).open("/dev/full");
+    let output = Command::new(env!("CARGO_BIN_EXE_venue"))
+        .arg("help")
+        .stdout(full.unwrap())
+        .output()
+        .unwrap();
+    let told = String::from_utf8(output.stderr).unwrap();
+    assert_eq!(output.status.code(), Some(1));
+    assert!(
+        told.starts_with("venue: the output was not written: "),
+        "{told}"
+    );
+}
+
+#[test]
+fn one_is_told_as_one() {
+    let errors = bad(&["set", "--after", "2"], &[4, 0, 6, 0], 1);
+    assert!(
+        errors.contains("the session has 1 message, not 2"),
+        "{errors}"
+    );
+    let beyond = venue(&["settings", "-", "5"], &[4, 0, 6, 0]);
+    let told = String::from_utf8(beyond.stderr).unwrap();
+    assert!(told.contains("the session has 1 message; told"), "{told}");
 }
