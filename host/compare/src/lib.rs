@@ -11,5 +11,6 @@ pub mod calls;
 pub mod check;
 pub mod engine;
 pub mod layers;
+pub mod own;
 pub mod session;
 pub mod sets;

@@ -5,8 +5,15 @@
 use compare::calls::{Comparer, Counts};
 use compare::check::Fault;
 use compare::engine::Archive;
+use compare::own::compare_own;
 use compare::session::compare_session;
+use sessions::counted::counted;
 use sessions::profile::Profile;
+use sessions::stream::{Bytes, Form, Messages};
+use std::ffi::OsString;
+use std::fs::File;
+use std::io::Read;
+use std::path::PathBuf;
 use std::process::ExitCode;
 use std::time::{Duration, Instant};
 
@@ -17,6 +24,7 @@ compare: the engine against the reference, byte for byte
   compare soak [--minutes M | --messages N] [--seed S]
                                                   sessions from seed S (default 0) on
   compare session --profile P --seed S            one session again
+  compare session [--text] FILE                   a session of your own
 
 Each session of the generator is run whole, with report memory that ends near each
 message's records and of every short length, cut off, with changed and with random
@@ -39,6 +47,12 @@ Compared are the number, every byte of the report, settings or set memory (lent 
 junk), of the venue, the layer and the lines, and the bytes around them.
 The first difference ends it with exit status 1, and names what repeats it. A soak tries
 report memory that ends near one in ten messages' records; the others try all of them.
+
+A session of your own is message bytes, or text with --text; bytes that look like text are
+an error, and --bytes takes them as bytes. It is taken message by message, each upon the
+venue that the last one left, and whole by a run with report memory that just fits and with
+more; and both sheets are compared line by line. - is standard input, and what follows --
+is a file's name. `venue compare` starts this.
 ";
 
 /// When to stop.
@@ -61,25 +75,35 @@ struct Request {
 /// Seeds of each profile in the gate.
 const GATE_SEEDS: u64 = 10;
 
+/// A session of the user's own.
+struct Own {
+    form: Form,
+    file: PathBuf,
+    fault: Option<Fault>,
+}
+
 fn main() -> ExitCode {
-    let arguments: Vec<String> = std::env::args().skip(1).collect();
+    let arguments: Vec<OsString> = std::env::args_os().skip(1).collect();
+    let is_help = |word: &OsString| word == "help" || word == "--help" || word == "-h";
     if arguments
         .iter()
-        .any(|word| word == "help" || word == "--help")
+        .take_while(|word| *word != "--")
+        .any(is_help)
     {
         print!("{HELP}");
         return ExitCode::SUCCESS;
     }
-    let request = match parse(&arguments) {
-        Ok(request) => request,
-        Err(what) => {
-            eprintln!("compare: {what}\ntry: compare help");
-            return ExitCode::from(2);
-        }
+    let compared = match parse_own(&arguments) {
+        Ok(Some(own)) => compare_file(&own),
+        Ok(None) => match parse(&arguments) {
+            Ok(request) => compare_all(&request).map(|counts| told(&counts)),
+            Err(what) => return wrong(&what),
+        },
+        Err(what) => return wrong(&what),
     };
-    match compare_all(&request) {
-        Ok(counts) => {
-            print!("{}", told(&counts));
+    match compared {
+        Ok(told) => {
+            print!("{told}");
             ExitCode::SUCCESS
         }
         Err(difference) => {
@@ -89,7 +113,76 @@ fn main() -> ExitCode {
     }
 }
 
-fn parse(arguments: &[String]) -> Result<Request, String> {
+/// A wrong command line.
+fn wrong(what: &str) -> ExitCode {
+    eprintln!("compare: {what}\ntry: compare help");
+    ExitCode::from(2)
+}
+
+/// A session in a file, where one is asked for.
+fn parse_own(arguments: &[OsString]) -> Result<Option<Own>, String> {
+    let drawn = |word: &&OsString| *word == "--profile" || *word == "--seed";
+    let words = arguments.iter().skip(1);
+    let is_drawn = words.clone().any(|word| drawn(&word));
+    if arguments.first().is_none_or(|word| word != "session") || is_drawn {
+        return Ok(None);
+    }
+    let mut form = Form::Bytes;
+    let mut fault = None;
+    let mut files: Vec<&OsString> = Vec::new();
+    let mut rest = words;
+    while let Some(word) = rest.next() {
+        match word.to_str() {
+            Some("--text") => form = Form::Text,
+            Some("--bytes") => form = Form::AnyBytes,
+            Some("--fault") => fault = Some(parse_fault(rest.next())?),
+            Some("--") => files.extend(rest.by_ref()),
+            Some(option) if option.starts_with("--") => {
+                return Err(format!("option {option} is not known here"));
+            }
+            _ => files.push(word),
+        }
+    }
+    match files[..] {
+        [file] => Ok(Some(Own {
+            form,
+            file: file.into(),
+            fault,
+        })),
+        [_, extra, ..] => Err(format!("argument {extra:?} is one too many")),
+        [] => Err("expected --profile P and --seed S, or FILE".to_string()),
+    }
+}
+
+fn parse_fault(name: Option<&OsString>) -> Result<Fault, String> {
+    let found = name.and_then(|name| name.to_str()).unwrap_or("");
+    Fault::from_name(found)
+        .ok_or_else(|| format!("expected CHECK:PART after --fault, found {found:?}"))
+}
+
+/// Compares a session in a file.
+fn compare_file(own: &Own) -> Result<String, String> {
+    let is_standard = own.file.as_os_str() == "-";
+    let name = match is_standard {
+        true => "standard input".to_string(),
+        false => own.file.display().to_string(),
+    };
+    let named = |what: String| format!("{name}: {what}");
+    let input: Box<dyn Read> = match is_standard {
+        true => Box::new(std::io::stdin()),
+        false => Box::new(File::open(&own.file).map_err(|error| named(error.to_string()))?),
+    };
+    let list = Messages::new(Bytes::new(input, own.form)).rest();
+    let list = list.map_err(named)?;
+    let mut comparer = Comparer::new(&Archive, own.fault);
+    let compared = compare_own(&mut comparer, &list).map_err(named)?;
+    let messages = counted(compared.messages as u64, "message");
+    let records = counted(compared.records as u64, "record");
+    let ways = "by a run, by one-message calls and on the sheet";
+    Ok(format!("no difference: {messages}, {records}, {ways}\n"))
+}
+
+fn parse(arguments: &[OsString]) -> Result<Request, String> {
     let mut request = Request {
         profiles: Profile::ALL.to_vec(),
         seed: 0,
@@ -97,6 +190,10 @@ fn parse(arguments: &[String]) -> Result<Request, String> {
         one_in: 1,
         fault: None,
     };
+    let arguments: Vec<String> = arguments
+        .iter()
+        .map(|word| word.to_string_lossy().into_owned())
+        .collect();
     let Some((command, rest)) = arguments.split_first() else {
         return Err("expected a command".to_string());
     };
@@ -146,10 +243,7 @@ impl Request {
                 self.profiles = vec![profile.ok_or(what)?];
             }
             // Spoils a part of the answers of a check, to see that it is found.
-            _ => {
-                let what = format!("expected CHECK:PART after {option}, found {value:?}");
-                self.fault = Some(Fault::from_name(value).ok_or(what)?);
-            }
+            _ => self.fault = Some(parse_fault(Some(&value.into()))?),
         }
         Ok(())
     }

@@ -1,0 +1,88 @@
+//! A session of the user's own: each message by a call, all of it by a run, and the sheets.
+
+use crate::calls::Comparer;
+use crate::check::Check;
+use sessions::asked::ENOUGH;
+use sessions::held::VENUE_BYTES;
+use sessions::message::split;
+use sessions::record::read_report;
+use sessions::sheet::Running;
+
+/// Report memory beyond what just fits.
+const MORE: [usize; 3] = [1, 2, 500];
+
+/// What was compared.
+#[derive(Debug, PartialEq, Eq)]
+pub struct Compared {
+    pub messages: usize,
+    pub records: usize,
+}
+
+/// Compares the engine with the reference on a list of messages. An error tells the first
+/// difference.
+pub fn compare_own(comparer: &mut Comparer, list: &[u8]) -> Result<Compared, String> {
+    let report = calls(comparer, list)?;
+    run(comparer, list, &report)?;
+    sheet(list, &report)
+}
+
+/// The messages one by one, the first upon a fresh venue and each other upon the venue that
+/// the last one left. Tells the engine's records.
+fn calls(comparer: &mut Comparer, list: &[u8]) -> Result<Vec<u8>, String> {
+    let told = |check: Check, what: String| format!("{}: {what}", check.words());
+    let fresh = comparer.fresh(Check::Fresh, VENUE_BYTES);
+    let mut venue = fresh.map_err(|what| told(Check::Fresh, what))?;
+    let mut report = Vec::new();
+    for (message, before) in split(list).into_iter().zip(0..) {
+        let called = comparer.call(Check::Call, &venue, before, message, ENOUGH as usize);
+        let left = called.map_err(|what| told(Check::Call, what))?;
+        let replayed = comparer.replay(&venue, before, message);
+        replayed.map_err(|what| told(Check::Replay, what))?;
+        report.extend_from_slice(&comparer.report.memory()[..left.written]);
+        venue = left.venue;
+    }
+    Ok(report)
+}
+
+/// The run of all messages, with report memory that just fits and with more; its records are
+/// those of the calls.
+fn run(comparer: &mut Comparer, list: &[u8], report: &[u8]) -> Result<(), String> {
+    let told = |what: String| format!("{}: {what}", Check::RunWhole.words());
+    for more in MORE.into_iter().chain([0]) {
+        let compared = comparer.run(Check::RunWhole, list, report.len() + more);
+        compared.map_err(told)?;
+    }
+    match comparer.report.memory() == report {
+        true => Ok(()),
+        false => Err("the records of the run are not those of its calls".to_string()),
+    }
+}
+
+/// The engine's sheet, line by line beside the reference's.
+fn sheet(list: &[u8], report: &[u8]) -> Result<Compared, String> {
+    let records = read_report(report)?;
+    let mut lines = records.iter();
+    let mut running = Running::fresh();
+    let mut number = 0;
+    let pieces = split(list);
+    for message in &pieces {
+        let wanted = running.take(message)?.unwrap_or_default();
+        for wanted in wanted {
+            number += 1;
+            let found = lines.next().map(|record| record.to_string());
+            let found = found.unwrap_or("no line".to_string());
+            if found != wanted.to_string() {
+                return Err(format!(
+                    "the sheet, line {number}: \"{found}\", expected \"{wanted}\""
+                ));
+            }
+        }
+    }
+    match lines.next() {
+        Some(record) => Err(format!("the sheet, line {}: \"{record}\"", number + 1)),
+        None => Ok(Compared {
+            messages: pieces.len(),
+            records: records.len(),
+        }),
+    }
+}
