@@ -620,10 +620,13 @@ impl Generator {
 
 /// The message with the next id where its own is a jump that leaves too few.
 fn leaving_ids(mut message: Message, last: u32) -> Message {
-    if let Message::Order { id, .. } | Message::Complex { id, .. } = &mut message {
-        if *id > HIGHEST_JUMP.max(last.saturating_add(MOST_STEP)) {
-            *id = last.saturating_add(1);
-        }
+    let id = match &mut message {
+        Message::Order(order) => &mut order.id,
+        Message::Complex(complex) => &mut complex.id,
+        _ => return message,
+    };
+    if *id > HIGHEST_JUMP.max(last.saturating_add(MOST_STEP)) {
+        *id = last.saturating_add(1);
     }
     message
 }

@@ -53,9 +53,8 @@ echo end >>turns
 /// Writes the program of a package: venue is the tool itself.
 const CARGO: &str = r#"#!/bin/sh
 for package in "$@"; do :; done
-echo "$package" >>"$CARGO_TARGET_DIR/../../builds"
-[ ! -e "$CARGO_TARGET_DIR/../../spoiled" ] || { echo 'error: spoiled' >&2; exit 101; }
 mkdir -p "$CARGO_TARGET_DIR/release"
+[ ! -e "$CARGO_TARGET_DIR/../../spoiled" ] || { echo 'error: spoiled' >&2; exit 101; }
 case $package in
 venue) cp "$VENUE" "$CARGO_TARGET_DIR/release/venue" ;;
 *) printf '#!/bin/sh\necho "%s $*"\n' "$package" >"$CARGO_TARGET_DIR/release/$package" ;;
