@@ -1,4 +1,5 @@
-# Sourced by the scripts of bin/ and by .ci/run: what they say, and how they prove and build. A script of bin/ sets `me` to its name first.
+# Sourced by the scripts of bin/ and by .ci/run: what they say, and how they prove and build. A script of bin/ sets
+# `me` to its name first.
 
 # How many minutes the crates of a program take from nothing, on two cores.
 MINUTES=7
@@ -21,14 +22,20 @@ fail() {
 
 has() { command -v "$1" >/dev/null 2>&1; }
 
-# Sets rt_room to a folder in memory for the temporary files of rt, into which each check copies the libraries that it uses: to nothing where memory
-# has no room for them or programs may not run there. Sets RT_JOBS to four checks at a time, so that on two cores none waits for the slower of a pair,
-# and to fewer where there is not memory for four: each takes up to 2.7 GB.
+# Sets rt_room to a folder in memory for the temporary files of rt, into which each check copies the libraries that it
+# uses: to nothing where memory has no room for them or programs may not run there. Sets RT_JOBS to four checks at a
+# time, so that on two cores none waits for the slower of a pair, and to fewer where there is not memory for four: each
+# takes up to 2.7 GB.
 memory_room() {
     rt_room=
     if [ "$(df -Pk /dev/shm 2>/dev/null | awk 'NR == 2 { print $4 }')" -gt 8000000 ] 2>/dev/null; then
         rt_room=$(mktemp -d -p /dev/shm)
-        if cp /bin/true "$rt_room/true" && "$rt_room/true" 2>/dev/null; then chmod 755 "$rt_room"; else rm -rf "$rt_room"; rt_room=; fi
+        if cp /bin/true "$rt_room/true" && "$rt_room/true" 2>/dev/null; then
+            chmod 755 "$rt_room"
+        else
+            rm -rf "$rt_room"
+            rt_room=
+        fi
     fi
     local fit
     fit=$(awk '/^MemTotal:/ { n = int($2 / 2800000); print n < 1 ? 1 : n > 4 ? 4 : n }' /proc/meminfo 2>/dev/null)
@@ -39,7 +46,11 @@ memory_room() {
 needed() {
     awk -v todo="$*" '
         { sub(/#.*/, "") }
-        at = index($0, ":") { name = substr($0, 1, at - 1); gsub(/[ \t]/, "", name); deps[name] = substr($0, at + 1) }
+        at = index($0, ":") {
+            name = substr($0, 1, at - 1)
+            gsub(/[ \t]/, "", name)
+            deps[name] = substr($0, at + 1)
+        }
         END {
             while ((count = split(todo, names, " ")) > 0) {
                 todo = ""
@@ -53,8 +64,8 @@ needed() {
         }' "$top/crates.txt"
 }
 
-# follow WHOLE FIRST: reads what rt says into $log, and tells of each crate that it is proved, and how many are of WHOLE: on a terminal in one line. Those
-# that were proved before are told where FIRST is yes.
+# follow WHOLE FIRST: reads what rt says into $log, and tells of each crate that it is proved, and how many are of WHOLE:
+# on a terminal in one line. Those that were proved before are told where FIRST is yes.
 follow() {
     local line name count=0
     while IFS= read -r line; do
@@ -88,7 +99,8 @@ prove() {
     whole=$(needed "$@" | wc -l)
     memory_room
     trap 'rm -rf "$room" ${rt_room:+"$rt_room"}' EXIT
-    (cd "$top" && ${rt_room:+env TMPDIR="$rt_room"} rt check "$@" 2>&1) | follow "$whole" "$first" && status=0 || status=$?
+    (cd "$top" && ${rt_room:+env TMPDIR="$rt_room"} rt check "$@" 2>&1) | follow "$whole" "$first" &&
+        status=0 || status=$?
     [ -z "$rt_room" ] || rm -rf "$rt_room"
     exec 9>&-
     [ "$status" -eq 0 ] || refused "$status"
@@ -117,6 +129,6 @@ build() {
     if [ -x "$program" ] && { ! has cargo || [ ! -w "$folder" ]; }; then return; fi
     has cargo || fail 'cargo, which Rust has, is not in PATH: README.md tells what is needed'
     [ -x "$program" ] || say "building host/target/release/$1, this once"
-    CARGO_TARGET_DIR=$folder cargo build --release --offline --quiet --manifest-path "$top/host/Cargo.toml" -p "$1" >&2 ||
-        fail "host/target/release/$1 was not built"
+    local words=(--release --offline --quiet --manifest-path "$top/host/Cargo.toml" -p "$1")
+    CARGO_TARGET_DIR=$folder cargo build "${words[@]}" >&2 || fail "host/target/release/$1 was not built"
 }

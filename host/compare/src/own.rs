@@ -86,3 +86,58 @@ fn sheet(list: &[u8], report: &[u8]) -> Result<Compared, String> {
         }),
     }
 }
+
+#[cfg(test)]
+mod tests {
+    use super::*;
+    use crate::engine::Reference;
+    use sessions::sheet::run_whole;
+    use sessions::text::encode_session;
+
+    fn printed() -> Vec<u8> {
+        let text = include_str!("../../venue/tests/sessions/printed.txt");
+        encode_session(text).expect("good text")
+    }
+
+    #[test]
+    fn the_reference_does_not_differ_from_itself() {
+        let mut comparer = Comparer::new(&Reference, None);
+        let compared = compare_own(&mut comparer, &printed());
+        let expected = Compared {
+            messages: 6,
+            records: 13,
+        };
+        assert_eq!(compared, Ok(expected));
+    }
+
+    #[test]
+    fn another_sheet_is_told_with_its_line() {
+        let list = printed();
+        let (_, report) = run_whole(&list);
+        let mut other = report.clone();
+        other[12 * 4 + 4] = 9;
+        let told = sheet(&list, &other).expect_err("the fifth answer is another's");
+        assert_eq!(
+            told,
+            "the sheet, line 5: \"64 9 0 5 2\", expected \"64 5 0 5 2\""
+        );
+        let cut = sheet(&list, &report[..12]).expect_err("one answer alone");
+        assert_eq!(
+            cut,
+            "the sheet, line 2: \"no line\", expected \"64 2 0 0 0\""
+        );
+        let more = [&report[..], &report[..12]].concat();
+        let told = sheet(&list, &more).expect_err("an answer too many");
+        assert_eq!(told, "the sheet, line 14: \"64 1 0 0 0\"");
+    }
+
+    #[test]
+    fn a_run_of_other_records_than_the_calls_is_told() {
+        let list = printed();
+        let (_, mut report) = run_whole(&list);
+        report[4] = 9;
+        let told = run(&mut Comparer::new(&Reference, None), &list, &report);
+        let expected = "the records of the run are not those of its calls";
+        assert_eq!(told, Err(expected.to_string()));
+    }
+}

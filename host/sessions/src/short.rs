@@ -1,10 +1,9 @@
 //! Every session of at most three messages from a list: shorter first, then by the
 //! messages' places in the list.
 
-use crate::message::Message;
 use crate::record::{print_sheet, read_report};
 use crate::sheet::run_whole;
-use crate::text::parse_session;
+use crate::text::encode_text_line;
 
 /// The most messages of a list.
 pub const MOST_MESSAGES: usize = 12;
@@ -15,24 +14,25 @@ pub const MOST_LENGTH: usize = 3;
 /// The fixed list, which the proved program, crates/short_sheets, has.
 pub const FIXED: &str = include_str!("short.txt");
 
-/// The messages of a list's text, each in bytes. An error names the line, or what is
-/// wrong with the list.
+/// The messages of a list's text, each in bytes. An error names the line.
 pub fn parse_list(text: &str) -> Result<Vec<Vec<u8>>, String> {
-    let messages = parse_session(text).map_err(|error| error.to_string())?;
-    if messages.len() > MOST_MESSAGES {
-        let count = messages.len();
-        return Err(format!(
-            "expected at most {MOST_MESSAGES} messages, found {count}"
-        ));
+    let mut pieces = Vec::new();
+    for (line, number) in text.lines().zip(1..) {
+        let piece = encode_text_line(line, number).map_err(|error| error.to_string())?;
+        if piece.is_empty() {
+            continue;
+        }
+        if pieces.len() == MOST_MESSAGES {
+            let what = format!("expected at most {MOST_MESSAGES} messages");
+            return Err(format!("line {number}: {what}, found another"));
+        }
+        if !is_whole(&piece) {
+            let what = "its length field does not tell its bytes";
+            return Err(format!("line {number}: {what}"));
+        }
+        pieces.push(piece);
     }
-    let pieces: Vec<Vec<u8>> = messages.iter().map(Message::encode).collect();
-    match pieces.iter().position(|piece| !is_whole(piece)) {
-        Some(place) => Err(format!(
-            "message {}: its length field does not tell its bytes",
-            place + 1
-        )),
-        None => Ok(pieces),
-    }
+    Ok(pieces)
 }
 
 /// Whether bytes are one message, so that what comes after them is the next one.
@@ -140,11 +140,11 @@ mod tests {
         let thirteen = "sweep\n".repeat(13);
         assert_eq!(
             parse_list(&thirteen).unwrap_err(),
-            "expected at most 12 messages, found 13"
+            "line 13: expected at most 12 messages, found another"
         );
         assert_eq!(
             parse_list("sweep\nraw 05 00 06 00\n").unwrap_err(),
-            "message 2: its length field does not tell its bytes"
+            "line 2: its length field does not tell its bytes"
         );
         assert!(parse_list("sweep\nswep\n")
             .unwrap_err()

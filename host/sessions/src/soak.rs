@@ -5,6 +5,7 @@ use crate::broken::{broken_generations, broken_orders, broken_ratios, broken_row
 use crate::broken::{with_editions, with_generations, with_ratios, with_reserve};
 use crate::check::{Checker, Step};
 use crate::corrupt::corrupt;
+use crate::counted::counted;
 use crate::coverage::{Coverage, Rare};
 use crate::feed_check::check_feeds;
 use crate::generator::Generator;
@@ -35,11 +36,9 @@ pub struct Failure {
 impl Display for Failure {
     fn fmt(&self, f: &mut fmt::Formatter) -> fmt::Result {
         let name = self.profile.name();
-        write!(
-            f,
-            "profile {name} seed {} after {} messages: {}",
-            self.seed, self.after, self.what
-        )
+        let after = counted(self.after as u64, "message");
+        let (seed, what) = (self.seed, &self.what);
+        write!(f, "profile {name} seed {seed} after {after}: {what}")
     }
 }
 
@@ -469,5 +468,41 @@ impl<'a> Session<'a> {
             return Err("short run left another venue".to_string());
         }
         Ok(())
+    }
+}
+
+#[cfg(test)]
+mod tests {
+    use super::*;
+    use crate::sheet::Running;
+
+    /// How many orders of the last messages of a session are accepted.
+    fn accepted_at_last(profile: Profile, seed: u64, messages: u64, last: u64) -> usize {
+        let mut running = Running::fresh();
+        let mut accepted = 0;
+        for (message, number) in Drawn::new(profile, seed, messages).zip(1..) {
+            let is_order = matches!(message.get(2), Some(1 | 2 | 9 | 10));
+            let records = running.take(&message).unwrap().unwrap();
+            let done = matches!(&records[0], Record::Answer(answer) if answer.refusal == 0);
+            accepted += usize::from(is_order && done && number > messages - last);
+        }
+        accepted
+    }
+
+    #[test]
+    fn ids_last_for_long_sessions() {
+        for profile in [Profile::Mixed, Profile::Refusals, Profile::Hits] {
+            let accepted = accepted_at_last(profile, 3, 40_000, 1_000);
+            assert!(accepted > 100, "{}: {accepted}", profile.name());
+        }
+    }
+
+    #[test]
+    fn a_long_session_begins_as_a_short_one_does() {
+        for profile in Profile::ALL {
+            let short = generate(profile, 5, 300);
+            let long: Vec<Vec<u8>> = Drawn::new(profile, 5, MOST_MESSAGES).take(300).collect();
+            assert!(short == long, "{}", profile.name());
+        }
     }
 }

@@ -10,6 +10,9 @@ use std::fs::File;
 use std::io::Read;
 use std::path::Path;
 
+/// The most bytes of a file that is not read bit by bit.
+const MOST_WHOLE: u64 = 1 << 29;
+
 /// A file, or standard input, named `-`.
 #[derive(Clone, Copy)]
 pub struct Input<'a> {
@@ -54,12 +57,16 @@ impl<'a> Input<'a> {
         }
     }
 
-    /// All of its bytes.
+    /// All of its bytes, which are held in memory.
     pub fn whole(self) -> Result<Vec<u8>, Failure> {
         let mut bytes = Vec::new();
-        let read = self.open()?.read_to_end(&mut bytes);
+        let mut reader = self.open()?.take(MOST_WHOLE + 1);
+        let read = reader.read_to_end(&mut bytes);
         read.map_err(|error| self.fault(error))?;
-        Ok(bytes)
+        match bytes.len() as u64 > MOST_WHOLE {
+            true => Err(self.fault(format!("it has more than {MOST_WHOLE} bytes"))),
+            false => Ok(bytes),
+        }
     }
 
     /// All of its text, which must be UTF-8: the line of the first other byte is named.

@@ -2,7 +2,8 @@
 //! when they prove and build, and what they refuse before that.
 
 use std::fs;
-use std::os::unix::fs::{symlink, PermissionsExt};
+use std::io::Write;
+use std::os::unix::fs::symlink;
 use std::path::{Path, PathBuf};
 use std::process::{Command, Output, Stdio};
 
@@ -78,11 +79,10 @@ impl Tree {
         for folder in ["bin", "tools", "host", "crates", "elsewhere"] {
             fs::create_dir_all(root.join(folder)).unwrap();
         }
-        let bin = Path::new(env!("CARGO_MANIFEST_DIR")).join("../../bin");
-        for entry in fs::read_dir(bin).unwrap() {
-            let entry = entry.unwrap();
-            fs::copy(entry.path(), root.join("bin").join(entry.file_name())).unwrap();
-        }
+        let bin = Path::new(env!("CARGO_MANIFEST_DIR")).join("../../bin/.");
+        let mut copy = Command::new("cp");
+        let copied = copy.arg("-R").arg(bin).arg(root.join("bin")).status();
+        assert!(copied.unwrap().success());
         fs::write(root.join("crates.txt"), CRATES).unwrap();
         let path = std::env::var_os("PATH").unwrap();
         for tool in TOOLS {
@@ -97,10 +97,18 @@ impl Tree {
         tree
     }
 
+    /// Writes a program, by a program of its own: a file that this one has open for writing
+    /// cannot be started by another test.
     fn stand_in(&self, name: &str, script: &str) {
-        let file = self.0.join("tools").join(name);
-        fs::write(&file, script).unwrap();
-        fs::set_permissions(&file, fs::Permissions::from_mode(0o755)).unwrap();
+        let mut child = Command::new("sh")
+            .args(["-c", "cat >\"$0\" && chmod +x \"$0\""])
+            .arg(self.0.join("tools").join(name))
+            .stdin(Stdio::piped())
+            .spawn()
+            .unwrap();
+        let written = child.stdin.take().unwrap().write_all(script.as_bytes());
+        written.unwrap();
+        assert!(child.wait().unwrap().success());
     }
 
     fn path(&self, name: &str) -> PathBuf {
@@ -432,4 +440,28 @@ fn a_comparison_proves_and_builds_what_it_needs() {
     tree.write("crates/younger", b"");
     tree.run("bin/venue", &["compare", "x"]);
     assert_eq!(tree.read("calls").lines().count(), 6);
+}
+
+#[test]
+fn a_comparison_without_its_program_tells_how_it_is_built() {
+    let tree = Tree::new("beside");
+    tree.run("bin/venue", &["--version"]);
+    let tool = "host/target/release/venue";
+    let (status, printed, said) = tree.run(tool, &["compare", "session"]);
+    let beside = tree.path("host/target/release/compare");
+    let beside = beside.parent().unwrap().canonicalize().unwrap();
+    let start = format!(
+        "venue compare: the program is not there: {}/compare\nbuild it",
+        beside.display()
+    );
+    assert!(said.starts_with(&start), "{said}");
+    assert!(said.contains("\n  rt staticlib c_api &&"), "{said}");
+    assert_eq!((status, printed.as_str()), (1, ""));
+    let (status, _, said) = tree.run(tool, &["compare"]);
+    assert!(said.starts_with("venue compare: expected a session to compare\n"));
+    assert_eq!(status, 2);
+    tree.run("bin/venue", &["compare", "x"]);
+    let (status, printed, _) = tree.run(tool, &["compare", "--bytes", "--", "--text"]);
+    let expected = "compare session --bytes -- --text\n";
+    assert_eq!((status, printed.as_str()), (0, expected));
 }

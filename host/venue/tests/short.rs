@@ -76,12 +76,12 @@ fn bad_lists_are_told_and_nothing_is_printed() {
         (
             "many",
             thirteen.as_str(),
-            "expected at most 12 messages, found 13",
+            "line 13: expected at most 12 messages, found another",
         ),
         (
             "torn",
             "sweep\nraw 05 00 06 00\n",
-            "message 2: its length field does not tell its bytes",
+            "line 2: its length field does not tell its bytes",
         ),
         ("word", "sweep\nswep\n", "line 2: expected"),
     ];
