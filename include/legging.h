@@ -1,14 +1,16 @@
 /*
  * The legging order engine, for hosts in C and C++.
  *
- * Link with the archive that `rt staticlib c_api` writes, and for the calls of four
- * venues behind one line with the one that `rt staticlib dispatch` writes:
+ * `bin/install PREFIX` installs this header and two archives: liblegging.a, and for the
+ * calls of four venues behind one line liblegging_layer.a. A host links them so:
  *
- *     cc -Iinclude host.c target/staticlib/libc_api.a
- *     cc -Iinclude four.c target/staticlib/libdispatch.a
+ *     cc host.c $(pkg-config --cflags --libs legging)
+ *     cc four.c $(pkg-config --cflags --libs legging_layer)
  *
- * Both are for x86-64 Linux, and may be linked together. They call memcpy, memmove and
- * memset of the C library and nothing else.
+ * Without an installation a host links the archives that `rt staticlib c_api` and
+ * `rt staticlib dispatch` write to target/staticlib. Both archives are for x86-64 Linux,
+ * and may be linked together. They call memcpy, memmove and memset of the C library and
+ * nothing else.
  *
  * MEMORY
  *   All memory is the host's. A call keeps no pointer after it returns, allocates
@@ -16,9 +18,11 @@
  *   legging_read_set and a call upon four venues need less than 48 KiB.
  *   - `messages` (or `message`) and the lines `main` and `spare` are only read. Bytes
  *     past their lengths are not.
- *   - `venue` is read and written; legging_fresh and legging_read_set only write it,
- *     legging_settings and legging_write_set only read it. Unless the message was
- *     accepted, it holds after the call what it held before.
+ *   - `venue` is read and written by legging_message: unless the message was accepted,
+ *     it holds after the call what it held before. legging_settings and
+ *     legging_write_set only read it. legging_fresh and legging_read_set only write it,
+ *     and what it held before is lost: a legging_read_set that refuses its set writes a
+ *     fresh venue. Both leave it as it was where `venue_length` is wrong.
  *   - `layer` is read and written; legging_layer_fresh only writes it.
  *   - `report` is written from its first byte to its last, whatever the call
  *     ends with: the records done, then zeros. What it held before is not read.
@@ -29,13 +33,29 @@
  *     bytes as its length says, no more than PTRDIFF_MAX of them, at any alignment.
  *   - Memory that a call writes overlaps no other memory of the same call, and
  *     no other thread reads or writes it meanwhile.
+ *   - Memory that a call only reads is not written meanwhile, by another thread or
+ *     another program that shares it: a call reads some bytes twice, so one that
+ *     changed between would be tested as one value and used as another.
  *   - The archive itself is code and at most 128 bytes of read-only constants:
  *     no table, and no data that is written.
  *
  * THREADS
  *   There is no state outside the memory lent: no global or static variable. Any
  *   number of calls may run at once, each upon memory of its own; they may share
- *   messages and lines.
+ *   messages and lines, and any other memory that they all only read.
+ *
+ * PROVED AND TESTED
+ *   Proved, whatever the bytes lent are, for every call: the number returned and every
+ *   byte written are those of the definitions of the rules, which this header tells in
+ *   words. Proved besides: a venue or a layer that a call wrote is sound, the fixed
+ *   memories below (LEGGING_MOST_BYTES, LEGGING_SET_BYTES) are enough, and a set that was
+ *   written reads back. The proofs speak of the calls as they are written, not of the
+ *   machine code that a compiler makes of them.
+ *   Tested only, on the archives as built: the stack that a call needs, the read-only
+ *   constants of an archive and the functions that it calls, NULL with the length 0,
+ *   memory at any alignment, and calls on several threads at once.
+ *   Neither: memory that overlaps or that another thread writes, and a pointer to fewer
+ *   bytes than its length says. A host has to see to these.
  *
  * BYTES
  *   Numbers are little-endian, without padding. A message or record is its length
@@ -146,6 +166,12 @@
 #include <stddef.h>
 #include <stdint.h>
 
+/* The version of this header and of the archives: the one that the file VERSION tells. */
+#define LEGGING_VERSION_MAJOR 0
+#define LEGGING_VERSION_MINOR 1
+#define LEGGING_VERSION_PATCH 0
+#define LEGGING_VERSION       "0.1.0"
+
 #define LEGGING_DONE          0u /* accepted; of a run: the whole list was done */
 #define LEGGING_TORN          1u /* 1 to 3 bytes left (of one message: 0 to 3), or a length below 4 or above what is left */
 #define LEGGING_UNKNOWN_KIND  2u /* kind not 1 to 11 */
@@ -170,20 +196,58 @@
 #define LEGGING_BAD_LINE     21u /* a line is torn, does not rise, or has a length below 4 or number 0 */
 
 #define LEGGING_VENUE_BYTES 4656u /* a venue held by a host */
-#define LEGGING_SHOWN_AT    2924u /* where in it the rows of reserve and display begin */
-#define LEGGING_RATIOS_AT   3948u /* where in it the rows of ratios begin */
-#define LEGGING_GENERATIONS_AT 4012u /* where in it the rows of generations begin */
-#define LEGGING_REACHED_AT  4652u /* where in it the last id stands that a kind 11 looked at */
 #define LEGGING_MOST_BYTES 10433u /* no message upon a sound venue writes more */
 #define LEGGING_SETTINGS_BYTES 9u /* eight increments and the percentage */
 #define LEGGING_SET_BYTES   5900u /* no set has more */
 #define LEGGING_NUMBER_BYTES   4u /* a u32 that a call upon a set tells */
 
+/*
+ * The tables of a venue: ..._AT is where in a venue's bytes a table begins, ..._PLACES how
+ * many rows it has, ..._BYTES the length of a row. legging_message below tells the fields
+ * of a row, in their order. So the regular order at place 3 begins at
+ * LEGGING_REGULAR_AT + 3 * LEGGING_REGULAR_BYTES, and what it shows stands in row 3 of
+ * LEGGING_SHOWN_AT.
+ */
+#define LEGGING_REGULAR_AT            0u /* regular orders */
+#define LEGGING_REGULAR_PLACES      128u
+#define LEGGING_REGULAR_BYTES        14u
+#define LEGGING_COMPLEX_AT         1792u /* complex orders */
+#define LEGGING_COMPLEX_PLACES       32u
+#define LEGGING_COMPLEX_BYTES        17u
+#define LEGGING_LEGGING_AT         2336u /* legging orders, at place 2 * series + side */
+#define LEGGING_LEGGING_PLACES       16u
+#define LEGGING_LEGGING_BYTES        12u
+#define LEGGING_SERIES_AT          2528u /* status and away prices of each series */
+#define LEGGING_SERIES_PLACES         8u
+#define LEGGING_SERIES_BYTES          9u
+#define LEGGING_LAST_ID_AT         2600u /* the last id accepted u32 */
+#define LEGGING_EDITIONS_AT        2604u /* editions of the settings */
+#define LEGGING_EDITIONS_PLACES      32u
+#define LEGGING_EDITIONS_BYTES       10u
+#define LEGGING_SHOWN_AT           2924u /* reserve and display of each regular order */
+#define LEGGING_SHOWN_PLACES        128u
+#define LEGGING_SHOWN_BYTES           8u
+#define LEGGING_RATIOS_AT          3948u /* ratios of each complex order */
+#define LEGGING_RATIOS_PLACES        32u
+#define LEGGING_RATIOS_BYTES          2u
+#define LEGGING_GENERATIONS_AT     4012u /* message numbers u32 of each series' last generations */
+#define LEGGING_GENERATIONS_PLACES    8u
+#define LEGGING_GENERATIONS_BYTES    80u
+#define LEGGING_GENERATIONS_KEPT     20u /* numbers in such a row */
+#define LEGGING_REACHED_AT         4652u /* the last id that a kind 11 looked at u32 */
+
 #define LEGGING_VENUES       4u /* behind one line */
 #define LEGGING_MOST_WAITING 8u /* messages that wait for a venue */
 #define LEGGING_MOST_MESSAGE 32u /* bytes of a message that waits */
-#define LEGGING_LANE_BYTES   (LEGGING_VENUE_BYTES + 5u + LEGGING_MOST_WAITING * (1u + LEGGING_MOST_MESSAGE))
-#define LEGGING_LAYER_BYTES  (LEGGING_VENUES * LEGGING_LANE_BYTES + 1u) /* four venues held by a host */
+
+/* The parts of a lane, and of a layer, which is its lanes and one byte. */
+#define LEGGING_LANE_DONE_AT    LEGGING_VENUE_BYTES         /* messages done u32; the venue stands before it */
+#define LEGGING_LANE_WAITING_AT (LEGGING_LANE_DONE_AT + 4u) /* messages waiting u8 */
+#define LEGGING_LANE_PLACES_AT  (LEGGING_LANE_WAITING_AT + 1u) /* the places of the wait */
+#define LEGGING_PLACE_BYTES     (1u + LEGGING_MOST_MESSAGE) /* a place: length u8, then the message */
+#define LEGGING_LANE_BYTES      (LEGGING_LANE_PLACES_AT + LEGGING_MOST_WAITING * LEGGING_PLACE_BYTES)
+#define LEGGING_SERVED_AT       (LEGGING_VENUES * LEGGING_LANE_BYTES) /* the venue served last u8 */
+#define LEGGING_LAYER_BYTES     (LEGGING_SERVED_AT + 1u) /* four venues held by a host */
 
 #ifdef __cplusplus
 extern "C" {
@@ -200,11 +264,12 @@ extern "C" {
  *                    left: all messages before were done, this one was answered,
  *                    and nothing after it was read;
  *   LEGGING_NO_ROOM  the run ended before the first message whose records do not
- *                    fit into the rest of `report`; nothing of that message was
- *                    written. Run it again with more memory for the whole list.
+ *                    fit into the rest of `report`, or whose number would pass
+ *                    4,294,967,295; nothing of that message was written. Where it was
+ *                    the memory, run the whole list again with more.
  */
-uint8_t legging_run(const uint8_t *messages, size_t messages_len,
-                    uint8_t *report, size_t report_len);
+uint8_t legging_run(const uint8_t *messages, size_t messages_length,
+                    uint8_t *report, size_t report_length);
 
 /*
  * Runs the messages that come over a main and a spare line, from a fresh venue.
@@ -227,29 +292,29 @@ uint8_t legging_run(const uint8_t *messages, size_t messages_len,
  * LEGGING_DIFFERS and LEGGING_LOST come before LEGGING_NO_ROOM of the same message.
  * LEGGING_TORN is not returned, since every message taken is whole.
  */
-uint8_t legging_feed(const uint8_t *main, size_t main_len,
-                     const uint8_t *spare, size_t spare_len,
-                     uint8_t *report, size_t report_len);
+uint8_t legging_feed(const uint8_t *main, size_t main_length,
+                     const uint8_t *spare, size_t spare_length,
+                     uint8_t *report, size_t report_length);
 
 /*
  * Writes a fresh venue, a host's first: no orders, all series open, no away prices.
  *
  * `venue` is LEGGING_VENUE_BYTES bytes; what it held before is not read. Returns
  *   LEGGING_DONE     `venue` is the fresh venue;
- *   LEGGING_UNSOUND  `venue_len` is not LEGGING_VENUE_BYTES: `venue` as it was.
+ *   LEGGING_UNSOUND  `venue_length` is not LEGGING_VENUE_BYTES: `venue` as it was.
  *
  * Bytes that are all zero are a sound venue too, but with all series closed: upon
  * it orders are refused with LEGGING_CLOSED until messages open their series. A
  * host that began with zeros either calls this, or opens the series as before.
  */
-uint8_t legging_fresh(uint8_t *venue, size_t venue_len);
+uint8_t legging_fresh(uint8_t *venue, size_t venue_length);
 
 /*
  * Takes one message upon a venue that the host holds; `before` messages went
  * before it, and its own number is one more.
  *
  * `venue` is LEGGING_VENUE_BYTES bytes: first those that legging_fresh writes, then
- * hand over what the last call left. They are, without padding:
+ * hand over what the last call left there. They are, without padding:
  *
  *     128 regular orders   id u32, series u8, side u8, price u32, quantity u32
  *      32 complex orders   id u32, series u8, side u8, series u8, side u8, class u8,
@@ -276,16 +341,16 @@ uint8_t legging_fresh(uint8_t *venue, size_t venue_len);
  *   LEGGING_DONE     accepted: `venue` is the venue that follows, `report` the
  *                    message's answer and records;
  *   1 to 8, 11 to 14 refused: `venue` as it was, `report` the answer;
- *   LEGGING_UNSOUND  `venue_len` is not LEGGING_VENUE_BYTES, the bytes are no sound
+ *   LEGGING_UNSOUND  `venue_length` is not LEGGING_VENUE_BYTES, the bytes are no sound
  *                    venue, or the message's number is not above that of every
  *                    edition and generation kept: `venue` as it was, `report` all
- *                    zeros. A venue that a call left is always sound;
+ *                    zeros. A venue that a call wrote is always sound;
  *   LEGGING_NO_ROOM  the records do not fit, or `before` is 4,294,967,295: `venue` as
  *                    it was, `report` all zeros. LEGGING_MOST_BYTES are always enough.
  */
-uint8_t legging_message(uint8_t *venue, size_t venue_len, uint32_t before,
-                        const uint8_t *message, size_t message_len,
-                        uint8_t *report, size_t report_len);
+uint8_t legging_message(uint8_t *venue, size_t venue_length, uint32_t before,
+                        const uint8_t *message, size_t message_length,
+                        uint8_t *report, size_t report_length);
 
 /*
  * Tells the settings of a venue that held at message `number`, any number, 0 too: of
@@ -294,12 +359,12 @@ uint8_t legging_message(uint8_t *venue, size_t venue_len, uint32_t before,
  * Returns
  *   LEGGING_DONE     `settings` is the increments of series 0 to 7, the percentage,
  *                    and zeros after these LEGGING_SETTINGS_BYTES bytes;
- *   LEGGING_UNSOUND  `venue_len` is not LEGGING_VENUE_BYTES, the bytes are no sound
- *                    venue, or `settings_len` is below LEGGING_SETTINGS_BYTES:
+ *   LEGGING_UNSOUND  `venue_length` is not LEGGING_VENUE_BYTES, the bytes are no sound
+ *                    venue, or `settings_length` is below LEGGING_SETTINGS_BYTES:
  *                    `settings` all zeros.
  */
-uint8_t legging_settings(const uint8_t *venue, size_t venue_len, uint32_t number,
-                         uint8_t *settings, size_t settings_len);
+uint8_t legging_settings(const uint8_t *venue, size_t venue_length, uint32_t number,
+                         uint8_t *settings, size_t settings_length);
 
 /*
  * Writes the set of a venue; `number` messages were done upon it, so the last one's number
@@ -332,7 +397,9 @@ uint8_t legging_write_set(const uint8_t *venue, size_t venue_length, uint32_t nu
  *                     not sound, or a message number in it is above its own;
  *   LEGGING_BAD_SET   a record is torn, missing, out of order, one too many, or of a kind or
  *                     length that the set has not.
- * Unless LEGGING_DONE is returned, `venue` is the fresh venue, and `number` all zeros.
+ * Unless LEGGING_DONE is returned, `number` is all zeros and, but for a wrong `venue_length`,
+ * `venue` is the fresh venue: what it held before is lost, also where `number_length` alone
+ * is wrong. So read a set into memory that holds no venue that is still needed.
  */
 uint8_t legging_read_set(const uint8_t *set, size_t set_length,
                          uint8_t *venue, size_t venue_length,
@@ -359,31 +426,31 @@ uint8_t legging_read_set(const uint8_t *set, size_t set_length,
  *     8 places             length u8, 32 bytes; those in use come first, the head in front
  *
  * A place that is free, and what stands in a place after its message, is not read. A call
- * tests all four venues; what the calls left is always sound.
+ * tests all four venues; a layer that a call wrote is always sound.
  */
 
 /*
  * Writes a layer of four fresh venues with nothing waiting; the first turn looks at venue
  * 0 first. What `layer` held before is not read. Returns
  *   LEGGING_DONE     `layer` is the fresh layer;
- *   LEGGING_UNSOUND  `layer_len` is not LEGGING_LAYER_BYTES: `layer` as it was.
+ *   LEGGING_UNSOUND  `layer_length` is not LEGGING_LAYER_BYTES: `layer` as it was.
  */
-uint8_t legging_layer_fresh(uint8_t *layer, size_t layer_len);
+uint8_t legging_layer_fresh(uint8_t *layer, size_t layer_length);
 
 /*
  * Puts a message at the end of a venue's wait. Any bytes may wait, none too: what they
  * are is told at their turn. Returns
  *   LEGGING_DONE      the message waits;
- *   LEGGING_UNSOUND   `layer_len` is not LEGGING_LAYER_BYTES, or the layer is not sound: a
+ *   LEGGING_UNSOUND   `layer_length` is not LEGGING_LAYER_BYTES, or the layer is not sound: a
  *                     venue is not, the number of its next message is not above that of
  *                     every edition and generation it keeps, more than 8 messages wait, one
  *                     that waits is over 32 bytes, or the venue served last is above 3;
  *   LEGGING_NO_VENUE  `venue` is above 3;
- *   LEGGING_NO_PLACE  8 messages wait for it already, or `message_len` is above 32.
+ *   LEGGING_NO_PLACE  8 messages wait for it already, or `message_length` is above 32.
  * Unless LEGGING_DONE is returned, `layer` is as it was.
  */
-uint8_t legging_arrive(uint8_t *layer, size_t layer_len, uint32_t venue,
-                       const uint8_t *message, size_t message_len);
+uint8_t legging_arrive(uint8_t *layer, size_t layer_length, uint32_t venue,
+                       const uint8_t *message, size_t message_length);
 
 /*
  * Does the message at the head of the next venue's wait, as legging_message would with
@@ -398,7 +465,7 @@ uint8_t legging_arrive(uint8_t *layer, size_t layer_len, uint32_t venue,
  *                         turn, and the others wait. LEGGING_MOST_BYTES are always enough.
  * With LEGGING_NONE `layer` is as it was, and `report` all zeros.
  */
-uint32_t legging_turn(uint8_t *layer, size_t layer_len, uint8_t *report, size_t report_len);
+uint32_t legging_turn(uint8_t *layer, size_t layer_length, uint8_t *report, size_t report_length);
 
 #define LEGGING_NONE 4u /* the venue served by a turn that served none */
 #define LEGGING_TURN_NUMBER(turned) ((uint8_t)((turned)&0xFFu))
