@@ -1,39 +1,25 @@
-//! The hosts in C: built without a warning, their output and their exit status.
+//! The hosts in C: built without a warning, their output and their exit status; and what
+//! hosts are installed with.
 
+mod books;
+mod cplusplus;
+mod header;
+mod programs;
+mod upgrade;
+mod upgrade_layer;
+
+use programs::{built, file, run};
 use sessions::profile::Profile;
 use sessions::record::{print_sheet, read_report};
 use sessions::sheet::run_whole;
 use sessions::soak::generate;
 use sessions::text::{encode_line, encode_session};
-use std::io::Write;
-use std::path::{Path, PathBuf};
-use std::process::{Command, Output, Stdio};
+use std::path::PathBuf;
 use std::sync::OnceLock;
 
-const SESSION: &str = include_str!("../../venue/tests/sessions/printed.txt");
-const MAIN: &str = include_str!("../../venue/tests/sessions/printed-main.txt");
-const SPARE: &str = include_str!("../../venue/tests/sessions/printed-spare.txt");
-
-fn top() -> PathBuf {
-    Path::new(env!("CARGO_MANIFEST_DIR")).join("../..")
-}
-
-/// A program of examples/c, built.
-fn built(name: &str) -> PathBuf {
-    let program = Path::new(env!("CARGO_TARGET_TMPDIR")).join(name);
-    let built = Command::new("cc")
-        .args(["-std=c11", "-Wall", "-Wextra", "-Werror", "-O2", "-I"])
-        .arg(top().join("include"))
-        .arg(top().join("examples/c").join(name).with_extension("c"))
-        .args(std::env::split_paths(env!("ARCHIVES")))
-        .arg("-o")
-        .arg(&program)
-        .output()
-        .expect("a C compiler as cc");
-    let told = String::from_utf8_lossy(&built.stderr);
-    assert!(built.status.success() && told.is_empty(), "{told}");
-    program
-}
+const SESSION: &str = include_str!("../../../venue/tests/sessions/printed.txt");
+const MAIN: &str = include_str!("../../../venue/tests/sessions/printed-main.txt");
+const SPARE: &str = include_str!("../../../venue/tests/sessions/printed-spare.txt");
 
 fn host(arguments: &[&str], input: &[u8]) -> (i32, String, String) {
     static PROGRAM: OnceLock<PathBuf> = OnceLock::new();
@@ -43,32 +29,6 @@ fn host(arguments: &[&str], input: &[u8]) -> (i32, String, String) {
 fn four(arguments: &[&str], input: &[u8]) -> (i32, String, String) {
     static PROGRAM: OnceLock<PathBuf> = OnceLock::new();
     run(PROGRAM.get_or_init(|| built("four")), arguments, input)
-}
-
-fn upgrade(arguments: &[&str], input: &[u8]) -> (i32, String, String) {
-    static PROGRAM: OnceLock<PathBuf> = OnceLock::new();
-    run(PROGRAM.get_or_init(|| built("upgrade")), arguments, input)
-}
-
-/// The status, output and errors of a program.
-fn run(program: &Path, arguments: &[&str], input: &[u8]) -> (i32, String, String) {
-    let mut child = Command::new(program)
-        .args(arguments)
-        .stdin(Stdio::piped())
-        .stdout(Stdio::piped())
-        .stderr(Stdio::piped())
-        .spawn()
-        .expect("the program starts");
-    let written = child.stdin.take().expect("a pipe").write_all(input);
-    let Output {
-        status,
-        stdout,
-        stderr,
-    } = child.wait_with_output().expect("the program ends");
-    // A program that found its command line wrong does not read.
-    assert!(written.is_ok() || status.code() == Some(2));
-    let text = |bytes: Vec<u8>| String::from_utf8(bytes).expect("text");
-    (status.code().expect("a status"), text(stdout), text(stderr))
 }
 
 /// The list by one run and message by message: the same output.
@@ -121,13 +81,6 @@ fn lines_that_stop() {
         let last = told.lines().last().expect("a line");
         assert!(last.starts_with(ending), "{told}");
     }
-}
-
-/// A file of these bytes.
-fn file(name: &str, bytes: &[u8]) -> String {
-    let file = Path::new(env!("CARGO_TARGET_TMPDIR")).join(name);
-    std::fs::write(&file, bytes).expect("the file is written");
-    file.to_str().expect("a name in text").to_string()
 }
 
 #[test]
@@ -318,50 +271,6 @@ fn refused_messages_a_negative_net_and_a_torn_end() {
 fn no_input_and_no_memory() {
     let (status, told, _) = host(&["--room", "0"], &[]);
     assert_eq!((status, told.lines().count()), (0, 1));
-}
-
-#[test]
-fn an_upgrade_at_noon_writes_the_lines_of_a_whole_day() {
-    let list = generate(Profile::Mixed, 3, 200);
-    let whole = print_sheet(&read_report(&run_whole(&list.concat()).1).expect("records"));
-    for cut in [0, 1, 100, list.len()] {
-        let noon = file(&format!("noon-{cut}"), &[]);
-        let (status, morning, _) = upgrade(&["--write", &noon], &list[..cut].concat());
-        assert_eq!(status, 0);
-        let (status, rest, _) = upgrade(&["--read", &noon, "-"], &list[cut..].concat());
-        assert_eq!(status, 0);
-        assert_eq!(format!("{morning}{rest}"), whole, "{cut}");
-        let set = std::fs::read(&noon).expect("a set");
-        let (venue, done) = sessions::set_reader::look_at(&set).expect("it reads back");
-        assert_eq!(done as usize, cut);
-        assert!(reference::is_sound(&venue));
-        // Carried once more without a message it is the same.
-        let again = file(&format!("again-{cut}"), &[]);
-        let (status, told, _) = upgrade(&["--read", &noon, "--write", &again], &[]);
-        assert_eq!((status, told.as_str()), (0, ""));
-        assert_eq!(std::fs::read(&again).expect("a set"), set);
-    }
-}
-
-#[test]
-fn an_upgrade_with_what_is_no_set_is_told() {
-    let torn = file("torn", &[12, 0, 80]);
-    for (arguments, status, word) in [
-        (&["--read", &torn][..], 3, "the set was not read: number 16"),
-        (&["--read", "no-such-file"], 1, "no-such-file"),
-        (&["--read", "-"], 2, "one file only: -"),
-        (&["--read"], 2, "after: --read"),
-        (&["--what"], 2, "--what"),
-        (&["a", "b"], 2, "too many: b"),
-        (&["--write", "/no/such/folder"], 1, "was not written"),
-    ] {
-        let (found, told, error) = upgrade(arguments, &[]);
-        assert_eq!((found, told.as_str()), (status, ""), "{error}");
-        assert!(error.contains(word), "{error}");
-    }
-    let (status, told, _) = upgrade(&["--help"], &[]);
-    assert_eq!(status, 0);
-    assert!(told.starts_with("usage: upgrade "));
 }
 
 #[test]
