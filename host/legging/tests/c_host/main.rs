@@ -5,6 +5,7 @@ mod books;
 mod cplusplus;
 mod header;
 mod programs;
+mod python;
 mod upgrade;
 mod upgrade_layer;
 
