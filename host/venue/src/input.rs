@@ -34,6 +34,11 @@ impl<'a> Input<'a> {
         self.file == "-"
     }
 
+    /// Where it is, if it is no standard input.
+    pub fn path(self) -> Option<&'a Path> {
+        (!self.is_standard()).then_some(Path::new(self.file))
+    }
+
     /// Its name, as errors tell it.
     pub fn name(self) -> String {
         match self.is_standard() {
@@ -71,7 +76,11 @@ impl<'a> Input<'a> {
 
     /// All of its text, which must be UTF-8: the line of the first other byte is named.
     pub fn text(self) -> Result<String, Failure> {
-        let bytes = self.whole()?;
+        self.text_of(self.whole()?)
+    }
+
+    /// The text that its bytes are.
+    pub fn text_of(self, bytes: Vec<u8>) -> Result<String, Failure> {
         match std::str::from_utf8(&bytes) {
             Ok(text) => Ok(without_mark(text).to_string()),
             Err(error) => {
@@ -84,10 +93,14 @@ impl<'a> Input<'a> {
 
     /// All of its bytes, or those of its text.
     pub fn given(self, form: Form, encode: Encode) -> Result<Vec<u8>, Failure> {
+        self.given_of(self.whole()?, form, encode)
+    }
+
+    /// Its bytes, or those that its text stands for.
+    pub fn given_of(self, bytes: Vec<u8>, form: Form, encode: Encode) -> Result<Vec<u8>, Failure> {
         if form == Form::Text {
-            return encode(&self.text()?).map_err(|error| self.fault(error));
+            return encode(&self.text_of(bytes)?).map_err(|error| self.fault(error));
         }
-        let bytes = self.whole()?;
         match form == Form::Bytes && looks_like_text(&bytes) {
             true => Err(self.fault(LOOKS_LIKE_TEXT)),
             false => Ok(bytes),

@@ -1036,7 +1036,10 @@ fn a_session_cut_by_a_set_goes_on_with_the_same_lines() {
         let first = String::from_utf8(good(&["sheet", "--text"], morning.as_bytes())).unwrap();
         let set = Kept::new(&format!("cut-{cut}"), &set);
         let rest = lines[cut..].concat();
-        let rest = good(&["resume", "--text", set.path(), "-"], rest.as_bytes());
+        let rest = good(
+            &["resume", "--unchecked", "--text", set.path(), "-"],
+            rest.as_bytes(),
+        );
         let told = format!("{first}{}", String::from_utf8(rest).unwrap());
         assert_eq!(told, whole, "{cut}");
     }
@@ -1052,10 +1055,10 @@ fn sets_go_to_text_and_back() {
     let with_zeros = [&set[..], &[0; 9]].concat();
     assert_eq!(good(&["decode", "--set"], &with_zeros), text);
     let kept = Kept::new("set", &with_zeros);
-    let sweep = good(&["resume", kept.path(), "-"], &[4, 0, 6, 0]);
+    let sweep = good(&["resume", "--unchecked", kept.path(), "-"], &[4, 0, 6, 0]);
     let sweep = String::from_utf8(sweep).unwrap();
     assert!(sweep.starts_with("64 31 0 "), "{sweep}");
-    assert_eq!(good(&["resume", kept.path(), "-"], b""), b"");
+    assert_eq!(good(&["resume", "--unchecked", kept.path(), "-"], b""), b"");
 }
 
 #[test]
@@ -1096,7 +1099,11 @@ fn a_refused_set_is_told_with_its_line() {
         let before = set.lines().position(|found| found.contains(line));
         let text = format!("# noon\n\n{}", set.replacen(from, to, 1));
         let changed = Kept::new("refused", text.as_bytes());
-        let error = bad(&["resume", "--text", changed.path(), "-"], b"", 1);
+        let error = bad(
+            &["resume", "--unchecked", "--text", changed.path(), "-"],
+            b"",
+            1,
+        );
         let number = before.unwrap() + 3;
         let start = format!("venue resume: {}: line {number}: ", changed.path());
         assert!(
@@ -1110,15 +1117,19 @@ fn a_refused_set_is_told_with_its_line() {
         .map(|line| format!("{line}\n"))
         .collect();
     let cut = Kept::new("cut.set", cut.as_bytes());
-    let error = bad(&["resume", "--text", cut.path(), "-"], b"", 1);
+    let error = bad(
+        &["resume", "--unchecked", "--text", cut.path(), "-"],
+        b"",
+        1,
+    );
     let told = "line 9: the set is refused with 16: expected status of series 4, found the end";
     assert!(error.contains(told), "{error}");
     let text = Kept::new("text", set.as_bytes());
-    let error = bad(&["resume", text.path(), "-"], b"", 1);
+    let error = bad(&["resume", "--unchecked", text.path(), "-"], b"", 1);
     let told = format!("{}: this looks like text: use --text", text.path());
     assert!(error.contains(&told), "{error}");
     let torn = Kept::new("torn", &[12, 0, 80]);
-    let error = bad(&["resume", torn.path(), "-"], b"", 1);
+    let error = bad(&["resume", "--unchecked", torn.path(), "-"], b"", 1);
     let told = "refused with 16: record 1 at byte 0: expected a record's length and kind, found 3";
     assert!(error.contains(told), "{error}");
 }
@@ -1171,7 +1182,10 @@ fn message_numbers_that_are_used_up_end_a_session_that_goes_on() {
     let fresh = String::from_utf8(good(&["set", "--text"], b"")).unwrap();
     let last = fresh.replace("set 0 ", "set 4294967294 ");
     let set = Kept::new("last", last.as_bytes());
-    let output = venue(&["resume", "--text", set.path(), "-"], b"sweep\nsweep\n");
+    let output = venue(
+        &["resume", "--unchecked", "--text", set.path(), "-"],
+        b"sweep\nsweep\n",
+    );
     assert_eq!(output.status.code(), Some(1));
     assert_eq!(output.stdout, b"64 4294967295 0 0 0\n");
     let told = String::from_utf8(output.stderr).unwrap();
@@ -1222,7 +1236,7 @@ fn text_lines_of_a_feed_and_sets_are_not_read_as_bytes() {
     let expected = "venue feed: standard input: this looks like text: use --text";
     assert!(errors.starts_with(expected), "{errors}");
     let set = Kept::new("bytes.set", &good(&["set"], &[4, 0, 6, 0]));
-    let errors = bad(&["resume", set.path(), "-"], b"sweep\n", 1);
+    let errors = bad(&["resume", "--unchecked", set.path(), "-"], b"sweep\n", 1);
     let expected = "venue resume: standard input: this looks like text: use --text";
     assert!(errors.starts_with(expected), "{errors}");
     for kind in ["--line", "--set"] {
@@ -1242,7 +1256,10 @@ fn a_byte_order_mark_goes_before_any_text() {
     let set = good(&["set", "--text"], LIMITED.as_bytes());
     let set = marked(&String::from_utf8(set).unwrap());
     let set = Kept::new("marked.set", &set);
-    good(&["resume", "--text", set.path(), "-"], &marked("sweep\n"));
+    good(
+        &["resume", "--unchecked", "--text", set.path(), "-"],
+        &marked("sweep\n"),
+    );
     let printed = Kept::new("marked.sheet", &marked(PRINTED_SHEET));
     let told = ["audit", "--text", "-", printed.path()];
     good(&told, &marked(PRINTED_TEXT));
