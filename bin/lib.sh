@@ -4,6 +4,9 @@
 # How many minutes the crates of a program take from nothing, on two cores.
 MINUTES=7
 
+# The crates whose archives hosts link: the calls of one venue, and those of four behind one line.
+ARCHIVES=(c_api dispatch)
+
 # The top of the repository, also where a script was started through a symbolic link.
 top=$(cd "$(dirname "$(readlink -f "${BASH_SOURCE[0]}")")/.." && pwd -P)
 
@@ -114,6 +117,8 @@ refused() { # STATUS
 
 # prove_program NAME: has target/bin/NAME, proved.
 prove_program() {
+    # Where bin/install has put it there is nothing to prove.
+    [ -e "$top/crates.txt" ] || return 0
     local first=no count
     if [ ! -x "$top/target/bin/$1" ]; then
         first=yes
@@ -131,4 +136,29 @@ build() {
     [ -x "$program" ] || say "building host/target/release/$1, this once"
     local words=(--release --offline --quiet --manifest-path "$top/host/Cargo.toml" -p "$1")
     CARGO_TARGET_DIR=$folder cargo build "${words[@]}" >&2 || fail "host/target/release/$1 was not built"
+}
+
+# Whether an archive is there, and no crate is younger.
+is_new() { # NAME
+    local archive=$top/target/staticlib/lib$1.a
+    [ -f "$archive" ] && [ -z "$(find "$top/crates" "$top/crates.txt" -newer "$archive" -print -quit)" ]
+}
+
+# Has both archives. What they stand on is proved first, several crates at a time; rt staticlib proves the one that it
+# is asked for.
+archives() {
+    local name first=no needs=no below
+    for name in "${ARCHIVES[@]}"; do is_new "$name" || needs=yes; done
+    [ "$needs" = yes ] || return 0
+    [ -f "$top/target/staticlib/lib${ARCHIVES[0]}.a" ] || first=yes
+    say "proving and building the engine's archives and all that they stand on: about $MINUTES minutes"
+    below=$(needed "${ARCHIVES[@]}" | grep -vxF "$(printf '%s\n' "${ARCHIVES[@]}")")
+    room=$(mktemp -d)
+    # shellcheck disable=SC2086
+    prove "$first" $below
+    rm -rf "$room"
+    for name in "${ARCHIVES[@]}"; do
+        say "proving $name and writing target/staticlib/lib$name.a"
+        (cd "$top" && rt staticlib "$name") >>"$log" 2>&1 || refused $?
+    done
 }

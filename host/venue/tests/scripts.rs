@@ -64,9 +64,10 @@ chmod +x "$CARGO_TARGET_DIR/release/$package"
 "#;
 
 /// The programs that the scripts may use.
-const TOOLS: [&str; 23] = [
+const TOOLS: [&str; 28] = [
     "awk", "bash", "cat", "chmod", "cp", "df", "dirname", "env", "find", "flock", "grep", "head",
-    "mkdir", "mktemp", "od", "readlink", "rm", "sh", "sleep", "tail", "tr", "true", "wc",
+    "ln", "mkdir", "mktemp", "mv", "od", "readlink", "rm", "rmdir", "sed", "sh", "sleep", "sort",
+    "tail", "tr", "true", "wc",
 ];
 
 /// A copy of bin/ with the stand-ins, gone when the test ends.
@@ -464,4 +465,63 @@ fn a_comparison_without_its_program_tells_how_it_is_built() {
     let (status, printed, _) = tree.run(tool, &["compare", "--bytes", "--", "--text"]);
     let expected = "compare session --bytes -- --text\n";
     assert_eq!((status, printed.as_str()), (0, expected));
+}
+
+/// A tree with what is installed besides programs and archives.
+fn tree_to_install(name: &str) -> Tree {
+    let tree = Tree::new(name);
+    for folder in ["include", "docs"] {
+        fs::create_dir_all(tree.path(folder)).unwrap();
+    }
+    tree.write("VERSION", b"1.2.3\n");
+    tree.write("include/legging.h", b"the header\n");
+    tree.write("docs/legging.7", b"legging @VERSION@\n");
+    tree
+}
+
+#[test]
+fn an_installation_proves_and_builds_what_is_missing() {
+    let tree = tree_to_install("install");
+    let (status, placed, said) = tree.run("bin/install", &["prefix"]);
+    assert_eq!((status, placed.lines().count()), (0, 12), "{said}");
+    for expected in [
+        "bin/install: proving and building the engine's archives and all that they stand on: about 7 minutes\n",
+        "bin/install: proving dispatch and writing target/staticlib/libdispatch.a\n",
+        "bin/install: proving and building the program and all that it stands on, 3 crates, this once: about 7 minutes\n",
+        "bin/install: building host/target/release/venue, this once\n",
+    ] {
+        assert!(said.contains(expected), "{said}");
+    }
+    let last = format!(
+        "bin/install: legging 1.2.3 was installed into {}/prefix in ",
+        tree.path("elsewhere").display()
+    );
+    assert!(said.lines().last().unwrap().starts_with(&last), "{said}");
+    let page = tree.read("elsewhere/prefix/share/man/man7/legging.7");
+    assert_eq!(page, "legging 1.2.3\n");
+    // What was installed runs by itself, and nothing is proved for it.
+    let calls = tree.read("calls");
+    fs::rename(tree.path("crates.txt"), tree.path("gone.txt")).unwrap();
+    tree.write("elsewhere/session.txt", PRINTED_TEXT.as_bytes());
+    let printed = tree.run("elsewhere/prefix/bin/sheet", &["--text", "session.txt"]);
+    assert_eq!(
+        printed,
+        (0, "sheet of 87 bytes\n".to_string(), String::new())
+    );
+    assert_eq!(tree.read("calls"), calls);
+    fs::rename(tree.path("gone.txt"), tree.path("crates.txt")).unwrap();
+    // The second time all is there.
+    let (status, again, said) = tree.run("bin/install", &["prefix"]);
+    assert_eq!((status, again), (0, placed));
+    assert!(said.starts_with(&last), "{said}");
+}
+
+#[test]
+fn an_installation_that_is_not_proved_leaves_nothing() {
+    let tree = tree_to_install("install-refused");
+    tree.write("refuse", b"");
+    let (status, placed, said) = tree.run("bin/install", &["new/prefix"]);
+    assert_eq!((status, placed.as_str()), (1, ""));
+    assert!(said.contains("NOT PROVED"), "{said}");
+    assert!(!tree.path("elsewhere/new").exists());
 }

@@ -4,6 +4,7 @@
 mod books;
 mod cplusplus;
 mod header;
+mod install;
 mod programs;
 mod python;
 mod upgrade;
