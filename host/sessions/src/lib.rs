@@ -6,6 +6,7 @@
 pub mod asked;
 pub mod audit;
 pub mod broken;
+pub mod causes;
 pub mod check;
 pub mod checked_file;
 pub mod corrupt;

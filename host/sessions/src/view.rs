@@ -1,6 +1,7 @@
 //! The rules of prices, standing and generation, worked out from a venue as a
 //! caller sees it. Nothing here is shared with the reference but its types.
 
+use crate::causes::Standing;
 use crate::message::{Leg, NewComplex};
 use crate::settings::{Figure, InForce};
 use reference::{Complex, Legging, Listed, Regular, Venue};
@@ -256,36 +257,19 @@ impl View {
         Some(taken(parts[0])? + taken(parts[1])?)
     }
 
-    pub fn is_open(&self, leg: Leg) -> bool {
-        self.series[usize::from(leg.series)].status == 1
+    /// 0 closed, 1 open, 2 in auction.
+    pub fn status(&self, series: u8) -> u8 {
+        self.series[usize::from(series)].status
     }
 
-    fn worse_than_book(&self, leg: Leg, shown: i64) -> bool {
-        self.best(leg)
-            .is_some_and(|level| beats(leg, level.price, shown))
+    pub fn is_open(&self, leg: Leg) -> bool {
+        self.status(leg.series) == 1
     }
 
     /// The causes for which the order at a place fails its test, in their
     /// rank: 1, 5, 2, 6.
     pub fn failing_causes(&self, leg: Leg, parent: &Complex) -> Vec<u8> {
-        let Some(order) = self.standing(leg) else {
-            return Vec::new();
-        };
-        let legs = legs_of(parent);
-        let other = if legs[0] == leg { legs[1] } else { legs[0] };
-        let price = i64::from(order.price);
-        let other_leg_holds = self.clear(opposite(other)).is_some_and(|clear| {
-            let net = sign(leg) * price + sign(other) * clear.price;
-            net <= i64::from(parent.limit) && clear.size >= i64::from(order.quantity)
-        });
-        let conditions = [
-            (1, !self.worse_than_book(leg, self.displayed(leg, price))),
-            (5, self.in_band(i64::from(parent.limit), parts_of(parent))),
-            (2, other_leg_holds),
-            (6, self.is_open(leg) && self.is_open(other)),
-        ];
-        let failing = conditions.iter().filter(|(_, holds)| !holds);
-        failing.map(|(cause, _)| *cause).collect()
+        Standing::of(self, leg, parent).map_or(Vec::new(), |test| test.failing())
     }
 }
 
