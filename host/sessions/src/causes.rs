@@ -97,7 +97,10 @@ impl Display for BookTest {
             increment,
             ..
         } = self;
-        write!(f, "price {price} is displayed at {displayed} by increment {increment}")?;
+        write!(
+            f,
+            "price {price} is displayed at {displayed} by increment {increment}"
+        )?;
         match (self.best, self.holds()) {
             (None, _) => write!(f, ", no regular order is on its side"),
             (Some(best), true) => write!(f, ", no worse than the best regular price {best}"),

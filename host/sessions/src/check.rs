@@ -117,10 +117,11 @@ impl Checker {
         check_standing(after)?;
         self.traffic.check(self.done, step)?;
         let disagreement = self.ledger.disagreement(after);
-        match disagreement.or_else(|| self.ledger.shows_otherwise(after)) {
-            Some(fault) => Err(fault),
-            None => Ok(seen),
+        if let Some(fault) = disagreement.or_else(|| self.ledger.shows_otherwise(after)) {
+            return Err(fault);
         }
+        self.ledger.close(after);
+        Ok(seen)
     }
 
     fn check_accepted<'a>(
@@ -133,27 +134,32 @@ impl Checker {
         for record in effects {
             self.ledger.add(record)?;
         }
-        check_takings(step.before, step.message, effects)?;
-        let after = &step.returned.venue;
-        let moments = check_moments(step.before, self.done, step.message, effects, after)?;
-        let phases = phases(step.before, after, effects)?;
-        let work = check_work(step, self.done, &phases)?;
-        let expected = expected_settling(&phases.at_settling, after);
-        if expected != phases.settled {
-            return Err(format!(
-                "settling removed {:?}, expected {expected:?} (place, cause)",
-                phases.settled
-            ));
-        }
-        Ok(Seen {
-            attempts: check_generation(step, self.done, &phases)?,
-            phases,
-            above: work.above,
-            out_of_band: work.out_of_band,
-            short: work.short,
-            moments,
-        })
+        see(step, self.done, effects)
     }
+}
+
+/// Checks what the accepted message of a number did, by itself, and tells it.
+pub fn see<'a>(step: &Step<'a>, number: u32, effects: &'a [Record]) -> Result<Seen<'a>, String> {
+    check_takings(step.before, step.message, effects)?;
+    let after = &step.returned.venue;
+    let moments = check_moments(step.before, number, step.message, effects, after)?;
+    let phases = phases(step.before, after, effects)?;
+    let work = check_work(step, number, &phases)?;
+    let expected = expected_settling(&phases.at_settling, after);
+    if expected != phases.settled {
+        return Err(format!(
+            "settling removed {:?}, expected {expected:?} (place, cause)",
+            phases.settled
+        ));
+    }
+    Ok(Seen {
+        attempts: check_generation(step, number, &phases)?,
+        phases,
+        above: work.above,
+        out_of_band: work.out_of_band,
+        short: work.short,
+        moments,
+    })
 }
 
 /// The work's records and the books left are those of the plain model.

@@ -1,16 +1,19 @@
 //! What each accepted order entered, traded, crossed and cancelled, summed from
 //! messages and records.
 
-use crate::message::Message;
+use crate::message::{Leg, Message};
 use crate::record::Record;
-use crate::view::{held_complex, held_regular, shown};
+use crate::view::{held_complex, held_regular, parts, shown, Part};
 use reference::Venue;
+use std::iter::Peekable;
 
 #[derive(Clone, Debug, PartialEq, Eq)]
 pub struct Account {
     pub id: u32,
-    /// The two series of a complex order; one twice for a regular order.
-    pub series: [u8; 2],
+    /// The two legs of a complex order; one twice for a regular order.
+    pub legs: [Leg; 2],
+    /// N of a complex order.
+    pub limit: i64,
     /// The contracts of each series in one unit: 1 and 1 but for kind 10.
     pub ratios: [u8; 2],
     pub is_complex: bool,
@@ -29,12 +32,13 @@ impl Account {
     fn of(message: &Message) -> Option<Account> {
         let account = match message {
             Message::Order(order) => Account {
-                series: [order.leg.series; 2],
+                legs: [order.leg; 2],
                 shown: u64::from(order.shown()),
                 ..Account::new(order.id, order.quantity)
             },
             Message::Complex(order) => Account {
-                series: order.legs.map(|leg| leg.series),
+                legs: order.legs,
+                limit: i64::from(order.limit),
                 ratios: order.unit(),
                 is_complex: true,
                 ..Account::new(order.id, order.quantity)
@@ -47,7 +51,8 @@ impl Account {
     fn new(id: u32, quantity: u32) -> Account {
         Account {
             id,
-            series: [0; 2],
+            legs: [Leg { series: 0, side: 0 }; 2],
+            limit: 0,
             ratios: [1, 1],
             is_complex: false,
             entered: u64::from(quantity),
@@ -59,13 +64,27 @@ impl Account {
         }
     }
 
-    /// What is wrong with the sums, given what is still open.
-    pub fn disagreement(&self, open: u64) -> Option<String> {
-        let traded = if self.is_complex {
+    pub fn series(&self) -> [u8; 2] {
+        self.legs.map(|leg| leg.series)
+    }
+
+    /// The legs with the contracts of each in one unit.
+    pub fn parts(&self) -> [Part; 2] {
+        parts(self.legs, self.ratios)
+    }
+
+    /// What was paired or crossed of a complex order, or traded of a regular one.
+    pub fn traded(&self) -> u64 {
+        if self.is_complex {
             self.paired + self.crossed
         } else {
-            self.contracts[usize::from(self.series[0])]
-        };
+            self.contracts[usize::from(self.legs[0].series)]
+        }
+    }
+
+    /// What is wrong with the sums, given what is still open.
+    pub fn disagreement(&self, open: u64) -> Option<String> {
+        let traded = self.traded();
         if self.entered != traded + self.cancelled + open {
             return Some(format!(
                 "order {}: entered {} but traded {}, cancelled {} and open {}",
@@ -77,7 +96,7 @@ impl Account {
 
     fn series_disagreement(&self, series: u8) -> Option<String> {
         let contracts = self.contracts[usize::from(series)];
-        let leg = self.series.iter().position(|own| *own == series);
+        let leg = self.legs.iter().position(|leg| leg.series == series);
         let expected = match leg {
             Some(leg) if self.is_complex => u64::from(self.ratios[leg]) * self.paired,
             Some(_) => contracts,
@@ -92,7 +111,13 @@ impl Account {
     }
 }
 
-/// The accounts of all accepted orders, in rising id.
+/// Whether an id comes among rising ones, of which those up to it are taken.
+fn comes(ids: &mut Peekable<impl Iterator<Item = u32>>, id: u32) -> bool {
+    while ids.next_if(|next| *next < id).is_some() {}
+    ids.next_if_eq(&id).is_some()
+}
+
+/// The accounts of accepted orders, in rising id, up to where they are closed.
 #[derive(Clone, Debug, Default)]
 pub struct Ledger {
     pub accounts: Vec<Account>,
@@ -104,7 +129,7 @@ impl Ledger {
         let Some(account) = Account::of(message) else {
             return Ok(());
         };
-        let Account { id, series, .. } = account;
+        let (id, series) = (account.id, account.series());
         if series.iter().any(|series| *series > 7) {
             return Err(format!("order {id} was accepted with a series above 7"));
         }
@@ -115,14 +140,34 @@ impl Ledger {
         Ok(())
     }
 
-    fn account(&mut self, id: u32, record: &Record) -> Result<&mut Account, String> {
-        match self
-            .accounts
+    /// Takes out the accounts of the orders that no longer rest in a venue.
+    pub fn close(&mut self, venue: &Venue) -> Vec<Account> {
+        let mut regular = held_regular(venue).map(|order| order.id).peekable();
+        let mut complex = held_complex(venue).map(|order| order.id).peekable();
+        let is_gone = |account: &mut Account| match account.is_complex {
+            true => !comes(&mut complex, account.id),
+            false => !comes(&mut regular, account.id),
+        };
+        self.accounts.extract_if(.., is_gone).collect()
+    }
+
+    fn place(&self, id: u32) -> Option<usize> {
+        let accounts = &self.accounts;
+        accounts
             .binary_search_by_key(&id, |account| account.id)
-        {
-            Ok(at) => Ok(&mut self.accounts[at]),
-            Err(_) => Err(format!(
-                "record \"{record}\" names {id}, which was not accepted"
+            .ok()
+    }
+
+    /// The account of an order that is not closed.
+    pub fn find(&self, id: u32) -> Option<&Account> {
+        self.place(id).map(|at| &self.accounts[at])
+    }
+
+    fn account(&mut self, id: u32, record: &Record) -> Result<&mut Account, String> {
+        match self.place(id) {
+            Some(at) => Ok(&mut self.accounts[at]),
+            None => Err(format!(
+                "record \"{record}\" names {id}, which was not accepted or is gone"
             )),
         }
     }

@@ -3,8 +3,9 @@
 //! out anew. It is slow, and shares nothing with the reference but its types.
 
 use crate::message::{split, Leg, Message, NewComplex, NewOrder};
+use crate::ranges::{out_of_range, refused_field};
 use crate::record::{Cancelled, Cross, Looked, Pair, Record, Removed, Trade};
-use crate::settings::{entered_by, held_editions, last_edition, Figure, InForce};
+use crate::settings::{entered_by, held_editions, last_edition, InForce};
 use crate::view::{held_complex, held_regular, legs_of, opposite, place_of, side_of, sign};
 use crate::view::{parts, parts_of, ratios_of, shown, to_rest, Level, Part, View};
 use reference::{Complex, Legging, Regular, Venue};
@@ -29,16 +30,7 @@ pub fn refusal(venue: &Venue, left: &[u8]) -> u8 {
 }
 
 fn in_range(message: &Message, in_force: &InForce) -> bool {
-    fields_in_range(message) && off_increment(message, in_force).is_none()
-}
-
-/// The increment that the price of an order is off, if it is; its fields are in range.
-pub fn off_increment(message: &Message, in_force: &InForce) -> Option<Figure> {
-    let Message::Order(order) = message else {
-        return None;
-    };
-    let increment = in_force.increment(order.leg.series);
-    (order.price % u32::from(increment.value) != 0).then_some(increment)
+    refused_field(message, in_force).is_none()
 }
 
 /// Whether ratios are named, and are the same.
@@ -49,54 +41,9 @@ pub fn has_equal_ratios(message: &Message) -> bool {
     }
 }
 
-/// Kind 10 has ratios of 1 to 3, and its limit may be thrice that of kind 2.
-fn limit_in_range(limit: i32, ratios: Option<[u8; 2]>) -> bool {
-    match ratios {
-        None => (-200_000..=200_000).contains(&limit),
-        Some(ratios) => {
-            ratios.iter().all(|ratio| (1..=3).contains(ratio))
-                && (-600_000..=600_000).contains(&limit)
-        }
-    }
-}
-
-fn leg_in_range(leg: &Leg) -> bool {
-    leg.series <= 7 && leg.side <= 1
-}
-
-fn order_in_range(order: &NewOrder) -> bool {
-    order.id >= 1
-        && leg_in_range(&order.leg)
-        && (1..=100_000).contains(&order.price)
-        && (1..=10_000).contains(&order.quantity)
-        && (1..=order.quantity).contains(&order.shown())
-}
-
-fn complex_in_range(order: &NewComplex) -> bool {
-    let [first, second] = &order.legs;
-    order.id >= 1
-        && leg_in_range(first)
-        && leg_in_range(second)
-        && first.series != second.series
-        && order.class <= 1
-        && limit_in_range(order.limit, order.ratios)
-        && (1..=10_000).contains(&order.quantity)
-}
-
-/// Whether every field is in a range that no setting moves.
+/// Whether it is a message, every field of it in a range that no setting moves.
 pub fn fields_in_range(message: &Message) -> bool {
-    match message {
-        Message::Order(order) => order_in_range(order),
-        Message::Complex(order) => complex_in_range(order),
-        Message::Cancel(cancel) => cancel.id >= 1,
-        Message::Away(away) => away.series <= 7 && away.bid <= 100_000 && away.offer <= 100_000,
-        Message::Status(status) => status.series <= 7 && status.status <= 2,
-        Message::Sweep => true,
-        Message::LimitedSweep(sweep) => (1..=32).contains(&sweep.most),
-        Message::Increment(set) => set.series <= 7 && [1, 5, 10].contains(&set.increment),
-        Message::Percent(set) => set.percent <= 50,
-        Message::Raw(_) => false,
-    }
+    message.kind().is_some() && out_of_range(message).is_none()
 }
 
 /// Whether nothing of an order is out of range but its shown quantity.

@@ -190,6 +190,16 @@ pub fn check_moments(
     }
 }
 
+/// Looks at a record upon the books just before it, and notes it in them; tells what it
+/// passed over, and what of it the books do not have.
+pub fn look_at(books: &mut Books, record: &Record) -> (Option<Moment>, Vec<String>) {
+    let moment = Moment::of(books, record);
+    let passed = passed_over(books, record).map(|what| format!("record \"{record}\" {what}"));
+    let noted = books.note(record).err();
+    let noted = noted.map(|what| format!("record \"{record}\": {what}"));
+    (moment, passed.into_iter().chain(noted).collect())
+}
+
 /// A sheet replayed from a fresh venue.
 #[derive(Debug, Default)]
 pub struct Replayed {
@@ -255,14 +265,10 @@ impl<'a> Reader<'a> {
     }
 
     fn record(&mut self, line: u32, record: &Record) {
-        self.replayed
-            .moments
-            .extend(Moment::of(&self.books, record));
-        if let Some(what) = passed_over(&self.books, record) {
-            self.fault(line, format!("record \"{record}\" {what}"));
-        }
-        if let Err(what) = self.books.note(record) {
-            self.fault(line, format!("record \"{record}\": {what}"));
+        let (moment, faults) = look_at(&mut self.books, record);
+        self.replayed.moments.extend(moment);
+        for what in faults {
+            self.fault(line, what);
         }
     }
 

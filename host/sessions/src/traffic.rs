@@ -6,6 +6,8 @@ use crate::message::Message;
 use crate::record::{Looked, Record};
 use crate::view::held_complex;
 use reference::Venue;
+use std::collections::VecDeque;
+use std::iter::{repeat, repeat_n};
 
 /// The most records 67 of a series in any 256 consecutive messages.
 pub const CEILING: usize = 20;
@@ -13,17 +15,26 @@ pub const CEILING: usize = 20;
 /// What the records of a list told of its legging orders.
 #[derive(Clone, Default)]
 pub struct Traffic {
-    /// Of each series the message of each record 67.
-    made: [Vec<u32>; 8],
+    /// Of each series the messages with a record 67 and how many they have: those of the
+    /// last 256 messages, and of the last 20 generations.
+    made: [VecDeque<(u32, usize)>; 8],
+    counts: [usize; 8],
 }
 
 impl Traffic {
     /// After the generations that a venue keeps.
     pub fn of(venue: &Venue) -> Self {
-        let held = |last: [u32; 20]| last.into_iter().filter(|number| *number > 0).collect();
-        Traffic {
-            made: venue.generations.map(held),
+        let mut traffic = Traffic::default();
+        for (series, last) in venue.generations.iter().enumerate() {
+            let held = last.iter().filter(|number| **number > 0);
+            held.for_each(|number| traffic.count(series, *number));
         }
+        traffic
+    }
+
+    /// Goes on after the generations that a venue keeps, with the counts so far.
+    pub fn go_on_from(&mut self, venue: &Venue) {
+        self.made = Traffic::of(venue).made;
     }
 
     /// One record of the message of a number; of a 67 it tells how many of its series there
@@ -32,15 +43,31 @@ impl Traffic {
         let Record::Generated(told) = record else {
             return None;
         };
-        let made = self.made.get_mut(usize::from(told.series))?;
-        made.push(number);
-        let recent = |by: &&u32| u64::from(**by) + 256 > u64::from(number);
-        Some(made.iter().rev().take_while(recent).count())
+        let series = usize::from(told.series);
+        if series >= self.made.len() {
+            return None;
+        }
+        self.count(series, number);
+        let made = &mut self.made[series];
+        let is_recent = |(by, _): &(u32, usize)| u64::from(*by) + 256 > u64::from(number);
+        while made.len() > CEILING && !made.front().is_some_and(is_recent) {
+            made.pop_front();
+        }
+        let recent = made.iter().filter(|of| is_recent(of));
+        Some(recent.map(|(_, count)| count).sum())
+    }
+
+    fn count(&mut self, series: usize, number: u32) {
+        self.counts[series] += 1;
+        match self.made[series].back_mut() {
+            Some((last, count)) if *last == number => *count += 1,
+            _ => self.made[series].push_back((number, 1)),
+        }
     }
 
     /// How many legging orders of each series there were.
     pub fn counts(&self) -> [usize; 8] {
-        std::array::from_fn(|series| self.made[series].len())
+        self.counts
     }
 
     /// Checks the message of a number, done or refused.
@@ -60,8 +87,10 @@ impl Traffic {
     /// The venue keeps the last 20 of each series, with zeros before the first.
     fn check_kept(&self, venue: &Venue) -> Result<(), String> {
         for (series, made) in self.made.iter().enumerate() {
-            let last = made.iter().rev().chain(std::iter::repeat(&0)).take(CEILING);
-            if !last.eq(venue.generations[series].iter().rev()) {
+            let last = made.iter().rev();
+            let numbers = last.flat_map(|(number, count)| repeat_n(*number, *count));
+            let last = numbers.chain(repeat(0)).take(CEILING);
+            if !last.eq(venue.generations[series].iter().rev().copied()) {
                 return Err(format!("the venue keeps other generations of {series}"));
             }
         }

@@ -1,6 +1,7 @@
 //! The help texts that are of no command alone, and how those of the commands are told.
 
 use crate::commands::{Command, COMMANDS};
+use crate::json_form::JSON_FORM;
 use std::ffi::OsStr;
 
 /// Where the overview tells what a command does.
@@ -68,7 +69,10 @@ A short set has no editions, no generated and no reached, and its orders show al
 ";
 
 /// Help that is asked for by a word which is no command.
-const TOPICS: [(&str, fn() -> String); 1] = [("text", || format!("{TEXT_FORM}\n{SET_FORM}"))];
+const TOPICS: [(&str, fn() -> String); 2] = [
+    ("text", || format!("{TEXT_FORM}\n{SET_FORM}")),
+    ("json", || JSON_FORM.to_string()),
+];
 
 /// All commands, and the text form.
 pub fn overview() -> String {

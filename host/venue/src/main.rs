@@ -6,7 +6,10 @@ mod arguments;
 mod commands;
 mod help;
 mod input;
+mod json_form;
 mod output;
+mod printed;
+mod progress;
 
 use output::{tell, Out};
 use std::ffi::OsString;

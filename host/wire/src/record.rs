@@ -295,7 +295,8 @@ pub fn parse_sheet(text: &str) -> Result<Vec<Record>, String> {
         .collect()
 }
 
-fn parse_sheet_line(line: &str) -> Result<Record, String> {
+/// Reads one line of a printed sheet.
+pub fn parse_sheet_line(line: &str) -> Result<Record, String> {
     let mut words = line.split_whitespace();
     let first = words.next().unwrap_or("");
     let kind: u16 = first.parse().unwrap_or(0);

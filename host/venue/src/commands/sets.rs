@@ -6,6 +6,7 @@ use crate::arguments::{usage, Arguments};
 use crate::help::SET_FORM;
 use crate::input::Input;
 use crate::output::{tell, Out};
+use crate::printed::Printed;
 use crate::{Failure, Outcome};
 use reference::Venue;
 use sessions::checked_file::{verify, write_checked};
@@ -176,5 +177,6 @@ fn resume(arguments: &Arguments, out: &mut Out) -> Outcome {
     let form = arguments.form()?;
     let (venue, number) = read_set(set, form, arguments.has("--unchecked"))?;
     let mut messages = session.messages(form)?;
-    print_run(Running::upon(venue, number), &mut messages, session, out)
+    let running = Running::upon(venue, number);
+    print_run(running, &mut messages, session, Printed::Lines, out)
 }

@@ -4,16 +4,16 @@ use super::Command;
 use crate::arguments::Arguments;
 use crate::input::{Input, Reader};
 use crate::output::{tell, Out};
+use crate::printed::Printed;
 use crate::{Failure, Outcome};
 use sessions::sheet::Running;
 use sessions::stream::Messages;
-use std::io::Write;
 
 pub static COMMAND: Command = Command {
     name: "sheet",
-    form: "[--text] [--first BYTES] [FILE]",
+    form: "[--text] [--first BYTES] [--json | --csv] [FILE]",
     about: "print the sheet of a run",
-    flags: &["--text", "--bytes"],
+    flags: &["--text", "--bytes", "--json", "--csv"],
     valued: &["--first"],
     words: 1,
     help: || HELP.to_string(),
@@ -29,6 +29,9 @@ With --first only so many bytes of its messages are run. The proved program read
 of them, so --first 65536 gives what bin/sheet prints: a message that is cut there is torn,
 and its answer is the last.
 
+With --json each record is an object on a line, with --csv a line of values between commas;
+with both the number of its message is told: venue help json.
+
 Bytes are never taken for text: text needs --text. Bytes that are all printable, as those
 of a text are, are an error; --bytes takes them as bytes.
 ";
@@ -38,7 +41,8 @@ fn sheet(arguments: &Arguments, out: &mut Out) -> Outcome {
     let first = arguments.number("--first", Some(u64::MAX))?;
     let bytes = input.bytes(arguments.form()?)?;
     let mut messages = Messages::new(bytes.first(first));
-    print_run(Running::fresh(), &mut messages, input, out)?;
+    let printed = Printed::begin(arguments, out)?;
+    print_run(Running::fresh(), &mut messages, input, printed, out)?;
     if messages.is_cut() {
         let what = format!("{}: only the first {first} bytes are run", input.name());
         tell(&arguments.name(), &what);
@@ -51,6 +55,7 @@ pub fn print_run(
     mut running: Running,
     messages: &mut Messages<Reader>,
     input: Input,
+    mut printed: Printed,
     out: &mut Out,
 ) -> Outcome {
     while let Some(message) = messages.next().map_err(|what| input.fault(what))? {
@@ -59,7 +64,7 @@ pub fn print_run(
             return Err(Failure::Disagreement(what));
         };
         for record in records {
-            writeln!(out, "{record}")?;
+            printed.print(record, out)?;
         }
     }
     Ok(())
