@@ -1,5 +1,7 @@
 //! The tests of the reference, in one program so that they build quickly.
 
+mod audits;
+mod causes;
 mod ceiling;
 mod common;
 mod feed;
