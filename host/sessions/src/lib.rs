@@ -10,6 +10,7 @@ pub mod broken;
 pub mod causes;
 pub mod check;
 pub mod checked_file;
+pub mod conditions;
 pub mod corrupt;
 pub mod counted;
 pub mod coverage;

@@ -116,6 +116,11 @@ pub fn beats(leg: Leg, a: i64, b: i64) -> bool {
     sign(leg) * a > sign(leg) * b
 }
 
+/// Whether a price of this side meets one of the other.
+fn reaches(leg: Leg, price: i64, facing: i64) -> bool {
+    !beats(leg, facing, price)
+}
+
 /// Down to the increment for a buy, up to it for a sell.
 pub fn rounded(leg: Leg, price: i64, increment: i64) -> i64 {
     let up = if leg.side == 1 { increment - 1 } else { 0 };
@@ -392,9 +397,23 @@ impl View {
         which: usize,
     ) -> Result<Legging, Declined> {
         self.order_allowed(order)?;
+        let leg = legs_of(order)[which];
+        let (price, quantity) = self.offered(order, which)?;
+        self.price_allowed(leg, price)?;
+        let made = Legging {
+            parent: order.id,
+            price: price as u32,
+            quantity,
+        };
+        self.place_allowed(venue, leg, order.class, made)?;
+        self.traffic_allowed(number, leg.series)?;
+        Ok(made)
+    }
+
+    /// The price and the quantity of a leg by the clear price of the other one.
+    pub(crate) fn offered(&self, order: &Complex, which: usize) -> Result<(i64, u32), Declined> {
         let legs = legs_of(order);
         let (leg, other) = (legs[which], legs[1 - which]);
-        let limit = i64::from(order.limit);
         let taken = opposite(other);
         let Some(clear) = self.clear(taken) else {
             return Err(Declined::NoClearPrice {
@@ -402,29 +421,25 @@ impl View {
                 side: taken.side,
             });
         };
-        let price = sign(leg) * (limit - sign(other) * clear.price);
-        self.price_allowed(leg, price)?;
-        let made = Legging {
-            parent: order.id,
-            price: price as u32,
-            quantity: order.quantity.min(clear.size as u32),
-        };
-        self.place_allowed(venue, leg, order.class, made)?;
-        self.traffic_allowed(number, leg.series)?;
-        Ok(made)
+        let price = sign(leg) * (i64::from(order.limit) - sign(other) * clear.price);
+        Ok((price, order.quantity.min(clear.size as u32)))
     }
 
     /// Fewer than 20 of the series in the 256 messages that end with this one.
-    fn traffic_allowed(&self, number: u32, series: u8) -> Result<(), Declined> {
-        let recent = |made: &&u32| **made > 0 && u64::from(**made) + 256 > u64::from(number);
-        let last = &self.generations[usize::from(series)];
-        match last.iter().filter(recent).count() {
+    pub(crate) fn traffic_allowed(&self, number: u32, series: u8) -> Result<(), Declined> {
+        match self.recent(number, series).count() {
             ..20 => Ok(()),
             _ => Err(Declined::AtCeiling {
                 series,
-                first: last[0],
+                first: self.generations[usize::from(series)][0],
             }),
         }
+    }
+
+    /// The generations of a series that count for the ceiling at this number, oldest first.
+    pub fn recent(&self, number: u32, series: u8) -> impl Iterator<Item = u32> + '_ {
+        let last = self.generations[usize::from(series)].iter().copied();
+        last.filter(move |made| *made > 0 && u64::from(*made) + 256 > u64::from(number))
     }
 
     /// One more generation of a series; of those kept the oldest goes.
@@ -435,26 +450,39 @@ impl View {
 
     /// What both legs need of their order.
     fn order_allowed(&self, order: &Complex) -> Result<(), Declined> {
-        if has_ratios(order) {
-            let ratios = ratios_of(order);
-            return Err(Declined::HasRatios { ratios });
-        }
+        ratios_allowed(order)?;
+        self.open_allowed(order)?;
+        self.band_allowed(order)
+    }
+
+    pub(crate) fn open_allowed(&self, order: &Complex) -> Result<(), Declined> {
         let legs = legs_of(order);
-        if let Some(leg) = legs.iter().find(|leg| !self.is_open(**leg)) {
-            return Err(Declined::NotOpen { series: leg.series });
+        match legs.iter().find(|leg| !self.is_open(**leg)) {
+            Some(leg) => Err(Declined::NotOpen { series: leg.series }),
+            None => Ok(()),
         }
+    }
+
+    pub(crate) fn band_allowed(&self, order: &Complex) -> Result<(), Declined> {
         let (limit, parts) = (i64::from(order.limit), parts_of(order));
-        if !self.in_band(limit, parts) {
-            return Err(Declined::OutOfBand {
-                limit,
-                market: self.market_net(parts),
-                percent: self.in_force.percent(),
-            });
+        if self.in_band(limit, parts) {
+            return Ok(());
         }
-        Ok(())
+        Err(Declined::OutOfBand {
+            limit,
+            market: self.market_net(parts),
+            percent: self.in_force.percent(),
+        })
     }
 
     fn price_allowed(&self, leg: Leg, price: i64) -> Result<(), Declined> {
+        self.range_allowed(leg, price)?;
+        self.book_allowed(leg, price)?;
+        self.own_allowed(leg, price)?;
+        self.away_allowed(leg, price)
+    }
+
+    pub(crate) fn range_allowed(&self, leg: Leg, price: i64) -> Result<(), Declined> {
         let displayed = self.displayed(leg, price);
         let increment = self.in_force.increment(leg.series);
         if displayed < i64::from(increment.value) || displayed > 100_000 {
@@ -463,23 +491,33 @@ impl View {
                 increment,
             });
         }
-        if let Some(best) = self.best(leg).map(|level| level.price) {
-            if beats(leg, best, displayed) {
-                return Err(Declined::WorseThanBook {
-                    displayed,
-                    best,
-                    increment,
-                });
-            }
-        }
-        let reached = |opposite: &i64| sign(leg) * price >= sign(leg) * opposite;
-        if let Some(own) = self.best_own(opposite(leg)).filter(reached) {
-            return Err(Declined::ReachesOwn { price, own });
-        }
-        if let Some(away) = self.away(opposite(leg)).filter(reached) {
-            return Err(Declined::ReachesAway { price, away });
-        }
         Ok(())
+    }
+
+    pub(crate) fn book_allowed(&self, leg: Leg, price: i64) -> Result<(), Declined> {
+        let displayed = self.displayed(leg, price);
+        match self.best(leg).map(|level| level.price) {
+            Some(best) if beats(leg, best, displayed) => Err(Declined::WorseThanBook {
+                displayed,
+                best,
+                increment: self.in_force.increment(leg.series),
+            }),
+            _ => Ok(()),
+        }
+    }
+
+    pub(crate) fn own_allowed(&self, leg: Leg, price: i64) -> Result<(), Declined> {
+        match self.best_own(opposite(leg)) {
+            Some(own) if reaches(leg, price, own) => Err(Declined::ReachesOwn { price, own }),
+            _ => Ok(()),
+        }
+    }
+
+    pub(crate) fn away_allowed(&self, leg: Leg, price: i64) -> Result<(), Declined> {
+        match self.away(opposite(leg)) {
+            Some(away) if reaches(leg, price, away) => Err(Declined::ReachesAway { price, away }),
+            _ => Ok(()),
+        }
     }
 
     fn place_allowed(
@@ -489,19 +527,42 @@ impl View {
         class: u8,
         made: Legging,
     ) -> Result<(), Declined> {
-        let price = i64::from(made.price);
-        if let Some(holder) = self.standing(leg) {
-            let held = i64::from(holder.price);
-            let holder_class = find_complex(venue, holder.parent).map(|parent| parent.class);
-            let by_class = held == price && class == 0 && holder_class == Some(1);
-            if !beats(leg, price, held) && !by_class {
-                return Err(Declined::PlaceHeld {
-                    price,
-                    holder: holder.parent,
-                    held,
-                });
-            }
+        self.holder_allowed(venue, leg, class, i64::from(made.price))?;
+        self.others_allowed(venue, leg, made)
+    }
+
+    /// Whoever holds the place is at a worse price, or of the other class at the same one.
+    pub(crate) fn holder_allowed(
+        &self,
+        venue: &Venue,
+        leg: Leg,
+        class: u8,
+        price: i64,
+    ) -> Result<(), Declined> {
+        let Some(holder) = self.standing(leg) else {
+            return Ok(());
+        };
+        let held = i64::from(holder.price);
+        let holder_class = find_complex(venue, holder.parent).map(|parent| parent.class);
+        let by_class = held == price && class == 0 && holder_class == Some(1);
+        if beats(leg, price, held) || by_class {
+            return Ok(());
         }
+        Err(Declined::PlaceHeld {
+            price,
+            holder: holder.parent,
+            held,
+        })
+    }
+
+    /// No other legging order would fail its test with this one in its place.
+    pub(crate) fn others_allowed(
+        &self,
+        venue: &Venue,
+        leg: Leg,
+        made: Legging,
+    ) -> Result<(), Declined> {
+        let price = i64::from(made.price);
         let mut then = self.clone();
         then.legging[place_of(leg)] = made;
         for place in (0..16).filter(|place| *place != place_of(leg)) {
@@ -514,4 +575,12 @@ impl View {
         }
         Ok(())
     }
+}
+
+pub(crate) fn ratios_allowed(order: &Complex) -> Result<(), Declined> {
+    if !has_ratios(order) {
+        return Ok(());
+    }
+    let ratios = ratios_of(order);
+    Err(Declined::HasRatios { ratios })
 }
