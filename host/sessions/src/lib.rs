@@ -30,6 +30,7 @@ pub mod lent;
 pub mod line;
 pub mod model;
 pub mod moments;
+pub mod page;
 pub mod pairs;
 pub mod phases;
 pub mod play;

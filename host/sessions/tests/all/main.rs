@@ -7,6 +7,7 @@ mod common;
 mod feed;
 mod layer;
 mod moments;
+mod page;
 mod random_sessions;
 mod ratios;
 mod refusals;
