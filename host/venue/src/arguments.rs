@@ -133,6 +133,19 @@ impl Arguments {
         number.ok_or_else(|| usage(format!("expected a number after {name}, found {value:?}")))
     }
 
+    /// The first and the last message that `--from` and `--to` ask for.
+    pub fn messages(&self) -> Result<(u64, u64), Failure> {
+        let from = self.number("--from", Some(1))?;
+        let to = self.number("--to", Some(u64::MAX))?;
+        if from == 0 {
+            return Err(usage("messages are numbered from 1".to_string()));
+        }
+        if from > to {
+            return Err(usage(format!("--from {from} is after --to {to}")));
+        }
+        Ok((from, to))
+    }
+
     /// Which of two options was given, of which only one can be.
     pub fn either(&self, first: &str, second: &str) -> Result<(bool, bool), Failure> {
         match (self.has(first), self.has(second)) {

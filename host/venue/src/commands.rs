@@ -7,6 +7,7 @@ mod explain;
 mod feed;
 mod four;
 mod generate;
+mod page;
 mod print;
 mod sets;
 mod settings;
@@ -40,7 +41,7 @@ pub struct Command {
 }
 
 /// Every command, in the order of the overview.
-pub static COMMANDS: [&Command; 15] = [
+pub static COMMANDS: [&Command; 16] = [
     &sheet::COMMAND,
     &texts::ENCODE,
     &texts::DECODE,
@@ -50,6 +51,7 @@ pub static COMMANDS: [&Command; 15] = [
     &short::COMMAND,
     &audit::COMMAND,
     &explain::COMMAND,
+    &page::COMMAND,
     &settings::COMMAND,
     &sets::SET,
     &sets::RESUME,

@@ -61,22 +61,17 @@ struct Asked {
 
 impl Asked {
     fn of(arguments: &Arguments) -> Result<Self, Failure> {
-        let asked = Asked {
-            from: arguments.number("--from", Some(1))?,
-            to: arguments.number("--to", Some(u64::MAX))?,
-            order: match arguments.has("--order") {
-                true => Some(order_id(arguments.number("--order", None)?)?),
-                false => None,
-            },
-            is_json: arguments.has("--json"),
+        let (from, to) = arguments.messages()?;
+        let order = match arguments.has("--order") {
+            true => Some(order_id(arguments.number("--order", None)?)?),
+            false => None,
         };
-        match asked {
-            Asked { from: 0, .. } => Err(usage("messages are numbered from 1".to_string())),
-            Asked { from, to, .. } if from > to => {
-                Err(usage(format!("--from {from} is after --to {to}")))
-            }
-            asked => Ok(asked),
-        }
+        Ok(Asked {
+            from,
+            to,
+            order,
+            is_json: arguments.has("--json"),
+        })
     }
 
     fn write(&self, explained: &Explained, out: &mut Out) -> Outcome {
