@@ -76,7 +76,7 @@ impl Track {
         let time = self.clock.time(|| {
             for venue in copies {
                 let message = black_box(&call.message[..]);
-                black_box(legging::one_message(venue, call.before, message, report));
+                let _ = black_box(legging::one_message(venue, call.before, message, report));
             }
         });
         time / CALLS as f64

@@ -55,14 +55,14 @@ struct Track {
 impl Track {
     fn run(&mut self, sessions: &[Session]) -> f64 {
         self.each(sessions, |session, report| {
-            black_box(legging::run(black_box(&session.list), report));
+            let _ = black_box(legging::run(black_box(&session.list), report));
         })
     }
 
     fn feed(&mut self, sessions: &[Session]) -> f64 {
         self.each(sessions, |session, report| {
             let [main, spare] = black_box(&session.lines);
-            black_box(legging::feed(main, spare, report));
+            let _ = black_box(legging::feed(main, spare, report));
         })
     }
 

@@ -172,7 +172,7 @@ impl Track {
     pub fn engine(&mut self, list: &List) -> f64 {
         let (messages, report) = (&list.messages[..], &mut self.memory[..list.room]);
         self.clock.time(|| {
-            black_box(legging::run(black_box(messages), report));
+            let _ = black_box(legging::run(black_box(messages), report));
         })
     }
 

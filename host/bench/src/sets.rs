@@ -98,7 +98,7 @@ impl Track {
         let time = self.clock.time(|| {
             for _ in 0..CALLS {
                 let venue = black_box(carried.held.as_bytes());
-                black_box(legging::write_set_in(
+                let _ = black_box(legging::write_set_in(
                     venue,
                     carried.done,
                     set,
@@ -125,7 +125,7 @@ impl Track {
         let time = self.clock.time(|| {
             for _ in 0..CALLS {
                 let set = black_box(&carried.set[..]);
-                black_box(legging::read_set_in(set, venue, &mut done));
+                let _ = black_box(legging::read_set_in(set, venue, &mut done));
             }
         });
         time / CALLS as f64

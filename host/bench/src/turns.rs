@@ -78,7 +78,7 @@ impl Layers {
         let time = self.clock.time(|| {
             for layer in copies {
                 let message = black_box(&turn.call.message[..]);
-                black_box(legging::arrive(layer, 0, message));
+                let _ = black_box(legging::arrive(layer, 0, message));
             }
         });
         time / TURNS as f64
@@ -89,7 +89,7 @@ impl Layers {
         let (copies, report) = (&mut self.copies, &mut self.report);
         let time = self.clock.time(|| {
             for layer in copies {
-                black_box(legging::turn(black_box(layer), report));
+                let _ = black_box(legging::turn(black_box(layer), report));
             }
         });
         time / TURNS as f64

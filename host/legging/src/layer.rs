@@ -1,9 +1,10 @@
 //! Four venues held by a host behind one line.
 
-use crate::archive::layer_fresh_in;
+use crate::archive::{arrive, layer_fresh_in, turn};
 use crate::number::Number;
 use crate::venue::{VenueBytes, VENUE_BYTES};
 use std::fmt;
+use wire::Message;
 
 /// Venues behind one line.
 pub const VENUES: usize = 4;
@@ -95,6 +96,7 @@ impl fmt::Debug for LayerBytes {
 }
 
 /// What a turn returned: its number, and 256 times the venue served.
+#[must_use = "a turn that did nothing tells it by its number alone"]
 #[derive(Clone, Copy, Debug, PartialEq, Eq)]
 pub struct Turned(u32);
 
@@ -117,5 +119,70 @@ impl Turned {
     pub fn venue(self) -> Option<usize> {
         let venue = (self.0 >> 8) as usize;
         (venue < VENUES).then_some(venue)
+    }
+}
+
+/// Four venues behind one line that a host holds.
+///
+/// ```
+/// use legging::{records, Layer, Message, Number, MOST_BYTES};
+///
+/// let mut layer = Layer::fresh();
+/// layer.arrive(2, &Message::Sweep).ok()?;
+/// let mut report = [0; MOST_BYTES];
+/// assert_eq!(layer.turn(&mut report).venue(), Some(2));
+/// assert_eq!(records(&report).count(), 1);
+/// assert_eq!(layer.turn(&mut report).venue(), None);
+/// # Ok::<(), Number>(())
+/// ```
+#[derive(Clone, Debug, Default, PartialEq, Eq)]
+pub struct Layer(LayerBytes);
+
+impl Layer {
+    /// Four fresh venues with nothing waiting.
+    ///
+    /// ```
+    /// use legging::{Layer, VenueBytes};
+    ///
+    /// assert_eq!(Layer::fresh().bytes().venues()[3], VenueBytes::fresh());
+    /// ```
+    pub fn fresh() -> Self {
+        Layer(LayerBytes::fresh())
+    }
+
+    /// A layer kept as bytes. Whether it is sound is tested by the calls.
+    pub const fn new(bytes: LayerBytes) -> Self {
+        Layer(bytes)
+    }
+
+    /// The bytes, to keep or to look into.
+    pub const fn bytes(&self) -> &LayerBytes {
+        &self.0
+    }
+
+    /// Puts a message at the end of a venue's wait, as [`arrive`].
+    ///
+    /// ```
+    /// use legging::{Layer, Message, Number};
+    ///
+    /// let mut layer = Layer::fresh();
+    /// assert_eq!(layer.arrive(3, &Message::Sweep), Number::DONE);
+    /// assert_eq!(layer.arrive(4, &Message::Sweep), Number::NO_VENUE);
+    /// assert_eq!(layer.bytes().waiting(), [0, 0, 0, 1]);
+    /// ```
+    pub fn arrive(&mut self, venue: u32, message: &Message) -> Number {
+        arrive(&mut self.0, venue, &message.encode())
+    }
+
+    /// Does the message at the head of the next venue's wait, as [`turn`].
+    ///
+    /// ```
+    /// use legging::{Layer, Number};
+    ///
+    /// let turned = Layer::fresh().turn(&mut [0; 100]);
+    /// assert_eq!((turned.number(), turned.venue()), (Number::DONE, None));
+    /// ```
+    pub fn turn(&mut self, report: &mut [u8]) -> Turned {
+        turn(&mut self.0, report)
     }
 }

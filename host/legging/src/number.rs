@@ -1,9 +1,31 @@
 //! The number that a call ends with.
 
+use std::error::Error;
 use std::fmt::{self, Display};
 
 /// What a call returned: 0 to 14, 15 and 16 of a set, 17 and 18 of an arrival, 19 to 21 of a
 /// feed.
+///
+/// As an error it is why a call did not do what it was asked for:
+///
+/// ```
+/// use legging::{Number, Set};
+///
+/// fn venue_of(bytes: &[u8]) -> Result<legging::Venue, Box<dyn std::error::Error>> {
+///     Ok(Set::from_bytes(bytes).read()?)
+/// }
+/// let error = venue_of(&[]).unwrap_err();
+/// assert_eq!(error.to_string(), "16: the records are no set");
+/// assert_eq!(error.downcast_ref(), Some(&Number::BAD_SET));
+/// ```
+///
+/// A number that is not looked at is warned of:
+///
+/// ```compile_fail
+/// #![deny(unused_must_use)]
+/// legging::run(&[], &mut []);
+/// ```
+#[must_use = "a call that did not do what it was asked for tells it by its number alone"]
 #[derive(Clone, Copy, Debug, PartialEq, Eq, PartialOrd, Ord, Hash)]
 pub struct Number(u8);
 
@@ -67,6 +89,14 @@ impl Number {
         self.0
     }
 
+    /// Nothing where it is [`Number::DONE`], else the number as an error.
+    pub fn ok(self) -> Result<(), Number> {
+        match self {
+            Number::DONE => Ok(()),
+            other => Err(other),
+        }
+    }
+
     /// Whether a message was done, refused or not: of a one-message call the
     /// messages done are then 1, else 0.
     pub fn is_done(self) -> bool {
@@ -103,6 +133,8 @@ impl Number {
         }
     }
 }
+
+impl Error for Number {}
 
 /// The number and its meaning.
 impl Display for Number {

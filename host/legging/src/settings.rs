@@ -18,6 +18,13 @@ pub struct Settings {
 
 /// The settings of a venue in force at a message number, any number: of each the last
 /// that a message numbered no higher has entered. None where the venue is unsound.
+///
+/// ```
+/// use legging::{settings, VenueBytes};
+///
+/// let told = settings(&VenueBytes::fresh(), 0).expect("a sound venue");
+/// assert_eq!((told.increments[7], told.percent), (10, 5));
+/// ```
 pub fn settings(venue: &VenueBytes, number: u32) -> Option<Settings> {
     let mut told = [0; SETTINGS_BYTES];
     if settings_in(venue.as_bytes(), number, &mut told) != Number::DONE {

@@ -1,14 +1,26 @@
 //! A venue held by a host between one-message calls.
 
-use crate::archive::fresh_in;
+use crate::archive::{fresh_in, one_message};
 use crate::number::Number;
+use crate::set::Set;
+use crate::settings::{settings, Settings};
 use std::fmt;
+use wire::Message;
 
 /// The length of a venue.
 pub const VENUE_BYTES: usize = 4_656;
 
+/// Where the legging orders begin: after the complex ones.
+const LEGGING_AT: usize = 2_336;
+
+/// Where the series begin: after the legging orders.
+const SERIES_AT: usize = 2_528;
+
 /// Where the last id stands: after the orders and the series.
 const LAST_ID_AT: usize = 2_600;
+
+/// Where the editions begin: after the last id.
+const EDITIONS_AT: usize = 2_604;
 
 /// Where the regular orders' reserve and display begin: after the editions.
 const SHOWN_AT: usize = 2_924;
@@ -31,16 +43,24 @@ const SHOWN_BYTES: usize = 8;
 const COMPLEX_PLACES: usize = 32;
 const COMPLEX_BYTES: usize = 17;
 const RATIO_BYTES: usize = 2;
+const LEGGING_PLACES: usize = 16;
+const LEGGING_BYTES: usize = 12;
 const SERIES: usize = 8;
+const SERIES_BYTES: usize = 9;
+const EDITIONS: usize = 32;
+const EDITION_BYTES: usize = 10;
 const GENERATIONS_KEPT: usize = 20;
 
 /// A regular order that rests.
 #[derive(Clone, Copy, Debug, PartialEq, Eq)]
 pub struct RegularOrder {
+    /// The id that it was entered with.
     pub id: u32,
+    /// The series, 0 to 7.
     pub series: u8,
     /// 0 to buy, 1 to sell.
     pub side: u8,
+    /// The limit price.
     pub price: u32,
     /// What is left of it.
     pub quantity: u32,
@@ -52,8 +72,11 @@ pub struct RegularOrder {
 /// its ratio: the contracts that one unit has of it.
 #[derive(Clone, Copy, Debug, PartialEq, Eq)]
 pub struct ComplexOrder {
+    /// The id that it was entered with.
     pub id: u32,
+    /// The series of each leg, 0 to 7.
     pub series: [u8; 2],
+    /// Of each leg 0 to buy, 1 to sell.
     pub sides: [u8; 2],
     /// 1 and 1 for an order of kind 2.
     pub ratios: [u8; 2],
@@ -63,6 +86,45 @@ pub struct ComplexOrder {
     pub limit: i32,
     /// What is open of it, in units.
     pub quantity: u32,
+}
+
+/// A legging order that stands.
+#[derive(Clone, Copy, Debug, PartialEq, Eq)]
+pub struct LeggingOrder {
+    /// The id of its complex order.
+    pub parent: u32,
+    /// The series, 0 to 7.
+    pub series: u8,
+    /// 0 to buy, 1 to sell.
+    pub side: u8,
+    /// Its price, which is shown rounded to the increment.
+    pub price: u32,
+    /// Its contracts.
+    pub quantity: u32,
+}
+
+/// A series, with its away prices.
+#[derive(Clone, Copy, Debug, PartialEq, Eq)]
+pub struct Series {
+    /// 0 closed, 1 open, 2 in auction.
+    pub status: u8,
+    /// The away bid; 0 where there is none.
+    pub bid: u32,
+    /// The away offer; 0 where there is none.
+    pub offer: u32,
+}
+
+/// A setting that a message has entered.
+#[derive(Clone, Copy, Debug, PartialEq, Eq)]
+pub struct Edition {
+    /// Its edition; they rise over all figures.
+    pub edition: u32,
+    /// The number of its message, from which on it holds.
+    pub message: u32,
+    /// 0 to 7 for the increment of that series, 8 for the percentage of the band.
+    pub figure: u8,
+    /// The increment or the percentage.
+    pub value: u8,
 }
 
 /// A venue held as bytes: one value for one state.
@@ -151,6 +213,47 @@ impl VenueBytes {
         orders.take_while(|order| order.quantity > 0)
     }
 
+    /// The legging orders that stand, by place: 2 × series + side.
+    pub fn legging_orders(&self) -> impl Iterator<Item = LeggingOrder> + '_ {
+        let orders = (0..LEGGING_PLACES).map(|place| {
+            let at = LEGGING_AT + place * LEGGING_BYTES;
+            LeggingOrder {
+                parent: self.u32_at(at),
+                series: (place / 2) as u8,
+                side: (place % 2) as u8,
+                price: self.u32_at(at + 4),
+                quantity: self.u32_at(at + 8),
+            }
+        });
+        orders.filter(|order| order.quantity > 0)
+    }
+
+    /// The eight series, with their away prices.
+    pub fn series(&self) -> [Series; SERIES] {
+        std::array::from_fn(|series| {
+            let at = SERIES_AT + series * SERIES_BYTES;
+            Series {
+                status: self.0[at],
+                bid: self.u32_at(at + 1),
+                offer: self.u32_at(at + 5),
+            }
+        })
+    }
+
+    /// The editions kept, rising.
+    pub fn editions(&self) -> impl Iterator<Item = Edition> + '_ {
+        let editions = (0..EDITIONS).map(|place| {
+            let at = EDITIONS_AT + place * EDITION_BYTES;
+            Edition {
+                edition: self.u32_at(at),
+                message: self.u32_at(at + 4),
+                figure: self.0[at + 8],
+                value: self.0[at + 9],
+            }
+        });
+        editions.take_while(|entry| entry.edition > 0)
+    }
+
     /// The numbers of the messages that generated the last legging orders of each series,
     /// at most 20 of them, oldest first.
     pub fn generations(&self) -> [Vec<u32>; SERIES] {
@@ -178,5 +281,122 @@ impl fmt::Debug for VenueBytes {
         f.debug_struct("VenueBytes")
             .field("last_id", &self.last_id())
             .finish_non_exhaustive()
+    }
+}
+
+/// A venue that a host holds, with how many messages were done upon it.
+///
+/// ```
+/// use legging::{records, Leg, Message, NewOrder, Number, Record, Venue, MOST_BYTES};
+///
+/// let mut venue = Venue::fresh();
+/// let mut report = [0; MOST_BYTES];
+/// let order = Message::Order(NewOrder {
+///     id: 1,
+///     leg: Leg { series: 0, side: 1 },
+///     price: 130,
+///     quantity: 15,
+///     shows: None,
+/// });
+/// venue.take(&order, &mut report).ok()?;
+/// let answer = records(&report).next().unwrap().unwrap();
+/// assert!(matches!(answer, Record::Answer(answer) if answer.refusal == 0));
+/// assert_eq!(venue.bytes().regular_orders().next().unwrap().price, 130);
+/// assert_eq!(venue.take(&order, &mut report), Number::ID_NOT_ABOVE);
+/// assert_eq!(venue.done(), 2);
+/// # Ok::<(), Number>(())
+/// ```
+#[derive(Clone, Debug, Default, PartialEq, Eq)]
+pub struct Venue {
+    bytes: VenueBytes,
+    done: u32,
+}
+
+impl Venue {
+    /// A fresh venue, upon which no message was done.
+    ///
+    /// ```
+    /// let venue = legging::Venue::fresh();
+    /// assert_eq!((venue.done(), venue.bytes().series()[7].status), (0, 1));
+    /// ```
+    pub fn fresh() -> Self {
+        Venue::default()
+    }
+
+    /// A venue kept as bytes, upon which so many messages were done. Whether it is sound
+    /// is tested by the calls.
+    pub const fn new(bytes: VenueBytes, done: u32) -> Self {
+        Venue { bytes, done }
+    }
+
+    /// The bytes, to keep or to look into.
+    pub const fn bytes(&self) -> &VenueBytes {
+        &self.bytes
+    }
+
+    /// How many messages were done, refused ones counted; the next one's number is one
+    /// more.
+    pub const fn done(&self) -> u32 {
+        self.done
+    }
+
+    /// Takes a message, as [`one_message`]: it is counted unless the number is
+    /// [`Number::UNSOUND`] or [`Number::NO_ROOM`].
+    ///
+    /// ```
+    /// use legging::{Cancel, Message, Number, Venue, MOST_BYTES};
+    ///
+    /// let mut venue = Venue::fresh();
+    /// let cancel = Message::Cancel(Cancel { id: 1 });
+    /// assert_eq!(venue.take(&cancel, &mut [0; 3]), Number::NO_ROOM);
+    /// assert_eq!(venue.take(&cancel, &mut [0; MOST_BYTES]), Number::NO_SUCH_ORDER);
+    /// assert_eq!(venue.done(), 1);
+    /// ```
+    pub fn take(&mut self, message: &Message, report: &mut [u8]) -> Number {
+        self.take_bytes(&message.encode(), report)
+    }
+
+    /// As [`Venue::take`], the first message of some bytes.
+    ///
+    /// ```
+    /// use legging::{Number, Venue, MOST_BYTES};
+    ///
+    /// let number = Venue::fresh().take_bytes(&[9, 0, 6], &mut [0; MOST_BYTES]);
+    /// assert_eq!(number, Number::TORN);
+    /// ```
+    pub fn take_bytes(&mut self, message: &[u8], report: &mut [u8]) -> Number {
+        let number = one_message(&mut self.bytes, self.done, message, report);
+        // The last message number is followed by none: the call ends with NO_ROOM.
+        self.done += u32::from(number.is_done());
+        number
+    }
+
+    /// What held at a message number, as [`settings`].
+    ///
+    /// ```
+    /// use legging::{Message, Percent, Venue, MOST_BYTES};
+    ///
+    /// let mut venue = Venue::fresh();
+    /// let set = Message::Percent(Percent { percent: 7, edition: 1 });
+    /// venue.take(&set, &mut [0; MOST_BYTES]).ok()?;
+    /// let percents = [0, 1].map(|number| venue.settings(number).unwrap().percent);
+    /// assert_eq!(percents, [5, 7]);
+    /// # Ok::<(), legging::Number>(())
+    /// ```
+    pub fn settings(&self, number: u32) -> Option<Settings> {
+        settings(&self.bytes, number)
+    }
+
+    /// The set that carries the venue over an upgrade, as [`Set::of`].
+    ///
+    /// ```
+    /// use legging::Venue;
+    ///
+    /// let venue = Venue::fresh();
+    /// assert_eq!(venue.write_set()?.read()?, venue);
+    /// # Ok::<(), legging::Number>(())
+    /// ```
+    pub fn write_set(&self) -> Result<Set, Number> {
+        Set::of(self)
     }
 }

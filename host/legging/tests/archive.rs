@@ -1,5 +1,7 @@
 //! The wrapper over the archive: what its callers are promised.
 
+use legging::c::{legging_arrive, legging_layer_fresh, legging_turn};
+use legging::c::{legging_feed, legging_fresh, legging_message, legging_run, legging_settings};
 use legging::{arrive, arrive_in, layer_fresh_in, turn, turn_in};
 use legging::{feed, fresh_in, one_message, one_message_in, run, settings, settings_in};
 use legging::{read_set_in, write_set, write_set_in};
@@ -595,7 +597,7 @@ fn an_arrival_that_is_refused_leaves_the_layer() {
 #[test]
 fn a_turn_that_is_ended_leaves_the_layer() {
     let mut layer = LayerBytes::fresh();
-    arrive(&mut layer, 2, &[4, 0, 6, 0]);
+    let _ = arrive(&mut layer, 2, &[4, 0, 6, 0]);
     let given = layer.clone();
     let mut report = [0xC3; 11];
     let ended = turn(&mut layer, &mut report);
@@ -616,7 +618,7 @@ fn a_turn_that_is_ended_leaves_the_layer() {
 #[test]
 fn a_layer_with_a_next_number_not_above_an_editions_is_unsound() {
     let mut layer = LayerBytes::fresh();
-    arrive(&mut layer, 2, &[9, 0, 8, 0, 50, 1, 0, 0, 0]);
+    let _ = arrive(&mut layer, 2, &[9, 0, 8, 0, 50, 1, 0, 0, 0]);
     let entered = (Number::DONE, Some(2), "64 1 0 0 0\n".to_string());
     assert_eq!(turned(&mut layer, 12), entered);
     let told = settings(&layer.venues()[2], 1).map(|told| told.percent);
@@ -642,51 +644,6 @@ fn layer_memory_of_another_length_is_unsound() {
         assert_eq!((ended.get(), report), (9 + 4 * 256, [0; 20]));
         assert_eq!(layer, vec![0x77; length]);
     }
-}
-
-extern "C" {
-    fn legging_run(messages: *const u8, n: usize, report: *mut u8, m: usize) -> u8;
-
-    fn legging_feed(
-        main: *const u8,
-        main_len: usize,
-        spare: *const u8,
-        spare_len: usize,
-        report: *mut u8,
-        m: usize,
-    ) -> u8;
-
-    fn legging_fresh(venue: *mut u8, venue_len: usize) -> u8;
-
-    fn legging_message(
-        venue: *mut u8,
-        venue_len: usize,
-        before: u32,
-        message: *const u8,
-        n: usize,
-        report: *mut u8,
-        m: usize,
-    ) -> u8;
-
-    fn legging_settings(
-        venue: *const u8,
-        venue_len: usize,
-        number: u32,
-        settings: *mut u8,
-        m: usize,
-    ) -> u8;
-
-    fn legging_layer_fresh(layer: *mut u8, layer_len: usize) -> u8;
-
-    fn legging_arrive(
-        layer: *mut u8,
-        layer_len: usize,
-        venue: u32,
-        message: *const u8,
-        n: usize,
-    ) -> u8;
-
-    fn legging_turn(layer: *mut u8, layer_len: usize, report: *mut u8, m: usize) -> u32;
 }
 
 #[test]
@@ -732,9 +689,9 @@ fn calls_at_once_do_not_meet() {
             scope.spawn(|| {
                 for _ in 0..500 {
                     let mut report = [0xC3; 400];
-                    run(&messages, &mut report);
+                    assert_eq!(run(&messages, &mut report), Number::DONE);
                     assert_eq!(sheet(&report), SHEET);
-                    feed(&main, &spare, &mut report);
+                    assert_eq!(feed(&main, &spare, &mut report), Number::DONE);
                     assert_eq!(sheet(&report), SHEET);
                 }
             });
@@ -771,7 +728,7 @@ fn a_stack_of_32_kibibytes_is_enough() {
     // The thread and the test take 6 KiB for themselves.
     upon_stack(38 << 10, move || {
         for (message, before) in list.iter().zip(0..) {
-            one_message(&mut venue, before, message, &mut report);
+            let _ = one_message(&mut venue, before, message, &mut report);
         }
         assert_eq!(run(&list.concat(), &mut report), Number::DONE);
         assert_eq!(feed(&line, &line, &mut report), Number::DONE);

@@ -18,7 +18,7 @@ fn venue_after(text: &str) -> (VenueBytes, u32) {
     let mut venue = VenueBytes::fresh();
     let mut done = 0;
     for message in split(&messages) {
-        one_message(&mut venue, done, message, &mut [0; MOST_BYTES]);
+        let _ = one_message(&mut venue, done, message, &mut [0; MOST_BYTES]);
         done += 1;
     }
     (venue, done)
@@ -137,7 +137,7 @@ fn a_session_carried_between_all_its_messages_writes_the_same_records() {
         let mut records = Vec::new();
         for message in &list {
             let mut report = [0; MOST_BYTES];
-            one_message(&mut venue, done, message, &mut report);
+            let _ = one_message(&mut venue, done, message, &mut report);
             let whole = sessions::record::read_report(&report).expect("whole records");
             let bytes: usize = whole.iter().map(|record| record.length()).sum();
             records.extend_from_slice(&report[..bytes]);
