@@ -17,6 +17,8 @@ mod turns;
 use layers::Layer;
 use lists::{session, LAST_KIND};
 use sessions::profile::Profile;
+use sessions::progress::Progress;
+use std::cell::RefCell;
 use std::process::ExitCode;
 
 const HELP: &str = "\
@@ -56,6 +58,7 @@ the kinds above 10: they are those drawn before these came, for an engine of tha
 each first in every other round, upon report memory with 16,384 bytes more than the
 records; before anything is timed, their reports must be equal.
 
+The row that is timed stands in one line on standard error, where that is a terminal.
 `bench spin` repeats the run of a profile (seed 0) or layer, for a profiler.
 ";
 
@@ -67,6 +70,7 @@ pub struct Options {
     pub sessions: usize,
     pub only: Option<String>,
     pub kinds: u16,
+    progress: RefCell<(String, Progress)>,
 }
 
 impl Options {
@@ -76,7 +80,25 @@ impl Options {
 
     pub fn profiles(&self) -> impl Iterator<Item = Profile> + '_ {
         let all = Profile::ALL.into_iter();
-        all.filter(|profile| self.wants(profile.name()))
+        let wanted = all.filter(|profile| self.wants(profile.name()));
+        wanted.inspect(|profile| self.show(profile.name()))
+    }
+
+    /// Shows the table and the row that are being timed.
+    fn show(&self, row: &str) {
+        let (table, progress) = &mut *self.progress.borrow_mut();
+        progress.show(|| format!("{table}: {row}"));
+    }
+
+    /// The table that is timed next; its rows show themselves.
+    fn begin(&self, table: &str) {
+        self.progress.borrow_mut().0 = table.to_string();
+        self.show("begins");
+    }
+
+    /// Takes the line away, for what is printed next.
+    fn end(&self) {
+        self.progress.borrow_mut().1.clear();
     }
 
     /// The messages of each session of a profile.
@@ -86,7 +108,8 @@ impl Options {
 
     pub fn layers(&self) -> impl Iterator<Item = Layer> + '_ {
         let all = Layer::ALL.into_iter();
-        all.filter(|layer| self.wants(layer.name()))
+        let wanted = all.filter(|layer| self.wants(layer.name()));
+        wanted.inspect(|layer| self.show(layer.name()))
     }
 
     fn parse(arguments: &[String]) -> Result<Options, String> {
@@ -97,6 +120,7 @@ impl Options {
             sessions: 2_500,
             only: None,
             kinds: LAST_KIND,
+            progress: RefCell::new((String::new(), Progress::on_standard_error())),
         };
         let mut rest = arguments.iter();
         while let Some(word) = rest.next() {
@@ -205,7 +229,10 @@ fn perform(arguments: &[String]) -> Result<(), String> {
     println!("{}", machine::described());
     for (name, title, make) in TABLES {
         if options.tables.is_empty() || options.tables.iter().any(|table| table == name) {
-            println!("### {title}\n\n{}", make(&options)?);
+            options.begin(name);
+            let table = make(&options)?;
+            options.end();
+            println!("### {title}\n\n{table}");
         }
     }
     Ok(())

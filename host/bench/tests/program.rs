@@ -1,5 +1,6 @@
 //! The program: its tables, its errors, its exit status.
 
+use sessions::progress::run_on_terminal;
 use std::process::Command;
 
 fn bench(arguments: &[&str]) -> (bool, String, String) {
@@ -36,6 +37,22 @@ fn every_table_has_its_rows() {
         assert_eq!(lines.count(), rows + 1, "{told}");
         assert!(!told.contains("NaN") && !told.contains("inf"), "{told}");
     }
+}
+
+#[test]
+fn the_row_that_is_timed_is_shown_on_a_terminal_alone() {
+    let table = [
+        "books", "profiles", "--rounds", "1", "--seeds", "1", "--only", "hits",
+    ];
+    let (succeeded, _, error) = bench(&table);
+    assert_eq!((succeeded, error.as_str()), (true, ""));
+    let output = run_on_terminal(env!("CARGO_BIN_EXE_bench"), &table).expect("python3 starts");
+    let said = String::from_utf8_lossy(&output.stdout);
+    assert!(output.status.success(), "{said}");
+    for line in ["\rprofiles: ", "\rbooks: begins"] {
+        assert!(said.contains(line), "{said}");
+    }
+    assert!(said.ends_with("\r\x1b[K"), "{said}");
 }
 
 #[test]

@@ -9,6 +9,7 @@ use compare::own::compare_own;
 use compare::session::compare_session;
 use sessions::counted::counted;
 use sessions::profile::Profile;
+use sessions::progress::Progress;
 use sessions::stream::{Bytes, Form, Messages};
 use std::ffi::OsString;
 use std::fs::File;
@@ -53,6 +54,8 @@ an error, and --bytes takes them as bytes. It is taken message by message, each 
 venue that the last one left, and whole by a run with report memory that just fits and with
 more; and both sheets are compared line by line. - is standard input, and what follows --
 is a file's name. `venue compare` starts this.
+
+How far it is stands in one line on standard error, where that is a terminal.
 ";
 
 /// When to stop.
@@ -249,10 +252,10 @@ impl Request {
     }
 }
 
-/// Compares session after session, and shows from time to time how far it is.
+/// Compares session after session, and shows how far it is.
 fn compare_all(request: &Request) -> Result<Counts, String> {
     let start = Instant::now();
-    let mut shown = start;
+    let mut progress = Progress::on_standard_error();
     let mut comparer = Comparer::new(&Archive, request.fault);
     while !request.until.is_reached(&comparer.counts, start) {
         let count = request.profiles.len() as u64;
@@ -260,10 +263,7 @@ fn compare_all(request: &Request) -> Result<Counts, String> {
         let seed = request.seed.wrapping_add(comparer.counts.sessions / count);
         let compared = compare_session(&mut comparer, profile, seed, request.one_in);
         compared.map_err(|difference| difference.to_string())?;
-        if shown.elapsed() >= Duration::from_secs(5).max(start.elapsed() / 20) {
-            shown = Instant::now();
-            eprintln!("{}", request.until.progress(&comparer.counts, start));
-        }
+        progress.show(|| request.until.progress(&comparer.counts, start));
     }
     Ok(comparer.counts)
 }

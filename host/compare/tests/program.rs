@@ -1,5 +1,6 @@
 //! The program: its output, its errors, its exit status.
 
+use sessions::progress::run_on_terminal;
 use std::process::Command;
 
 fn compare(arguments: &[&str]) -> (i32, String, String) {
@@ -22,9 +23,22 @@ fn one_session_without_a_difference() {
 
 #[test]
 fn a_soak_ends_with_the_messages_asked_for() {
-    let (status, told, _) = compare(&["soak", "--messages", "100", "--seed", "4"]);
-    assert_eq!(status, 0);
+    let (status, told, error) = compare(&["soak", "--messages", "100", "--seed", "4"]);
+    assert_eq!((status, error.as_str()), (0, ""));
     assert!(told.starts_with("no difference\n"), "{told}");
+}
+
+#[test]
+fn a_soak_shows_on_a_terminal_how_far_it_is() {
+    let soak = ["soak", "--messages", "100", "--seed", "4"];
+    let output = run_on_terminal(env!("CARGO_BIN_EXE_compare"), &soak).expect("python3 starts");
+    let said = String::from_utf8_lossy(&output.stdout);
+    assert!(output.status.success(), "{said}");
+    assert!(said.contains(" of 100 messages, no difference"), "{said}");
+    assert!(
+        said.starts_with('\r') && said.ends_with("\r\x1b[K"),
+        "{said}"
+    );
 }
 
 #[test]

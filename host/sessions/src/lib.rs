@@ -35,6 +35,7 @@ pub mod pairs;
 pub mod phases;
 pub mod play;
 pub mod profile;
+pub mod progress;
 pub mod random;
 pub mod ranges;
 pub mod replay;

@@ -3,10 +3,11 @@
 use super::generate::profile;
 use super::Command;
 use crate::arguments::Arguments;
-use crate::output::{tell, Out};
+use crate::output::Out;
 use crate::{Failure, Outcome};
 use sessions::coverage::Coverage;
 use sessions::profile::Profile;
+use sessions::progress::Progress;
 use sessions::soak::check_session;
 use std::io::Write;
 
@@ -24,17 +25,15 @@ pub static COMMAND: Command = Command {
 const HELP: &str = "\
 Random sessions over all profiles, or one, with every check after every message,
 from seed N (default 0) on, until M messages (default 100000) or K sessions were
-done. Progress goes to standard error; the coverage is printed at the end. A
-violation is named with the profile and seed that repeat it:
+done: the reference and the plain model are driven side by side. How far it is
+stands in one line on standard error, where that is a terminal; the coverage is
+printed at the end. A violation is named with the profile and seed that repeat it:
 
   venue check --profile P --seed N --sessions 1
 
 With --complete it is an error if some record, cause, refusal or rare case was
 not shown.
 ";
-
-/// How many messages are checked until that is told.
-const TOLD_EVERY: u64 = 50_000;
 
 fn check(arguments: &Arguments, out: &mut Out) -> Outcome {
     let profiles = match arguments.option("--profile") {
@@ -45,19 +44,19 @@ fn check(arguments: &Arguments, out: &mut Out) -> Outcome {
     let messages = arguments.number("--messages", Some(100_000))?;
     let sessions = arguments.number("--sessions", Some(u64::MAX))?;
     let mut coverage = Coverage::default();
-    let mut shown = 0;
+    let mut progress = Progress::on_standard_error();
     while coverage.messages < messages && coverage.sessions < sessions {
         let count = profiles.len() as u64;
         let profile = profiles[(coverage.sessions % count) as usize];
         let session_seed = seed.wrapping_add(coverage.sessions / count);
         check_session(profile, session_seed, &mut coverage)
             .map_err(|failure| Failure::Input(failure.to_string()))?;
-        if coverage.messages / TOLD_EVERY > shown {
-            shown = coverage.messages / TOLD_EVERY;
-            let what = format!("{} of {messages} messages, no violation", coverage.messages);
-            tell(&arguments.name(), &what);
-        }
+        progress.show(|| {
+            let (done, sessions) = (coverage.messages, coverage.sessions);
+            format!("{done} of {messages} messages, {sessions} sessions, no violation")
+        });
     }
+    drop(progress);
     write!(out, "{coverage}")?;
     let missing = coverage.missing();
     if arguments.has("--complete") && !missing.is_empty() {
