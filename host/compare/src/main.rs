@@ -2,11 +2,10 @@
 
 #![forbid(unsafe_code)]
 
-use compare::calls::{Comparer, Counts};
-use compare::check::Fault;
-use compare::engine::Archive;
-use compare::own::compare_own;
-use compare::session::compare_session;
+use compare::{in_words, Archive, Replay};
+use sessions::driver::check::Fault;
+use sessions::driver::{drive_own, drive_session, Counts, Driver, Effort};
+use sessions::engine::Reference;
 use sessions::counted::counted;
 use sessions::profile::Profile;
 use sessions::progress::Progress;
@@ -177,8 +176,9 @@ fn compare_file(own: &Own) -> Result<String, String> {
     };
     let list = Messages::new(Bytes::new(input, own.form)).rest();
     let list = list.map_err(named)?;
-    let mut comparer = Comparer::new(&Archive, own.fault);
-    let compared = compare_own(&mut comparer, &list).map_err(named)?;
+    let mut replay = Replay;
+    let mut driver = Driver::new(&Archive, &Reference, &mut replay, own.fault);
+    let compared = drive_own(&mut driver, &list).map_err(named)?;
     let messages = counted(compared.messages as u64, "message");
     let records = counted(compared.records as u64, "record");
     let ways = "by a run, by one-message calls and on the sheet";
@@ -256,16 +256,18 @@ impl Request {
 fn compare_all(request: &Request) -> Result<Counts, String> {
     let start = Instant::now();
     let mut progress = Progress::on_standard_error();
-    let mut comparer = Comparer::new(&Archive, request.fault);
-    while !request.until.is_reached(&comparer.counts, start) {
+    let mut replay = Replay;
+    let mut driver = Driver::new(&Archive, &Reference, &mut replay, request.fault);
+    let (one_in, few) = (request.one_in, false);
+    while !request.until.is_reached(&driver.counts, start) {
         let count = request.profiles.len() as u64;
-        let profile = request.profiles[(comparer.counts.sessions % count) as usize];
-        let seed = request.seed.wrapping_add(comparer.counts.sessions / count);
-        let compared = compare_session(&mut comparer, profile, seed, request.one_in);
-        compared.map_err(|difference| difference.to_string())?;
-        progress.show(|| request.until.progress(&comparer.counts, start));
+        let profile = request.profiles[(driver.counts.sessions % count) as usize];
+        let seed = request.seed.wrapping_add(driver.counts.sessions / count);
+        let compared = drive_session(&mut driver, profile, seed, Effort { one_in, few });
+        compared.map_err(|difference| in_words(&difference))?;
+        progress.show(|| request.until.progress(&driver.counts, start));
     }
-    Ok(comparer.counts)
+    Ok(driver.counts)
 }
 
 impl Until {

@@ -1,28 +1,30 @@
 //! Every comparison can fail: a part of the answer is spoiled in one kind of call,
 //! and the difference must be found there and nowhere else.
 
-use compare::calls::Comparer;
-use compare::check::{Check, Fault, Part};
-use compare::engine::{Archive, Engine, Reference};
-use compare::session::compare_session;
+use compare::{in_words, Archive, Replay};
+use sessions::driver::check::{Check, Fault, Part};
+use sessions::driver::{drive_session, Driver, Effort};
+use sessions::engine::{Engine, Reference};
 use sessions::profile::Profile;
 
 /// Short sessions, which together make every kind of call.
 const SEEDS: [u64; 3] = [0, 3, 5];
 
 fn found(engine: &dyn Engine, fault: Option<Fault>) -> Option<(Check, String)> {
-    let mut comparer = Comparer::new(engine, fault);
+    let mut replay = Replay;
+    let mut driver = Driver::new(engine, &Reference, &mut replay, fault);
+    let (one_in, few) = (5, false);
     SEEDS.into_iter().find_map(|seed| {
-        let compared = compare_session(&mut comparer, Profile::Mixed, seed, 5);
+        let compared = drive_session(&mut driver, Profile::Mixed, seed, Effort { one_in, few });
         compared
             .err()
-            .map(|difference| (difference.check, difference.to_string()))
+            .map(|difference| (difference.check, in_words(&difference)))
     })
 }
 
 fn faults() -> impl Iterator<Item = Fault> {
-    Check::ALL.into_iter().flat_map(|check| {
-        let parts = Part::ALL.into_iter();
+    Check::ALL.iter().copied().flat_map(|check| {
+        let parts = Part::ALL.iter().copied();
         parts
             .filter(move |part| check.has(*part))
             .map(move |part| Fault { check, part })
@@ -36,12 +38,14 @@ fn the_reference_does_not_differ_from_itself() {
 
 #[test]
 fn sets_arrivals_and_lines_get_every_number() {
-    let mut comparer = Comparer::new(&Reference, None);
+    let mut replay = Replay;
+    let mut driver = Driver::new(&Reference, &Reference, &mut replay, None);
+    let (one_in, few) = (50, false);
     for seed in 0..10 {
-        let compared = compare_session(&mut comparer, Profile::Hits, seed, 50);
+        let compared = drive_session(&mut driver, Profile::Hits, seed, Effort { one_in, few });
         assert!(compared.is_ok());
     }
-    let numbers = &comparer.counts.numbers[15..];
+    let numbers = &driver.counts.numbers[15..];
     assert!(numbers.iter().all(|count| *count > 0), "{numbers:?}");
 }
 

@@ -19,313 +19,103 @@ use crate::view::{opposite, parts_of, place_of, rounded, within, Declined, View}
 use reference::{Legging, Venue};
 use std::fmt::{self, Display};
 
-/// Cases that chance seldom finds.
-#[derive(Clone, Copy, Debug, PartialEq, Eq)]
-pub enum Rare {
-    FailingHides,
-    HiddenWouldStand,
-    BandAndNet,
-    ReplacedByClass,
-    ReplacedByPrice,
-    OwnReplacedInSweep,
-    HitInPart,
-    HitInFull,
-    CrossInSweep,
-    CrossOfTwoWithLegging,
-    TakerAboveLegs,
-    MakerAboveLegs,
-    AboveLegsInSweep,
-    TouchWithoutPair,
-    SeveralRounds,
-    RegularBookFull,
-    ComplexBookFull,
-    BothBooksFull,
-    BelowIncrement,
-    ShownAtIncrement,
-    ShownAtHighest,
-    LimitAtBandEdge,
-    PercentRemoves,
-    InByEdition,
-    OutByEdition,
-    OnByEdition,
-    OffByEdition,
-    ShownByEdition,
-    ChangesNothing,
-    StaleInUse,
-    InUseFull,
-    EditionsFull,
-    NumberNotAbove,
-    ShowsAll,
-    ShownRefused,
-    ReserveTaken,
-    ReserveById,
-    ReserveBeforeWorse,
-    ReserveBeforeLegging,
-    RestHasReserve,
-    LastIsShown,
-    ReserveCancelled,
-    UsedUp,
-    BehindReserve,
-    SharedInSweep,
-    GeneratedByShown,
-    RemovedByShown,
-    RatiosRefused,
-    EqualBeforeOthers,
-    LimitOfRatios,
-    UnitsCancelled,
-    PairOfUnits,
-    UnitsInSweep,
-    RoundsOfUnits,
-    ShortAtOnce,
-    ShortAfterPair,
-    ShortOfShown,
-    CrossOfUnits,
-    CrossNamedOtherwise,
-    OtherRatios,
-    UnitsAboveLegs,
-    TouchOfUnits,
-    TouchShortThenPair,
-    LimitedRefused,
-    LimitedNone,
-    LimitedAll,
-    LimitedPart,
-    GoesRound,
-    ReachedGone,
-    GoneByTurn,
-    LookedClosed,
-    PairInLimited,
-    CrossInLimited,
-    GeneratedByLimited,
-    GeneratedInRound,
-    HolderStays,
-    JustAllowed,
-    SeveralInOne,
-    NumberNotAboveMade,
-}
+macro_rules! rare {
+    ($($rare:ident $name:literal)+) => {
+        /// Cases that chance seldom finds.
+        #[derive(Clone, Copy, Debug, PartialEq, Eq)]
+        pub enum Rare {
+            $($rare,)+
+        }
 
-impl Rare {
-    pub const ALL: [(Rare, &'static str); RARE] = [
-        (
-            Rare::FailingHides,
-            "settling: a failing order hides another's clear price",
-        ),
-        (
-            Rare::HiddenWouldStand,
-            "  of these, the other would have stood without it",
-        ),
-        (Rare::BandAndNet, "settling: causes 5 and 2 both apply"),
-        (
-            Rare::ReplacedByClass,
-            "replacement by class at an equal price",
-        ),
-        (Rare::ReplacedByPrice, "replacement by a better price"),
-        (Rare::OwnReplacedInSweep, "own replacement in a sweep"),
-        (Rare::HitInPart, "hit of a legging order in part"),
-        (Rare::HitInFull, "hit of a legging order in full"),
-        (Rare::CrossInSweep, "cross in a sweep"),
-        (
-            Rare::CrossOfTwoWithLegging,
-            "cross of two orders that both have legging orders",
-        ),
-        (
-            Rare::TakerAboveLegs,
-            "no cross: the taker's net above its best regular prices",
-        ),
-        (
-            Rare::MakerAboveLegs,
-            "no cross: the maker's net above its best regular prices",
-        ),
-        (
-            Rare::AboveLegsInSweep,
-            "no cross in a sweep: a net above best regular prices",
-        ),
-        (Rare::TouchWithoutPair, "touch that no pair follows"),
-        (Rare::SeveralRounds, "legging in of several rounds"),
-        (Rare::RegularBookFull, "128 regular orders rest"),
-        (Rare::ComplexBookFull, "32 complex orders rest"),
-        (Rare::BothBooksFull, "both books full at once"),
-        (
-            Rare::BelowIncrement,
-            "legging order at an own price below the increment",
-        ),
-        (
-            Rare::ShownAtIncrement,
-            "legging order shown at the increment",
-        ),
-        (Rare::ShownAtHighest, "legging order shown at 100,000"),
-        (
-            Rare::LimitAtBandEdge,
-            "generation with the limit at the edge of the band",
-        ),
-        (
-            Rare::PercentRemoves,
-            "percentage that removes a legging order",
-        ),
-        (
-            Rare::InByEdition,
-            "limit in band by an edition, not by edition 0",
-        ),
-        (
-            Rare::OutByEdition,
-            "limit in band by edition 0, not by the one in force",
-        ),
-        (
-            Rare::OnByEdition,
-            "order taken at a price off the increment of edition 0",
-        ),
-        (
-            Rare::OffByEdition,
-            "order refused at a price on the increment of edition 0",
-        ),
-        (
-            Rare::ShownByEdition,
-            "legging order shown otherwise than by edition 0",
-        ),
-        (Rare::ChangesNothing, "setting that changes nothing"),
-        (Rare::StaleInUse, "refusal 11 where 12 applies too"),
-        (Rare::InUseFull, "refusal 12 where 13 applies too"),
-        (Rare::EditionsFull, "32 editions held"),
-        (
-            Rare::NumberNotAbove,
-            "refusal 9 for a number not above an edition's",
-        ),
-        (Rare::ShowsAll, "order of kind 9 that shows all of it"),
-        (Rare::ShownRefused, "refusal 4 for the shown quantity alone"),
-        (Rare::ReserveTaken, "trade of reserve"),
-        (
-            Rare::ReserveById,
-            "reserve of two orders taken at one price",
-        ),
-        (
-            Rare::ReserveBeforeWorse,
-            "reserve taken before size shown at a worse price",
-        ),
-        (
-            Rare::ReserveBeforeLegging,
-            "reserve taken before a legging order at an equal price",
-        ),
-        (
-            Rare::RestHasReserve,
-            "order that trades when it comes and rests with reserve",
-        ),
-        (
-            Rare::LastIsShown,
-            "order whose reserve is used up, and the last of it shown",
-        ),
-        (Rare::ReserveCancelled, "cancel of an order with reserve"),
-        (
-            Rare::UsedUp,
-            "complex order that takes all that an order with reserve shows",
-        ),
-        (
-            Rare::BehindReserve,
-            "trade of a complex order behind reserve at a better price",
-        ),
-        (
-            Rare::SharedInSweep,
-            "two orders of a sweep that share what one order shows",
-        ),
-        (
-            Rare::GeneratedByShown,
-            "legging order no larger than what is shown, with reserve behind it",
-        ),
-        (
-            Rare::RemovedByShown,
-            "settling: cause 2 for the size shown, with reserve enough",
-        ),
-        (Rare::RatiosRefused, "refusal 4 for the ratios alone"),
-        (
-            Rare::EqualBeforeOthers,
-            "refusal 14 where 5, 6 or 7 applies too",
-        ),
-        (
-            Rare::LimitOfRatios,
-            "unequal ratios: limit beyond that of kind 2",
-        ),
-        (Rare::UnitsCancelled, "unequal ratios: cancel"),
-        (Rare::PairOfUnits, "unequal ratios: pair"),
-        (Rare::UnitsInSweep, "unequal ratios: pair in a sweep"),
-        (
-            Rare::RoundsOfUnits,
-            "unequal ratios: legging in of several rounds",
-        ),
-        (
-            Rare::ShortAtOnce,
-            "unequal ratios: less than a unit at a price, no pair",
-        ),
-        (
-            Rare::ShortAfterPair,
-            "unequal ratios: less than a unit at a price after a pair",
-        ),
-        (
-            Rare::ShortOfShown,
-            "unequal ratios: less than a unit shown, with reserve enough",
-        ),
-        (Rare::CrossOfUnits, "unequal ratios: cross"),
-        (
-            Rare::CrossNamedOtherwise,
-            "  of these, with the other leg named first",
-        ),
-        (
-            Rare::OtherRatios,
-            "no cross: sides reversed and limits met, other ratios",
-        ),
-        (
-            Rare::UnitsAboveLegs,
-            "no cross of unequal ratios: a net above best regular prices",
-        ),
-        (
-            Rare::TouchOfUnits,
-            "unequal ratios: touch of sizes that fill a unit",
-        ),
-        (
-            Rare::TouchShortThenPair,
-            "touch with cause 10 that a pair follows",
-        ),
-        (
-            Rare::LimitedRefused,
-            "refusal 4 for the number of a limited sweep",
-        ),
-        (Rare::LimitedNone, "limited sweep: no order rests"),
-        (Rare::LimitedAll, "limited sweep: every order looked at"),
-        (Rare::LimitedPart, "limited sweep: some orders looked at"),
-        (Rare::GoesRound, "limited sweep: on from the lowest id"),
-        (
-            Rare::ReachedGone,
-            "limited sweep: the last order looked at is gone",
-        ),
-        (Rare::GoneByTurn, "limited sweep: an order gone by its turn"),
-        (
-            Rare::LookedClosed,
-            "limited sweep: an order with a closed series",
-        ),
-        (Rare::PairInLimited, "limited sweep: pair"),
-        (Rare::CrossInLimited, "limited sweep: cross"),
-        (Rare::GeneratedByLimited, "limited sweep: generation"),
-        (
-            Rare::GeneratedInRound,
-            "  of these, for a lower id after a higher one",
-        ),
-        (
-            Rare::HolderStays,
-            "the ceiling: the holder of a place stays",
-        ),
-        (
-            Rare::JustAllowed,
-            "generation 256 messages after the oldest of 20",
-        ),
-        (
-            Rare::SeveralInOne,
-            "generation of a series twice in one message",
-        ),
-        (
-            Rare::NumberNotAboveMade,
-            "refusal 9 for a number not above a generation's",
-        ),
-    ];
+        impl Rare {
+            pub const ALL: [(Rare, &'static str); RARE] = [$((Rare::$rare, $name)),+];
+        }
+    };
 }
 
 const RARE: usize = 79;
+
+rare! {
+    FailingHides "settling: a failing order hides another's clear price"
+    HiddenWouldStand "  of these, the other would have stood without it"
+    BandAndNet "settling: causes 5 and 2 both apply"
+    ReplacedByClass "replacement by class at an equal price"
+    ReplacedByPrice "replacement by a better price"
+    OwnReplacedInSweep "own replacement in a sweep"
+    HitInPart "hit of a legging order in part"
+    HitInFull "hit of a legging order in full"
+    CrossInSweep "cross in a sweep"
+    CrossOfTwoWithLegging "cross of two orders that both have legging orders"
+    TakerAboveLegs "no cross: the taker's net above its best regular prices"
+    MakerAboveLegs "no cross: the maker's net above its best regular prices"
+    AboveLegsInSweep "no cross in a sweep: a net above best regular prices"
+    TouchWithoutPair "touch that no pair follows"
+    SeveralRounds "legging in of several rounds"
+    RegularBookFull "128 regular orders rest"
+    ComplexBookFull "32 complex orders rest"
+    BothBooksFull "both books full at once"
+    BelowIncrement "legging order at an own price below the increment"
+    ShownAtIncrement "legging order shown at the increment"
+    ShownAtHighest "legging order shown at 100,000"
+    LimitAtBandEdge "generation with the limit at the edge of the band"
+    PercentRemoves "percentage that removes a legging order"
+    InByEdition "limit in band by an edition, not by edition 0"
+    OutByEdition "limit in band by edition 0, not by the one in force"
+    OnByEdition "order taken at a price off the increment of edition 0"
+    OffByEdition "order refused at a price on the increment of edition 0"
+    ShownByEdition "legging order shown otherwise than by edition 0"
+    ChangesNothing "setting that changes nothing"
+    StaleInUse "refusal 11 where 12 applies too"
+    InUseFull "refusal 12 where 13 applies too"
+    EditionsFull "32 editions held"
+    NumberNotAbove "refusal 9 for a number not above an edition's"
+    ShowsAll "order of kind 9 that shows all of it"
+    ShownRefused "refusal 4 for the shown quantity alone"
+    ReserveTaken "trade of reserve"
+    ReserveById "reserve of two orders taken at one price"
+    ReserveBeforeWorse "reserve taken before size shown at a worse price"
+    ReserveBeforeLegging "reserve taken before a legging order at an equal price"
+    RestHasReserve "order that trades when it comes and rests with reserve"
+    LastIsShown "order whose reserve is used up, and the last of it shown"
+    ReserveCancelled "cancel of an order with reserve"
+    UsedUp "complex order that takes all that an order with reserve shows"
+    BehindReserve "trade of a complex order behind reserve at a better price"
+    SharedInSweep "two orders of a sweep that share what one order shows"
+    GeneratedByShown "legging order no larger than what is shown, with reserve behind it"
+    RemovedByShown "settling: cause 2 for the size shown, with reserve enough"
+    RatiosRefused "refusal 4 for the ratios alone"
+    EqualBeforeOthers "refusal 14 where 5, 6 or 7 applies too"
+    LimitOfRatios "unequal ratios: limit beyond that of kind 2"
+    UnitsCancelled "unequal ratios: cancel"
+    PairOfUnits "unequal ratios: pair"
+    UnitsInSweep "unequal ratios: pair in a sweep"
+    RoundsOfUnits "unequal ratios: legging in of several rounds"
+    ShortAtOnce "unequal ratios: less than a unit at a price, no pair"
+    ShortAfterPair "unequal ratios: less than a unit at a price after a pair"
+    ShortOfShown "unequal ratios: less than a unit shown, with reserve enough"
+    CrossOfUnits "unequal ratios: cross"
+    CrossNamedOtherwise "  of these, with the other leg named first"
+    OtherRatios "no cross: sides reversed and limits met, other ratios"
+    UnitsAboveLegs "no cross of unequal ratios: a net above best regular prices"
+    TouchOfUnits "unequal ratios: touch of sizes that fill a unit"
+    TouchShortThenPair "touch with cause 10 that a pair follows"
+    LimitedRefused "refusal 4 for the number of a limited sweep"
+    LimitedNone "limited sweep: no order rests"
+    LimitedAll "limited sweep: every order looked at"
+    LimitedPart "limited sweep: some orders looked at"
+    GoesRound "limited sweep: on from the lowest id"
+    ReachedGone "limited sweep: the last order looked at is gone"
+    GoneByTurn "limited sweep: an order gone by its turn"
+    LookedClosed "limited sweep: an order with a closed series"
+    PairInLimited "limited sweep: pair"
+    CrossInLimited "limited sweep: cross"
+    GeneratedByLimited "limited sweep: generation"
+    GeneratedInRound "  of these, for a lower id after a higher one"
+    HolderStays "the ceiling: the holder of a place stays"
+    JustAllowed "generation 256 messages after the oldest of 20"
+    SeveralInOne "generation of a series twice in one message"
+    NumberNotAboveMade "refusal 9 for a number not above a generation's"
+}
 
 /// Numbers of a run or a one-message call: 0 to 14.
 const NUMBERS: usize = 15;

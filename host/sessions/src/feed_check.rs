@@ -1,26 +1,12 @@
-//! The reference's feed checked against what two lines hand out by the other reading,
-//! and the ways in which its numbers came.
+//! The ways in which two lines come and their numbers come of them, over random sessions.
 
 use crate::feed::{hand_out, HandedOut, Line, Stop};
-use crate::feed_generator::{draw_feed, Feed};
-use crate::lent::Lent;
+use crate::feed_generator::Feed;
 use crate::line::{read_line, Fault, FaultAt};
-use crate::profile::Profile;
-use crate::random::Random;
-use reference::{feed, run, Returned};
 use std::collections::BTreeMap;
 
 /// Bytes of an answer: no message writes less.
 const ANSWER_BYTES: usize = 12;
-
-/// Pairs of lines drawn for a session.
-const FEEDS: usize = 8;
-
-/// Messages of a session that are sent over two lines.
-const MESSAGES: usize = 40;
-
-/// More than their records take.
-const ROOM: usize = 1 << 17;
 
 /// The ways that random lines must show, and for each line those of 21.
 const WAYS: [&str; 21] = [
@@ -92,10 +78,28 @@ impl FeedCoverage {
         *self.ways.entry(way.to_string()).or_default() += 1;
     }
 
-    /// Counts a call that was checked.
-    fn observe(&mut self, feed: &Feed, handed: &HandedOut, room: usize, returned: &Returned) {
-        let is_full = room - returned.written < ANSWER_BYTES;
-        match (returned.number, &handed.stop) {
+    /// Takes note of a feed that was the same by both engines. Two lines of one list, of
+    /// which each lacks what the other has, hand that list out.
+    pub fn observe(
+        &mut self,
+        feed: &Feed,
+        room: usize,
+        number: u8,
+        written: usize,
+    ) -> Result<(), String> {
+        let handed = hand_out(&feed.main, &feed.spare);
+        let is_list = handed.stop == Stop::End && handed.list() == feed.list.concat();
+        if feed.is_whole && !is_list {
+            let stop = handed.stop;
+            return Err(format!("two lines of one list do not hand it out: {stop}"));
+        }
+        self.count(feed, &handed, room - written, number);
+        Ok(())
+    }
+
+    fn count(&mut self, feed: &Feed, handed: &HandedOut, left: usize, number: u8) {
+        let is_full = left < ANSWER_BYTES;
+        match (number, &handed.stop) {
             (10, Stop::Differs { .. }) => self.add("10: before the number that would get 19"),
             (10, Stop::Lost { .. }) => self.add("10: before the number that would get 20"),
             (10, _) => self.add("10: nothing else would stop it"),
@@ -203,70 +207,4 @@ fn ways_of(rest: &[u8], at: &FaultAt) -> Vec<&'static str> {
         ways.push("after good messages");
     }
     ways
-}
-
-/// Sends the first messages of a session over two lines, again and again, and checks
-/// what the reference makes of them.
-pub fn check_feeds(
-    profile: Profile,
-    seed: u64,
-    pieces: &[Vec<u8>],
-    coverage: &mut FeedCoverage,
-) -> Result<(), String> {
-    let mut random = Random::new(seed ^ (profile as u64 + 1).rotate_left(32));
-    for _ in 0..FEEDS {
-        let most = pieces.len().min(MESSAGES) as u64;
-        let messages = random.below(most + 1) as usize;
-        let feed = draw_feed(&pieces[..messages], &mut random);
-        check_feed(&feed, &mut random, coverage)?;
-    }
-    Ok(())
-}
-
-/// Two lines with report memory for all that they hand out, with just that, and with
-/// less.
-fn check_feed(feed: &Feed, random: &mut Random, coverage: &mut FeedCoverage) -> Result<(), String> {
-    let handed = hand_out(&feed.main, &feed.spare);
-    let is_list = handed.stop == Stop::End && handed.list() == feed.list.concat();
-    if feed.is_whole && !is_list {
-        let stop = handed.stop;
-        return Err(format!("two lines of one list do not hand it out: {stop}"));
-    }
-    let whole = check_room(feed, &handed, ROOM, coverage)?;
-    let less = random.below(whole as u64 + 1) as usize;
-    for room in [whole, whole.saturating_sub(1), less, 0] {
-        check_room(feed, &handed, room, coverage)?;
-    }
-    Ok(())
-}
-
-/// One call: the run of the list handed out, with the number of what stopped it where
-/// that was not the memory. Tells the bytes written.
-fn check_room(
-    lines: &Feed,
-    handed: &HandedOut,
-    room: usize,
-    coverage: &mut FeedCoverage,
-) -> Result<usize, String> {
-    let mut report = vec![0; room];
-    let mut wanted = run(&handed.list(), &mut report);
-    if wanted.number != 10 {
-        wanted.number = handed.stop.number();
-    }
-    let mut lent = Lent::new();
-    let returned = feed(&lines.main, &lines.spare, lent.lend(room));
-    if returned != wanted {
-        let told = |of: &Returned| (of.number, of.done, of.written);
-        return Err(format!(
-            "the feed returned {:?}, expected {:?} (number, done, written): {}",
-            told(&returned),
-            told(&wanted),
-            handed.stop
-        ));
-    }
-    if lent.written(returned.written)? != &report[..wanted.written] {
-        return Err("the feed wrote other records".to_string());
-    }
-    coverage.observe(lines, handed, room, &returned);
-    Ok(returned.written)
 }

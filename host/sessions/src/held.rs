@@ -42,7 +42,7 @@ pub fn to_bytes(venue: &Venue) -> [u8; VENUE_BYTES] {
 
 /// The venue that bytes stand for.
 pub fn from_bytes(bytes: &[u8; VENUE_BYTES]) -> Venue {
-    let mut reader = Reader { bytes, at: 0 };
+    let mut reader = Reader(bytes);
     let mut venue = Venue {
         regular: std::array::from_fn(|_| reader.regular()),
         complex: std::array::from_fn(|_| reader.complex()),
@@ -114,19 +114,22 @@ impl Writer {
     }
 }
 
-struct Reader<'a> {
-    bytes: &'a [u8],
-    at: usize,
-}
+/// What is left to read.
+struct Reader<'a>(&'a [u8]);
 
 impl Reader<'_> {
+    fn take<const N: usize>(&mut self) -> [u8; N] {
+        let (first, rest) = self.0.split_first_chunk().expect("a venue's length");
+        self.0 = rest;
+        *first
+    }
+
     fn u8(&mut self) -> u8 {
-        self.at += 1;
-        self.bytes[self.at - 1]
+        u8::from_le_bytes(self.take())
     }
 
     fn u32(&mut self) -> u32 {
-        u32::from_le_bytes([self.u8(), self.u8(), self.u8(), self.u8()])
+        u32::from_le_bytes(self.take())
     }
 
     /// The first fields of a regular order; the other two stand in a row of their own.

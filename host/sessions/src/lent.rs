@@ -30,6 +30,13 @@ impl Lent {
         &mut self.buffer[GUARD..GUARD + length]
     }
 
+    /// Memory that holds these bytes.
+    pub fn hold(&mut self, bytes: &[u8]) -> &mut [u8] {
+        let memory = self.lend(bytes.len());
+        memory.copy_from_slice(bytes);
+        memory
+    }
+
     /// The memory as the call left it.
     pub fn memory(&self) -> &[u8] {
         &self.buffer[GUARD..GUARD + self.length]

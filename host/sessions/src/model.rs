@@ -2,7 +2,7 @@
 //! of documents 01 and 02: every choice looks at all orders, every price is worked
 //! out anew. It is slow, and shares nothing with the reference but its types.
 
-use crate::message::{split, Leg, Message, NewComplex, NewOrder};
+use crate::message::{first_whole, Leg, Message, NewComplex, NewOrder};
 use crate::ranges::{out_of_range, refused_field};
 use crate::record::{Cancelled, Cross, Looked, Pair, Record, Removed, Trade};
 use crate::settings::{entered_by, held_editions, last_edition, InForce};
@@ -12,11 +12,9 @@ use reference::{Complex, Legging, Regular, Venue};
 
 /// The refusal that a message meets, or 0. `left` is all that is left to read.
 pub fn refusal(venue: &Venue, left: &[u8]) -> u8 {
-    let length = |bytes: &[u8]| usize::from(u16::from_le_bytes([bytes[0], bytes[1]]));
-    if left.len() < 4 || length(left) < 4 || length(left) > left.len() {
+    let Some(message) = first_whole(left) else {
         return 1;
-    }
-    let message = split(left)[0];
+    };
     let kind = u16::from_le_bytes([message[2], message[3]]);
     if !(1..=11).contains(&kind) {
         return 2;

@@ -13,7 +13,7 @@ use std::collections::{BTreeMap, BTreeSet};
 use std::process::Command;
 
 const HEADER: &str = include_str!("../../../../include/legging.h");
-const HELD: &str = include_str!("../../../../crates/state/specs/Held.antt");
+const HELD: &str = include_str!("../../../../crates/venue_bytes/specs/Held.antt");
 
 /// Every macro of the header that is a number, as a compiler of C has it.
 fn macros() -> BTreeMap<String, usize> {

@@ -4,6 +4,7 @@ mod audits;
 mod causes;
 mod ceiling;
 mod common;
+mod driver;
 mod feed;
 mod layer;
 mod moments;

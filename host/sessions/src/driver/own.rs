@@ -1,12 +1,12 @@
 //! A session of the user's own: each message by a call, all of it by a run, and the sheets.
 
-use crate::calls::Comparer;
-use crate::check::Check;
-use sessions::asked::ENOUGH;
-use sessions::held::VENUE_BYTES;
-use sessions::message::split;
-use sessions::record::read_report;
-use sessions::sheet::Running;
+use super::check::Check;
+use super::{Driver, Failed};
+use crate::asked::ENOUGH;
+use crate::held::VENUE_BYTES;
+use crate::message::split;
+use crate::record::read_report;
+use crate::sheet::Running;
 
 /// Report memory beyond what just fits.
 const MORE: [usize; 3] = [1, 2, 500];
@@ -18,43 +18,41 @@ pub struct Compared {
     pub records: usize,
 }
 
-/// Compares the engine with the reference on a list of messages. An error tells the first
-/// difference.
-pub fn compare_own(comparer: &mut Comparer, list: &[u8]) -> Result<Compared, String> {
-    let report = calls(comparer, list)?;
-    run(comparer, list, &report)?;
+/// Drives both engines over a list of messages, and holds the sheet to the reference's. An
+/// error tells the first difference.
+pub fn drive_own(driver: &mut Driver, list: &[u8]) -> Result<Compared, String> {
+    let told = |(check, what): Failed| format!("{}: {what}", check.words());
+    driver.observer.begin();
+    let report = calls(driver, list).map_err(told)?;
+    run(driver, list, &report).map_err(told)?;
     sheet(list, &report)
 }
 
 /// The messages one by one, the first upon a fresh venue and each other upon the venue that
 /// the last one left. Tells the engine's records.
-fn calls(comparer: &mut Comparer, list: &[u8]) -> Result<Vec<u8>, String> {
-    let told = |check: Check, what: String| format!("{}: {what}", check.words());
-    let fresh = comparer.fresh(Check::Fresh, VENUE_BYTES);
-    let mut venue = fresh.map_err(|what| told(Check::Fresh, what))?;
+fn calls(driver: &mut Driver, list: &[u8]) -> Result<Vec<u8>, Failed> {
+    let mut venue = driver.fresh(VENUE_BYTES)?;
     let mut report = Vec::new();
     for (message, before) in split(list).into_iter().zip(0..) {
-        let called = comparer.call(Check::Call, &venue, before, message, ENOUGH as usize);
-        let left = called.map_err(|what| told(Check::Call, what))?;
-        let replayed = comparer.replay(&venue, before, message);
-        replayed.map_err(|what| told(Check::Replay, what))?;
-        report.extend_from_slice(&comparer.report.memory()[..left.written]);
-        venue = left.venue;
+        let (both, left) = driver.call(Check::Call, &venue, before, message, ENOUGH as usize)?;
+        report.extend_from_slice(&driver.found.report.memory()[..both.written]);
+        venue = left;
     }
     Ok(report)
 }
 
 /// The run of all messages, with report memory that just fits and with more; its records are
 /// those of the calls.
-fn run(comparer: &mut Comparer, list: &[u8], report: &[u8]) -> Result<(), String> {
-    let told = |what: String| format!("{}: {what}", Check::RunWhole.words());
+fn run(driver: &mut Driver, list: &[u8], report: &[u8]) -> Result<(), Failed> {
     for more in MORE.into_iter().chain([0]) {
-        let compared = comparer.run(Check::RunWhole, list, report.len() + more);
-        compared.map_err(told)?;
+        driver.run(Check::RunWhole, list, report.len() + more)?;
     }
-    match comparer.report.memory() == report {
+    match driver.found.report.memory() == report {
         true => Ok(()),
-        false => Err("the records of the run are not those of its calls".to_string()),
+        false => {
+            let what = "the records of the run are not those of its calls";
+            Err((Check::RunWhole, what.to_string()))
+        }
     }
 }
 
@@ -90,19 +88,26 @@ fn sheet(list: &[u8], report: &[u8]) -> Result<Compared, String> {
 #[cfg(test)]
 mod tests {
     use super::*;
+    use crate::driver::Observer;
     use crate::engine::Reference;
-    use sessions::sheet::run_whole;
-    use sessions::text::encode_session;
+    use crate::sheet::run_whole;
+    use crate::text::encode_session;
+
+    /// Looks at nothing.
+    struct Nobody;
+
+    impl Observer for Nobody {}
 
     fn printed() -> Vec<u8> {
-        let text = include_str!("../../venue/tests/sessions/printed.txt");
+        let text = include_str!("../../../venue/tests/sessions/printed.txt");
         encode_session(text).expect("good text")
     }
 
     #[test]
     fn the_reference_does_not_differ_from_itself() {
-        let mut comparer = Comparer::new(&Reference, None);
-        let compared = compare_own(&mut comparer, &printed());
+        let mut nobody = Nobody;
+        let mut driver = Driver::new(&Reference, &Reference, &mut nobody, None);
+        let compared = drive_own(&mut driver, &printed());
         let expected = Compared {
             messages: 6,
             records: 13,
@@ -136,8 +141,10 @@ mod tests {
         let list = printed();
         let (_, mut report) = run_whole(&list);
         report[4] = 9;
-        let told = run(&mut Comparer::new(&Reference, None), &list, &report);
+        let mut nobody = Nobody;
+        let mut driver = Driver::new(&Reference, &Reference, &mut nobody, None);
+        let told = run(&mut driver, &list, &report);
         let expected = "the records of the run are not those of its calls";
-        assert_eq!(told, Err(expected.to_string()));
+        assert_eq!(told, Err((Check::RunWhole, expected.to_string())));
     }
 }
