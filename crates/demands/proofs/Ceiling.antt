@@ -215,7 +215,8 @@ under-step s bs k t t8 =
     let in8 : t < length (v .generations) = (let e = i .busy .eight in omega arith) in
     let c : total (generatedOf t) (step v n bs .effect .reports) ≡ total (generatedOf t) (w .effects) = ap (total (generatedOf t)) (w .is) ∙ (unfold total generatedOf in (zero-add _)) in
     subst (Under _) (sym (r .pushes t in8))
-    (under-same _ _ _ (λ f. ap (λ (q : List Report). generatedBy f t 0 (s .reports ++ q)) (w .is) ∙ by-more f t 0 (s .reports) n _ _ _ (w .effects) (w .quiet) ∙ ap (λ (q : ℕ). generatedBy f t 0 (s .reports) + (if f n then q else 0)) (sym c))
+    (under-same _ _ _ (λ f. ap (λ (q : List Report). generatedBy f t 0 (s .reports ++ q)) (w .is) ∙ by-more f t 0 (s .reports) n _ _ _ (w .effects)
+    (w .quiet) ∙ ap (λ (q : ℕ). generatedBy f t 0 (s .reports) + (if f n then q else 0)) (sym c))
     (under-many _ n _ _ (busy-levels v n (omega arith) (i .busy) (k .told .sound .next) t) (k .under t t8) (r .allowed t in8)))
 
 more-kept : (s : Seen) (bs : List ℕ) → Kept s → FourBytes (suc (s .done)) → Kept (onto s bs (step (s .venue) (suc (s .done)) bs .effect))

@@ -204,7 +204,8 @@ module _ (i s d : ℕ) (v : Venue) (f : Fine v) (r : Ready i s d v) where
   unfolding regularAt
   meetTurn-ok =
       meetTurn-by (TurnOk (Ready i s d) v) i v (λ _. tt) (λ _ _ _. tt)
-      (λ h p e. subst (λ (x : Legging). TurnOk (Ready i s d) v (turned (hit i x (min (o .quantity) (x .quantity)) v))) (sym legging-is) (carries-hit h (subst (λ (x : Legging). held (x .quantity) ≡ true) legging-is (first-held o _ p e))))
+      (λ h p e. subst (λ (x : Legging). TurnOk (Ready i s d) v (turned (hit i x (min (o .quantity) (x .quantity)) v))) (sym legging-is)
+      (carries-hit h (subst (λ (x : Legging). held (x .quantity) ≡ true) legging-is (first-held o _ p e))))
       (λ h j m a _. carries-meet j m h a)
 
 pub enter-carries : (i s d fuel : ℕ) (v : Venue) → Fine v → Ready i s d v → Carries v (repeat fuel (meetTurn i) v)

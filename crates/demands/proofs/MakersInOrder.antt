@@ -263,7 +263,9 @@ module _ {x i s d : ℕ} {v u : Venue} (b : Enters x i s d v u) (p : ℕ) where
           before = t .sizes m ne (sym (fewer .lesser m .series) ∙ h)
 
           go : Dec (m ≡ n) → Less (reg after m) (reg u m)
-          go (yes z) = subst (λ (r : Regular). Less r (reg u m)) (sym (ap (λ (q : ℕ). reg after q) z ∙ at-n ∙ ap (λ (q : ℕ). lessRegular size (reg w q)) (sym z))) (less-fill size (reg w m) (reg u m) before)
+          go (yes z) = subst (λ (r : Regular). Less r (reg u m))
+              (sym (ap (λ (q : ℕ). reg after q) z ∙ at-n ∙ ap (λ (q : ℕ). lessRegular size (reg w q)) (sym z)))
+              (less-fill size (reg w m) (reg u m) before)
           go (no z) = subst (λ (r : Regular). Less r (reg u m)) (sym (other m z ne)) before
 
       legging-after : lg after place ≡ lg w place
@@ -585,7 +587,12 @@ module _ {x i s d : ℕ} {v u : Venue} (b : Enters x i s d v u) (p : ℕ) where
     more-meet : (hi : held (reg w i .quantity) ≡ true) (n : ℕ) (o : Regular) → At noRegular its-met (w .regular) n o → first its-met priceThenId (w .regular) ≡ picked n o →
         More (meet i n (min (reg w i .quantity) (atOnce o)) w .venue)
     more-meet hi n o a is =
-        subst More (sym (left hi n o a is)) (record { sizes = sizes-after hi n o a is; legging = λ h. legging-after hi n o a is ∙ t .legging (sym (ap (λ (y : Legging). held (y .quantity)) (legging-after hi n o a is)) ∙ h) })
+        subst More (sym (left hi n o a is))
+        (record {
+          sizes = sizes-after hi n o a is;
+          legging = λ h. legging-after hi n o a is ∙ t .legging
+              (sym (ap (λ (y : Legging). held (y .quantity)) (legging-after hi n o a is)) ∙ h);
+        })
 
     more-hit : (hi : held (reg w i .quantity) ≡ true) (hl : held (lg w place .quantity) ≡ true) → More (hit i (lg w place) (min (reg w i .quantity) (lg w place .quantity)) w .venue)
     more-hit hi hl = record { sizes = sizes-hit hi hl; legging = λ h. absurd (gone hi hl h) }
@@ -717,7 +724,12 @@ module _ (v : Venue) (sv : SoundVenue v) (o : Regular) (passed : Passed v (Order
   performed : (number : ℕ) → InOrder v (o .series) (opposite (o .side)) p atShown 0 (fillsOf (o .id) p (accept number (Order o) v .reports))
   unfolding accept perform order nothing _⟫_
   performed number =
-      rw (append-nil (order o (withLast v (o .id)) .reports), fills-append (o .id) p (enterRegular o (withLast v (o .id)) .reports) _, removals-none (o .id) p (settled-by-place (enterRegular o (withLast v (o .id)) .venue)), append-nil) entered
+      rw (
+        append-nil (order o (withLast v (o .id)) .reports),
+        fills-append (o .id) p (enterRegular o (withLast v (o .id)) .reports) _,
+        removals-none (o .id) p (settled-by-place (enterRegular o (withLast v (o .id)) .venue)),
+        append-nil,
+      ) entered
 
 pub makers-in-order : MakersInOrder
 unfolding step answered fillsOf fillOf nothing

@@ -99,7 +99,9 @@ module _ (v : Venue) (i : ℕ) (i32 : i < 32) (f : Fine v) (h : held (cx v i .qu
       Carries w (report (generated id s d p x q) (counted number s (placed (placeOf s d) (newLegging v c s d) w)))
   placed-carries number w id p x q even g′ e = record {
     moves = moves-placed number (placeOf s d) (newLegging v c s d) id s d p x q w;
-    homes = unfold report in (homes-counted number s _ (placed-homes (placeOf s d) (newLegging v c s d) w (rw (g′ .homes .len) (place-fits s d (g .series) (g .side))) (home-same e (new-home even)) (g′ .homes)));
+    homes = unfold report in
+        (homes-counted number s _ (placed-homes (placeOf s d) (newLegging v c s d) w (rw (g′ .homes .len) (place-fits s d (g .series) (g .side)))
+        (home-same e (new-home even)) (g′ .homes)));
   }
 
   make-carries : (number : ℕ) → Makes number v c s d → Carries v (make number c s d v)
@@ -220,7 +222,8 @@ limited-stood number n v f z =
     let a = looked-carries (examined n v) (idReached v places) v f in
     let b = carries-then (report (looked (examined n v)) u) (eachOf work places) a (eachOf-carries work work-carries places low _ (fine-after f a)) in
     let c = carries-then _ settle b (settle-carries _ (fine-after f b)) in
-    stood-then _ _ c (eachOf-stood number places low _ (fine-after f c) (steps-there places u (steps-same v u (unfold withReached in refl) z)) (settled (report (looked (examined n v)) u ⟫ eachOf work places)))
+    stood-then _ _ c (eachOf-stood number places low _ (fine-after f c) (steps-there places u (steps-same v u (unfold withReached in refl) z))
+    (settled (report (looked (examined n v)) u ⟫ eachOf work places)))
   where
     steps-there : (places : List ℕ) (u : Venue) → Stepped u → Stepped ((report (looked (examined n v)) u ⟫ eachOf work places ⟫ settle) .venue)
     steps-there places u h = unfold report _⟫_ in (steps-limited places u h)

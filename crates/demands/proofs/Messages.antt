@@ -44,7 +44,8 @@ use Rattle.rules.proofs.Shapes.{Sized, step-sized}
 use Rattle.rules.proofs.Traffic.{step-busy, step-reached}
 use Rattle.rules.proofs.Tests.{and-l, or-r}
 use Rattle.demands.proofs.Account.{Takes}
-use Rattle.demands.proofs.Admitting.{Admitted, Joins, JoinsC, NewComplex, NewOrder, admitted-none, complex-admitted, complex-new, order-admitted, order-new, order-ready, withComplexOrder, withOrder}
+use Rattle.demands.proofs.Admitting.{Admitted, Joins, JoinsC, NewComplex, NewOrder, admitted-none, complex-admitted, complex-new}
+use Rattle.demands.proofs.Admitting.{order-admitted, order-new, order-ready, withComplexOrder, withOrder}
 use Rattle.demands.proofs.Carrying.{Carries, carries-then, fine-after, settle-carries, work-carries}
 use Rattle.demands.proofs.Closed.{Ends, ends-closed, ends-here}
 use Rattle.demands.proofs.Entering.{enter-carries}

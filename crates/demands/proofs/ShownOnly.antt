@@ -31,7 +31,8 @@ use Rattle.rules.specs.Standing.{settle}
 use Rattle.rules.specs.Trading.{fillComplex, fillRegular, freeRegular, lessRegular, pairOff, putComplex, putRegular, take, tradeWith}
 use Rattle.rules.specs.Order.{enterRegular, hit, meet, meetTurn, order}
 use Rattle.rules.specs.Generation.{generate, generateLeg, make, makes}
-use Rattle.rules.specs.Complex.{anyClosed, cancel, cancelComplex, cancelRegular, complex, cross, crossTurn, each, eachOf, legIn, legInTurn, legsIn, limitedSweep, restsRegular, sweep, touch, touches, unitsIn, work}
+use Rattle.rules.specs.Complex.{anyClosed, cancel, cancelComplex, cancelRegular, complex, cross, crossTurn, each, eachOf, legIn, legInTurn, legsIn}
+use Rattle.rules.specs.Complex.{limitedSweep, restsRegular, sweep, touch, touches, unitsIn, work}
 use Rattle.rules.specs.Refusals.{full, idTooLow, refusal}
 use Rattle.rules.specs.Step.{accept, answered, perform, step}
 use Rattle.rules.specs.Sums.{openIn, total}
@@ -104,7 +105,9 @@ module _ (x y : ℕ) where
       omega arith
     where
       less : (v : Venue) (i q : ℕ) → i < length (v .regular) → q ≤ shown (reg v i) → shows v ≡ shows (fillRegular i q v) + (if eqb (reg v i .id) y then q else 0)
-      less v i q f le = unfold fillRegular withRegular regularAt in (open-less noRegular (λ (o : Regular). o .id) shown y q (v .regular) i (lessRegular q (reg v i)) f (unfold lessRegular in refl) (shown-less q (reg v i) le))
+      less v i q f le = unfold fillRegular withRegular regularAt in
+          (open-less noRegular (λ (o : Regular). o .id) shown y q (v .regular) i (lessRegular q (reg v i)) f (unfold lessRegular in refl)
+          (shown-less q (reg v i) le))
 
   takes-take : (z s d p fuel k : ℕ) (v : Venue) → Takes v (take fuel z s d p k v)
   takes-take z s d p fuel k v = takes-chain (take-chain z s d p fuel k v)
@@ -193,7 +196,9 @@ module _ (x y : ℕ) where
     crosses-here : (j k : ℕ) (v : Venue) → Takes v (cross i j k v)
     unfolding cross
     crosses-here j k v =
-        takes-then v _ _ (takes-then v _ _ (says-cross _ _ _ k v (fillComplex j k (fillComplex i k v)) (fillC-regular j k (fillComplex i k v) ∙ fillC-regular i k v)) (removes-of _ _ _)) (removes-of _ _ _)
+        takes-then v _ _ (takes-then v _ _
+        (says-cross _ _ _ k v (fillComplex j k (fillComplex i k v)) (fillC-regular j k (fillComplex i k v) ∙ fillC-regular i k v))
+        (removes-of _ _ _)) (removes-of _ _ _)
 
     cross-turns : (v : Venue) → Any v → TakesTurn Any v (crossTurn i v)
     cross-turns v _ = crossTurn-by (TakesTurn Any v) i v (λ _. tt) (λ _ _. tt) (λ _ j _ _. (crosses-here j _ v, tt))

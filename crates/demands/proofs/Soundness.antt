@@ -328,7 +328,9 @@ module _ (v : Venue) (k : Invariant v) where
   unfolding regularsSound
   regulars-in = arranged-in noRegular holdsRegular _ blankRegular (λ o. o .id) blank-free blank-none 0 (v .regular) (record {
     above = λ i h. some-id (reg v i) (k .ranged .regular i .ok h);
-    asks = λ i h. and-in (regularInRange (reg v i) && onIncrement v (reg v i) && showsFully (reg v i)) _ (and-in (regularInRange (reg v i) && onIncrement v (reg v i)) (showsFully (reg v i)) (and-in _ _ (k .ranged .regular i .ok h) (k .priced i h)) (fully i)) (le-leb (reg v i .id) (v .last) (k .fine .good .rlast i h));
+    asks = λ i h. and-in (regularInRange (reg v i) && onIncrement v (reg v i) && showsFully (reg v i)) _
+        (and-in (regularInRange (reg v i) && onIncrement v (reg v i)) (showsFully (reg v i)) (and-in _ _ (k .ranged .regular i .ok h) (k .priced i h))
+        (fully i)) (le-leb (reg v i .id) (v .last) (k .fine .good .rlast i h));
     rises = k .fine .good .rise1;
     dense = k .tidy .dense1;
     blanks = k .tidy .blank1;
@@ -383,7 +385,15 @@ module _ (v : Venue) (k : Invariant v) where
 
   pub sound-in : SoundVenue v
   sound-in = record {
-    shaped = record { regular = k .fine .good .len1; complex = k .fine .good .len2; legging = k .fine .homes .len; series = k .ranged .eight; editions = k .edited .len; generations = k .busy .eight; twenty = k .busy .twenty };
+    shaped = record {
+      regular = k .fine .good .len1;
+      complex = k .fine .good .len2;
+      legging = k .fine .homes .len;
+      series = k .ranged .eight;
+      editions = k .edited .len;
+      generations = k .busy .eight;
+      twenty = k .busy .twenty;
+    };
     is = unfold sound in
         (and-in _ _ (and-in _ _ (and-in _ _ (and-in _ _ (and-in _ _ (and-in _ _ (and-in _ _ (and-in _ _ (and-in _ _ regulars-in complexes-in)
         (all-in listedInRange notListed (v .series) (k .ranged .listed))) (k .edited .rise)) (k .busy .rise))

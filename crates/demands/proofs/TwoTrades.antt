@@ -461,7 +461,12 @@ module _ (v : Venue) (s : SoundVenue v) (o : Regular) (p : Passed v (Order o)) (
   performed : (number : ℕ) → AtMostTwo (shown maker-was) (maker-was .reserve) (tradesOf (o .id) (reg v j .id) (accept number (Order o) v .reports))
   unfolding accept perform order nothing _⟫_
   performed number =
-      rw (append-nil (order o (withLast v (o .id)) .reports), trades-append (o .id) (reg v j .id) (enterRegular o (withLast v (o .id)) .reports) _, removals-none (o .id) (reg v j .id) (settled-by-place (enterRegular o (withLast v (o .id)) .venue)), append-nil) entered
+      rw (
+        append-nil (order o (withLast v (o .id)) .reports),
+        trades-append (o .id) (reg v j .id) (enterRegular o (withLast v (o .id)) .reports) _,
+        removals-none (o .id) (reg v j .id) (settled-by-place (enterRegular o (withLast v (o .id)) .venue)),
+        append-nil,
+      ) entered
 
 pub two-trades : TwoTrades
 unfolding step answered tradesOf tradeOf nothing regularAt

@@ -17,7 +17,8 @@ use Rattle.rules.specs.declared.Message.the-variants.{Away, Cancel, Increment, 
 use Rattle.rules.specs.declared.Regular.{Regular}
 use Rattle.rules.specs.declared.Venue.{Venue}
 use Rattle.rules.specs.Base.{held}
-use Rattle.rules.specs.Words.{complexAt, leggingAt, noLegging, noRegular, opposite, placeOf, regularAt, withComplex, withEditions, withGenerations, withLast, withLegging, withReached, withRegular, withSeries}
+use Rattle.rules.specs.Words.{complexAt, leggingAt, noLegging, noRegular, opposite, placeOf, regularAt, withComplex, withEditions, withGenerations}
+use Rattle.rules.specs.Words.{withLast, withLegging, withReached, withRegular, withSeries}
 use Rattle.rules.specs.Settings.{enterEdition, percentage}
 use Rattle.rules.specs.Effects.{Effect, _⟫_, nothing, report}
 use Rattle.rules.specs.Prices.{bestOwn, reaches, restsAt}
@@ -185,7 +186,13 @@ module _ (v : Venue) (c : Complex) (s d : ℕ) (s8 : s < 8) (d2 : d < 2) (u : Un
       go : Dec (placeOf t e ≡ n) → Own v t e q ⊎ ((t ≡ s) × (e ≡ d) × (q ≡ p))
       go (yes y) =
           let z = same t e e2 y in
-          inr (z .0, z .1, sym x ∙ ap (λ (l : Legging). l .price) (ap (λ (k : ℕ). getD (set (v .legging) n (newLegging v c s d)) k noLegging) y ∙ getD-set-same (v .legging) n (newLegging v c s d) noLegging fits))
+          inr (
+            z .0,
+            z .1,
+            sym x ∙ ap (λ (l : Legging). l .price)
+                (ap (λ (k : ℕ). getD (set (v .legging) n (newLegging v c s d)) k noLegging) y ∙ getD-set-same (v .legging) n (newLegging v c s d)
+                noLegging fits),
+          )
         where
           same : (t e : ℕ) → e < 2 → placeOf t e ≡ placeOf s d → (t ≡ s) × (e ≡ d)
           same t e e2 y = unfold placeOf in (omega arith, omega arith)

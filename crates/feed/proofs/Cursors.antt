@@ -115,7 +115,8 @@ part-head l at last h = ap (λ (x : List ℕ). headLength (headOf x)) (sym (drop
 
     go : (t : Bool) → torn ts ≡ t → (z : Bool) → eqb (length ts) 0 ≡ z → headLength (headOf ts) ≡ partLength last (drop at l)
     go true e true f = ap headLength (head-end ts (eqb-true (length ts) 0 f)) ∙ part-faulty last (drop at l) (unfold faulty in (rw (lt-leb (numberOf (drop at l)) last h) e))
-    go true e false f = ap headLength (head-torn ts (let y = eqb-false (length ts) 0 f in omega arith) e) ∙ part-faulty last (drop at l) (unfold faulty in (rw (lt-leb (numberOf (drop at l)) last h) e))
+    go true e false f = ap headLength (head-torn ts (let y = eqb-false (length ts) 0 f in omega arith) e) ∙ part-faulty last (drop at l)
+        (unfold faulty in (rw (lt-leb (numberOf (drop at l)) last h) e))
     go false e z f =
         let w = whole ts e in
         let a = w .0 in

@@ -51,6 +51,7 @@ pub fn is_faultless(line: &[u8]) -> bool
     true
 }
 
+// Two slices have the same bytes.
 fn same_bytes(a: &[u8], b: &[u8]) -> bool
     ensures { λ r. ⌜ r ≡ same (now (a .entry)) (now (b .entry)) ⌝ }
 {

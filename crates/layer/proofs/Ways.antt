@@ -133,7 +133,9 @@ module _ {ℓ} (Q : Turned → Type ℓ) (l : Layer) (room : ℕ) where
       (layerSound l ≡ true → next l ≢ 4 → r .returned .done ≡ 0 → Q (idle l room (r .returned .number))) →
       (layerSound l ≡ true → next l ≢ 4 → r .returned .done ≢ 0 → Q (serve l (next l) r)) → Q (turn l room)
   unfolding turn
-  turn-by nine none left serves = subst (λ (d : Bool). Q (if not (layerSound l) then idle l room 9 else if eqb (next l) 4 then idle l room 0 else if d then idle l room (r .returned .number) else serve l (next l) r)) (sym is) (go (layerSound l) refl (eqb (next l) 4) refl (eqb (r .returned .done) 0) refl)
+  turn-by nine none left serves = subst
+      (λ (d : Bool). Q (if not (layerSound l) then idle l room 9 else if eqb (next l) 4 then idle l room 0 else if d then idle l room
+      (r .returned .number) else serve l (next l) r)) (sym is) (go (layerSound l) refl (eqb (next l) 4) refl (eqb (r .returned .done) 0) refl)
     where
       is : ended r ≡ eqb (r .returned .done) 0
       is = unfold headCall in (ended-is _ _ room _ (ending (laneAt l (next l) .venue) (laneAt l (next l) .done) room (head (laneAt l (next l)))))

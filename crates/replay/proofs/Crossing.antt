@@ -68,7 +68,9 @@ module _ (i j k : ℕ) (v : Venue) (a : Apart v) (ne : j ≢ i) (hi : held (cx v
   unfolding cross complexAt removeOf
   tells-cross p q =
       tells-then v _ _
-      (tells-then v _ _ (tells-report _ v _ (next-cross (cx v i .id) (cx v j .id) (negℤ (cx v j .limit)) k v (fillComplex j k (fillComplex i k v)) lessens-both) (both-respected p q)) (tells-remove _ _))
+      (tells-then v _ _ (tells-report _ v _
+      (next-cross (cx v i .id) (cx v j .id) (negℤ (cx v j .limit)) k v (fillComplex j k (fillComplex i k v)) lessens-both) (both-respected p q))
+      (tells-remove _ _))
       (tells-remove _ _)
 
 picked-cross : (i : ℕ) (v : Venue) → Fine v → held (cx v i .quantity) ≡ true → (j : ℕ) (m : Complex) → At noComplex (crosses v (cx v i)) (v .complex) j m → (k : ℕ) → Tells v (cross i j k v)

@@ -245,5 +245,6 @@ taking-passes-none v a s d p x b c hc ex i k hi e le = record {
   reserve = λ n t.
       absurd (a .both n c (and-l (held (reg v n .quantity)) (eqb (reg v n .id) x) t) hc (eqb-true (reg v n .id) x (and-r (held (reg v n .quantity)) (eqb (reg v n .id) x) t) ∙ sym ex));
   hit = λ n t.
-      absurd (a .both i n (rests-held s (opposite d) (reg v i) hi) (and-l (held (cx v n .quantity)) (eqb (cx v n .id) (reg v i .id)) t) (sym (eqb-true (cx v n .id) (reg v i .id) (and-r (held (cx v n .quantity)) (eqb (cx v n .id) (reg v i .id)) t))));
+      absurd (a .both i n (rests-held s (opposite d) (reg v i) hi) (and-l (held (cx v n .quantity)) (eqb (cx v n .id) (reg v i .id)) t)
+      (sym (eqb-true (cx v n .id) (reg v i .id) (and-r (held (cx v n .quantity)) (eqb (cx v n .id) (reg v i .id)) t))));
 }

@@ -22,7 +22,8 @@ use Rattle.rules.specs.Standing.{settle, showAgain, verdict}
 use Rattle.rules.specs.Trading.{fillComplex, fillRegular, freeComplex, freeRegular, putComplex, putRegular}
 use Rattle.rules.specs.Order.{enterRegular, order}
 use Rattle.rules.specs.Generation.{generate}
-use Rattle.rules.specs.Complex.{cancel, cancelComplex, cancelRegular, complex, complexPlace, each, eachOf, examined, goingRound, idReached, limitedSweep, regularPlace, restsComplex, restsRegular, sweep, work}
+use Rattle.rules.specs.Complex.{cancel, cancelComplex, cancelRegular, complex, complexPlace, each, eachOf, examined, goingRound, idReached}
+use Rattle.rules.specs.Complex.{limitedSweep, regularPlace, restsComplex, restsRegular, sweep, work}
 use Rattle.rules.specs.Refusals.{full, idTooLow, regularInRange, unknown}
 use Rattle.rules.specs.Step.{perform}
 use Rattle.rules.proofs.Cases.{if-by}
@@ -134,7 +135,16 @@ tells-looked n v = tells-report _ v _ (λ x. unfold next noted lookedAt in (ap (
 fine-reached : (x : ℕ) (v : Venue) → Fine v → Fine (withReached v x)
 unfolding withReached
 fine-reached x v f = record {
-  good = record { len1 = f .good .len1; len2 = f .good .len2; ranges = f .good .ranges; rise1 = f .good .rise1; rise2 = f .good .rise2; rx = f .good .rx; rlast = f .good .rlast; xlast = f .good .xlast };
+  good = record {
+    len1 = f .good .len1;
+    len2 = f .good .len2;
+    ranges = f .good .ranges;
+    rise1 = f .good .rise1;
+    rise2 = f .good .rise2;
+    rx = f .good .rx;
+    rlast = f .good .rlast;
+    xlast = f .good .xlast;
+  };
   homes = homes-same {v = v} refl refl (f .homes);
 }
 
@@ -162,7 +172,9 @@ module _ (v : Venue) (k : Invariant v) (number : ℕ) where
     arrives = record {
       fine = order-admitted v o i joins .fine;
       ready = order-ready v o i joins (k .stand);
-      priced = unfold withRegular withLast in (set-each (λ (x : Regular). held (x .quantity) ≡ true → 0 < x .price) noRegular (v .regular) i o (λ _. range-priced o (unfold wellFormed in (p .range))) some);
+      priced = unfold withRegular withLast in
+          (set-each (λ (x : Regular). held (x .quantity) ≡ true → 0 < x .price) noRegular (v .regular) i o
+          (λ _. range-priced o (unfold wellFormed in (p .range))) some);
     }
 
     ends-order : Ends number (entered number (Order o) v) (perform number (Order o) v)
@@ -176,7 +188,9 @@ module _ (v : Venue) (k : Invariant v) (number : ℕ) where
     joinsC : JoinsC v c j
     joinsC =
         let there : j < 32 = unfold full in (leb-false 32 (freeComplex v) (p .room)) in
-        let free : held (cx v j .quantity) ≡ false = unfold freeComplex in (not-true _ (where-passes noComplex (λ x. not (held (x .quantity))) (v .complex) (unfold freeComplex in (rw (k .fine .good .len2) there)))) in
+        let free : held (cx v j .quantity) ≡ false = unfold freeComplex in
+        (not-true _ (where-passes noComplex (λ x. not (held (x .quantity))) (v .complex)
+        (unfold freeComplex in (rw (k .fine .good .len2) there)))) in
         record {
           fine = k .fine;
           range = range-of c (unfold wellFormed in (p .range));
@@ -214,7 +228,8 @@ module _ (v : Venue) (k : Invariant v) (number : ℕ) where
   performs (Cancel id) p = ends-cancel v (good-apart (k .fine .good)) id (not-false _ (p .known))
   performs (Away s b o) p = ends-settle _
   performs (Status s x) p = ends-settle _
-  performs Sweep p = ends-more v (each 32 work 0 v ⟫ settle) (each 32 (generate number) 0) (ends-then v (each 32 work 0 v) settle (tells-sweep 32 0 v (k .fine) some) (ends-settle _)) (places-each number 32 0 _)
+  performs Sweep p = ends-more v (each 32 work 0 v ⟫ settle) (each 32 (generate number) 0)
+      (ends-then v (each 32 work 0 v) settle (tells-sweep 32 0 v (k .fine) some) (ends-settle _)) (places-each number 32 0 _)
   performs (Increment s x e) p = ends-settle _
   performs (Percent x e) p = ends-settle _
   performs (LimitedSweep n) p = ends-limited n

@@ -104,7 +104,8 @@ module _ (number : ℕ) where
   unfolding _⟫_ likened withLegging withGenerations
   places-then v e f a b = record {
     keeps = b .keeps ∙ ap (λ (x : Venue). likened x (f (e .venue) .venue)) (a .keeps);
-    tells = λ w x n. from-then x (likened w v) (record { venue = likened w (e .venue); reports = e .reports }) (λ _. record { venue = likened w (f (e .venue) .venue); reports = f (e .venue) .reports })
+    tells = λ w x n. from-then x (likened w v) (record { venue = likened w (e .venue); reports = e .reports })
+        (λ _. record { venue = likened w (f (e .venue) .venue); reports = f (e .venue) .reports })
         (a .tells w x n) (b .tells w x n);
   }
 

@@ -85,7 +85,8 @@ module _ (i a b k : ℕ) (v : Venue) where
       tells-then v (first-leg v ⟫ second-leg) (pairOff i (c .id) (net c a b) k)
       (tells-then v (first-leg v) second-leg
       (tells-take (c .id) (c .series1) (c .side1) a (c .ratio1 * k) (c .ratio1 * k) v ap₀ b₁ i h refl)
-      (tells-take (c .id) (c .series2) (c .side2) b (c .ratio2 * k) (c .ratio2 * k) u ap₁ (best-chain chain₁ (c .series2) (opposite (c .side2)) b b₂) i (rw same h) (ap (λ (l : List Complex). getD l i noComplex .id) same)))
+      (tells-take (c .id) (c .series2) (c .side2) b (c .ratio2 * k) (c .ratio2 * k) u ap₁ (best-chain chain₁ (c .series2) (opposite (c .side2)) b b₂)
+      i (rw same h) (ap (λ (l : List Complex). getD l i noComplex .id) same)))
       (tells-pairOff i (c .id) (net c a b) k (legged v i a b k) ap₂ (rw (legged-complex v i a b k) h) (ap (λ (l : List Complex). getD l i noComplex .id) (legged-complex v i a b k)))
 
   -- After it
@@ -110,7 +111,8 @@ module _ (i a b k : ℕ) (v : Venue) where
   left-free s e = free-kept _ _ (left-kept (placeOf s e))
 
   left-order : i < length (v .complex) → cx left i ≡ lessComplex k c
-  left-order fits = ap (λ (l : List Complex). getD l i noComplex) (legIn-filled v i a b k) ∙ (unfold fillComplex withComplex complexAt in (getD-set-same (v .complex) i (lessComplex k c) noComplex fits))
+  left-order fits = ap (λ (l : List Complex). getD l i noComplex) (legIn-filled v i a b k)
+      ∙ (unfold fillComplex withComplex complexAt in (getD-set-same (v .complex) i (lessComplex k c) noComplex fits))
 
   left-sides : i < length (v .complex) → Fewer (left .regular) (v .regular) → Sides v c → Sides left (cx left i)
   left-sides fits f x = subst (Sides left) (sym (left-order fits)) (unfold lessComplex net in (go x))

@@ -14,7 +14,8 @@ use Rattle.rules.specs.Words.{placeOf}
 use Rattle.rules.specs.Bytes.{framed, kindField, u32, u32At, u8At}
 use Rattle.rules.specs.Places.{holdsComplex, holdsRegular}
 use Rattle.rules.proofs.Tests.{and-false}
-use Rattle.sets.specs.Set.{byId, complexRecord, complexTold, generationRecord, generationRecords, generationTold, generationsTold, inOrder, leggingRecords, leggingTold, mark, ofSeries, part, places}
+use Rattle.sets.specs.Set.{byId, complexRecord, complexTold, generationRecord, generationRecords, generationTold, generationsTold, inOrder}
+use Rattle.sets.specs.Set.{leggingRecords, leggingTold, mark, ofSeries, part, places}
 use Rattle.sets.specs.Set.{reachedRecords, reachedTold, regularRecord, regularTold, tellsComplex, tellsGeneration, tellsLegging, tellsRegular, upward}
 use Rattle.sets.proofs.Lists.{Each, Rising, each-more, keep-append, keep-every, rising-lower}
 use Rattle.sets.proofs.Pieces.{one-at-most, pieces}
@@ -74,7 +75,8 @@ unfolding keep
 regulars-so low [] h u = tt
 regulars-so low (r ∷ l) h u = go (h .0) (regulars-so low l (h .1) (rising-lower mark low (suc (mark r)) l (let z = u .0 in omega arith) (u .1)))
   where
-    go : OrderOf r → Each (λ o. (low ≤ o .id) × (holdsRegular o ≡ true)) (regularsOf l) → Each (λ o. (low ≤ o .id) × (holdsRegular o ≡ true)) (map regularTold (if tellsRegular r then r ∷ keep tellsRegular l else keep tellsRegular l))
+    go : OrderOf r → Each (λ o. (low ≤ o .id) × (holdsRegular o ≡ true)) (regularsOf l) → Each (λ o. (low ≤ o .id) × (holdsRegular o ≡ true))
+        (map regularTold (if tellsRegular r then r ∷ keep tellsRegular l else keep tellsRegular l))
     go (regularOne a b c d e) ih = (let z = u .0 in rw a (((omega arith, e), ih)))
     go (complexOne a b c d e) ih = rw a ih
 
@@ -83,7 +85,8 @@ unfolding keep
 complexes-so low [] h u = tt
 complexes-so low (r ∷ l) h u = go (h .0) (complexes-so low l (h .1) (rising-lower mark low (suc (mark r)) l (let z = u .0 in omega arith) (u .1)))
   where
-    go : OrderOf r → Each (λ o. (low ≤ o .id) × (holdsComplex o ≡ true)) (complexesOf l) → Each (λ o. (low ≤ o .id) × (holdsComplex o ≡ true)) (map complexTold (if tellsComplex r then r ∷ keep tellsComplex l else keep tellsComplex l))
+    go : OrderOf r → Each (λ o. (low ≤ o .id) × (holdsComplex o ≡ true)) (complexesOf l) → Each (λ o. (low ≤ o .id) × (holdsComplex o ≡ true))
+        (map complexTold (if tellsComplex r then r ∷ keep tellsComplex l else keep tellsComplex l))
     go (regularOne a b c d e) ih = rw b ih
     go (complexOne a b c d e) ih = (let z = u .0 in rw b (((omega arith, e), ih)))
 
@@ -102,11 +105,27 @@ books-again (suc fuel) low (r ∷ l) h u le = go (h .0) le (λ n. books-again fu
     go (regularOne a b c d e) le ih =
         let n = rw (a, b) at le in
         let k : length (regularsOf l) + length (complexesOf l) ≤ fuel = omega arith in
-        rw (a, b, regular-first fuel (regularTold r) (regularsOf l) (complexesOf l) (rw d (each-more (λ o. (suc (mark r) ≤ o .id) × (holdsComplex o ≡ true)) (λ o. suc (mark r) ≤ o .id) (λ o z. z .0) (complexesOf l) (complexes-so (suc (mark r)) l (h .1) (u .1)))) k, c, ih k)
+        rw (
+          a,
+          b,
+          regular-first fuel (regularTold r) (regularsOf l) (complexesOf l)
+              (rw d (each-more (λ o. (suc (mark r) ≤ o .id) × (holdsComplex o ≡ true)) (λ o. suc (mark r) ≤ o .id) (λ o z. z .0) (complexesOf l)
+              (complexes-so (suc (mark r)) l (h .1) (u .1)))) k,
+          c,
+          ih k,
+        )
     go (complexOne a b c d e) le ih =
         let n = rw (a, b) at le in
         let k : length (regularsOf l) + length (complexesOf l) ≤ fuel = omega arith in
-        rw (a, b, complex-first fuel (regularsOf l) (complexTold r) (complexesOf l) (rw d (each-more (λ o. (suc (mark r) ≤ o .id) × (holdsRegular o ≡ true)) (λ o. suc (mark r) ≤ o .id) (λ o z. z .0) (regularsOf l) (regulars-so (suc (mark r)) l (h .1) (u .1)))) k, c, ih k)
+        rw (
+          a,
+          b,
+          complex-first fuel (regularsOf l) (complexTold r) (complexesOf l)
+              (rw d (each-more (λ o. (suc (mark r) ≤ o .id) × (holdsRegular o ≡ true)) (λ o. suc (mark r) ≤ o .id) (λ o z. z .0) (regularsOf l)
+              (regulars-so (suc (mark r)) l (h .1) (u .1)))) k,
+          c,
+          ih k,
+        )
 
 -- Legging orders ------------------------------------------------------------------------------
 
@@ -182,7 +201,19 @@ series-first m s l x y ih =
     let e1 : suc (2 * s) ≡ placeOf s 1 = omega arith in
     let e2 : suc (suc (2 * s)) ≡ 2 * suc s = omega arith in
     let same = upward-same (leggingTold l) (leggingTold (y .rest)) (2 * suc s) (2 * m) (λ i le. sym (y .later i (omega arith) ∙ x .later i (omega arith))) in
-    rw (z, two-upward (leggingTold l) (2 * s) (2 * m), two-slots s (leggingTold l (2 * s)) (leggingTold l (suc (2 * s))) (upward (leggingTold l) (suc (suc (2 * s))) (2 * m)), e2, same, ih, e1, ← x .later (placeOf s 1) (omega arith), y .is, e0)
+    rw (
+      z,
+      two-upward (leggingTold l) (2 * s) (2 * m),
+      two-slots s (leggingTold l (2 * s)) (leggingTold l (suc (2 * s)))
+          (upward (leggingTold l) (suc (suc (2 * s))) (2 * m)),
+      e2,
+      same,
+      ih,
+      e1,
+      ← x .later (placeOf s 1) (omega arith),
+      y .is,
+      e0,
+    )
     (x .is)
 
 pub leggings-again : (m s : ℕ) (l : List (List ℕ)) → s + m ≡ 8 → Each LeggingOf l → Rising mark (2 * s) l → leggingRecords s (upward (leggingTold l) (2 * s) (2 * m)) ≡ l

@@ -64,8 +64,11 @@ regular-held v h =
     let k = arranged-kept holdsRegular asked blankRegular (λ o. o .id) blank-free 0 (v .regular) h in
     record {
       rises = k .rises;
-      fine = each-more (λ o. (holdsRegular o ≡ true) × (asked o ≡ true)) (λ o. Fine 2 (o .id) (regularRecord o)) (λ o z. (let y = z .1 in regular-fine o (search (and-l, and-r, y) depth 5) (z .0))) (keep holdsRegular (v .regular)) (k .asks);
-      back = each-more (λ o. (holdsRegular o ≡ true) × (asked o ≡ true)) (λ o. regularTold (regularRecord o) ≡ o) (λ o z. (let y = z .1 in regular-tells o (search (and-l, and-r, y) depth 5) (search (and-l, and-r, y) depth 5))) (keep holdsRegular (v .regular)) (k .asks);
+      fine = each-more (λ o. (holdsRegular o ≡ true) × (asked o ≡ true)) (λ o. Fine 2 (o .id) (regularRecord o))
+          (λ o z. (let y = z .1 in regular-fine o (search (and-l, and-r, y) depth 5) (z .0))) (keep holdsRegular (v .regular)) (k .asks);
+      back = each-more (λ o. (holdsRegular o ≡ true) × (asked o ≡ true)) (λ o. regularTold (regularRecord o) ≡ o)
+          (λ o z. (let y = z .1 in regular-tells o (search (and-l, and-r, y) depth 5) (search (and-l, and-r, y) depth 5)))
+          (keep holdsRegular (v .regular)) (k .asks);
     }
 
 complex-held : (v : Venue) → complexesSound v ≡ true → Held 2 (λ c. c .id) complexRecord complexTold (keep holdsComplex (v .complex))
@@ -75,18 +78,23 @@ complex-held v h =
     let k = arranged-kept holdsComplex asked blankComplex (λ c. c .id) blank-freeC 0 (v .complex) h in
     record {
       rises = k .rises;
-      fine = each-more (λ c. (holdsComplex c ≡ true) × (asked c ≡ true)) (λ c. Fine 2 (c .id) (complexRecord c)) (λ c z. complex-fine c (and-l (complexInRange c) (leb (c .id) (v .last)) (z .1)) (z .0)) (keep holdsComplex (v .complex)) (k .asks);
-      back = each-more (λ c. (holdsComplex c ≡ true) × (asked c ≡ true)) (λ c. complexTold (complexRecord c) ≡ c) (λ c z. complex-tells c (and-l (complexInRange c) (leb (c .id) (v .last)) (z .1))) (keep holdsComplex (v .complex)) (k .asks);
+      fine = each-more (λ c. (holdsComplex c ≡ true) × (asked c ≡ true)) (λ c. Fine 2 (c .id) (complexRecord c))
+          (λ c z. complex-fine c (and-l (complexInRange c) (leb (c .id) (v .last)) (z .1)) (z .0)) (keep holdsComplex (v .complex)) (k .asks);
+      back = each-more (λ c. (holdsComplex c ≡ true) × (asked c ≡ true)) (λ c. complexTold (complexRecord c) ≡ c)
+          (λ c z. complex-tells c (and-l (complexInRange c) (leb (c .id) (v .last)) (z .1))) (keep holdsComplex (v .complex)) (k .asks);
     }
 
 editions-held : (v : Venue) → editionsSound v ≡ true → Held 1 (λ e. e .edition) editionRecord editionTold (keep holdsEdition (v .editions))
 unfolding editionsSound
 editions-held v h =
-    let k = arranged-kept holdsEdition editionInRange blankEdition (λ e. e .edition) edition-free 0 (v .editions) (and-l _ (arranged holdsEdition (λ _. true) blankEdition (λ e. e .message) 0 (v .editions)) h) in
+    let k = arranged-kept holdsEdition editionInRange blankEdition (λ e. e .edition) edition-free 0 (v .editions)
+    (and-l _ (arranged holdsEdition (λ _. true) blankEdition (λ e. e .message) 0 (v .editions)) h) in
     record {
       rises = k .rises;
-      fine = each-more (λ e. (holdsEdition e ≡ true) × (editionInRange e ≡ true)) (λ e. Fine 1 (e .edition) (editionRecord e)) (λ e z. edition-fine e (z .1) (z .0)) (keep holdsEdition (v .editions)) (k .asks);
-      back = each-more (λ e. (holdsEdition e ≡ true) × (editionInRange e ≡ true)) (λ e. editionTold (editionRecord e) ≡ e) (λ e z. edition-tells e (z .1) .tells) (keep holdsEdition (v .editions)) (k .asks);
+      fine = each-more (λ e. (holdsEdition e ≡ true) × (editionInRange e ≡ true)) (λ e. Fine 1 (e .edition) (editionRecord e))
+          (λ e z. edition-fine e (z .1) (z .0)) (keep holdsEdition (v .editions)) (k .asks);
+      back = each-more (λ e. (holdsEdition e ≡ true) × (editionInRange e ≡ true)) (λ e. editionTold (editionRecord e) ≡ e)
+          (λ e z. edition-tells e (z .1) .tells) (keep holdsEdition (v .editions)) (k .asks);
     }
 
 blank-edition : (e : Edition) → blankEdition e ≡ true → e ≡ noEdition
@@ -101,7 +109,8 @@ blank-edition e z =
 editions-packed : (v : Venue) → editionsSound v ≡ true → packed holdsEdition noEdition (v .editions) ≡ v .editions
 unfolding editionsSound
 editions-packed v h =
-    let a = arranged-out noEdition holdsEdition editionInRange blankEdition (λ e. e .edition) edition-free (unfold blankEdition in refl) 0 (v .editions) (and-l _ (arranged holdsEdition (λ _. true) blankEdition (λ e. e .message) 0 (v .editions)) h) in
+    let a = arranged-out noEdition holdsEdition editionInRange blankEdition (λ e. e .edition) edition-free (unfold blankEdition in refl) 0
+    (v .editions) (and-l _ (arranged holdsEdition (λ _. true) blankEdition (λ e. e .message) 0 (v .editions)) h) in
     packed-id holdsEdition noEdition refl (v .editions) (a .dense) (λ i h. blank-edition _ (a .blanks i h))
 
 books-packed : (v : Venue) → closeGaps v ≡ v → (packed holdsRegular noRegular (v .regular) ≡ v .regular) × (packed holdsComplex noComplex (v .complex) ≡ v .complex)
@@ -124,13 +133,20 @@ books-apart v h = each-kept holdsRegular noRegular (λ o. Each (λ c. o .id ≡ 
 
 -- Generations ---------------------------------------------------------------------------------
 
-each-counted : (gs : List Generations) → ((s : ℕ) → length (getD gs s noGenerations .messages) ≡ 20) → all (λ g. unfallen 0 (g .messages) && all (λ n. leb n 4294967295) (g .messages)) gs ≡ true → Each Counted gs
+each-counted : (gs : List Generations) → ((s : ℕ) → length (getD gs s noGenerations .messages) ≡ 20) → all
+    (λ g. unfallen 0 (g .messages) && all (λ n. leb n 4294967295) (g .messages)) gs ≡ true → Each Counted gs
 unfolding all
 each-counted [] t h = tt
 each-counted (g ∷ gs) t h =
     let test : Generations → Bool = λ g. unfallen 0 (g .messages) && all (λ n. leb n 4294967295) (g .messages) in
-    let z = and-l (test g) (all test gs) h in
-    (record { rises = and-l (unfallen 0 (g .messages)) (all (λ n. leb n 4294967295) (g .messages)) z; fits = and-r (unfallen 0 (g .messages)) (all (λ n. leb n 4294967295) (g .messages)) z; twenty = t 0 }, each-counted gs (λ s. t (suc s)) (and-r (test g) (all test gs) h))
+    let z = and-l (test g) (all test gs) h in (
+      record {
+        rises = and-l (unfallen 0 (g .messages)) (all (λ n. leb n 4294967295) (g .messages)) z;
+        fits = and-r (unfallen 0 (g .messages)) (all (λ n. leb n 4294967295) (g .messages)) z;
+        twenty = t 0;
+      },
+      each-counted gs (λ s. t (suc s)) (and-r (test g) (all test gs) h),
+    )
 
 all-each : {A : Type 0} (f : A → Bool) (l : List A) → all f l ≡ true → Each (λ x. f x ≡ true) l
 unfolding all

@@ -39,7 +39,8 @@ module _ {A : Type 0} (holds asked blank : A → Bool) (id : A → ℕ) (free : 
           (arranged holds asked blank id (id x) l ≡ true → Kept (id x) l) → Kept low (x ∷ l)
       go true e h ih =
           let z = h in
-          one-more low x l e (ltb-true low (id x) (search (and-l, and-r, z) depth 4)) (search (and-l, and-r, z) depth 4) (ih (and-r (ltb low (id x) && asked x) (arranged holds asked blank id (id x) l) h))
+          one-more low x l e (ltb-true low (id x) (search (and-l, and-r, z) depth 4)) (search (and-l, and-r, z) depth 4)
+          (ih (and-r (ltb low (id x) && asked x) (arranged holds asked blank id (id x) l) h))
       go false e h ih = nothing-more low x l h
 
 module _ {A : Type 0} (holds : A → Bool) (none : A) where

@@ -107,7 +107,9 @@ order-append (q ∷ r ∷ a) b h x y =
 
 -- a row of one part, and a row of later ones after it
 pub order-join : (k : ℕ) (a b : List (List ℕ)) → Of k a → From (suc k) b → inOrder a ≡ true → inOrder b ≡ true → inOrder (a ++ b) ≡ true
-order-join k a b h l x y = order-append a b (each-more (λ q. part q ≡ k) (λ q. Each (λ r. mayFollow q r ≡ true) b) (λ q e. each-more (λ r. suc k ≤ part r) (λ r. mayFollow q r ≡ true) (later q e) b l) a h) x y
+order-join k a b h l x y = order-append a b
+    (each-more (λ q. part q ≡ k) (λ q. Each (λ r. mayFollow q r ≡ true) b)
+    (λ q e. each-more (λ r. suc k ≤ part r) (λ r. mayFollow q r ≡ true) (later q e) b l) a h) x y
   where
     later : (q : List ℕ) → part q ≡ k → (r : List ℕ) → suc k ≤ part r → mayFollow q r ≡ true
     later q e r le = unfold mayFollow in (rw (lt-ltb (part q) (part r) (omega arith)))

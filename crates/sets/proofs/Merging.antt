@@ -59,8 +59,10 @@ pub merge-regular : (fuel : ℕ) (os : List Regular) (cs : List Complex) → len
 unfolding byId keep
 merge-regular zero [] cs le = refl
 merge-regular zero (o ∷ os) cs le = absurd (omega arith)
-merge-regular (suc fuel) [] cs le = keep-none tellsRegular (map complexRecord cs) (each-map (λ r. tellsRegular r ≡ false) complexRecord cs (every (λ c. tellsRegular (complexRecord c) ≡ false) complex-regular cs))
-merge-regular (suc fuel) (o ∷ os) [] le = keep-every tellsRegular (map regularRecord (o ∷ os)) (each-map (λ r. tellsRegular r ≡ true) regularRecord (o ∷ os) (every (λ o. tellsRegular (regularRecord o) ≡ true) regular-regular (o ∷ os)))
+merge-regular (suc fuel) [] cs le = keep-none tellsRegular (map complexRecord cs)
+    (each-map (λ r. tellsRegular r ≡ false) complexRecord cs (every (λ c. tellsRegular (complexRecord c) ≡ false) complex-regular cs))
+merge-regular (suc fuel) (o ∷ os) [] le = keep-every tellsRegular (map regularRecord (o ∷ os))
+    (each-map (λ r. tellsRegular r ≡ true) regularRecord (o ∷ os) (every (λ o. tellsRegular (regularRecord o) ≡ true) regular-regular (o ∷ os)))
 merge-regular (suc fuel) (o ∷ os) (c ∷ cs) le = go (ltb (o .id) (c .id)) (merge-regular fuel os (c ∷ cs) (omega arith)) (merge-regular fuel (o ∷ os) cs (omega arith))
   where
     go : (b : Bool) → keep tellsRegular (byId fuel os (c ∷ cs)) ≡ map regularRecord os → keep tellsRegular (byId fuel (o ∷ os) cs) ≡ map regularRecord (o ∷ os) →
@@ -72,8 +74,10 @@ pub merge-complex : (fuel : ℕ) (os : List Regular) (cs : List Complex) → len
 unfolding byId keep
 merge-complex zero os [] le = refl
 merge-complex zero os (c ∷ cs) le = absurd (omega arith)
-merge-complex (suc fuel) [] cs le = keep-every tellsComplex (map complexRecord cs) (each-map (λ r. tellsComplex r ≡ true) complexRecord cs (every (λ c. tellsComplex (complexRecord c) ≡ true) complex-complex cs))
-merge-complex (suc fuel) (o ∷ os) [] le = keep-none tellsComplex (map regularRecord (o ∷ os)) (each-map (λ r. tellsComplex r ≡ false) regularRecord (o ∷ os) (every (λ o. tellsComplex (regularRecord o) ≡ false) regular-complex (o ∷ os)))
+merge-complex (suc fuel) [] cs le = keep-every tellsComplex (map complexRecord cs)
+    (each-map (λ r. tellsComplex r ≡ true) complexRecord cs (every (λ c. tellsComplex (complexRecord c) ≡ true) complex-complex cs))
+merge-complex (suc fuel) (o ∷ os) [] le = keep-none tellsComplex (map regularRecord (o ∷ os))
+    (each-map (λ r. tellsComplex r ≡ false) regularRecord (o ∷ os) (every (λ o. tellsComplex (regularRecord o) ≡ false) regular-complex (o ∷ os)))
 merge-complex (suc fuel) (o ∷ os) (c ∷ cs) le = go (ltb (o .id) (c .id)) (merge-complex fuel os (c ∷ cs) (omega arith)) (merge-complex fuel (o ∷ os) cs (omega arith))
   where
     go : (b : Bool) → keep tellsComplex (byId fuel os (c ∷ cs)) ≡ map complexRecord (c ∷ cs) → keep tellsComplex (byId fuel (o ∷ os) cs) ≡ map complexRecord cs →
@@ -94,7 +98,9 @@ merge-rises (suc fuel) low [] cs h k a x y = rising-map (λ c. c .id) mark compl
 merge-rises (suc fuel) low (o ∷ os) [] h k a x y = rising-map (λ o. o .id) mark regularRecord low (o ∷ os) h x
 merge-rises (suc fuel) low (o ∷ os) (c ∷ cs) h k a x y =
     go (ltb (o .id) (c .id)) refl (λ lt. merge-rises fuel (suc (o .id)) os (c ∷ cs) (h .1) k (a .1) (x .1) ((lt, y .1)))
-    (λ lt. merge-rises fuel (suc (c .id)) (o ∷ os) cs h (k .1) ((a .0 .1, each-more (λ o. Each (λ c. o .id ≡ c .id → ⊥) (c ∷ cs)) (λ o. Each (λ c. o .id ≡ c .id → ⊥) cs) (λ o d. d .1) os (a .1))) ((lt, x .1)) (y .1))
+    (λ lt. merge-rises fuel (suc (c .id)) (o ∷ os) cs h (k .1)
+    ((a .0 .1, each-more (λ o. Each (λ c. o .id ≡ c .id → ⊥) (c ∷ cs)) (λ o. Each (λ c. o .id ≡ c .id → ⊥) cs) (λ o d. d .1) os (a .1)))
+    ((lt, x .1)) (y .1))
   where
     go : (b : Bool) → ltb (o .id) (c .id) ≡ b → (o .id < c .id → Rising mark (suc (o .id)) (byId fuel os (c ∷ cs))) → (c .id < o .id → Rising mark (suc (c .id)) (byId fuel (o ∷ os) cs)) →
         Rising mark low (if b then regularRecord o ∷ byId fuel os (c ∷ cs) else complexRecord c ∷ byId fuel (o ∷ os) cs)

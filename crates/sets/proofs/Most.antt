@@ -22,7 +22,8 @@ use Rattle.rules.specs.Bytes.{bytes, framed, u32, u8}
 use Rattle.rules.specs.Messages.{encodeMessage, orderFields, twoLegFields}
 use Rattle.rules.specs.Generation.{generationsOf}
 use Rattle.rules.specs.Places.{holdsComplex, holdsEdition, holdsRegular}
-use Rattle.sets.specs.Set.{byId, complexRecord, editionRecord, firstRecord, generationRecord, generationRecords, joined, leggingRecord, leggingRecords, reachedRecords, regularRecord, seriesRecords}
+use Rattle.sets.specs.Set.{byId, complexRecord, editionRecord, firstRecord, generationRecord, generationRecords, joined, leggingRecord}
+use Rattle.sets.specs.Set.{leggingRecords, reachedRecords, regularRecord, seriesRecords}
 use Rattle.sets.specs.Promises.{AtMost}
 use Rattle.sets.proofs.Lists.{Each, each-map, every, keep-few}
 use Rattle.sets.proofs.Keeping.{flat}

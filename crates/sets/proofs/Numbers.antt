@@ -112,7 +112,8 @@ unfolding generationRecords
 generations-good s [] le h = tt
 generations-good s (g ∷ gs) le h =
     each-append (λ r. Good 4 r × (s ≤ mark r)) (map (generationRecord s) (keep held (g .messages))) (generationRecords (suc s) gs)
-    (each-more (Fine 4 s) (λ r. Good 4 r × (s ≤ mark r)) (λ r f. (good 4 s r f, (let z = f .marked in omega arith))) (map (generationRecord s) (keep held (g .messages))) (block-fine s g (omega arith) (h .0)))
+    (each-more (Fine 4 s) (λ r. Good 4 r × (s ≤ mark r)) (λ r f. (good 4 s r f, (let z = f .marked in omega arith)))
+    (map (generationRecord s) (keep held (g .messages))) (block-fine s g (omega arith) (h .0)))
     (each-more (λ r. Good 4 r × (suc s ≤ mark r)) (λ r. Good 4 r × (s ≤ mark r)) (λ r f. (f .0, omega arith)) (generationRecords (suc s) gs) (generations-good (suc s) gs (omega arith) (h .1)))
 
 -- a series' record, and one of a later series
@@ -126,7 +127,8 @@ generations-order s [] le h = unfold inOrder in refl
 generations-order s (g ∷ gs) le h =
     order-append (map (generationRecord s) (keep held (g .messages))) (generationRecords (suc s) gs)
     (each-more (Fine 4 s) (λ q. Each (λ r. mayFollow q r ≡ true) (generationRecords (suc s) gs))
-    (λ q f. each-more (λ r. Good 4 r × (suc s ≤ mark r)) (λ r. mayFollow q r ≡ true) (λ r d. later-follows s q r f (d .0) (d .1)) (generationRecords (suc s) gs) (generations-good (suc s) gs (omega arith) (h .1)))
+    (λ q f. each-more (λ r. Good 4 r × (suc s ≤ mark r)) (λ r. mayFollow q r ≡ true) (λ r d. later-follows s q r f (d .0) (d .1))
+    (generationRecords (suc s) gs) (generations-good (suc s) gs (omega arith) (h .1)))
     (map (generationRecord s) (keep held (g .messages))) (block-fine s g (omega arith) (h .0)))
     (numbers-order s (omega arith) 0 (keep held (g .messages)) (some-kept (g .messages) (h .0 .fits)) (unfallen-kept 0 (g .messages) (h .0 .rises)))
     (generations-order (suc s) gs (omega arith) (h .1))
@@ -142,28 +144,50 @@ unfolding keep
 block-kept s t a [] = sym (if-same (eqb s t) [])
 block-kept s t a (n ∷ ns) = rw (same-series s t a n, block-kept s t a ns) (go (eqb s t))
   where
-    go : (b : Bool) → (if b then generationRecord s n ∷ (if b then map (generationRecord s) ns else []) else (if b then map (generationRecord s) ns else [])) ≡ (if b then generationRecord s n ∷ map (generationRecord s) ns else [])
+    go : (b : Bool) → (if b then generationRecord s n ∷ (if b then map (generationRecord s) ns else []) else
+        (if b then map (generationRecord s) ns else [])) ≡ (if b then generationRecord s n ∷ map (generationRecord s) ns else [])
     go true = refl
     go false = refl
 
 before-kept : (s t : ℕ) (gs : List Generations) → s + length gs ≤ 8 → t < s → keep (ofSeries t) (generationRecords s gs) ≡ []
 unfolding generationRecords
 before-kept s t [] le lt = unfold keep in refl
-before-kept s t (g ∷ gs) le lt = rw (keep-append (ofSeries t) (map (generationRecord s) (keep held (g .messages))) (generationRecords (suc s) gs), block-kept s t (omega arith) (keep held (g .messages)), ne-eqb s t (λ e. omega arith), before-kept (suc s) t gs (omega arith) (omega arith))
+before-kept s t (g ∷ gs) le lt = rw (
+  keep-append (ofSeries t) (map (generationRecord s) (keep held (g .messages))) (generationRecords (suc s) gs),
+  block-kept s t (omega arith) (keep held (g .messages)),
+  ne-eqb s t (λ e. omega arith),
+  before-kept (suc s) t gs (omega arith) (omega arith),
+)
 
 -- the records of series t = s + i
-pub series-kept : (s i : ℕ) (gs : List Generations) → s + length gs ≤ 8 → (t : ℕ) → s + i ≡ t → keep (ofSeries t) (generationRecords s gs) ≡ map (generationRecord t) (keep held (getD gs i noGenerations .messages))
+pub series-kept : (s i : ℕ) (gs : List Generations) → s + length gs ≤ 8 → (t : ℕ) → s + i ≡ t → keep (ofSeries t) (generationRecords s gs) ≡ map
+    (generationRecord t) (keep held (getD gs i noGenerations .messages))
 unfolding generationRecords
 series-kept s i [] le t e = unfold keep in refl
 series-kept s zero (g ∷ gs) le t e =
     let z : s ≡ t = omega arith in
-    rw (z, keep-append (ofSeries t) (map (generationRecord t) (keep held (g .messages))) (generationRecords (suc t) gs), block-kept t t (omega arith) (keep held (g .messages)), eq-eqb t t refl, before-kept (suc t) t gs (omega arith) (omega arith), append-nil (map (generationRecord t) (keep held (g .messages))))
+    rw (
+      z,
+      keep-append (ofSeries t) (map (generationRecord t) (keep held (g .messages))) (generationRecords (suc t) gs),
+      block-kept t t (omega arith) (keep held (g .messages)),
+      eq-eqb t t refl,
+      before-kept (suc t) t gs (omega arith) (omega arith),
+      append-nil (map (generationRecord t) (keep held (g .messages))),
+    )
 series-kept s (suc i) (g ∷ gs) le t e =
-    rw (keep-append (ofSeries t) (map (generationRecord s) (keep held (g .messages))) (generationRecords (suc s) gs), block-kept s t (omega arith) (keep held (g .messages)), ne-eqb s t (λ q. omega arith), series-kept (suc s) i gs (omega arith) t (omega arith))
+    rw (
+      keep-append (ofSeries t) (map (generationRecord s) (keep held (g .messages))) (generationRecords (suc s) gs),
+      block-kept s t (omega arith) (keep held (g .messages)),
+      ne-eqb s t (λ q. omega arith),
+      series-kept (suc s) i gs (omega arith) t (omega arith),
+    )
 
 -- 20 numbers, zeros first
 pub twenty-told : (s : ℕ) (g : Generations) → s ≤ 7 → Counted g → (rs : List (List ℕ)) → keep (ofSeries s) rs ≡ map (generationRecord s) (keep held (g .messages)) → generationsTold rs s ≡ g
 unfolding generationsTold
 twenty-told s g a c rs e =
-    let b : map generationTold (map (generationRecord s) (keep held (g .messages))) ≡ keep held (g .messages) = map-back (generationRecord s) generationTold (keep held (g .messages)) (each-more Some (λ n. generationTold (generationRecord s n) ≡ n) (λ n f. unfold generationTold in (generation-tells s n (f .0))) (keep held (g .messages)) (some-kept (g .messages) (c .fits))) in
+    let b : map generationTold (map (generationRecord s) (keep held (g .messages))) ≡ keep held (g .messages) = map-back (generationRecord s)
+    generationTold (keep held (g .messages))
+    (each-more Some (λ n. generationTold (generationRecord s n) ≡ n) (λ n f. unfold generationTold in (generation-tells s n (f .0)))
+    (keep held (g .messages)) (some-kept (g .messages) (c .fits))) in
     rw (e, b, ← c .twenty, zeros-first 0 (g .messages) (c .rises))

@@ -24,7 +24,8 @@ use Rattle.rules.specs.Sound.{follows, listedInRange, sound}
 use Rattle.rules.proofs.Tests.{and-l, free-none}
 use Rattle.demands.specs.Kept.{Shaped}
 use Rattle.sets.specs.Set.{carries, complexRecord, complexTold, editionRecord, editionTold, firstRecord, generationsTold, heldIn, joined, lastTold}
-use Rattle.sets.specs.Set.{leggingRecords, leggingTold, listedTold, notWritten, numberTold, ofSeries, places, reachedRecords, reachedTold, readRow, row, readSet, regularRecord, regularTold, seriesRecords, setOf}
+use Rattle.sets.specs.Set.{leggingRecords, leggingTold, listedTold, notWritten, numberTold, ofSeries, places, reachedRecords, reachedTold}
+use Rattle.sets.specs.Set.{readRow, row, readSet, regularRecord, regularTold, seriesRecords, setOf}
 use Rattle.sets.specs.Set.{tellsComplex, tellsEdition, tellsLegging, tellsRegular, upward, venueTold, writeSet}
 use Rattle.sets.specs.Promises.{ReadsBack}
 use Rattle.sets.proofs.Lists.{Each, each-more, keep-every, map-back}
@@ -122,7 +123,9 @@ module _ (number : ℕ) (few : FourBytes number) (v : Venue) (w : Shaped v) (c :
 
   all-leggings : keep tellsLegging (leggingRecords 0 (v .legging)) ≡ leggingRecords 0 (v .legging)
   all-leggings =
-      keep-every tellsLegging (leggingRecords 0 (v .legging)) (each-more (Good 3) (λ r. tellsLegging r ≡ true) (λ r g. sort-of r 3 (g .of) .2) (leggingRecords 0 (v .legging)) (set-goods v w c number .1 .1 .1 .0))
+      keep-every tellsLegging (leggingRecords 0 (v .legging))
+      (each-more (Good 3) (λ r. tellsLegging r ≡ true) (λ r g. sort-of r 3 (g .of) .2) (leggingRecords 0 (v .legging))
+      (set-goods v w c number .1 .1 .1 .0))
 
   legging-back : upward (leggingTold set) 0 16 ≡ v .legging
   legging-back = rw (← w .legging) (upward-is (leggingTold set) noLegging 0 (v .legging) (λ i lt. one i))
@@ -198,7 +201,12 @@ taken number room v h = go (carries number v) (ltb room (length (joined (setOf n
   where
     go : (a b : Bool) → carries number v ≡ a → ltb room (length (joined (setOf number v))) ≡ b →
         (if not a then notWritten 9 room else if b then notWritten 15 room
-        else record { number = 0; written = length (joined (setOf number v)); memory = joined (setOf number v) ++ replicate (room - length (joined (setOf number v))) 0 }) .number ≡ 0 → Taken number room v
+        else record {
+          number = 0;
+          written = length (joined (setOf number v));
+          memory = joined (setOf number v) ++ replicate
+              (room - length (joined (setOf number v))) 0;
+        }) .number ≡ 0 → Taken number room v
     go true true e f k = absurd (omega arith)
     go true false e f k = record { carries = e; fits = ltb-false room (length (joined (setOf number v))) f; memory = rw (e, f) }
     go false b e f k = absurd (omega arith)

@@ -19,7 +19,8 @@ use Rattle.rules.proofs.Tests.{and-l, and-r}
 use Rattle.demands.specs.Kept.{Shaped, SoundAt}
 use Rattle.demands.proofs.Calls.{fresh-sound}
 use Rattle.sets.specs.Set.{Held, ReadSet, broken, carries, complexTold, countOf, editionTold, fewEnough, generationsTold, hasPlace, heldIn, inOrder, isSet, joined, leggingTold, listedTold}
-use Rattle.sets.specs.Set.{notRead, numberTold, ofSeries, ofShort, ofWhole, part, places, readRow, readSet, regularTold, row, seriesThen, tellsComplex, tellsEdition, tellsGeneration, tellsLegging, tellsRegular, upward, venueTold}
+use Rattle.sets.specs.Set.{notRead, numberTold, ofSeries, ofShort, ofWhole, part, places, readRow, readSet, regularTold, row, seriesThen}
+use Rattle.sets.specs.Set.{tellsComplex, tellsEdition, tellsGeneration, tellsLegging, tellsRegular, upward, venueTold}
 use Rattle.sets.specs.Promises.{AllBytes, ReadsSound}
 use Rattle.sets.proofs.Lists.{Each}
 use Rattle.sets.proofs.Rows.{held-out}
@@ -223,7 +224,8 @@ reads-sound = record { sound = λ memory. held-sound (heldIn memory); number = �
     held-sound broken = fresh-sound
     held-sound (row rs) = row-sound rs
 
-    held-fits : (memory : List ℕ) → AllBytes memory → (h : Held) → heldIn memory ≡ h → let r : ReadSet = elim h as (λ _. ReadSet) [ broken ↦ notRead 16 | row rs ↦ readRow rs ] in FourBytes (r .message)
+    held-fits : (memory : List ℕ) → AllBytes memory → (h : Held) → heldIn memory ≡ h → let r : ReadSet = elim h as
+        (λ _. ReadSet) [ broken ↦ notRead 16 | row rs ↦ readRow rs ] in FourBytes (r .message)
     held-fits memory b broken e = omega arith
     held-fits memory b (row rs) e =
         let held = held-out (length memory) memory rs e in

@@ -179,7 +179,8 @@ pub edition-tells : (e : Edition) → editionInRange e ≡ true → EditionTells
 unfolding editionInRange editionTold editionRecord framed bytes kindField u32At u16At u8At isSeries within
 edition-tells e z =
     let f = figure-fits e (search (and-l, and-r, z) depth 4) in
-    go (f .0) (f .1) (edition-fits (e .edition) (search (and-l, and-r, z) depth 4)) (let x = leb-true (e .message) 4294967295 (search (and-l, and-r, z) depth 4) in omega arith) (eqb (e .figure) percentage) refl
+    go (f .0) (f .1) (edition-fits (e .edition) (search (and-l, and-r, z) depth 4))
+    (let x = leb-true (e .message) 4294967295 (search (and-l, and-r, z) depth 4) in omega arith) (eqb (e .figure) percentage) refl
   where
     go : e .figure ≤ 8 → OneByte (e .value) → FourBytes (e .edition) → FourBytes (e .message) → (t : Bool) → eqb (e .figure) percentage ≡ t → EditionTells e
     go a b c d true q =

@@ -126,7 +126,9 @@ leggings-rise s (l ∷ k ∷ ls) le h =
     let p = places-of s in
     let z : suc (placeOf s 0) ≡ placeOf s 1 = omega arith in
     let y : suc (placeOf s 1) ≡ 2 * suc s = omega arith in
-    rw (two-slots s l k ls, ← p .0) (slot-rises s 0 (omega arith) (omega arith) l (h .0) _ (rw z (slot-rises s 1 (omega arith) (omega arith) k (h .1 .0) _ (rw y (leggings-rise (suc s) ls (omega arith) (h .1 .1))))))
+    rw (two-slots s l k ls, ← p .0)
+    (slot-rises s 0 (omega arith) (omega arith) l (h .0) _
+    (rw z (slot-rises s 1 (omega arith) (omega arith) k (h .1 .0) _ (rw y (leggings-rise (suc s) ls (omega arith) (h .1 .1))))))
 
 pub leggings-told : (s i : ℕ) (ls : List Legging) → 2 * s + length ls ≤ 16 → Each Placed ls → (m : ℕ) → length ls ≡ 2 * m → leggingTold (leggingRecords s ls) (2 * s + i) ≡ getD ls i noLegging
 leggings-told s i [] le h m e = unfold leggingRecords leggingTold in refl
@@ -151,4 +153,5 @@ leggings-told s i (l ∷ k ∷ ls) le h m e = rw (two-slots s l k ls) (go i (λ 
     go (suc (suc j)) ih =
         let p = places-of s in
         let z : 2 * s + suc (suc j) ≡ 2 * suc s + j = omega arith in
-        rw z (slot-other s 0 (omega arith) (omega arith) l (h .0) (slot s 1 k ++ rest) (2 * suc s + j) (λ q. omega arith) ∙ slot-other s 1 (omega arith) (omega arith) k (h .1 .0) rest (2 * suc s + j) (λ q. omega arith) ∙ ih j)
+        rw z (slot-other s 0 (omega arith) (omega arith) l (h .0) (slot s 1 k ++ rest) (2 * suc s + j) (λ q. omega arith) ∙ slot-other s 1
+        (omega arith) (omega arith) k (h .1 .0) rest (2 * suc s + j) (λ q. omega arith) ∙ ih j)

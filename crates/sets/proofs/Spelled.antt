@@ -240,7 +240,8 @@ module _ (r : List ℕ) (c : Clean r) where
       let e = join r 4 11 (u32 (u32At r 4) ++ u8 (u8At r 8) ++ u8 (u8At r 9) ++ u8 (u8At r 10)) (u8 (u8At r 11)) refl d (u8-in 11 (omega arith)) in
       let f = join r 4 12 (u32 (u32At r 4) ++ u8 (u8At r 8) ++ u8 (u8At r 9) ++ u8 (u8At r 10) ++ u8 (u8At r 11)) (u8 (u8At r 12)) refl e (u8-in 12 (omega arith)) in
       let g = join r 4 13 (u32 (u32At r 4) ++ u8 (u8At r 8) ++ u8 (u8At r 9) ++ u8 (u8At r 10) ++ u8 (u8At r 11) ++ u8 (u8At r 12)) (u32 (u32At r 13)) refl f (u32-in 13 (omega arith)) in
-      let h = join r 4 17 (u32 (u32At r 4) ++ u8 (u8At r 8) ++ u8 (u8At r 9) ++ u8 (u8At r 10) ++ u8 (u8At r 11) ++ u8 (u8At r 12) ++ u32 (u32At r 13)) (u32 (u32At r 17)) refl g (u32-in 17 (omega arith)) in
+      let h = join r 4 17 (u32 (u32At r 4) ++ u8 (u8At r 8) ++ u8 (u8At r 9) ++ u8 (u8At r 10) ++ u8 (u8At r 11) ++ u8 (u8At r 12)
+      ++ u32 (u32At r 13)) (u32 (u32At r 17)) refl g (u32-in 17 (omega arith)) in
       rw (unsigned-back (u32At r 13) (word-small r (c .bytes) 13)) h
 
   pub two-spelled : kindField r ≡ 2 → complexRecord (complexTold r) ≡ r

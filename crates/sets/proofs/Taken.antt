@@ -59,7 +59,10 @@ module _ (r : List ℕ) (c : Clean r) (p : hasPlace r ≡ true) where
       two e = let h = rw e at p in complexOne (rw e) (rw e) (two-spelled r c e) (rw (k, e)) (rw e (and-l (held (u32At r 17)) _ h))
 
       ten : kindField r ≡ 10 → OrderOf r
-      ten e = let h = rw e at p in complexOne (rw e) (rw e) (ten-spelled r c e (rw e (not-out (oneToOne (twoLegAt r (u8At r 21) (u8At r 22))) (and-r (held (u32At r 17)) _ h)))) (rw (k, e)) (rw e (and-l (held (u32At r 17)) _ h))
+      ten e = let h = rw e at p in
+          complexOne (rw e) (rw e)
+          (ten-spelled r c e (rw e (not-out (oneToOne (twoLegAt r (u8At r 21) (u8At r 22))) (and-r (held (u32At r 17)) _ h)))) (rw (k, e))
+          (rw e (and-l (held (u32At r 17)) _ h))
 
       nine : kindField r ≡ 9 → OrderOf r
       nine e = let h = rw e at p in regularOne (rw e) (rw e) (regular-spelled r c e) (rw (k, e)) h

@@ -15,8 +15,10 @@ use Rattle.rules.specs.Bytes.{kindField, u32At, u8At}
 use Rattle.rules.specs.Messages.{encodeMessage}
 use Rattle.rules.specs.Places.{holdsComplex, holdsEdition, holdsRegular}
 use Rattle.rules.proofs.Tests.{and-l, and-r, not-out}
-use Rattle.sets.specs.Set.{byId, carries, editionRecord, editionTold, fewEnough, firstRecord, generationRecords, generationsTold, hasPlace, heldIn, inOrder, isSet, joined, lastTold, leggingRecords, leggingTold, listedTold}
-use Rattle.sets.specs.Set.{mark, notRead, numberTold, ofSeries, ofWhole, part, reachedRecords, readRow, readSet, row, seriesRecords, seriesThen, setOf, tellsComplex, tellsEdition, tellsGeneration, tellsLegging, tellsRegular, venueTold, writeSet}
+use Rattle.sets.specs.Set.{byId, carries, editionRecord, editionTold, fewEnough, firstRecord, generationRecords, generationsTold, hasPlace}
+use Rattle.sets.specs.Set.{heldIn, inOrder, isSet, joined, lastTold, leggingRecords, leggingTold, listedTold}
+use Rattle.sets.specs.Set.{mark, notRead, numberTold, ofSeries, ofWhole, part, reachedRecords, readRow, readSet, row, seriesRecords, seriesThen}
+use Rattle.sets.specs.Set.{setOf, tellsComplex, tellsEdition, tellsGeneration, tellsLegging, tellsRegular, venueTold, writeSet}
 use Rattle.sets.specs.Promises.{AllBytes, BytesBack, WritesBack}
 use Rattle.sets.proofs.Lists.{Each, Of, Rising, each-map, each-more, every, keep-every, map-back}
 use Rattle.sets.proofs.Rows.{AllWell, held-out, rows-are}
@@ -105,7 +107,9 @@ series-out (suc count) s of (q ∷ r ∷ rs) c h =
     let e = eqb-true (u8At r 4) s (search (and-l, and-r, h) depth 6) in
     let f = rw b at (status-spelled q (c .0) a) in
     let g = rw e at (away-spelled r (c .1 .0) d) in
-    one-more count s of q r rs f g (listed-told s q r f g a b d e) (series-out count (suc s) of rs (c .1 .1) (and-r (eqb (kindField q) 5 && eqb (u8At q 4) s && eqb (kindField r) 4 && eqb (u8At r 4) s) (seriesThen count (suc s) of rs) h))
+    one-more count s of q r rs f g (listed-told s q r f g a b d e)
+    (series-out count (suc s) of rs (c .1 .1)
+    (and-r (eqb (kindField q) 5 && eqb (u8At q 4) s && eqb (kindField r) 4 && eqb (u8At r 4) s) (seriesThen count (suc s) of rs) h))
 
 -- A set that is read --------------------------------------------------------------------------
 
@@ -145,8 +149,12 @@ module _ (rs : List (List ℕ)) (q : Read rs) where
   editions-back : map editionRecord (keep holdsEdition (venueTold rs .editions)) ≡ q .e
   unfolding venueTold
   editions-back =
-      let f = each-map (λ x. holdsEdition x ≡ true) editionTold (q .e) (each-more (λ r. (editionRecord (editionTold r) ≡ r) × (held (editionTold r .edition) ≡ true)) (λ r. held (editionTold r .edition) ≡ true) (λ r z. z .1) (q .e) (q .editions)) in
-      let b = map-back editionTold editionRecord (q .e) (each-more (λ r. (editionRecord (editionTold r) ≡ r) × (held (editionTold r .edition) ≡ true)) (λ r. editionRecord (editionTold r) ≡ r) (λ r z. z .0) (q .e) (q .editions)) in
+      let f = each-map (λ x. holdsEdition x ≡ true) editionTold (q .e)
+      (each-more (λ r. (editionRecord (editionTold r) ≡ r) × (held (editionTold r .edition) ≡ true)) (λ r. held (editionTold r .edition) ≡ true)
+      (λ r z. z .1) (q .e) (q .editions)) in
+      let b = map-back editionTold editionRecord (q .e)
+      (each-more (λ r. (editionRecord (editionTold r) ≡ r) × (held (editionTold r .edition) ≡ true)) (λ r. editionRecord (editionTold r) ≡ r)
+      (λ r z. z .0) (q .e) (q .editions)) in
       rw (kept 1 1 tellsEdition editions-only refl, all-editions, places-kept holdsEdition noEdition refl 32 (map editionTold (q .e)) f, b)
 
   regulars : keep holdsRegular (venueTold rs .regular) ≡ regularsOf (q .o)
@@ -161,7 +169,8 @@ module _ (rs : List (List ℕ)) (q : Read rs) where
       rw (kept 2 2 tellsComplex complexes-only refl) (places-kept holdsComplex noComplex refl 32 (complexesOf (q .o))
       (each-more (λ o. (0 ≤ o .id) × (holdsComplex o ≡ true)) (λ o. holdsComplex o ≡ true) (λ o z. z .1) (complexesOf (q .o)) (complexes-so 0 (q .o) (q .orders) (q .orders-rise))))
 
-  books-back : byId (length (keep holdsRegular (venueTold rs .regular)) + length (keep holdsComplex (venueTold rs .complex))) (keep holdsRegular (venueTold rs .regular)) (keep holdsComplex (venueTold rs .complex)) ≡ q .o
+  books-back : byId (length (keep holdsRegular (venueTold rs .regular)) + length (keep holdsComplex (venueTold rs .complex)))
+      (keep holdsRegular (venueTold rs .regular)) (keep holdsComplex (venueTold rs .complex)) ≡ q .o
   books-back = rw (regulars, complexes) (books-again (length (regularsOf (q .o)) + length (complexesOf (q .o))) 0 (q .o) (q .orders) (q .orders-rise) (omega arith))
 
   all-leggings : keep tellsLegging (q .l) ≡ q .l
@@ -319,8 +328,12 @@ read-series : (r : List ℕ) (rs : List (List ℕ)) → Clean r → kindField r 
 read-series r rs c k cs ps so =
     let w = so .rest in
     let later : (P : List ℕ → Type 0) → Each P rs → Each P (so .tail) = λ P h. each-later P (seriesRecords 0 (so .xs)) (so .tail) (subst (λ (l : List (List ℕ)). Each P l) (so .is) h) in
-    let t = rests (so .tail) (later Clean cs) (later (λ r. hasPlace r ≡ true) ps) (all-out ofWhole (so .tail) (and-l (all ofWhole (so .tail)) (inOrder (so .tail)) (and-l (all ofWhole (so .tail) && inOrder (so .tail)) (fewEnough (so .tail)) w))) in
-    read-tail (so .tail) t (and-r (all ofWhole (so .tail)) (inOrder (so .tail)) (and-l (all ofWhole (so .tail) && inOrder (so .tail)) (fewEnough (so .tail)) w)) r rs (so .xs) (so .is) c k (so .size) (λ i lt. so .tells i lt i (omega arith)) (so .front)
+    let t = rests (so .tail) (later Clean cs) (later (λ r. hasPlace r ≡ true) ps)
+    (all-out ofWhole (so .tail)
+    (and-l (all ofWhole (so .tail)) (inOrder (so .tail)) (and-l (all ofWhole (so .tail) && inOrder (so .tail)) (fewEnough (so .tail)) w))) in
+    read-tail (so .tail) t
+    (and-r (all ofWhole (so .tail)) (inOrder (so .tail)) (and-l (all ofWhole (so .tail) && inOrder (so .tail)) (fewEnough (so .tail)) w)) r rs
+    (so .xs) (so .is) c k (so .size) (λ i lt. so .tells i lt i (omega arith)) (so .front)
 
 read-out : (rs : List (List ℕ)) → Each Clean rs → isSet rs ≡ true → Each (λ r. hasPlace r ≡ true) rs → kindField (getD rs 0 []) ≡ 80 → Read rs
 unfolding isSet

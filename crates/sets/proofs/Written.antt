@@ -21,7 +21,8 @@ use Rattle.rules.specs.Places.{holdsComplex, holdsEdition, holdsRegular}
 use Rattle.rules.specs.Sound.{listedInRange}
 use Rattle.rules.proofs.Tests.{and-in}
 use Rattle.demands.specs.Kept.{Shaped}
-use Rattle.sets.specs.Set.{byId, complexRecord, countOf, editionRecord, fewEnough, firstRecord, generationRecord, generationRecords, hasPlace, inOrder, isSet, leggingRecord, leggingRecords, mark}
+use Rattle.sets.specs.Set.{byId, complexRecord, countOf, editionRecord, fewEnough, firstRecord, generationRecord, generationRecords, hasPlace}
+use Rattle.sets.specs.Set.{inOrder, isSet, leggingRecord, leggingRecords, mark}
 use Rattle.sets.specs.Set.{ofSeries, ofWhole, part, reachedRecords, regularRecord, seriesRecords, seriesThen, setOf, tellsComplex, tellsEdition, tellsGeneration, tellsLegging, tellsRegular}
 use Rattle.sets.proofs.Lists.{Each, all-each, each-append, each-map, each-more, every, keep-few, rising-map, rising-order}
 use Rattle.sets.proofs.Rows.{AllWell, Well}
@@ -124,7 +125,9 @@ module _ (v : Venue) (w : Shaped v) (c : Carried v) where
       (each-more (λ o. Fine 2 (o .id) (complexRecord o)) (λ o. Good 2 (complexRecord o)) (λ o f. good 2 (o .id) (complexRecord o) f) cs (c .complex .fine))
 
   editions-good : Each (Good 1) (map editionRecord es)
-  editions-good = each-map (Good 1) editionRecord es (each-more (λ e. Fine 1 (e .edition) (editionRecord e)) (λ e. Good 1 (editionRecord e)) (λ e f. good 1 (e .edition) (editionRecord e) f) es (c .editions .fine))
+  editions-good = each-map (Good 1) editionRecord es
+      (each-more (λ e. Fine 1 (e .edition) (editionRecord e)) (λ e. Good 1 (editionRecord e)) (λ e f. good 1 (e .edition) (editionRecord e) f) es
+      (c .editions .fine))
 
   reached-good : Each (Good 5) (reachedRecords (v .reached))
   unfolding reachedRecords
@@ -143,7 +146,11 @@ module _ (v : Venue) (w : Shaped v) (c : Carried v) where
           orders-good,
           (
             leggings-good 0 (v .legging) (omega arith) (c .legging),
-            (each-more (λ r. Good 4 r × (0 ≤ mark r)) (Good 4) (λ r f. f .0) (generationRecords 0 (v .generations)) (generations-good 0 (v .generations) (omega arith) (c .generations)), (reached-good, tt)),
+            (
+              each-more (λ r. Good 4 r × (0 ≤ mark r)) (Good 4) (λ r f. f .0) (generationRecords 0 (v .generations))
+                  (generations-good 0 (v .generations) (omega arith) (c .generations)),
+              (reached-good, tt),
+            ),
           ),
         ),
       )
@@ -167,12 +174,16 @@ module _ (v : Venue) (w : Shaped v) (c : Carried v) where
   editions-order : inOrder (map editionRecord es) ≡ true
   editions-order =
       rising-order 1 1 (map editionRecord es) (each-more (Good 1) (λ r. part r ≡ 1) (λ r f. f .of) (map editionRecord es) editions-good)
-      (rising-map (λ e. e .edition) mark editionRecord 1 es (each-more (λ e. Fine 1 (e .edition) (editionRecord e)) (λ e. mark (editionRecord e) ≡ e .edition) (λ e f. f .marked) es (c .editions .fine)) (c .editions .rises))
+      (rising-map (λ e. e .edition) mark editionRecord 1 es
+      (each-more (λ e. Fine 1 (e .edition) (editionRecord e)) (λ e. mark (editionRecord e) ≡ e .edition) (λ e f. f .marked) es
+      (c .editions .fine)) (c .editions .rises))
 
   leggings-order : inOrder (leggingRecords 0 (v .legging)) ≡ true
   leggings-order =
       let n = w .legging in
-      rising-order 3 (2 * 0) (leggingRecords 0 (v .legging)) (each-more (Good 3) (λ r. part r ≡ 3) (λ r f. f .of) (leggingRecords 0 (v .legging)) (leggings-good 0 (v .legging) (omega arith) (c .legging)))
+      rising-order 3 (2 * 0) (leggingRecords 0 (v .legging))
+      (each-more (Good 3) (λ r. part r ≡ 3) (λ r f. f .of) (leggingRecords 0 (v .legging))
+      (leggings-good 0 (v .legging) (omega arith) (c .legging)))
       (leggings-rise 0 (v .legging) (omega arith) (c .legging))
 
   reached-order : inOrder (reachedRecords (v .reached)) ≡ true
@@ -186,7 +197,14 @@ module _ (v : Venue) (w : Shaped v) (c : Carried v) where
   tail-order : inOrder (flat (tailOf v)) ≡ true
   tail-order =
       let m = w .generations in
-      parts-order 1 (tailOf v) (goods-parts 1 (tailOf v) tail-goods) ((editions-order, (orders-order, (leggings-order, (generations-order 0 (v .generations) (omega arith) (c .generations), (reached-order, tt))))))
+      parts-order 1 (tailOf v) (goods-parts 1 (tailOf v) tail-goods)
+      ((
+        editions-order,
+        (
+          orders-order,
+          (leggings-order, (generations-order 0 (v .generations) (omega arith) (c .generations), (reached-order, tt))),
+        ),
+      ))
 
   -- Counts ------------------------------------------------------------------------------------
 
@@ -247,7 +265,9 @@ module _ (v : Venue) (w : Shaped v) (c : Carried v) where
   few =
       and-in _ _ (and-in _ _ (and-in _ _ (and-in _ _ (le-leb _ 32 few-editions) (le-leb _ 128 few-regulars)) (le-leb _ 32 few-complexes)) (le-leb _ 16 few-leggings))
       (all-each (λ r. not (tellsGeneration r) || leb (countOf (ofSeries (u8At r 4)) (flat (tailOf v))) 20) (flat (tailOf v))
-      (every (λ r. (not (tellsGeneration r) || leb (countOf (ofSeries (u8At r 4)) (flat (tailOf v))) 20) ≡ true) (λ r. rw (le-leb (countOf (ofSeries (u8At r 4)) (flat (tailOf v))) 20 (few-generations (u8At r 4))) (or-yes (not (tellsGeneration r)))) (flat (tailOf v))))
+      (every (λ r. (not (tellsGeneration r) || leb (countOf (ofSeries (u8At r 4)) (flat (tailOf v))) 20) ≡ true)
+      (λ r. rw (le-leb (countOf (ofSeries (u8At r 4)) (flat (tailOf v))) 20 (few-generations (u8At r 4))) (or-yes (not (tellsGeneration r))))
+      (flat (tailOf v))))
 
   -- It is a set -------------------------------------------------------------------------------
 

@@ -26,20 +26,20 @@ returns c = let g = c .before .before .before .loop in tested-not _ (g .last) (g
 number-at-requires : tie.Need-number-at-requires Inv-loop μ-loop
 number-at-requires c κs = tt
 
-cast-at : tie.Need-cast-at Inv-loop μ-loop
-cast-at c = search needs
-
-add-at : tie.Need-add-at Inv-loop μ-loop
-add-at c = search needs
-
 add-at-2 : tie.Need-add-at-2 Inv-loop μ-loop
-add-at-2 c = let g = c .before .before .before .before .loop in let p = part-some _ _ _ (c .before .before .part-length .ensures) (λ h. omega arith) in let w = part-within (c .before .before .before .before .before .before .args .line .now) (g .last) (g .at) (g .inv) (omega arith) _ _ (p .0) (p .1) refl in omega arith
+add-at-2 c = let g = c .before .before .before .before .loop in let p = part-some _ _ _ (c .before .before .part-length .ensures)
+    (λ h. omega arith) in let w = part-within (c .before .before .before .before .before .before .args .line .now) (g .last) (g .at) (g .inv)
+    (omega arith) _ _ (p .0) (p .1) refl in omega arith
 
 loop-less : tie.Need-loop-less Inv-loop μ-loop
-loop-less c = let g = c .before .before .before .before .loop in let p = part-some _ _ _ (c .before .before .part-length .ensures) (λ h. omega arith) in let w = part-within (c .before .before .before .before .before .before .args .line .now) (g .last) (g .at) (g .inv) (omega arith) _ _ (p .0) (p .1) refl in omega arith
+loop-less c = let g = c .before .before .before .before .loop in let p = part-some _ _ _ (c .before .before .part-length .ensures)
+    (λ h. omega arith) in let w = part-within (c .before .before .before .before .before .before .args .line .now) (g .last) (g .at) (g .inv)
+    (omega arith) _ _ (p .0) (p .1) refl in omega arith
 
 loop-again : tie.Need-loop-again Inv-loop μ-loop
-loop-again c = let g = c .before .before .before .before .loop in let p = part-some _ _ _ (c .before .before .part-length .ensures) (λ h. omega arith) in tested-on (c .before .before .before .before .before .before .args .line .now) (g .last) (g .at) (g .inv) (omega arith) _ _ (p .0) (p .1) (c .number-at .ensures)
+loop-again c = let g = c .before .before .before .before .loop in let p = part-some _ _ _ (c .before .before .part-length .ensures)
+    (λ h. omega arith) in tested-on (c .before .before .before .before .before .before .args .line .now) (g .last) (g .at) (g .inv) (omega arith) _ _
+    (p .0) (p .1) (c .number-at .ensures)
 
 returns-2 : tie.Need-returns-2 Inv-loop μ-loop
 returns-2 c = let g = c .before .loop in tested-end (c .before .before .before .args .line .now) (g .last) (g .at) (g .inv) (omega arith)
@@ -54,8 +54,8 @@ is-faultless-spec =
     part-length-requires
     returns
     number-at-requires
-    cast-at
-    add-at
+    (λ c. search needs)
+    (λ c. search needs)
     add-at-2
     loop-less
     loop-again

@@ -9,17 +9,11 @@ use Rattle.feed.proofs.number_at.Tie as tie
 returns : tie.Need-returns
 returns c = let s = c .before .before in number-none (s .args .line .now) (s .args .at) (omega arith)
 
-sub-if2 : tie.Need-sub-if2
-sub-if2 c = search needs
-
 returns-2 : tie.Need-returns-2
 returns-2 c = let s = c .before .before .before in number-none (s .args .line .now) (s .args .at) (omega arith)
-
-u32-at-requires : tie.Need-u32-at-requires
-u32-at-requires c κs = search needs
 
 returns-3 : tie.Need-returns-3
 returns-3 c = let s = c .before .before .before .before in c .u32-at .ensures ∙ number-here (s .args .line .now) (s .args .at) (omega arith)
 
 pub number-at-spec : {M : Type 1} → statement M
-number-at-spec = tie.close (tie.spec returns sub-if2 returns-2 u32-at-requires returns-3)
+number-at-spec = tie.close (tie.spec returns (λ c. search needs) returns-2 (λ c κs. search needs) returns-3)

@@ -22,26 +22,23 @@ returns c = let s = c .before in sym (same-lengths (s .args .a .now) (s .args .b
 loop-holds : tie.Need-loop-holds Inv-loop μ-loop
 loop-holds c = (omega arith, refl)
 
-shared-slice-read-if2 : tie.Need-shared-slice-read-if2 Inv-loop μ-loop
-shared-slice-read-if2 c = search needs
-
-shared-slice-read-if2-2 : tie.Need-shared-slice-read-if2-2 Inv-loop μ-loop
-shared-slice-read-if2-2 c = search needs
-
 returns-2 : tie.Need-returns-2 Inv-loop μ-loop
-returns-2 c = let g = c .before .before .before .before .loop in let s = c .before .before .before .before .before .before in sym (g .inv .1 ∙ same-not (s .args .a .now) (s .args .b .now) (g .i) (omega arith) (omega arith) (λ h. omega arith))
-
-add-i : tie.Need-add-i Inv-loop μ-loop
-add-i c = search needs
+returns-2 c = let g = c .before .before .before .before .loop in let s = c .before .before .before .before .before .before in
+    sym (g .inv .1 ∙ same-not (s .args .a .now) (s .args .b .now) (g .i) (omega arith) (omega arith) (λ h. omega arith))
 
 loop-less : tie.Need-loop-less Inv-loop μ-loop
 loop-less c = omega arith
 
 loop-again : tie.Need-loop-again Inv-loop μ-loop
-loop-again c = let g = c .before .before .before .before .loop in let s = c .before .before .before .before .before .before in (omega arith, g .inv .1 ∙ same-on (s .args .a .now) (s .args .b .now) (g .i) (omega arith) (omega arith) (omega arith) ∙ ap (λ (k : _). same (drop k (s .args .a .now)) (drop k (s .args .b .now))) (sym (add-one (g .i))))
+loop-again c = let g = c .before .before .before .before .loop in let s = c .before .before .before .before .before .before in (
+  omega arith,
+  g .inv .1 ∙ same-on (s .args .a .now) (s .args .b .now) (g .i) (omega arith) (omega arith) (omega arith)
+      ∙ ap (λ (k : _). same (drop k (s .args .a .now)) (drop k (s .args .b .now))) (sym (add-one (g .i))),
+)
 
 returns-3 : tie.Need-returns-3 Inv-loop μ-loop
-returns-3 c = let g = c .before .loop in let s = c .before .before .before in let x = length-drop (g .i) (s .args .a .now) in let y = length-drop (g .i) (s .args .b .now) in sym (g .inv .1 ∙ same-end _ _ (omega arith) (omega arith))
+returns-3 c = let g = c .before .loop in let s = c .before .before .before in let x = length-drop (g .i) (s .args .a .now) in
+    let y = length-drop (g .i) (s .args .b .now) in sym (g .inv .1 ∙ same-end _ _ (omega arith) (omega arith))
 
 pub same-bytes-spec : {M : Type 1} → statement M
 same-bytes-spec =
@@ -51,10 +48,10 @@ same-bytes-spec =
     μ-loop
     returns
     loop-holds
-    shared-slice-read-if2
-    shared-slice-read-if2-2
+    (λ c. search needs)
+    (λ c. search needs)
     returns-2
-    add-i
+    (λ c. search needs)
     loop-less
     loop-again
     returns-3)
