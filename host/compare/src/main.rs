@@ -3,10 +3,10 @@
 #![forbid(unsafe_code)]
 
 use compare::{in_words, Archive, Replay};
+use sessions::counted::counted;
 use sessions::driver::check::Fault;
 use sessions::driver::{drive_own, drive_session, Counts, Driver, Effort};
 use sessions::engine::Reference;
-use sessions::counted::counted;
 use sessions::profile::Profile;
 use sessions::progress::Progress;
 use sessions::stream::{Bytes, Form, Messages};

@@ -9,7 +9,6 @@ mod input;
 mod json_form;
 mod output;
 mod printed;
-mod progress;
 
 use output::{tell, Out};
 use std::ffi::OsString;

@@ -30,6 +30,21 @@ fn a_check_writes_nothing_else_where_there_is_no_terminal() {
     assert_eq!(String::from_utf8_lossy(&output.stderr), "");
 }
 
+#[test]
+fn audit_and_explain_show_on_a_terminal_how_far_they_are() {
+    let session = concat!(env!("CARGO_MANIFEST_DIR"), "/tests/sessions/printed.txt");
+    for command in ["audit", "explain"] {
+        let arguments = [command, "--text", session];
+        let output = run_on_terminal(env!("CARGO_BIN_EXE_venue"), &arguments);
+        let output = output.expect("python3 starts");
+        let said = String::from_utf8_lossy(&output.stdout);
+        assert!(output.status.success(), "{said}");
+        let line = format!("\rvenue {command}: 1 message\x1b[K");
+        assert!(said.contains(&line), "{said:?}");
+        assert!(said.ends_with("\r\x1b[K"), "{said:?}");
+    }
+}
+
 /// The lines that a tally of wrong definitions writes to standard error.
 const TALLY: &str = "import sys\n\
     sys.path.insert(0, sys.argv[1])\n\
@@ -38,7 +53,7 @@ const TALLY: &str = "import sys\n\
     tally = Tally(2, '', {})\n\
     tally.told(False, 'compiles-not', 'A.a', '')\n\
     tally.told(False, 'refused', 'A.b', '')\n\
-    tally.show('')\n";
+    tally.progress('')\n";
 
 #[test]
 fn wrong_definitions_show_on_a_terminal_how_far_they_are() {
@@ -46,10 +61,9 @@ fn wrong_definitions_show_on_a_terminal_how_far_they_are() {
     let output = run_on_terminal("python3", &["-c", TALLY, tests]).expect("python3 starts");
     let said = String::from_utf8_lossy(&output.stdout);
     assert!(output.status.success(), "{said}");
-    assert!(
-        said.contains("\r0 of 2 edits tried\x1b[K\r\x1b[K\r1 of 2 edits tried\x1b[K"),
-        "{said}"
-    );
+    assert!(said.contains("\r\x1b[K1 of 3 tried"), "{said}");
+    assert!(said.contains("\r\x1b[K2 of 3 tried"), "{said}");
+    assert!(said.ends_with("\r\x1b[K"), "{said}");
     let output = Command::new("python3").args(["-c", TALLY, tests]).output();
     let output = output.expect("python3 starts");
     assert_eq!(String::from_utf8_lossy(&output.stderr), "");

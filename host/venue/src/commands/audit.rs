@@ -4,10 +4,11 @@ use super::Command;
 use crate::arguments::{usage, Arguments};
 use crate::input::Reader;
 use crate::output::Out;
-use crate::progress::Progress;
 use crate::{Failure, Outcome};
 use sessions::audit::{Auditor, Disagreement, Source, Told};
 use sessions::audit_lines::{summary, table_head};
+use sessions::counted::counted;
+use sessions::progress::Progress;
 use sessions::sheet_lines::Sheet;
 use std::io::{self, BufReader, Write};
 
@@ -86,7 +87,8 @@ fn audit_sheet(arguments: &Arguments, out: &mut Out) -> Outcome {
     };
     let mut teller = Teller::new(Auditor::new(source, most), arguments.has("--json"));
     teller.begin(out)?;
-    let mut progress = Progress::new(arguments.name());
+    let name = arguments.name();
+    let mut progress = Progress::on_standard_error();
     let mut next = || {
         let message = messages.next().map_err(|what| session.fault(what))?;
         Ok::<_, Failure>(message.map(<[u8]>::to_vec))
@@ -98,10 +100,13 @@ fn audit_sheet(arguments: &Arguments, out: &mut Out) -> Outcome {
         let audited = teller.auditor.message(&bytes, message.is_none());
         audited.map_err(read)?;
         teller.tell(out)?;
-        progress.tell(u64::from(teller.auditor.counts().messages));
+        progress.show(|| {
+            let done = u64::from(teller.auditor.counts().messages);
+            format!("{name}: {}", counted(done, "message"))
+        });
     }
     teller.auditor.finish().map_err(read)?;
-    progress.end();
+    progress.clear();
     teller.end(out)
 }
 

@@ -3,11 +3,11 @@
 use super::Command;
 use crate::arguments::{usage, Arguments};
 use crate::output::Out;
-use crate::progress::Progress;
 use crate::{Failure, Outcome};
 use sessions::counted::counted;
 use sessions::explain::{Explained, Explainer};
 use sessions::follow::Followed;
+use sessions::progress::Progress;
 use std::io::Write;
 
 pub static COMMAND: Command = Command {
@@ -92,7 +92,8 @@ fn explain_session(arguments: &Arguments, out: &mut Out) -> Outcome {
     let asked = Asked::of(arguments)?;
     let input = arguments.input(0);
     let mut messages = input.messages(arguments.form()?)?;
-    let mut progress = Progress::new(arguments.name());
+    let name = arguments.name();
+    let mut progress = Progress::on_standard_error();
     let mut explainer = Explainer::default();
     let mut followed = asked.order.map(Followed::new);
     while messages.taken() < asked.to {
@@ -112,7 +113,10 @@ fn explain_session(arguments: &Arguments, out: &mut Out) -> Outcome {
         if let Some(explained) = told {
             asked.write(&explained, out)?;
         }
-        progress.tell(u64::from(explainer.done()));
+        progress.show(|| {
+            let done = u64::from(explainer.done());
+            format!("{name}: {}", counted(done, "message"))
+        });
     }
     let done = messages.taken();
     if done < asked.from && asked.from > 1 {
