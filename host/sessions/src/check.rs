@@ -98,19 +98,26 @@ impl Checker {
     /// Checks one message done; tells what an accepted one did.
     pub fn check<'a>(&mut self, step: &Step<'a>) -> Result<Option<Seen<'a>>, String> {
         self.done += 1;
-        let after = &step.returned.venue;
         let effects = check_answer(step, self.done)?;
         let expected = refusal(step.before, step.bytes);
         if expected != step.returned.number {
             let found = step.returned.number;
             return Err(format!("answered {found}, expected {expected}"));
         }
-        let seen = if step.returned.number == 0 {
-            Some(self.check_accepted(step, effects)?)
-        } else {
+        if step.returned.number != 0 {
+            // The venue is as it was, so what was checked of it holds.
             check_refused(step, effects)?;
-            None
-        };
+            self.traffic.check(self.done, step)?;
+            return Ok(None);
+        }
+        let seen = self.check_accepted(step, effects)?;
+        self.check_left(step)?;
+        Ok(Some(seen))
+    }
+
+    /// What holds of the venue that an accepted message leaves.
+    fn check_left(&mut self, step: &Step) -> Result<(), String> {
+        let after = &step.returned.venue;
         if let Some(fault) = fault(after) {
             return Err(format!("unsound: {fault}"));
         }
@@ -121,7 +128,7 @@ impl Checker {
             return Err(fault);
         }
         self.ledger.close(after);
-        Ok(seen)
+        Ok(())
     }
 
     fn check_accepted<'a>(

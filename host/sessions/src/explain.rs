@@ -466,7 +466,15 @@ impl<'a> Told<'a> {
             }) => Some(*id),
             _ => None,
         };
+        let is_party = |record: &Record, id: u32| match record {
+            Record::Trade(trade) => trade.maker == id || trade.taker == id,
+            _ => false,
+        };
         let traded = move |order: &Regular| {
+            let mut records = self.step.records.iter();
+            if !records.any(|record| is_party(record, order.id)) {
+                return false;
+            }
             let before = find_regular(self.step.before, order.id);
             before.is_some_and(|before| before.reserve > 0 && before.quantity > order.quantity)
         };

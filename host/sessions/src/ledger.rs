@@ -91,23 +91,27 @@ impl Account {
                 self.id, self.entered, traded, self.cancelled, open
             ));
         }
-        (0..8).find_map(|series| self.series_disagreement(series))
+        let expected = self.expected_contracts();
+        let differs = |series: &usize| self.contracts[*series] != expected[*series];
+        let series = (0..8).find(differs)?;
+        Some(format!(
+            "order {}: {} contracts in series {series}, expected {}",
+            self.id, self.contracts[series], expected[series]
+        ))
     }
 
-    fn series_disagreement(&self, series: u8) -> Option<String> {
-        let contracts = self.contracts[usize::from(series)];
-        let leg = self.legs.iter().position(|leg| leg.series == series);
-        let expected = match leg {
-            Some(leg) if self.is_complex => u64::from(self.ratios[leg]) * self.paired,
-            Some(_) => contracts,
-            None => 0,
-        };
-        (contracts != expected).then(|| {
-            format!(
-                "order {}: {contracts} contracts in series {series}, expected {expected}",
-                self.id
-            )
-        })
+    /// The contracts of each series, by the pairs of a complex order; those of a regular
+    /// order are whatever they are in its own series.
+    fn expected_contracts(&self) -> [u64; 8] {
+        let mut expected = [0; 8];
+        for (leg, ratio) in self.legs.iter().zip(self.ratios) {
+            let series = usize::from(leg.series);
+            expected[series] = match self.is_complex {
+                true => u64::from(ratio) * self.paired,
+                false => self.contracts[series],
+            };
+        }
+        expected
     }
 }
 

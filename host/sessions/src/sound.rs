@@ -162,10 +162,12 @@ fn series_fault(venue: &Venue) -> Option<String> {
 }
 
 fn id_fault(venue: &Venue) -> Option<String> {
-    let regular = venue.regular.iter().map(|order| order.id);
-    let complex = venue.complex.iter().map(|order| order.id);
-    let mut ids: Vec<u32> = regular.chain(complex).filter(|id| *id != 0).collect();
-    ids.sort_unstable();
+    let mut ids = Vec::with_capacity(venue.regular.len() + venue.complex.len());
+    ids.extend(venue.regular.iter().map(|order| order.id));
+    ids.extend(venue.complex.iter().map(|order| order.id));
+    ids.retain(|id| *id != 0);
+    // Both books are mostly in rising id, which a stable sort finds out.
+    ids.sort();
     if ids.windows(2).any(|pair| pair[0] == pair[1]) {
         return Some("two orders have one id".to_string());
     }
