@@ -1,8 +1,9 @@
 # Sourced by the scripts of bin/ and by .ci/run: what they say, and how they prove and build. A script of bin/ sets
 # `me` to its name first.
 
-# How many minutes the crates of a program take from nothing, on two cores.
-MINUTES=7
+# How many minutes the crates of a program, and those of the archives, take from nothing on two cores.
+MINUTES=5
+ARCHIVE_MINUTES=7
 
 # The crates whose archives hosts link: the calls of one venue, and those of four behind one line.
 ARCHIVES=(c_api dispatch)
@@ -151,7 +152,7 @@ archives() {
     for name in "${ARCHIVES[@]}"; do is_new "$name" || needs=yes; done
     [ "$needs" = yes ] || return 0
     [ -f "$top/target/staticlib/lib${ARCHIVES[0]}.a" ] || first=yes
-    say "proving and building the engine's archives and all that they stand on: about $MINUTES minutes"
+    say "proving and building the engine's archives and all that they stand on: about $ARCHIVE_MINUTES minutes"
     below=$(needed "${ARCHIVES[@]}" | grep -vxF "$(printf '%s\n' "${ARCHIVES[@]}")")
     room=$(mktemp -d)
     # shellcheck disable=SC2086

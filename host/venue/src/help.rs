@@ -7,8 +7,9 @@ use std::ffi::OsStr;
 /// Where the overview tells what a command does.
 const COLUMN: usize = 40;
 
-const END: &str = "\
-  venue help [COMMAND | TOPIC]          this text, or more of one command or topic
+// Without a line break first: that would take the blanks of the line after it away.
+const END: &str =
+    "  venue help [COMMAND | TOPIC]          this text, or more of one command or topic
   venue --version                       the version
 
 Where FILE is left out or is -, standard input is read. A session is message bytes;

@@ -1274,6 +1274,7 @@ fn help_and_version_are_told_by_every_command() {
         .filter_map(|line| line.strip_prefix("  venue "));
     let names: Vec<&str> = lines.filter_map(|line| line.split(' ').next()).collect();
     assert!(names.len() > 15, "{names:?}");
+    assert!(names.contains(&"help"), "{names:?}");
     for name in names {
         if name == "help" || name.starts_with('-') {
             continue;

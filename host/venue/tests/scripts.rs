@@ -173,7 +173,7 @@ fn the_first_sheet_tells_how_long_it_takes_and_what_is_proved() {
         "{said}"
     );
     let expected = "bin/sheet: proving and building the program and all that it stands on, \
-        3 crates, this once: about 7 minutes\n\
+        3 crates, this once: about 5 minutes\n\
         bin/sheet: 1 of 3 crates proved: rules\n\
         bin/sheet: 2 of 3 crates proved: wire\n\
         bin/sheet: 3 of 3 crates proved: sheet\n";
@@ -327,7 +327,7 @@ fn any_bytes_are_taken_where_that_is_asked_for() {
         assert_eq!(status, 2);
     }
     let (status, help, _) = tree.run("bin/sheet", &["--help"]);
-    assert!(help.contains("about 7 minutes"), "{help}");
+    assert!(help.contains("about 5 minutes"), "{help}");
     assert_eq!(status, 0);
 }
 
@@ -487,7 +487,7 @@ fn an_installation_proves_and_builds_what_is_missing() {
     for expected in [
         "bin/install: proving and building the engine's archives and all that they stand on: about 7 minutes\n",
         "bin/install: proving dispatch and writing target/staticlib/libdispatch.a\n",
-        "bin/install: proving and building the program and all that it stands on, 3 crates, this once: about 7 minutes\n",
+        "bin/install: proving and building the program and all that it stands on, 3 crates, this once: about 5 minutes\n",
         "bin/install: building host/target/release/venue, this once\n",
     ] {
         assert!(said.contains(expected), "{said}");

@@ -238,7 +238,8 @@ fn memory_at_any_alignment() {
         let mut venue = vec![0; VENUE_BYTES + at];
         let mut report = vec![0; MOST_BYTES + at];
         let mut lines = String::new();
-        legging::fresh_in(&mut venue[at..]);
+        let fresh = legging::fresh_in(&mut venue[at..]);
+        assert_eq!(fresh.get(), 0);
         for (before, message) in (0..).zip(split(&session)) {
             let moved = [&vec![0xC3; at][..], message].concat();
             let number = one_message_in(&mut venue[at..], before, &moved[at..], &mut report[at..]);
