@@ -177,7 +177,13 @@ pub fn summary<'a>(
     }
     let moments = Parties::ALL.iter().zip(counts.moments);
     let moments: Vec<String> = moments
-        .map(|((_, name), count)| format!("{count} {name}"))
+        .map(
+            |((_, name), count)| match (count, name.strip_prefix("trades")) {
+                (1, Some(of)) => format!("1 trade{of}"),
+                (1, None) => "1 cross".to_string(),
+                _ => format!("{count} {name}"),
+            },
+        )
         .collect();
     lines.push(format!("by replay: {}", moments.join(", ")));
     lines.into_iter()

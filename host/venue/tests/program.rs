@@ -513,8 +513,8 @@ fn turned(trades: &[&str]) -> String {
 fn audit_tells_what_was_looked_at() {
     let told = good(&["audit", "--text", "-"], TURNS_TEXT.as_bytes());
     let told = String::from_utf8(told).unwrap();
-    let line = "by replay: 4 trades of two regular orders, 1 trades of a regular with a legging \
-        order, 1 trades of a complex with a regular order, 0 crosses\n";
+    let line = "by replay: 4 trades of two regular orders, 1 trade of a regular with a legging \
+        order, 1 trade of a complex with a regular order, 0 crosses\n";
     assert!(told.contains(line), "{told}");
     assert_eq!(audit_turns("turns", &turned(&TURNS)), (Some(0), vec![]));
 }
