@@ -71,7 +71,8 @@ extend s bs c = record {
   reports = s .reports ++ records (c .report);
 }
 
--- "The list is what a run is given and then what any number of one-message calls are given one after another, or what such calls alone are given"
+-- "The list is what a run is given and then what any number of one-message calls are given one after another, or what such calls alone are given"; "the kinds
+-- that come later are in it": the kinds of document 02 are messages like the others
 pub data Opening : Type 0 where
   byRun : Given → Opening
   alone : Opening

@@ -37,7 +37,8 @@ called room o = record {
   report = sheet room (o .reports);
 }
 
--- 10: "the next message's records, its 64 included, exceed the report bytes left, or its number would pass 4,294,967,295"
+-- 10: "the next message's records, its 64 included, exceed the report bytes left, or its number would pass 4,294,967,295"; "where even a refusal's 64 doesn't
+-- fit, the answer is 10"
 unfoldable pub exceeds : (number room : ℕ) → List Report → Bool
 exceeds number room rs = ltb 4294967295 number || ltb room (length (encodeAll rs))
 
@@ -71,6 +72,7 @@ unfoldable pub run : (room : ℕ) → List ℕ → Call
 run room bs = called room (runFrom (length bs) freshVenue 0 room bs)
 
 -- "one message upon a venue", n messages having gone before: "9 before all"; "a one-message call's is 9, 10 or its message's own".
+-- 9: "one-message call given an unsound venue": "number 9; the venue as given, all report bytes 0".
 -- 02 (d): "A one-message call whose number is not above every kept edition's gets 9." (m): "must be above every generation's, else 9"
 unfoldable pub oneFrom : Venue → (n room : ℕ) → List ℕ → Outcome
 oneFrom v n room bs =

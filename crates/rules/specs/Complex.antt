@@ -174,7 +174,8 @@ unfoldable pub placesOf : (Complex → Bool) → (n : ℕ) → List Complex → 
 placesOf f n [] = []
 placesOf f n (c ∷ cs) = if held (c .quantity) && f c then n ∷ placesOf f (suc n) cs else placesOf f (suc n) cs
 
--- the resting orders, "starting after the last id that a kind 11 looked at and going round by id": those above it, and then the others
+-- the resting orders, "starting after the last id that a kind 11 looked at and going round by id": those above it, and then the others. They come by place, and
+-- that is by id: the complex orders of a sound venue rest in rising id (Sound: `complexesSound`), and every venue of the calls is sound (demands: `AlwaysSound`)
 unfoldable pub goingRound : Venue → List ℕ
 goingRound v =
     placesOf (λ c. ltb (v .reached) (c .id)) 0 (v .complex) ++ placesOf (λ c. not (ltb (v .reached) (c .id))) 0 (v .complex)

@@ -96,7 +96,7 @@ makes number v c s d =
     && within (increment v s) 100000 (displayed (increment v s) d p)
     -- "not worse than best regular of its side"; (C)(1)(i)
     && shownWell v s d p
-    -- "p itself not reaching any own price opposite in its series": not the best of them
+    -- "p itself not reaching (equal is reaching) any own price opposite in its series": not the best of them
     && not (reachesAny d p (bestOwn v s (opposite d)))
     -- "nor the away price opposite where there is one"; (C)(2)(i)
     && not (reachesAny d p (away v s (opposite d)))

@@ -75,7 +75,8 @@ messageOf bs =
     else if eqb k 10 then TwoLeg (twoLegAt bs (u8At bs 21) (u8At bs 22))
     else LimitedSweep (u8At bs 4)
 
--- the form of a message, by the first kind that has it: an order of kind 9 is of the form of kind 1, one of kind 10 of that of kind 2
+-- A number for each case of the type Message, in the order of the cases. It is no kind of the papers: an order is of kind 1 or 9, a complex order of kind 2 or
+-- 10, a limited sweep of kind 11. The paper's kind of a message is the one that `encodeMessage` frames it with.
 abbrev pub messageForm : Message → ℕ
 messageForm (Order o) = 1
 messageForm (TwoLeg c) = 2

@@ -71,7 +71,8 @@ abbrev pub decodedNumber : Decoded → ℕ
 decodedNumber (Taken m) = 0
 decodedNumber (Refused x) = x
 
--- the message at the front of bs, or the first of 1 to 4 and 14 that its bytes meet
+-- The message at the front of bs, or the first of 1 to 4 and 14 that its bytes meet. 14 is decided here, before 11 to 13, and nothing can tell: 14 is of kind 10
+-- alone, and kind 10 meets none of 11 to 13.
 unfoldable pub decoded : List ℕ → Decoded
 decoded bs =
     if torn bs then Refused 1
@@ -148,7 +149,7 @@ noEditionLeft v (Increment s i e) = leb 32 (freeEdition v)
 noEditionLeft v (Percent x e) = leb 32 (freeEdition v)
 noEditionLeft v (LimitedSweep n) = false
 
--- 5: "id not above the last accepted (kinds 1, 2)"
+-- 5: "id not above the last accepted (kinds 1, 2)"; ids come "each above the last accepted"
 unfoldable pub idTooLow : Venue → Message → Bool
 idTooLow v (Order o) = leb (o .id) (v .last)
 idTooLow v (TwoLeg c) = leb (c .id) (v .last)
@@ -172,7 +173,7 @@ onClosed v (Increment s i e) = false
 onClosed v (Percent x e) = false
 onClosed v (LimitedSweep n) = false
 
--- 7: "128 regular (kind 1) or 32 complex (kind 2) rest already, even if the order would trade": no place is free
+-- 7: "128 regular (kind 1) or 32 complex (kind 2) rest already, even if the order would trade": no place is free. Orders of kind 10 "share the 32 places"
 unfoldable pub full : Venue → Message → Bool
 full v (Order o) = leb 128 (freeRegular v)
 full v (TwoLeg c) = leb 32 (freeComplex v)
