@@ -1,27 +1,18 @@
 //! `venue page` as a user meets it: the file that it writes, its errors and exit status.
 
-use std::io::Write;
-use std::path::PathBuf;
-use std::process::{Command, Output, Stdio};
+#[path = "common/kept.rs"]
+mod kept;
+#[path = "common/run.rs"]
+mod run;
+
+use kept::Kept;
+use run::venue;
 
 const PRINTED: &str = include_str!("sessions/printed.txt");
 
-fn venue(arguments: &[&str], input: &str) -> Output {
-    let mut child = Command::new(env!("CARGO_BIN_EXE_venue"))
-        .args(arguments)
-        .stdin(Stdio::piped())
-        .stdout(Stdio::piped())
-        .stderr(Stdio::piped())
-        .spawn()
-        .unwrap();
-    // A command that refuses its arguments does not read its input.
-    let _ = child.stdin.take().unwrap().write_all(input.as_bytes());
-    child.wait_with_output().unwrap()
-}
-
 /// What a command writes that succeeds.
 fn good(arguments: &[&str], input: &str) -> String {
-    let output = venue(arguments, input);
+    let output = venue(arguments, input.as_bytes());
     let errors = String::from_utf8_lossy(&output.stderr);
     assert_eq!(output.status.code(), Some(0), "{arguments:?}: {errors}");
     String::from_utf8(output.stdout).unwrap()
@@ -29,32 +20,10 @@ fn good(arguments: &[&str], input: &str) -> String {
 
 /// What a command tells that fails with this status and writes nothing.
 fn bad(arguments: &[&str], input: &str, status: i32) -> String {
-    let output = venue(arguments, input);
+    let output = venue(arguments, input.as_bytes());
     assert_eq!(output.status.code(), Some(status), "{arguments:?}");
     assert!(output.stdout.is_empty(), "{arguments:?} wrote output");
     String::from_utf8(output.stderr).unwrap()
-}
-
-/// A file that is gone when the test ends.
-struct Kept(PathBuf);
-
-impl Kept {
-    fn new(name: &str, contents: &str) -> Self {
-        let file = format!("venue-{}-{name}", std::process::id());
-        let path = std::env::temp_dir().join(file);
-        std::fs::write(&path, contents).unwrap();
-        Kept(path)
-    }
-
-    fn path(&self) -> &str {
-        self.0.to_str().unwrap()
-    }
-}
-
-impl Drop for Kept {
-    fn drop(&mut self) {
-        let _ = std::fs::remove_file(&self.0);
-    }
 }
 
 #[test]
@@ -77,10 +46,8 @@ fn page_is_one_file_that_asks_for_nothing_from_outside() {
 
 #[test]
 fn page_of_bytes_is_that_of_their_text() {
-    let bytes = venue(&["encode"], PRINTED).stdout;
-    let file = std::env::temp_dir().join(format!("venue-{}-bytes", std::process::id()));
-    std::fs::write(&file, &bytes).unwrap();
-    let kept = Kept(file);
+    let bytes = venue(&["encode"], PRINTED.as_bytes()).stdout;
+    let kept = Kept::new("bytes", &bytes);
     let of_bytes = good(&["page", kept.path()], "");
     let without_comments: String = PRINTED
         .lines()

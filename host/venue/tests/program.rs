@@ -1,7 +1,13 @@
 //! The venue program as a user meets it: output, errors and exit status.
 
-use std::io::Write;
-use std::process::{Command, Output, Stdio};
+#[path = "common/kept.rs"]
+mod kept;
+#[path = "common/run.rs"]
+mod run;
+
+use kept::Kept;
+use run::venue;
+use std::process::{Command, Stdio};
 
 const PRINTED_TEXT: &str = include_str!("sessions/printed.txt");
 const MAIN_TEXT: &str = include_str!("sessions/printed-main.txt");
@@ -10,25 +16,6 @@ const SPARE_TEXT: &str = include_str!("sessions/printed-spare.txt");
 const PRINTED_SHEET: &str = "64 1 0 0 0\n64 2 0 0 0\n64 3 0 0 0\n64 4 0 0 0\n64 5 0 5 2\n\
     67 3 0 0 115 115 8\n67 3 1 0 75 75 8\n64 6 0 0 0\n65 0 1 115 5 4 3\n65 1 0 90 5 3 2\n\
     66 3 205 5\n68 3 0 0 3\n68 3 1 0 3\n";
-
-fn venue(arguments: &[&str], input: &[u8]) -> Output {
-    let mut child = Command::new(env!("CARGO_BIN_EXE_venue"))
-        .args(arguments)
-        .stdin(Stdio::piped())
-        .stdout(Stdio::piped())
-        .stderr(Stdio::piped())
-        .spawn()
-        .unwrap();
-    let mut stdin = child.stdin.take().unwrap();
-    // A command may write before it has read all, and one that refuses its arguments reads
-    // nothing.
-    std::thread::scope(|scope| {
-        scope.spawn(move || {
-            let _ = stdin.write_all(input);
-        });
-        child.wait_with_output().unwrap()
-    })
-}
 
 /// The output of a command that succeeds.
 fn good(arguments: &[&str], input: &[u8]) -> Vec<u8> {
@@ -44,28 +31,6 @@ fn bad(arguments: &[&str], input: &[u8], status: i32) -> String {
     assert_eq!(output.status.code(), Some(status), "{arguments:?}");
     assert!(output.stdout.is_empty(), "{arguments:?} wrote output");
     String::from_utf8(output.stderr).unwrap()
-}
-
-/// A file that is gone when the test ends.
-struct Kept(std::path::PathBuf);
-
-impl Kept {
-    fn new(name: &str, contents: &[u8]) -> Self {
-        let file = format!("venue-{}-{name}", std::process::id());
-        let path = std::env::temp_dir().join(file);
-        std::fs::write(&path, contents).unwrap();
-        Kept(path)
-    }
-
-    fn path(&self) -> &str {
-        self.0.to_str().unwrap()
-    }
-}
-
-impl Drop for Kept {
-    fn drop(&mut self) {
-        let _ = std::fs::remove_file(&self.0);
-    }
 }
 
 #[test]

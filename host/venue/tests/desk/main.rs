@@ -4,30 +4,13 @@
 mod audit;
 mod explain;
 mod json;
+#[path = "../common/run.rs"]
+mod run;
 
-use std::io::Write;
+pub use run::venue;
 use std::path::PathBuf;
-use std::process::{Command, Output, Stdio};
 
 pub const PRINTED_TEXT: &str = include_str!("../sessions/printed.txt");
-
-/// A command with its input; its output, errors and status.
-pub fn venue(arguments: &[&str], input: &[u8]) -> Output {
-    let mut child = Command::new(env!("CARGO_BIN_EXE_venue"))
-        .args(arguments)
-        .stdin(Stdio::piped())
-        .stdout(Stdio::piped())
-        .stderr(Stdio::piped())
-        .spawn()
-        .unwrap();
-    let mut stdin = child.stdin.take().unwrap();
-    let input = input.to_vec();
-    // A command may end before it has read all.
-    let writer = std::thread::spawn(move || drop(stdin.write_all(&input)));
-    let output = child.wait_with_output().unwrap();
-    writer.join().unwrap();
-    output
-}
 
 pub fn text(bytes: Vec<u8>) -> String {
     String::from_utf8(bytes).unwrap()
