@@ -12,10 +12,12 @@ Says each fault as FILE:LINE: what is wrong, and ends with status 1 where there 
     "engine: `run`"             a function, type, definition or law of that crate
     "Type: `Venue`"             a type of crates/rules/src/lib.rt
     `Kept.NeverNine`            declared in a file Kept.antt; `levels::load` is a function of the crate levels
+    "`judge` (settling)"        a function, type, definition or law of that crate
     `isPrice`                   declared anywhere in crates/, host/ or include/
   In a table a column headed "Wrong edit" has must-fail edits after their crate, one headed "Test" functions after their file
-  in host/sessions/tests/all; one headed by a crate, or by several, has their functions; one headed by a file has that file's names; and in
-  one headed "File" each row begins with the file that its names are of. Code of more than a name is not looked at;
+  in host/sessions/tests/all, and one headed "Code" functions of crates/*/src alone; one headed by a crate, or by several, has
+  their functions; one headed by a file has that file's names; and in one headed "File" each row begins with the file that its
+  names are of. Code of more than a name is not looked at;
 - every path beginning with crates/, host/, docs/, tests/, include/, examples/ or bin/ exists (NAME and the like stand for any);
 - every definition of crates/rules/specs, but those of Trials and Opened, is named after its file in docs/CROSSWALK.md or
   docs/requests/*.md;
@@ -47,6 +49,7 @@ SPAN = re.compile(r"`([^`]+)`")
 WORD = re.compile(r"(?:\b([a-z_]+) )?\b(\w+): (?=`)")
 ROW = re.compile(r"(?<![\w(])([A-Z])(\d+)\b")
 READING = re.compile(r"\bReadings? (\d+(?:(?:, | to | and )\d+)*)")
+OF_CRATE = re.compile(r"`\w+`(?:(?:, | and )`\w+`)* \(([a-z_]+)\)")
 NAME = re.compile(r"[^\W\d][\w·⟫'-]*|_[^\s`.()]+_")
 
 
@@ -135,6 +138,8 @@ class Tree:
             return self.edits[word], f"no edit in crates/{word}/must-fail"
         if column == "Test" and word in self.tests:
             return self.tests[word], f"no function of host/sessions/tests/all/{word}.rs"
+        if column == "Code" and word in self.functions:
+            return self.functions[word], f"no function of crates/{word}/src"
         if word == "Type":
             return self.functions["rules"], "no type of crates/rules/src/lib.rt"
         if word in self.crates:
@@ -214,6 +219,7 @@ class Papers:
     def text(self, path, lines, column, heading):
         """The names of a cell or of a paragraph's numbered lines; `heading` is what the column or row is headed by."""
         for sentence in re.split(r"(?<=\.) (?=[A-Z(a-z`])", " ".join(line for _, line in lines)):
+            self.of_crates(path, lines[0][0], sentence)
             scope, stem = self.headed(heading)
             end = 0
             for span in SPAN.finditer(sentence):
@@ -227,8 +233,17 @@ class Papers:
                 number = next((n for n, line in lines if span[0] in line), lines[0][0])
                 self.name(path, number, span[1], scope, stem)
 
+    def of_crates(self, path, number, sentence):
+        """The names before a crate in brackets: `cause_order`, `verdict_number` (arithmetic)."""
+        for found in OF_CRATE.finditer(sentence):
+            for name in SPAN.findall(found[0]):
+                if found[1] in self.tree.crates and name not in self.tree.crates[found[1]]:
+                    self.fault(path, number, f"`{name}`: not in the crate {found[1]}")
+
     def headed(self, heading):
         """What the names of a column are where no word stands before them, and the file of the rules that they are then of."""
+        if heading == "Code":
+            return (set().union(*self.tree.functions.values()), "no function of crates/*/src"), None
         crates = heading.split(", ")
         if all(crate in self.tree.functions for crate in crates):
             names = set().union(*(self.tree.functions[crate] for crate in crates))
