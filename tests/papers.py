@@ -11,7 +11,7 @@ Says each fault as FILE:LINE: what is wrong, and ends with status 1 where there 
     "reader Head: `headAt`"     declared in crates/reader/specs/Head.antt or proofs/Head.antt
     "engine: `run`"             a function, type, definition or law of that crate
     "Type: `Venue`"             a type of crates/rules/src/lib.rt
-    `Kept.NeverNine`            declared in a file Kept.antt; `levels::load` is a function of the crate levels
+    `Soundness.NeverNine`       declared in a file Soundness.antt; `levels::load` is a function of the crate levels
     "`judge` (settling)"        a function, type, definition or law of that crate
     `isPrice`                   declared anywhere in crates/, host/ or include/
   In a table a column headed "Wrong edit" has must-fail edits after their crate, one headed "Test" functions after their file

@@ -12,11 +12,11 @@ ghost use Prim.Native.Nat.{ℕ, min, _+_, _≤_, _-_};
 ghost use lib.Dec.{eqb};
 ghost use lib.IntN.{ℤ, pos, natAbs, _+ℤ_};
 ghost use Rattle.rules.specs.Base.{if_then_else_};
-ghost use Rattle.rules.specs.Words.{opposite, signed, placeOf, freshVenue, sell, isPrice, isQuantity, isRatio, oneToOne};
+ghost use Rattle.rules.specs.Words.{opposite, signTimes, placeOf, freshVenue, sell, isPrice, isQuantity, isRatio, oneToOne};
 ghost use Rattle.rules.specs.Settings.{baseFigure, isIncrement};
 ghost use Rattle.rules.specs.Messages.{lengthOf, messageForm};
 ghost use Rattle.rules.specs.Records.{causeNumber};
-ghost use Rattle.rules.specs.Prices.{shown, displayed, weighed, nearNet, better, betterOf, reaches};
+ghost use Rattle.rules.specs.Prices.{shownSize, displayedPrice, weighed, nearNet, better, betterOf, reaches};
 ghost use Rattle.rules.specs.Standing.{verdictNumber};
 ghost use Rattle.rules.specs.Refusals.{decodedNumber};
 
@@ -71,7 +71,7 @@ pub fn base_figure(figure: u8) -> u8
 
 // A legging order's displayed price: its own, down (buy) or up (sell) to the increment of its series.
 pub fn displayed_price(increment: u8, side: u8, price: u32) -> u64
-    ensures { λ r. ⌜ r ≡ displayed increment side price ⌝ }
+    ensures { λ r. ⌜ r ≡ displayedPrice increment side price ⌝ }
 {
     if increment == 0 {
         return 0;
@@ -102,8 +102,8 @@ pub fn lesser(a: u32, b: u32) -> u32
 }
 
 // What an order shows: what is left of it but for its reserve.
-pub fn shown_of(o: Regular) -> u32
-    ensures { λ r. ⌜ r ≡ shown o ⌝ }
+pub fn shown_size(o: Regular) -> u32
+    ensures { λ r. ⌜ r ≡ shownSize o ⌝ }
 {
     if o.quantity < o.reserve {
         return 0;
@@ -120,8 +120,8 @@ pub fn limit_of(c: Complex) -> i64
 }
 
 // Sign × price of a leg.
-pub fn signed_price(side: u8, price: u32) -> i64
-    ensures { λ r. ⌜ (r ≡ signed side (pos price)) × (natAbs r ≤ 4294967295) ⌝ }
+pub fn sign_times_price(side: u8, price: u32) -> i64
+    ensures { λ r. ⌜ (r ≡ signTimes side (pos price)) × (natAbs r ≤ 4294967295) ⌝ }
 {
     if side == 0 {
         return price as i64;

@@ -13,7 +13,7 @@ use Rattle.rules.specs.declared.Regular.{Regular}
 use Rattle.rules.specs.Base.{if_then_else_, held, Choice, nobody, picked, ranked, firstFrom, first, placeWhere}
 use Rattle.rules.specs.Words.{opposite, noRegular, regularAt, earlier, isRegularOf}
 use Rattle.rules.specs.Complex.{restsRegular, regularPlace}
-use Rattle.rules.specs.Prices.{better, reaches, restsAt, shown, showsAt, showsFor, bestIn}
+use Rattle.rules.specs.Prices.{better, reaches, restsAt, shownSize, showsAt, showsFor, bestIn}
 use Rattle.rules.specs.Order.{isMet, shownThenId, priceThenId}
 use Rattle.rules.specs.Generation.{reachesAny}
 use Rattle.rules.proofs.Tests.{and-l, and-r, and-false}
@@ -28,7 +28,7 @@ use Rattle.places.proofs.Tables.{used-at, used-free}
 use Rattle.book.specs.declared.Pick.the-variants as pick
 use Rattle.book.specs.declared.Found.the-variants as found
 use Rattle.book.specs.Picks.{pickOf, regularFound}
-use Rattle.book.proofs.Finding.{where-first, foundIn, found-at, found-none, regular-free}
+use Rattle.book.proofs.FirstPlace.{where-first, foundIn, found-at, found-none, regular-free}
 use Rattle.book.proofs.PicksLaws.{for-free}
 
 -- The pick, told by its place -----------------------------------------------------------------
@@ -124,7 +124,7 @@ module _ (s d p : ℕ) (os : List Regular) (orders : Orderly os) (i : ℕ)
 -- Orders met ----------------------------------------------------------------------------------
 
 -- where every order shows some size
-module _ (s d p : ℕ) (os : List Regular) (orders : Orderly os) (some : (i : ℕ) → held (getD os i noRegular .quantity) ≡ true → held (shown (getD os i noRegular)) ≡ true) where
+module _ (s d p : ℕ) (os : List Regular) (orders : Orderly os) (some : (i : ℕ) → held (getD os i noRegular .quantity) ≡ true → held (shownSize (getD os i noRegular)) ≡ true) where
   abbrev best : ℕ
   best = bestIn s (opposite d) os
 

@@ -1,5 +1,5 @@
 pub mod PicksLaws
-pub mod Finding
+pub mod FirstPlace
 pub mod Unmet
 pub mod Earliest
 pub mod Ranking

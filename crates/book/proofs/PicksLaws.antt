@@ -12,7 +12,7 @@ use lib.Dec.{eqb, ltb}
 use Rattle.rules.specs.declared.Regular.{Regular}
 use Rattle.rules.specs.Base.{held, Choice, nobody, picked, ranked, first}
 use Rattle.rules.specs.Words.{opposite, placeOf, noRegular, earlier}
-use Rattle.rules.specs.Prices.{better, reaches, restsAt, shown, showsAt, showsFor}
+use Rattle.rules.specs.Prices.{better, reaches, restsAt, shownSize, showsAt, showsFor}
 use Rattle.rules.specs.Order.{isMet, shownThenId, priceThenId}
 use Rattle.rules.specs.Sound.{showsFully}
 use Rattle.rules.proofs.Picking.{At, Chosen, first-chosen}
@@ -68,7 +68,7 @@ unfolding isMet restsAt
 met-free s d p = refl
 
 pub for-free : (s d p : ℕ) → showsFor s d p noRegular ≡ false
-unfolding showsFor showsAt shown
+unfolding showsFor showsAt shownSize
 for-free s d p = refl
 
 -- orders with another key are no candidates
@@ -84,15 +84,15 @@ other-key t s d o n = is-false _ (λ h. n (ap₂ placeOf (series h) (side h)))
 
 pub for-key : (s d p : ℕ) (o : Regular) → (regularKey o ≡ placeOf s d → ⊥) → showsFor s d p o ≡ false
 unfolding showsFor showsAt
-for-key s d p o n = rw (other-key (held (shown o)) s d o n)
+for-key s d p o n = rw (other-key (held (shownSize o)) s d o n)
 
 pub met-key : (s d p : ℕ) (o : Regular) → (regularKey o ≡ placeOf s (opposite d) → ⊥) → isMet s d p o ≡ false
 unfolding isMet restsAt
 met-key s d p o n = rw (other-key (held (o .quantity)) s (opposite d) o n)
 
 -- an order with a shown quantity that shows what it should shows some size
-pub fully-some : (o : Regular) → held (o .quantity) ≡ true → held (o .display) ≡ true → showsFully o ≡ true → held (shown o) ≡ true
-unfolding showsFully shown
+pub fully-some : (o : Regular) → held (o .quantity) ≡ true → held (o .display) ≡ true → showsFully o ≡ true → held (shownSize o) ≡ true
+unfolding showsFully shownSize
 fully-some o h q z =
     let a = held-pos (o .quantity) h in
     let b = held-pos (o .display) q in
@@ -100,7 +100,7 @@ fully-some o h q z =
     pos-held (o .quantity - o .reserve) (omega arith)
 
 -- an order that shows x, test by test
-module _ (s d p : ℕ) (o : Regular) (x : ℕ) (e : x ≡ shown o) where
+module _ (s d p : ℕ) (o : Regular) (x : ℕ) (e : x ≡ shownSize o) where
   pub shows-none : x ≡ 0 → false ≡ showsFor s d p o
   unfolding showsFor showsAt
   shows-none h = rw (← e, h)
@@ -141,7 +141,7 @@ module _ (s d p : ℕ) (o : Regular) where
 -- Rank ----------------------------------------------------------------------------------------
 
 -- at one price, of orders that show x and y
-module _ (a m : Regular) (x y : ℕ) (ex : x ≡ shown a) (ey : y ≡ shown m) where
+module _ (a m : Regular) (x y : ℕ) (ex : x ≡ shownSize a) (ey : y ≡ shownSize m) where
   pub shown-alone : (x ≡ 0 → ⊥) → y ≡ 0 → true ≡ shownThenId a m
   unfolding shownThenId
   shown-alone p q = rw (← ex, ← ey, ne-eqb x 0 p, q)

@@ -11,7 +11,7 @@ use lib.ListN.{getD}
 use Rattle.rules.specs.declared.Regular.{Regular}
 use Rattle.rules.specs.Base.{if_then_else_, held, Choice, nobody, picked, first}
 use Rattle.rules.specs.Words.{opposite, noRegular}
-use Rattle.rules.specs.Prices.{better, restsAt, reaches, shown, bestIn}
+use Rattle.rules.specs.Prices.{better, restsAt, reaches, shownSize, bestIn}
 use Rattle.rules.specs.Order.{isMet, priceThenId}
 use Rattle.rules.specs.Generation.{reachesAny}
 use Rattle.rules.proofs.Tests.{and-l, and-r, held-pos, pos-held}
@@ -46,7 +46,7 @@ reaches-past d p q b h = go (ℕ-discrete d 0)
         let f : eqb (1 - d) 0 ≡ true = eq-eqb (1 - d) 0 (omega arith) in
         rw (ne-eqb d 0 e) (bids (rw (ne-eqb d 0 e) at r) (λ z. n (rw f z)) (decLt b q))
 
-module _ (s d p : ℕ) (os : List Regular) (in-order : Orderly os) (some : (i : ℕ) → held (getD os i noRegular .quantity) ≡ true → held (shown (getD os i noRegular)) ≡ true)
+module _ (s d p : ℕ) (os : List Regular) (in-order : Orderly os) (some : (i : ℕ) → held (getD os i noRegular .quantity) ≡ true → held (shownSize (getD os i noRegular)) ≡ true)
     (off : reachesAny d p (bestIn s (opposite d) os) ≡ false) where
   not-met : (i : ℕ) → isMet s d p (getD os i noRegular) ≡ true → ⊥
   unfolding isMet

@@ -10,7 +10,7 @@ ghost use Rattle.rules.specs.Base.{Choice, ranked, first};
 ghost use Rattle.rules.specs.Words.{earlier};
 ghost use Rattle.rules.specs.Prices.{showsFor};
 ghost use Rattle.rules.specs.Order.{isMet, shownThenId, priceThenId};
-ghost use Rattle.places.specs.Layout.{size, isUnmarked, venueOf, Right, Dense};
+ghost use Rattle.places.specs.Layout.{size, noneShowsAgain, venueOf, Right, Dense};
 ghost use Rattle.book.specs.Picks.{pickOf, regularFound, complexFound};
 use rules::Regular;
 
@@ -30,7 +30,7 @@ pub enum Found {
 fn shows_for(o: Regular, series: u8, side: u8, price: u32) -> bool
     ensures { λ r. ⌜ r ≡ showsFor series side price o ⌝ }
 {
-    if arithmetic::shown_of(o) == 0 {
+    if arithmetic::shown_size(o) == 0 {
         return false;
     }
     if o.series != series {
@@ -67,7 +67,7 @@ pub fn first_for(numbers: &[u32], series: u8, side: u8, price: u32) -> Pick
 // The regular order that one of this side and price in a series meets first, where every order shows some size: the earliest at the best price of the
 // other side, where this is reached.
 fn first_shown(numbers: &[u32], series: u8, side: u8, price: u32) -> Pick
-    requires { ⌜ (length (now numbers) ≡ size) × (Right (now numbers)) × (series < 8) × (isUnmarked (now numbers) ≡ true) ⌝ }
+    requires { ⌜ (length (now numbers) ≡ size) × (Right (now numbers)) × (series < 8) × (noneShowsAgain (now numbers) ≡ true) ⌝ }
     ensures { λ r. ⌜ r ≡ pickOf (first (isMet series side price) priceThenId (venueOf (now (numbers .entry)) .regular)) ⌝ }
 {
     let other = arithmetic::opposite_of(side);
@@ -98,13 +98,13 @@ fn is_met(m: Regular, series: u8, side: u8, price: u32) -> bool
 fn shows_first(a: Regular, m: Regular) -> bool
     ensures { λ r. ⌜ r ≡ shownThenId a m ⌝ }
 {
-    if arithmetic::shown_of(m) == 0 {
-        if arithmetic::shown_of(a) == 0 {
+    if arithmetic::shown_size(m) == 0 {
+        if arithmetic::shown_size(a) == 0 {
             return a.id < m.id;
         }
         return true;
     }
-    if arithmetic::shown_of(a) == 0 {
+    if arithmetic::shown_size(a) == 0 {
         return false;
     }
     a.id < m.id
@@ -165,7 +165,7 @@ pub fn first_met(numbers: &[u32], series: u8, side: u8, price: u32) -> Pick
     requires { ⌜ (length (now numbers) ≡ size) × (Right (now numbers)) × (series < 8) ⌝ }
     ensures { λ r. ⌜ r ≡ pickOf (first (isMet series side price) priceThenId (venueOf (now (numbers .entry)) .regular)) ⌝ }
 {
-    if places::is_unmarked(numbers) {
+    if places::none_shows_again(numbers) {
         return first_shown(numbers, series, side, price);
     }
     first_ranked(numbers, series, side, price)

@@ -1,2 +1,2 @@
-pub mod Telling
-pub mod Carrying
+pub mod SettingsTold
+pub mod SetCarried

@@ -26,7 +26,7 @@ use Rattle.rules.proofs.Putting.{put-alone, put-each, put-most, put-new, put-ol
 use Rattle.rules.proofs.Sizes.{Elsewhere, best-set, free-shows, no-price, not-there, size-set}
 use Rattle.rules.proofs.Tests.{and-l, and-r, free-none, held-pos}
 use Rattle.rules.proofs.Verdicts.{passed}
-use Rattle.demands.proofs.Entering.{Pays, Ready, pays-there}
+use Rattle.demands.proofs.OrderCarries.{Pays, Ready, pays-there}
 use Rattle.demands.proofs.Homes.{Fine, Home, InRange, good-rr, good-xx, homes-same, other-apart, parent-found}
 
 -- What is asked of it ---------------------------------------------------------------------------

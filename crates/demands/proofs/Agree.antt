@@ -21,14 +21,14 @@ use Rattle.rules.specs.Refusals.{refusal, torn}
 use Rattle.rules.specs.Sound.{follows, sound}
 use Rattle.rules.specs.Step.{step}
 use Rattle.rules.specs.Calls.{Outcome, after, called, ends, exceeds, one, oneFrom, run, runFrom}
-use Rattle.demands.specs.Agree.{Agree, Ended, NeverFills, NoneFull, Progress, ReadsOne, atEnd, atFull, atTorn, begun, byCalls, onward, wrote}
-use Rattle.demands.specs.Kept.{SoundAt}
-use Rattle.demands.specs.Most.{most}
-use Rattle.rules.proofs.Calling.{encode-append, no-bytes, not-exceeds, oneFrom-by, runFrom-by, torn-not}
+use Rattle.demands.specs.Agree.{Agree, Ended, NeverFills, NoneFull, Progress, ReadsOne, atEnd, atFull, atTorn, freshProgress, byCalls, onward, wrote}
+use Rattle.demands.specs.Soundness.{SoundAt}
+use Rattle.demands.specs.Most.{mostReportBytes}
+use Rattle.rules.proofs.CallsLaws.{encode-append, no-bytes, not-exceeds, oneFrom-by, runFrom-by, torn-not}
 use Rattle.rules.proofs.Front.{reads-one}
-use Rattle.rules.proofs.Refusing.{not-torn, whole, whole-in}
+use Rattle.rules.proofs.RefusalsLaws.{not-torn, whole, whole-in}
 use Rattle.rules.proofs.Tests.{and-in}
-use Rattle.demands.proofs.Calls.{fresh-sound, kept}
+use Rattle.demands.proofs.Calls.{fresh-sound, stays-sound}
 use Rattle.demands.proofs.Most.{writes-at-most}
 
 -- A call reads one message --------------------------------------------------------------------
@@ -188,10 +188,10 @@ followed (suc fuel) v n room bs s le x b not-one =
     (λ d t. done-follows v n room bs s x b d _ (λ rooms _ h. stops (suc n) _ _ 1 _ _ refl refl refl (atTorn t) rooms h))
     (λ d t. done-follows v n room bs s x b d _
     (λ rooms holds h.
-    followed fuel _ (suc n) _ _ (kept v (suc n) (d .0) s bs) (shorter fuel bs le (torn-not v n bs t)) (step v (suc n) bs .refused) _ t rooms holds h))
+    followed fuel _ (suc n) _ _ (stays-sound v (suc n) (d .0) s bs) (shorter fuel bs le (torn-not v n bs t)) (step v (suc n) bs .refused) _ t rooms holds h))
 
 pub agree : Agree
-unfolding run called begun
+unfolding run called freshProgress
 agree room bs rooms holds h =
     let o = runFrom (length bs) freshVenue 0 room bs in
     let f = followed (length bs) freshVenue 0 room bs fresh-sound (omega arith) 0 [] (λ e. omega arith) rooms holds h in
@@ -206,7 +206,7 @@ agree room bs rooms holds h =
 
 -- each message takes a byte of the list at least, and writes no more than the most
 abbrev Roomy : (fuel : ℕ) → Type 0
-Roomy fuel = (v : Venue) (n room : ℕ) (bs : List ℕ) → SoundAt (suc n) v → n + length bs ≤ 4294967295 → most * length bs ≤ room → runFrom fuel v n room bs .number ≢ 10
+Roomy fuel = (v : Venue) (n room : ℕ) (bs : List ℕ) → SoundAt (suc n) v → n + length bs ≤ 4294967295 → mostReportBytes * length bs ≤ room → runFrom fuel v n room bs .number ≢ 10
 
 roomy : (fuel : ℕ) → Roomy fuel
 unfolding ends after
@@ -222,7 +222,7 @@ roomy (suc fuel) v n room bs s few enough =
     let l = f .0 in
     let g = f .1 in
     let q = length-drop (lengthField bs) bs in
-    roomy fuel _ (suc n) _ _ (kept v (suc n) (d .0) s bs) (omega arith) (omega arith))
+    roomy fuel _ (suc n) _ _ (stays-sound v (suc n) (d .0) s bs) (omega arith) (omega arith))
 
 pub never-fills : NeverFills
 unfolding run called

@@ -11,15 +11,15 @@ use Rattle.rules.specs.Words.{freshVenue}
 use Rattle.rules.specs.Records.{FourBytes}
 use Rattle.rules.specs.Step.{answered, step}
 use Rattle.rules.specs.Calls.{after, called, ends, one, oneFrom}
-use Rattle.demands.specs.Kept.{AlwaysSound, DoneFits, FreshSound, Kept, NeverNine, SoundAt}
+use Rattle.demands.specs.Soundness.{AlwaysSound, DoneFits, FreshSound, StaysSound, NeverNine, SoundAt}
 use Rattle.demands.specs.Demand.{ComplexAdds, Demand3, Given, Opening, Seen, calls, opening}
 use Rattle.demands.specs.ReadsBack.{ReadsBack, StepFits, WholeMemory}
 use Rattle.rules.proofs.Answering.{told}
-use Rattle.rules.proofs.Calling.{one-memory, oneFrom-by, run-memory}
+use Rattle.rules.proofs.CallsLaws.{one-memory, oneFrom-by, run-memory}
 use Rattle.rules.proofs.Dating.{some-number, step-follows}
 use Rattle.rules.proofs.Editions.{dated-steps}
 use Rattle.rules.proofs.Reading.{reads-back}
-use Rattle.rules.proofs.Refusing.{refusal-own}
+use Rattle.rules.proofs.RefusalsLaws.{refusal-own}
 use Rattle.rules.proofs.Showing.{showing-shown}
 use Rattle.rules.proofs.Tests.{and-in}
 use Rattle.rules.proofs.Traffic.{step-above}
@@ -27,14 +27,14 @@ use Rattle.demands.proofs.Account.{Account, ComplexAccount, advance, on
 use Rattle.demands.proofs.Fresh.{fresh-follows, fresh-invariant, start-account}
 use Rattle.demands.proofs.Induction.{all-keep}
 use Rattle.demands.proofs.Messages.{step-invariant, step-takes}
-use Rattle.demands.proofs.Soundness.{sound-in, sound-out}
+use Rattle.demands.proofs.SoundnessLaws.{sound-in, sound-out}
 use Rattle.demands.proofs.Standing.{standing}
 
 -- One message ---------------------------------------------------------------------------------
 
 -- soundness is kept by every message
-pub kept : Kept
-kept v n few s bs =
+pub stays-sound : StaysSound
+stays-sound v n few s bs =
     let k = sound-out v (s .venue) in
     record {
       venue = sound-in _ (step-invariant v k n (omega arith) (s .next) bs);

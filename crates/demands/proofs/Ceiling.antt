@@ -24,7 +24,7 @@ use Rattle.rules.proofs.Tests.{and-l, and-r, pos-held}
 use Rattle.rules.proofs.Traffic.{Allowed, Level, busy-levels, one-level, pushed, tracks-step}
 use Rattle.demands.proofs.Account.{onto}
 use Rattle.demands.proofs.Induction.{all-keep}
-use Rattle.demands.proofs.Soundness.{sound-out}
+use Rattle.demands.proofs.SoundnessLaws.{sound-out}
 use Rattle.demands.proofs.Truth.{Told, more-told, start-told}
 
 -- The last twenty -----------------------------------------------------------------------------
@@ -167,7 +167,7 @@ by-one f s now [] h = nothing (f now)
 by-one f s now (answer _ _ _ _ ∷ rs) h = absurd (h .0)
 by-one f s now (trade _ _ _ _ _ _ ∷ rs) h = by-one f s now rs (h .1) ∙ plain (f now) _
 by-one f s now (pair _ _ _ ∷ rs) h = by-one f s now rs (h .1) ∙ plain (f now) _
-by-one f s now (generated id t side price shown quantity ∷ rs) h = one (f now) (eqb t s) (by-one f s now rs (h .1))
+by-one f s now (generated id t side price displayed quantity ∷ rs) h = one (f now) (eqb t s) (by-one f s now rs (h .1))
   where
     one : (b c : Bool) → generatedBy f s now rs ≡ (if b then total (generatedOf s) rs else 0) →
         (if b && c then 1 else 0) + generatedBy f s now rs ≡ (if b then (if c then 1 else 0) + total (generatedOf s) rs else 0)
@@ -194,17 +194,17 @@ by-more f s now (looked _ ∷ rs) n x m c es h = by-more f s now rs n x m c es h
 
 -- What callers see ----------------------------------------------------------------------------
 
-record Kept (s : Seen) : Type 0 where
+record UnderCeiling (s : Seen) : Type 0 where
   told : Told s
   under : (t : ℕ) → t < 8 → Under (λ f. generatedBy f t 0 (s .reports)) (generationsOf (s .venue) t)
 
-start-kept : Kept start
-start-kept = record { told = start-told; under = λ t _. begun t }
+start-kept : UnderCeiling start
+start-kept = record { told = start-told; under = λ t _. start-under t }
   where
-    begun : (t : ℕ) → Under (λ f. generatedBy f t 0 (start .reports)) (generationsOf (start .venue) t)
-    begun t = unfold start generatedBy in (record { late = λ a h. omega arith; inside = λ a. omega arith; window = λ a. omega arith })
+    start-under : (t : ℕ) → Under (λ f. generatedBy f t 0 (start .reports)) (generationsOf (start .venue) t)
+    start-under t = unfold start generatedBy in (record { late = λ a h. omega arith; inside = λ a. omega arith; window = λ a. omega arith })
 
-under-step : (s : Seen) (bs : List ℕ) → Kept s → (t : ℕ) → t < 8 →
+under-step : (s : Seen) (bs : List ℕ) → UnderCeiling s → (t : ℕ) → t < 8 →
     Under (λ f. generatedBy f t 0 (s .reports ++ step (s .venue) (suc (s .done)) bs .effect .reports)) (generationsOf (step (s .venue) (suc (s .done)) bs .effect .venue) t)
 under-step s bs k t t8 =
     let v = s .venue in
@@ -219,12 +219,12 @@ under-step s bs k t t8 =
     (w .quiet) ∙ ap (λ (q : ℕ). generatedBy f t 0 (s .reports) + (if f n then q else 0)) (sym c))
     (under-many _ n _ _ (busy-levels v n (omega arith) (i .busy) (k .told .sound .next) t) (k .under t t8) (r .allowed t in8)))
 
-more-kept : (s : Seen) (bs : List ℕ) → Kept s → FourBytes (suc (s .done)) → Kept (onto s bs (step (s .venue) (suc (s .done)) bs .effect))
+more-kept : (s : Seen) (bs : List ℕ) → UnderCeiling s → FourBytes (suc (s .done)) → UnderCeiling (onto s bs (step (s .venue) (suc (s .done)) bs .effect))
 more-kept s bs k few = record { told = more-told s bs (k .told) few; under = under s bs k }
   where
-    under : (s : Seen) (bs : List ℕ) → Kept s → (t : ℕ) → t < 8 →
+    under : (s : Seen) (bs : List ℕ) → UnderCeiling s → (t : ℕ) → t < 8 →
         Under (λ f. generatedBy f t 0 (onto s bs (step (s .venue) (suc (s .done)) bs .effect) .reports)) (generationsOf (onto s bs (step (s .venue) (suc (s .done)) bs .effect) .venue) t)
     under s bs k t t8 = unfold onto in (under-step s bs k t t8)
 
 pub ceiling : Ceiling
-ceiling o gs s first s8 = all-keep Kept (λ s k. sound-out (s .venue) (k .told .sound .venue) .ranged) start-kept more-kept o gs .under s s8 .window first
+ceiling o gs s first s8 = all-keep UnderCeiling (λ s k. sound-out (s .venue) (k .told .sound .venue) .ranged) start-kept more-kept o gs .under s s8 .window first

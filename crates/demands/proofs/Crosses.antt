@@ -27,7 +27,7 @@ use Rattle.rules.proofs.Crossing.{cross-respects, respects}
 use Rattle.rules.proofs.Quiet.{All, Others, all-cancel, all-each, all-eachOf, all-generate, all-legging, all-nothing, all-order, all-removeOf, all-settle, all-touch}
 use Rattle.demands.proofs.Account.{onto}
 use Rattle.demands.proofs.Induction.{all-keep}
-use Rattle.demands.proofs.Soundness.{sound-out}
+use Rattle.demands.proofs.SoundnessLaws.{sound-out}
 use Rattle.demands.proofs.Truth.{Told, more-told, start-told}
 
 -- Records joined ------------------------------------------------------------------------------

@@ -20,7 +20,7 @@ use Rattle.rules.proofs.Dating.{step-past}
 use Rattle.rules.proofs.Editions.{in-force-now}
 use Rattle.demands.proofs.Account.{onto}
 use Rattle.demands.proofs.Induction.{all-keep}
-use Rattle.demands.proofs.Soundness.{sound-out}
+use Rattle.demands.proofs.SoundnessLaws.{sound-out}
 use Rattle.demands.proofs.Truth.{Told, more-told, start-told}
 
 -- the first k of a list, which is at least as long, and of all of it
@@ -69,10 +69,10 @@ start-dated : Dated start
 start-dated = record { told = start-told; known = start-known }
   where
     start-known : Known start
-    start-known k f h = at k (begun k h)
+    start-known k f h = at k (start-done k h)
       where
-        begun : (k : ℕ) → k ≤ start .done → k ≡ start .done
-        begun k h = unfold start in (omega arith)
+        start-done : (k : ℕ) → k ≤ start .done → k ≡ start .done
+        start-done k h = unfold start in (omega arith)
 
         at : (k : ℕ) → k ≡ start .done → inForce (start .venue) k f ≡ figureNow (leaves freshVenue 0 (take k (start .messages))) f
         at k e = rw e (known-now start start-told f)

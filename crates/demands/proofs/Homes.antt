@@ -38,7 +38,7 @@ use Rattle.rules.proofs.Hitting.{other-is₁, other-is₂}
 use Rattle.rules.proofs.Ledger.{Moved}
 use Rattle.rules.proofs.Owning.{Own}
 use Rattle.rules.proofs.Removing.{length-stayers, stay-of}
-use Rattle.rules.proofs.Settling.{Kept, stayers-kept}
+use Rattle.rules.proofs.Settling.{SameOrGone, stayers-kept}
 use Rattle.rules.proofs.Showing.{Showing}
 use Rattle.rules.proofs.Tests.{and-l, and-r, held-pos, pos-held}
 use Rattle.rules.proofs.Traffic.{Busy}
@@ -133,8 +133,8 @@ home-same {v} {w} e h = record {
   enough = rw e (h .enough);
 }
 
-pub homes-thin : {v w : Venue} → w .complex ≡ v .complex → length (w .legging) ≡ length (v .legging) → ((n : ℕ) → Kept (lg w n) (lg v n)) → Homes v → Homes w
-unfolding Kept
+pub homes-thin : {v w : Venue} → w .complex ≡ v .complex → length (w .legging) ≡ length (v .legging) → ((n : ℕ) → SameOrGone (lg w n) (lg v n)) → Homes v → Homes w
+unfolding SameOrGone
 homes-thin {v} {w} e len k h = record { len = len ∙ h .len; home = λ n. go n (k n) }
   where
     go : (n : ℕ) → (lg w n ≡ lg v n) ⊎ (lg w n ≡ noLegging) → held (lg w n .quantity) ≡ true → Home w n (lg w n)
@@ -146,7 +146,7 @@ unfolding remove withLegging
 homes-remove f v h = homes-thin refl (length-stayers f 0 (v .legging)) (stayers-kept f 0 (v .legging)) h
 
 pub homes-same : {v w : Venue} → w .complex ≡ v .complex → w .legging ≡ v .legging → Homes v → Homes w
-unfolding Kept
+unfolding SameOrGone
 homes-same {v} {w} e l h = homes-thin e (ap length l) (λ n. inl (ap (λ (x : List Legging). getD x n noLegging) l)) h
 
 -- an order is filled, and its legging orders go

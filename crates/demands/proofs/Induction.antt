@@ -11,7 +11,7 @@ use Rattle.rules.specs.Step.{step}
 use Rattle.rules.specs.Calls.{Outcome, after, called, ends, one, oneFrom, run, runFrom}
 use Rattle.demands.specs.Demand.{Given, Opening, Seen, alone, byRun, calls, extend, opening, parts, start}
 use Rattle.rules.proofs.Answering.{told}
-use Rattle.rules.proofs.Calling.{one-room, oneFrom-by, run-room, runFrom-by}
+use Rattle.rules.proofs.CallsLaws.{one-room, oneFrom-by, run-room, runFrom-by}
 use Rattle.rules.proofs.Reading.{reads-back}
 use Rattle.rules.proofs.Widths.{Ranged, each-append}
 use Rattle.demands.proofs.Account.{onto}

@@ -29,20 +29,20 @@ use Rattle.rules.specs.Complex.{complex, each, eachOf, examined, goingRound, id
 use Rattle.rules.specs.Places.{closeGaps}
 use Rattle.rules.specs.Refusals.{complexInRange, refusal, twoLegInRange}
 use Rattle.rules.specs.Step.{accept, answered, perform, setAway, setFigure, setStatus, step}
-use Rattle.demands.specs.Kept.{SoundAt, SoundVenue}
+use Rattle.demands.specs.Soundness.{SoundAt, SoundVenue}
 use Rattle.demands.specs.Truth.{answerOf, venueAfter}
 use Rattle.demands.specs.LimitedSweeps.{InTurn, Limited, LimitedSweeps, NoLook, Rises, Stays, lastOf, looks, looksAll, looksBy, looksIn, resting, round}
-use Rattle.rules.proofs.Calling.{step-by}
+use Rattle.rules.proofs.CallsLaws.{step-by}
 use Rattle.rules.proofs.Cases.{if-by}
 use Rattle.rules.proofs.Filling.{cx}
-use Rattle.rules.proofs.Keeping.{Lasts, keeps-cancel, keeps-each, keeps-eachOf, keeps-matching, keeps-settle, keeps-work}
+use Rattle.rules.proofs.EffectsLaws.{Lasts, keeps-cancel, keeps-each, keeps-eachOf, keeps-matching, keeps-settle, keeps-work}
 use Rattle.rules.proofs.Quiet.{All, Others, all-cancel, all-each, all-eachOf, all-generate, all-nothing, all-order, all-settle, all-then, all-work}
 use Rattle.rules.proofs.Tests.{and-l, and-r}
 use Rattle.rules.proofs.Traffic.{looked-count, round-all}
-use Rattle.demands.proofs.Calls.{kept}
+use Rattle.demands.proofs.Calls.{stays-sound}
 use Rattle.demands.proofs.Homes.{Invariant}
 use Rattle.demands.proofs.Rounds.{Turns, along, no-turns, path-front, round-path}
-use Rattle.demands.proofs.Soundness.{sound-out}
+use Rattle.demands.proofs.SoundnessLaws.{sound-out}
 
 -- Ids -----------------------------------------------------------------------------------------
 
@@ -316,7 +316,7 @@ module _ (x y : ℕ) (apart : x < y) where
   unfolding looksAll
   turns v n s [] few sx sy = no-turns x y (v .reached)
   turns v n s (m ∷ ms) few sx sy =
-      go (does v (s .venue) (suc n) m) (turns (venueAfter v (suc n) m) (suc n) (unfold venueAfter in (kept v (suc n) (omega arith) s m)) ms (omega arith) (sx .1) (sy .1))
+      go (does v (s .venue) (suc n) m) (turns (venueAfter v (suc n) m) (suc n) (unfold venueAfter in (stays-sound v (suc n) (omega arith) s m)) ms (omega arith) (sx .1) (sy .1))
     where
       rest : List ℕ
       rest = looksAll (venueAfter v (suc n) m) (suc n) ms

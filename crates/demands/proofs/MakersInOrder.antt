@@ -25,15 +25,15 @@ use Rattle.rules.specs.Words.{leggingAt, noRegular, opposite, placeOf, regularA
 use Rattle.rules.specs.Messages.{messageOf}
 use Rattle.rules.specs.Records.{Report, pair, trade}
 use Rattle.rules.specs.Effects.{Effect, Turn, _⟫_, ended, nothing, repeat, report, turned}
-use Rattle.rules.specs.Prices.{better, ownPrice, reaches, restsAt, shown}
+use Rattle.rules.specs.Prices.{better, ownPrice, reaches, restsAt, shownSize}
 use Rattle.rules.specs.Removal.{removeOf}
 use Rattle.rules.specs.Standing.{otherClear, otherLeg, parentOf}
-use Rattle.rules.specs.Trading.{fillRegular, freeRegular, lessRegular, putRegular, take, tradeWith}
+use Rattle.rules.specs.Trading.{fillRegular, freeRegular, lessRegular, putRegular, tradeAtPrice, tradeWith}
 use Rattle.rules.specs.Order.{atOnce, enterRegular, firstMet, hit, isMet, leggingFirst, meet, meetTurn, order, priceThenId}
 use Rattle.rules.specs.Refusals.{refusal}
 use Rattle.rules.specs.Step.{accept, answered, perform, step}
-use Rattle.demands.specs.Kept.{SoundVenue}
-use Rattle.demands.specs.Reserve.{Fill, InOrder, MakersInOrder, Stage, atLegging, atReserve, atShown, fillOf, fillsOf, noMore, ofLegging, ofReserve, ofShown, thenLegging, thenReserve}
+use Rattle.demands.specs.Soundness.{SoundVenue}
+use Rattle.demands.specs.Reserve.{Fill, InOrder, MakersInOrder, SizeKind, atLegging, atReserve, atShown, fillOf, fillsOf, noMore, ofLegging, ofReserve, ofShown, thenLegging, thenReserve}
 use Rattle.rules.proofs.Better.{better-irrefl}
 use Rattle.rules.proofs.ByPlace.{ByPlace, next, none, removed-by-place, settled-by-place}
 use Rattle.rules.proofs.Cases.{if-by, repeat-by}
@@ -43,16 +43,16 @@ use Rattle.rules.proofs.Meeting.{MetFirst, legging-alone, met-first}
 use Rattle.rules.proofs.Owning.{first-held, own-is}
 use Rattle.rules.proofs.Pairing.{pair-regular}
 use Rattle.rules.proofs.Picking.{At, Chosen, first-chosen}
-use Rattle.rules.proofs.Refusing.{Passed, accepted}
+use Rattle.rules.proofs.RefusalsLaws.{Passed, accepted}
 use Rattle.rules.proofs.Sizes.{once-left, once-shown, rests-held, rests-series, rests-side, shown-lessens, shown-rest}
-use Rattle.rules.proofs.Taking.{Chain, chain-fewer, chain-place, no-more, take-chain, traded}
+use Rattle.rules.proofs.TradingLaws.{Chain, chain-fewer, chain-place, no-more, at-price-chain, traded}
 use Rattle.rules.proofs.Tests.{and-false, and-in, and-l, and-r, free-none, held-pos}
 use Rattle.demands.proofs.Admitting.{Joins, at-i, order-admitted, order-ready, withOrder}
-use Rattle.demands.proofs.Carrying.{Carries, TurnOk, fine-after, opposite-not}
-use Rattle.demands.proofs.Entering.{Ready, emptied, legging-is, meetTurn-ok}
+use Rattle.demands.proofs.ComplexCarries.{Carries, TurnOk, fine-after, opposite-not}
+use Rattle.demands.proofs.OrderCarries.{Ready, emptied, legging-is, meetTurn-ok}
 use Rattle.demands.proofs.Homes.{Fine, Invariant, good-rr, home-held, parent-found}
 use Rattle.demands.proofs.Messages.{order-joins}
-use Rattle.demands.proofs.Soundness.{sound-out}
+use Rattle.demands.proofs.SoundnessLaws.{sound-out}
 
 -- Trades among records ------------------------------------------------------------------------
 
@@ -114,7 +114,7 @@ rests-in s e o h a b = rw (h, eq-eqb (o .series) s a, eq-eqb (o .side) e b)
 -- no more reserve, and no more shown, than at first
 record Less (a o : Regular) : Type 0 where
   reserve : a .reserve ≤ o .reserve
-  shows : shown a ≤ shown o
+  shows : shownSize a ≤ shownSize o
 
 less-refl : (o : Regular) → Less o o
 less-refl o = record { reserve = omega arith; shows = omega arith }
@@ -134,9 +134,9 @@ record Enters (x i s d : ℕ) (v u : Venue) : Type 0 where
   legging : lg u (placeOf s (opposite d)) ≡ lg v (placeOf s (opposite d))
 
 -- what is left of one order comes after what was traded, by stage and id
-abbrev Ahead : Stage → (low : ℕ) → Regular → Type 0
-Ahead atShown low o = held (shown o) ≡ true → low ≤ o .id
-Ahead atReserve low o = (held (shown o) ≡ false) × (low ≤ o .id)
+abbrev Ahead : SizeKind → (low : ℕ) → Regular → Type 0
+Ahead atShown low o = held (shownSize o) ≡ true → low ≤ o .id
+Ahead atReserve low o = (held (shownSize o) ≡ false) × (low ≤ o .id)
 Ahead atLegging low o = ⊥
 
 module _ {x i s d : ℕ} {v u : Venue} (b : Enters x i s d v u) (p : ℕ) where
@@ -156,7 +156,7 @@ module _ {x i s d : ℕ} {v u : Venue} (b : Enters x i s d v u) (p : ℕ) where
     legging : held (lg w place .quantity) ≡ true → lg w place ≡ lg u place
 
   -- what rests at the price is ahead, unless the order is filled
-  data Left (w : Venue) (t : Stage) (low : ℕ) : Type 0 where
+  data Left (w : Venue) (t : SizeKind) (low : ℕ) : Type 0 where
     done : held (reg w i .quantity) ≡ false → Left w t low
     on : ((n : ℕ) → restsAt s e (reg w n) ≡ true → reg w n .price ≡ p → Ahead t low (reg w n)) → Left w t low
 
@@ -166,9 +166,9 @@ module _ {x i s d : ℕ} {v u : Venue} (b : Enters x i s d v u) (p : ℕ) where
     legging : held (lg w place .quantity) ≡ true → ⊥
 
   -- what a turn traded there, and what is left then
-  data Step (w : Venue) (t : Stage) (low : ℕ) : List Fill → Type 0 where
+  data Step (w : Venue) (t : SizeKind) (low : ℕ) : List Fill → Type 0 where
     silent : Left w t low → Step w t low []
-    filled : {f : Fill} (t′ : Stage) (low′ : ℕ) → ((rest : List Fill) → InOrder v s e p t′ low′ rest → InOrder v s e p t low (f ∷ rest)) → Left w t′ low′ → Step w t low (f ∷ [])
+    filled : {f : Fill} (t′ : SizeKind) (low′ : ℕ) → ((rest : List Fill) → InOrder v s e p t′ low′ rest → InOrder v s e p t low (f ∷ rest)) → Left w t′ low′ → Step w t low (f ∷ [])
     last : {f : Fill} → InOrder v s e p t low (f ∷ []) → Quiet w → Step w t low (f ∷ [])
 
   module _ (w : Venue) (t : Later w) where
@@ -201,9 +201,9 @@ module _ {x i s d : ℕ} {v u : Venue} (b : Enters x i s d v u) (p : ℕ) where
       unfolding regularAt
       same-price = sym (t .regular .lesser n .price ∙ ap (λ (o : Regular). o .price) was)
 
-      fewer-shown : shown (reg w n) ≤ shown (regularAt v n)
+      fewer-shown : shownSize (reg w n) ≤ shownSize (regularAt v n)
       unfolding regularAt
-      fewer-shown = subst (λ (o : Regular). shown (reg w n) ≤ shown o) was (t .sizes n (apart n h) (rests-series s e (reg w n) h) .shows)
+      fewer-shown = subst (λ (o : Regular). shownSize (reg w n) ≤ shownSize o) was (t .sizes n (apart n h) (rests-series s e (reg w n) h) .shows)
 
       fewer-reserve : reg w n .reserve ≤ regularAt v n .reserve
       unfolding regularAt
@@ -297,9 +297,9 @@ module _ {x i s d : ℕ} {v u : Venue} (b : Enters x i s d v u) (p : ℕ) where
       price-o = ap (λ (r : Regular). r .price) (a .at)
 
       -- of those beside it that show as it does none is earlier
-      later-id : (m : ℕ) → restsAt s e (reg w m) ≡ true → reg w m .price ≡ reg w n .price → m ≢ n → held (shown (reg w m)) ≡ held (shown (reg w n)) → suc (reg w n .id) ≤ reg w m .id
+      later-id : (m : ℕ) → restsAt s e (reg w m) ≡ true → reg w m .price ≡ reg w n .price → m ≢ n → held (shownSize (reg w m)) ≡ held (shownSize (reg w n)) → suc (reg w n .id) ≤ reg w m .id
       later-id m h q ne z =
-          let y = chosen .early m (is-met m h (q ∙ price-o)) (q ∙ price-o) (z ∙ ap (λ (r : Regular). held (shown r)) (a .at)) in
+          let y = chosen .early m (is-met m h (q ∙ price-o)) (q ∙ price-o) (z ∙ ap (λ (r : Regular). held (shownSize r)) (a .at)) in
           let k = ap (λ (r : Regular). r .id) (a .at) in
           go (ℕ-discrete (reg w n .id) (reg w m .id)) (omega arith)
         where
@@ -308,18 +308,18 @@ module _ {x i s d : ℕ} {v u : Venue} (b : Enters x i s d v u) (p : ℕ) where
           go (no k) le = omega arith
 
       -- where it shows none, none beside it does
-      none-shows : held (shown (reg w n)) ≡ false → (m : ℕ) → restsAt s e (reg w m) ≡ true → reg w m .price ≡ reg w n .price → held (shown (reg w m)) ≡ false
-      none-shows z m h q = chosen .shows m (is-met m h (q ∙ price-o)) (q ∙ price-o) (sym (ap (λ (r : Regular). held (shown r)) (a .at)) ∙ z)
+      none-shows : held (shownSize (reg w n)) ≡ false → (m : ℕ) → restsAt s e (reg w m) ≡ true → reg w m .price ≡ reg w n .price → held (shownSize (reg w m)) ≡ false
+      none-shows z m h q = chosen .shows m (is-met m h (q ∙ price-o)) (q ∙ price-o) (sym (ap (λ (r : Regular). held (shownSize r)) (a .at)) ∙ z)
 
       once-is : atOnce o ≡ atOnce (reg w n)
       once-is = ap atOnce (sym (a .at))
 
       -- At another price
-      elsewhere : reg w n .price ≢ p → (stage : Stage) (low : ℕ) → Left w stage low → Step after stage low []
-      elsewhere ne stage low (done z) = absurd (true≢false (sym hi ∙ z))
-      elsewhere ne stage low (on g) = silent (on (λ m h q.
+      elsewhere : reg w n .price ≢ p → (kind : SizeKind) (low : ℕ) → Left w kind low → Step after kind low []
+      elsewhere ne kind low (done z) = absurd (true≢false (sym hi ∙ z))
+      elsewhere ne kind low (on g) = silent (on (λ m h q.
           let y = stays m h (λ k. ne (sym (ap (λ (r : ℕ). reg w r .price) k) ∙ sym (fewer .lesser m .price) ∙ q)) in
-          subst (Ahead stage low) (sym y) (g m (rests-before m h) (sym (fewer .lesser m .price) ∙ q))))
+          subst (Ahead kind low) (sym y) (g m (rests-before m h) (sym (fewer .lesser m .price) ∙ q))))
 
       -- At the price
       module _ (here : reg w n .price ≡ p) where
@@ -330,29 +330,29 @@ module _ {x i s d : ℕ} {v u : Venue} (b : Enters x i s d v u) (p : ℕ) where
         fill = record { maker = regularAt v n .id; quantity = size }
 
         -- of what it shows
-        module _ (shows : held (shown (reg w n)) ≡ true) where
-          once : atOnce o ≡ shown (reg w n)
+        module _ (shows : held (shownSize (reg w n)) ≡ true) where
+          once : atOnce o ≡ shownSize (reg w n)
           once = once-is ∙ once-shown (reg w n) shows
 
           left-shown : Left after atShown (suc (regularAt v n .id))
-          left-shown = go (decLe (shown (reg w n)) (reg w i .quantity))
+          left-shown = go (decLe (shownSize (reg w n)) (reg w i .quantity))
             where
-              go : Dec (shown (reg w n) ≤ reg w i .quantity) → Left after atShown (suc (regularAt v n .id))
-              go (yes le) = on (λ m h q. subst (λ (y : ℕ). held (shown (reg after m)) ≡ true → suc y ≤ reg after m .id) (sym (same-id n rests)) (of m h q (ℕ-discrete m n)))
+              go : Dec (shownSize (reg w n) ≤ reg w i .quantity) → Left after atShown (suc (regularAt v n .id))
+              go (yes le) = on (λ m h q. subst (λ (y : ℕ). held (shownSize (reg after m)) ≡ true → suc y ≤ reg after m .id) (sym (same-id n rests)) (of m h q (ℕ-discrete m n)))
                 where
-                  of : (m : ℕ) → restsAt s e (reg after m) ≡ true → reg after m .price ≡ p → Dec (m ≡ n) → held (shown (reg after m)) ≡ true → suc (reg w n .id) ≤ reg after m .id
+                  of : (m : ℕ) → restsAt s e (reg after m) ≡ true → reg after m .price ≡ p → Dec (m ≡ n) → held (shownSize (reg after m)) ≡ true → suc (reg w n .id) ≤ reg after m .id
                   of m h q (yes z) sh =
-                      let y = held-pos (shown (reg after m)) sh in
-                      let k = ap (λ (r : ℕ). shown (reg after r)) z ∙ ap shown at-n ∙ shown-lessens size (reg w n) in
+                      let y = held-pos (shownSize (reg after m)) sh in
+                      let k = ap (λ (r : ℕ). shownSize (reg after r)) z ∙ ap shownSize at-n ∙ shown-lessens size (reg w n) in
                       absurd (let c = once in omega arith)
                   of m h q (no z) sh =
                       let y = stays m h z in
                       subst (λ (r : Regular). suc (reg w n .id) ≤ r .id) (sym y)
-                      (later-id m (rests-before m h) (beside m q) z (sym (ap (λ (r : Regular). held (shown r)) y) ∙ sh ∙ sym shows))
+                      (later-id m (rests-before m h) (beside m q) z (sym (ap (λ (r : Regular). held (shownSize r)) y) ∙ sh ∙ sym shows))
               go (no gt) = done (let y = left-i in let c = once in let z : reg after i .quantity ≡ 0 = omega arith in ap held z)
 
-          at-shown : (stage : Stage) (low : ℕ) → Left w stage low → Step after stage low (fill ∷ [])
-          at-shown stage low (done z) = absurd (true≢false (sym hi ∙ z))
+          at-shown : (kind : SizeKind) (low : ℕ) → Left w kind low → Step after kind low (fill ∷ [])
+          at-shown kind low (done z) = absurd (true≢false (sym hi ∙ z))
           at-shown atShown low (on g) =
               filled atShown (suc (regularAt v n .id))
               (λ rest r. ofShown n size (rested n rests) (same-price n rests ∙ here) (subst (λ (y : ℕ). low ≤ y) (sym (same-id n rests)) (g n rests here shows))
@@ -362,7 +362,7 @@ module _ {x i s d : ℕ} {v u : Venue} (b : Enters x i s d v u) (p : ℕ) where
           at-shown atLegging low (on g) = absurd (g n rests here)
 
         -- of its reserve
-        module _ (shows : held (shown (reg w n)) ≡ false) where
+        module _ (shows : held (shownSize (reg w n)) ≡ false) where
           once-all : atOnce o ≡ reg w n .quantity
           once-all = once-is ∙ once-left (reg w n) shows
 
@@ -370,9 +370,9 @@ module _ {x i s d : ℕ} {v u : Venue} (b : Enters x i s d v u) (p : ℕ) where
           left-reserve = go (decLe (reg w n .quantity) (reg w i .quantity))
             where
               go : Dec (reg w n .quantity ≤ reg w i .quantity) → Left after atReserve (suc (regularAt v n .id))
-              go (yes le) = on (λ m h q. subst (λ (y : ℕ). (held (shown (reg after m)) ≡ false) × (suc y ≤ reg after m .id)) (sym (same-id n rests)) (of m h q (ℕ-discrete m n)))
+              go (yes le) = on (λ m h q. subst (λ (y : ℕ). (held (shownSize (reg after m)) ≡ false) × (suc y ≤ reg after m .id)) (sym (same-id n rests)) (of m h q (ℕ-discrete m n)))
                 where
-                  of : (m : ℕ) → restsAt s e (reg after m) ≡ true → reg after m .price ≡ p → Dec (m ≡ n) → (held (shown (reg after m)) ≡ false) × (suc (reg w n .id) ≤ reg after m .id)
+                  of : (m : ℕ) → restsAt s e (reg after m) ≡ true → reg after m .price ≡ p → Dec (m ≡ n) → (held (shownSize (reg after m)) ≡ false) × (suc (reg w n .id) ≤ reg after m .id)
                   of m h q (yes z) =
                       let y = held-pos (reg after m .quantity) (rests-held s e (reg after m) h) in
                       let k : reg after m .quantity ≡ reg w n .quantity - size = ap (λ (r : ℕ). reg after r .quantity) z ∙ (unfold lessRegular in (ap (λ (r : Regular). r .quantity) at-n)) in
@@ -380,7 +380,7 @@ module _ {x i s d : ℕ} {v u : Venue} (b : Enters x i s d v u) (p : ℕ) where
                   of m h q (no z) =
                       let y = stays m h z in
                       let not-shown = none-shows shows m (rests-before m h) (beside m q) in
-                      subst (λ (r : Regular). (held (shown r) ≡ false) × (suc (reg w n .id) ≤ r .id)) (sym y)
+                      subst (λ (r : Regular). (held (shownSize r) ≡ false) × (suc (reg w n .id) ≤ r .id)) (sym y)
                       (not-shown, later-id m (rests-before m h) (beside m q) z (not-shown ∙ sym shows))
               go (no gt) = done (let y = left-i in let c = once-all in let z : reg after i .quantity ≡ 0 = omega arith in ap held z)
 
@@ -389,11 +389,11 @@ module _ {x i s d : ℕ} {v u : Venue} (b : Enters x i s d v u) (p : ℕ) where
               let c = once-all in
               let y = fewer-reserve n rests in
               let k = shown-rest (reg w n) in
-              let z = free-none (shown (reg w n)) shows in
+              let z = free-none (shownSize (reg w n)) shows in
               omega arith
 
-          at-reserve : (stage : Stage) (low : ℕ) → Left w stage low → Step after stage low (fill ∷ [])
-          at-reserve stage low (done z) = absurd (true≢false (sym hi ∙ z))
+          at-reserve : (kind : SizeKind) (low : ℕ) → Left w kind low → Step after kind low (fill ∷ [])
+          at-reserve kind low (done z) = absurd (true≢false (sym hi ∙ z))
           at-reserve atShown low (on g) =
               filled atReserve (suc (regularAt v n .id))
               (λ rest r. thenReserve (ofReserve {low = 0} n size (rested n rests) (same-price n rests ∙ here) (omega arith) few-reserve r)) left-reserve
@@ -402,23 +402,23 @@ module _ {x i s d : ℕ} {v u : Venue} (b : Enters x i s d v u) (p : ℕ) where
               (λ rest r. ofReserve n size (rested n rests) (same-price n rests ∙ here) (subst (λ (y : ℕ). low ≤ y) (sym (same-id n rests)) (g n rests here .1)) few-reserve r) left-reserve
           at-reserve atLegging low (on g) = absurd (g n rests here)
 
-        at-price : (stage : Stage) (low : ℕ) → Left w stage low → Step after stage low (fill ∷ [])
-        at-price stage low l = go (held (shown (reg w n))) refl
+        at-price : (kind : SizeKind) (low : ℕ) → Left w kind low → Step after kind low (fill ∷ [])
+        at-price kind low l = go (held (shownSize (reg w n))) refl
           where
-            go : (y : Bool) → held (shown (reg w n)) ≡ y → Step after stage low (fill ∷ [])
-            go true z = at-shown z stage low l
-            go false z = at-reserve z stage low l
+            go : (y : Bool) → held (shownSize (reg w n)) ≡ y → Step after kind low (fill ∷ [])
+            go true z = at-shown z kind low l
+            go false z = at-reserve z kind low l
 
-      meets : (stage : Stage) (low : ℕ) → Left w stage low → Step (meet i n size w .venue) stage low (fillsOf x p (meet i n size w .reports))
-      meets stage low l =
-          subst (λ (y : Venue). Step y stage low (fillsOf x p (meet i n size w .reports))) (sym left)
-          (subst (Step after stage low) (sym fills) (go (ℕ-discrete (reg w n .price) p)))
+      meets : (kind : SizeKind) (low : ℕ) → Left w kind low → Step (meet i n size w .venue) kind low (fillsOf x p (meet i n size w .reports))
+      meets kind low l =
+          subst (λ (y : Venue). Step y kind low (fillsOf x p (meet i n size w .reports))) (sym left)
+          (subst (Step after kind low) (sym fills) (go (ℕ-discrete (reg w n .price) p)))
         where
-          go : Dec (reg w n .price ≡ p) → Step after stage low (fillOf x p (trade (reg w n .series) (reg w i .side) (reg w n .price) size (reg w i .id) (reg w n .id)))
+          go : Dec (reg w n .price ≡ p) → Step after kind low (fillOf x p (trade (reg w n .series) (reg w i .side) (reg w n .price) size (reg w i .id) (reg w n .id)))
           go (yes z) =
-              subst (Step after stage low) (sym (one-fill x p _ _ _ size _ _ own-id z))
-              (subst (λ (m : ℕ). Step after stage low (record { maker = m; quantity = size } ∷ [])) (same-id n rests) (at-price z stage low l))
-          go (no z) = subst (Step after stage low) (sym (other-price x p _ _ _ size _ _ z)) (elsewhere z stage low l)
+              subst (Step after kind low) (sym (one-fill x p _ _ _ size _ _ own-id z))
+              (subst (λ (m : ℕ). Step after kind low (record { maker = m; quantity = size } ∷ [])) (same-id n rests) (at-price z kind low l))
+          go (no z) = subst (Step after kind low) (sym (other-price x p _ _ _ size _ _ z)) (elsewhere z kind low l)
 
     -- The legging order is hit
     module _ (hi : held (reg w i .quantity) ≡ true) (hl : held (lg w place .quantity) ≡ true) where
@@ -447,7 +447,7 @@ module _ {x i s d : ℕ} {v u : Venue} (b : Enters x i s d v u) (p : ℕ) where
       hit-fill : fillsOf x p (hit i l k w .reports) ≡ fillOf x p (trade (reg w i .series) (reg w i .side) (l .price) k (reg w i .id) (c .id))
       hit-fill =
           ap (fillsOf x p) (hit-is w i k l other-leg)
-          ∙ hit-fills x p _ _ _ _ _ _ (chain-none x p not-taker (take-chain (c .id) _ _ _ k k w)) (removes-none x p (c .id) Executed w)
+          ∙ hit-fills x p _ _ _ _ _ _ (chain-none x p not-taker (at-price-chain (c .id) _ _ _ k k w)) (removes-none x p (c .id) Executed w)
 
       abbrev other-series : ℕ
       other-series = otherLeg c (reg w i .series) .series
@@ -458,8 +458,8 @@ module _ {x i s d : ℕ} {v u : Venue} (b : Enters x i s d v u) (p : ℕ) where
       abbrev clear : ℕ
       clear = otherClear w c (reg w i .series)
 
-      chain : Chain (c .id) other-series other-side clear (fillRegular i k w) (take k (c .id) other-series other-side clear k (fillRegular i k w) .reports) (hitting w i k l)
-      chain = take-chain (c .id) other-series other-side clear k k (fillRegular i k w)
+      chain : Chain (c .id) other-series other-side clear (fillRegular i k w) (tradeAtPrice k (c .id) other-series other-side clear k (fillRegular i k w) .reports) (hitting w i k l)
+      chain = at-price-chain (c .id) other-series other-side clear k k (fillRegular i k w)
 
       same-regular : hit i l k w .venue .regular ≡ hitting w i k l .regular
       same-regular = ap (λ (y : Venue). y .regular) (hit-venue w i k l) ∙ pair-regular _ (c .id) _ k (hitting w i k l)
@@ -513,7 +513,7 @@ module _ {x i s d : ℕ} {v u : Venue} (b : Enters x i s d v u) (p : ℕ) where
         of-legging : l .price ≡ p → (low : ℕ) → InOrder v s e p atLegging low (struck ∷ [])
         of-legging z low = ofLegging k (ap (λ (y : Legging). y .price) legging-was ∙ z) (subst (λ (y : Legging). k ≤ y .quantity) (sym legging-was) (omega arith))
 
-        ordered : l .price ≡ p → (stage : Stage) (low : ℕ) → InOrder v s e p stage low (struck ∷ [])
+        ordered : l .price ≡ p → (kind : SizeKind) (low : ℕ) → InOrder v s e p kind low (struck ∷ [])
         ordered z atShown low = thenReserve (thenLegging (of-legging z 0))
         ordered z atReserve low = thenLegging (of-legging z 0)
         ordered z atLegging low = of-legging z low
@@ -521,20 +521,20 @@ module _ {x i s d : ℕ} {v u : Venue} (b : Enters x i s d v u) (p : ℕ) where
         quiet : l .price ≡ p → Quiet (hit i l k w .venue)
         quiet z = record { regular = λ m h y. none-beside m (rested-hit m h) (sym (hit-fewer .lesser m .price) ∙ y ∙ sym z); legging = gone }
 
-        stays-left : (stage : Stage) (low : ℕ) → Left w stage low → Left (hit i l k w .venue) stage low
-        stays-left stage low (done z) = absurd (true≢false (sym hi ∙ z))
-        stays-left stage low (on g) = on (λ m h y.
+        stays-left : (kind : SizeKind) (low : ℕ) → Left w kind low → Left (hit i l k w .venue) kind low
+        stays-left kind low (done z) = absurd (true≢false (sym hi ∙ z))
+        stays-left kind low (on g) = on (λ m h y.
             let r = rested-hit m h in
-            subst (Ahead stage low) (sym (same-there m (apart m r) (rests-series s e (reg w m) r))) (g m r (sym (hit-fewer .lesser m .price) ∙ y)))
+            subst (Ahead kind low) (sym (same-there m (apart m r) (rests-series s e (reg w m) r))) (g m r (sym (hit-fewer .lesser m .price) ∙ y)))
 
-        strikes : (stage : Stage) (low : ℕ) → Left w stage low → Step (hit i l k w .venue) stage low (fillsOf x p (hit i l k w .reports))
-        strikes stage low lf = subst (Step (hit i l k w .venue) stage low) (sym hit-fill) (go (ℕ-discrete (l .price) p))
+        strikes : (kind : SizeKind) (low : ℕ) → Left w kind low → Step (hit i l k w .venue) kind low (fillsOf x p (hit i l k w .reports))
+        strikes kind low lf = subst (Step (hit i l k w .venue) kind low) (sym hit-fill) (go (ℕ-discrete (l .price) p))
           where
-            go : Dec (l .price ≡ p) → Step (hit i l k w .venue) stage low (fillOf x p (trade (reg w i .series) (reg w i .side) (l .price) k (reg w i .id) (c .id)))
+            go : Dec (l .price ≡ p) → Step (hit i l k w .venue) kind low (fillOf x p (trade (reg w i .series) (reg w i .side) (l .price) k (reg w i .id) (c .id)))
             go (yes z) =
-                subst (Step (hit i l k w .venue) stage low) (sym (one-fill x p _ _ _ k _ _ own-id z))
-                (subst (λ (m : ℕ). Step (hit i l k w .venue) stage low (record { maker = m; quantity = k } ∷ [])) maker-was (last (ordered z stage low) (quiet z)))
-            go (no z) = subst (Step (hit i l k w .venue) stage low) (sym (other-price x p _ _ _ k _ _ z)) (silent (stays-left stage low lf))
+                subst (Step (hit i l k w .venue) kind low) (sym (one-fill x p _ _ _ k _ _ own-id z))
+                (subst (λ (m : ℕ). Step (hit i l k w .venue) kind low (record { maker = m; quantity = k } ∷ [])) maker-was (last (ordered z kind low) (quiet z)))
+            go (no z) = subst (Step (hit i l k w .venue) kind low) (sym (other-price x p _ _ _ k _ _ z)) (silent (stays-left kind low lf))
 
     -- A turn
     abbrev its-legging : Legging
@@ -597,14 +597,14 @@ module _ {x i s d : ℕ} {v u : Venue} (b : Enters x i s d v u) (p : ℕ) where
     more-hit : (hi : held (reg w i .quantity) ≡ true) (hl : held (lg w place .quantity) ≡ true) → More (hit i (lg w place) (min (reg w i .quantity) (lg w place .quantity)) w .venue)
     more-hit hi hl = record { sizes = sizes-hit hi hl; legging = λ h. absurd (gone hi hl h) }
 
-    abbrev TurnStep : Stage → (low : ℕ) → Turn → Type 0
-    TurnStep stage low ended = Unit {0}
-    TurnStep stage low (turned y) = Step (y .venue) stage low (fillsOf x p (y .reports)) × More (y .venue)
+    abbrev TurnStep : SizeKind → (low : ℕ) → Turn → Type 0
+    TurnStep kind low ended = Unit {0}
+    TurnStep kind low (turned y) = Step (y .venue) kind low (fillsOf x p (y .reports)) × More (y .venue)
 
-    turn-step : (stage : Stage) (low : ℕ) → Left w stage low → TurnStep stage low (meetTurn i w)
-    turn-step stage low lf =
-        turn-cases (TurnStep stage low) tt (λ hi hl q fi alone. (strikes hi hl q fi alone stage low lf, more-hit hi hl))
-        (λ hi n o a is. (meets hi n o a is stage low lf, more-meet hi n o a is))
+    turn-step : (kind : SizeKind) (low : ℕ) → Left w kind low → TurnStep kind low (meetTurn i w)
+    turn-step kind low lf =
+        turn-cases (TurnStep kind low) tt (λ hi hl q fi alone. (strikes hi hl q fi alone kind low lf, more-hit hi hl))
+        (λ hi n o a is. (meets hi n o a is kind low lf, more-meet hi n o a is))
 
     -- a turn where nothing is left at the price
     abbrev QuietTurn : Turn → Type 0
@@ -653,21 +653,21 @@ module _ {x i s d : ℕ} {v u : Venue} (b : Enters x i s d v u) (p : ℕ) where
       let q = subst (QuietTurn w t) is (quiet-turn w t z) in
       then-fills y _ ∙ ap (λ (l : List Fill). l ++ fillsOf x p (repeat fuel (meetTurn i) (y .venue) .reports)) (q .0) ∙ all-quiet fuel (y .venue) (later w t y k (q .2)) (q .1))
 
-  joined : (w : Venue) (stage : Stage) (low : ℕ) (fs rest : List Fill) → Step w stage low fs →
-      ((stage′ : Stage) (low′ : ℕ) → Left w stage′ low′ → InOrder v s e p stage′ low′ rest) → (Quiet w → rest ≡ []) → InOrder v s e p stage low (fs ++ rest)
-  joined w stage low fs rest (silent on-left) ih nil = ih stage low on-left
-  joined w stage low fs rest (filled {f} stage′ low′ g on-left) ih nil = g rest (ih stage′ low′ on-left)
-  joined w stage low fs rest (last {f} g q) ih nil = subst (λ (r : List Fill). InOrder v s e p stage low (f ∷ r)) (sym (nil q)) g
+  joined : (w : Venue) (kind : SizeKind) (low : ℕ) (fs rest : List Fill) → Step w kind low fs →
+      ((stage′ : SizeKind) (low′ : ℕ) → Left w stage′ low′ → InOrder v s e p stage′ low′ rest) → (Quiet w → rest ≡ []) → InOrder v s e p kind low (fs ++ rest)
+  joined w kind low fs rest (silent on-left) ih nil = ih kind low on-left
+  joined w kind low fs rest (filled {f} stage′ low′ g on-left) ih nil = g rest (ih stage′ low′ on-left)
+  joined w kind low fs rest (last {f} g q) ih nil = subst (λ (r : List Fill). InOrder v s e p kind low (f ∷ r)) (sym (nil q)) g
 
-  all-turns : (fuel : ℕ) (w : Venue) (stage : Stage) (low : ℕ) → Later w → Left w stage low → InOrder v s e p stage low (fillsOf x p (repeat fuel (meetTurn i) w .reports))
-  all-turns zero w stage low t l = unfold repeat in (rw (nothing-fills w) noMore)
-  all-turns (suc fuel) w stage low t l =
-      repeat-by (λ (y : Effect). InOrder v s e p stage low (fillsOf x p (y .reports))) fuel (meetTurn i) w (λ _. rw (nothing-fills w) noMore)
+  all-turns : (fuel : ℕ) (w : Venue) (kind : SizeKind) (low : ℕ) → Later w → Left w kind low → InOrder v s e p kind low (fillsOf x p (repeat fuel (meetTurn i) w .reports))
+  all-turns zero w kind low t l = unfold repeat in (rw (nothing-fills w) noMore)
+  all-turns (suc fuel) w kind low t l =
+      repeat-by (λ (y : Effect). InOrder v s e p kind low (fillsOf x p (y .reports))) fuel (meetTurn i) w (λ _. rw (nothing-fills w) noMore)
       (λ y is.
       let k = subst (TurnOk (Ready i s d) w) is (meetTurn-ok i s d w (t .fine) (t .ready)) in
-      let q = subst (TurnStep w t stage low) is (turn-step w t stage low l) in
+      let q = subst (TurnStep w t kind low) is (turn-step w t kind low l) in
       let after = later w t y k (q .1) in
-      rw (then-fills y (repeat fuel (meetTurn i))) (joined (y .venue) stage low (fillsOf x p (y .reports)) (fillsOf x p (repeat fuel (meetTurn i) (y .venue) .reports)) (q .0)
+      rw (then-fills y (repeat fuel (meetTurn i))) (joined (y .venue) kind low (fillsOf x p (y .reports)) (fillsOf x p (repeat fuel (meetTurn i) (y .venue) .reports)) (q .0)
       (λ stage′ low′ l′. all-turns fuel (y .venue) stage′ low′ after l′) (λ z. all-quiet fuel (y .venue) after z)))
 
 -- Every message -------------------------------------------------------------------------------

@@ -29,7 +29,7 @@ use Rattle.rules.specs.Sound.{follows}
 use Rattle.rules.specs.Sums.{cancelledOf, contracts, crossedFor, paired, total}
 use Rattle.rules.proofs.AllSettled.{settle-all, settled}
 use Rattle.rules.proofs.Answering.{told}
-use Rattle.rules.proofs.Calling.{left, step-by}
+use Rattle.rules.proofs.CallsLaws.{left, step-by}
 use Rattle.rules.proofs.Cases.{if-by}
 use Rattle.rules.proofs.Dating.{some-number, step-priced, step-rises, steps-settled, steps-work}
 use Rattle.rules.proofs.Editions.{Stepped, dated-steps, steps-same}
@@ -38,7 +38,7 @@ use Rattle.rules.proofs.Finding.{where-passes}
 use Rattle.rules.proofs.Generating.{AllStand, new}
 use Rattle.rules.proofs.Ledger.{Moved, moved-silent, moved-trans, silent-nil}
 use Rattle.rules.proofs.Moving.{moves-cancelComplex, moves-cancelRegular}
-use Rattle.rules.proofs.Refusing.{Passed, accepted, wellFormed}
+use Rattle.rules.proofs.RefusalsLaws.{Passed, accepted, wellFormed}
 use Rattle.rules.proofs.Showing.{step-showing}
 use Rattle.rules.proofs.Shapes.{Sized, step-sized}
 use Rattle.rules.proofs.Traffic.{step-busy, step-reached}
@@ -46,12 +46,12 @@ use Rattle.rules.proofs.Tests.{and-l, or-r}
 use Rattle.demands.proofs.Account.{Takes}
 use Rattle.demands.proofs.Admitting.{Admitted, Joins, JoinsC, NewComplex, NewOrder, admitted-none, complex-admitted, complex-new}
 use Rattle.demands.proofs.Admitting.{order-admitted, order-new, order-ready, withComplexOrder, withOrder}
-use Rattle.demands.proofs.Carrying.{Carries, carries-then, fine-after, settle-carries, work-carries}
+use Rattle.demands.proofs.ComplexCarries.{Carries, carries-then, fine-after, settle-carries, work-carries}
 use Rattle.demands.proofs.Closed.{Ends, ends-closed, ends-here}
-use Rattle.demands.proofs.Entering.{enter-carries}
+use Rattle.demands.proofs.OrderCarries.{enter-carries}
 use Rattle.demands.proofs.Homes.{Edited, Fine, Invariant, Tidy, Uncrossed, after-complex, after-regular, good-kept, homes-fill, homes-same}
-use Rattle.demands.proofs.Making.{Stood, generate-stood, limited-stood, stood-then, sweep-stood}
-use Rattle.demands.proofs.Soundness.{range-of}
+use Rattle.demands.proofs.GenerationCarries.{Stood, generate-stood, limited-stood, stood-then, sweep-stood}
+use Rattle.demands.proofs.SoundnessLaws.{range-of}
 use Rattle.demands.proofs.Uncrossed.{uncrossed-closed, uncrossed-perform}
 
 -- Messages that bring no order ----------------------------------------------------------------

@@ -6,15 +6,15 @@ use Rattle.rules.specs.declared.Complex.{Complex}
 use Rattle.rules.specs.declared.Venue.{Venue}
 use Rattle.rules.specs.Step.{step}
 use Rattle.rules.specs.Calls.{after, called, ends, one}
-use Rattle.demands.specs.Kept.{SoundVenue}
+use Rattle.demands.specs.Soundness.{SoundVenue}
 use Rattle.demands.specs.Most.{Lengths, Parts, RoomEnough, WritesAtMost}
-use Rattle.rules.proofs.Calling.{not-exceeds, oneFrom-done}
+use Rattle.rules.proofs.CallsLaws.{not-exceeds, oneFrom-done}
 use Rattle.rules.proofs.Costs.{Apart}
 use Rattle.rules.proofs.Matching.{Housed}
 use Rattle.rules.proofs.Worth.{lengths, written}
 use Rattle.rules.proofs.Written.{places, step-writes}
 use Rattle.demands.proofs.Homes.{parent-found}
-use Rattle.demands.proofs.Soundness.{sound-out}
+use Rattle.demands.proofs.SoundnessLaws.{sound-out}
 
 pub record-lengths : Lengths
 record-lengths = lengths

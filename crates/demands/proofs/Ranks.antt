@@ -14,7 +14,7 @@ use Rattle.rules.specs.Words.{withLegging}
 use Rattle.rules.specs.Records.{Report, removed}
 use Rattle.rules.specs.Prices.{inBand}
 use Rattle.rules.specs.Removal.{goes, leavers, remove, stay, stayers}
-use Rattle.rules.specs.Standing.{bothOpen, pairs, parentOf, settle, showAgain, shownWell, stands, verdict, verdictOf}
+use Rattle.rules.specs.Standing.{bothOpen, pairs, parentOf, settle, showAgain, displayedNoWorse, stands, verdict, verdictOf}
 use Rattle.rules.proofs.Verdicts.{ladder}
 use Rattle.demands.specs.Ranks.{Unaffected, formerSettle, formerVerdict, formerVerdictOf, leftBand, recaused, retold}
 
@@ -46,7 +46,7 @@ module _ (v : Venue) where
           (if h then verdictOf v c (n / 2) (n % 2) l else Stands)
           ≡ revised (l .parent) (if h then formerVerdictOf v c (n / 2) (n % 2) l else Stands)
       go true c e =
-          ranks (l .parent) (shownWell v (n / 2) (n % 2) (l .price)) (inBand v c (c .limit)) (pairs v c (n / 2) (n % 2) (l .price) (l .quantity)) (bothOpen v c) e
+          ranks (l .parent) (displayedNoWorse v (n / 2) (n % 2) (l .price)) (inBand v c (c .limit)) (pairs v c (n / 2) (n % 2) (l .price) (l .quantity)) (bothOpen v c) e
       go false c e = refl
 
   revised-stands : (id : ℕ) (x : Verdict) → stands (revised id x) ≡ stands x

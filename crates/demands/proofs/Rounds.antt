@@ -15,12 +15,12 @@ use Rattle.demands.specs.LimitedSweeps.{InTurn, Rises, lastOf, none, oth
 -- By turns ------------------------------------------------------------------------------------
 
 -- going up from p to z, w is not passed over
-abbrev pub Clear : (p z w : ℕ) → Type 0
-Clear p z w = p < w → z ≤ w
+abbrev pub NoneBetween : (p z w : ℕ) → Type 0
+NoneBetween p z w = p < w → z ≤ w
 
 -- from p to z, x and y not passed over: upwards, or from the highest to the lowest
 pub data Hop (x y p z : ℕ) : Type 0 where
-  up : p < z → Clear p z x → Clear p z y → Hop x y p z
+  up : p < z → NoneBetween p z x → NoneBetween p z y → Hop x y p z
   over : x ≤ p → y ≤ p → z ≤ x → z ≤ y → Hop x y p z
 
 -- one id after another, from p on
@@ -92,8 +92,8 @@ module _ (x y : ℕ) (f : ℕ → Bool) (start : ℕ) (gap : (p t w : ℕ) → s
   abbrev Comes : (p w : ℕ) → List ℕ → Type 0
   Comes p w is = p < w → f w ≡ true → List·Memᴰ w is
 
-  clear : (p t w : ℕ) (is : List ℕ) → start ≤ p → f t ≡ true → Rises t is → Comes p w (t ∷ is) → Clear p t w
-  clear p t w is s e r c l = go (f w) refl
+  none-between : (p t w : ℕ) (is : List ℕ) → start ≤ p → f t ≡ true → Rises t is → Comes p w (t ∷ is) → NoneBetween p t w
+  none-between p t w is s e r c l = go (f w) refl
     where
       go : (b : Bool) → f w ≡ b → t ≤ w
       go true h = lowest t w is r (c l h)
@@ -118,7 +118,7 @@ module _ (x y : ℕ) (f : ℕ → Bool) (start : ℕ) (gap : (p t w : ℕ) → s
           Path x y p ((if b then t ∷ keep f is else keep f is) ++ rest)
       go true e on =
           let lt = i t (r .0) e in (
-            up lt (clear p t x is s e (r .1) cx) (clear p t y is s e (r .1) cy),
+            up lt (none-between p t x is s e (r .1) cx) (none-between p t y is s e (r .1) cy),
             on t (omega arith) (λ u l _. l) (taken p t x is lt cx) (taken p t y is lt cy) k,
           )
       go false e on = on p s (λ u l h. i u (let a = r .0 in omega arith) h) (skipped p t x is e cx) (skipped p t y is e cy) k

@@ -25,10 +25,10 @@ use Rattle.rules.specs.Words.{complexAt, noRegular, regularAt, withComplex, wit
 use Rattle.rules.specs.Messages.{messageOf}
 use Rattle.rules.specs.Records.{Report, cancelled, crossed, generated, looked, pair, trade}
 use Rattle.rules.specs.Effects.{Effect, Turn, _⟫_, ended, nothing, repeat, report, turned}
-use Rattle.rules.specs.Prices.{shown}
+use Rattle.rules.specs.Prices.{shownSize}
 use Rattle.rules.specs.Removal.{remove, removeOf}
 use Rattle.rules.specs.Standing.{settle}
-use Rattle.rules.specs.Trading.{fillComplex, fillRegular, freeRegular, lessRegular, pairOff, putComplex, putRegular, take, tradeWith}
+use Rattle.rules.specs.Trading.{fillComplex, fillRegular, freeRegular, lessRegular, pairOff, putComplex, putRegular, tradeAtPrice, tradeWith}
 use Rattle.rules.specs.Order.{enterRegular, hit, meet, meetTurn, order}
 use Rattle.rules.specs.Generation.{generate, generateLeg, make, makes}
 use Rattle.rules.specs.Complex.{anyClosed, cancel, cancelComplex, cancelRegular, complex, cross, crossTurn, each, eachOf, legIn, legInTurn, legsIn}
@@ -36,25 +36,25 @@ use Rattle.rules.specs.Complex.{limitedSweep, restsRegular, sweep, touch, touch
 use Rattle.rules.specs.Refusals.{full, idTooLow, refusal}
 use Rattle.rules.specs.Step.{accept, answered, perform, step}
 use Rattle.rules.specs.Sums.{openIn, total}
-use Rattle.demands.specs.Kept.{SoundVenue}
+use Rattle.demands.specs.Soundness.{SoundVenue}
 use Rattle.demands.specs.Reserve.{ShownOnly, arriving, takenFrom}
 use Rattle.rules.proofs.Adding.{leavers-silent, open-alone, open-less, open-set, total-append}
 use Rattle.rules.proofs.Cases.{crossTurn-by, each-by, if-by, meetTurn-by, repeat-by}
 use Rattle.rules.proofs.Again.{again-fewer}
 use Rattle.rules.proofs.Filling.{fill-fewer, fillC-regular, reg}
-use Rattle.rules.proofs.Keeping.{Lasts, hit-from, meet-from}
-use Rattle.rules.proofs.Refusing.{Passed, accepted}
+use Rattle.rules.proofs.EffectsLaws.{Lasts, hit-from, meet-from}
+use Rattle.rules.proofs.RefusalsLaws.{Passed, accepted}
 use Rattle.rules.proofs.Sizes.{shown-less, shown-lessens, shown-most}
-use Rattle.rules.proofs.Taking.{Chain, no-more, take-chain, traded}
+use Rattle.rules.proofs.TradingLaws.{Chain, no-more, at-price-chain, traded}
 use Rattle.rules.proofs.Tests.{and-false, held-pos, pos-held}
 use Rattle.demands.proofs.Homes.{Good, good-rr}
-use Rattle.demands.proofs.Soundness.{sound-out}
+use Rattle.demands.proofs.SoundnessLaws.{sound-out}
 
 -- What is taken -------------------------------------------------------------------------------
 
 -- what the orders of id y show
 abbrev showsOf : (y : ℕ) → Venue → ℕ
-showsOf y v = openIn (λ (o : Regular). o .id) shown y (v .regular)
+showsOf y v = openIn (λ (o : Regular). o .id) shownSize y (v .regular)
 
 -- taken of the orders of id y, by takers other than x
 module _ (x y : ℕ) where
@@ -74,7 +74,7 @@ module _ (x y : ℕ) where
   -- nothing is traded
   silent : (v : Venue) (e : Effect) → e .venue .regular ≡ v .regular → took (e .reports) ≡ 0 → Takes v e
   silent v e same none =
-      let z : shows (e .venue) ≡ shows v = ap (λ (l : List Regular). openIn (λ (o : Regular). o .id) shown y l) same in
+      let z : shows (e .venue) ≡ shows v = ap (λ (l : List Regular). openIn (λ (o : Regular). o .id) shownSize y l) same in
       omega arith
 
   takes-nothing : (v : Venue) → Takes v (nothing v)
@@ -104,19 +104,19 @@ module _ (x y : ℕ) where
       let b = trade-most (reg v i .series) d (reg v i .price) q z (reg v i .id) in
       omega arith
     where
-      less : (v : Venue) (i q : ℕ) → i < length (v .regular) → q ≤ shown (reg v i) → shows v ≡ shows (fillRegular i q v) + (if eqb (reg v i .id) y then q else 0)
+      less : (v : Venue) (i q : ℕ) → i < length (v .regular) → q ≤ shownSize (reg v i) → shows v ≡ shows (fillRegular i q v) + (if eqb (reg v i .id) y then q else 0)
       less v i q f le = unfold fillRegular withRegular regularAt in
-          (open-less noRegular (λ (o : Regular). o .id) shown y q (v .regular) i (lessRegular q (reg v i)) f (unfold lessRegular in refl)
+          (open-less noRegular (λ (o : Regular). o .id) shownSize y q (v .regular) i (lessRegular q (reg v i)) f (unfold lessRegular in refl)
           (shown-less q (reg v i) le))
 
-  takes-take : (z s d p fuel k : ℕ) (v : Venue) → Takes v (take fuel z s d p k v)
-  takes-take z s d p fuel k v = takes-chain (take-chain z s d p fuel k v)
+  takes-at-price : (z s d p fuel k : ℕ) (v : Venue) → Takes v (tradeAtPrice fuel z s d p k v)
+  takes-at-price z s d p fuel k v = takes-chain (at-price-chain z s d p fuel k v)
 
   shows-fill : (i k : ℕ) (v : Venue) → shows (fillRegular i k v) ≤ shows v
   unfolding fillRegular withRegular regularAt lessRegular
-  shows-fill i k v = open-set noRegular (λ (o : Regular). o .id) shown y (v .regular) i (lessRegular k (reg v i)) (go (eqb (reg v i .id) y) (shown-lessens k (reg v i)))
+  shows-fill i k v = open-set noRegular (λ (o : Regular). o .id) shownSize y (v .regular) i (lessRegular k (reg v i)) (go (eqb (reg v i .id) y) (shown-lessens k (reg v i)))
     where
-      go : (b : Bool) → shown (lessRegular k (reg v i)) ≡ shown (reg v i) - k → (if b then shown (lessRegular k (reg v i)) else 0) ≤ (if b then shown (reg v i) else 0)
+      go : (b : Bool) → shownSize (lessRegular k (reg v i)) ≡ shownSize (reg v i) - k → (if b then shownSize (lessRegular k (reg v i)) else 0) ≤ (if b then shownSize (reg v i) else 0)
       go true e = omega arith
       go false e = omega arith
 
@@ -180,7 +180,7 @@ module _ (x y : ℕ) where
     hits : (l : Legging) (k : ℕ) (v : Venue) → Own v → Takes v (hit i l k v)
     unfolding hit regularAt
     hits l k v h =
-        takes-then v _ _ (takes-then v _ _ (own-trade _ _ _ k (reg v i .id) _ i k v h) (takes-take _ _ _ _ k k _)) (pairs-off _ _ _ k _)
+        takes-then v _ _ (takes-then v _ _ (own-trade _ _ _ k (reg v i .id) _ i k v h) (takes-at-price _ _ _ _ k k _)) (pairs-off _ _ _ k _)
 
     turns : (v : Venue) → Own v → TakesTurn Own v (meetTurn i v)
     turns v h =
@@ -209,7 +209,7 @@ module _ (x y : ℕ) where
 
     legs : (a b k : ℕ) (v : Venue) → Takes v (legIn i a b k v)
     unfolding legIn
-    legs a b k v = takes-then v _ _ (takes-then v _ _ (takes-take _ _ _ _ _ _ v) (takes-take _ _ _ _ _ _ _)) (pairs-off i _ _ k _)
+    legs a b k v = takes-then v _ _ (takes-then v _ _ (takes-at-price _ _ _ _ _ _ v) (takes-at-price _ _ _ _ _ _ _)) (pairs-off i _ _ k _)
 
     leg-turns : (v : Venue) → Any v → TakesTurn Any v (legInTurn i v)
     unfolding legInTurn
@@ -308,7 +308,7 @@ module _ (x y : ℕ) where
   -- an order x that is not y is put into a place, where it has its id
   put-shows : (i : ℕ) (o : Regular) (v : Venue) → o .id ≢ y → shows (putRegular i o v) ≤ shows v
   unfolding putRegular withRegular
-  put-shows i o v ne = open-set noRegular (λ (r : Regular). r .id) shown y (v .regular) i o (rw (ne-eqb (o .id) y ne) (omega arith))
+  put-shows i o v ne = open-set noRegular (λ (r : Regular). r .id) shownSize y (v .regular) i o (rw (ne-eqb (o .id) y ne) (omega arith))
 
   put-own : (i : ℕ) (o : Regular) (v : Venue) → i < length (v .regular) → o .id ≡ x → reg (putRegular i o v) i .id ≡ x
   unfolding putRegular withRegular
@@ -341,7 +341,7 @@ module _ (x y : ℕ) where
 
   worked : (i : ℕ) (v w : Venue) → w .regular ≡ v .regular → took (work i w .reports) ≤ shows v
   worked i v w same =
-      let z : shows w ≡ shows v = ap (λ (l : List Regular). openIn (λ (o : Regular). o .id) shown y l) same in
+      let z : shows w ≡ shows v = ap (λ (l : List Regular). openIn (λ (o : Regular). o .id) shownSize y l) same in
       let a = works i w in
       omega arith
 
@@ -365,11 +365,11 @@ module _ (v : Venue) (s : SoundVenue v) (i : ℕ) (h : held (reg v i .quantity) 
   good = sound-out v s .fine .good
 
   -- no other order has its id
-  showed : showsOf (reg v i .id) v ≤ shown (reg v i)
-  showed = open-alone noRegular (λ (o : Regular). o .id) shown (reg v i .id) (v .regular) i (λ j ne q e. ne (good-rr good j i (shown-held (reg v j) q) h e))
+  showed : showsOf (reg v i .id) v ≤ shownSize (reg v i)
+  showed = open-alone noRegular (λ (o : Regular). o .id) shownSize (reg v i .id) (v .regular) i (λ j ne q e. ne (good-rr good j i (shown-held (reg v j) q) h e))
     where
-      shown-held : (o : Regular) → held (shown o) ≡ true → held (o .quantity) ≡ true
-      shown-held o q = let a = held-pos (shown o) q in let b = shown-most o in pos-held (o .quantity) (omega arith)
+      shown-held : (o : Regular) → held (shownSize o) ≡ true → held (o .quantity) ≡ true
+      shown-held o q = let a = held-pos (shownSize o) q in let b = shown-most o in pos-held (o .quantity) (omega arith)
 
   arrives : (m : Message) → Passed v m → Arrives (arriving m) (reg v i .id) m v
   unfolding arriving
@@ -387,7 +387,7 @@ module _ (v : Venue) (s : SoundVenue v) (i : ℕ) (h : held (reg v i .quantity) 
   arrives (Percent z e) p = tt
   arrives (LimitedSweep n) p = tt
 
-  most : (number : ℕ) (m : Message) → Passed v m → took (arriving m) (reg v i .id) (accept number m v .reports) ≤ shown (reg v i)
+  most : (number : ℕ) (m : Message) → Passed v m → took (arriving m) (reg v i .id) (accept number m v .reports) ≤ shownSize (reg v i)
   unfolding accept nothing _⟫_ total
   most number m p =
       let a = performed (arriving m) (reg v i .id) number m v (arrives m p) in
@@ -399,6 +399,6 @@ unfolding step answered nothing total takenFrom regularAt
 shown-only v s number bs i h = go (eqb (refusal v bs) 0) refl
   where
     go : (b : Bool) → eqb (refusal v bs) 0 ≡ b →
-        0 + took (arriving (messageOf bs)) (reg v i .id) ((if b then accept number (messageOf bs) v else nothing v) .reports) ≤ shown (reg v i)
+        0 + took (arriving (messageOf bs)) (reg v i .id) ((if b then accept number (messageOf bs) v else nothing v) .reports) ≤ shownSize (reg v i)
     go true e = let a = most v s i h number (messageOf bs) (accepted v bs (eqb-true (refusal v bs) 0 e)) in omega arith
     go false e = omega arith

@@ -17,11 +17,11 @@ use Rattle.rules.specs.declared.Venue.{Venue}
 use Rattle.rules.specs.Base.{all, held}
 use Rattle.rules.specs.Words.{isComplexOf, leggingAt, noRegular, opposite, placeOf, regularAt, withRegular}
 use Rattle.rules.specs.Settings.{increment}
-use Rattle.rules.specs.Prices.{bestIn, bestRegular, bestSize, better, clearPrice, displayed, restsAt, shown, showsAt, sizeIn}
+use Rattle.rules.specs.Prices.{bestIn, bestRegular, bestSize, better, clearPrice, displayedPrice, restsAt, shownSize, showsAt, sizeIn}
 use Rattle.rules.specs.Records.{Report, pair, trade}
 use Rattle.rules.specs.Removal.{remove, removeOf}
-use Rattle.rules.specs.Standing.{hasLeg, legNet, otherClear, otherLeg, otherSize, pairs, parentOf, shownWell, verdict}
-use Rattle.rules.specs.Trading.{fillRegular, putRegular, take}
+use Rattle.rules.specs.Standing.{hasLeg, legNet, otherClear, otherLeg, otherSize, pairs, parentOf, displayedNoWorse, verdict}
+use Rattle.rules.specs.Trading.{fillRegular, putRegular, tradeAtPrice}
 use Rattle.rules.specs.Order.{hit}
 use Rattle.rules.specs.Calls.{one}
 use Rattle.demands.specs.Demand.{FromResting, Hit, Standing, otherTrades}
@@ -34,7 +34,7 @@ use Rattle.rules.proofs.Hitting.{hit-is}
 use Rattle.rules.proofs.Owning.{rests-lesser}
 use Rattle.rules.proofs.Settling.{clear-best}
 use Rattle.rules.proofs.Sizes.{best-set, fill-shown, free-shows, no-price, not-there, rests-held, rests-series, rests-shows, shows-rests}
-use Rattle.rules.proofs.Taking.{Chain, chain-at, no-more, take-chain, take-put, take-total, traded}
+use Rattle.rules.proofs.TradingLaws.{Chain, chain-at, no-more, at-price-chain, at-price-put, at-price-total, traded}
 use Rattle.rules.proofs.Tests.{and-in, and-l, and-r}
 use Rattle.rules.proofs.Verdicts.{Passes, passed}
 use Rattle.demands.proofs.Homes.{Fine, Home, home-held, other-apart, parent-found}
@@ -92,8 +92,8 @@ module _ (c : Complex) (s d : ℕ) (l : Legging) (apart : s ≢ otherLeg c s .se
     same-trades k =
         let e = otherLeg c s .side in
         let p = otherClear v c s in
-        ap (λ (y : ℕ). take k (c .id) t e y k w .reports) same-clear
-        ∙ take-put (c .id) t e p i o k k v (no-price t (opposite e) p _ (none-before _)) (no-price t (opposite e) p o (none-after _))
+        ap (λ (y : ℕ). tradeAtPrice k (c .id) t e y k w .reports) same-clear
+        ∙ at-price-put (c .id) t e p i o k k v (no-price t (opposite e) p _ (none-before _)) (no-price t (opposite e) p o (none-after _))
 
     same-removals : removeOf (c .id) Executed w .reports ≡ removeOf (c .id) Executed v .reports
     unfolding removeOf remove putRegular withRegular
@@ -112,7 +112,7 @@ module _ (c : Complex) (s d : ℕ) (l : Legging) (apart : s ≢ otherLeg c s .se
 
 -- each place of u shows no more than in v
 abbrev NoMore : (u v : Venue) → Type 0
-NoMore u v = (i : ℕ) → shown (regularAt u i) ≤ shown (regularAt v i)
+NoMore u v = (i : ℕ) → shownSize (regularAt u i) ≤ shownSize (regularAt v i)
 
 filled-no-more : (u v : Venue) (j q : ℕ) → NoMore u v → NoMore (fillRegular j q u) v
 unfolding regularAt
@@ -121,13 +121,13 @@ filled-no-more u v j q n i = let a = fill-shown j q u i in let b = n i in omega 
 -- of a chain upon u, where each place has what it has in v, or less of it, and shows no more
 module _ {x s d p : ℕ} (v : Venue) where
   maker : (u : Venue) (i q : ℕ) → Lesser (regularAt u i) (regularAt v i) → NoMore u v → restsAt s (opposite d) (regularAt u i) ≡ true → regularAt u i .price ≡ p →
-      q ≤ shown (regularAt u i) → FromResting v x s d p (trade (regularAt u i .series) d (regularAt u i .price) q x (regularAt u i .id))
+      q ≤ shownSize (regularAt u i) → FromResting v x s d p (trade (regularAt u i .series) d (regularAt u i .price) q x (regularAt u i .id))
   maker u i q less n there e le = record {
     at = i;
     rests = rests-lesser s (opposite d) less there;
     priced = sym (less .price) ∙ e;
     contracts = q;
-    most = (let z = n i in omega arith);
+    withinShown = (let z = n i in omega arith);
     is = rw (rests-series s (opposite d) (regularAt u i) there, e, less .id);
   }
 
@@ -140,12 +140,12 @@ module _ {x s d p : ℕ} (v : Venue) where
 
 module _ (v : Venue) (c : Complex) (s d : ℕ) (l : Legging) (p : Passes v c s d l) where
   -- no regular order is better than what is displayed: each shows some size, and so counts for the best price
-  shown-best : Shown v → (i : ℕ) → restsAt s d (regularAt v i) ≡ true → better d (regularAt v i .price) (displayed (increment v s) d (l .price)) ≡ false
-  unfolding shownWell bestRegular regularAt
-  shown-best all i r =
+  displayed-best : Shown v → (i : ℕ) → restsAt s d (regularAt v i) ≡ true → better d (regularAt v i .price) (displayedPrice (increment v s) d (l .price)) ≡ false
+  unfolding displayedNoWorse bestRegular regularAt
+  displayed-best all i r =
       is-false _ (λ b. true≢false
-      (sym (better-past d (reg v i .price) (bestIn s d (v .regular)) (displayed (increment v s) d (l .price)) b (best-best s d (v .regular) i (rests-shows s d _ (all i (rests-held s d _ r)) r)))
-      ∙ not-true _ (p .shown)))
+      (sym (better-past d (reg v i .price) (bestIn s d (v .regular)) (displayedPrice (increment v s) d (l .price)) b (best-best s d (v .regular) i (rests-shows s d _ (all i (rests-held s d _ r)) r)))
+      ∙ not-true _ (p .displayed)))
 
   -- the size at the clear price is at least its quantity, so k contracts are there
   hits : parentOf v l ≡ c → s ≢ otherLeg c s .series → d < 2 → (k : ℕ) → k ≤ l .quantity → Hit v c s d l k
@@ -160,9 +160,9 @@ module _ (v : Venue) (c : Complex) (s d : ℕ) (l : Legging) (p : Passes v c s d
       record {
         clear = a;
         net = search (and-l, and-r, q);
-        found = chain-at (c .id) t (take-chain (c .id) t e (clearPrice v t (opposite e)) k k v)
-            ∙ take-total (c .id) t e (clearPrice v t (opposite e)) k k v (omega arith) (rw (clear-best v t (opposite e) a) (omega arith));
-        makers = chain-makers v (fewer-refl _) (λ _. omega arith) (take-chain (c .id) t e (clearPrice v t (opposite e)) k k v);
+        found = chain-at (c .id) t (at-price-chain (c .id) t e (clearPrice v t (opposite e)) k k v)
+            ∙ at-price-total (c .id) t e (clearPrice v t (opposite e)) k k v (omega arith) (rw (clear-best v t (opposite e) a) (omega arith));
+        makers = chain-makers v (fewer-refl _) (λ _. omega arith) (at-price-chain (c .id) t e (clearPrice v t (opposite e)) k k v);
         written = writes c s d l apart d2 v is k;
         arrives = λ i o fits free at of. arrives c s d l apart d2 v i o fits free at is k of;
       }
@@ -205,7 +205,7 @@ module _ (v : Venue) (f : Fine v) (all : AllStand v) (show : Shown v) (s d : ℕ
       rests = rests;
       leg = leg;
       even = rw (parent-found v f n h) (home .even);
-      best = shown-best v c s d l passes show;
+      best = displayed-best v c s d l passes show;
       bestLegging = λ m p q _. is-false _ (λ b. better-irrefl _ _ (rw (only m p q) at b));
       band = passes .band;
       hit = λ k one le. hits v c s d l passes refl apart d2 k le;

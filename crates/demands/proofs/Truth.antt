@@ -17,14 +17,14 @@ use Rattle.rules.specs.Effects.{Effect, nothing}
 use Rattle.rules.specs.Refusals.{refusal}
 use Rattle.rules.specs.Step.{accept, answered, step}
 use Rattle.demands.specs.Demand.{Given, Opening, Seen, calls, opening, start}
-use Rattle.demands.specs.Kept.{SoundAt}
+use Rattle.demands.specs.Soundness.{SoundAt}
 use Rattle.demands.specs.Truth.{AnswersOnce, OneMessage, RefusedAlone, Truth, answerOf, answers, answersOf, from, leaves, numbers, venueAfter}
-use Rattle.rules.proofs.Calling.{step-by}
+use Rattle.rules.proofs.CallsLaws.{step-by}
 use Rattle.rules.proofs.Quiet.{NoAnswer, quiet-accept}
 use Rattle.demands.proofs.Account.{onto}
-use Rattle.demands.proofs.Calls.{fresh-sound, kept}
+use Rattle.demands.proofs.Calls.{fresh-sound, stays-sound}
 use Rattle.demands.proofs.Induction.{all-keep}
-use Rattle.demands.proofs.Soundness.{sound-out}
+use Rattle.demands.proofs.SoundnessLaws.{sound-out}
 
 -- Answers among records ----------------------------------------------------------------------
 
@@ -129,7 +129,7 @@ more-told s bs t few =
           rw (answers-append (s .reports) (step v n bs .effect .reports), t .told, step-answers v n bs, answersOf-more freshVenue 0 (s .messages) bs, zero-add, t .messages, ← t .venue);
       messages = rw (length-append (s .messages) (bs ∷ []), t .messages) (omega arith);
       venue = rw (leaves-more freshVenue 0 (s .messages) bs, zero-add, t .messages, ← t .venue);
-      sound = kept v n few (t .sound) bs;
+      sound = stays-sound v n few (t .sound) bs;
     }
 
 all-told : (o : Opening) (gs : List Given) → Told (calls (opening o) gs)

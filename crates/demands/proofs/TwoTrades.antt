@@ -25,14 +25,14 @@ use Rattle.rules.specs.Words.{noRegular, opposite, placeOf, regularAt, withLast
 use Rattle.rules.specs.Messages.{messageOf}
 use Rattle.rules.specs.Records.{Report, pair, trade}
 use Rattle.rules.specs.Effects.{Effect, Turn, _⟫_, ended, nothing, repeat, report, turned}
-use Rattle.rules.specs.Prices.{restsAt, shown}
+use Rattle.rules.specs.Prices.{restsAt, shownSize}
 use Rattle.rules.specs.Removal.{removeOf}
 use Rattle.rules.specs.Standing.{otherClear, otherLeg, parentOf}
-use Rattle.rules.specs.Trading.{fillRegular, freeRegular, lessRegular, putRegular, take, tradeWith}
+use Rattle.rules.specs.Trading.{fillRegular, freeRegular, lessRegular, putRegular, tradeAtPrice, tradeWith}
 use Rattle.rules.specs.Order.{atOnce, enterRegular, hit, isMet, meet, meetTurn, order}
 use Rattle.rules.specs.Refusals.{refusal}
 use Rattle.rules.specs.Step.{accept, answered, perform, step}
-use Rattle.demands.specs.Kept.{SoundVenue}
+use Rattle.demands.specs.Soundness.{SoundVenue}
 use Rattle.demands.specs.Reserve.{AtMostTwo, TwoTrades, ofBoth, ofShown, tradeOf, tradesOf, untraded}
 use Rattle.rules.proofs.ByPlace.{ByPlace, next, none, removed-by-place, settled-by-place}
 use Rattle.rules.proofs.Cases.{meetTurn-by, repeat-by}
@@ -41,17 +41,17 @@ use Rattle.rules.proofs.Hitting.{hit-is, hit-venue, hitting}
 use Rattle.rules.proofs.Owning.{first-held}
 use Rattle.rules.proofs.Pairing.{pair-regular}
 use Rattle.rules.proofs.Picking.{At}
-use Rattle.rules.proofs.Refusing.{Passed, accepted}
+use Rattle.rules.proofs.RefusalsLaws.{Passed, accepted}
 use Rattle.rules.proofs.Showing.{showing-shown}
 use Rattle.rules.proofs.Sizes.{once-left, once-shown, rests-held, rests-series, rests-side, shown-lessens, shown-rest}
-use Rattle.rules.proofs.Taking.{Chain, chain-fewer, chain-place, no-more, take-chain, traded}
+use Rattle.rules.proofs.TradingLaws.{Chain, chain-fewer, chain-place, no-more, at-price-chain, traded}
 use Rattle.rules.proofs.Tests.{and-false, and-l, held-pos}
 use Rattle.demands.proofs.Admitting.{Joins, at-i, order-admitted, order-ready, withOrder}
-use Rattle.demands.proofs.Carrying.{Carries, TurnOk, fine-after, opposite-not}
-use Rattle.demands.proofs.Entering.{Ready, legging-is, meetTurn-ok}
+use Rattle.demands.proofs.ComplexCarries.{Carries, TurnOk, fine-after, opposite-not}
+use Rattle.demands.proofs.OrderCarries.{Ready, legging-is, meetTurn-ok}
 use Rattle.demands.proofs.Homes.{Fine, Invariant, good-rr, home-held, parent-found}
 use Rattle.demands.proofs.Messages.{order-joins}
-use Rattle.demands.proofs.Soundness.{sound-out}
+use Rattle.demands.proofs.SoundnessLaws.{sound-out}
 
 -- Trades among records ------------------------------------------------------------------------
 
@@ -106,15 +106,15 @@ module _ (x y i j s : ℕ) (m : Regular) where
   data State (w : Venue) : List ℕ → Type 0 where
     before : m .series ≡ s → reg w j ≡ m → State w []
     -- all that it showed
-    during : reg w j .series ≡ s → held (shown (reg w j)) ≡ false → reg w j .quantity ≤ m .reserve → State w (shown m ∷ [])
+    during : reg w j .series ≡ s → held (shownSize (reg w j)) ≡ false → reg w j .quantity ≤ m .reserve → State w (shownSize m ∷ [])
     -- one of them is filled
-    over : {ts : List ℕ} → AtMostTwo (shown m) (m .reserve) ts → (held (reg w i .quantity) ≡ true → held (reg w j .quantity) ≡ true → ⊥) → State w ts
+    over : {ts : List ℕ} → AtMostTwo (shownSize m) (m .reserve) ts → (held (reg w i .quantity) ≡ true → held (reg w j .quantity) ≡ true → ⊥) → State w ts
     -- the two never meet
     elsewhere : reg w j .series ≢ s → State w []
 
-  finished : {w : Venue} {ts : List ℕ} → State w ts → AtMostTwo (shown m) (m .reserve) ts
+  finished : {w : Venue} {ts : List ℕ} → State w ts → AtMostTwo (shownSize m) (m .reserve) ts
   finished (before a b) = untraded
-  finished (during a b c) = ofShown (shown m) (omega arith)
+  finished (during a b c) = ofShown (shownSize m) (omega arith)
   finished (over t n) = t
   finished (elsewhere n) = untraded
 
@@ -123,12 +123,12 @@ module _ (x y i j s : ℕ) (m : Regular) where
   stays w w′ ts f same (before a b) = before a (same (ap (λ (o : Regular). o .series) b ∙ a) ∙ b)
   stays w w′ ts f same (during a b c) =
       let e = same a in
-      during (ap (λ (o : Regular). o .series) e ∙ a) (ap (λ (o : Regular). held (shown o)) e ∙ b) (subst (λ (o : Regular). o .quantity ≤ m .reserve) (sym e) c)
+      during (ap (λ (o : Regular). o .series) e ∙ a) (ap (λ (o : Regular). held (shownSize o)) e ∙ b) (subst (λ (o : Regular). o .quantity ≤ m .reserve) (sym e) c)
   stays w w′ ts f same (over t n) = over t (λ p q. n (still-held (f .lesser i) p) (still-held (f .lesser j) q))
   stays w w′ ts f same (elsewhere n) = elsewhere (λ e. n (sym (f .lesser j .series) ∙ e))
 
   -- a trade of k
-  module _ (w w′ : Venue) (shows : held (shown m) ≡ true) (hi : held (reg w i .quantity) ≡ true) (hj : held (reg w j .quantity) ≡ true) (at : reg w j .series ≡ s) where
+  module _ (w w′ : Venue) (shows : held (shownSize m) ≡ true) (hi : held (reg w i .quantity) ≡ true) (hj : held (reg w j .quantity) ≡ true) (at : reg w j .series ≡ s) where
     abbrev k : ℕ
     k = min (reg w i .quantity) (atOnce (reg w j))
 
@@ -147,22 +147,22 @@ module _ (x y i j s : ℕ) (m : Regular) where
 
       -- of what it shows: all of it, or all that the order wants
       of-shown : reg w j ≡ m → State w′ (k ∷ [])
-      of-shown e = go (decLe (shown m) (reg w i .quantity))
+      of-shown e = go (decLe (shownSize m) (reg w i .quantity))
         where
-          once : atOnce (reg w j) ≡ shown m
+          once : atOnce (reg w j) ≡ shownSize m
           once = ap atOnce e ∙ once-shown m shows
 
-          gone : k ≡ shown m → held (shown (reg w′ j)) ≡ false
+          gone : k ≡ shownSize m → held (shownSize (reg w′ j)) ≡ false
           gone is =
-              let z : shown (reg w′ j) ≡ 0 = (let a = ap shown ej in let b = shown-lessens k (reg w j) in let c = ap shown e in omega arith) in
+              let z : shownSize (reg w′ j) ≡ 0 = (let a = ap shownSize ej in let b = shown-lessens k (reg w j) in let c = ap shownSize e in omega arith) in
               ap held z
 
-          rest : k ≡ shown m → reg w′ j .quantity ≤ m .reserve
+          rest : k ≡ shownSize m → reg w′ j .quantity ≤ m .reserve
           rest is = let a = left-j in let b = ap (λ (o : Regular). o .quantity) e in let c = shown-rest m in omega arith
 
-          go : Dec (shown m ≤ reg w i .quantity) → State w′ (k ∷ [])
+          go : Dec (shownSize m ≤ reg w i .quantity) → State w′ (k ∷ [])
           go (yes le) =
-              let is : k ≡ shown m = omega (arith, once) in
+              let is : k ≡ shownSize m = omega (arith, once) in
               subst (λ (n : ℕ). State w′ (n ∷ [])) (sym is) (during series-j (gone is) (rest is))
           go (no gt) =
               let a = once in
@@ -170,7 +170,7 @@ module _ (x y i j s : ℕ) (m : Regular) where
               over (ofShown k (omega arith)) (λ p _. let c = held-pos (reg w′ i .quantity) p in omega arith)
 
       -- of its reserve
-      of-reserve : held (shown (reg w j)) ≡ false → reg w j .quantity ≤ m .reserve → State w′ (shown m ∷ k ∷ [])
+      of-reserve : held (shownSize (reg w j)) ≡ false → reg w j .quantity ≤ m .reserve → State w′ (shownSize m ∷ k ∷ [])
       of-reserve z le =
           let once = once-left (reg w j) z in
           let a = left-i in
@@ -195,7 +195,7 @@ record Between (x y i j s d : ℕ) (m : Regular) (u : Venue) : Type 0 where
   ready : Ready i s d u
   -- x is no complex order's id
   alone : (n : ℕ) → held (cx u n .quantity) ≡ true → cx u n .id ≢ x
-  shows : held (shown m) ≡ true
+  shows : held (shownSize m) ≡ true
 
 module _ {x y i j s d : ℕ} {m : Regular} {u : Venue} (b : Between x y i j s d m u) where
   -- after some turns
@@ -327,7 +327,7 @@ module _ {x y i j s d : ℕ} {m : Regular} {u : Venue} (b : Between x y i j s d 
       no-trades : tradesOf x y (hit i l k w .reports) ≡ []
       no-trades =
           ap (tradesOf x y) (hit-is w i k l other)
-          ∙ hit-none x y _ (other-maker x y _ _ _ k _ _ not-maker) _ _ _ _ _ (chain-none x y not-taker (take-chain (c .id) _ _ _ k k w)) (removes-none x y (c .id) Executed w)
+          ∙ hit-none x y _ (other-maker x y _ _ _ k _ _ not-maker) _ _ _ _ _ (chain-none x y not-taker (at-price-chain (c .id) _ _ _ k k w)) (removes-none x y (c .id) Executed w)
 
       abbrev other-series : ℕ
       other-series = otherLeg c (reg w i .series) .series
@@ -338,8 +338,8 @@ module _ {x y i j s d : ℕ} {m : Regular} {u : Venue} (b : Between x y i j s d 
       abbrev clear : ℕ
       clear = otherClear w c (reg w i .series)
 
-      chain : Chain (c .id) other-series other-side clear (fillRegular i k w) (take k (c .id) other-series other-side clear k (fillRegular i k w) .reports) (hitting w i k l)
-      chain = take-chain (c .id) other-series other-side clear k k (fillRegular i k w)
+      chain : Chain (c .id) other-series other-side clear (fillRegular i k w) (tradeAtPrice k (c .id) other-series other-side clear k (fillRegular i k w) .reports) (hitting w i k l)
+      chain = at-price-chain (c .id) other-series other-side clear k k (fillRegular i k w)
 
       same-regular : hit i l k w .venue .regular ≡ hitting w i k l .regular
       same-regular = ap (λ (v : Venue). v .regular) (hit-venue w i k l) ∙ pair-regular _ (c .id) _ k (hitting w i k l)
@@ -383,7 +383,7 @@ module _ {x y i j s d : ℕ} {m : Regular} {u : Venue} (b : Between x y i j s d 
 
   -- All turns
   abbrev Ends : List ℕ → Effect → Type 0
-  Ends ts e = AtMostTwo (shown m) (m .reserve) (ts ++ tradesOf x y (e .reports))
+  Ends ts e = AtMostTwo (shownSize m) (m .reserve) (ts ++ tradesOf x y (e .reports))
 
   ends-here : {w : Venue} (ts : List ℕ) → State x y i j s m w ts → (v : Venue) → Ends ts (nothing v)
   unfolding nothing tradesOf
@@ -392,7 +392,7 @@ module _ {x y i j s d : ℕ} {m : Regular} {u : Venue} (b : Between x y i j s d 
   ends-then : (ts : List ℕ) (e : Effect) (f : Venue → Effect) → Ends (ts ++ tradesOf x y (e .reports)) (f (e .venue)) → Ends ts (e ⟫ f)
   unfolding _⟫_
   ends-then ts e f z =
-      subst (AtMostTwo (shown m) (m .reserve))
+      subst (AtMostTwo (shownSize m) (m .reserve))
       (append-assoc ts (tradesOf x y (e .reports)) (tradesOf x y (f (e .venue) .reports)) ∙ ap (λ (l : List ℕ). ts ++ l) (sym (trades-append x y (e .reports) (f (e .venue) .reports)))) z
 
   all-turns : (fuel : ℕ) (w : Venue) (ts : List ℕ) → Later w → State x y i j s m w ts → Ends ts (repeat fuel (meetTurn i) w)
@@ -454,11 +454,11 @@ module _ (v : Venue) (s : SoundVenue v) (o : Regular) (p : Passed v (Order o)) (
   first-later : Later between start
   first-later = record { fine = between .fine; ready = between .ready; regular = fewer-refl _; complex = fewerC-refl _ }
 
-  entered : AtMostTwo (shown maker-was) (maker-was .reserve) (tradesOf (o .id) (reg v j .id) (enterRegular o (withLast v (o .id)) .reports))
+  entered : AtMostTwo (shownSize maker-was) (maker-was .reserve) (tradesOf (o .id) (reg v j .id) (enterRegular o (withLast v (o .id)) .reports))
   unfolding enterRegular putRegular freeRegular withLast
   entered = all-turns between (o .quantity) start [] first-later first-state
 
-  performed : (number : ℕ) → AtMostTwo (shown maker-was) (maker-was .reserve) (tradesOf (o .id) (reg v j .id) (accept number (Order o) v .reports))
+  performed : (number : ℕ) → AtMostTwo (shownSize maker-was) (maker-was .reserve) (tradesOf (o .id) (reg v j .id) (accept number (Order o) v .reports))
   unfolding accept perform order nothing _⟫_
   performed number =
       rw (
@@ -473,8 +473,8 @@ unfolding step answered tradesOf tradeOf nothing regularAt
 two-trades v s number bs o is j h = go (eqb (refusal v bs) 0) refl
   where
     go : (b : Bool) → eqb (refusal v bs) 0 ≡ b →
-        AtMostTwo (shown (reg v j)) (reg v j .reserve) (tradesOf (o .id) (reg v j .id) ((if b then accept number (messageOf bs) v else nothing v) .reports))
+        AtMostTwo (shownSize (reg v j)) (reg v j .reserve) (tradesOf (o .id) (reg v j .id) ((if b then accept number (messageOf bs) v else nothing v) .reports))
     go true e =
-        subst (λ (m : Message). AtMostTwo (shown (reg v j)) (reg v j .reserve) (tradesOf (o .id) (reg v j .id) (accept number m v .reports))) (sym is)
+        subst (λ (m : Message). AtMostTwo (shownSize (reg v j)) (reg v j .reserve) (tradesOf (o .id) (reg v j .id) (accept number m v .reports))) (sym is)
         (performed v s o (subst (Passed v) is (accepted v bs (eqb-true (refusal v bs) 0 e))) j h number)
     go false e = untraded

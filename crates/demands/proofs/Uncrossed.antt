@@ -36,10 +36,10 @@ use Rattle.rules.proofs.Cases.{if-by}
 use Rattle.rules.proofs.Ending.{matching-ends, none-reaches}
 use Rattle.rules.proofs.Filling.{Lesser, cx, lesser-refl, reg}
 use Rattle.rules.proofs.Generating.{Makes, after, made, make-venue}
-use Rattle.rules.proofs.Keeping.{keeps-cancel, keeps-each, keeps-eachOf, keeps-matching, keeps-settle, keeps-work}
+use Rattle.rules.proofs.EffectsLaws.{keeps-cancel, keeps-each, keeps-eachOf, keeps-matching, keeps-settle, keeps-work}
 use Rattle.rules.proofs.Owning.{Below, Own, below-lasts, below-refl, best-own, bid-best, byLegging, byRegular, offer-best, own-below, own-closed, own-pos, rests-lesser, still-there}
-use Rattle.rules.proofs.Settling.{Kept}
-use Rattle.rules.proofs.Refusing.{wellFormed}
+use Rattle.rules.proofs.Settling.{SameOrGone}
+use Rattle.rules.proofs.RefusalsLaws.{wellFormed}
 use Rattle.rules.proofs.Showing.{Showing, leg-showing, settle-showing, showing-shown}
 use Rattle.rules.proofs.Tests.{and-r, pos-held}
 use Rattle.rules.proofs.Widths.{Ranged, RegFits, complex-fits, last-ranged, order-fits, put-ranged, putC-ranged, reached-ranged}
@@ -53,7 +53,7 @@ uncrossed-below b u s x y s8 p q = u s x y s8 (own-below b p) (own-below b q)
 
 -- the own prices of a venue with the same regular and legging orders
 uncrossed-same : {v w : Venue} → w .regular ≡ v .regular → w .legging ≡ v .legging → Uncrossed v → Uncrossed w
-unfolding Kept
+unfolding SameOrGone
 uncrossed-same {v} {w} a b =
     uncrossed-below (record {
       regulars = λ n. subst (λ (l : List Regular). Lesser (getD l n noRegular) (reg v n)) (sym a) (lesser-refl _);

@@ -8,7 +8,7 @@ use Rattle.rules.specs.declared.Venue.{Venue}
 use Rattle.rules.specs.Words.{freshVenue}
 use Rattle.rules.specs.Bytes.{lengthField}
 use Rattle.rules.specs.Calls.{Call, run, one}
-use Rattle.demands.specs.Most.{most}
+use Rattle.demands.specs.Most.{mostReportBytes}
 
 -- A call reads one message --------------------------------------------------------------------
 
@@ -34,8 +34,8 @@ pub record Progress : Type 0 where
   pub left : List ℕ
 
 -- "the first call upon a fresh venue"
-unfoldable pub begun : (messages : List ℕ) → Progress
-begun bs = record { number = 0; done = 0; venue = freshVenue; bytes = []; left = bs }
+unfoldable pub freshProgress : (messages : List ℕ) → Progress
+freshProgress bs = record { number = 0; done = 0; venue = freshVenue; bytes = []; left = bs }
 
 -- one call more, which took the message in front
 unfoldable pub onward : Progress → Call → Progress
@@ -76,9 +76,9 @@ pub record Agrees (room : ℕ) (r : Call) (p : Progress) : Type 0 where
   pub number : Ended room p (r .returned .number)
 
 abbrev pub Agree : Type 0
-Agree = (room : ℕ) (messages rooms : List ℕ) → NoneFull rooms (begun messages) → length rooms ≡ run room messages .returned .done →
-    Agrees room (run room messages) (byCalls rooms (begun messages))
+Agree = (room : ℕ) (messages rooms : List ℕ) → NoneFull rooms (freshProgress messages) → length rooms ≡ run room messages .returned .done →
+    Agrees room (run room messages) (byCalls rooms (freshProgress messages))
 
 -- "a run whose report memory never fills": lent so many bytes for each byte of the list, a run is not ended by 10
 abbrev pub NeverFills : Type 0
-NeverFills = (room : ℕ) (messages : List ℕ) → length messages ≤ 4294967295 → most * length messages ≤ room → run room messages .returned .number ≢ 10
+NeverFills = (room : ℕ) (messages : List ℕ) → length messages ≤ 4294967295 → mostReportBytes * length messages ≤ room → run room messages .returned .number ≢ 10

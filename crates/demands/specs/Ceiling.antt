@@ -15,7 +15,8 @@ generatedBy f s now [] = 0
 generatedBy f s now (answer number refusal mask count ∷ rs) = generatedBy f s number rs
 generatedBy f s now (trade series side price quantity taker maker ∷ rs) = generatedBy f s now rs
 generatedBy f s now (pair id n quantity ∷ rs) = generatedBy f s now rs
-generatedBy f s now (generated id series side price shown quantity ∷ rs) = (if f now && eqb series s then 1 else 0) + generatedBy f s now rs
+generatedBy f s now (generated id series side price displayed quantity ∷ rs) =
+    (if f now && eqb series s then 1 else 0) + generatedBy f s now rs
 generatedBy f s now (removed id series side cause ∷ rs) = generatedBy f s now rs
 generatedBy f s now (crossed taker maker n quantity ∷ rs) = generatedBy f s now rs
 generatedBy f s now (cancelled id quantity ∷ rs) = generatedBy f s now rs

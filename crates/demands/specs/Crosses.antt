@@ -6,7 +6,7 @@ use mathlib.Core.List.{List, [], _∷_, _++_}
 use Prim.Native.Nat.{ℕ, zero, suc}
 use lib.Dec.{eqb}
 use lib.IntN.{ℤ, negℤ}
-use lib.ListN.{take as firsts}
+use lib.ListN.{take}
 use lib.Signed.{leZ}
 use Rattle.rules.specs.declared.Complex.{Complex}
 use Rattle.rules.specs.declared.Message.{Message}
@@ -65,7 +65,7 @@ inMessage Sweep v = inEach 32 0 v
 inMessage (Increment s i e) v = []
 inMessage (Percent x e) v = []
 inMessage (LimitedSweep n) v =
-    let places = firsts n (goingRound v) in
+    let places = take n (goingRound v) in
     inEachOf places (withReached v (idReached v places))
 
 -- those of the message at the front of bs
@@ -100,7 +100,7 @@ abbrev pub NoCross : Report → Type 0
 NoCross (answer number refusal mask count) = Unit {0}
 NoCross (trade series side price quantity taker maker) = Unit {0}
 NoCross (pair id n quantity) = Unit {0}
-NoCross (generated id series side price shown quantity) = Unit {0}
+NoCross (generated id series side price displayed quantity) = Unit {0}
 NoCross (removed id series side cause) = Unit {0}
 NoCross (crossed taker maker n quantity) = ⊥
 NoCross (cancelled id quantity) = Unit {0}

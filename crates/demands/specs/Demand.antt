@@ -28,9 +28,9 @@ use Rattle.rules.specs.Bytes.{lengthField}
 use Rattle.rules.specs.Messages.{messageOf}
 use Rattle.rules.specs.Records.{Report, answer, pair, records, trade}
 use Rattle.rules.specs.Removal.{removeOf}
-use Rattle.rules.specs.Prices.{better, displayed, inBand, restsAt, shown}
+use Rattle.rules.specs.Prices.{better, displayedPrice, inBand, restsAt, shownSize}
 use Rattle.rules.specs.Standing.{hasLeg, legNet, otherClear, otherLeg, parentOf}
-use Rattle.rules.specs.Trading.{putRegular, take}
+use Rattle.rules.specs.Trading.{putRegular, tradeAtPrice}
 use Rattle.rules.specs.Order.{hit}
 use Rattle.rules.specs.Calls.{Call, one, run}
 use Rattle.rules.specs.Sums.{cancelledOf, contracts, contractsAt, crossedFor, openComplex, openRegular, paired, total}
@@ -90,7 +90,7 @@ calls s (g ∷ gs) = calls (extend s (g .bytes) (one (s .venue) (s .done) (g .ro
 
 -- the other leg's trades when k contracts of c's leg in series s are hit: k contracts at its clear price, upon the venue as it stands
 abbrev pub otherTrades : Venue → Complex → (s k : ℕ) → List Report
-otherTrades v c s k = take k (c .id) (otherLeg c s .series) (otherLeg c s .side) (otherClear v c s) k v .reports
+otherTrades v c s k = tradeAtPrice k (c .id) (otherLeg c s .series) (otherLeg c s .side) (otherClear v c s) k v .reports
 
 -- r is a trade by this taker, of this side, with a regular order that rests in the series, on the side that the taker takes, at the price, for no more than
 -- it shows (request (e): "A complex order takes shown size only")
@@ -100,7 +100,7 @@ pub record FromResting (v : Venue) (taker series side price : ℕ) (r : Report) 
   pub rests : restsAt series (opposite side) (regularAt v at) ≡ true
   pub priced : regularAt v at .price ≡ price
   pub contracts : ℕ
-  pub most : contracts ≤ shown (regularAt v at)
+  pub withinShown : contracts ≤ shownSize (regularAt v at)
   pub is : r ≡ trade series side price contracts taker (regularAt v at .id)
 
 -- "The hit for k … is the one written under Order: it finds k regular contracts at the other leg's clear price, its own price and that one
@@ -130,10 +130,12 @@ pub record Standing (v : Venue) (s d : ℕ) (l : Legging) : Type 0 where
   -- request (g): orders of unequal ratios "never generate"
   pub even : oneToOne (parentOf v l) ≡ true
   -- "Best displayed: no regular order's price … in the same series and side is better (higher to buy, lower to sell), away prices aside"
-  pub best : (i : ℕ) → restsAt s d (regularAt v i) ≡ true → better d (regularAt v i .price) (displayed (increment v s) d (l .price)) ≡ false
+  pub best : (i : ℕ) → restsAt s d (regularAt v i) ≡ true →
+      better d (regularAt v i .price) (displayedPrice (increment v s) d (l .price)) ≡ false
   -- "and no legging order's displayed price": of what stands at a place m, which is side m % 2 of series m / 2
   pub bestLegging : (m : ℕ) → m / 2 ≡ s → m % 2 ≡ d → held (getD (v .legging) m noLegging .quantity) ≡ true →
-      better d (displayed (increment v s) d (getD (v .legging) m noLegging .price)) (displayed (increment v s) d (l .price)) ≡ false
+      better d (displayedPrice (increment v s) d (getD (v .legging) m noLegging .price))
+      (displayedPrice (increment v s) d (l .price)) ≡ false
   -- "Within the band: its complex order's N is in band."
   pub band : inBand v (parentOf v l) (parentOf v l .limit) ≡ true
   -- "for each k from 1 to its quantity"

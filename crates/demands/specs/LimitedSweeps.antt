@@ -18,7 +18,7 @@ use Rattle.rules.specs.Records.{ForAll, Report, answer, cancelled, crossed, gen
 use Rattle.rules.specs.Complex.{goingRound}
 use Rattle.rules.specs.Refusals.{refusal}
 use Rattle.rules.specs.Step.{step}
-use Rattle.demands.specs.Kept.{SoundAt, SoundVenue}
+use Rattle.demands.specs.Soundness.{SoundAt, SoundVenue}
 use Rattle.demands.specs.Truth.{answerOf, venueAfter}
 
 -- What a limited sweep looks at ---------------------------------------------------------------
@@ -52,7 +52,7 @@ abbrev pub NoLook : Report → Type 0
 NoLook (answer number refusal mask count) = Unit {0}
 NoLook (trade series side price quantity taker maker) = Unit {0}
 NoLook (pair id n quantity) = Unit {0}
-NoLook (generated id series side price shown quantity) = Unit {0}
+NoLook (generated id series side price displayed quantity) = Unit {0}
 NoLook (removed id series side cause) = Unit {0}
 NoLook (crossed taker maker n quantity) = Unit {0}
 NoLook (cancelled id quantity) = Unit {0}

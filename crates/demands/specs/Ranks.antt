@@ -16,14 +16,14 @@ use Rattle.rules.specs.Records.{Report, causeNumber, answer, cancelled, crossed
 use Rattle.rules.specs.Effects.{Effect}
 use Rattle.rules.specs.Prices.{inBand}
 use Rattle.rules.specs.Removal.{remove}
-use Rattle.rules.specs.Standing.{bothOpen, findComplex, pairs, parentOf, settle, showAgain, shownWell, stands, verdict}
+use Rattle.rules.specs.Standing.{bothOpen, findComplex, pairs, parentOf, settle, showAgain, displayedNoWorse, stands, verdict}
 
 -- The former rank -----------------------------------------------------------------------------
 
 -- the standing test by 01's rank, "with the lowest cause that applies": 1, 2, 5, 6
 unfoldable pub formerVerdictOf : Venue → Complex → (series side : ℕ) → Legging → Verdict
 formerVerdictOf v c s d l =
-    if not (shownWell v s d (l .price)) then Fails Worse
+    if not (displayedNoWorse v s d (l .price)) then Fails Worse
     else if not (pairs v c s d (l .price) (l .quantity)) then Fails Unpaired
     else if not (inBand v c (c .limit)) then Fails OutOfBand
     else if not (bothOpen v c) then Fails NotOpen
@@ -55,7 +55,7 @@ retold v (removed id series side cause) = removed id series side (recaused v id 
 retold v (answer number refusal mask count) = answer number refusal mask count
 retold v (trade series side price quantity taker maker) = trade series side price quantity taker maker
 retold v (pair id n quantity) = pair id n quantity
-retold v (generated id series side price shown quantity) = generated id series side price shown quantity
+retold v (generated id series side price displayed quantity) = generated id series side price displayed quantity
 retold v (crossed taker maker n quantity) = crossed taker maker n quantity
 retold v (cancelled id quantity) = cancelled id quantity
 retold v (looked count) = looked count

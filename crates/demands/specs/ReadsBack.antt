@@ -8,7 +8,7 @@ use Rattle.rules.specs.Bytes.{bytes}
 use Rattle.rules.specs.Records.{ForAll, Fits, Report, encodeAll, records, sheet}
 use Rattle.rules.specs.Step.{step}
 use Rattle.rules.specs.Calls.{one, run}
-use Rattle.demands.specs.Kept.{SoundVenue}
+use Rattle.demands.specs.Soundness.{SoundVenue}
 
 -- "the sheet ends at the first zero length or at the end of the report memory": reading so gives back exactly the records written
 abbrev pub ReadsBack : Type 0

@@ -12,10 +12,10 @@ use Rattle.rules.specs.Base.{held, if_then_else_}
 use Rattle.rules.specs.Words.{leggingAt, opposite, regularAt}
 use Rattle.rules.specs.Messages.{messageOf}
 use Rattle.rules.specs.Records.{Report, answer, cancelled, crossed, generated, looked, pair, removed, trade}
-use Rattle.rules.specs.Prices.{restsAt, shown}
+use Rattle.rules.specs.Prices.{restsAt, shownSize}
 use Rattle.rules.specs.Step.{step}
 use Rattle.rules.specs.Sums.{total}
-use Rattle.demands.specs.Kept.{SoundVenue}
+use Rattle.demands.specs.Soundness.{SoundVenue}
 
 -- An order that arrives -----------------------------------------------------------------------
 
@@ -24,7 +24,7 @@ unfoldable pub tradeOf : (taker maker : ℕ) → Report → List ℕ
 tradeOf x y (answer n f m c) = []
 tradeOf x y (trade s d p q taker maker) = if eqb taker x && eqb maker y then q ∷ [] else []
 tradeOf x y (pair i n q) = []
-tradeOf x y (generated i s d p shown q) = []
+tradeOf x y (generated i s d p displayed q) = []
 tradeOf x y (removed i s d c) = []
 tradeOf x y (crossed taker maker n q) = []
 tradeOf x y (cancelled i q) = []
@@ -36,16 +36,17 @@ tradesOf x y [] = []
 tradesOf x y (r ∷ rs) = tradeOf x y r ++ tradesOf x y rs
 
 -- at most two: of what the maker shows, and when all of that is gone of its reserve
-pub data AtMostTwo (shown reserve : ℕ) : List ℕ → Type 0 where
-  untraded : AtMostTwo shown reserve []
-  ofShown : (k : ℕ) → k ≤ shown → AtMostTwo shown reserve (k ∷ [])
-  ofBoth : (k : ℕ) → k ≤ reserve → AtMostTwo shown reserve (shown ∷ k ∷ [])
+pub data AtMostTwo (shownSize reserve : ℕ) : List ℕ → Type 0 where
+  untraded : AtMostTwo shownSize reserve []
+  ofShown : (k : ℕ) → k ≤ shownSize → AtMostTwo shownSize reserve (k ∷ [])
+  ofBoth : (k : ℕ) → k ≤ reserve → AtMostTwo shownSize reserve (shownSize ∷ k ∷ [])
 
 -- "in trades of its own": of any message that brings an order, upon a sound venue, with the order that rests at place i
 abbrev pub TwoTrades : Type 0
 TwoTrades = (v : Venue) → SoundVenue v → (number : ℕ) (message : List ℕ) (o : Regular) → messageOf message ≡ Order o →
     (i : ℕ) → held (regularAt v i .quantity) ≡ true →
-    AtMostTwo (shown (regularAt v i)) (regularAt v i .reserve) (tradesOf (o .id) (regularAt v i .id) (step v number message .effect .reports))
+    AtMostTwo (shownSize (regularAt v i)) (regularAt v i .reserve)
+    (tradesOf (o .id) (regularAt v i .id) (step v number message .effect .reports))
 
 -- The order among makers ----------------------------------------------------------------------
 
@@ -59,7 +60,7 @@ unfoldable pub fillOf : (taker price : ℕ) → Report → List Fill
 fillOf x p (answer n f m c) = []
 fillOf x p (trade s d price q taker maker) = if eqb taker x && eqb price p then record { maker = maker; quantity = q } ∷ [] else []
 fillOf x p (pair i n q) = []
-fillOf x p (generated i s d price shown q) = []
+fillOf x p (generated i s d price displayed q) = []
 fillOf x p (removed i s d c) = []
 fillOf x p (crossed taker maker n q) = []
 fillOf x p (cancelled i q) = []
@@ -70,19 +71,19 @@ fillsOf x p [] = []
 fillsOf x p (r ∷ rs) = fillOf x p r ++ fillsOf x p rs
 
 -- of what is traded: shown size, reserve, the legging order
-pub data Stage : Type 0 where
-  atShown : Stage
-  atReserve : Stage
-  atLegging : Stage
+pub data SizeKind : Type 0 where
+  atShown : SizeKind
+  atReserve : SizeKind
+  atLegging : SizeKind
 
 -- "At one price all shown size trades by id, then, in trades of its own, all reserve by id, then the legging order": trades with makers that stood on side e of
--- series s at price p when the message began, from a stage on and there from an id on. That none is passed over is said of each trade at its moment: replay
+-- series s at price p when the message began, from a kind of size on and there from an id on. That none is passed over is said of each trade at its moment: replay
 -- Moments, `InTurn`.
-pub data InOrder (v : Venue) (s e p : ℕ) : Stage → (low : ℕ) → List Fill → Type 0 where
-  noMore : {stage : Stage} {low : ℕ} → InOrder v s e p stage low []
+pub data InOrder (v : Venue) (s e p : ℕ) : SizeKind → (low : ℕ) → List Fill → Type 0 where
+  noMore : {kind : SizeKind} {low : ℕ} → InOrder v s e p kind low []
   -- of what a maker showed, the ids rising
   ofShown : {low : ℕ} {rest : List Fill} (i k : ℕ) → restsAt s e (regularAt v i) ≡ true → regularAt v i .price ≡ p → low ≤ regularAt v i .id →
-      k ≤ shown (regularAt v i) → InOrder v s e p atShown (suc (regularAt v i .id)) rest →
+      k ≤ shownSize (regularAt v i) → InOrder v s e p atShown (suc (regularAt v i .id)) rest →
       InOrder v s e p atShown low (record { maker = regularAt v i .id; quantity = k } ∷ rest)
   -- from here on no more of shown size
   thenReserve : {low : ℕ} {rest : List Fill} → InOrder v s e p atReserve 0 rest → InOrder v s e p atShown low rest
@@ -120,7 +121,7 @@ unfoldable pub takenFrom : (x maker : ℕ) → Report → ℕ
 takenFrom x y (answer n f m c) = 0
 takenFrom x y (trade s d p q taker maker) = if eqb maker y && not (eqb taker x) then q else 0
 takenFrom x y (pair i n q) = 0
-takenFrom x y (generated i s d p shown q) = 0
+takenFrom x y (generated i s d p displayed q) = 0
 takenFrom x y (removed i s d c) = 0
 takenFrom x y (crossed taker maker n q) = 0
 takenFrom x y (cancelled i q) = 0
@@ -129,4 +130,5 @@ takenFrom x y (looked n) = 0
 -- "A complex order takes shown size only": of any message, upon a sound venue, all complex orders together from the order that rests at place i
 abbrev pub ShownOnly : Type 0
 ShownOnly = (v : Venue) → SoundVenue v → (number : ℕ) (message : List ℕ) (i : ℕ) → held (regularAt v i .quantity) ≡ true →
-    total (takenFrom (arriving (messageOf message)) (regularAt v i .id)) (step v number message .effect .reports) ≤ shown (regularAt v i)
+    total (takenFrom (arriving (messageOf message)) (regularAt v i .id)) (step v number message .effect .reports)
+    ≤ shownSize (regularAt v i)

@@ -16,14 +16,14 @@ use Rattle.places.proofs.Tables.{upto-length}
 use Rattle.layer.specs.Layer.{Lane, Layer, Asked, arrival, turning, laneAt, withLane, waitSound, layerSound, joins, arrive, waiting, next, headCall, idle, advanced, serve, turn, after, afterAll}
 use Rattle.layer.proofs.Ways.{Waits, arrive-by, turn-by}
 use Rattle.layer.proofs.Lanes.{next-some}
-use Rattle.layer.proofs.Keeping.{each-lane, lane-wait}
+use Rattle.layer.proofs.PromisesLaws.{each-lane, lane-wait}
 use Rattle.lanes.specs.Memory.{countAt, laneSize, lastAt, layerSize, laneFrom, lanePart, laneOf, layerFrom, withPart, joinedBytes, headCalled, advancedBytes}
 use Rattle.dispatch.specs.Hosts.{freshHeld, arriveHeld, servedBytes, turnLeaves, turnHeld, memoryAfter, memoryAfterAll, Held}
 use Rattle.lanes.proofs.Bytes.{part-length}
 use Rattle.lanes.proofs.Figures.{lane-of}
 use Rattle.lanes.proofs.Lent.{with-size, lane-anew, last-anew}
-use Rattle.lanes.proofs.Joining.{joined-size, lane-joined}
-use Rattle.lanes.proofs.Taking.{head-called, lane-advanced, advanced-size}
+use Rattle.lanes.proofs.WaitJoined.{joined-size, lane-joined}
+use Rattle.lanes.proofs.HeadCalled.{head-called, lane-advanced, advanced-size}
 use Rattle.lanes.proofs.Fresh.{fresh-held}
 
 -- A lane with its figures in range -------------------------------------------------------------

@@ -29,10 +29,10 @@ use Rattle.rules.proofs.Filling.{reg, cx}
 use Rattle.rules.proofs.Integers.{plus, minus}
 use Rattle.rules.proofs.Showing.{Showing}
 use Rattle.rules.proofs.Tests.{and-l, and-r, or-false-l}
-use Rattle.demands.specs.Kept.{Shaped, SoundVenue}
+use Rattle.demands.specs.Soundness.{Shaped, SoundVenue}
 use Rattle.demands.specs.Truth.{venueAfter}
-use Rattle.demands.proofs.Calls.{kept, fresh-sound}
-use Rattle.demands.proofs.Soundness.{sound-out}
+use Rattle.demands.proofs.Calls.{stays-sound, fresh-sound}
+use Rattle.demands.proofs.SoundnessLaws.{sound-out}
 use Rattle.demands.proofs.Truth.{one-message}
 use Rattle.places.specs.Layout.{upto}
 use Rattle.places.proofs.Tables.{upto-length, upto-at}
@@ -40,9 +40,9 @@ use Rattle.venue_bytes.specs.Held.{generationsAt, venueSize, venueBytes, genera
 use Rattle.venue_writer.proofs.Back.{held-whole}
 use Rattle.engine.specs.Runs.{callOf}
 use Rattle.engine.specs.Hosts.{firstVenue, freshHosted, HeldFirst, hosted, leaves, oneHosted, HeldNext}
-use Rattle.soundness.proofs.Following.{editions-fit, generations-fit}
+use Rattle.soundness.proofs.ReadyFor.{editions-fit, generations-fit}
 use Rattle.rules.specs.Fields.{ListedFits}
-use Rattle.engine.proofs.Calling.{one-unready, one-ends, one-does}
+use Rattle.engine.proofs.OneCallLaws.{one-unready, one-ends, one-does}
 
 -- The first venue -----------------------------------------------------------------------------
 
@@ -221,7 +221,7 @@ module _ (memory : List ℕ) (n room : ℕ) (bs : List ℕ) where
     next-done : (t : Bool) → suc n ≤ 4294967295 → eqb (a .refused) 0 ≡ t → Next memory room (done memory room (a .effect) (a .refused))
     next-done true few e =
         let w : Venue = a .effect .venue in
-        let s : SoundVenue w = kept v (suc n) (omega arith) (record { venue = record { shaped = held-shaped memory; is = and-l (sound v) _ fine }; next = and-r (sound v) _ fine }) bs .venue in
+        let s : SoundVenue w = stays-sound v (suc n) (omega arith) (record { venue = record { shaped = held-shaped memory; is = and-l (sound v) _ fine }; next = and-r (sound v) _ fine }) bs .venue in
         next-accepted memory room (a .effect) (a .refused) e (held-whole w (declared w s))
     next-done false few e = next-refused memory room (a .effect) (a .refused) e (refused-leaves e)
 

@@ -1,5 +1,5 @@
 pub mod Proceeding
 pub mod RunsLaws
-pub mod Calling
+pub mod OneCallLaws
 pub mod HostsLaws
 pub mod SheetsLaws

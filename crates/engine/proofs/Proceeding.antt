@@ -12,7 +12,7 @@ use Rattle.rules.specs.declared.Venue.{Venue}
 use Rattle.rules.specs.Records.{Report, encodeAll, sheet}
 use Rattle.rules.specs.Step.{StepOutcome}
 use Rattle.rules.specs.Calls.{Outcome, called, ends, after}
-use Rattle.rules.proofs.Calling.{encode-append}
+use Rattle.rules.proofs.CallsLaws.{encode-append}
 use Rattle.rules.proofs.Tests.{if-same}
 use Rattle.records.proofs.SeenLaws.{wrote, overflowed, pasted-to, part-all, tail-front, tail-more}
 use Rattle.places.specs.Layout.{size, venueOf}

@@ -15,10 +15,10 @@ use Rattle.rules.specs.Records.{Report, encodeAll}
 use Rattle.rules.specs.Refusals.{torn}
 use Rattle.rules.specs.Step.{StepOutcome, answered, step}
 use Rattle.rules.specs.Calls.{Outcome, exceeds, ends, after, runFrom, run}
-use Rattle.rules.proofs.Calling.{no-number, no-room, not-exceeds, run-full, run-torn, run-on, run-none}
-use Rattle.rules.proofs.Refusing.{whole}
-use Rattle.demands.specs.Kept.{SoundAt}
-use Rattle.demands.proofs.Calls.{kept, fresh-sound}
+use Rattle.rules.proofs.CallsLaws.{no-number, no-room, not-exceeds, run-full, run-torn, run-on, run-none}
+use Rattle.rules.proofs.RefusalsLaws.{whole}
+use Rattle.demands.specs.Soundness.{SoundAt}
+use Rattle.demands.proofs.Calls.{stays-sound, fresh-sound}
 use Rattle.records.proofs.SeenLaws.{part-all}
 use Rattle.reader.specs.declared.Head.{Head}
 use Rattle.reader.specs.Head.{headAt, headNumber, headLength}
@@ -98,7 +98,7 @@ module _ (t : RunProgress) (m b₀ b l ys : List ℕ) (r : Stepped) (a : t .at <
     same-venue = venue-is done (t .written) b₀ b l ys r w tried h
 
     sound-still : SoundAt (suc (t .done + 1)) (venueOf b)
-    sound-still = rw (same-venue, add-one (t .done)) (kept v (suc (t .done)) (omega arith) s bs)
+    sound-still = rw (same-venue, add-one (t .done)) (stays-sound v (suc (t .done)) (omega arith) s bs)
 
     -- what is torn ends the run
     turn-torn : torn bs ≡ true → (n : ℕ) → Advances m t b₀ l (record { number = 1; done = t .done + 1; at = t .at + n; written = t .written + r .written }) b back

@@ -9,7 +9,7 @@ use Rattle.rules.specs.Base.{if_then_else_}
 use Rattle.rules.specs.Records.{Report, encodeAll}
 use Rattle.rules.specs.declared.Returned.{Returned}
 use Rattle.rules.specs.Calls.{Outcome, Call, ends, runFrom}
-use Rattle.demands.specs.Kept.{SoundAt}
+use Rattle.demands.specs.Soundness.{SoundAt}
 use Rattle.places.specs.Layout.{size, venueOf, Dense}
 use Rattle.reader.specs.declared.Head.{Head}
 use Rattle.reader.specs.Head.{headAt}

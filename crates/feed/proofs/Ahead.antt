@@ -11,7 +11,7 @@ use borrow.Author.Tests.{ne-eqb, eq-eqb, eqb-true, eqb-false, lt-ltb}
 use Rattle.rules.specs.Base.{if_then_else_}
 use Rattle.rules.specs.Bytes.{lengthField}
 use Rattle.rules.proofs.Front.{length-front}
-use Rattle.rules.proofs.Refusing.{whole}
+use Rattle.rules.proofs.RefusalsLaws.{whole}
 use Rattle.feed.specs.Feed.{numberOf, messageIn, behind, faulty, faultless, faultlessFrom, Part, partsFrom, partsOf, Under, absent, stands, under, later, same, Next, message, stop, next, nextBy}
 use Rattle.feed.specs.Sent.{WholeMessage}
 use Rattle.feed.specs.Cursors.{ready, stopOf, partOf, upNext, advanceOf}

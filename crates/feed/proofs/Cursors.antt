@@ -10,7 +10,7 @@ use lib.Seq.{drop-drop, drop-cons}
 use borrow.Author.Tests.{eqb-true, eqb-false, eq-eqb, ne-eqb, leb-true, leb-false, le-leb, lt-leb, lt-ltb, le-ltb, ltb-true, ltb-false, not-true}
 use Rattle.rules.specs.Bytes.{u16At, u32At, lengthField}
 use Rattle.rules.specs.Refusals.{torn}
-use Rattle.rules.proofs.Refusing.{whole}
+use Rattle.rules.proofs.RefusalsLaws.{whole}
 use Rattle.rules.proofs.Tests.{or-false-l, or-false-r, and-false}
 use Rattle.wire.proofs.Numbers.{u16-here, u32-here}
 use Rattle.reader.specs.Head.{headOf, headAt, headLength}

@@ -1,6 +1,6 @@
 pub mod Handing
 pub mod Sending
 pub mod Cursors
-pub mod Turning
+pub mod FeedRuns
 pub mod Ahead
-pub mod Stopping
+pub mod StopLaws

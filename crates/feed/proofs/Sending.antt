@@ -13,7 +13,7 @@ use Rattle.rules.specs.Bytes.{u8At, u16At, u32At, lengthField, bytes, u32}
 use Rattle.rules.specs.Calls.{Call, run}
 use Rattle.rules.proofs.Front.{length-same}
 use Rattle.rules.proofs.Reading.{word}
-use Rattle.rules.proofs.Refusing.{whole-in}
+use Rattle.rules.proofs.RefusalsLaws.{whole-in}
 use Rattle.feed.specs.Feed.{numberOf, messageIn, behind, faulty, faultless, faultlessFrom, Part, partsOf, partsFrom, under, later, absent}
 use Rattle.feed.specs.Feed.{stands, next, nextBy, message, handedFrom, stopped, first, handed, joined, numbered, feed}
 use Rattle.feed.specs.Sent.{Sent, AllWhole, NoneLost, lineFrom, mainLine, spareLine, messages, ListHanded, ListRun}

@@ -14,17 +14,17 @@ use Rattle.rules.specs.Words.{freshVenue}
 use Rattle.rules.specs.Records.{Report, encodeAll}
 use Rattle.rules.specs.Step.{StepOutcome, step}
 use Rattle.rules.specs.Calls.{Outcome, called, ends, after}
-use Rattle.rules.proofs.Calling.{no-room, not-exceeds}
+use Rattle.rules.proofs.CallsLaws.{no-room, not-exceeds}
 use Rattle.rules.proofs.Tests.{and-l, and-r, and-false}
-use Rattle.demands.specs.Kept.{SoundAt}
-use Rattle.demands.proofs.Calls.{kept, fresh-sound}
+use Rattle.demands.specs.Soundness.{SoundAt}
+use Rattle.demands.proofs.Calls.{stays-sound, fresh-sound}
 use Rattle.places.specs.Layout.{size, venueOf, Dense, Loaded}
 use Rattle.messages.specs.declared.Stepped.{Stepped}
 use Rattle.messages.specs.Steps.{Tries}
 use Rattle.feed.specs.Feed.{Part, partsOf, faultless, next, message, stop, feed}
 use Rattle.feed.specs.Cursors.{ready, stopOf, partOf, upNext, advanceOf}
 use Rattle.feed.specs.Turns.{hands, fedFrom}
-use Rattle.feed.proofs.Turning.{hands-full, hands-more, fed-on, fed-stop, feed-is, feed-not}
+use Rattle.feed.proofs.FeedRuns.{hands-full, hands-more, fed-on, fed-stop, feed-is, feed-not}
 use Rattle.feed.proofs.Ahead.{Ahead, ahead-start, ahead-moved, ahead-ready, advance-within, some-move, next-up, next-end, next-whole, up-message, up-stop}
 use Rattle.feed_run.specs.declared.FeedProgress.{FeedProgress}
 use Rattle.engine.specs.Runs.{goesOn, callOf}
@@ -144,7 +144,7 @@ module _ (t : FeedProgress) (main spare : List ℕ) where
               ∙ sym (goes-on 0 (venueOf b) _ refl)));
           moved = λ _. (n-is, xx, yy, omega arith);
           dense = tried .dense;
-          sound = rw (n-is, same) (kept v number (omega arith) s part);
+          sound = rw (n-is, same) (stays-sound v number (omega arith) s part);
         }
 
 -- The loop ------------------------------------------------------------------------------------

@@ -4,7 +4,7 @@ use mathlib.Core.List.{List}
 use mathlib.Core.Bool.{true}
 use Prim.Native.Nat.{ℕ, suc, _+_, _-_, _≤_, _<_}
 use lib.ListN.{length, drop}
-use Rattle.demands.specs.Kept.{SoundAt}
+use Rattle.demands.specs.Soundness.{SoundAt}
 use Rattle.places.specs.Layout.{size, venueOf, Dense}
 use Rattle.feed.specs.Feed.{Part, next}
 use Rattle.feed.specs.Cursors.{ready, upNext, advanceOf}

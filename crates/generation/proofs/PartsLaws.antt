@@ -19,13 +19,13 @@ use Rattle.rules.specs.declared.Leg.{Leg}
 use Rattle.rules.specs.declared.Venue.{Venue}
 use Rattle.rules.specs.declared.Cause.the-variants.{Replaced}
 use Rattle.rules.specs.Base.{if_then_else_, held}
-use Rattle.rules.specs.Words.{buy, within, opposite, signed, noComplex, noLegging, oneToOne, placeOf, leggingAt, complexAt, statusOf, withGenerations, withLegging}
+use Rattle.rules.specs.Words.{buy, within, opposite, signTimes, noComplex, noLegging, oneToOne, placeOf, leggingAt, complexAt, statusOf, withGenerations, withLegging}
 use Rattle.rules.specs.Settings.{figureNow, increment, percent}
-use Rattle.rules.specs.Prices.{better, bestRegular, ownPrice, bestOwn, displayed, away, marketBest, taken1, taken2, inBand}
+use Rattle.rules.specs.Prices.{better, bestRegular, ownPrice, bestOwn, displayedPrice, away, marketBest, taken1, taken2, inBand}
 use Rattle.rules.specs.Records.{generated}
 use Rattle.rules.specs.Effects.{Effect, nothing, report, _⟫_}
 use Rattle.rules.specs.Removal.{remove, failIf}
-use Rattle.rules.specs.Standing.{otherLeg, otherClear, otherSize, parentOf, bothOpen, shownWell}
+use Rattle.rules.specs.Standing.{otherLeg, otherClear, otherSize, parentOf, bothOpen, displayedNoWorse}
 use Rattle.rules.specs.Generation.{asPrice, legPrice, newLegging, placed, generationsOf, underCeiling, counted, reachesAny, givesWay, othersStand, makes, make, generateLeg, generate}
 use Rattle.rules.proofs.Tests.{and-l, and-r, held-pos, pos-held}
 use Rattle.rules.proofs.Better.{is-false}
@@ -41,16 +41,16 @@ use Rattle.places.specs.declared.Level.{Level}
 use Rattle.levels.specs.Grid.{GridOf, LegsIn}
 use Rattle.prices.proofs.Prices.{legs-in}
 use Rattle.removal.proofs.RemovalLaws.{remove-same}
-use Rattle.generation.specs.Parts.{rangedPrice, pricedLeg, mayGenerate, standsClear, mayStand, plannedLeg, madeBy}
+use Rattle.generation.specs.Parts.{rangedPrice, pricedLeg, mayGenerate, priceMayStand, mayStand, plannedLeg, madeBy}
 
 -- Signed numbers of 64 bits -------------------------------------------------------------------
 
-pub sign-buy : (d : ℕ) (z : ℤ) → d ≡ 0 → z ≡ signed d z
-unfolding signed
+pub sign-buy : (d : ℕ) (z : ℤ) → d ≡ 0 → z ≡ signTimes d z
+unfolding signTimes
 sign-buy d z h = rw (eq-eqb d 0 h)
 
-pub sign-sell : (d : ℕ) (z : ℤ) → (d ≡ 0 → ⊥) → negℤ z ≡ signed d z
-unfolding signed
+pub sign-sell : (d : ℕ) (z : ℤ) → (d ≡ 0 → ⊥) → negℤ z ≡ signTimes d z
+unfolding signTimes
 sign-sell d z h = rw (ne-eqb d 0 h)
 
 pub turned-fits : (z : ℤ) → SFits w64 z → natAbs z ≤ 8589934590 → SFits w64 (pos 0 -ℤ toZ w64 (ofZ w64 z))
@@ -74,7 +74,7 @@ module _ {a b : ℤ} (fa : SFits w64 a) (fb : SFits w64 b) (h : natAbs a + natAb
 
 -- displayed, a price above 100,254 is above 100,000, whatever the increment of one byte
 pub ranged-far : (v : Venue) (s d p i : ℕ) → i ≡ increment v s → 0 < i → i < 256 → 100254 < p → 0 ≡ rangedPrice v s d p
-unfolding rangedPrice within displayed
+unfolding rangedPrice within displayedPrice
 ranged-far v s d p i e some few h = rw (← e) (go (eqb d buy))
   where
     out : (x : ℕ) → 100000 < x → 0 ≡ (if leb i x && leb x 100000 then p else 0)
@@ -88,7 +88,7 @@ ranged-far v s d p i e some few h = rw (← e) (go (eqb d buy))
     go true = out (p / i * i) (let a = div-add-mod' p i in let b = mod-lt p some in omega arith)
     go false = out ((p + (i - 1)) / i * i) (let a = div-add-mod' (p + (i - 1)) i in let b = mod-lt (p + (i - 1)) some in omega arith)
 
-module _ (v : Venue) (s d p q i : ℕ) (eq : q ≡ displayed i d p) (ei : i ≡ increment v s) where
+module _ (v : Venue) (s d p q i : ℕ) (eq : q ≡ displayedPrice i d p) (ei : i ≡ increment v s) where
   ranged-is : rangedPrice v s d p ≡ (if leb i q && leb q 100000 then p else 0)
   unfolding rangedPrice within
   ranged-is = rw (← ei, ← eq)
@@ -107,24 +107,24 @@ module _ (v : Venue) (c : Complex) (s d x : ℕ) (ex : x ≡ otherClear v c s) w
   unfolding pricedLeg
   priced-none h = rw (← ex, h)
 
-  pub priced-is : (x ≡ 0 → ⊥) → (o : Leg) → o ≡ otherLeg c s → (m n y z : ℤ) (p r : ℕ) → m ≡ c .limit → n ≡ signed (o .side) (pos x) → y ≡ m -ℤ n → z ≡ signed d y →
+  pub priced-is : (x ≡ 0 → ⊥) → (o : Leg) → o ≡ otherLeg c s → (m n y z : ℤ) (p r : ℕ) → m ≡ c .limit → n ≡ signTimes (o .side) (pos x) → y ≡ m -ℤ n → z ≡ signTimes d y →
       p ≡ asPrice z → r ≡ rangedPrice v s d p → r ≡ pricedLeg v c s d
   unfolding pricedLeg legPrice
   priced-is h o eo m n y z p r em en ey ez ep er =
-      let k : n ≡ signed (otherLeg c s .side) (pos x) = en ∙ ap (λ (l : Leg). signed (l .side) (pos x)) eo in
-      er ∙ ap (rangedPrice v s d) (ep ∙ ap asPrice (ez ∙ ap (signed d) (ey ∙ ap₂ (λ (a b : ℤ). a -ℤ b) em k)))
+      let k : n ≡ signTimes (otherLeg c s .side) (pos x) = en ∙ ap (λ (l : Leg). signTimes (l .side) (pos x)) eo in
+      er ∙ ap (rangedPrice v s d) (ep ∙ ap asPrice (ez ∙ ap (signTimes d) (ey ∙ ap₂ (λ (a b : ℤ). a -ℤ b) em k)))
       ∙ rw (← ex, ne-eqb x 0 h) refl
 
 -- Conditions ----------------------------------------------------------------------------------
 
 module _ (v : Venue) (s d p f : ℕ) (ef : f ≡ opposite d) where
-  pub clear-own : shownWell v s d p ≡ true → (x : ℕ) → x ≡ bestOwn v s f → reachesAny d p x ≡ true → false ≡ standsClear v s d p
-  unfolding standsClear
-  clear-own h x ex r = rw (← ef, ← ex, h, r)
+  pub stand-own : displayedNoWorse v s d p ≡ true → (x : ℕ) → x ≡ bestOwn v s f → reachesAny d p x ≡ true → false ≡ priceMayStand v s d p
+  unfolding priceMayStand
+  stand-own h x ex r = rw (← ef, ← ex, h, r)
 
-  pub clear-away : shownWell v s d p ≡ true → (x : ℕ) → x ≡ bestOwn v s f → reachesAny d p x ≡ false → (y : ℕ) → y ≡ away v s f → not (reachesAny d p y) ≡ standsClear v s d p
-  unfolding standsClear
-  clear-away h x ex r y ey = rw (← ef, ← ex, ← ey, h, r)
+  pub stand-away : displayedNoWorse v s d p ≡ true → (x : ℕ) → x ≡ bestOwn v s f → reachesAny d p x ≡ false → (y : ℕ) → y ≡ away v s f → not (reachesAny d p y) ≡ priceMayStand v s d p
+  unfolding priceMayStand
+  stand-away h x ex r y ey = rw (← ef, ← ex, ← ey, h, r)
 
 module _ (v : Venue) (c : Complex) (d p own : ℕ) (l : Legging) (ew : own ≡ ownPrice l) where
   pub way-better : better d p own ≡ true → true ≡ givesWay v c d p l
@@ -185,7 +185,7 @@ module _ (v : Venue) (c : Complex) (s d : ℕ) where
     planned-not k m = sym (planned-if false (rw (pos-held (c .quantity) h, ← ep, ne-eqb p 0 k, m)))
 
   -- a price that is there is the leg's
-  priced-back : (t u : Bool) → held (otherClear v c s) ≡ t → within (increment v s) 100000 (displayed (increment v s) d (legPrice v c s d)) ≡ u →
+  priced-back : (t u : Bool) → held (otherClear v c s) ≡ t → within (increment v s) 100000 (displayedPrice (increment v s) d (legPrice v c s d)) ≡ u →
       held (pricedLeg v c s d) ≡ true → (t ≡ true) × (u ≡ true)
   unfolding pricedLeg rangedPrice
   priced-back true true e f h = (refl, refl)
@@ -193,12 +193,12 @@ module _ (v : Venue) (c : Complex) (s d : ℕ) where
   priced-back false u e f h = absurd (false≢true (rw e at h))
 
   priced-clear : held (pricedLeg v c s d) ≡ true → held (otherClear v c s) ≡ true
-  priced-clear h = priced-back (held (otherClear v c s)) (within (increment v s) 100000 (displayed (increment v s) d (legPrice v c s d))) refl refl h .0
+  priced-clear h = priced-back (held (otherClear v c s)) (within (increment v s) 100000 (displayedPrice (increment v s) d (legPrice v c s d))) refl refl h .0
 
-  pub priced-range : held (pricedLeg v c s d) ≡ true → within (increment v s) 100000 (displayed (increment v s) d (legPrice v c s d)) ≡ true
-  priced-range h = priced-back (held (otherClear v c s)) (within (increment v s) 100000 (displayed (increment v s) d (legPrice v c s d))) refl refl h .1
+  pub priced-range : held (pricedLeg v c s d) ≡ true → within (increment v s) 100000 (displayedPrice (increment v s) d (legPrice v c s d)) ≡ true
+  priced-range h = priced-back (held (otherClear v c s)) (within (increment v s) 100000 (displayedPrice (increment v s) d (legPrice v c s d))) refl refl h .1
 
-  priced-leg : held (otherClear v c s) ≡ true → within (increment v s) 100000 (displayed (increment v s) d (legPrice v c s d)) ≡ true → pricedLeg v c s d ≡ legPrice v c s d
+  priced-leg : held (otherClear v c s) ≡ true → within (increment v s) 100000 (displayedPrice (increment v s) d (legPrice v c s d)) ≡ true → pricedLeg v c s d ≡ legPrice v c s d
   unfolding pricedLeg rangedPrice
   priced-leg h k = rw (h, k)
 
@@ -218,8 +218,8 @@ module _ (v : Venue) (c : Complex) (s d : ℕ) where
   generates-made m = rw (m .even, m .opens, m .band)
 
   may-made : {number : ℕ} → Makes number v c s d → mayStand v c s d (legPrice v c s d) ≡ true
-  unfolding mayStand standsClear
-  may-made m = rw (generates-made m, m .shown, m .inside, m .outside, m .way)
+  unfolding mayStand priceMayStand
+  may-made m = rw (generates-made m, m .displayed, m .inside, m .outside, m .way)
 
   planned-made : {number : ℕ} → 0 < increment v s → held (c .quantity) ≡ true → Makes number v c s d → plannedLeg v c s d ≡ newLegging v c s d
   unfolding asked
@@ -293,9 +293,9 @@ module _ (v : Venue) (c : Complex) (s d : ℕ) where
     pub planned-is : l ≡ newLegging v c s d
     planned-is = el ∙ planned-if true asked-all
 
-    pub planned-shown : displayed (increment v s) d (l .price) ≤ 100000
+    pub planned-displayed : displayedPrice (increment v s) d (l .price) ≤ 100000
     unfolding newLegging within
-    planned-shown = rw planned-is (leb-true _ _ (and-r (leb (increment v s) (displayed (increment v s) d (legPrice v c s d))) _ (priced-range asked-priced)))
+    planned-displayed = rw planned-is (leb-true _ _ (and-r (leb (increment v s) (displayedPrice (increment v s) d (legPrice v c s d))) _ (priced-range asked-priced)))
 
     module _ (k : ℕ) (ek : k ≡ placeOf s d) where
       others-is : othersStand (placed k l v) k 0 (placed k l v .legging) ≡ othersStand (placed (placeOf s d) (newLegging v c s d) v) (placeOf s d) 0
@@ -310,25 +310,25 @@ module _ (v : Venue) (c : Complex) (s d : ℕ) where
       unfolding mayStand
       may-generate = and-l _ _ (and-l _ _ asked-may)
 
-      may-clear : standsClear v s d (legPrice v c s d) ≡ true
+      may-price : priceMayStand v s d (legPrice v c s d) ≡ true
       unfolding mayStand
-      may-clear = and-r (mayGenerate v c) (standsClear v s d (legPrice v c s d)) (and-l _ _ asked-may)
+      may-price = and-r (mayGenerate v c) (priceMayStand v s d (legPrice v c s d)) (and-l _ _ asked-may)
 
       may-way : givesWay v c d (legPrice v c s d) (leggingAt v s d) ≡ true
       unfolding mayStand
-      may-way = and-r (mayGenerate v c && standsClear v s d (legPrice v c s d)) _ asked-may
+      may-way = and-r (mayGenerate v c && priceMayStand v s d (legPrice v c s d)) _ asked-may
 
       makes-all : (number : ℕ) → othersStand (placed k l v) k 0 (placed k l v .legging) ≡ true → underCeiling number (generationsOf v s) ≡ true → makes number v c s d ≡ true
-      unfolding makes mayGenerate standsClear
+      unfolding makes mayGenerate priceMayStand
       makes-all number h u =
           let o = sym others-is ∙ h in
           let market : (oneToOne c && bothOpen v c) ≡ true = and-l _ (inBand v c (c .limit)) may-generate in
-          let shown : shownWell v s d (legPrice v c s d) ≡ true = and-l _ _ (and-l _ _ may-clear) in
+          let displayed : displayedNoWorse v s d (legPrice v c s d) ≡ true = and-l _ _ (and-l _ _ may-price) in
           let band : inBand v c (c .limit) ≡ true = and-r (oneToOne c && bothOpen v c) _ may-generate in
-          let inside : not (reachesAny d (legPrice v c s d) (bestOwn v s (opposite d))) ≡ true = and-r (shownWell v s d (legPrice v c s d)) _ (and-l _ _ may-clear) in
+          let inside : not (reachesAny d (legPrice v c s d) (bestOwn v s (opposite d))) ≡ true = and-r (displayedNoWorse v s d (legPrice v c s d)) _ (and-l _ _ may-price) in
           let outside : not (reachesAny d (legPrice v c s d) (away v s (opposite d))) ≡ true =
-          and-r (shownWell v s d (legPrice v c s d) && not (reachesAny d (legPrice v c s d) (bestOwn v s (opposite d)))) _ may-clear in
-          rw (and-l (oneToOne c) (bothOpen v c) market, and-r (oneToOne c) (bothOpen v c) market, band, priced-clear asked-priced, priced-range asked-priced, shown, inside, outside, may-way, o, u)
+          and-r (displayedNoWorse v s d (legPrice v c s d) && not (reachesAny d (legPrice v c s d) (bestOwn v s (opposite d)))) _ may-price in
+          rw (and-l (oneToOne c) (bothOpen v c) market, and-r (oneToOne c) (bothOpen v c) market, band, priced-clear asked-priced, priced-range asked-priced, displayed, inside, outside, may-way, o, u)
 
       pub made-is : (number : ℕ) → othersStand (placed k l v) k 0 (placed k l v .legging) ≡ true → underCeiling number (generationsOf v s) ≡ true →
           madeBy number (c .id) s d l v ≡ generateLeg number c s d v
@@ -362,17 +362,17 @@ same-place n k v e =
     one true = refl
     one false = refl
 
-pub made-law : (number id s d n shown : ℕ) (l : Legging) (v v₁ v₂ v₃ : Venue) (o₀ o₁ o₂ : List ℕ) (at mid r : ℕ) → n ≡ placeOf s d → shown ≡ displayed (increment v s) d (l .price) →
+pub made-law : (number id s d n displayed : ℕ) (l : Legging) (v v₁ v₂ v₃ : Venue) (o₀ o₁ o₂ : List ℕ) (at mid r : ℕ) → n ≡ placeOf s d → displayed ≡ displayedPrice (increment v s) d (l .price) →
     stage v₁ o₁ mid ≡ seen o₀ at does remove (λ m _. failIf (eqb m n || eqb m n) Replaced) v →
     v₂ ≡ placed n l v₁ → v₃ ≡ counted number s v₂ →
-    seen o₂ r ≡ seen o₁ mid writes (generated id s d (l .price) shown (l .quantity) ∷ []) →
+    seen o₂ r ≡ seen o₁ mid writes (generated id s d (l .price) displayed (l .quantity) ∷ []) →
     stage v₃ o₂ r ≡ seen o₀ at does madeBy number id s d l v
 unfolding madeBy
-made-law number id s d n shown l v v₁ v₂ v₃ o₀ o₁ o₂ at mid r en es p q t w =
+made-law number id s d n displayed l v v₁ v₂ v₃ o₀ o₁ o₂ at mid r en es p q t w =
     follow (seen o₀ at) (remove (λ m _. failIf (eqb m (placeOf s d)) Replaced) v)
-    (λ u. report (generated id s d (l .price) (displayed (increment v s) d (l .price)) (l .quantity)) (counted number s (placed (placeOf s d) l u))) v₁ v₃ o₁ o₂ mid r
+    (λ u. report (generated id s d (l .price) (displayedPrice (increment v s) d (l .price)) (l .quantity)) (counted number s (placed (placeOf s d) l u))) v₁ v₃ o₁ o₂ mid r
     (p ∙ ap (λ (e : Effect). seen o₀ at does e) (same-place n (placeOf s d) v en))
-    (does-report v₃ o₂ o₁ r mid (generated id s d (l .price) shown (l .quantity)) w
+    (does-report v₃ o₂ o₁ r mid (generated id s d (l .price) displayed (l .quantity)) w
     ∙ ap (λ (e : Effect). seen o₁ mid does e)
     (ap₂ (λ (k : ℕ) (u : Venue). report (generated id s d (l .price) k (l .quantity)) u) es (t ∙ ap (counted number s) (q ∙ ap (λ (k : ℕ). placed k l v₁) en))))
 

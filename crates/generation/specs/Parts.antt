@@ -9,8 +9,8 @@ use Rattle.rules.specs.declared.Cause.the-variants.{Replaced}
 use Rattle.rules.specs.Base.{if_then_else_, held}
 use Rattle.rules.specs.Words.{within, opposite, noLegging, oneToOne, placeOf, leggingAt}
 use Rattle.rules.specs.Settings.{increment}
-use Rattle.rules.specs.Prices.{bestOwn, displayed, away, inBand}
-use Rattle.rules.specs.Standing.{otherClear, bothOpen, shownWell}
+use Rattle.rules.specs.Prices.{bestOwn, displayedPrice, away, inBand}
+use Rattle.rules.specs.Standing.{otherClear, bothOpen, displayedNoWorse}
 use Rattle.rules.specs.Records.{generated}
 use Rattle.rules.specs.Effects.{Effect, report, _⟫_}
 use Rattle.rules.specs.Removal.{remove, failIf}
@@ -18,7 +18,7 @@ use Rattle.rules.specs.Generation.{legPrice, newLegging, placed, counted, reach
 
 -- a price p of side d in series s whose displayed price is from the increment to 100,000; else none
 unfoldable pub rangedPrice : Venue → (series side p : ℕ) → ℕ
-rangedPrice v s d p = if within (increment v s) 100000 (displayed (increment v s) d p) then p else 0
+rangedPrice v s d p = if within (increment v s) 100000 (displayedPrice (increment v s) d p) then p else 0
 
 -- the price of a leg of c; none where the other leg has no clear price, or where it is out of range
 unfoldable pub pricedLeg : Venue → Complex → (series side : ℕ) → ℕ
@@ -29,15 +29,15 @@ unfoldable pub mayGenerate : Venue → Complex → Bool
 mayGenerate v c = oneToOne c && bothOpen v c && inBand v c (c .limit)
 
 -- a price p at side d of series s is no worse than the best regular of its side, and reaches nothing opposite
-unfoldable pub standsClear : Venue → (series side p : ℕ) → Bool
-standsClear v s d p =
-    shownWell v s d p
+unfoldable pub priceMayStand : Venue → (series side p : ℕ) → Bool
+priceMayStand v s d p =
+    displayedNoWorse v s d p
     && not (reachesAny d p (bestOwn v s (opposite d)))
     && not (reachesAny d p (away v s (opposite d)))
 
 -- all that is asked of the leg's legging order at price p but that the others stand, and the ceiling
 unfoldable pub mayStand : Venue → Complex → (series side p : ℕ) → Bool
-mayStand v c s d p = mayGenerate v c && standsClear v s d p && givesWay v c d p (leggingAt v s d)
+mayStand v c s d p = mayGenerate v c && priceMayStand v s d p && givesWay v c d p (leggingAt v s d)
 
 -- the leg's legging order, where it may stand; else a free place
 unfoldable pub plannedLeg : Venue → Complex → (series side : ℕ) → Legging
@@ -48,4 +48,4 @@ plannedLeg v c s d =
 unfoldable pub madeBy : (number id series side : ℕ) → Legging → Venue → Effect
 madeBy number id s d l v =
     remove (λ n _. failIf (eqb n (placeOf s d)) Replaced) v
-    ⟫ (λ w. report (generated id s d (l .price) (displayed (increment v s) d (l .price)) (l .quantity)) (counted number s (placed (placeOf s d) l w)))
+    ⟫ (λ w. report (generated id s d (l .price) (displayedPrice (increment v s) d (l .price)) (l .quantity)) (counted number s (placed (placeOf s d) l w)))

@@ -10,21 +10,21 @@ ghost use mathlib.Core.Bool.{true};
 ghost use Prim.Native.Nat.{_≤_, _<_, min};
 ghost use lib.IntN.{natAbs};
 ghost use lib.ListN.{length};
-ghost use Rattle.rules.specs.Words.{opposite, signed, leggingAt};
+ghost use Rattle.rules.specs.Words.{opposite, signTimes, leggingAt};
 ghost use Rattle.rules.specs.Settings.{increment};
-ghost use Rattle.rules.specs.Prices.{bestRegular, displayed};
+ghost use Rattle.rules.specs.Prices.{bestRegular, displayedPrice};
 ghost use Rattle.rules.specs.Generation.{asPrice, generationsOf, givesWay, placed, othersStand, underCeiling, generateLeg, generate};
 ghost use Rattle.records.specs.Seen.{seen};
 ghost use Rattle.records.specs.Stage.{stage, _does_};
 ghost use Rattle.places.specs.Layout.{size, venueOf, Figured, Right, SameCounts};
 ghost use Rattle.levels.specs.Grid.{LegsIn, TakenOf, SidesOf};
 ghost use Rattle.settling.specs.Parts.{otherTaken};
-ghost use Rattle.generation.specs.Parts.{rangedPrice, pricedLeg, mayGenerate, standsClear, mayStand, plannedLeg, madeBy};
+ghost use Rattle.generation.specs.Parts.{rangedPrice, pricedLeg, mayGenerate, priceMayStand, mayStand, plannedLeg, madeBy};
 
 // Sign × z for a leg of side d.
-fn signed_of(d: u8, z: i64) -> i64
+fn sign_times(d: u8, z: i64) -> i64
     requires { ⌜ natAbs z ≤ 8589934590 ⌝ }
-    ensures { λ r. ⌜ r ≡ signed d z ⌝ }
+    ensures { λ r. ⌜ r ≡ signTimes d z ⌝ }
 {
     if d == 0 {
         return z;
@@ -52,11 +52,11 @@ fn ranged(numbers: &[u32], s: u8, d: u8, p: u64) -> u32
         return 0;
     }
     let price = p as u32;
-    let shown = arithmetic::displayed_price(increment, d, price);
-    if shown < (increment as u64) {
+    let displayed = arithmetic::displayed_price(increment, d, price);
+    if displayed < (increment as u64) {
         return 0;
     }
-    if 100000 < shown {
+    if 100000 < displayed {
         return 0;
     }
     price
@@ -73,8 +73,8 @@ pub fn leg_price(numbers: &[u32], taken: TakenLevels, c: Complex, s: u8, d: u8) 
     }
     let other = prices::other_leg(c, s);
     let limit = limit_of(c);
-    let price = arithmetic::signed_price(other.side, clear);
-    ranged(numbers, s, d, as_price(signed_of(d, limit - price)))
+    let price = arithmetic::sign_times_price(other.side, clear);
+    ranged(numbers, s, d, as_price(sign_times(d, limit - price)))
 }
 
 // c is one to one, both its series are open, and N is in band.
@@ -92,11 +92,11 @@ fn may_generate(numbers: &[u32], taken: TakenLevels, c: Complex) -> bool
 }
 
 // A price p at side d of series s is no worse than own, the best regular of its side, and reaches nothing opposite; facing is the best regular there.
-fn stands_clear(numbers: &[u32], own: u32, facing: u32, s: u8, d: u8, p: u32) -> bool
+fn price_may_stand(numbers: &[u32], own: u32, facing: u32, s: u8, d: u8, p: u32) -> bool
     requires { ⌜ (length (now numbers) ≡ size) × (own ≡ bestRegular (venueOf (now numbers)) s d) × (facing ≡ bestRegular (venueOf (now numbers)) s (opposite d)) × (s < 8) × (Figured (now numbers)) ⌝ }
-    ensures { λ r. ⌜ r ≡ standsClear (venueOf (now (numbers .entry))) s d p ⌝ }
+    ensures { λ r. ⌜ r ≡ priceMayStand (venueOf (now (numbers .entry))) s d p ⌝ }
 {
-    if !settling::shown_well(numbers, own, s, d, p) {
+    if !settling::displayed_no_worse(numbers, own, s, d, p) {
         return false;
     }
     let f = arithmetic::opposite_of(d);
@@ -133,7 +133,7 @@ fn may_stand(numbers: &[u32], sides: LegSides, c: Complex, s: u8, d: u8, p: u32)
     requires { ⌜ (length (now numbers) ≡ size) × (SidesOf sides c s d (venueOf (now numbers) .regular)) × (LegsIn c) × (s < 8) × (d < 2) × (mayGenerate (venueOf (now numbers)) c ≡ true) × (Figured (now numbers)) ⌝ }
     ensures { λ r. ⌜ r ≡ mayStand (venueOf (now (numbers .entry))) c s d p ⌝ }
 {
-    if !stands_clear(numbers, sides.own, sides.facing, s, d, p) {
+    if !price_may_stand(numbers, sides.own, sides.facing, s, d, p) {
         return false;
     }
     gives_way(numbers, c, s, d, p)
@@ -212,16 +212,16 @@ fn make_leg(
     out: &mut [u8],
     at: usize,
 ) -> usize
-    requires { ⌜ (length (now numbers) ≡ size) × (s < 8) × (d < 2) × (displayed (increment (venueOf (now numbers)) s) d (l .price) ≤ 100000) × (Figured (now numbers)) ⌝ }
+    requires { ⌜ (length (now numbers) ≡ size) × (s < 8) × (d < 2) × (displayedPrice (increment (venueOf (now numbers)) s) d (l .price) ≤ 100000) × (Figured (now numbers)) ⌝ }
     ensures { λ r. ⌜ stage (venueOf (now (numbers .exit))) (now (out .exit)) r ≡ seen (now (out .entry)) at does madeBy number id s d l (venueOf (now (numbers .entry))) ⌝ }
     ensures counts { λ r. ⌜ SameCounts (now (numbers .entry)) (now (numbers .exit)) ⌝ }
 {
-    let shown = settling::shown_price(numbers, s, d, l.price) as u32;
+    let displayed = settling::displayed_in_series(numbers, s, d, l.price) as u32;
     let place = arithmetic::place_of(s, d);
     let pos = removal::remove_at(numbers, place, place, Cause::Replaced, out, at);
     place_writes::put_legging(numbers, place, l);
     place_writes::count_generation(numbers, s as usize, number);
-    records::emit_generated(out, pos, id, s, d, l.price, shown, l.quantity)
+    records::emit_generated(out, pos, id, s, d, l.price, displayed, l.quantity)
 }
 
 // The legging order of a leg of c, made where every condition holds. Those that no leg changes are tested before.

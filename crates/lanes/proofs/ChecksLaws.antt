@@ -10,7 +10,7 @@ use borrow.Author.Tests.{ne-eqb, leb-true, le-leb}
 use Rattle.rules.proofs.Tests.{and-l, and-r}
 use Rattle.layer.specs.Layer.{Lane, Layer, freshLane, laneAt, getsNine, waitSound, laneSound, layerSound}
 use Rattle.layer.proofs.Lanes.{sound-last, layer-sound}
-use Rattle.layer.proofs.Keeping.{each-lane, fresh-lane}
+use Rattle.layer.proofs.PromisesLaws.{each-lane, fresh-lane}
 use Rattle.lanes.specs.Checks.{laneSoundBut, ofFour, layerSoundBut}
 use Rattle.lanes.proofs.Figures.{four-at, four-in}
 

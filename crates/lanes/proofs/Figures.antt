@@ -22,7 +22,7 @@ use Rattle.places.proofs.Tables.{upto-length, upto-at, upto-more}
 use Rattle.layer.specs.Layer.{Lane, freshLane, laneAt, waitSound, waiting, firstWaiting, next}
 use Rattle.venue_bytes.specs.Held.{venueSize, venueFrom}
 use Rattle.layer.proofs.Ways.{ready}
-use Rattle.layer.proofs.Keeping.{gets-none}
+use Rattle.layer.proofs.PromisesLaws.{gets-none}
 use Rattle.lanes.specs.Memory.{doneAt, countAt, placesAt, placeSize, laneSize, lastAt, messageFrom, placeFrom, laneFrom, lanePart, laneOf, layerFrom}
 use Rattle.lanes.specs.Checks.{laneSoundBut, ofFour, layerSoundBut}
 

@@ -19,7 +19,7 @@ use Rattle.engine.specs.Hosts.{freshHosted}
 use Rattle.engine.proofs.HostsLaws.{held-first}
 use Rattle.layer.specs.Layer.{Lane, Layer, freshLane, freshLayer, laneAt}
 use Rattle.lanes.specs.Memory.{doneAt, countAt, laneSize, lastAt, layerSize, placeFrom, laneFrom, lanePart, laneOf, layerFrom, laneBytes, layerBytes}
-use Rattle.lanes.proofs.Joining.{lane-eq}
+use Rattle.lanes.proofs.WaitJoined.{lane-eq}
 use Rattle.lanes.proofs.Lent.{layer-eq}
 
 -- Lanes one after another ---------------------------------------------------------------------

@@ -5,16 +5,16 @@
 --   Checking   the checks but one, and the layer's soundness
 --   Lent       a lane of the layer lent and put back
 --   Places     a message in its place
---   Joining    a message at the end of a wait
---   Taking     the head of a wait done by a call
+--   WaitJoined  a message at the end of a wait
+--   HeadCalled  the head of a wait done by a call
 --   Fresh      the layer's bytes read back, and the fresh layer's
---   Writing    what each small function writes
+--   MemoryLaws  what each small function writes
 pub mod Bytes
 pub mod Figures
 pub mod ChecksLaws
 pub mod Lent
 pub mod Places
-pub mod Joining
-pub mod Taking
+pub mod WaitJoined
+pub mod HeadCalled
 pub mod Fresh
-pub mod Writing
+pub mod MemoryLaws

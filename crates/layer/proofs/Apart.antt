@@ -17,8 +17,8 @@ use Rattle.demands.proofs.Truth.{truth}
 use Rattle.layer.specs.Layer.{Lane, Layer, Asked, arrival, turning, freshLane, laneAt, head, headCall, advanced, turn, arrive, after, afterAll}
 use Rattle.layer.specs.Promises.{takes, takenBy, messagesOf, tells, toldBy, seenOf, LeftBy, Apart, EachHolds, FreshLeft}
 use Rattle.layer.proofs.Ways.{ending, does}
-use Rattle.layer.proofs.Keeping.{fresh-at}
-use Rattle.layer.proofs.Order.{Turn, took, left, turn-lane, Arrival, joined, apart, arrival-lane, still-four, messages-append}
+use Rattle.layer.proofs.PromisesLaws.{fresh-at}
+use Rattle.layer.proofs.Order.{LaneAfter, took, left, turn-lane, Arrival, joined, apart, arrival-lane, still-four, messages-append}
 
 -- from s on, by calls given gs, to a lane: these messages and records more
 record Onward (s z : Seen) (c : Lane) (ms : List (List ℕ)) (rs : List Report) : Type 0 where
@@ -60,7 +60,7 @@ one-apart l (turning room) v s four h o = go (turn-lane l room v four h)
     once : r .returned .done ≢ 0 → parts (r .returned .done) (head c) ≡ head c ∷ []
     once n = unfold parts in (rw (does (s .venue) (s .done) room r (ending (s .venue) (s .done) room (head c)) n .once))
 
-    go : Turn v l room (turn l room) →
+    go : LaneAfter v l room (turn l room) →
         let g : List Given = if eqb (turn l room .served) v then record { room = room; bytes = head c } ∷ [] else [] in
         Onward s (calls s g) (laneAt (turn l room .layer) v) (messagesOf g) (if eqb (turn l room .served) v then records (turn l room .report) else [])
     go (took e f p d w) = unfold advanced extend in (

@@ -21,19 +21,19 @@ record Heads (c : Lane) (x : Venue) (n : ℕ) (m : List ℕ) : Type 0 where
   done : c .done ≡ n
 
 -- the claim, with what stood at first in the place of the layer that it stood in
-record Within (most : ℕ) (l : Layer) (list : List Asked) (v : ℕ) (x : Venue) (n : ℕ) (m : List ℕ) : Type 0 where
+record Within (mostTurns : ℕ) (l : Layer) (list : List Asked) (v : ℕ) (x : Venue) (n : ℕ) (m : List ℕ) : Type 0 where
   before : List Asked
   room : ℕ
   rest : List Asked
   split : list ≡ before ++ (turning room ∷ rest)
-  few : turns before ≤ most
+  few : turns before ≤ mostTurns
   does : turn (afterAll l before) room ≡ serve (afterAll l before) v (one x n room m)
 
 -- one call more in front of it
-within-arrival : (most : ℕ) (l : Layer) (list : List Asked) (v : ℕ) (x : Venue) (n : ℕ) (m : List ℕ) (w : ℕ) (b : List ℕ) →
-    Within most (after l (arrival w b)) list v x n m → Within most l (arrival w b ∷ list) v x n m
+within-arrival : (mostTurns : ℕ) (l : Layer) (list : List Asked) (v : ℕ) (x : Venue) (n : ℕ) (m : List ℕ) (w : ℕ) (b : List ℕ) →
+    Within mostTurns (after l (arrival w b)) list v x n m → Within mostTurns l (arrival w b ∷ list) v x n m
 unfolding turns afterAll
-within-arrival most l list v x n m w b i = record {
+within-arrival mostTurns l list v x n m w b i = record {
   before = arrival w b ∷ i .before;
   room = i .room;
   rest = i .rest;
@@ -42,10 +42,10 @@ within-arrival most l list v x n m w b i = record {
   does = i .does;
 }
 
-within-turn : (most : ℕ) (l : Layer) (list : List Asked) (v : ℕ) (x : Venue) (n : ℕ) (m : List ℕ) (r : ℕ) →
-    Within most (after l (turning r)) list v x n m → Within (suc most) l (turning r ∷ list) v x n m
+within-turn : (mostTurns : ℕ) (l : Layer) (list : List Asked) (v : ℕ) (x : Venue) (n : ℕ) (m : List ℕ) (r : ℕ) →
+    Within mostTurns (after l (turning r)) list v x n m → Within (suc mostTurns) l (turning r ∷ list) v x n m
 unfolding turns afterAll
-within-turn most l list v x n m r i = record {
+within-turn mostTurns l list v x n m r i = record {
   before = turning r ∷ i .before;
   room = i .room;
   rest = i .rest;

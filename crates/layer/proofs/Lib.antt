@@ -2,7 +2,7 @@
 --
 --   Ways        a one-message call, an arrival and a turn, each by the ways in which it ends
 --   Lanes       a lane put into the layer, and the venue that a turn serves
---   Keeping     gets-nine, fresh-layer, kept, never-nine, room-enough, answered, unchanged
+--   PromisesLaws  gets-nine, fresh-layer, layer-stays-sound, never-nine, room-enough, answered, unchanged
 --   Fairness    fair
 --   Order       ordered
 --   Returning   returns
@@ -10,7 +10,7 @@
 --   Witness     the claims are not empty
 pub mod Ways
 pub mod Lanes
-pub mod Keeping
+pub mod PromisesLaws
 pub mod Fairness
 pub mod Order
 pub mod Returning

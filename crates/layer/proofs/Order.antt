@@ -27,15 +27,15 @@ still-four l (turning room) h =
 -- The venue served, by its lane ---------------------------------------------------------------
 
 -- what a turn does to the lane of v: served, or as it was
-pub data Turn (v : ℕ) (l : Layer) (room : ℕ) (t : Turned) : Type 0 where
+pub data LaneAfter (v : ℕ) (l : Layer) (room : ℕ) (t : Turned) : Type 0 where
   took : t .served ≡ v → laneAt (t .layer) v ≡ advanced (laneAt l v) (headCall (laneAt l v) room) → t .report ≡ headCall (laneAt l v) room .report →
-      headCall (laneAt l v) room .returned .done ≢ 0 → waiting (laneAt l v) ≡ true → Turn v l room t
-  left : t .served ≢ v → laneAt (t .layer) v ≡ laneAt l v → Turn v l room t
+      headCall (laneAt l v) room .returned .done ≢ 0 → waiting (laneAt l v) ≡ true → LaneAfter v l room t
+  left : t .served ≢ v → laneAt (t .layer) v ≡ laneAt l v → LaneAfter v l room t
 
-pub turn-lane : (l : Layer) (room v : ℕ) → length (l .lanes) ≡ 4 → v < 4 → Turn v l room (turn l room)
+pub turn-lane : (l : Layer) (room v : ℕ) → length (l .lanes) ≡ 4 → v < 4 → LaneAfter v l room (turn l room)
 unfolding idle serve
 turn-lane l room v four h =
-    turn-by (Turn v l room) l room (λ _. left (λ e. omega arith) refl) (λ _ _. left (λ e. omega arith) refl) (λ _ _ _. left (λ e. omega arith) refl)
+    turn-by (LaneAfter v l room) l room (λ _. left (λ e. omega arith) refl) (λ _ _. left (λ e. omega arith) refl) (λ _ _ _. left (λ e. omega arith) refl)
     (λ _ n d. elim (ℕ-discrete (next l) v) [
       | yes e ↦ took e (rw e (lane-same l v v _ (omega arith))) (ap (λ (w : ℕ). headCall (laneAt l w) room .report) e) (rw e at d) (rw e at (next-some l n .1))
       | no e ↦ left e (lane-other l (next l) v (next l) _ (λ z. e (sym z)))
@@ -81,7 +81,7 @@ one-ordered l (arrival w m) v four h = go (arrival-lane l w m v four h)
     go (apart e f) = rw (e, f) (append-nil (laneAt l v .wait))
 one-ordered l (turning room) v four h = go (turn-lane l room v four h)
   where
-    go : Turn v l room (turn l room) → laneAt l v .wait ++ [] ≡
+    go : LaneAfter v l room (turn l room) → laneAt l v .wait ++ [] ≡
         messagesOf (if eqb (turn l room .served) v then record { room = room; bytes = head (laneAt l v) } ∷ [] else []) ++ laneAt (turn l room .layer) v .wait
     go (took e f _ _ w) = unfold advanced in (rw (eq-eqb (turn l room .served) v e, f, append-nil (laneAt l v .wait)) (wait-split (laneAt l v) w))
     go (left e f) = rw (ne-eqb (turn l room .served) v e, f) (append-nil (laneAt l v .wait))

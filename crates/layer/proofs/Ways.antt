@@ -15,11 +15,11 @@ use Rattle.rules.specs.Step.{step, answered}
 use Rattle.rules.specs.Sound.{sound, follows}
 use Rattle.rules.specs.Calls as calls
 use Rattle.rules.specs.Calls.{Call, called, ends, one}
-use Rattle.rules.proofs.Calling.{oneFrom-by}
-use Rattle.rules.proofs.Refusing.{refusal-own}
+use Rattle.rules.proofs.CallsLaws.{oneFrom-by}
+use Rattle.rules.proofs.RefusalsLaws.{refusal-own}
 use Rattle.rules.proofs.Tests.{and-in, and-l, and-r, or-false-l, or-false-r}
-use Rattle.demands.specs.Kept.{Shaped, SoundAt}
-use Rattle.demands.proofs.Calls.{kept, fresh-sound}
+use Rattle.demands.specs.Soundness.{Shaped, SoundAt}
+use Rattle.demands.proofs.Calls.{stays-sound, fresh-sound}
 use Rattle.layer.specs.Layer.{Layer, Turned, Arrived, laneAt, withLane, layerSound, refusalOf, joins, arrive, next, head, headCall, ended, idle, serve, turn}
 
 -- A one-message call --------------------------------------------------------------------------
@@ -52,7 +52,7 @@ pub ending : (v : Venue) (n room : ℕ) (bs : List ℕ) → Ending v n room (one
 unfolding one called ends calls.after step answered
 ending v n room bs =
     oneFrom-by (λ o. Ending v n room (called room o)) v n room bs (λ u. unsound u refl) (λ s _. full s refl)
-    (λ s d. did s (refusal-own v bs 9 (omega arith) (omega arith)) (refusal-own v bs 10 (omega arith) (omega arith)) refl (d .0) (λ k. kept v (suc n) (d .0) k bs))
+    (λ s d. did s (refusal-own v bs 9 (omega arith) (omega arith)) (refusal-own v bs 10 (omega arith) (omega arith)) refl (d .0) (λ k. stays-sound v (suc n) (d .0) k bs))
 
 module _ (v : Venue) (n room : ℕ) (c : Call) where
   -- one that is ended by 9 or 10 does nothing, and any other does its message

@@ -10,8 +10,8 @@ use Rattle.rules.specs.Base.{if_then_else_}
 use Rattle.rules.specs.Records.{Report, records}
 use Rattle.rules.specs.Calls.{Call, one}
 use Rattle.demands.specs.Demand.{Given, Opening, Seen, alone, calls, opening, Holds}
-use Rattle.demands.specs.Kept.{Shaped}
-use Rattle.demands.specs.Most.{most}
+use Rattle.demands.specs.Soundness.{Shaped}
+use Rattle.demands.specs.Most.{mostReportBytes}
 use Rattle.demands.specs.Truth.{Truthful}
 use Rattle.layer.specs.Layer.{Lane, Layer, Turned, Asked, arrival, turning, freshLayer, laneAt, getsNine, layerSound}
 use Rattle.layer.specs.Layer.{arrive, next, turn, serve, head, after, afterAll}
@@ -32,8 +32,8 @@ abbrev pub FreshSound : Type 0
 FreshSound = SoundLayer freshLayer
 
 -- it stays so under every call
-abbrev pub Kept : Type 0
-Kept = (l : Layer) → SoundLayer l → (a : Asked) → SoundLayer (after l a)
+abbrev pub LayerStaysSound : Type 0
+LayerStaysSound = (l : Layer) → SoundLayer l → (a : Asked) → SoundLayer (after l a)
 
 -- so no call upon a layer that came from the calls answers 9
 pub record NeverNine : Type 0 where
@@ -42,7 +42,7 @@ pub record NeverNine : Type 0 where
 
 -- Lent as much as a message may write, a turn upon a sound layer is not ended by 9 or 10, while no venue has come to the end of its numbers.
 abbrev pub RoomEnough : Type 0
-RoomEnough = (l : Layer) → SoundLayer l → ((v : ℕ) → laneAt l v .done < 4294967295) → (room : ℕ) → most ≤ room →
+RoomEnough = (l : Layer) → SoundLayer l → ((v : ℕ) → laneAt l v .done < 4294967295) → (room : ℕ) → mostReportBytes ≤ room →
     (turn l room .number ≢ 9) × (turn l room .number ≢ 10)
 
 -- Refused -------------------------------------------------------------------------------------
@@ -115,12 +115,12 @@ NoneEnded l (arrival v m ∷ rest) = NoneEnded (after l (arrival v m)) rest
 NoneEnded l (turning room ∷ rest) = (turn l room .number ≢ 9) × (turn l room .number ≢ 10) × NoneEnded (after l (turning room)) rest
 
 -- A turn of the list, with so many at most before it, serves venue v: it is the one-message call with m upon the venue as it stood at first.
-pub record DoneAfter (most : ℕ) (l : Layer) (list : List Asked) (v : ℕ) (m : List ℕ) : Type 0 where
+pub record DoneAfter (mostTurns : ℕ) (l : Layer) (list : List Asked) (v : ℕ) (m : List ℕ) : Type 0 where
   pub before : List Asked
   pub room : ℕ
   pub rest : List Asked
   pub split : list ≡ before ++ (turning room ∷ rest)
-  pub few : turns before ≤ most
+  pub few : turns before ≤ mostTurns
   pub does : turn (afterAll l before) room ≡ serve (afterAll l before) v (one (laneAt l v .venue) (laneAt l v .done) room m)
 
 -- "the message at the head of a venue's wait is done by the fourth turn, no matter what arrives for the others": three at most go before

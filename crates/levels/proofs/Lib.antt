@@ -1,7 +1,7 @@
 pub mod Scans
 pub mod Scanning
-pub mod Joining
-pub mod Keeping
+pub mod LevelWithOrder
+pub mod LevelChanges
 pub mod Sides
 pub mod GridLaws
-pub mod Kept
+pub mod LevelsKept

@@ -9,7 +9,7 @@ use Rattle.rules.specs.declared.Regular.{Regular}
 use Rattle.rules.specs.declared.Complex.{Complex}
 use Rattle.rules.specs.Base.{if_then_else_}
 use Rattle.rules.specs.Words.{noRegular, noComplex, isComplexOf}
-use Rattle.rules.specs.Prices.{betterOf, shown, showsAt, showsFor, bestIn, sizeIn}
+use Rattle.rules.specs.Prices.{betterOf, shownSize, showsAt, showsFor, bestIn, sizeIn}
 use Rattle.rules.specs.Standing.{findComplex}
 use Rattle.places.specs.Layout.{upto, inUse}
 
@@ -39,7 +39,7 @@ module _ {A : Type 0} (f : ℕ → A) where
 -- Free places ---------------------------------------------------------------------------------
 
 best-none : (s d k : ℕ) → bestIn s d (replicate k noRegular) ≡ 0
-unfolding bestIn showsAt shown
+unfolding bestIn showsAt shownSize
 best-none s d zero = refl
 best-none s d (suc k) = best-none s d k
 
@@ -49,14 +49,14 @@ best-free s d [] k = best-none s d k
 best-free s d (o ∷ os) k = ap (λ (x : ℕ). if showsAt s d o then betterOf d (o .price) x else x) (best-free s d os k)
 
 size-none : (s d p k : ℕ) → sizeIn s d p (replicate k noRegular) ≡ 0
-unfolding sizeIn showsFor showsAt shown
+unfolding sizeIn showsFor showsAt shownSize
 size-none s d p zero = refl
 size-none s d p (suc k) = size-none s d p k
 
 size-free : (s d p : ℕ) (os : List Regular) (k : ℕ) → sizeIn s d p (os ++ replicate k noRegular) ≡ sizeIn s d p os
 unfolding sizeIn
 size-free s d p [] k = size-none s d p k
-size-free s d p (o ∷ os) k = ap (λ (x : ℕ). if showsFor s d p o then shown o + x else x) (size-free s d p os k)
+size-free s d p (o ∷ os) k = ap (λ (x : ℕ). if showsFor s d p o then shownSize o + x else x) (size-free s d p os k)
 
 pub best-used : (f : ℕ → Regular) (s d n all : ℕ) → bestIn s d (inUse f noRegular n all) ≡ bestIn s d (upto f 0 n)
 unfolding inUse

@@ -8,7 +8,7 @@ use Rattle.rules.specs.declared.Regular.{Regular}
 use Rattle.rules.specs.declared.Complex.{Complex}
 use Rattle.rules.specs.Base.{if_then_else_, held}
 use Rattle.rules.specs.Words.{opposite}
-use Rattle.rules.specs.Prices.{better, shown, bestIn}
+use Rattle.rules.specs.Prices.{better, shownSize, bestIn}
 use Rattle.places.specs.declared.Level.{Level}
 use Rattle.levels.specs.declared.TakenLevels.{TakenLevels}
 use Rattle.levels.specs.declared.LegSides.{LegSides}
@@ -26,7 +26,7 @@ joinedOf d p k l =
 
 -- the level of an order's side, with what that order shows
 unfoldable pub withOrder : Regular → Level → Level
-withOrder o l = if held (shown o) then joinedOf (o .side) (o .price) (shown o) l else l
+withOrder o l = if held (shownSize o) then joinedOf (o .side) (o .price) (shownSize o) l else l
 
 -- the level of a series and side, by their legging place
 unfoldable pub levelBy : List Regular → (n : ℕ) → Level

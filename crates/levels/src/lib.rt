@@ -33,7 +33,7 @@ fn with_order(l: Level, o: Regular) -> Level
     requires { ⌜ l .size ≤ 549755813760 ⌝ }
     ensures { λ r. ⌜ r ≡ withOrder o l ⌝ }
 {
-    let shown = arithmetic::shown_of(o);
+    let shown = arithmetic::shown_size(o);
     if shown == 0 {
         return l;
     }
@@ -73,7 +73,7 @@ fn level_of(numbers: &[u32], s: u8, d: u8) -> Level
 }
 
 // No side has a level.
-fn clear_levels(numbers: &mut [u32])
+fn zero_levels(numbers: &mut [u32])
     requires { ⌜ length (now numbers) ≡ size ⌝ }
     ensures { λ _. ⌜ LevelsPut (λ _. noLevel) (now (numbers .entry)) (now (numbers .exit)) ⌝ }
 {
@@ -90,7 +90,7 @@ fn make_levels(numbers: &mut [u32])
     requires { ⌜ length (now numbers) ≡ size ⌝ }
     ensures { λ _. ⌜ LevelsPut (levelBy (venueOf (now (numbers .entry)) .regular)) (now (numbers .entry)) (now (numbers .exit)) ⌝ }
 {
-    clear_levels(numbers);
+    zero_levels(numbers);
     let mut i = places::regulars_used(numbers);
     while 0 < i {
         i -= 1;
@@ -135,7 +135,7 @@ pub fn fill_order(numbers: &mut [u32], i: usize, k: u32)
     if o.price != l.price {
         return;
     }
-    let shown = arithmetic::shown_of(o);
+    let shown = arithmetic::shown_size(o);
     let gone = arithmetic::lesser(k, shown) as u64;
     if gone < l.size {
         let rest = Level {
@@ -149,13 +149,13 @@ pub fn fill_order(numbers: &mut [u32], i: usize, k: u32)
     place_writes::put_level(numbers, n, anew);
 }
 
-// Each order shows again. Without the mark each already shows what it should.
+// Each order shows again. Without the show-again flag each already shows what it should.
 pub fn show_again(numbers: &mut [u32])
     requires { ⌜ (length (now numbers) ≡ size) × (Right (now numbers)) ⌝ }
     ensures { λ _. ⌜ venueOf (now (numbers .exit)) ≡ showAgain (venueOf (now (numbers .entry))) ⌝ }
     ensures counts { λ _. ⌜ SameCounts (now (numbers .entry)) (now (numbers .exit)) ⌝ }
 {
-    if places::is_unmarked(numbers) {
+    if places::none_shows_again(numbers) {
         return;
     }
     place_writes::show_again(numbers);

@@ -11,7 +11,7 @@ use Rattle.rules.specs.declared.Legging.{Legging}
 use Rattle.rules.specs.declared.Venue.{Venue}
 use Rattle.rules.specs.Base.{if_then_else_, held, Choice, nobody, picked, first}
 use Rattle.rules.specs.Words.{opposite, regularAt, leggingAt}
-use Rattle.rules.specs.Prices.{ownPrice, better, reaches, shown}
+use Rattle.rules.specs.Prices.{ownPrice, better, reaches, shownSize}
 use Rattle.rules.specs.Effects.{Effect, nothing, _⟫_, Turn, ended, turned, repeat}
 use Rattle.rules.specs.Trading.{freeRegular, putRegular}
 use Rattle.rules.specs.Order.{isMet, priceThenId, atOnce, firstMet, leggingFirst, meet, hit, meetTurn, enterRegular}
@@ -42,7 +42,7 @@ module _ (o : Regular) (l : Legging) (p own : ℕ) (e : own ≡ ownPrice l) wher
 
 -- What is traded at once ------------------------------------------------------------------------
 
-module _ (m : Regular) (x : ℕ) (e : x ≡ shown m) where
+module _ (m : Regular) (x : ℕ) (e : x ≡ shownSize m) where
   pub once-reserve : x ≡ 0 → m .quantity ≡ atOnce m
   unfolding atOnce
   once-reserve h = rw (← e, h)

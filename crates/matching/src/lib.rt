@@ -63,7 +63,7 @@ fn facing(numbers: &[u32], series: u8, side: u8) -> Legging
 fn at_once(m: Regular) -> u32
     ensures { λ r. ⌜ r ≡ atOnce m ⌝ }
 {
-    let size = arithmetic::shown_of(m);
+    let size = arithmetic::shown_size(m);
     if size == 0 {
         return m.quantity;
     }

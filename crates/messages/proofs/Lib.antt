@@ -1,4 +1,4 @@
 pub mod Setting
-pub mod Entering
+pub mod EditionEntered
 pub mod StepsLaws
 pub mod Trying

@@ -29,7 +29,7 @@ use Rattle.rules.specs.Sound.{showsFully, regularsSound, sound}
 use Rattle.rules.specs.Step.{perform, accept, mask, StepOutcome, answered, step}
 use Rattle.rules.proofs.Tests.{and-l, and-r}
 use Rattle.rules.proofs.Arranging.{arranged-out, blank-free}
-use Rattle.rules.proofs.Refusing.{wellFormed, decoded-by, refusalOf-by}
+use Rattle.rules.proofs.RefusalsLaws.{wellFormed, decoded-by, refusalOf-by}
 use Rattle.rules.proofs.Showing.{message-fully}
 use Rattle.records.specs.Seen.{Seen, seen, _writes_}
 use Rattle.records.specs.Stage.{stage, _does_}

@@ -9,7 +9,7 @@ use lib.Seq.{paste, paste-suc, take-all}
 use Rattle.rules.specs.declared.Venue.{Venue}
 use Rattle.rules.specs.Records.{Report, encodeAll}
 use Rattle.rules.specs.Step.{StepOutcome, step}
-use Rattle.demands.specs.Kept.{SoundVenue}
+use Rattle.demands.specs.Soundness.{SoundVenue}
 use Rattle.demands.proofs.Most.{writes-at-most}
 use Rattle.records.specs.Seen.{Seen, seen}
 use Rattle.records.proofs.StageLaws.{stage-venue, stage-written}

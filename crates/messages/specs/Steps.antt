@@ -14,8 +14,8 @@ use Rattle.rules.specs.Step.{StepOutcome, answered, accept}
 use Rattle.records.specs.Seen.{seen, _writes_}
 use Rattle.records.specs.Stage.{stage, _does_}
 use Rattle.places.specs.Layout.{size, venueOf, Dense}
-use Rattle.rules.proofs.Refusing.{wellFormed}
-use Rattle.demands.specs.Kept.{SoundVenue}
+use Rattle.rules.proofs.RefusalsLaws.{wellFormed}
+use Rattle.demands.specs.Soundness.{SoundVenue}
 use Rattle.wire.specs.Brought.{Shows}
 use Rattle.messages.specs.declared.Stepped.{Stepped}
 

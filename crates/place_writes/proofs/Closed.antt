@@ -25,7 +25,7 @@ use Rattle.places.specs.Offsets.{leggingMaskAt, regularReserveAt, regularReserv
 use Rattle.places.proofs.Parts.{Outside, OutsideRows, Halves, halves, stored, wider, regulars-few, complexes-few, regular-at, complex-at, rows-agree}
 use Rattle.places.proofs.Parts.{holds-kept, complex-kept, count-kept, count-kept2, regulars-kept, complexes-kept, leggings-kept, series-kept}
 use Rattle.places.proofs.Parts.{editions-kept, generations-kept, last-kept, reached-kept, venue-is, regulars-counted, complexes-counted}
-use Rattle.places.proofs.Beside.{RegularsMarked, ComplexesMarked, LeggingMarked, ShowsMarked, unmarked-as, levels-kept, regulars-marked}
+use Rattle.places.proofs.Beside.{RegularsMarked, ComplexesMarked, LeggingMarked, ShowsMarked, none-shows-again-as, levels-kept, regulars-marked}
 use Rattle.places.proofs.Beside.{complexes-marked, legging-marked, figures-marked, shows-marked, beside-venue, right-on, right-kept}
 use Rattle.places.proofs.Orderly.{orderly-packed}
 use Rattle.places.proofs.Fully.{fully-packed}
@@ -191,7 +191,7 @@ regulars-known a b j same used others full levels marks legs figs mark = record 
 
     shows : ShowsMarked a → ShowsMarked (set b regularsKnownAt j)
     shows m z = subst (λ (v : Venue). Fully (v .regular)) (sym venue)
-        (unfold closeRegulars withRegular in fully-packed (venueOf a .regular) (m (unmarked-as a (set b regularsKnownAt j) (o .same showAgainAt (inr (omega arith)) ∙ mark) z)))
+        (unfold closeRegulars withRegular in fully-packed (venueOf a .regular) (m (none-shows-again-as a (set b regularsKnownAt j) (o .same showAgainAt (inr (omega arith)) ∙ mark) z)))
 
     filled : Filled holdsRegular (regularIn (set b regularsKnownAt j)) (regularsUsed (set b regularsKnownAt j))
     filled k w =

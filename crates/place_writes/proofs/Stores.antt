@@ -39,7 +39,7 @@ use Rattle.places.proofs.Parts.{complex-kept, regulars-kept, regular-at, comple
 use Rattle.places.proofs.Parts.{regular-unused, complex-unused, regulars-counted, complexes-counted, count-kept, count-kept2}
 use Rattle.places.proofs.Masks.{mask-put}
 use Rattle.places.proofs.Fully.{fully-set, fully-bounded}
-use Rattle.places.proofs.Beside.{ShowsMarked, unmarked-as, shows-not, level-kept, levels-kept, regulars-marked, complexes-marked, legging-marked}
+use Rattle.places.proofs.Beside.{ShowsMarked, none-shows-again-as, shows-not, level-kept, levels-kept, regulars-marked, complexes-marked, legging-marked}
 use Rattle.places.proofs.Beside.{figures-marked, shows-marked, regulars-lowered, complexes-lowered, regular-holds, complex-holds, beside-venue}
 use Rattle.places.proofs.Beside.{right-kept}
 
@@ -110,7 +110,7 @@ module _ (a : List ℕ) (i k r : ℕ) (n : length a ≡ size) (h : i < regularsU
   was-fully f = sym (ap showsFully (regular-at a i h)) ∙ f i
 
   left-shows : (Fully (venueOf a .regular) → showsFully (lessRegular k (regularIn a i)) ≡ true) → ShowsMarked a → ShowsMarked left
-  left-shows p m z = let f = m (unmarked-as a left (o .same showAgainAt (inr (omega (arith, few)))) z) in left-fully (p f) f
+  left-shows p m z = let f = m (none-shows-again-as a left (o .same showAgainAt (inr (omega (arith, few)))) z) in left-fully (p f) f
 
   left-rest : ShowsMarked left → k < getD a (4 * i + 3) 0 → Marked a → Marked left
   left-rest s lt m = record {
@@ -375,7 +375,7 @@ module _ (a : List ℕ) (o : Regular) (n : length a ≡ size) (h : regularsUsed 
   added-shows : venueOf more ≡ putRegular next o (venueOf a) → showsFully o ≡ true → ShowsMarked a → ShowsMarked more
   unfolding putRegular withRegular
   added-shows e z m u = subst (λ (v : Venue). Fully (v .regular)) (sym e)
-      (fully-set (venueOf a .regular) next o (omega (arith, regulars-many a)) z (m (unmarked-as a more same u)))
+      (fully-set (venueOf a .regular) next o (omega (arith, regulars-many a)) z (m (none-shows-again-as a more same u)))
     where
       same : getD more showAgainAt 0 ≡ getD a showAgainAt 0
       same = stored (regularPut a next o) regularsUsedAt (next + 1) .same showAgainAt (inr (omega arith)) ∙ reserve-outside a next o .same showAgainAt

@@ -13,7 +13,8 @@ use Rattle.rules.specs.Places.{holdsRegular, holdsComplex}
 use Rattle.rules.specs.Step.{mask}
 use Rattle.rules.specs.Settings.{figureNow}
 use Rattle.rules.proofs.Showing.{Showing}
-use Rattle.places.specs.Layout.{regularsUsed, complexesUsed, regularIn, complexIn, venueOf, Filled, levelOf, levelIn, isUnmarked, Fully, Marked, figureIn, Figured, Orderly, Right, SameCounts}
+use Rattle.places.specs.Layout.{regularsUsed, complexesUsed, regularIn, complexIn, venueOf, Filled, levelOf, levelIn}
+use Rattle.places.specs.Layout.{noneShowsAgain, Fully, Marked, figureIn, Figured, Orderly, Right, SameCounts}
 use Rattle.places.specs.Offsets.{complexIdAt, complexNextAt, leggingParentAt, seriesStatusAt, regularsUsedAt, complexesUsedAt, levelPriceAt}
 use Rattle.places.specs.Offsets.{levelLowAt, levelHighAt, levelNextAt, regularsKnownAt, complexesKnownAt, leggingMaskAt, editionNumberAt}
 use Rattle.places.specs.Offsets.{figuresAt, regularReserveAt, showAgainAt, generationMessagesAt}
@@ -31,25 +32,25 @@ ComplexesMarked b = Filled holdsComplex (complexIn b) (min (getD b complexesKnow
 abbrev pub LeggingMarked : List ℕ → Type 0
 LeggingMarked b = getD b leggingMaskAt 0 ≡ mask (venueOf b .legging)
 
--- without the mark every order shows what it should
+-- without the show-again flag every order shows what it should
 abbrev pub ShowsMarked : List ℕ → Type 0
-ShowsMarked b = isUnmarked b ≡ true → Fully (venueOf b .regular)
+ShowsMarked b = noneShowsAgain b ≡ true → Fully (venueOf b .regular)
 
 -- a mark that stays
-pub unmarked-as : (a b : List ℕ) → getD b showAgainAt 0 ≡ getD a showAgainAt 0 → isUnmarked b ≡ true → isUnmarked a ≡ true
-unfolding isUnmarked
-unmarked-as a b e z = sym (ap (λ (x : ℕ). eqb x 0) e) ∙ z
+pub none-shows-again-as : (a b : List ℕ) → getD b showAgainAt 0 ≡ getD a showAgainAt 0 → noneShowsAgain b ≡ true → noneShowsAgain a ≡ true
+unfolding noneShowsAgain
+none-shows-again-as a b e z = sym (ap (λ (x : ℕ). eqb x 0) e) ∙ z
 
 pub shows-as : (a b : List ℕ) → getD b showAgainAt 0 ≡ getD a showAgainAt 0 → venueOf b .regular ≡ venueOf a .regular → ShowsMarked a → ShowsMarked b
-shows-as a b e r h z = subst Fully (sym r) (h (unmarked-as a b e z))
+shows-as a b e r h z = subst Fully (sym r) (h (none-shows-again-as a b e z))
 
--- a fill of an order with reserve sets the mark
+-- a fill of an order with reserve sets the show-again flag
 pub shows-not : (b : List ℕ) → getD b showAgainAt 0 ≡ 1 → ShowsMarked b
-unfolding isUnmarked
+unfolding noneShowsAgain
 shows-not b e z = absurd (true≢false (sym z ∙ ap (λ (x : ℕ). eqb x 0) e))
 
 -- as those above have it
-pub all-showing : (b : List ℕ) → Marked b → isUnmarked b ≡ true → Showing (venueOf b)
+pub all-showing : (b : List ℕ) → Marked b → noneShowsAgain b ≡ true → Showing (venueOf b)
 unfolding Showing
 all-showing b m z = m .shows z
 

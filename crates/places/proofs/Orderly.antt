@@ -26,7 +26,7 @@ use Rattle.places.specs.Layout.{Orderly}
 pub orderly-fewer : (a b : List Regular) → Fewer a b →
     ((i : ℕ) → held (getD a i noRegular .quantity) ≡ true → held (getD b i noRegular .display) ≡ true → held (getD a i noRegular .display) ≡ true) → Orderly b → Orderly a
 orderly-fewer a b f keeps o = record {
-  displayed = λ i h. keeps i h (o .displayed i (still-held (f .lesser i) h));
+  displays = λ i h. keeps i h (o .displays i (still-held (f .lesser i) h));
   priced = λ i h. rw (f .lesser i .price) (o .priced i (still-held (f .lesser i) h));
   rises = λ i j w h k. rw (f .lesser i .id, f .lesser j .id) (o .rises i j w (still-held (f .lesser i) h) (still-held (f .lesser j) k));
 }
@@ -35,7 +35,7 @@ orderly-fewer a b f keeps o = record {
 pub orderly-packed : (os : List Regular) → Orderly os → Orderly (packed holdsRegular noRegular os)
 orderly-packed os o = record {
   priced = λ i h. rw (packed-at holdsRegular noRegular os i) (o .priced (at i) (rw (packed-at holdsRegular noRegular os i) at h));
-  displayed = λ i h. rw (packed-at holdsRegular noRegular os i) (o .displayed (at i) (rw (packed-at holdsRegular noRegular os i) at h));
+  displays = λ i h. rw (packed-at holdsRegular noRegular os i) (o .displays (at i) (rw (packed-at holdsRegular noRegular os i) at h));
   rises = λ i j w h k.
       rw (packed-at holdsRegular noRegular os i, packed-at holdsRegular noRegular os j)
       (o .rises (at i) (at j) (from-rises holdsRegular noRegular os i j w) (rw (packed-at holdsRegular noRegular os i) at h) (rw (packed-at holdsRegular noRegular os j) at k));
@@ -45,7 +45,7 @@ orderly-packed os o = record {
     at = from holdsRegular noRegular os
 
 -- an order after all others, with a higher id
-module _ (os : List Regular) (n : ℕ) (x : Regular) (fits : n < length os) (priced : held (x .price) ≡ true) (displayed : held (x .display) ≡ true)
+module _ (os : List Regular) (n : ℕ) (x : Regular) (fits : n < length os) (priced : held (x .price) ≡ true) (displays : held (x .display) ≡ true)
     (above : (i : ℕ) → held (getD os i noRegular .quantity) ≡ true → (i < n) × (getD os i noRegular .id < x .id)) (o : Orderly os) where
   here : getD (set os n x) n noRegular ≡ x
   here = getD-set-same os n x noRegular fits
@@ -58,8 +58,8 @@ module _ (os : List Regular) (n : ℕ) (x : Regular) (fits : n < length os) (pri
   price-of i (no e) h = rw (there i e) (o .priced i (rw (there i e) at h))
 
   display-of : (i : ℕ) → Dec (i ≡ n) → held (getD (set os n x) i noRegular .quantity) ≡ true → held (getD (set os n x) i noRegular .display) ≡ true
-  display-of i (yes e) h = rw (e, here) displayed
-  display-of i (no e) h = rw (there i e) (o .displayed i (rw (there i e) at h))
+  display-of i (yes e) h = rw (e, here) displays
+  display-of i (no e) h = rw (there i e) (o .displays i (rw (there i e) at h))
 
   rise : (i j : ℕ) → Dec (i ≡ n) → Dec (j ≡ n) → i < j → held (getD (set os n x) i noRegular .quantity) ≡ true →
       held (getD (set os n x) j noRegular .quantity) ≡ true → getD (set os n x) i noRegular .id < getD (set os n x) j noRegular .id
@@ -71,7 +71,7 @@ module _ (os : List Regular) (n : ℕ) (x : Regular) (fits : n < length os) (pri
   pub orderly-put : Orderly (set os n x)
   orderly-put = record {
     priced = λ i. price-of i (ℕ-discrete i n);
-    displayed = λ i. display-of i (ℕ-discrete i n);
+    displays = λ i. display-of i (ℕ-discrete i n);
     rises = λ i j. rise i j (ℕ-discrete i n) (ℕ-discrete j n);
   }
 
@@ -84,9 +84,9 @@ range-priced o h =
     pos-held (o .price) (omega arith)
 
 -- and a shown quantity
-pub range-displayed : (o : Regular) → regularInRange o ≡ true → held (o .display) ≡ true
+pub range-display : (o : Regular) → regularInRange o ≡ true → held (o .display) ≡ true
 unfolding regularInRange within
-range-displayed o h =
+range-display o h =
     let z : leb 1 (o .display) ≡ true = search (and-l, and-r, h) depth 12 in
     let y = leb-true 1 (o .display) z in
     pos-held (o .display) (omega arith)
@@ -98,6 +98,6 @@ sound-orderly v h =
     let a = arranged-out noRegular holdsRegular _ blankRegular (λ o. o .id) blank-free (unfold blankRegular in refl) 0 (v .regular) h in
     record {
       priced = λ i q. range-priced (getD (v .regular) i noRegular) (and-l _ _ (and-l _ _ (and-l _ _ (a .asks i q))));
-      displayed = λ i q. range-displayed (getD (v .regular) i noRegular) (and-l _ _ (and-l _ _ (and-l _ _ (a .asks i q))));
+      displays = λ i q. range-display (getD (v .regular) i noRegular) (and-l _ _ (and-l _ _ (and-l _ _ (a .asks i q))));
       rises = a .rises;
     }

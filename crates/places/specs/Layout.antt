@@ -12,12 +12,12 @@
 --    830   edition, message, figure, value                                     32 editions
 --    958   figures in force: the increments of series 0 to 7, the percentage, in every second number
 --    975   reserve and shown quantity of an order, as last written               128 regular, by their place
---   1231   the mark: 0 where every order shows what it should
+--   1231   the show-again flag: 0 where every order shows what it should
 --   1232   messages of the last 20 generations, oldest first                   8 series
 --   1392   the last id that a limited sweep looked at
 --
 -- Legs is 16 * the legging place of the first leg + that of the second; ratios is 256 * the ratio of the first leg + that of the second.
--- What stands in regular and complex places that are not in use means nothing. The numbers from 779 to 829, from 958 to 974 and the mark are kept
+-- What stands in regular and complex places that are not in use means nothing. The numbers from 779 to 829, from 958 to 974 and the flag are kept
 -- beside the venue. Figures stand apart, since of those next to each other a compiler keeps the first ones, edition 0's, as a table.
 -- A fill writes an order's quantity alone: its reserve and its shown quantity are the numbers written, and no more than what is left.
 use mathlib.Core.Path.{_≡_}
@@ -221,16 +221,16 @@ pub record FiguresCounted (a b : List ℕ) : Type 0 where
 -- every order that rests has a price, a shown quantity, and an id above those of the orders at places before it
 pub record Orderly (os : List Regular) : Type 0 where
   pub priced : (i : ℕ) → held (getD os i noRegular .quantity) ≡ true → held (getD os i noRegular .price) ≡ true
-  pub displayed : (i : ℕ) → held (getD os i noRegular .quantity) ≡ true → held (getD os i noRegular .display) ≡ true
+  pub displays : (i : ℕ) → held (getD os i noRegular .quantity) ≡ true → held (getD os i noRegular .display) ≡ true
   pub rises : (i j : ℕ) → i < j → held (getD os i noRegular .quantity) ≡ true → held (getD os j noRegular .quantity) ≡ true → getD os i noRegular .id < getD os j noRegular .id
 
 -- every order shows what it should
 abbrev pub Fully : List Regular → Type 0
 Fully os = (i : ℕ) → showsFully (getD os i noRegular) ≡ true
 
--- the mark is 0
-unfoldable pub isUnmarked : List ℕ → Bool
-isUnmarked b = eqb (getD b showAgainAt 0) 0
+-- the show-again flag is 0: no order has to show again
+unfoldable pub noneShowsAgain : List ℕ → Bool
+noneShowsAgain b = eqb (getD b showAgainAt 0) 0
 
 -- the ids of the orders that rest are below this one
 abbrev pub Below : (id : ℕ) → List Regular → Type 0
@@ -241,13 +241,13 @@ unfoldable pub bitOf : Legging → ℕ
 bitOf l = if held (l .quantity) then 1 else 0
 
 -- what is known of the places: those known to be held are, and the mask is that of the legging places; the figures are those in force; and without
--- the mark every order shows what it should
+-- the show-again flag every order shows what it should
 pub record Marked (b : List ℕ) : Type 0 where
   pub regulars : Filled holdsRegular (regularIn b) (min (getD b regularsKnownAt 0) (regularsUsed b))
   pub complexes : Filled holdsComplex (complexIn b) (min (getD b complexesKnownAt 0) (complexesUsed b))
   pub legging : getD b leggingMaskAt 0 ≡ mask (venueOf b .legging)
   pub figures : Figured b
-  pub shows : isUnmarked b ≡ true → Fully (venueOf b .regular)
+  pub shows : noneShowsAgain b ≡ true → Fully (venueOf b .regular)
 
 -- and the levels are those of the regular orders, which are in order
 pub record Right (b : List ℕ) : Type 0 where
@@ -367,7 +367,7 @@ pub record EditionsLoaded (a : List ℕ) (l : List Edition) (b : List ℕ) : Typ
   pub regulars : regularsUsed b ≡ regularsUsed a
   pub complexes : complexesUsed b ≡ complexesUsed a
 
--- from a to b mask and figures are counted, no place is known to be held, and the mark is 0; so what is known is right where no increment is 0
+-- from a to b mask and figures are counted, no place is known to be held, and the flag is 0; so what is known is right where no increment is 0
 -- and every order shows what it should
 pub record BesideCounted (a b : List ℕ) : Type 0 where
   pub venue : venueOf b ≡ venueOf a
@@ -375,7 +375,7 @@ pub record BesideCounted (a b : List ℕ) : Type 0 where
   pub complexes : complexesUsed b ≡ complexesUsed a
   pub marked : ((s : ℕ) → s < 8 → 0 < increment (venueOf a) s) → Fully (venueOf a .regular) → Marked b
 
--- b stands for v, all places in use are held, none is known to be, and mask, figures and mark are right
+-- b stands for v, all places in use are held, none is known to be, and mask, figures and flag are right
 pub record Laid (v : Venue) (b : List ℕ) : Type 0 where
   pub venue : venueOf b ≡ v
   pub regulars : Filled holdsRegular (regularIn b) (regularsUsed b)

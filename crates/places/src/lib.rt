@@ -9,7 +9,7 @@ ghost use Rattle.rules.specs.Generation.{generationsOf};
 ghost use Rattle.rules.specs.Step.{mask};
 ghost use Rattle.places.specs.Layout.{size, regularsUsed, complexesUsed, regularIn, complexIn, leggingIn, listedIn, editionIn, generationsIn, levelIn, regularKey, legsKey, venueOf};
 ghost use Rattle.places.specs.Layout.{Figured, facingKey};
-ghost use Rattle.places.specs.Layout.{isUnmarked, Right};
+ghost use Rattle.places.specs.Layout.{noneShowsAgain, Right};
 use rules::Complex;
 use rules::Edition;
 use rules::Generations;
@@ -254,10 +254,10 @@ pub fn mask_of(numbers: &[u32]) -> u16
     (numbers[LEGGING_MASK_AT] % 65536) as u16
 }
 
-// Every order shows what it should, as far as is known: the mark is 0.
-pub fn is_unmarked(numbers: &[u32]) -> bool
+// Every order shows what it should, as far as is known: the show-again flag is 0.
+pub fn none_shows_again(numbers: &[u32]) -> bool
     requires { ⌜ length (now numbers) ≡ size ⌝ }
-    ensures { λ r. ⌜ r ≡ isUnmarked (now (numbers .entry)) ⌝ }
+    ensures { λ r. ⌜ r ≡ noneShowsAgain (now (numbers .entry)) ⌝ }
 {
     numbers[SHOW_AGAIN_AT] == 0
 }

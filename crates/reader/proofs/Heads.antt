@@ -13,7 +13,7 @@ use Rattle.rules.specs.declared.Decoded.the-variants.{Taken, Refused}
 use Rattle.rules.specs.Bytes.{u16At, lengthField}
 use Rattle.rules.specs.Messages.{messageOf}
 use Rattle.rules.specs.Refusals.{torn, decoded, refusalOf, refusal}
-use Rattle.rules.proofs.Refusing.{decoded-by, refusalOf-by, whole, whole-in}
+use Rattle.rules.proofs.RefusalsLaws.{decoded-by, refusalOf-by, whole, whole-in}
 use Rattle.wire.proofs.Numbers.{u16-here}
 use Rattle.reader.specs.declared.Head.the-variants.{End, Torn, Message}
 use Rattle.reader.specs.Head.{headOf, headAt, headNumber, headLength}

@@ -18,7 +18,7 @@ use Rattle.records.specs.Seen.{Seen, seen, pasted, _plus_}
 use Rattle.wire.proofs.Numbers.{u16-past, u16-drop, u16-here, u32-here}
 use Rattle.records.proofs.SeenLaws.{plus-in, pasted-from}
 use Rattle.rules.proofs.Reading.{half, word, signed-back, signed-small, record-back, reads-back}
-use Rattle.rules.proofs.Calling.{sheet-length}
+use Rattle.rules.proofs.CallsLaws.{sheet-length}
 
 -- Read after write ---------------------------------------------------------------------------
 

@@ -176,14 +176,14 @@ pub fn emit_generated(
     series: u8,
     side: u8,
     price: u32,
-    shown: u32,
+    displayed: u32,
     quantity: u32,
 ) -> usize
-    ensures { λ r. ⌜ seen (now (out .exit)) r ≡ seen (now (out .entry)) at writes (generated id series side price shown quantity ∷ []) ⌝ }
+    ensures { λ r. ⌜ seen (now (out .exit)) r ≡ seen (now (out .entry)) at writes (generated id series side price displayed quantity ∷ []) ⌝ }
 {
     let i = bytes4(id);
     let head = [22u8, 0, 67, 0, i[0], i[1], i[2], i[3], series, side];
-    let words = [price, shown, quantity];
+    let words = [price, displayed, quantity];
     put_words(out, at, &head, &words)
 }
 

@@ -13,7 +13,7 @@ ghost use Rattle.rules.specs.Base.{held, all};
 ghost use Rattle.rules.specs.Messages.{messageForm};
 ghost use Rattle.rules.specs.Complex.{restsRegular, restsComplex};
 ghost use Rattle.rules.specs.Refusals.{regularInRange, complexInRange, offIncrement, idle, refusalOf};
-ghost use Rattle.rules.proofs.Refusing.{wellFormed};
+ghost use Rattle.rules.proofs.RefusalsLaws.{wellFormed};
 ghost use Rattle.places.specs.Layout.{size, venueOf, Figured, Dense};
 ghost use Rattle.refusals.specs.Editions.{editionRefusal};
 

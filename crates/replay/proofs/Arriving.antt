@@ -16,27 +16,27 @@ use Rattle.rules.specs.Base.{Choice, first, held, if_then_else_, nobody, picked
 use Rattle.rules.specs.Words.{complexAt, isComplexOf, isRegularOf, leggingAt, noComplex, noRegular, opposite, placeOf, regularAt}
 use Rattle.rules.specs.Records.{trade}
 use Rattle.rules.specs.Effects.{Effect, Turn, _⟫_, ended, repeat, report, turned}
-use Rattle.rules.specs.Prices.{restsAt, shown}
+use Rattle.rules.specs.Prices.{restsAt, shownSize}
 use Rattle.rules.specs.Standing.{legNet, otherClear, otherLeg, parentOf}
-use Rattle.rules.specs.Trading.{fillRegular, pairOff, take}
+use Rattle.rules.specs.Trading.{fillRegular, pairOff, tradeAtPrice}
 use Rattle.rules.specs.Order.{atOnce, firstMet, hit, isMet, leggingFirst, meet, meetTurn, priceThenId}
 use Rattle.rules.proofs.Cases.{if-by}
 use Rattle.rules.proofs.Filling.{cx, fill-complex, lg, reg}
 use Rattle.rules.proofs.Hitting.{hitting, hitting-complex}
-use Rattle.rules.proofs.Keeping.{keeps-take}
+use Rattle.rules.proofs.EffectsLaws.{keeps-at-price}
 use Rattle.rules.proofs.Meeting.{legging-alone, met-first}
 use Rattle.rules.proofs.Picking.{At, Chosen, first-chosen}
 use Rattle.rules.proofs.Sizes.{once-most, once-shown, rests-held, rests-series, rests-side}
 use Rattle.rules.proofs.Tests.{and-l, and-r}
-use Rattle.demands.proofs.Carrying.{TurnOk, fine-after, opposite-not}
-use Rattle.demands.proofs.Entering.{Pays, Ready, meetTurn-ok}
+use Rattle.demands.proofs.ComplexCarries.{TurnOk, fine-after, opposite-not}
+use Rattle.demands.proofs.OrderCarries.{Pays, Ready, meetTurn-ok}
 use Rattle.demands.proofs.Homes.{Fine, home-held, parent-found, place-at}
 use Rattle.replay.specs.Replay.{lessenOrder}
 use Rattle.replay.specs.Moments.{MakerStands, NonePassedOver, legging}
-use Rattle.replay.proofs.Telling.{Any, Tells, TellsTurn, tells-report, tells-repeat, tells-then}
+use Rattle.replay.proofs.TellsLaws.{Any, Tells, TellsTurn, tells-report, tells-repeat, tells-then}
 use Rattle.replay.proofs.Lessening.{Apart, apart-lasts, good-apart, lessen-no-order, lessen-order}
 use Rattle.replay.proofs.Passing.{HitsFirst, Positive, clear-best-price, hit-passes-none, hits-first, met-passes-none, nobody-met, positive-kept}
-use Rattle.replay.proofs.Trading.{best-fill, next-trade, tells-meet, tells-pairOff, tells-take}
+use Rattle.replay.proofs.TradeTells.{best-fill, next-trade, tells-meet, tells-pairOff, tells-at-price}
 
 -- A hit ---------------------------------------------------------------------------------------
 
@@ -102,7 +102,7 @@ module _ (v : Venue) (f : Fine v) (i k : ℕ) (h : held (reg v i .quantity) ≡ 
     own = report (trade (o .series) (o .side) (l .price) k (o .id) (c .id)) w
 
     abbrev taking : Venue → Effect
-    taking = take k (c .id) (leg .series) (leg .side) clear k
+    taking = tradeAtPrice k (c .id) (leg .series) (leg .side) clear k
 
     abbrev pairing : Venue → Effect
     pairing x = pairOff (placeWhere (isComplexOf (c .id)) (x .complex)) (c .id) (legNet c (o .series) (opposite (o .side)) (l .price) clear) k x
@@ -112,12 +112,12 @@ module _ (v : Venue) (f : Fine v) (i k : ℕ) (h : held (reg v i .quantity) ≡ 
 
     tells-other : Tells w (taking w)
     tells-other =
-        tells-take (c .id) (leg .series) (leg .side) clear k k w (apart-lasts .fillR i k v a)
+        tells-at-price (c .id) (leg .series) (leg .side) clear k k w (apart-lasts .fillR i k v a)
         (best-fill i k v (leg .series) (opposite (leg .side)) clear (unfold otherClear in (clear-best-price v (leg .series) (opposite (leg .side)) (unfold otherClear in (pays .clear)))))
         j (rw (fill-complex i k v) holds) (rw (fill-complex i k v) is)
 
     tells-pair : Tells (hitting v i k l) (pairing (hitting v i k l))
-    tells-pair = tells-pairOff at (c .id) _ k (hitting v i k l) (keeps-take apart-lasts (c .id) (leg .series) (leg .side) clear k k w (apart-lasts .fillR i k v a)) there named
+    tells-pair = tells-pairOff at (c .id) _ k (hitting v i k l) (keeps-at-price apart-lasts (c .id) (leg .series) (leg .side) clear k k w (apart-lasts .fillR i k v a)) there named
 
     -- its complex order rests behind it
     pub behind-legging : k ≤ l .quantity → MakerStands v (o .series) (opposite (o .side)) (l .price) k (c .id)
@@ -158,7 +158,7 @@ module _ (i s d : ℕ) (v : Venue) (f : Fine v) (r : Ready i s d v) (some : Posi
       tells-hit v f i k h (first .there) pays (hit-passes-none v own-order some first k _ _ (behind-legging v f i k h (first .there) pays le) (no-order v f i k h (first .there) pays))
 
   meets-one : held (own-order .quantity) ≡ true → (j : ℕ) (m : Regular) → first meets priceThenId (v .regular) ≡ picked j m → At noRegular meets (v .regular) j m →
-      leggingFirst own-order its-legging (m .price) ≡ false → (k : ℕ) → k ≤ m .quantity → (held (shown m) ≡ true → k ≤ shown m) → Tells v (meet i j k v)
+      leggingFirst own-order its-legging (m .price) ≡ false → (k : ℕ) → k ≤ m .quantity → (held (shownSize m) ≡ true → k ≤ shownSize m) → Tells v (meet i j k v)
   unfolding isMet
   meets-one h j m picks at worse k le own =
       let rests : restsAt (own-order .series) (opposite (own-order .side)) m ≡ true = and-l _ _ (at .is) in

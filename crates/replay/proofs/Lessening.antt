@@ -18,7 +18,7 @@ use Rattle.rules.specs.Trading.{fillComplex, fillRegular, lessComplex, lessRegu
 use Rattle.rules.proofs.Again.{again-fewer}
 use Rattle.rules.proofs.Better.{is-false}
 use Rattle.rules.proofs.Filling.{Fewer, FewerC, cx, fewer-refl, fewerC-refl, fill-fewer, fill-fewerC, held-fits, held-fitsC, reg, still-held, still-heldC}
-use Rattle.rules.proofs.Keeping.{Lasts}
+use Rattle.rules.proofs.EffectsLaws.{Lasts}
 use Rattle.rules.proofs.Tests.{and-l, and-r}
 use Rattle.demands.proofs.Homes.{Good, good-rr, good-xx}
 use Rattle.replay.specs.Replay.{lessenComplex, lessenOrder}

@@ -1,25 +1,25 @@
 -- Proofs of the statements of specs/, in the order in which each file uses the ones before it:
 --
---   Telling     `Tells v e`: the records of the effect e upon v tell the venue that it leaves, and each is as claimed at its moment
+--   TellsLaws   `Tells v e`: the records of the effect e upon v tell the venue that it leaves, and each is as claimed at its moment
 --   Placing     removals and generation, which change legging places alone
 --   Lessening   to lessen the order of an id is to fill its place; ids are apart
 --   Passing     what no trade passes over, by who takes
---   Trading     trades and pairs
+--   TradeTells  trades and pairs
 --   Arriving    an order that arrives: its trades and its hits
 --   Touching    what touch leaves for the legging in
---   Crossing    crosses, which respect the legs
+--   CrossTells  crosses, which respect the legs
 --   Working     a complex order at work, and sweeps
 --   Performing  every accepted message
 --   Sheets      the theorems replays and no-better-passed-over
 --   Witness     the claims are not empty
-pub mod Telling
+pub mod TellsLaws
 pub mod Placing
 pub mod Lessening
 pub mod Passing
-pub mod Trading
+pub mod TradeTells
 pub mod Arriving
 pub mod Touching
-pub mod Crossing
+pub mod CrossTells
 pub mod Working
 pub mod Performing
 pub mod Sheets

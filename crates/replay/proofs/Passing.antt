@@ -11,7 +11,7 @@ use Rattle.rules.specs.declared.Regular.{Regular}
 use Rattle.rules.specs.declared.Venue.{Venue}
 use Rattle.rules.specs.Base.{first, held, if_then_else_, nobody, picked}
 use Rattle.rules.specs.Words.{buy, complexAt, isComplexOf, isRegularOf, leggingAt, noRegular, opposite, regularAt}
-use Rattle.rules.specs.Prices.{bestRegular, better, clearPrice, ownPrice, reaches, restsAt, shown, showsAt}
+use Rattle.rules.specs.Prices.{bestRegular, better, clearPrice, ownPrice, reaches, restsAt, shownSize, showsAt}
 use Rattle.rules.specs.Order.{isMet, leggingFirst, priceThenId}
 use Rattle.rules.proofs.Better.{best-best, better-irrefl, better-trans, is-false}
 use Rattle.rules.proofs.Filling.{Fewer, cx, held-fits, reg, still-held}
@@ -78,7 +78,7 @@ met-reached : (s d p : ℕ) (x : Regular) → isMet s d p x ≡ true → reaches
 unfolding isMet
 met-reached s d p x h = and-r (restsAt s (opposite d) x) _ h
 
-shows-shown : (s e : ℕ) (x : Regular) → showsAt s e x ≡ true → held (shown x) ≡ true
+shows-shown : (s e : ℕ) (x : Regular) → showsAt s e x ≡ true → held (shownSize x) ≡ true
 unfolding showsAt
 shows-shown s e x h = search (and-l, and-r, h)
 
@@ -123,10 +123,10 @@ module _ (v : Venue) (o : Regular) (some : Positive v) where
     met-at-price : (n : ℕ) → restsAt s e (reg v n) ≡ true → reg v n .price ≡ m .price → met (reg v n) ≡ true
     met-at-price n r q = met-in s (o .side) (o .price) (reg v n) r (rw q (met-reached s (o .side) (o .price) m is))
 
-    met-in-turn : (k : ℕ) → (held (shown m) ≡ true → k ≤ shown m) → InTurn v s e (m .price) k j
+    met-in-turn : (k : ℕ) → (held (shownSize m) ≡ true → k ≤ shownSize m) → InTurn v s e (m .price) k j
     unfolding regularAt
     met-in-turn k own = record {
-      own = subst (λ (x : Regular). held (shown x) ≡ true → k ≤ shown x) (sym at) own;
+      own = subst (λ (x : Regular). held (shownSize x) ≡ true → k ≤ shownSize x) (sym at) own;
       shownById = λ t n h q. early n (met-at-price n (shows-rests s e (reg v n) h) q) q (shows-shown s e (reg v n) h ∙ sym (of-m true t));
       allShown = λ t n h q. f .shows n (met-at-price n h q) q (of-m false t);
       reserveById = λ t n h q. early n (met-at-price n h q) q (f .shows n (met-at-price n h q) q (of-m false t) ∙ sym (of-m false t));
@@ -135,13 +135,13 @@ module _ (v : Venue) (o : Regular) (some : Positive v) where
         f : MetFirst s (o .side) (o .price) (v .regular) m
         f = met-first s (o .side) (o .price) (v .regular) j m picks
 
-        of-m : (b : Bool) → held (shown (reg v j)) ≡ b → held (shown m) ≡ b
-        of-m b t = sym (ap (λ (x : Regular). held (shown x)) at) ∙ t
+        of-m : (b : Bool) → held (shownSize (reg v j)) ≡ b → held (shownSize m) ≡ b
+        of-m b t = sym (ap (λ (x : Regular). held (shownSize x)) at) ∙ t
 
-        early : (n : ℕ) → met (reg v n) ≡ true → reg v n .price ≡ m .price → held (shown (reg v n)) ≡ held (shown m) → reg v j .id ≤ reg v n .id
+        early : (n : ℕ) → met (reg v n) ≡ true → reg v n .price ≡ m .price → held (shownSize (reg v n)) ≡ held (shownSize m) → reg v j .id ≤ reg v n .id
         early n h q t = subst (λ (x : Regular). x .id ≤ reg v n .id) (sym at) (f .early n h q t)
 
-    pub met-passes-none : Apart v → leggingFirst o l (m .price) ≡ false → (k : ℕ) → k ≤ m .quantity → (held (shown m) ≡ true → k ≤ shown m) → (taker : ℕ) →
+    pub met-passes-none : Apart v → leggingFirst o l (m .price) ≡ false → (k : ℕ) → k ≤ m .quantity → (held (shownSize m) ≡ true → k ≤ shownSize m) → (taker : ℕ) →
         NonePassedOver v s (o .side) (m .price) k taker (m .id)
     unfolding complexAt isComplexOf regularAt isRegularOf
     met-passes-none a h k le own taker = record {

@@ -6,7 +6,7 @@ use Prim.Native.Nat.{_<_, min, suc, zero, ℕ}
 use native.Mathlib.Nat.{min-zero, suc-min-suc, zero-min}
 use native.Mathlib.Omega.{arith}
 use lib.Dec.{eqb}
-use lib.ListN.{length, take as firsts}
+use lib.ListN.{length, take}
 use borrow.Author.Tests.{leb-false, leb-true, not-false, not-true}
 use Rattle.rules.specs.declared.Complex.{Complex}
 use Rattle.rules.specs.declared.Message.{Message}
@@ -29,16 +29,16 @@ use Rattle.rules.specs.Step.{perform}
 use Rattle.rules.proofs.Cases.{if-by}
 use Rattle.rules.proofs.Filling.{cx, fill-complex, reg}
 use Rattle.rules.proofs.Finding.{where-passes}
-use Rattle.rules.proofs.Refusing.{Passed, wellFormed}
+use Rattle.rules.proofs.RefusalsLaws.{Passed, wellFormed}
 use Rattle.rules.proofs.Tests.{and-l, and-r, or-r}
 use Rattle.rules.proofs.Traffic.{looked-each}
 use Rattle.rules.proofs.Widths.{Ranged, set-each}
 use Rattle.demands.proofs.Admitting.{Joins, JoinsC, complex-admitted, order-admitted, order-ready, withComplexOrder, withOrder}
 use Rattle.demands.proofs.Homes.{Fine, Invariant, after-complex, homes-same}
 use Rattle.demands.proofs.Messages.{order-joins}
-use Rattle.demands.proofs.Soundness.{range-of}
+use Rattle.demands.proofs.SoundnessLaws.{range-of}
 use Rattle.replay.specs.Replay.{State, entered, lessenComplex, lessenOrder, lookedAt, next, noted}
-use Rattle.replay.proofs.Telling.{Tells, TellsFrom, from-then, tells-report, tells-then}
+use Rattle.replay.proofs.TellsLaws.{Tells, TellsFrom, from-then, tells-report, tells-then}
 use Rattle.replay.proofs.Placing.{Places, likened, places-each, places-eachOf, places-generate, places-remove, tells-remove}
 use Rattle.replay.proofs.Lessening.{Apart, good-apart, lessen-complex, lessen-no-complex, lessen-no-order, lessen-order}
 use Rattle.replay.proofs.Passing.{Positive}
@@ -123,12 +123,12 @@ module _ (v : Venue) (a : Apart v) where
 -- A limited sweep's 72 ------------------------------------------------------------------------
 
 -- as many as there are, of n
-firsts-there : (n : ℕ) (l : List ℕ) → firsts (min n (length l)) l ≡ firsts n l
+firsts-there : (n : ℕ) (l : List ℕ) → take (min n (length l)) l ≡ take n l
 firsts-there zero l = rw (zero-min (length l))
 firsts-there (suc n) [] = rw (min-zero (suc n))
 firsts-there (suc n) (i ∷ l) = rw (suc-min-suc n (length l), firsts-there n l)
 
-tells-looked : (n : ℕ) (v : Venue) → Tells v (report (looked (examined n v)) (withReached v (idReached v (firsts n (goingRound v)))))
+tells-looked : (n : ℕ) (v : Venue) → Tells v (report (looked (examined n v)) (withReached v (idReached v (take n (goingRound v)))))
 unfolding examined
 tells-looked n v = tells-report _ v _ (λ x. unfold next noted lookedAt in (ap (λ (l : List ℕ). noted x (withReached v (idReached v l))) (firsts-there n (goingRound v)))) tt
 
@@ -213,7 +213,7 @@ module _ (v : Venue) (k : Invariant v) (number : ℕ) where
   ends-limited : (n : ℕ) → Ends number v (limitedSweep number n v)
   unfolding limitedSweep report withReached
   ends-limited n =
-      let places = firsts n (goingRound v) in
+      let places = take n (goingRound v) in
       let u = withReached v (idReached v places) in
       let low = looked-each (λ i. i < 32) n v (λ j l _. (let e = k .fine .good .len2 in omega arith)) in
       ends-more v _ (eachOf (generate number) places)

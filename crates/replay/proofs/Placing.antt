@@ -21,7 +21,7 @@ use Rattle.rules.specs.Complex.{each, eachOf}
 use Rattle.rules.proofs.Cases.{each-by, if-by}
 use Rattle.replay.specs.Replay.{State, next, noted, replay}
 use Rattle.replay.specs.Moments.{AtEach}
-use Rattle.replay.proofs.Telling.{Tells, TellsFrom, each-append, from-report, from-then, replay-append, tells-nothing}
+use Rattle.replay.proofs.TellsLaws.{Tells, TellsFrom, each-append, from-report, from-then, replay-append, tells-nothing}
 
 -- Removals, place by place --------------------------------------------------------------------
 

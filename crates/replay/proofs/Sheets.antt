@@ -16,18 +16,18 @@ use Rattle.rules.specs.Refusals.{refusal}
 use Rattle.rules.specs.Sound.{complexesSound, regularsSound, sound}
 use Rattle.rules.specs.Step.{accept, answered, perform, step}
 use Rattle.rules.proofs.Arranging.{closed-same}
-use Rattle.rules.proofs.Refusing.{accepted}
+use Rattle.rules.proofs.RefusalsLaws.{accepted}
 use Rattle.rules.proofs.Showing.{again-same}
 use Rattle.rules.proofs.Tests.{and-l, and-r}
 use Rattle.demands.specs.Demand.{Given, Opening, Seen, calls, opening, start}
-use Rattle.demands.specs.Kept.{SoundVenue}
+use Rattle.demands.specs.Soundness.{SoundVenue}
 use Rattle.demands.proofs.Account.{onto}
 use Rattle.demands.proofs.Induction.{all-keep}
-use Rattle.demands.proofs.Soundness.{sound-out}
+use Rattle.demands.proofs.SoundnessLaws.{sound-out}
 use Rattle.demands.proofs.Truth.{Told, more-told, start-told}
-use Rattle.replay.specs.Replay.{Replays, State, begun, entered, finished, next, noted, replay, upon}
+use Rattle.replay.specs.Replay.{Replays, State, afterAnswer, entered, finished, next, noted, replay, upon}
 use Rattle.replay.specs.Moments.{AtEach, NoBetterPassedOver}
-use Rattle.replay.proofs.Telling.{each-append, replay-append}
+use Rattle.replay.proofs.TellsLaws.{each-append, replay-append}
 use Rattle.replay.proofs.Performing.{performs}
 
 -- One message ---------------------------------------------------------------------------------
@@ -72,11 +72,11 @@ refuses number v s ns = record { venue = finished-same v s; messages = refl; mom
 
 -- its 64 begins it
 begins : (x : State) (v : Venue) (bs : List ℕ) (ns : List (List ℕ)) → finished (x .books) ≡ v → x .messages ≡ bs ∷ ns → (number r : ℕ) →
-    begun number r x ≡ during number (if eqb r 0 then entered number (messageOf bs) v else v) ns
-unfolding begun
+    afterAnswer number r x ≡ during number (if eqb r 0 then entered number (messageOf bs) v else v) ns
+unfolding afterAnswer
 begins x v bs ns e q number r = rw (e, q)
 
-follows-answer : (x : State) (number r m c : ℕ) (e : Effect) (ns : List (List ℕ)) → Follows (begun number r x) e ns →
+follows-answer : (x : State) (number r m c : ℕ) (e : Effect) (ns : List (List ℕ)) → Follows (afterAnswer number r x) e ns →
     Follows x (record { venue = e .venue; reports = answer number r m c ∷ e .reports }) ns
 unfolding replay next
 follows-answer x number r m c e ns f = record { venue = f .venue; messages = f .messages; moments = (tt, f .moments) }

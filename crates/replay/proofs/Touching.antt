@@ -18,7 +18,7 @@ use Rattle.rules.specs.declared.Venue.{Venue}
 use Rattle.rules.specs.declared.Verdict.{Verdict}
 use Rattle.rules.specs.declared.Verdict.the-variants.{Fails}
 use Rattle.rules.specs.Base.{held, if_then_else_}
-use Rattle.rules.specs.Words.{buy, complexAt, leggingAt, noLegging, opposite, placeOf, signed, withLegging}
+use Rattle.rules.specs.Words.{buy, complexAt, leggingAt, noLegging, opposite, placeOf, signTimes, withLegging}
 use Rattle.rules.specs.Effects.{Effect, nothing}
 use Rattle.rules.specs.Prices.{bestIn, bestOwn, bestRegular, better, net, ownPrice, showsAt, weighed}
 use Rattle.rules.specs.Removal.{failIf, remove, stay, stayers}
@@ -49,7 +49,7 @@ no-better d a p ha hp h = ((λ e. buys d (eqb-true d buy e) h), (λ e. sells d (
         ltb-false a p (rw z at h)
 
 weighed-le : (r d a p : ℕ) → 0 < a → 0 < p → better (opposite d) p a ≡ false → leZ (weighed r d a) (weighed r d p) ≡ true
-unfolding weighed signed
+unfolding weighed signTimes
 weighed-le r d a p ha hp h = go (eqb d buy) (no-better d a p ha hp h)
   where
     down : p ≤ a → leZ (negℤ (pos (r * a))) (negℤ (pos (r * p))) ≡ true

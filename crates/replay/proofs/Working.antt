@@ -18,27 +18,27 @@ use Rattle.rules.specs.Records.{Report}
 use Rattle.rules.specs.Effects.{Effect, Turn, _⟫_, ended, nothing, repeat, report, turned}
 use Rattle.rules.specs.Prices.{bestRegular, better, net, ownPrice, showsAt}
 use Rattle.rules.specs.Removal.{remove, removeOf}
-use Rattle.rules.specs.Trading.{fillComplex, lessComplex, pairOff, take}
+use Rattle.rules.specs.Trading.{fillComplex, lessComplex, pairOff, tradeAtPrice}
 use Rattle.rules.specs.Complex.{anyClosed, crossTurn, each, eachOf, legIn, legInTurn, legsIn, touch, touches, unitsIn, work}
 use Rattle.rules.proofs.Cases.{if-by}
 use Rattle.rules.proofs.Ending.{legs-facts}
 use Rattle.rules.proofs.Filling.{Fewer, cx, lg, reg}
-use Rattle.rules.proofs.Keeping.{keeps-take}
+use Rattle.rules.proofs.EffectsLaws.{keeps-at-price}
 use Rattle.rules.proofs.Pairing.{legIn-filled, legIn-venue, legged, legged-complex, legged-legging, pair-regular}
-use Rattle.rules.proofs.Settling.{Kept, stayers-kept}
+use Rattle.rules.proofs.Settling.{SameOrGone, stayers-kept}
 use Rattle.rules.proofs.Sizes.{ShowsAt, best-is}
-use Rattle.rules.proofs.Taking.{Chain, chain-elsewhere, no-more, take-chain, traded}
+use Rattle.rules.proofs.TradingLaws.{Chain, chain-elsewhere, no-more, at-price-chain, traded}
 use Rattle.rules.proofs.Tests.{and-l, and-r, free-none}
 use Rattle.rules.proofs.Traffic.{Each}
-use Rattle.demands.proofs.Carrying.{TurnOk, crossTurn-ok, fine-after, legInTurn-ok, repeat-carries, touch-carries, work-carries}
+use Rattle.demands.proofs.ComplexCarries.{TurnOk, crossTurn-ok, fine-after, legInTurn-ok, repeat-carries, touch-carries, work-carries}
 use Rattle.demands.proofs.Homes.{Fine}
-use Rattle.replay.proofs.Telling.{Any, Tells, TellsTurn, tells-each, tells-eachOf, tells-nothing, tells-repeat, tells-then}
+use Rattle.replay.proofs.TellsLaws.{Any, Tells, TellsTurn, tells-each, tells-eachOf, tells-nothing, tells-repeat, tells-then}
 use Rattle.replay.proofs.Placing.{tells-remove}
 use Rattle.replay.proofs.Lessening.{Apart, apart-lasts, good-apart}
 use Rattle.replay.proofs.Passing.{Best, Positive, best-price, none-better, positive-kept}
-use Rattle.replay.proofs.Trading.{best-fill, fill-shows, tells-pairOff, tells-take}
+use Rattle.replay.proofs.TradeTells.{best-fill, fill-shows, tells-pairOff, tells-at-price}
 use Rattle.replay.proofs.Touching.{Sides, cleared, dear, filled, touch-sides}
-use Rattle.replay.proofs.Crossing.{told-cross}
+use Rattle.replay.proofs.CrossTells.{told-cross}
 
 -- Leg in --------------------------------------------------------------------------------------
 
@@ -52,8 +52,8 @@ best-chain no-more t e q b = b
 best-chain (traded {v = v} i k f sh is le rest) t e q b = best-chain rest t e q (best-fill i k v t e q b)
 
 -- a place that was free is free
-free-kept : (l m : Legging) → Kept l m → ownPrice m ≡ 0 → ownPrice l ≡ 0
-unfolding Kept ownPrice
+free-kept : (l m : Legging) → SameOrGone l m → ownPrice m ≡ 0 → ownPrice l ≡ 0
+unfolding SameOrGone ownPrice
 free-kept l m (inl e) h = rw e h
 free-kept l m (inr e) h = rw e
 
@@ -62,30 +62,30 @@ module _ (i a b k : ℕ) (v : Venue) where
   c = cx v i
 
   abbrev first-leg : Venue → Effect
-  first-leg = take (c .ratio1 * k) (c .id) (c .series1) (c .side1) a (c .ratio1 * k)
+  first-leg = tradeAtPrice (c .ratio1 * k) (c .id) (c .series1) (c .side1) a (c .ratio1 * k)
 
   abbrev second-leg : Venue → Effect
-  second-leg = take (c .ratio2 * k) (c .id) (c .series2) (c .side2) b (c .ratio2 * k)
+  second-leg = tradeAtPrice (c .ratio2 * k) (c .id) (c .series2) (c .side2) b (c .ratio2 * k)
 
   abbrev u : Venue
   u = first-leg v .venue
 
   chain₁ : Chain (c .id) (c .series1) (c .side1) a v (first-leg v .reports) u
-  chain₁ = take-chain (c .id) (c .series1) (c .side1) a (c .ratio1 * k) (c .ratio1 * k) v
+  chain₁ = at-price-chain (c .id) (c .series1) (c .side1) a (c .ratio1 * k) (c .ratio1 * k) v
 
   chain₂ : Chain (c .id) (c .series2) (c .side2) b u (second-leg u .reports) (second-leg u .venue)
-  chain₂ = take-chain (c .id) (c .series2) (c .side2) b (c .ratio2 * k) (c .ratio2 * k) u
+  chain₂ = at-price-chain (c .id) (c .series2) (c .side2) b (c .ratio2 * k) (c .ratio2 * k) u
 
   tells-legIn : Apart v → held (c .quantity) ≡ true → Best v (c .series1) (opposite (c .side1)) a → Best v (c .series2) (opposite (c .side2)) b → Tells v (legIn i a b k v)
   unfolding legIn complexAt _⟫_
   tells-legIn ap₀ h b₁ b₂ =
-      let ap₁ = keeps-take apart-lasts (c .id) (c .series1) (c .side1) a (c .ratio1 * k) (c .ratio1 * k) v ap₀ in
-      let ap₂ = keeps-take apart-lasts (c .id) (c .series2) (c .side2) b (c .ratio2 * k) (c .ratio2 * k) u ap₁ in
+      let ap₁ = keeps-at-price apart-lasts (c .id) (c .series1) (c .side1) a (c .ratio1 * k) (c .ratio1 * k) v ap₀ in
+      let ap₂ = keeps-at-price apart-lasts (c .id) (c .series2) (c .side2) b (c .ratio2 * k) (c .ratio2 * k) u ap₁ in
       let same = chain-elsewhere chain₁ .complex in
       tells-then v (first-leg v ⟫ second-leg) (pairOff i (c .id) (net c a b) k)
       (tells-then v (first-leg v) second-leg
-      (tells-take (c .id) (c .series1) (c .side1) a (c .ratio1 * k) (c .ratio1 * k) v ap₀ b₁ i h refl)
-      (tells-take (c .id) (c .series2) (c .side2) b (c .ratio2 * k) (c .ratio2 * k) u ap₁ (best-chain chain₁ (c .series2) (opposite (c .side2)) b b₂)
+      (tells-at-price (c .id) (c .series1) (c .side1) a (c .ratio1 * k) (c .ratio1 * k) v ap₀ b₁ i h refl)
+      (tells-at-price (c .id) (c .series2) (c .side2) b (c .ratio2 * k) (c .ratio2 * k) u ap₁ (best-chain chain₁ (c .series2) (opposite (c .side2)) b b₂)
       i (rw same h) (ap (λ (l : List Complex). getD l i noComplex .id) same)))
       (tells-pairOff i (c .id) (net c a b) k (legged v i a b k) ap₂ (rw (legged-complex v i a b k) h) (ap (λ (l : List Complex). getD l i noComplex .id) (legged-complex v i a b k)))
 
@@ -100,10 +100,10 @@ module _ (i a b k : ℕ) (v : Venue) where
   left-shows t e n h =
       chain-shows chain₁ t e n (chain-shows chain₂ t e n (subst (λ (l : List Regular). showsAt t e (getD l n noRegular) ≡ true) left-regular h))
 
-  left-kept : (n : ℕ) → Kept (lg left n) (lg v n)
+  left-kept : (n : ℕ) → SameOrGone (lg left n) (lg v n)
   left-kept n =
-      subst (λ (w : Venue). Kept (lg w n) (lg v n)) (sym (legIn-venue v i a b k))
-      (subst (λ (l : List Legging). Kept (lg (pairOff i (c .id) (net c a b) k (legged v i a b k) .venue) n) (getD l n noLegging)) (legged-legging v i a b k)
+      subst (λ (w : Venue). SameOrGone (lg w n) (lg v n)) (sym (legIn-venue v i a b k))
+      (subst (λ (l : List Legging). SameOrGone (lg (pairOff i (c .id) (net c a b) k (legged v i a b k) .venue) n) (getD l n noLegging)) (legged-legging v i a b k)
       (unfold pairOff report _⟫_ removeOf remove withLegging fillComplex withComplex in (stayers-kept _ 0 (legged v i a b k .legging) n)))
 
   left-free : (s e : ℕ) → ownPrice (leggingAt v s e) ≡ 0 → ownPrice (leggingAt left s e) ≡ 0

@@ -11,11 +11,11 @@ use Rattle.rules.specs.declared.Venue.{Venue}
 use Rattle.rules.specs.Base.{held}
 use Rattle.rules.specs.Words.{complexAt, freshVenue, isComplexOf, isRegularOf, leggingAt, opposite, regularAt}
 use Rattle.rules.specs.Records.{Report, answer, cancelled, crossed, generated, looked, pair, removed, trade}
-use Rattle.rules.specs.Prices.{better, ownPrice, restsAt, shown, showsAt}
+use Rattle.rules.specs.Prices.{better, ownPrice, restsAt, shownSize, showsAt}
 use Rattle.rules.specs.Step.{step}
 use Rattle.demands.specs.Crosses.{Respects}
 use Rattle.demands.specs.Demand.{Given, Opening, calls, opening}
-use Rattle.demands.specs.Kept.{SoundVenue}
+use Rattle.demands.specs.Soundness.{SoundVenue}
 use Rattle.replay.specs.Replay.{State, next, upon}
 
 -- A trade -------------------------------------------------------------------------------------
@@ -32,11 +32,11 @@ pub data MakerStands (v : Venue) (s e p k maker : ℕ) : Type 0 where
 -- order that rests at place i, on side e of series s at price p. "Then the legging order" is `hit` below.
 pub record InTurn (v : Venue) (s e p k i : ℕ) : Type 0 where
   -- while it shows any, the trade is of what it shows, and of those at that price that show none is earlier
-  pub own : held (shown (regularAt v i)) ≡ true → k ≤ shown (regularAt v i)
-  pub shownById : held (shown (regularAt v i)) ≡ true → (n : ℕ) → showsAt s e (regularAt v n) ≡ true → regularAt v n .price ≡ p → regularAt v i .id ≤ regularAt v n .id
+  pub own : held (shownSize (regularAt v i)) ≡ true → k ≤ shownSize (regularAt v i)
+  pub shownById : held (shownSize (regularAt v i)) ≡ true → (n : ℕ) → showsAt s e (regularAt v n) ≡ true → regularAt v n .price ≡ p → regularAt v i .id ≤ regularAt v n .id
   -- its reserve is traded when none at that price shows any, and of those that rest there none is earlier
-  pub allShown : held (shown (regularAt v i)) ≡ false → (n : ℕ) → restsAt s e (regularAt v n) ≡ true → regularAt v n .price ≡ p → held (shown (regularAt v n)) ≡ false
-  pub reserveById : held (shown (regularAt v i)) ≡ false → (n : ℕ) → restsAt s e (regularAt v n) ≡ true → regularAt v n .price ≡ p → regularAt v i .id ≤ regularAt v n .id
+  pub allShown : held (shownSize (regularAt v i)) ≡ false → (n : ℕ) → restsAt s e (regularAt v n) ≡ true → regularAt v n .price ≡ p → held (shownSize (regularAt v n)) ≡ false
+  pub reserveById : held (shownSize (regularAt v i)) ≡ false → (n : ℕ) → restsAt s e (regularAt v n) ≡ true → regularAt v n .price ≡ p → regularAt v i .id ≤ regularAt v n .id
 
 -- a trade of k contracts at price p in series s by a taker of side d, upon the books v: it takes the side opposite to d
 pub record NonePassedOver (v : Venue) (s d p k taker maker : ℕ) : Type 0 where
@@ -70,7 +70,7 @@ abbrev pub AtItsMoment : Venue → Report → Type 0
 AtItsMoment v (answer number refusal mask count) = Unit {0}
 AtItsMoment v (trade series side price quantity taker maker) = NonePassedOver v series side price quantity taker maker
 AtItsMoment v (pair id n quantity) = Unit {0}
-AtItsMoment v (generated id series side price shown quantity) = Unit {0}
+AtItsMoment v (generated id series side price displayed quantity) = Unit {0}
 AtItsMoment v (removed id series side cause) = Unit {0}
 AtItsMoment v (crossed taker maker n quantity) = BothRespected v taker maker n
 AtItsMoment v (cancelled id quantity) = Unit {0}

@@ -4,7 +4,7 @@ use mathlib.Core.Path.{_≡_}
 use mathlib.Core.List.{List, [], _∷_, map}
 use Prim.Native.Nat.{ℕ}
 use lib.Dec.{eqb}
-use lib.ListN.{drop, getD, take as firsts}
+use lib.ListN.{drop, getD, take}
 use Rattle.rules.specs.declared.Message.{Message}
 use Rattle.rules.specs.declared.Message.the-variants.{Away, Cancel, Increment, LimitedSweep, Order, Percent, Status, Sweep, TwoLeg}
 use Rattle.rules.specs.declared.Venue.{Venue}
@@ -20,7 +20,7 @@ use Rattle.rules.specs.Complex.{goingRound, idReached}
 use Rattle.rules.specs.Places.{closeGaps}
 use Rattle.rules.specs.Step.{setAway, setFigure, setStatus, step}
 use Rattle.demands.specs.Demand.{Given, Opening, calls, opening}
-use Rattle.demands.specs.Kept.{SoundVenue}
+use Rattle.demands.specs.Soundness.{SoundVenue}
 
 -- What a record says --------------------------------------------------------------------------
 
@@ -34,7 +34,7 @@ lessenComplex id k v = withComplex v (map (λ c. if isComplexOf id c then lessCo
 
 -- so many orders looked at, from the id reached before and going round: the last of them is reached
 unfoldable pub lookedAt : (count : ℕ) → Venue → Venue
-lookedAt count v = withReached v (idReached v (firsts count (goingRound v)))
+lookedAt count v = withReached v (idReached v (take count (goingRound v)))
 
 -- A message's beginning and end ---------------------------------------------------------------
 
@@ -67,8 +67,8 @@ pub record State : Type 0 where
   pub messages : List (List ℕ)
 
 -- a 64: the message before it ends, and its own begins where it was accepted
-unfoldable pub begun : (number refusal : ℕ) → State → State
-begun number refusal x =
+unfoldable pub afterAnswer : (number refusal : ℕ) → State → State
+afterAnswer number refusal x =
     let v = finished (x .books) in
     record {
       books = if eqb refusal 0 then entered number (messageOf (getD (x .messages) 0 [])) v else v;
@@ -82,10 +82,10 @@ noted x v = record { books = v; number = x .number; messages = x .messages }
 
 -- one record more. A complex order that takes, or whose legging order is taken, is lessened by its 66. A 67 counts as of the message at hand.
 unfoldable pub next : Report → State → State
-next (answer number refusal mask count) x = begun number refusal x
+next (answer number refusal mask count) x = afterAnswer number refusal x
 next (trade series side price quantity taker maker) x = noted x (lessenOrder maker quantity (lessenOrder taker quantity (x .books)))
 next (pair id n quantity) x = noted x (lessenComplex id quantity (x .books))
-next (generated id series side price shown quantity) x =
+next (generated id series side price displayed quantity) x =
     noted x (counted (x .number) series (placed (placeOf series side) (record { parent = id; price = price; quantity = quantity }) (x .books)))
 next (removed id series side cause) x = noted x (placed (placeOf series side) noLegging (x .books))
 next (crossed taker maker n quantity) x = noted x (lessenComplex maker quantity (lessenComplex taker quantity (x .books)))

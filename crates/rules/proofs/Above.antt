@@ -6,7 +6,7 @@ use mathlib.Core.List.{List, [], _∷_}
 use Prim.Native.Nat.{ℕ, suc, _+_, _≤_, _<_}
 use native.Mathlib.Omega.{arith}
 use lib.Dec.{ltb}
-use lib.ListN.{getD, length, take as firsts}
+use lib.ListN.{getD, length, take}
 use borrow.Author.Tests.{ltb-true, lt-ltb, le-ltb}
 use Rattle.rules.specs.declared.Complex.{Complex}
 use Rattle.rules.specs.declared.Venue.{Venue}
@@ -95,7 +95,7 @@ module _ (rate : Complex → ℕ) where
 
   -- the orders that a limited sweep chose upon v, as they are now: together no more than all
   pub round-once : (n : ℕ) (v : Venue) (now : List Complex) → length now ≡ length (v .complex) →
-      sum (λ i. rate (getD now i noComplex)) (firsts n (goingRound v)) ≤ sum rate now
+      sum (λ i. rate (getD now i noComplex)) (take n (goingRound v)) ≤ sum rate now
   unfolding goingRound
   round-once n v now e =
       let f : ℕ → ℕ = λ i. rate (getD now i noComplex) in

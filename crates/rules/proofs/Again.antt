@@ -9,7 +9,7 @@ use Rattle.rules.specs.declared.Regular.{Regular}
 use Rattle.rules.specs.declared.Venue.{Venue}
 use Rattle.rules.specs.Base.{held}
 use Rattle.rules.specs.Words.{noRegular, withRegular}
-use Rattle.rules.specs.Prices.{shown}
+use Rattle.rules.specs.Prices.{shownSize}
 use Rattle.rules.specs.Standing.{showAgain, showsAgain}
 use Rattle.rules.specs.Sums.{openIn, openRegular}
 use Rattle.rules.proofs.Filling.{Fewer, Lesser, reg}
@@ -25,7 +25,7 @@ map-length f (x ∷ l) = rw (map-length f l)
 
 -- every order shows some size
 abbrev pub Shown : Venue → Type 0
-Shown v = (i : ℕ) → held (reg v i .quantity) ≡ true → held (shown (reg v i)) ≡ true
+Shown v = (i : ℕ) → held (reg v i .quantity) ≡ true → held (shownSize (reg v i)) ≡ true
 
 again-lesser : (o : Regular) → Lesser (showsAgain o) o
 unfolding showsAgain

@@ -6,7 +6,7 @@ use Rattle.rules.specs.declared.Message.{Message}
 use Rattle.rules.specs.declared.Message.the-variants.{Away, Cancel, Increment, LimitedSweep, Order, Percent, Status, Sweep, TwoLeg}
 use Rattle.rules.specs.declared.Venue.{Venue}
 use Rattle.rules.specs.Words.{withLast, withReached}
-use lib.ListN.{take as firsts}
+use lib.ListN.{take}
 use Rattle.rules.specs.Records.{looked}
 use Rattle.rules.specs.Settings.{percentage}
 use Rattle.rules.specs.Effects.{Effect, _⟫_, report}
@@ -67,7 +67,7 @@ unfolding sweep
 sweep-stands number v = (refl, settled _)
 
 pub limited-stands : (number n : ℕ) (v : Venue) →
-    let places = firsts n (goingRound v) in
+    let places = take n (goingRound v) in
     let e = report (looked (examined n v)) (withReached v (idReached v places)) ⟫ eachOf work places ⟫ settle in
     (limitedSweep number n v ≡ e ⟫ eachOf (generate number) places) × AllStand (e .venue)
 unfolding limitedSweep

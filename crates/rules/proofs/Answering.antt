@@ -15,9 +15,9 @@ use Rattle.rules.specs.Records.{ForAll, Fits, Report, TwoBytes, FourByte
 use Rattle.rules.specs.Effects.{Effect, nothing}
 use Rattle.rules.specs.Refusals.{refusal}
 use Rattle.rules.specs.Step.{accept, answered, filled, mask, step}
-use Rattle.rules.proofs.Calling.{step-by}
+use Rattle.rules.proofs.CallsLaws.{step-by}
 use Rattle.rules.proofs.Quiet.{NoAnswer, Quiet, quiet-accept, quiet-nothing}
-use Rattle.rules.proofs.Refusing.{accepted, refusal-small}
+use Rattle.rules.proofs.RefusalsLaws.{accepted, refusal-small}
 use Rattle.rules.proofs.Widths.{Ranged}
 use Rattle.rules.proofs.Writing.{Writes, writes-accept, writes-nothing}
 

@@ -12,7 +12,7 @@ use Rattle.rules.specs.declared.Regular.{Regular}
 use Rattle.rules.proofs.Tests.{held-pos, pos-held, free-none}
 use Rattle.rules.specs.Base.{if_then_else_, held}
 use Rattle.rules.specs.Words.{buy, noRegular}
-use Rattle.rules.specs.Prices.{better, betterOf, shown, showsAt, bestIn}
+use Rattle.rules.specs.Prices.{better, betterOf, shownSize, showsAt, bestIn}
 
 -- as a statement about numbers; b tells whether the side is buy
 Better : Bool → ℕ → ℕ → Type 0
@@ -139,7 +139,7 @@ of-other d x p q = go (better d p q) refl
 
 -- no order of a side is better than its best price
 pub best-best : (s d : ℕ) (os : List Regular) (i : ℕ) → showsAt s d (getD os i noRegular) ≡ true → better d (getD os i noRegular .price) (bestIn s d os) ≡ true → ⊥
-unfolding bestIn showsAt shown
+unfolding bestIn showsAt shownSize
 best-best s d [] i r h = false≢true r
 best-best s d (o ∷ os) zero r h = own-of d (o .price) (bestIn s d os) (rw r at h)
 best-best s d (o ∷ os) (suc i) r h = best-best s d os i r (go (showsAt s d o) h)

@@ -14,10 +14,10 @@ use Rattle.rules.specs.declared.Complex.{Complex}
 use Rattle.rules.specs.declared.Regular.{Regular}
 use Rattle.rules.specs.declared.Venue.{Venue}
 use Rattle.rules.specs.Base.{held}
-use Rattle.rules.specs.Words.{buy, isAway, isId, isPrice, isQuantity, leggingAt, noRegular, notListed, opposite, sell, signed, within}
+use Rattle.rules.specs.Words.{buy, isAway, isId, isPrice, isQuantity, leggingAt, noRegular, notListed, opposite, sell, signTimes, within}
 use Rattle.rules.specs.Settings.{increment}
 use Rattle.rules.specs.Records.{FourSigned}
-use Rattle.rules.specs.Prices.{away, bestIn, bestOwn, bestRegular, better, betterOf, clearPrice, displayed, inBand, marketBest, ownPrice, reaches, showsAt, taken1, taken2}
+use Rattle.rules.specs.Prices.{away, bestIn, bestOwn, bestRegular, better, betterOf, clearPrice, displayedPrice, inBand, marketBest, ownPrice, reaches, showsAt, taken1, taken2}
 use Rattle.rules.specs.Standing.{otherSize}
 use Rattle.rules.specs.Generation.{legPrice, newLegging, reachesAny}
 use Rattle.rules.specs.Refusals.{complexInRange, twoLegInRange}
@@ -54,9 +54,9 @@ unfolding plus minus
 small-i32 (pos n) p m = omega arith
 small-i32 (negsuc n) p m = omega arith
 
-signed-size : (d a : ℕ) → plus (signed d (pos a)) + minus (signed d (pos a)) ≡ a
-unfolding signed
-signed-size d a =
+sign-times-size : (d a : ℕ) → plus (signTimes d (pos a)) + minus (signTimes d (pos a)) ≡ a
+unfolding signTimes
+sign-times-size d a =
     if-by (λ z. plus z + minus z ≡ a) (eqb d buy) (λ _. unfold plus minus in (omega arith))
     (λ _. rw (neg-plus (pos a), neg-minus (pos a)) (unfold plus minus in (omega arith)))
 
@@ -66,13 +66,13 @@ unfolding plus minus
 one-part (pos n) a b h = (omega arith, omega arith)
 one-part (negsuc n) a b h = (omega arith, omega arith)
 
-pub net-i32 : (d e a b : ℕ) → a ≤ 300000 → b ≤ 300000 → FourSigned (signed d (pos a) +ℤ signed e (pos b))
+pub net-i32 : (d e a b : ℕ) → a ≤ 300000 → b ≤ 300000 → FourSigned (signTimes d (pos a) +ℤ signTimes e (pos b))
 net-i32 d e a b p q =
-    let x = signed d (pos a) in
-    let y = signed e (pos b) in
+    let x = signTimes d (pos a) in
+    let y = signTimes e (pos b) in
     let s = one-part (x +ℤ y) (plus x + plus y) (minus x + minus y) (add-is x y) in
-    let t = signed-size d a in
-    let u = signed-size e b in
+    let t = sign-times-size d a in
+    let u = sign-times-size e b in
     small-i32 (x +ℤ y) (omega arith) (omega arith)
 
 pub neg-i32 : (z : ℤ) → plus z ≤ 600000 → minus z ≤ 600000 → FourSigned (negℤ z)
@@ -93,13 +93,13 @@ band-second v c n h = search (and-l, and-r, h)
 up : (i p : ℕ) → 0 < i → p ≤ (p + (i - 1)) / i * i
 up i p h = let a = div-add-mod' (p + (i - 1)) i in let b = mod-lt (p + (i - 1)) h in omega arith
 
-pub sell-shown : (i d p : ℕ) → 0 < i → eqb d buy ≡ false → p ≤ displayed i d p
-unfolding displayed
-sell-shown i d p h f = rw f (up i p h)
+pub sell-displayed : (i d p : ℕ) → 0 < i → eqb d buy ≡ false → p ≤ displayedPrice i d p
+unfolding displayedPrice
+sell-displayed i d p h f = rw f (up i p h)
 
-pub shown-small : (low i d p : ℕ) → within low 100000 (displayed i d p) ≡ true → displayed i d p ≤ 100000
+pub displayed-small : (low i d p : ℕ) → within low 100000 (displayedPrice i d p) ≡ true → displayedPrice i d p ≤ 100000
 unfolding within
-shown-small low i d p z = leb-true (displayed i d p) 100000 (and-r (leb low (displayed i d p)) _ z)
+displayed-small low i d p z = leb-true (displayedPrice i d p) 100000 (and-r (leb low (displayedPrice i d p)) _ z)
 
 away-small : (v : Venue) → Ranged v → (s d : ℕ) → away v s d ≤ 100000
 unfolding away listedInRange isAway within
@@ -145,8 +145,8 @@ pub price-small : {number : ℕ} (v : Venue) (c : Complex) (s d : ℕ) → s < 8
 unfolding opposite
 price-small v c s zero s8 d2 m t r = buy-small v s (legPrice v c s 0) r t (m .inside) (m .outside)
 price-small v c s (suc zero) s8 d2 m t r =
-    let x = shown-small _ (increment v s) 1 (legPrice v c s 1) (m .range) in
-    let y = sell-shown (increment v s) 1 (legPrice v c s 1) (dated-steps v (r .dated) s s8) refl in
+    let x = displayed-small _ (increment v s) 1 (legPrice v c s 1) (m .range) in
+    let y = sell-displayed (increment v s) 1 (legPrice v c s 1) (dated-steps v (r .dated) s s8) refl in
     omega arith
 price-small v c s (suc (suc d)) s8 d2 m t r = absurd (omega arith)
 

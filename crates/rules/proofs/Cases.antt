@@ -10,8 +10,8 @@ use Rattle.rules.specs.declared.Venue.{Venue}
 use Rattle.rules.specs.Base.{if_then_else_, held, Choice, nobody, picked, first}
 use Rattle.rules.specs.Words.{opposite, noRegular, noComplex, regularAt, complexAt, leggingAt, earlier, earlierComplex}
 use Rattle.rules.specs.Effects.{Effect, nothing, _⟫_, Turn, ended, turned, repeat}
-use Rattle.rules.specs.Prices.{shown, showsFor}
-use Rattle.rules.specs.Trading.{tradeWith, take}
+use Rattle.rules.specs.Prices.{shownSize, showsFor}
+use Rattle.rules.specs.Trading.{tradeWith, tradeAtPrice}
 use Rattle.rules.specs.Order.{isMet, priceThenId, atOnce, firstMet, leggingFirst, meet, hit, meetTurn}
 use Rattle.rules.specs.Complex.{crosses, limitThenId, cross, crossTurn, nextAbove, each}
 use Rattle.rules.proofs.Picking.{At, Chosen, first-chosen}
@@ -27,14 +27,14 @@ module _ {ℓ} (Q : Effect → Type ℓ) (fuel x s d p k : ℕ) (v : Venue) wher
   there = showsFor s (opposite d) p
 
   abbrev goesOn : (i : ℕ) → Regular → Effect
-  goesOn i o = tradeWith x d i (min k (shown o)) v ⟫ take fuel x s d p (k - min k (shown o))
+  goesOn i o = tradeWith x d i (min k (shownSize o)) v ⟫ tradeAtPrice fuel x s d p (k - min k (shownSize o))
 
-  pub take-by : (held k ≡ false → Q (nothing v)) →
+  pub at-price-by : (held k ≡ false → Q (nothing v)) →
       (held k ≡ true → Chosen noRegular there (v .regular) nobody → Q (nothing v)) →
       (held k ≡ true → (i : ℕ) (o : Regular) → At noRegular there (v .regular) i o → Q (goesOn i o)) →
-      Q (take (suc fuel) x s d p k v)
-  unfolding take
-  take-by none empty more = go (held k) refl
+      Q (tradeAtPrice (suc fuel) x s d p k v)
+  unfolding tradeAtPrice
+  at-price-by none empty more = go (held k) refl
     where
       pick : (y : Choice Regular) → Chosen noRegular there (v .regular) y → held k ≡ true → Q (elim y [ nobody ↦ nothing v | picked i o ↦ goesOn i o ])
       pick nobody c e = empty e c

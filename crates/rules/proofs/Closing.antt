@@ -15,8 +15,8 @@ use Rattle.rules.specs.declared.Venue.{Venue}
 use Rattle.rules.specs.Base.{if_then_else_, held, keep}
 use Rattle.rules.specs.Words.{noRegular, noComplex, withRegular, withComplex, leggingAt, statusOf, isComplexOf}
 use Rattle.rules.specs.Settings.{figureNow, increment, percent}
-use Rattle.rules.specs.Prices.{betterOf, shown, showsAt, bestIn, sizeIn, bestRegular, bestSize, clearPrice, away, marketBest, taken1, taken2, inBand, showsFor}
-use Rattle.rules.specs.Standing.{findComplex, parentOf, bothOpen, shownWell, pairs, verdictOf, verdict, otherClear, otherSize}
+use Rattle.rules.specs.Prices.{betterOf, shownSize, showsAt, bestIn, sizeIn, bestRegular, bestSize, clearPrice, away, marketBest, taken1, taken2, inBand, showsFor}
+use Rattle.rules.specs.Standing.{findComplex, parentOf, bothOpen, displayedNoWorse, pairs, verdictOf, verdict, otherClear, otherSize}
 use Rattle.rules.specs.Places.{holdsRegular, holdsComplex, packed, closeGaps}
 use Rattle.rules.proofs.Tests.{free-none}
 
@@ -202,7 +202,7 @@ module _ {A : Type 0} (holds : A → Bool) (none : A) where
 -- The venue -----------------------------------------------------------------------------------
 
 not-shown : (s d : ℕ) (o : Regular) → held (o .quantity) ≡ false → showsAt s d o ≡ false
-unfolding showsAt shown
+unfolding showsAt shownSize
 not-shown s d o e = let z : o .quantity - o .reserve ≡ 0 = (let q = free-none (o .quantity) e in omega arith) in rw z
 
 best-packed : (s d : ℕ) (os : List Regular) → bestIn s d (packed holdsRegular noRegular os) ≡ bestIn s d os
@@ -214,7 +214,7 @@ best-packed s d os =
 size-packed : (s d p : ℕ) (os : List Regular) → sizeIn s d p (packed holdsRegular noRegular os) ≡ sizeIn s d p os
 unfolding sizeIn showsFor
 size-packed s d p os =
-    over-packed holdsRegular noRegular (sizeIn s d p) (λ o r. if showsFor s d p o then shown o + r else r)
+    over-packed holdsRegular noRegular (sizeIn s d p) (λ o r. if showsFor s d p o then shownSize o + r else r)
     (λ o l. refl) (λ o r e. rw (not-shown s d o e)) refl os
 
 find-packed : (id : ℕ) (cs : List Complex) → findComplex id (packed holdsComplex noComplex cs) ≡ findComplex id cs
@@ -252,9 +252,9 @@ module _ (v : Venue) where
   unfolding inBand taken1 taken2
   band-closed c n = simp market-closed (unfold percent figureNow closeGaps withRegular withComplex in refl)
 
-  pub shown-closed : (s d p : ℕ) → shownWell (closeGaps v) s d p ≡ shownWell v s d p
-  unfolding shownWell
-  shown-closed s d p = rw best-closed (unfold increment figureNow closeGaps withRegular withComplex in refl)
+  pub displayed-closed : (s d p : ℕ) → displayedNoWorse (closeGaps v) s d p ≡ displayedNoWorse v s d p
+  unfolding displayedNoWorse
+  displayed-closed s d p = rw best-closed (unfold increment figureNow closeGaps withRegular withComplex in refl)
 
   pub pairs-closed : (c : Complex) (s d p k : ℕ) → pairs (closeGaps v) c s d p k ≡ pairs v c s d p k
   unfolding pairs otherClear otherSize
@@ -262,7 +262,7 @@ module _ (v : Venue) where
 
   pub verdictOf-closed : (c : Complex) (s d : ℕ) (l : Legging) → verdictOf (closeGaps v) c s d l ≡ verdictOf v c s d l
   unfolding verdictOf
-  verdictOf-closed c s d l = simp (shown-closed, pairs-closed, band-closed, open-closed)
+  verdictOf-closed c s d l = simp (displayed-closed, pairs-closed, band-closed, open-closed)
 
   pub verdict-closed : (n : ℕ) (l : Legging) → verdict (closeGaps v) n l ≡ verdict v n l
   unfolding verdict

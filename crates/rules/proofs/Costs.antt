@@ -24,7 +24,7 @@ use Rattle.rules.specs.Records.{Report, trade, pair, crossed}
 use Rattle.rules.specs.Effects.{Effect, nothing, report, _⟫_, Turn, ended, turned, repeat}
 use Rattle.rules.specs.Removal.{remove, removeOf}
 use Rattle.rules.specs.Standing.{settle}
-use Rattle.rules.specs.Trading.{fillRegular, fillComplex, take, pairOff}
+use Rattle.rules.specs.Trading.{fillRegular, fillComplex, tradeAtPrice, pairOff}
 use Rattle.rules.specs.Order.{atOnce, meet, hit}
 use Rattle.rules.specs.Complex.{crosses, cross, crossTurn, touches, touch, legsIn, legIn, unitsIn, legInTurn, anyClosed, work, each, eachOf}
 use Rattle.rules.proofs.Tests.{and-l, and-r, held-pos}
@@ -34,15 +34,15 @@ use Rattle.rules.proofs.Summing.{sum, sum-mono, due-held}
 use Rattle.rules.proofs.Above.{above, above-fewer, next-above}
 use Rattle.rules.proofs.Worth.{worth, fill-le, fills-free, fillC-le, even-frees, fillsC-free, spent, spent-nothing, spent-report, spent-then, spent-remove, spent-lower, spent-settle}
 use Rattle.rules.proofs.Sizes.{best-some}
-use Rattle.rules.proofs.Taking.{chain-elsewhere, take-chain}
+use Rattle.rules.proofs.TradingLaws.{chain-elsewhere, at-price-chain}
 use Rattle.rules.proofs.Cases.{crossTurn-by, each-by, if-by, repeat-by}
 use Rattle.rules.proofs.Ending.{legs-facts, units-some}
 use Rattle.rules.proofs.Filling.{FewerC, SameLegs, cx, fewerC-refl, fill-fewerC, still-heldC}
-use Rattle.rules.proofs.Keeping.{keeps-crossing, keeps-touch}
+use Rattle.rules.proofs.EffectsLaws.{keeps-crossing, keeps-touch}
 use Rattle.rules.proofs.Pairing.{legIn-filled}
 use Rattle.rules.proofs.Stopping.{all-in, stops}
 use Rattle.rules.proofs.Sweeping.{fewer-lasts, work-fewer}
-use Rattle.rules.proofs.Spending.{spare, trade-spent, take-cheap, take-clears}
+use Rattle.rules.proofs.Spending.{spare, trade-spent, at-price-cheap, at-price-empties}
 
 -- c bytes more than the venue was worth
 unfoldable pub Costs : (a b c : ℕ) → Venue → Effect → Type 0
@@ -78,9 +78,9 @@ module _ (a b : ℕ) where
   unfolding Costs
   costs-report r v w h = let z = spent-report a b r w in omega arith
 
-  pub costs-take : 22 ≤ a → (fuel x s d p k : ℕ) (v : Venue) → Costs a b 22 v (take fuel x s d p k v)
+  pub costs-at-price : 22 ≤ a → (fuel x s d p k : ℕ) (v : Venue) → Costs a b 22 v (tradeAtPrice fuel x s d p k v)
   unfolding Costs
-  costs-take pays fuel x s d p k v = take-cheap a b pays x s d p fuel k v
+  costs-at-price pays fuel x s d p k v = at-price-cheap a b pays x s d p fuel k v
 
   pub pair-spent : (i id : ℕ) (n : ℤ) (k : ℕ) (v : Venue) → spent a b (pairOff i id n k v) ≤ 16 + worth a b (fillComplex i k v)
   unfolding pairOff recordLength
@@ -117,7 +117,7 @@ costs-hit i l k v =
     costs-then _ _ 44 16 v _ _
     (costs-then _ _ 22 22 v _ _
     (costs-report _ _ (trade _ _ _ k _ _) v (fillRegular i k v) (fill-le perTrade perTrade i k v))
-    (costs-take _ _ (omega arith) k _ _ _ _ k _))
+    (costs-at-price _ _ (omega arith) k _ _ _ _ k _))
     (costs-pair _ _ _ _ _ k _)
 
 -- Complex -------------------------------------------------------------------------------------
@@ -196,10 +196,10 @@ module _ (i : ℕ) (v : Venue) where
 
   -- the contracts of each leg for k units
   abbrev first-leg : (k : ℕ) → Effect
-  first-leg k = take (c .ratio1 * k) (c .id) (c .series1) (c .side1) a (c .ratio1 * k) v
+  first-leg k = tradeAtPrice (c .ratio1 * k) (c .id) (c .series1) (c .side1) a (c .ratio1 * k) v
 
   abbrev second-leg : (k : ℕ) → Effect
-  second-leg k = take (c .ratio2 * k) (c .id) (c .series2) (c .side2) b (c .ratio2 * k) (first-leg k .venue)
+  second-leg k = tradeAtPrice (c .ratio2 * k) (c .id) (c .series2) (c .side2) b (c .ratio2 * k) (first-leg k .venue)
 
   abbrev paid : Effect → ℕ
   paid = spent perRegular 0
@@ -212,8 +212,8 @@ module _ (i : ℕ) (v : Venue) where
       paid (first-leg k) + paid (second-leg k) + (16 + worths (fillComplex i k (second-leg k .venue)))
   unfolding legIn _⟫_
   legIn-spent k =
-      let x = spent-then perRegular 0 (first-leg k) (take (c .ratio2 * k) (c .id) (c .series2) (c .side2) b (c .ratio2 * k)) in
-      let y = spent-then perRegular 0 (first-leg k ⟫ take (c .ratio2 * k) (c .id) (c .series2) (c .side2) b (c .ratio2 * k)) (pairOff i (c .id) (net c a b) k) in
+      let x = spent-then perRegular 0 (first-leg k) (tradeAtPrice (c .ratio2 * k) (c .id) (c .series2) (c .side2) b (c .ratio2 * k)) in
+      let y = spent-then perRegular 0 (first-leg k ⟫ tradeAtPrice (c .ratio2 * k) (c .id) (c .series2) (c .side2) b (c .ratio2 * k)) (pairOff i (c .id) (net c a b) k) in
       let z = pair-spent perRegular 0 i (c .id) (net c a b) k (second-leg k .venue) in
       omega arith
 
@@ -221,14 +221,14 @@ module _ (i : ℕ) (v : Venue) where
   same-complex : (k : ℕ) → complexAt (second-leg k .venue) i ≡ c
   unfolding complexAt
   same-complex k =
-      let x = chain-elsewhere (take-chain (c .id) (c .series1) (c .side1) a (c .ratio1 * k) (c .ratio1 * k) v) .complex in
-      let y = chain-elsewhere (take-chain (c .id) (c .series2) (c .side2) b (c .ratio2 * k) (c .ratio2 * k) (first-leg k .venue)) .complex in
+      let x = chain-elsewhere (at-price-chain (c .id) (c .series1) (c .side1) a (c .ratio1 * k) (c .ratio1 * k) v) .complex in
+      let y = chain-elsewhere (at-price-chain (c .id) (c .series2) (c .side2) b (c .ratio2 * k) (c .ratio2 * k) (first-leg k .venue)) .complex in
       ap (λ (l : List Complex). getD l i noComplex) (y ∙ x)
 
   -- and the second leg's level, in another series
   same-size : (k : ℕ) → c .series1 ≢ c .series2 → sizeIn (c .series2) (opposite (c .side2)) b (first-leg k .venue .regular) ≡ size2
   unfolding bestSize
-  same-size k ne = chain-elsewhere (take-chain (c .id) (c .series1) (c .side1) a (c .ratio1 * k) (c .ratio1 * k) v) .size (c .series2) (opposite (c .side2)) b ne
+  same-size k ne = chain-elsewhere (at-price-chain (c .id) (c .series1) (c .side1) a (c .ratio1 * k) (c .ratio1 * k) v) .size (c .series2) (opposite (c .side2)) b ne
 
   -- one to one, a round uses up the order or all of a level
   even-uses : oneToOne c ≡ true → unitsIn v c < c .quantity → c .ratio1 * unitsIn v c < size1 → c .ratio2 * unitsIn v c < size2 → ⊥
@@ -249,10 +249,10 @@ module _ (i : ℕ) (v : Venue) where
       k = unitsIn v c
 
       x1 : paid (first-leg k) ≤ worths v + 22
-      x1 = take-cheap perRegular 0 (omega arith) (c .id) (c .series1) (c .side1) a (c .ratio1 * k) (c .ratio1 * k) v
+      x1 = at-price-cheap perRegular 0 (omega arith) (c .id) (c .series1) (c .side1) a (c .ratio1 * k) (c .ratio1 * k) v
 
       x2 : paid (second-leg k) ≤ worths (first-leg k .venue) + 22
-      x2 = take-cheap perRegular 0 (omega arith) (c .id) (c .series2) (c .side2) b (c .ratio2 * k) (c .ratio2 * k) (first-leg k .venue)
+      x2 = at-price-cheap perRegular 0 (omega arith) (c .id) (c .series2) (c .side2) b (c .ratio2 * k) (c .ratio2 * k) (first-leg k .venue)
 
       z : worths (fillComplex i k (second-leg k .venue)) ≤ worths (second-leg k .venue)
       z = fillC-le perRegular 0 i k (second-leg k .venue)
@@ -278,11 +278,11 @@ module _ (i : ℕ) (v : Venue) where
           omega (arith, legIn-spent k, x1, x2, more)
       go false e (yes whole) y1 y2 = last (all-in i v h whole) e
       go _ _ (no part) (yes all) y2 =
-          let f = take-clears perRegular 0 (omega arith) (c .id) (c .series1) (c .side1) a (c .ratio1 * k) (c .ratio1 * k) v all (omega arith) in
+          let f = at-price-empties perRegular 0 (omega arith) (c .id) (c .series1) (c .side1) a (c .ratio1 * k) (c .ratio1 * k) v all (omega arith) in
           omega (arith, legIn-spent k, x2, z, due-held spare size1 (best-some v _ _ ha), more)
       go _ _ (no part) (no more1) (yes all) =
           let s = same-size k ne in
-          let f = take-clears perRegular 0 (omega arith) (c .id) (c .series2) (c .side2) b (c .ratio2 * k) (c .ratio2 * k) (first-leg k .venue) (omega arith) (omega arith) in
+          let f = at-price-empties perRegular 0 (omega arith) (c .id) (c .series2) (c .side2) b (c .ratio2 * k) (c .ratio2 * k) (first-leg k .venue) (omega arith) (omega arith) in
           omega (arith, legIn-spent k, x1, z, due-held spare (sizeIn (c .series2) (opposite (c .side2)) b (first-leg k .venue .regular)) (omega (arith, best-some v _ _ hb)), more)
       go true e (no part) (no more1) (no more2) = absurd (even-uses e (omega arith) (omega arith) (omega arith))
       go false e (no part) (no more1) (no more2) = last (stops i v h ne ha hb some (omega arith) (omega arith) (omega arith)) e

@@ -32,14 +32,14 @@ use Rattle.rules.specs.Step.{accept, answered, perform, setAway, setFigu
 use Rattle.rules.specs.Sound.{editionInRange, editionsSound, figureInRange, follows}
 use Rattle.rules.proofs.Again.{again-fewer}
 use Rattle.rules.proofs.Arranging.{all-at, all-in}
-use Rattle.rules.proofs.Calling.{step-by}
+use Rattle.rules.proofs.CallsLaws.{step-by}
 use Rattle.rules.proofs.Cases.{if-by}
 use Rattle.rules.proofs.Editions.{Stepped, ed, figure-other, past-set, steps-same}
 use Rattle.rules.proofs.Filling.{Fewer, fill-fewer, reg, still-held}
 use Rattle.rules.proofs.Finding.{where-passes}
 use Rattle.rules.proofs.Gaps.{fr, was}
-use Rattle.rules.proofs.Keeping.{Lasts, keeps-cancel, keeps-each, keeps-eachOf, keeps-matching, keeps-settle, keeps-work}
-use Rattle.rules.proofs.Refusing.{Passed, accepted, wellFormed}
+use Rattle.rules.proofs.EffectsLaws.{Lasts, keeps-cancel, keeps-each, keeps-eachOf, keeps-matching, keeps-settle, keeps-work}
+use Rattle.rules.proofs.RefusalsLaws.{Passed, accepted, wellFormed}
 use Rattle.rules.proofs.Tests.{and-in, and-l, and-r, pos-held}
 use Rattle.rules.proofs.Widths.{Ranged, set-each}
 

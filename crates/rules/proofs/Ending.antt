@@ -28,7 +28,7 @@ use Rattle.rules.proofs.Again.{again-fewer}
 use Rattle.rules.proofs.Better.{is-false}
 use Rattle.rules.proofs.Cases.{crossTurn-by, if-by, meetTurn-by, repeat-by}
 use Rattle.rules.proofs.Filling.{cx, fill-fewer, fill-fewerC, held-fits, held-fitsC, reg}
-use Rattle.rules.proofs.Keeping.{Lasts, cross-from, hit-from, keeps-crossing, keeps-touch, meet-from}
+use Rattle.rules.proofs.EffectsLaws.{Lasts, cross-from, hit-from, keeps-crossing, keeps-touch, meet-from}
 use Rattle.rules.proofs.Owning.{Own, byLegging, byRegular, first-held, own-is}
 use Rattle.rules.proofs.Pairing.{legIn-filled}
 use Rattle.rules.proofs.Picking.{At, Chosen}

@@ -20,7 +20,7 @@ use Rattle.rules.specs.Effects.{nothing}
 use Rattle.rules.specs.Refusals.{torn, isKind, isLength, inRange, equalRatios, decoded, refusalOf, refusal}
 use Rattle.rules.specs.Step.{accept, answered, step}
 use Rattle.rules.specs.Calls.{oneFrom, one}
-use Rattle.rules.proofs.Refusing.{accepted-length, whole, whole-in}
+use Rattle.rules.proofs.RefusalsLaws.{accepted-length, whole, whole-in}
 
 -- a whole message: its length field says at least 4 bytes, and they are there
 abbrev Whole : List ℕ → Type 0

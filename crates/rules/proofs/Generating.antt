@@ -21,22 +21,22 @@ use Rattle.rules.specs.declared.Verdict.the-variants.{Stands, Fails}
 use Rattle.rules.specs.declared.Cause.the-variants.{Replaced}
 use Rattle.rules.proofs.Tests.{and-l, and-r, or-r, if-same}
 use Rattle.rules.proofs.Cases.{if-by}
-use Rattle.rules.proofs.Settling.{Kept, Thinned, free-stands, verdict-kept}
+use Rattle.rules.proofs.Settling.{SameOrGone, Thinned, free-stands, verdict-kept}
 use Rattle.rules.proofs.Verdicts.{Passes, passing}
 use Rattle.rules.specs.Base.{if_then_else_, held}
-use Rattle.rules.specs.Words.{within, buy, opposite, signed, noLegging, oneToOne, placeOf, leggingAt, statusOf, withGenerations, withLegging}
+use Rattle.rules.specs.Words.{within, buy, opposite, signTimes, noLegging, oneToOne, placeOf, leggingAt, statusOf, withGenerations, withLegging}
 use Rattle.rules.specs.Settings.{figureNow, increment, percent}
 use Rattle.rules.specs.Effects.{_⟫_, report, nothing}
-use Rattle.rules.specs.Prices.{bestRegular, bestSize, clearPrice, bestOwn, displayed, marketBest, away, taken1, taken2, inBand}
+use Rattle.rules.specs.Prices.{bestRegular, bestSize, clearPrice, bestOwn, displayedPrice, marketBest, away, taken1, taken2, inBand}
 use Rattle.rules.specs.Removal.{stay, stayers, remove, failIf}
-use Rattle.rules.specs.Standing.{otherLeg, findComplex, parentOf, bothOpen, shownWell, pairs, verdict, otherClear, otherSize, stands}
+use Rattle.rules.specs.Standing.{otherLeg, findComplex, parentOf, bothOpen, displayedNoWorse, pairs, verdict, otherClear, otherSize, stands}
 use Rattle.rules.specs.Generation.{counted, generationsOf, underCeiling, reachesAny, givesWay, asPrice, legPrice, newLegging, placed, makes, make, othersStand, generateLeg}
 
 -- Numbers -------------------------------------------------------------------------------------
 
-pub signed-signed : (d : ℕ) (z : ℤ) → signed d (signed d z) ≡ z
-unfolding signed
-signed-signed d z = go (eqb d buy)
+pub sign-times-twice : (d : ℕ) (z : ℤ) → signTimes d (signTimes d z) ≡ z
+unfolding signTimes
+sign-times-twice d z = go (eqb d buy)
   where
     go : (b : Bool) → (if b then (if b then z else negℤ z) else negℤ (if b then z else negℤ z)) ≡ z
     go true = refl
@@ -52,25 +52,25 @@ leZ-refl (pos n) = le-leb n n (omega arith)
 leZ-refl (negsuc n) = le-leb n n (omega arith)
 
 -- a price of 0 is shown as 0, which is below the increment
-zero-shown : (i d : ℕ) → 0 < i → displayed i d 0 ≡ 0
-unfolding displayed
-zero-shown i d h =
+zero-displayed : (i d : ℕ) → 0 < i → displayedPrice i d 0 ≡ 0
+unfolding displayedPrice
+zero-displayed i d h =
     if-by (λ x. x ≡ 0) (eqb d buy) (λ _. rw (below 0 i (omega arith), zero-mul))
     (λ _. rw (below (0 + (i - 1)) i (omega arith), zero-mul))
   where
     below : (a b : ℕ) → a < b → a / b ≡ 0
     below a b l = div-eq-of-lt l
 
-pub zero-out : (i d p : ℕ) → 0 < i → within i 100000 (displayed i d p) ≡ true → held p ≡ true
+pub zero-out : (i d p : ℕ) → 0 < i → within i 100000 (displayedPrice i d p) ≡ true → held p ≡ true
 unfolding within
-zero-out i d zero k h = let z = leb-true i 0 (and-l _ _ (rw (zero-shown i d k) at h)) in absurd (omega arith)
+zero-out i d zero k h = let z = leb-true i 0 (and-l _ _ (rw (zero-displayed i d k) at h)) in absurd (omega arith)
 zero-out i d (suc p) k h = rw eqb·suc-zero
 
 -- at its own price, a leg nets to N with the other leg's clear price
 leg-nets : (v : Venue) (c : Complex) (s d : ℕ) → held (legPrice v c s d) ≡ true →
-    signed d (pos (legPrice v c s d)) +ℤ signed (otherLeg c s .side) (pos (otherClear v c s)) ≡ c .limit
+    signTimes d (pos (legPrice v c s d)) +ℤ signTimes (otherLeg c s .side) (pos (otherClear v c s)) ≡ c .limit
 unfolding legPrice
-leg-nets v c s d h = rw (price-back _ h, signed-signed, -ℤ-+ℤ-cancel)
+leg-nets v c s d h = rw (price-back _ h, sign-times-twice, -ℤ-+ℤ-cancel)
 
 -- Places --------------------------------------------------------------------------------------
 
@@ -105,8 +105,8 @@ pub record Makes (number : ℕ) (v : Venue) (c : Complex) (s d : ℕ) : Type 0 w
   pub opens : bothOpen v c ≡ true
   pub band : inBand v c (c .limit) ≡ true
   pub clear : held (otherClear v c s) ≡ true
-  pub range : within (increment v s) 100000 (displayed (increment v s) d (legPrice v c s d)) ≡ true
-  pub shown : shownWell v s d (legPrice v c s d) ≡ true
+  pub range : within (increment v s) 100000 (displayedPrice (increment v s) d (legPrice v c s d)) ≡ true
+  pub displayed : displayedNoWorse v s d (legPrice v c s d) ≡ true
   pub inside : not (reachesAny d (legPrice v c s d) (bestOwn v s (opposite d))) ≡ true
   pub outside : not (reachesAny d (legPrice v c s d) (away v s (opposite d))) ≡ true
   pub way : givesWay v c d (legPrice v c s d) (leggingAt v s d) ≡ true
@@ -134,9 +134,9 @@ module _ (v : Venue) (c : Complex) (s d : ℕ) where
       rw (m .clear, leg-nets v c s d (zero-out (increment v s) d _ k (m .range)), leZ-refl, le-leb _ _ (min-le-right (c .quantity) (otherSize v c s)))
 
   new-passes : {number : ℕ} → 0 < increment v s → d < 2 → opposite (otherLeg c s .side) < 2 → s ≢ otherLeg c s .series → Makes number v c s d → Passes after c s d new
-  unfolding shownWell increment percent figureNow bestRegular placed withLegging newLegging inBand taken1 taken2 marketBest away bothOpen statusOf
+  unfolding displayedNoWorse increment percent figureNow bestRegular placed withLegging newLegging inBand taken1 taken2 marketBest away bothOpen statusOf
   new-passes k d2 e2 ne m = record {
-    shown = m .shown;
+    displayed = m .displayed;
     pair = rw (pairs-elsewhere (placeOf s d) new v, place-apart s _ d _ d2 e2 ne) (new-pairs k m);
     band = m .band;
     opens = m .opens;
@@ -182,7 +182,7 @@ unfolding AllStand
 counted-stands number s w a i = verdict-kept (thins number s w) i _ (unfold counted withGenerations in (a i))
   where
     thins : (number s : ℕ) (w : Venue) → Thinned w (counted number s w)
-    thins number s w = unfold counted withGenerations in (record { regular = refl; complex = refl; series = refl; editions = refl; legging = λ i. unfold Kept in (inl refl) })
+    thins number s w = unfold counted withGenerations in (record { regular = refl; complex = refl; series = refl; editions = refl; legging = λ i. unfold SameOrGone in (inl refl) })
 
 others-stand : (w : Venue) (m n : ℕ) (ls : List Legging) (i : ℕ) → othersStand w m n ls ≡ true → n + i ≢ m →
     verdict w (n + i) (getD ls i noLegging) ≡ Stands

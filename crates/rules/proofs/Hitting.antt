@@ -22,7 +22,7 @@ use Rattle.rules.specs.Effects.{Effect, _⟫_, report}
 use Rattle.rules.specs.Prices.{sizeIn}
 use Rattle.rules.specs.Removal.{remove, removeOf}
 use Rattle.rules.specs.Standing.{legNet, otherClear, otherLeg, parentOf}
-use Rattle.rules.specs.Trading.{fillComplex, fillRegular, pairOff, take}
+use Rattle.rules.specs.Trading.{fillComplex, fillRegular, pairOff, tradeAtPrice}
 use Rattle.rules.specs.Order.{hit}
 use Rattle.rules.specs.Sums.{cancelledOf, contracts, crossedFor, openRegular, paired, total}
 use Rattle.rules.proofs.Adding.{count-elsewhere, count-neither, count-taker, open-fill, total-append}
@@ -31,7 +31,7 @@ use Rattle.rules.proofs.Ledger.{Moves, RegularId}
 use Rattle.rules.proofs.Moving.{chain-cx, chain-reg, cx-fill, reg-fill}
 use Rattle.rules.proofs.Pairing.{Pairs, Tells, pair-complex, pair-last, pair-regular, pair-removes, pair-tells, pairs-settle}
 use Rattle.rules.proofs.Sizes.{fill-elsewhere}
-use Rattle.rules.proofs.Taking.{Chain, chain-elsewhere, chain-fewer, chain-last, chain-other, chain-silent, take-apart, take-chain, take-total}
+use Rattle.rules.proofs.TradingLaws.{Chain, chain-elsewhere, chain-fewer, chain-last, chain-other, chain-silent, at-price-apart, at-price-chain, at-price-total}
 
 pub other-is₂ : (c : Complex) (s : ℕ) → c .series1 ≡ s → otherLeg c s .series ≡ c .series2
 unfolding otherLeg
@@ -64,14 +64,14 @@ module _ (v : Venue) (i k : ℕ) (l : Legging) where
   net-of = legNet q (o .series) (opposite (o .side)) (l .price) p
 
   abbrev trades : Effect
-  trades = take k (q .id) t e p k (fillRegular i k v)
+  trades = tradeAtPrice k (q .id) t e p k (fillRegular i k v)
 
   -- the venue when both legs have traded
   abbrev pub hitting : Venue
   hitting = trades .venue
 
   chn : Chain (q .id) t e p (fillRegular i k v) (trades .reports) hitting
-  chn = take-chain (q .id) t e p k k (fillRegular i k v)
+  chn = at-price-chain (q .id) t e p k k (fillRegular i k v)
 
   pub hitting-complex : hitting .complex ≡ v .complex
   hitting-complex = chain-elsewhere chn .complex ∙ fill-complex i k v
@@ -115,8 +115,8 @@ module _ (v : Venue) (i k : ℕ) (l : Legging) where
   after-trades = rw hitting-legging
 
   pub hit-is : o .series ≢ t → hit i l k v .reports ≡
-      trade (o .series) (o .side) (l .price) k (o .id) (q .id) ∷ (take k (q .id) t e p k v .reports ++ (pair (q .id) net-of k ∷ removeOf (q .id) Executed v .reports))
-  hit-is ne = rw (← after-trades, ← take-apart (q .id) t e p i k k k v ne) (unfold hit report _⟫_ regularAt in refl)
+      trade (o .series) (o .side) (l .price) k (o .id) (q .id) ∷ (tradeAtPrice k (q .id) t e p k v .reports ++ (pair (q .id) net-of k ∷ removeOf (q .id) Executed v .reports))
+  hit-is ne = rw (← after-trades, ← at-price-apart (q .id) t e p i k k k v ne) (unfold hit report _⟫_ regularAt in refl)
 
 count-own : (y s d p k x : ℕ) → contracts y s (trade s d p k x y) ≡ k
 unfolding contracts
@@ -193,7 +193,7 @@ module _ (v : Venue) (i j k : ℕ) (l : Legging) (m : Hits v i j k l) where
         arith,
         hit-total v i k l (contracts (c .id) u),
         tells v i k l .contracts0 (c .id) u,
-        take-total (c .id) u _ _ k k (fillRegular i k v) (omega arith) size-then,
+        at-price-total (c .id) u _ _ k k (fillRegular i k v) (omega arith) size-then,
         count-elsewhere (c .id) u (reg v i .series) (reg v i .side) (l .price) k (reg v i .id) (c .id) series-apart,
       )
 

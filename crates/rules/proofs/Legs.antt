@@ -4,7 +4,7 @@ use mathlib.Core.Bool.{Bool, true, false, _&&_}
 use mathlib.Core.List.{List, [], _∷_}
 use Prim.Native.Nat.{ℕ, zero, suc, _+_, _≤_}
 use native.Mathlib.Omega.{arith}
-use lib.ListN.{getD, length, take as firsts}
+use lib.ListN.{getD, length, take}
 use Rattle.rules.specs.declared.Complex.{Complex}
 use Rattle.rules.specs.declared.Legging.{Legging}
 use Rattle.rules.specs.declared.Venue.{Venue}
@@ -144,6 +144,6 @@ generation-writes number fuel id v =
 
 -- and a limited one, upon w, for orders chosen upon v
 pub limited-generation : (number n : ℕ) (v w : Venue) → length (w .complex) ≡ length (v .complex) →
-    total recordLength (eachOf (generate number) (firsts n (goingRound v)) w .reports) ≤ worth 0 0 w
+    total recordLength (eachOf (generate number) (take n (goingRound v)) w .reports) ≤ worth 0 0 w
 limited-generation number n v w len =
-    generated-writes _ w _ (round-once bothLegs n v (w .complex) len) (some-generated number (firsts n (goingRound v)) w)
+    generated-writes _ w _ (round-once bothLegs n v (w .complex) len) (some-generated number (take n (goingRound v)) w)

@@ -11,8 +11,8 @@ use mir.Syntax.{w32, w64}
 use mir.Val.{SFits, toZ, ofZ}
 use mir.ValLaws.{toZ-ofZ}
 use Rattle.rules.specs.Base.{if_then_else_}
-use Rattle.rules.specs.Words.{signed}
-use Rattle.rules.specs.Prices.{displayed, nearNet}
+use Rattle.rules.specs.Words.{signTimes}
+use Rattle.rules.specs.Prices.{displayedPrice, nearNet}
 use borrow.Author.Tests.{ltb-true}
 use Rattle.rules.proofs.Integers.{plus, minus, add-is, abs-is, abs-add, abs-neg, mul-plus, mul-minus, le-is, leb-same}
 
@@ -180,16 +180,16 @@ abs-if : (b : Bool) (p : ℕ) → natAbs (if b then pos p else negℤ (pos p)) �
 abs-if true p = refl
 abs-if false p = abs-neg (pos p)
 
-pub abs-signed : (d p : ℕ) → natAbs (signed d (pos p)) ≡ p
-unfolding signed
-abs-signed d p = abs-if (eqb d 0) p
+pub abs-sign-times : (d p : ℕ) → natAbs (signTimes d (pos p)) ≡ p
+unfolding signTimes
+abs-sign-times d p = abs-if (eqb d 0) p
 
 -- Displayed prices ----------------------------------------------------------------------------
 
 -- an increment of 0 shows nothing
-pub shown-none : (d p : ℕ) → displayed 0 d p ≡ 0
-unfolding displayed
-shown-none d p = none (eqb d 0)
+pub displayed-none : (d p : ℕ) → displayedPrice 0 d p ≡ 0
+unfolding displayedPrice
+displayed-none d p = none (eqb d 0)
   where
     none : (b : Bool) → (if b then p / 0 * 0 else (p + (0 - 1)) / 0 * 0) ≡ 0
     none true = mul-zero (p / 0)

@@ -22,7 +22,7 @@ use Rattle.rules.proofs.Cases.{meetTurn-by}
 use Rattle.rules.proofs.Costs.{Costs, Turned, costs-hit, costs-meet, perTrade, repeat-costs, settled-costs}
 use Rattle.rules.proofs.Filling.{fill-fewer, lg, reg}
 use Rattle.rules.proofs.Hitting.{hit-removes, hit-stays}
-use Rattle.rules.proofs.Keeping.{Lasts, hit-from, meet-from}
+use Rattle.rules.proofs.EffectsLaws.{Lasts, hit-from, meet-from}
 use Rattle.rules.proofs.Picking.{At}
 use Rattle.rules.proofs.Summing.{due, due-free, due-held, due-most}
 use Rattle.rules.proofs.Tests.{and-l, and-r, held-pos}

@@ -12,7 +12,7 @@ use Rattle.rules.specs.declared.Legging.{Legging}
 use Rattle.rules.specs.declared.Regular.{Regular}
 use Rattle.rules.specs.Base.{first, held, if_then_else_, picked}
 use Rattle.rules.specs.Words.{earlier, noRegular, opposite}
-use Rattle.rules.specs.Prices.{better, ownPrice, restsAt, shown}
+use Rattle.rules.specs.Prices.{better, ownPrice, restsAt, shownSize}
 use Rattle.rules.specs.Order.{isMet, leggingFirst, priceThenId, shownThenId}
 use Rattle.rules.proofs.Better.{better-irrefl, better-past, better-total, better-trans, is-false}
 use Rattle.rules.proofs.Filling.{held-fits}
@@ -41,14 +41,14 @@ rank-past false false true i j k h n = refl
 rank-past false false false i j k h n = let a = ltb-true i j h in let b = ltb-false i k n in lt-ltb k j (omega arith)
 
 -- of two that show, the earlier goes first: where every order shows some, the rank is by price and id
-pub both-show : (a b : Regular) → held (shown a) ≡ true → held (shown b) ≡ true → shownThenId a b ≡ earlier a b
+pub both-show : (a b : Regular) → held (shownSize a) ≡ true → held (shownSize b) ≡ true → shownThenId a b ≡ earlier a b
 unfolding shownThenId
 both-show a b p q = rw (p, q)
 
 -- places are in rising id: a later order goes before an earlier one where it alone shows, an earlier one before a later where it shows or both do not
-pub later-first : (a b : Regular) → b .id < a .id → shownThenId a b ≡ (held (shown a) && not (held (shown b)))
+pub later-first : (a b : Regular) → b .id < a .id → shownThenId a b ≡ (held (shownSize a) && not (held (shownSize b)))
 unfolding shownThenId earlier
-later-first a b lt = rw (le-ltb (a .id) (b .id) (omega arith)) (go (held (shown a)) (held (shown b)))
+later-first a b lt = rw (le-ltb (a .id) (b .id) (omega arith)) (go (held (shownSize a)) (held (shownSize b)))
   where
     go : (x y : Bool) → (if y then x && false else (x || false)) ≡ (x && not y)
     go true true = refl
@@ -56,9 +56,9 @@ later-first a b lt = rw (le-ltb (a .id) (b .id) (omega arith)) (go (held (shown 
     go false true = refl
     go false false = refl
 
-pub earlier-first : (a b : Regular) → a .id < b .id → shownThenId a b ≡ (held (shown a) || not (held (shown b)))
+pub earlier-first : (a b : Regular) → a .id < b .id → shownThenId a b ≡ (held (shownSize a) || not (held (shownSize b)))
 unfolding shownThenId earlier
-earlier-first a b lt = rw (lt-ltb (a .id) (b .id) lt) (go (held (shown a)) (held (shown b)))
+earlier-first a b lt = rw (lt-ltb (a .id) (b .id) lt) (go (held (shownSize a)) (held (shownSize b)))
   where
     go : (x y : Bool) → (if y then x && true else (x || true)) ≡ (x || not y)
     go true true = refl
@@ -88,7 +88,7 @@ module _ (s d p : ℕ) where
 
   -- the rank, the side known
   abbrev before : Regular → Regular → Bool
-  before a b = better (opposite d) (a .price) (b .price) || (eqb (a .price) (b .price) && rank (held (shown a)) (held (shown b)) (a .id) (b .id))
+  before a b = better (opposite d) (a .price) (b .price) || (eqb (a .price) (b .price) && rank (held (shownSize a)) (held (shownSize b)) (a .id) (b .id))
 
   is-before : (a b : Regular) → met a ≡ true → priceThenId a b ≡ before a b
   unfolding priceThenId shownThenId earlier
@@ -104,14 +104,14 @@ module _ (s d p : ℕ) where
       go true t =
           or-none _ _ (is-false _ (λ u. better-irrefl e (a .price) (better-trans e (a .price) (b .price) (a .price) t u)))
           (is-false _ (λ u.
-          let q = eqb-true (b .price) (a .price) (and-l _ (rank (held (shown b)) (held (shown a)) (b .id) (a .id)) u) in
+          let q = eqb-true (b .price) (a .price) (and-l _ (rank (held (shownSize b)) (held (shownSize a)) (b .id) (a .id)) u) in
           better-irrefl e (a .price) (rw q at t)))
       go false t =
           let u = or-r _ _ t h in
-          let q = eqb-true (a .price) (b .price) (and-l _ (rank (held (shown a)) (held (shown b)) (a .id) (b .id)) u) in
-          let r = rank-asym (held (shown a)) (held (shown b)) (a .id) (b .id) (and-r (eqb (a .price) (b .price)) (rank (held (shown a)) (held (shown b)) (a .id) (b .id)) u) in
+          let q = eqb-true (a .price) (b .price) (and-l _ (rank (held (shownSize a)) (held (shownSize b)) (a .id) (b .id)) u) in
+          let r = rank-asym (held (shownSize a)) (held (shownSize b)) (a .id) (b .id) (and-r (eqb (a .price) (b .price)) (rank (held (shownSize a)) (held (shownSize b)) (a .id) (b .id)) u) in
           or-none _ _ (is-false (better e (b .price) (a .price)) (λ w. better-irrefl e (a .price) (rw (← q) at w)))
-          (is-false _ (λ w. true≢false (sym (and-r (eqb (b .price) (a .price)) (rank (held (shown b)) (held (shown a)) (b .id) (a .id)) w) ∙ r)))
+          (is-false _ (λ w. true≢false (sym (and-r (eqb (b .price) (a .price)) (rank (held (shownSize b)) (held (shownSize a)) (b .id) (a .id)) w) ∙ r)))
 
   past : (a b c : Regular) → before a b ≡ true → before a c ≡ false → before c b ≡ true
   past a b c h n = go (better (opposite d) (a .price) (b .price)) refl
@@ -120,21 +120,21 @@ module _ (s d p : ℕ) where
       e = opposite d
 
       n1 : better e (a .price) (c .price) ≡ false
-      n1 = or-false-l _ (eqb (a .price) (c .price) && rank (held (shown a)) (held (shown c)) (a .id) (c .id)) n
+      n1 = or-false-l _ (eqb (a .price) (c .price) && rank (held (shownSize a)) (held (shownSize c)) (a .id) (c .id)) n
 
-      n2 : (eqb (a .price) (c .price) && rank (held (shown a)) (held (shown c)) (a .id) (c .id)) ≡ false
+      n2 : (eqb (a .price) (c .price) && rank (held (shownSize a)) (held (shownSize c)) (a .id) (c .id)) ≡ false
       n2 = or-false-r (better e (a .price) (c .price)) _ n
 
       go : (t : Bool) → better e (a .price) (b .price) ≡ t → before c b ≡ true
       go true t = or-in _ _ (λ w. absurd (true≢false (sym (better-past e (a .price) (c .price) (b .price) t (λ u. true≢false (sym u ∙ n1))) ∙ w)))
       go false t =
           let u = or-r _ _ t h in
-          let q = eqb-true (a .price) (b .price) (and-l _ (rank (held (shown a)) (held (shown b)) (a .id) (b .id)) u) in
-          let r = and-r (eqb (a .price) (b .price)) (rank (held (shown a)) (held (shown b)) (a .id) (b .id)) u in
+          let q = eqb-true (a .price) (b .price) (and-l _ (rank (held (shownSize a)) (held (shownSize b)) (a .id) (b .id)) u) in
+          let r = and-r (eqb (a .price) (b .price)) (rank (held (shownSize a)) (held (shownSize b)) (a .id) (b .id)) u in
           or-in (better e (c .price) (b .price)) _ (λ w.
           let same : a .price ≡ c .price = better-total e (a .price) (c .price) n1 (rw (← q) at w) in
-          let k : rank (held (shown a)) (held (shown c)) (a .id) (c .id) ≡ false = rw (eq-eqb (a .price) (c .price) same) at n2 in
-          rw (eq-eqb (c .price) (b .price) (sym same ∙ q)) (rank-past (held (shown a)) (held (shown b)) (held (shown c)) (a .id) (b .id) (c .id) r k))
+          let k : rank (held (shownSize a)) (held (shownSize c)) (a .id) (c .id) ≡ false = rw (eq-eqb (a .price) (c .price) same) at n2 in
+          rw (eq-eqb (c .price) (b .price) (sym same ∙ q)) (rank-past (held (shownSize a)) (held (shownSize b)) (held (shownSize c)) (a .id) (b .id) (c .id) r k))
 
   pub met-ranks : Ranks met priceThenId
   met-ranks = record {
@@ -147,22 +147,22 @@ module _ (s d p : ℕ) where
   -- m, of those in os that are met: none has a better price; at its price, where m shows nothing none shows, and of those that show as m does none is earlier
   pub record MetFirst (os : List Regular) (m : Regular) : Type 0 where
     pub best : (i : ℕ) → met (getD os i noRegular) ≡ true → better (opposite d) (getD os i noRegular .price) (m .price) ≡ false
-    pub shows : (i : ℕ) → met (getD os i noRegular) ≡ true → getD os i noRegular .price ≡ m .price → held (shown m) ≡ false → held (shown (getD os i noRegular)) ≡ false
-    pub early : (i : ℕ) → met (getD os i noRegular) ≡ true → getD os i noRegular .price ≡ m .price → held (shown (getD os i noRegular)) ≡ held (shown m) →
+    pub shows : (i : ℕ) → met (getD os i noRegular) ≡ true → getD os i noRegular .price ≡ m .price → held (shownSize m) ≡ false → held (shownSize (getD os i noRegular)) ≡ false
+    pub early : (i : ℕ) → met (getD os i noRegular) ≡ true → getD os i noRegular .price ≡ m .price → held (shownSize (getD os i noRegular)) ≡ held (shownSize m) →
         m .id ≤ getD os i noRegular .id
 
   pub met-first : (os : List Regular) (j : ℕ) (m : Regular) → first met priceThenId os ≡ picked j m → MetFirst os m
   met-first os j m e = record {
-    best = λ i h. or-false-l _ (eqb (getD os i noRegular .price) (m .price) && rank (held (shown (getD os i noRegular))) (held (shown m)) (getD os i noRegular .id) (m .id)) (least i h);
-    shows = λ i h q n. none (held (shown (getD os i noRegular))) (held (shown m)) (getD os i noRegular .id) (m .id) (at-price i h q) n;
-    early = λ i h q n. not-later (held (shown (getD os i noRegular))) (held (shown m)) (getD os i noRegular .id) (m .id) (at-price i h q) n;
+    best = λ i h. or-false-l _ (eqb (getD os i noRegular .price) (m .price) && rank (held (shownSize (getD os i noRegular))) (held (shownSize m)) (getD os i noRegular .id) (m .id)) (least i h);
+    shows = λ i h q n. none (held (shownSize (getD os i noRegular))) (held (shownSize m)) (getD os i noRegular .id) (m .id) (at-price i h q) n;
+    early = λ i h q n. not-later (held (shownSize (getD os i noRegular))) (held (shownSize m)) (getD os i noRegular .id) (m .id) (at-price i h q) n;
   }
     where
       least : (i : ℕ) → met (getD os i noRegular) ≡ true → before (getD os i noRegular) m ≡ false
       least i h = sym (is-before _ m h) ∙ first-least noRegular met priceThenId met-ranks os j m e i (held-fits os i (rests-held s (opposite d) _ (met-rests _ h))) h
 
       at-price : (i : ℕ) → met (getD os i noRegular) ≡ true → getD os i noRegular .price ≡ m .price →
-          rank (held (shown (getD os i noRegular))) (held (shown m)) (getD os i noRegular .id) (m .id) ≡ false
+          rank (held (shownSize (getD os i noRegular))) (held (shownSize m)) (getD os i noRegular .id) (m .id) ≡ false
       at-price i h q = rw (eq-eqb (getD os i noRegular .price) (m .price) q) at (or-false-r (better (opposite d) (getD os i noRegular .price) (m .price)) _ (least i h))
 
       none : (x y : Bool) (a b : ℕ) → rank x y a b ≡ false → y ≡ false → x ≡ false

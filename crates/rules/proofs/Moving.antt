@@ -26,7 +26,7 @@ use Rattle.rules.proofs.Filling.{cx, fewer-refl, fewer-trans, fewerC-re
 use Rattle.rules.proofs.Filling.{fillC-last, fillC-regular, filled-other, reg, still-held}
 use Rattle.rules.proofs.Ledger.{ComplexId, Moves, RegularId, cx-kept, moves-removeOf, moves-then, reg-kept}
 use Rattle.rules.proofs.Sizes.{shown-most, shows-held}
-use Rattle.rules.proofs.Taking.{Chain, no-more, traded}
+use Rattle.rules.proofs.TradingLaws.{Chain, no-more, traded}
 
 -- Chains of trades ----------------------------------------------------------------------------
 

@@ -24,8 +24,8 @@ use Rattle.rules.proofs.Again.{Shown, again-fewer}
 use Rattle.rules.proofs.Better.{best-best, is-false, of-other, own-of}
 use Rattle.rules.proofs.Filling.{Lesser, fill-fewer, lesser-refl, lesser-trans, lg, reg, still-held}
 use Rattle.rules.proofs.Gaps.{fr, was}
-use Rattle.rules.proofs.Keeping.{Lasts}
-use Rattle.rules.proofs.Settling.{Kept, stayers-kept}
+use Rattle.rules.proofs.EffectsLaws.{Lasts}
+use Rattle.rules.proofs.Settling.{SameOrGone, stayers-kept}
 use Rattle.rules.proofs.Sizes.{best-is, rests-held, rests-shows, shows-rests}
 use Rattle.rules.proofs.Tests.{and-l, and-r, held-pos, pos-held}
 use Rattle.rules.proofs.Widths.{LgFits, Ranged, RegFits}
@@ -58,14 +58,14 @@ first-held o l p z = own-held l (search (and-l, and-r, z))
 -- each place of w has what v has there, or less
 pub record Below (v w : Venue) : Type 0 where
   pub regulars : (n : ℕ) → Lesser (reg w n) (reg v n)
-  pub leggings : (n : ℕ) → Kept (lg w n) (lg v n)
+  pub leggings : (n : ℕ) → SameOrGone (lg w n) (lg v n)
 
 pub below-refl : (v : Venue) → Below v v
-unfolding Kept
+unfolding SameOrGone
 below-refl v = record { regulars = λ n. lesser-refl _; leggings = λ n. inl refl }
 
 below-gone : (v : Venue) (f : ℕ → Legging → Verdict) (w : Venue) → Below v w → Below v (remove f w .venue)
-unfolding remove withLegging Kept
+unfolding remove withLegging SameOrGone
 below-gone v f w b = record { regulars = b .regulars; leggings = λ n. go n (stayers-kept f 0 (w .legging) n) (b .leggings n) }
   where
     go : (n : ℕ) {x : Legging} → (x ≡ lg w n) ⊎ (x ≡ noLegging) → (lg w n ≡ lg v n) ⊎ (lg w n ≡ noLegging) → (x ≡ lg v n) ⊎ (x ≡ noLegging)
@@ -91,8 +91,8 @@ rests-lesser {a} {b} s d l r =
     rw (h, rw (l .series) at x, rw (l .side) at y)
 
 -- a legging order that is there is the one that was
-pub still-there : {l m : Legging} → Kept l m → held (l .quantity) ≡ true → l ≡ m
-unfolding Kept
+pub still-there : {l m : Legging} → SameOrGone l m → held (l .quantity) ≡ true → l ≡ m
+unfolding SameOrGone
 still-there (inl e) h = e
 still-there (inr e) h = absurd (false≢true (rw e at h))
 

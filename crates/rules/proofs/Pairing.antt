@@ -18,7 +18,7 @@ use Rattle.rules.specs.Records.{Report, trade}
 use Rattle.rules.specs.Effects.{Effect, _⟫_, report}
 use Rattle.rules.specs.Prices.{net, sizeIn}
 use Rattle.rules.specs.Removal.{remove, removeOf}
-use Rattle.rules.specs.Trading.{fillComplex, pairOff, take}
+use Rattle.rules.specs.Trading.{fillComplex, pairOff, tradeAtPrice}
 use Rattle.rules.specs.Complex.{legIn}
 use Rattle.rules.specs.Sums.{cancelledOf, contracts, crossedFor, openComplex, openRegular, paired, total}
 use Rattle.rules.proofs.Adding.{open-fillC, remove-silent, total-append, total-then}
@@ -26,7 +26,7 @@ use Rattle.rules.proofs.Filling.{Fewer, cx, fewer-trans, fewerC-refl, f
 use Rattle.rules.proofs.Ledger.{ComplexId, Moves, RegularId, Settles, cx-kept, ratio-none, reg-kept}
 use Rattle.rules.proofs.Moving.{chain-cx, chain-reg}
 use Rattle.rules.proofs.Removing.{stay-of}
-use Rattle.rules.proofs.Taking.{Chain, chain-elsewhere, chain-fewer, chain-last, chain-other, chain-silent, take-chain, take-total}
+use Rattle.rules.proofs.TradingLaws.{Chain, chain-elsewhere, chain-fewer, chain-last, chain-other, chain-silent, at-price-chain, at-price-total}
 
 -- The 66 and the removals ---------------------------------------------------------------------
 
@@ -128,20 +128,20 @@ module _ (v : Venue) (i a b k : ℕ) where
   k₂ = c .ratio2 * k
 
   abbrev first-trades : Effect
-  first-trades = take k₁ (c .id) (c .series1) (c .side1) a k₁ v
+  first-trades = tradeAtPrice k₁ (c .id) (c .series1) (c .side1) a k₁ v
 
   abbrev second-trades : Effect
-  second-trades = take k₂ (c .id) (c .series2) (c .side2) b k₂ (first-trades .venue)
+  second-trades = tradeAtPrice k₂ (c .id) (c .series2) (c .side2) b k₂ (first-trades .venue)
 
   -- the venue when both legs have traded
   abbrev pub legged : Venue
   legged = second-trades .venue
 
   ch₁ : Chain (c .id) (c .series1) (c .side1) a v (first-trades .reports) (first-trades .venue)
-  ch₁ = take-chain (c .id) (c .series1) (c .side1) a k₁ k₁ v
+  ch₁ = at-price-chain (c .id) (c .series1) (c .side1) a k₁ k₁ v
 
   ch₂ : Chain (c .id) (c .series2) (c .side2) b (first-trades .venue) (second-trades .reports) legged
-  ch₂ = take-chain (c .id) (c .series2) (c .side2) b k₂ k₂ (first-trades .venue)
+  ch₂ = at-price-chain (c .id) (c .series2) (c .side2) b k₂ k₂ (first-trades .venue)
 
   pub legged-complex : legged .complex ≡ v .complex
   legged-complex = chain-elsewhere ch₂ .complex ∙ chain-elsewhere ch₁ .complex
@@ -190,7 +190,7 @@ module _ (v : Venue) (i a b k : ℕ) where
           omega (
             arith,
             legIn-total (contracts (c .id) (c .series1)),
-            take-total (c .id) (c .series1) (c .side1) a k₁ k₁ v (omega arith) (m .size1),
+            at-price-total (c .id) (c .series1) (c .side1) a k₁ k₁ v (omega arith) (m .size1),
             chain-other (c .id) (c .series1) (λ e. m .apart (sym e)) ch₂,
             tells .contracts0 (c .id) (c .series1),
           );
@@ -198,7 +198,7 @@ module _ (v : Venue) (i a b k : ℕ) where
           omega (
             arith,
             legIn-total (contracts (c .id) (c .series2)),
-            take-total (c .id) (c .series2) (c .side2) b k₂ k₂ (first-trades .venue) (omega arith) size2′,
+            at-price-total (c .id) (c .series2) (c .side2) b k₂ k₂ (first-trades .venue) (omega arith) size2′,
             chain-other (c .id) (c .series2) (m .apart) ch₁,
             tells .contracts0 (c .id) (c .series2),
           );

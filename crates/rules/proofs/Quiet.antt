@@ -19,14 +19,14 @@ use Rattle.rules.specs.Records.{ForAll, Report, answer, trade, pair, gen
 use Rattle.rules.specs.Effects.{Effect, nothing, report, _⟫_, Turn, ended, turned, repeat}
 use Rattle.rules.specs.Removal.{remove, removeOf}
 use Rattle.rules.specs.Standing.{verdict, settle, showAgain}
-use Rattle.rules.specs.Trading.{fillRegular, tradeWith, take, pairOff}
+use Rattle.rules.specs.Trading.{fillRegular, tradeWith, tradeAtPrice, pairOff}
 use Rattle.rules.specs.Order.{meet, hit, meetTurn, enterRegular, order}
 use Rattle.rules.specs.Generation.{makes, make, generateLeg, generate}
 use Rattle.rules.specs.Complex.{anyClosed, cross, crossTurn, touches, touch, legsIn, legIn, unitsIn, legInTurn, work, complex, each, sweep}
 use Rattle.rules.specs.Complex.{eachOf, limitedSweep, cancelRegular, cancelComplex, restsRegular, cancel}
 use Rattle.rules.specs.Places.{closeGaps}
 use Rattle.rules.specs.Step.{perform, accept}
-use Rattle.rules.proofs.Cases.{crossTurn-by, each-by, if-by, meetTurn-by, repeat-by, take-by}
+use Rattle.rules.proofs.Cases.{crossTurn-by, each-by, if-by, meetTurn-by, repeat-by, at-price-by}
 use Rattle.rules.proofs.ByPlace.{ByPlace, none, next, removed-by-place}
 use Rattle.rules.proofs.Widths.{each-append}
 
@@ -96,11 +96,11 @@ module _ (P : Report → Type 0) (others : Others P) where
   unfolding tradeWith
   all-trade x d i k v = all-report (trade _ d _ k x _) (others .trades _ d _ k x _) (fillRegular i k v)
 
-  all-take : (x s d p fuel k : ℕ) (v : Venue) → All P (take fuel x s d p k v)
-  all-take x s d p zero k v = unfold take in (all-nothing v)
-  all-take x s d p (suc fuel) k v =
-      take-by (All P) fuel x s d p k v (λ _. all-nothing v) (λ _ _. all-nothing v)
-      (λ _ i o _. all-then _ _ (all-trade x d i _ v) (all-take x s d p fuel _ _))
+  all-at-price : (x s d p fuel k : ℕ) (v : Venue) → All P (tradeAtPrice fuel x s d p k v)
+  all-at-price x s d p zero k v = unfold tradeAtPrice in (all-nothing v)
+  all-at-price x s d p (suc fuel) k v =
+      at-price-by (All P) fuel x s d p k v (λ _. all-nothing v) (λ _ _. all-nothing v)
+      (λ _ i o _. all-then _ _ (all-trade x d i _ v) (all-at-price x s d p fuel _ _))
 
   all-pair : (i id : ℕ) (n : ℤ) (k : ℕ) (v : Venue) → All P (pairOff i id n k v)
   unfolding pairOff
@@ -109,7 +109,7 @@ module _ (P : Report → Type 0) (others : Others P) where
   all-hit : (i : ℕ) (l : Legging) (k : ℕ) (v : Venue) → All P (hit i l k v)
   unfolding hit
   all-hit i l k v =
-      all-then _ _ (all-then _ _ (all-report (trade _ _ _ k _ _) (others .trades _ _ _ k _ _) _) (all-take _ _ _ _ k k _)) (all-pair _ _ _ k _)
+      all-then _ _ (all-then _ _ (all-report (trade _ _ _ k _ _) (others .trades _ _ _ k _ _) _) (all-at-price _ _ _ _ k k _)) (all-pair _ _ _ k _)
 
   all-meet : (i j k : ℕ) (v : Venue) → All P (meet i j k v)
   unfolding meet
@@ -128,7 +128,7 @@ module _ (P : Report → Type 0) (others : Others P) where
 
   all-legIn : (i a b k : ℕ) (v : Venue) → All P (legIn i a b k v)
   unfolding legIn
-  all-legIn i a b k v = all-then _ _ (all-then _ _ (all-take _ _ _ _ _ _ v) (all-take _ _ _ _ _ _ _)) (all-pair i _ _ k _)
+  all-legIn i a b k v = all-then _ _ (all-then _ _ (all-at-price _ _ _ _ _ _ v) (all-at-price _ _ _ _ _ _ _)) (all-pair i _ _ k _)
 
   all-legInTurn : (i : ℕ) (v : Venue) → AllTurn (legInTurn i v)
   unfolding legInTurn
@@ -184,7 +184,7 @@ abbrev pub NoAnswer : Report → Type 0
 NoAnswer (answer number refusal mask count) = ⊥
 NoAnswer (trade series side price quantity taker maker) = Unit {0}
 NoAnswer (pair id n quantity) = Unit {0}
-NoAnswer (generated id series side price shown quantity) = Unit {0}
+NoAnswer (generated id series side price displayed quantity) = Unit {0}
 NoAnswer (removed id series side cause) = Unit {0}
 NoAnswer (crossed taker maker n quantity) = Unit {0}
 NoAnswer (cancelled id quantity) = Unit {0}
@@ -239,7 +239,7 @@ abbrev pub Plain : Report → Type 0
 Plain (answer number refusal mask count) = ⊥
 Plain (trade series side price quantity taker maker) = Unit {0}
 Plain (pair id n quantity) = Unit {0}
-Plain (generated id series side price shown quantity) = ⊥
+Plain (generated id series side price displayed quantity) = ⊥
 Plain (removed id series side cause) = Unit {0}
 Plain (crossed taker maker n quantity) = Unit {0}
 Plain (cancelled id quantity) = Unit {0}

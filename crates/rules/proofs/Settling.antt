@@ -20,14 +20,14 @@ use Rattle.rules.specs.Words.{opposite, noLegging, placeOf, leggingAt, s
 use Rattle.rules.specs.Settings.{figureNow, increment, percent}
 use Rattle.rules.specs.Prices.{better, bestRegular, bestSize, ownPrice, clearPrice, marketBest, away, taken1, taken2, inBand}
 use Rattle.rules.specs.Removal.{remove, stay, stayers}
-use Rattle.rules.specs.Standing.{parentOf, bothOpen, shownWell, pairs, verdictOf, verdict, showAgain, settle, otherClear, otherSize, otherLeg}
+use Rattle.rules.specs.Standing.{parentOf, bothOpen, displayedNoWorse, pairs, verdictOf, verdict, showAgain, settle, otherClear, otherSize, otherLeg}
 
 -- what stands at a place is what stood there, or nothing
-unfoldable pub Kept : Legging → Legging → Type 0
-Kept l m = (l ≡ m) ⊎ (l ≡ noLegging)
+unfoldable pub SameOrGone : Legging → Legging → Type 0
+SameOrGone l m = (l ≡ m) ⊎ (l ≡ noLegging)
 
-stay-kept : (x : Verdict) (l : Legging) → Kept (stay x l) l
-unfolding Kept stay
+stay-kept : (x : Verdict) (l : Legging) → SameOrGone (stay x l) l
+unfolding SameOrGone stay
 stay-kept Stands l = inl refl
 stay-kept (Fails c) l = go (held (l .quantity))
   where
@@ -35,8 +35,8 @@ stay-kept (Fails c) l = go (held (l .quantity))
     go true = inr refl
     go false = inl refl
 
-pub stayers-kept : (f : ℕ → Legging → Verdict) (n : ℕ) (ls : List Legging) (i : ℕ) → Kept (getD (stayers f n ls) i noLegging) (getD ls i noLegging)
-unfolding Kept stayers
+pub stayers-kept : (f : ℕ → Legging → Verdict) (n : ℕ) (ls : List Legging) (i : ℕ) → SameOrGone (getD (stayers f n ls) i noLegging) (getD ls i noLegging)
+unfolding SameOrGone stayers
 stayers-kept f n [] i = inl refl
 stayers-kept f n (l ∷ ls) zero = stay-kept (f n l) l
 stayers-kept f n (l ∷ ls) (suc i) = stayers-kept f (suc n) ls i
@@ -52,7 +52,7 @@ pub record Thinned (v w : Venue) : Type 0 where
   pub complex : w .complex ≡ v .complex
   pub series : w .series ≡ v .series
   pub editions : w .editions ≡ v .editions
-  pub legging : (i : ℕ) → Kept (getD (w .legging) i noLegging) (getD (v .legging) i noLegging)
+  pub legging : (i : ℕ) → SameOrGone (getD (w .legging) i noLegging) (getD (v .legging) i noLegging)
 
 remove-thins : (f : ℕ → Legging → Verdict) (v : Venue) → Thinned v (remove f v .venue)
 unfolding remove withLegging
@@ -77,7 +77,7 @@ module _ {v w : Venue} (t : Thinned v w) where
   size-kept s d = rw (best-kept s d, t .regular)
 
   clear-kept : (s d : ℕ) → held (clearPrice v s d) ≡ true → clearPrice w s d ≡ clearPrice v s d
-  unfolding clearPrice leggingAt Kept ownPrice
+  unfolding clearPrice leggingAt SameOrGone ownPrice
   clear-kept s d h = elim (t .legging (placeOf s d)) [
     | inl e ↦ rw (best-kept s d, e)
     | inr e ↦ rw (e, none-better) (best-kept s d ∙ sym (clear-best v s d h))
@@ -95,9 +95,9 @@ module _ {v w : Venue} (t : Thinned v w) where
   unfolding inBand taken1 taken2 percent figureNow
   band-kept c n = simp (market-kept, t .editions)
 
-  shown-kept : (s d p : ℕ) → shownWell w s d p ≡ shownWell v s d p
-  unfolding shownWell increment figureNow
-  shown-kept s d p = rw (best-kept, t .editions)
+  displayed-kept : (s d p : ℕ) → displayedNoWorse w s d p ≡ displayedNoWorse v s d p
+  unfolding displayedNoWorse increment figureNow
+  displayed-kept s d p = rw (best-kept, t .editions)
 
   parent-kept : (l : Legging) → parentOf w l ≡ parentOf v l
   unfolding parentOf
@@ -112,7 +112,7 @@ module _ {v w : Venue} (t : Thinned v w) where
   verdictOf-kept c s d l h =
       let p = passed h in
       passing (record {
-        shown = rw shown-kept (p .shown);
+        displayed = rw displayed-kept (p .displayed);
         pair = pairs-kept _ _ _ _ _ (p .pair);
         band = rw band-kept (p .band);
         opens = rw open-kept (p .opens);

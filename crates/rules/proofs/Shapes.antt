@@ -27,7 +27,7 @@ use Rattle.rules.specs.Step.{setAway, setStatus, setFigure, perform, acc
 use Rattle.rules.proofs.Again.{again-fewer}
 use Rattle.rules.proofs.Cases.{if-by}
 use Rattle.rules.proofs.Closing.{length-packed}
-use Rattle.rules.proofs.Keeping.{Lasts, keeps-each, keeps-eachOf, keeps-settle, keeps-matching, keeps-work, keeps-cancel}
+use Rattle.rules.proofs.EffectsLaws.{Lasts, keeps-each, keeps-eachOf, keeps-settle, keeps-matching, keeps-work, keeps-cancel}
 use Rattle.rules.proofs.Removing.{length-stayers}
 
 pub record Sized (r c l s e g : ℕ) (v : Venue) : Type 0 where

@@ -17,7 +17,7 @@ use Rattle.rules.specs.Words.{noRegular, withGenerations, withLegging, w
 use Rattle.rules.specs.Bytes.{kindField, u32At}
 use Rattle.rules.specs.Messages.{messageOf, orderAt}
 use Rattle.rules.specs.Effects.{Effect, _⟫_, nothing, report}
-use Rattle.rules.specs.Prices.{shown}
+use Rattle.rules.specs.Prices.{shownSize}
 use Rattle.rules.specs.Removal.{remove}
 use Rattle.rules.specs.Standing.{settle, showAgain, showsAgain}
 use Rattle.rules.specs.Trading.{lessRegular}
@@ -32,7 +32,7 @@ use Rattle.rules.proofs.Again.{Shown, again-at}
 use Rattle.rules.proofs.Cases.{if-by}
 use Rattle.rules.proofs.Filling.{reg}
 use Rattle.rules.proofs.Gaps.{fr, was}
-use Rattle.rules.proofs.Keeping.{keeps-each, keeps-eachOf}
+use Rattle.rules.proofs.EffectsLaws.{keeps-each, keeps-eachOf}
 use Rattle.rules.proofs.Tests.{and-l, and-r, pos-held}
 use Rattle.rules.proofs.Widths.{Ranged}
 
@@ -75,8 +75,8 @@ unfolding Showing showAgain withRegular
 again-same v h = rw (map-same (v .regular) h)
 
 -- an order in range then shows some size
-pub fully-shown : (o : Regular) → regularInRange o ≡ true → showsFully o ≡ true → held (shown o) ≡ true
-unfolding regularInRange within showsFully shown
+pub fully-shown : (o : Regular) → regularInRange o ≡ true → showsFully o ≡ true → held (shownSize o) ≡ true
+unfolding regularInRange within showsFully shownSize
 fully-shown o r z =
     let a = leb-true 1 (o .display) (search (and-l, and-r, r) depth 12) in
     let b = leb-true (o .display) (o .quantity) (search (and-l, and-r, r) depth 12) in

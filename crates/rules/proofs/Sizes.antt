@@ -14,7 +14,7 @@ use Rattle.rules.specs.declared.Regular.{Regular}
 use Rattle.rules.specs.declared.Venue.{Venue}
 use Rattle.rules.specs.Base.{held, if_then_else_}
 use Rattle.rules.specs.Words.{noRegular, opposite, regularAt, withRegular}
-use Rattle.rules.specs.Prices.{bestIn, bestRegular, bestSize, better, betterOf, restsAt, shown, showsAt, showsFor, sizeIn}
+use Rattle.rules.specs.Prices.{bestIn, bestRegular, bestSize, better, betterOf, restsAt, shownSize, showsAt, showsFor, sizeIn}
 use Rattle.rules.specs.Standing.{otherClear, otherLeg, otherSize}
 use Rattle.rules.specs.Trading.{fillRegular, lessRegular}
 use Rattle.rules.specs.Order.{atOnce}
@@ -26,71 +26,71 @@ use Rattle.rules.proofs.Tests.{and-false, and-l, and-r, and-true, free-
 -- What an order shows -------------------------------------------------------------------------
 
 -- All that is asked of the shown size: none above does more than cite these laws.
-pub shown-most : (o : Regular) → shown o ≤ o .quantity
-unfolding shown
+pub shown-most : (o : Regular) → shownSize o ≤ o .quantity
+unfolding shownSize
 shown-most o = omega arith
 
 -- what is not shown is reserve
-pub shown-rest : (o : Regular) → o .quantity - shown o ≤ o .reserve
-unfolding shown
+pub shown-rest : (o : Regular) → o .quantity - shownSize o ≤ o .reserve
+unfolding shownSize
 shown-rest o = omega arith
 
-pub shown-less : (k : ℕ) (o : Regular) → k ≤ shown o → shown (lessRegular k o) + k ≡ shown o
-unfolding shown lessRegular
+pub shown-less : (k : ℕ) (o : Regular) → k ≤ shownSize o → shownSize (lessRegular k o) + k ≡ shownSize o
+unfolding shownSize lessRegular
 shown-less k o le = omega arith
 
-pub shown-lessens : (k : ℕ) (o : Regular) → shown (lessRegular k o) ≡ shown o - k
-unfolding shown lessRegular
+pub shown-lessens : (k : ℕ) (o : Regular) → shownSize (lessRegular k o) ≡ shownSize o - k
+unfolding shownSize lessRegular
 shown-lessens k o = omega arith
 
 -- no fill makes an order show more
-pub fill-shown : (j q : ℕ) (v : Venue) (i : ℕ) → shown (reg (fillRegular j q v) i) ≤ shown (reg v i)
+pub fill-shown : (j q : ℕ) (v : Venue) (i : ℕ) → shownSize (reg (fillRegular j q v) i) ≤ shownSize (reg v i)
 unfolding fillRegular withRegular regularAt
 fill-shown j q v i =
-    let less : shown (lessRegular q (reg v j)) ≤ shown (reg v j) = (let e = shown-lessens q (reg v j) in omega arith) in
-    placewise-set noRegular (λ (a b : Regular). shown a ≤ shown b) (λ _. omega arith) (v .regular) j (lessRegular q (reg v j)) less .lesser i
+    let less : shownSize (lessRegular q (reg v j)) ≤ shownSize (reg v j) = (let e = shown-lessens q (reg v j) in omega arith) in
+    placewise-set noRegular (λ (a b : Regular). shownSize a ≤ shownSize b) (λ _. omega arith) (v .regular) j (lessRegular q (reg v j)) less .lesser i
 
 -- an order without reserve shows all that is left of it
-pub shown-whole : (o : Regular) → o .reserve ≡ 0 → shown o ≡ o .quantity
-unfolding shown
+pub shown-whole : (o : Regular) → o .reserve ≡ 0 → shownSize o ≡ o .quantity
+unfolding shownSize
 shown-whole o r = omega arith
 
-pub shown-none : (o : Regular) → held (o .quantity) ≡ false → held (shown o) ≡ false
-unfolding shown
+pub shown-none : (o : Regular) → held (o .quantity) ≡ false → held (shownSize o) ≡ false
+unfolding shownSize
 shown-none o h = let z : o .quantity - o .reserve ≡ 0 = (let q = free-none (o .quantity) h in omega arith) in rw z
 
 -- what can be traded at once: what it shows where it shows some, else all that is left of it
-pub once-shown : (o : Regular) → held (shown o) ≡ true → atOnce o ≡ shown o
+pub once-shown : (o : Regular) → held (shownSize o) ≡ true → atOnce o ≡ shownSize o
 unfolding atOnce
 once-shown o h = rw h
 
-pub once-left : (o : Regular) → held (shown o) ≡ false → atOnce o ≡ o .quantity
+pub once-left : (o : Regular) → held (shownSize o) ≡ false → atOnce o ≡ o .quantity
 unfolding atOnce
 once-left o h = rw h
 
 pub once-most : (o : Regular) → atOnce o ≤ o .quantity
-once-most o = go (held (shown o)) refl
+once-most o = go (held (shownSize o)) refl
   where
-    go : (b : Bool) → held (shown o) ≡ b → atOnce o ≤ o .quantity
+    go : (b : Bool) → held (shownSize o) ≡ b → atOnce o ≤ o .quantity
     go true h = let z = shown-most o in rw (once-shown o h) z
     go false h = rw (once-left o h) (omega arith)
 
 pub once-some : (o : Regular) → 0 < o .quantity → 0 < atOnce o
-once-some o p = go (held (shown o)) refl
+once-some o p = go (held (shownSize o)) refl
   where
-    go : (b : Bool) → held (shown o) ≡ b → 0 < atOnce o
-    go true h = rw (once-shown o h) (held-pos (shown o) h)
+    go : (b : Bool) → held (shownSize o) ≡ b → 0 < atOnce o
+    go true h = rw (once-shown o h) (held-pos (shownSize o) h)
     go false h = rw (once-left o h) p
 
 pub shows-held : (s d : ℕ) (o : Regular) → showsAt s d o ≡ true → held (o .quantity) ≡ true
 unfolding showsAt
 shows-held s d o z =
-    let a = held-pos (shown o) (search (and-l, and-r, z)) in
+    let a = held-pos (shownSize o) (search (and-l, and-r, z)) in
     let b = shown-most o in
     pos-held (o .quantity) (omega arith)
 
 -- what rests and has some shown size shows, and what shows rests
-pub rests-shows : (s d : ℕ) (o : Regular) → held (shown o) ≡ true → restsAt s d o ≡ true → showsAt s d o ≡ true
+pub rests-shows : (s d : ℕ) (o : Regular) → held (shownSize o) ≡ true → restsAt s d o ≡ true → showsAt s d o ≡ true
 unfolding restsAt showsAt
 rests-shows s d o a z =
     let b : eqb (o .series) s ≡ true = search (and-l, and-r, z) in
@@ -141,13 +141,13 @@ elsewhere-shows t e p o ne =
 
 -- what an order adds to the size at price p
 part : (s d p : ℕ) → Regular → ℕ
-part s d p o = if showsFor s d p o then shown o else 0
+part s d p o = if showsFor s d p o then shownSize o else 0
 
 size-cons : (s d p : ℕ) (o : Regular) (os : List Regular) → sizeIn s d p (o ∷ os) ≡ part s d p o + sizeIn s d p os
 unfolding sizeIn part
 size-cons s d p o os = go (showsFor s d p o)
   where
-    go : (b : Bool) → (if b then shown o + sizeIn s d p os else sizeIn s d p os) ≡ (if b then shown o else 0) + sizeIn s d p os
+    go : (b : Bool) → (if b then shownSize o + sizeIn s d p os else sizeIn s d p os) ≡ (if b then shownSize o else 0) + sizeIn s d p os
     go true = refl
     go false = sym (zero-add _)
 
@@ -155,7 +155,7 @@ less-shape : (k : ℕ) (o : Regular) → (lessRegular k o .series ≡ o .series)
 unfolding lessRegular
 less-shape k o = (refl, refl, refl)
 
-part-less : (s d p q : ℕ) (o : Regular) → showsFor s d p o ≡ true → q ≤ shown o → part s d p o ≡ q + part s d p (lessRegular q o)
+part-less : (s d p q : ℕ) (o : Regular) → showsFor s d p o ≡ true → q ≤ shownSize o → part s d p o ≡ q + part s d p (lessRegular q o)
 unfolding part showsFor showsAt
 part-less s d p q o h le =
     let a : eqb (o .series) s ≡ true = search (and-l, and-r, h) in
@@ -167,7 +167,7 @@ part-less s d p q o h le =
 
 -- filling the order at place i takes what was filled from the size
 pub size-less : (s d p q : ℕ) (os : List Regular) (i : ℕ) → i < length os →
-    showsFor s d p (getD os i noRegular) ≡ true → q ≤ shown (getD os i noRegular) →
+    showsFor s d p (getD os i noRegular) ≡ true → q ≤ shownSize (getD os i noRegular) →
     sizeIn s d p os ≡ q + sizeIn s d p (set os i (lessRegular q (getD os i noRegular)))
 size-less s d p q [] i f h le = absurd (omega arith)
 size-less s d p q (o ∷ os) zero f h le = rw (size-cons s d p o os, size-cons, part-less s d p q o h le) (add-assoc _ _ _)
@@ -181,14 +181,14 @@ size-put s d p [] i x f = absurd (omega arith)
 size-put s d p (o ∷ os) zero x f = rw (size-cons s d p o os, size-cons) (omega arith)
 size-put s d p (o ∷ os) (suc i) x f = let z = size-put s d p os i x (omega arith) in rw (size-cons s d p o os, size-cons) (omega arith)
 
-part-there : (s d p : ℕ) (o : Regular) → o .series ≡ s → o .side ≡ d → o .price ≡ p → part s d p o ≡ shown o
+part-there : (s d p : ℕ) (o : Regular) → o .series ≡ s → o .side ≡ d → o .price ≡ p → part s d p o ≡ shownSize o
 unfolding part showsFor showsAt
 part-there s d p o a b c = simp (eq-eqb (o .series) s a, eq-eqb (o .side) d b, eq-eqb (o .price) p c, and-true, if-held)
 
 -- filling the order at place i for k takes what of k it shows from the size
 pub size-filled : (s d p k : ℕ) (os : List Regular) (i : ℕ) → i < length os →
     getD os i noRegular .series ≡ s → getD os i noRegular .side ≡ d → getD os i noRegular .price ≡ p →
-    sizeIn s d p os ≡ min k (shown (getD os i noRegular)) + sizeIn s d p (set os i (lessRegular k (getD os i noRegular)))
+    sizeIn s d p os ≡ min k (shownSize (getD os i noRegular)) + sizeIn s d p (set os i (lessRegular k (getD os i noRegular)))
 size-filled s d p k os i f a b c =
     let o = getD os i noRegular in
     let z = less-shape k o in
@@ -212,7 +212,7 @@ size-some : (s d p : ℕ) (os : List Regular) (i : ℕ) → showsAt s d (getD os
 size-some s d p [] i r e = absurd (true≢false (sym r ∙ free-shows s d noRegular refl))
 size-some s d p (o ∷ os) zero r e =
     rw size-cons (unfold part showsFor in
-    (rw (r, eq-eqb (o .price) p e) (let z = held-pos (shown o) (unfold showsAt in (search (and-l, and-r, r))) in omega arith)))
+    (rw (r, eq-eqb (o .price) p e) (let z = held-pos (shownSize o) (unfold showsAt in (search (and-l, and-r, r))) in omega arith)))
 size-some s d p (o ∷ os) (suc i) r e = rw size-cons (let z = size-some s d p os i r e in omega arith)
 
 -- a place whose old and new order do not show at a side leaves its best price and sizes as they were

@@ -18,14 +18,14 @@ use Rattle.rules.specs.Base.{held, if_then_else_}
 use Rattle.rules.specs.Words.{complexAt, noComplex, noRegular, opposite, regularAt, withComplex, withRegular}
 use Rattle.rules.specs.Records.{Report}
 use Rattle.rules.specs.Effects.{Effect, ended}
-use Rattle.rules.specs.Prices.{bestIn, bestRegular, bestSize, better, restsAt, shown, showsAt, showsFor, sizeIn}
-use Rattle.rules.specs.Trading.{fillComplex, fillRegular, lessComplex, lessRegular, take}
+use Rattle.rules.specs.Prices.{bestIn, bestRegular, bestSize, better, restsAt, shownSize, showsAt, showsFor, sizeIn}
+use Rattle.rules.specs.Trading.{fillComplex, fillRegular, lessComplex, lessRegular, tradeAtPrice}
 use Rattle.rules.specs.Complex.{legIn, legInTurn, legsIn, unitsIn}
 use Rattle.rules.proofs.Better.{best-best, better-none, better-same}
 use Rattle.rules.proofs.Filling.{Fewer, Lesser, cx, fewer-trans, held-fitsC, placewise-set, reg, still-held}
 use Rattle.rules.proofs.Pairing.{legIn-filled, legIn-venue, legged, pair-regular}
 use Rattle.rules.proofs.Sizes.{ShowsAt, best-is, rests-held, rests-shows, shown-lessens, shows-rests}
-use Rattle.rules.proofs.Taking.{Chain, chain-elsewhere, chain-fewer, no-more, take-chain, take-left, traded}
+use Rattle.rules.proofs.TradingLaws.{Chain, chain-elsewhere, chain-fewer, no-more, at-price-chain, at-price-left, traded}
 use Rattle.rules.proofs.Tests.{and-false, and-l, and-r, free-none, held-pos, pos-held}
 
 -- The best price that is left -----------------------------------------------------------------
@@ -36,35 +36,35 @@ unfolding sizeIn showsFor
 size-shows s d p [] h = absurd (omega arith)
 size-shows s d p (o ∷ os) h = go (showsAt s d o && eqb (o .price) p) refl h (size-shows s d p os)
   where
-    go : (b : Bool) → (showsAt s d o && eqb (o .price) p) ≡ b → 0 < (if b then shown o + sizeIn s d p os else sizeIn s d p os) →
+    go : (b : Bool) → (showsAt s d o && eqb (o .price) p) ≡ b → 0 < (if b then shownSize o + sizeIn s d p os else sizeIn s d p os) →
         (0 < sizeIn s d p os → ShowsAt s d p os) → ShowsAt s d p (o ∷ os)
     go true e h ih = record { at = 0; shows = and-l (showsAt s d o) (eqb (o .price) p) e; price = eqb-true (o .price) p (and-r (showsAt s d o) (eqb (o .price) p) e) }
     go false e h ih = let r = ih h in record { at = suc (r .at); shows = r .shows; price = r .price }
 
 -- no trade makes an order show more
-fill-dims : (i k : ℕ) (v : Venue) (j : ℕ) → shown (reg (fillRegular i k v) j) ≤ shown (reg v j)
+fill-dims : (i k : ℕ) (v : Venue) (j : ℕ) → shownSize (reg (fillRegular i k v) j) ≤ shownSize (reg v j)
 unfolding fillRegular withRegular regularAt
 fill-dims i k v =
-    placewise-set noRegular (λ a b. shown a ≤ shown b) (λ o. omega arith) (v .regular) i (lessRegular k (reg v i)) (let z = shown-lessens k (reg v i) in omega arith) .lesser
+    placewise-set noRegular (λ a b. shownSize a ≤ shownSize b) (λ o. omega arith) (v .regular) i (lessRegular k (reg v i)) (let z = shown-lessens k (reg v i) in omega arith) .lesser
 
-chain-dims : {x s d p : ℕ} {v w : Venue} {rs : List Report} → Chain x s d p v rs w → (j : ℕ) → shown (reg w j) ≤ shown (reg v j)
+chain-dims : {x s d p : ℕ} {v w : Venue} {rs : List Report} → Chain x s d p v rs w → (j : ℕ) → shownSize (reg w j) ≤ shownSize (reg v j)
 chain-dims no-more j = omega arith
 chain-dims (traded {v = v} i q f r e le c) j = let a = chain-dims c j in let b = fill-dims i q v j in omega arith
 
 -- what shows with less open, and shows no more, showed before
-lesser-shows : (s d : ℕ) {a b : Regular} → Lesser a b → shown a ≤ shown b → showsAt s d a ≡ true → showsAt s d b ≡ true
+lesser-shows : (s d : ℕ) {a b : Regular} → Lesser a b → shownSize a ≤ shownSize b → showsAt s d a ≡ true → showsAt s d b ≡ true
 unfolding restsAt
 lesser-shows s d {a} {b} l dim h =
     let r = shows-rests s d a h in
-    let g : held (shown a) ≡ true = unfold showsAt in (search (and-l, and-r, h)) in
-    let e = held-pos (shown a) g in
+    let g : held (shownSize a) ≡ true = unfold showsAt in (search (and-l, and-r, h)) in
+    let e = held-pos (shownSize a) g in
     let x = still-held l (rests-held s d a r) in
     let y : eqb (b .series) s ≡ true = rw (← l .series) (search (and-l, and-r, r)) in
     let z : eqb (b .side) d ≡ true = rw (← l .side) (search (and-l, and-r, r)) in
-    rests-shows s d b (pos-held (shown b) (omega arith)) (rw (x, y, z))
+    rests-shows s d b (pos-held (shownSize b) (omega arith)) (rw (x, y, z))
 
 -- while size is left at the best price, it is the best
-best-still : (s d : ℕ) (os ps : List Regular) → Fewer ps os → ((j : ℕ) → shown (getD ps j noRegular) ≤ shown (getD os j noRegular)) → held
+best-still : (s d : ℕ) (os ps : List Regular) → Fewer ps os → ((j : ℕ) → shownSize (getD ps j noRegular) ≤ shownSize (getD os j noRegular)) → held
     (bestIn s d os) ≡ true → 0 < sizeIn s d (bestIn s d os) ps → bestIn s d ps ≡ bestIn s d os
 best-still s d os ps f dims h n = go (held (bestIn s d ps)) refl
   where
@@ -135,7 +135,7 @@ module _ (i : ℕ) (v : Venue) where
   k = unitsIn v c
 
   abbrev first : Effect
-  first = take (c .ratio1 * k) (c .id) (c .series1) (c .side1) a (c .ratio1 * k) v
+  first = tradeAtPrice (c .ratio1 * k) (c .id) (c .series1) (c .side1) a (c .ratio1 * k) v
 
   abbrev w : Venue
   w = legged v i a b k
@@ -157,26 +157,26 @@ module _ (i : ℕ) (v : Venue) where
   module _ (holds : held (c .quantity) ≡ true) (apart : c .series1 ≢ c .series2) (ha : held a ≡ true) (hb : held b ≡ true)
       (some : 0 < k) (part : k < c .quantity) (more1 : c .ratio1 * k < s₁) (more2 : c .ratio2 * k < s₂) where
     fewer : Fewer (w .regular) (v .regular)
-    fewer = fewer-trans (chain-fewer (take-chain (c .id) (c .series2) (c .side2) b (c .ratio2 * k) (c .ratio2 * k) (first .venue)))
-        (chain-fewer (take-chain (c .id) (c .series1) (c .side1) a (c .ratio1 * k) (c .ratio1 * k) v))
+    fewer = fewer-trans (chain-fewer (at-price-chain (c .id) (c .series2) (c .side2) b (c .ratio2 * k) (c .ratio2 * k) (first .venue)))
+        (chain-fewer (at-price-chain (c .id) (c .series1) (c .side1) a (c .ratio1 * k) (c .ratio1 * k) v))
 
-    dims : (j : ℕ) → shown (reg w j) ≤ shown (reg v j)
+    dims : (j : ℕ) → shownSize (reg w j) ≤ shownSize (reg v j)
     dims j =
-        let x = chain-dims (take-chain (c .id) (c .series2) (c .side2) b (c .ratio2 * k) (c .ratio2 * k) (first .venue)) j in
-        let y = chain-dims (take-chain (c .id) (c .series1) (c .side1) a (c .ratio1 * k) (c .ratio1 * k) v) j in
+        let x = chain-dims (at-price-chain (c .id) (c .series2) (c .side2) b (c .ratio2 * k) (c .ratio2 * k) (first .venue)) j in
+        let y = chain-dims (at-price-chain (c .id) (c .series1) (c .side1) a (c .ratio1 * k) (c .ratio1 * k) v) j in
         omega arith
 
     -- what is left at the two prices
     left1 : sizeIn (c .series1) d₁ a (w .regular) + c .ratio1 * k ≡ s₁
     left1 =
-        rw (chain-elsewhere (take-chain (c .id) (c .series2) (c .side2) b (c .ratio2 * k) (c .ratio2 * k) (first .venue)) .size (c .series1) d₁ a (λ e. apart (sym e)))
-        (take-left (c .id) (c .series1) (c .side1) a (c .ratio1 * k) (c .ratio1 * k) v (omega arith) (omega arith))
+        rw (chain-elsewhere (at-price-chain (c .id) (c .series2) (c .side2) b (c .ratio2 * k) (c .ratio2 * k) (first .venue)) .size (c .series1) d₁ a (λ e. apart (sym e)))
+        (at-price-left (c .id) (c .series1) (c .side1) a (c .ratio1 * k) (c .ratio1 * k) v (omega arith) (omega arith))
 
     was2 : sizeIn (c .series2) d₂ b (first .venue .regular) ≡ s₂
-    was2 = chain-elsewhere (take-chain (c .id) (c .series1) (c .side1) a (c .ratio1 * k) (c .ratio1 * k) v) .size (c .series2) d₂ b apart
+    was2 = chain-elsewhere (at-price-chain (c .id) (c .series1) (c .side1) a (c .ratio1 * k) (c .ratio1 * k) v) .size (c .series2) d₂ b apart
 
     left2 : sizeIn (c .series2) d₂ b (w .regular) + c .ratio2 * k ≡ s₂
-    left2 = take-left (c .id) (c .series2) (c .side2) b (c .ratio2 * k) (c .ratio2 * k) (first .venue) (omega arith) (rw was2 (omega arith)) ∙ was2
+    left2 = at-price-left (c .id) (c .series2) (c .side2) b (c .ratio2 * k) (c .ratio2 * k) (first .venue) (omega arith) (rw was2 (omega arith)) ∙ was2
 
     same1 : bestIn (c .series1) d₁ (w .regular) ≡ a
     same1 = best-still (c .series1) d₁ (v .regular) (w .regular) fewer dims ha (omega (arith, left1))

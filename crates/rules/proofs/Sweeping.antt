@@ -20,7 +20,7 @@ use Rattle.rules.specs.Generation.{counted, generate, generateLeg, make,
 use Rattle.rules.specs.Complex.{each, nextAbove, work}
 use Rattle.rules.proofs.Cases.{each-by, each-done, each-on, if-by, isAbove}
 use Rattle.rules.proofs.Filling.{FewerC, LesserC, cx, fewerC-refl, fewerC-trans, fill-fewerC, still-heldC}
-use Rattle.rules.proofs.Keeping.{Lasts, keeps-work}
+use Rattle.rules.proofs.EffectsLaws.{Lasts, keeps-work}
 use Rattle.rules.proofs.Picking.{Chosen, first-chosen}
 use Rattle.rules.proofs.Tests.{and-r}
 

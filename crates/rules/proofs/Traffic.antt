@@ -8,7 +8,7 @@ use native.Mathlib.Decide.{decLt, ℕ-discrete}
 use native.Mathlib.Nat.{add-zero, suc-add, zero-add}
 use native.Mathlib.Omega.{arith}
 use lib.Dec.{eqb, leb, ltb}
-use lib.ListN.{List·getD-eq-default, getD, length, length-append, length-set, length-take, replicate, set, take as firsts}
+use lib.ListN.{List·getD-eq-default, getD, length, length-append, length-set, length-take, replicate, set, take}
 use lib.Seq.{getD-set-other, getD-set-same}
 use borrow.Author.Tests.{eq-eqb, le-leb, leb-false, leb-true, lt-ltb, ltb-true, ne-eqb}
 use Rattle.rules.specs.declared.Complex.{Complex}
@@ -38,13 +38,13 @@ use Rattle.rules.specs.Sound.{follows, generationsSound, unfallen}
 use Rattle.rules.specs.Sums.{generatedOf, total}
 use Rattle.rules.proofs.Adding.{total-append}
 use Rattle.rules.proofs.Arranging.{all-at, all-in}
-use Rattle.rules.proofs.Calling.{step-by}
+use Rattle.rules.proofs.CallsLaws.{step-by}
 use Rattle.rules.proofs.Cases.{each-by, if-by}
 use Rattle.rules.proofs.Filling.{cx}
 use Rattle.rules.proofs.Generating.{made}
-use Rattle.rules.proofs.Keeping.{Lasts, keeps-cancel, keeps-each, keeps-eachOf, keeps-matching, keeps-settle, keeps-work}
+use Rattle.rules.proofs.EffectsLaws.{Lasts, keeps-cancel, keeps-each, keeps-eachOf, keeps-matching, keeps-settle, keeps-work}
 use Rattle.rules.proofs.Quiet.{Plain, Still, all-cancel, all-each, all-eachOf, all-nothing, all-order, all-remove, all-settle, all-then, plain, still-work}
-use Rattle.rules.proofs.Refusing.{Passed, accepted}
+use Rattle.rules.proofs.RefusalsLaws.{Passed, accepted}
 use Rattle.rules.proofs.Tests.{and-in, and-l, and-r}
 
 -- Counts --------------------------------------------------------------------------------------
@@ -81,7 +81,7 @@ plain-none s [] h = refl
 plain-none s (answer number refusal mask count ∷ rs) h = absurd (h .0)
 plain-none s (trade series side price quantity taker maker ∷ rs) h = let z = plain-none s rs (h .1) in omega arith
 plain-none s (pair id n quantity ∷ rs) h = let z = plain-none s rs (h .1) in omega arith
-plain-none s (generated id series side price shown quantity ∷ rs) h = absurd (h .0)
+plain-none s (generated id series side price displayed quantity ∷ rs) h = absurd (h .0)
 plain-none s (removed id series side cause ∷ rs) h = let z = plain-none s rs (h .1) in omega arith
 plain-none s (crossed taker maker n quantity ∷ rs) h = let z = plain-none s rs (h .1) in omega arith
 plain-none s (cancelled id quantity ∷ rs) h = let z = plain-none s rs (h .1) in omega arith
@@ -217,7 +217,7 @@ tracks-perform n Sweep v =
 tracks-perform n (Increment s i e) v = settles n v _ (unfold withEditions in refl)
 tracks-perform n (Percent x e) v = settles n v _ (unfold withEditions in refl)
 tracks-perform n (LimitedSweep k) v =
-    tracks-then n v _ _ (tracks-then n v _ settle (tracks-then n v _ _ (tracks-looked n (examined k v) (idReached v (firsts k (goingRound v))) v)
+    tracks-then n v _ _ (tracks-then n v _ settle (tracks-then n v _ _ (tracks-looked n (examined k v) (idReached v (take k (goingRound v))) v)
     (tracks-still n _ _ (all-eachOf Plain plain work still-work _ _) (keeps-eachOf (Had _) work (keeps-work (had-lasts _)) _ _ refl)))
     (settles n _ _ refl))
     (tracks-eachOf n _ _)
@@ -383,7 +383,7 @@ each-join : (Q : ℕ → Type 0) (a b : List ℕ) → Each Q a → Each Q b → 
 each-join Q [] b h k = k
 each-join Q (i ∷ a) b h k = (h .0, each-join Q a b (h .1) k)
 
-each-front : (Q : ℕ → Type 0) (n : ℕ) (l : List ℕ) → Each Q l → Each Q (firsts n l)
+each-front : (Q : ℕ → Type 0) (n : ℕ) (l : List ℕ) → Each Q l → Each Q (take n l)
 each-front Q zero l h = tt
 each-front Q (suc n) [] h = tt
 each-front Q (suc n) (i ∷ l) h = (h .0, each-front Q n l (h .1))
@@ -400,7 +400,7 @@ places-each Q f n (c ∷ cs) h = go (held (c .quantity)) refl (f c) (places-each
     go false e b k = k
 
 -- what holds of every resting order's place holds of those looked at
-pub looked-each : (Q : ℕ → Type 0) (n : ℕ) (v : Venue) → ((j : ℕ) → j < length (v .complex) → held (cx v j .quantity) ≡ true → Q j) → Each Q (firsts n (goingRound v))
+pub looked-each : (Q : ℕ → Type 0) (n : ℕ) (v : Venue) → ((j : ℕ) → j < length (v .complex) → held (cx v j .quantity) ≡ true → Q j) → Each Q (take n (goingRound v))
 unfolding goingRound
 looked-each Q n v h =
     let k : (j : ℕ) → j < length (v .complex) → held (cx v j .quantity) ≡ true → Q (0 + j) = λ j l t. subst Q (sym (zero-add j)) (h j l t) in
@@ -464,7 +464,7 @@ perform-reached n Sweep v p x h =
 perform-reached n (Increment s i e) v p x h = ends-low h (keeps-settle ends-lasts _ (record { reached = refl; last = refl }))
 perform-reached n (Percent y e) v p x h = ends-low h (keeps-settle ends-lasts _ (record { reached = refl; last = refl }))
 perform-reached n (LimitedSweep k) v p x h =
-    ends-low (reached-low v (v .last) (firsts k (goingRound v)) h (looked-each (λ i. cx v i .id ≤ v .last) k v (λ j _ t. x j t)))
+    ends-low (reached-low v (v .last) (take k (goingRound v)) h (looked-each (λ i. cx v i .id ≤ v .last) k v (λ j _ t. x j t)))
     (keeps-eachOf (Ends _ _) (generate n) (ends-generate n) _ _
     (keeps-settle ends-lasts _ (keeps-eachOf (Ends _ _) work (keeps-work ends-lasts) _ _ (record { reached = refl; last = refl }))))
 
@@ -477,7 +477,7 @@ step-reached v n bs x h =
 -- A limited sweep's count ---------------------------------------------------------------------
 
 -- "the number looked at": as many places as it tells
-pub looked-count : (n : ℕ) (v : Venue) → length (firsts n (goingRound v)) ≡ examined n v
+pub looked-count : (n : ℕ) (v : Venue) → length (take n (goingRound v)) ≡ examined n v
 unfolding examined
 looked-count n v = length-take n (goingRound v)
 

@@ -11,10 +11,10 @@ use Rattle.rules.specs.declared.Verdict.{Verdict}
 use Rattle.rules.specs.declared.Verdict.the-variants.{Stands, Fails}
 use Rattle.rules.specs.Base.{if_then_else_}
 use Rattle.rules.specs.Prices.{inBand}
-use Rattle.rules.specs.Standing.{bothOpen, shownWell, pairs, verdictOf}
+use Rattle.rules.specs.Standing.{bothOpen, displayedNoWorse, pairs, verdictOf}
 
 pub record Passes (v : Venue) (c : Complex) (s d : ℕ) (l : Legging) : Type 0 where
-  pub shown : shownWell v s d (l .price) ≡ true
+  pub displayed : displayedNoWorse v s d (l .price) ≡ true
   pub band : inBand v c (c .limit) ≡ true
   pub pair : pairs v c s d (l .price) (l .quantity) ≡ true
   pub opens : bothOpen v c ≡ true
@@ -43,8 +43,8 @@ pub passed : {v : Venue} {c : Complex} {s d : ℕ} {l : Legging} → verdictOf v
 unfolding verdictOf
 passed h =
     let a = all4 _ _ _ _ h in
-    record { shown = a .p1; band = a .p2; pair = a .p3; opens = a .p4 }
+    record { displayed = a .p1; band = a .p2; pair = a .p3; opens = a .p4 }
 
 pub passing : {v : Venue} {c : Complex} {s d : ℕ} {l : Legging} → Passes v c s d l → verdictOf v c s d l ≡ Stands
 unfolding verdictOf
-passing p = rw (p .shown, p .band, p .pair, p .opens)
+passing p = rw (p .displayed, p .band, p .pair, p .opens)

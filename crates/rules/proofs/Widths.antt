@@ -34,7 +34,7 @@ use Rattle.rules.proofs.Editions.{Dated}
 use Rattle.rules.proofs.Filling.{cx, lg, reg}
 use Rattle.rules.proofs.Gaps.{was, wasC}
 use Rattle.rules.proofs.Integers.{le-out, minus, neg-minus, neg-plus, plus}
-use Rattle.rules.proofs.Refusing.{wellFormed}
+use Rattle.rules.proofs.RefusalsLaws.{wellFormed}
 use Rattle.rules.proofs.Tests.{and-in, and-l, and-r, held-pos, pos-held}
 
 -- Records -------------------------------------------------------------------------------------

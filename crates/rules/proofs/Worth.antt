@@ -20,7 +20,7 @@ use Rattle.rules.specs.Words.{noRegular, noComplex, noLegging, regularAt
 use Rattle.rules.specs.Bytes.{bytes, framed}
 use Rattle.rules.specs.Records.{Report, answer, trade, pair, generated, removed, crossed, cancelled, looked, encode, encodeAll}
 use Rattle.rules.specs.Effects.{Effect, nothing, report, _⟫_}
-use Rattle.rules.specs.Prices.{shown}
+use Rattle.rules.specs.Prices.{shownSize}
 use Rattle.rules.specs.Removal.{stay, goes, stayers, leavers, remove}
 use Rattle.rules.specs.Standing.{settle, showAgain, showsAgain, verdict}
 use Rattle.rules.specs.Trading.{lessRegular, lessComplex, fillRegular, fillComplex, putRegular, putComplex}
@@ -41,7 +41,7 @@ unfolding encode framed bytes recordLength
 lengths (answer number refusal mask count) = refl
 lengths (trade series side price quantity taker maker) = refl
 lengths (pair id n quantity) = refl
-lengths (generated id series side price shown quantity) = refl
+lengths (generated id series side price displayed quantity) = refl
 lengths (removed id series side cause) = refl
 lengths (crossed taker maker n quantity) = refl
 lengths (cancelled id quantity) = refl
@@ -55,7 +55,7 @@ written (r ∷ rs) = rw (length-append (encode r) (encodeAll rs), lengths r, wri
 -- Worth ---------------------------------------------------------------------------------------
 
 unfoldable pub ofShown : (a : ℕ) → Regular → ℕ
-ofShown a o = due a (shown o)
+ofShown a o = due a (shownSize o)
 
 unfoldable pub ofLeft : (b : ℕ) → Regular → ℕ
 ofLeft b o = due b (o .quantity)
@@ -80,8 +80,8 @@ ofLegging l = due perLegging (l .quantity)
 unfoldable pub worth : (a b : ℕ) → Venue → ℕ
 worth a b v = sum (ofShown a) (v .regular) + sum (ofLeft b) (v .regular) + (sum ofComplex (v .complex) + sum ofEven (v .complex)) + sum ofLegging (v .legging)
 
-no-shown : shown noRegular ≡ 0
-unfolding shown
+no-shown : shownSize noRegular ≡ 0
+unfolding shownSize
 no-shown = refl
 
 no-even : evenOpen noComplex ≡ 0
@@ -106,7 +106,7 @@ module _ (a b : ℕ) where
       sum (ofShown a) (v .regular) + sum (ofLeft b) (v .regular) + sum ofLegging (v .legging) ≤ a * length (v .regular) + b * length (v .regular) + perLegging * length (v .legging)
   unfolding ofShown ofLeft ofLegging
   regular-most v =
-      let s = worths-most a shown noRegular no-shown (v .regular) in
+      let s = worths-most a shownSize noRegular no-shown (v .regular) in
       let r = worths-most b (λ (o : Regular). o .quantity) noRegular refl (v .regular) in
       let l = worths-most perLegging (λ (l : Legging). l .quantity) noLegging refl (v .legging) in
       omega arith
@@ -123,7 +123,7 @@ module _ (a b : ℕ) where
   pub put-worth : (i : ℕ) (o : Regular) (v : Venue) → worth a b (putRegular i o v) ≤ worth a b v + (a + b)
   unfolding worth putRegular withRegular ofShown ofLeft
   put-worth i o v =
-      let s = put-more a shown noRegular no-shown i o (v .regular) in
+      let s = put-more a shownSize noRegular no-shown i o (v .regular) in
       let z = put-more b (λ (x : Regular). x .quantity) noRegular refl i o (v .regular) in
       omega arith
 
@@ -142,7 +142,7 @@ module _ (a b : ℕ) where
 module _ (a b i k : ℕ) (v : Venue) where
   less-shown : sum (ofShown a) (fillRegular i k v .regular) ≤ sum (ofShown a) (v .regular)
   unfolding fillRegular withRegular regularAt ofShown
-  less-shown = fill-less a shown noRegular no-shown lessRegular shown-lessens i k (v .regular)
+  less-shown = fill-less a shownSize noRegular no-shown lessRegular shown-lessens i k (v .regular)
 
   less-left : sum (ofLeft b) (fillRegular i k v .regular) ≤ sum (ofLeft b) (v .regular)
   unfolding fillRegular withRegular regularAt ofLeft lessRegular
@@ -152,9 +152,9 @@ module _ (a b i k : ℕ) (v : Venue) where
   unfolding worth
   fill-le = let x = less-shown in let y = less-left in unfold fillRegular withRegular in (omega arith)
 
-  pub fill-shows : 0 < shown (regularAt v i) → shown (regularAt v i) ≤ k → worth a b (fillRegular i k v) + a ≤ worth a b v
+  pub fill-shows : 0 < shownSize (regularAt v i) → shownSize (regularAt v i) ≤ k → worth a b (fillRegular i k v) + a ≤ worth a b v
   unfolding worth fillRegular withRegular regularAt ofShown
-  fill-shows p q = let z = fill-gone a shown noRegular no-shown lessRegular shown-lessens i k (v .regular) p q in let y = less-left in omega arith
+  fill-shows p q = let z = fill-gone a shownSize noRegular no-shown lessRegular shown-lessens i k (v .regular) p q in let y = less-left in omega arith
 
   pub fill-frees : 0 < regularAt v i .quantity → regularAt v i .quantity ≤ k → worth a b (fillRegular i k v) + b ≤ worth a b v
   unfolding worth fillRegular withRegular regularAt ofLeft lessRegular
@@ -164,7 +164,7 @@ module _ (a b i k : ℕ) (v : Venue) where
 module _ (a b i k : ℕ) (v : Venue) where
   pub fills-free : (w : ℕ) → w ≤ a → w ≤ b → (j : ℕ) → i ≢ j → 0 < regularAt v i .quantity → 0 < regularAt v j .quantity →
       k ≡ min (regularAt v i .quantity) (atOnce (regularAt v j)) → worth a b (fillRegular j k (fillRegular i k v)) + w ≤ worth a b v
-  fills-free w wa wb j ne p q e = go (decLe (regularAt v i .quantity) k) (held (shown (regularAt v j))) refl
+  fills-free w wa wb j ne p q e = go (decLe (regularAt v i .quantity) k) (held (shownSize (regularAt v j))) refl
     where
       x : worth a b (fillRegular i k v) ≤ worth a b v
       x = fill-le a b i k v
@@ -175,11 +175,11 @@ module _ (a b i k : ℕ) (v : Venue) where
       same : regularAt (fillRegular i k v) j ≡ regularAt v j
       same = unfold regularAt in (filled-other i k v j (λ e. ne (sym e)))
 
-      go : Dec (regularAt v i .quantity ≤ k) → (t : Bool) → held (shown (regularAt v j)) ≡ t → worth a b (fillRegular j k (fillRegular i k v)) + w ≤ worth a b v
+      go : Dec (regularAt v i .quantity ≤ k) → (t : Bool) → held (shownSize (regularAt v j)) ≡ t → worth a b (fillRegular j k (fillRegular i k v)) + w ≤ worth a b v
       go (yes le) t h = let z = fill-frees a b i k v p le in omega (arith, y)
       go (no gt) true h =
           let s = once-shown (regularAt v j) h in
-          let z = fill-shows a b j k (fillRegular i k v) (rw same (held-pos (shown (regularAt v j)) h)) (rw same (omega arith)) in
+          let z = fill-shows a b j k (fillRegular i k v) (rw same (held-pos (shownSize (regularAt v j)) h)) (rw same (omega arith)) in
           omega (arith, x)
       go (no gt) false h =
           let s = once-left (regularAt v j) h in
@@ -272,7 +272,7 @@ due-nothing q = let z = due-most 0 q in omega arith
 
 no-regular : (os : List Regular) → (sum (ofShown 0) os ≡ 0) × (sum (ofLeft 0) os ≡ 0)
 unfolding ofShown ofLeft
-no-regular os = (none-due (λ o. due 0 (shown o)) (λ o. due-nothing (shown o)) os, none-due (λ o. due 0 (o .quantity)) (λ o. due-nothing (o .quantity)) os)
+no-regular os = (none-due (λ o. due 0 (shownSize o)) (λ o. due-nothing (shownSize o)) os, none-due (λ o. due 0 (o .quantity)) (λ o. due-nothing (o .quantity)) os)
 
 pub spent-lower : (a b : ℕ) (e : Effect) → spent 0 0 e ≤ spent a b e
 unfolding spent worth

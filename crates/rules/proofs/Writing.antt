@@ -25,24 +25,24 @@ use Rattle.rules.specs.Words.{complexAt, isComplexOf, leggingAt, noCompl
 use Rattle.rules.specs.Settings.{increment}
 use Rattle.rules.specs.Records.{ForAll, Fits, FourSigned, Report, FourBytes, looked, removed}
 use Rattle.rules.specs.Effects.{Effect, Turn, _⟫_, ended, nothing, repeat, report, turned}
-use Rattle.rules.specs.Prices.{clearPrice, inBand, marketBest, net, shown, weighed}
+use Rattle.rules.specs.Prices.{clearPrice, inBand, marketBest, net, shownSize, weighed}
 use Rattle.rules.specs.Removal.{goes, leavers, remove, removeOf, stayers}
 use Rattle.rules.specs.Standing.{findComplex, otherClear, otherLeg, parentOf, settle, verdict, showAgain}
-use Rattle.rules.specs.Trading.{pairOff, putComplex, putRegular, take, tradeWith}
+use Rattle.rules.specs.Trading.{pairOff, putComplex, putRegular, tradeAtPrice, tradeWith}
 use Rattle.rules.specs.Order.{enterRegular, hit, meet, meetTurn, order}
 use Rattle.rules.specs.Generation.{generate, generateLeg, legPrice, make, makes, newLegging}
 use Rattle.rules.specs.Complex.{anyClosed, cancel, cancelComplex, cancelRegular, complex, complexPlace, cross, crossTurn, each, eachOf}
 use Rattle.rules.specs.Complex.{examined, legIn, legInTurn, legsIn, regularPlace, limitedSweep, restsRegular, sweep, touch, touches, unitsIn}
 use Rattle.rules.specs.Complex.{work}
 use Rattle.rules.specs.Step.{accept, perform}
-use Rattle.rules.proofs.Bounds.{band-first, band-second, clear-small, neg-i32, net-i32, new-fits, regular-small, shown-small}
-use Rattle.rules.proofs.Cases.{crossTurn-by, each-by, if-by, meetTurn-by, repeat-by, take-by}
+use Rattle.rules.proofs.Bounds.{band-first, band-second, clear-small, neg-i32, net-i32, new-fits, regular-small, displayed-small}
+use Rattle.rules.proofs.Cases.{crossTurn-by, each-by, if-by, meetTurn-by, repeat-by, at-price-by}
 use Rattle.rules.proofs.Filling.{cx, lg, reg}
 use Rattle.rules.proofs.Generating.{Makes, made}
 use Rattle.rules.proofs.Removing.{length-stayers}
-use Rattle.rules.proofs.Settling.{Kept, stayers-kept}
+use Rattle.rules.proofs.Settling.{SameOrGone, stayers-kept}
 use Rattle.rules.proofs.Tests.{and-l, and-r}
-use Rattle.rules.proofs.Refusing.{wellFormed}
+use Rattle.rules.proofs.RefusalsLaws.{wellFormed}
 use Rattle.rules.proofs.Units.{units-open}
 use Rattle.rules.proofs.Widths.{again-ranged, CxFits, LgFits, Ranged, away-ranged, closed-ranged, complex-fits, counted-ranged, each-append}
 use Rattle.rules.proofs.Widths.{fill-ranged, fillC-ranged, increment-ranged, last-ranged, no-cx, no-lg, order-fits, percent-ranged}
@@ -86,7 +86,7 @@ leavers-fit f n (l ∷ ls) s h =
     (leavers-fit f (suc n) ls (omega arith) (λ i. h (suc i)))
 
 pub writes-remove : (f : ℕ → Legging → Verdict) (v : Venue) → Ranged v → Writes (remove f v)
-unfolding remove withLegging Kept
+unfolding remove withLegging SameOrGone
 writes-remove f v r = record {
   fits = leavers-fit f 0 (v .legging) (let z = r .len in omega arith) (r .legging);
   ranged = with-legging r _ (λ i. go i (stayers-kept f 0 (v .legging) i)) (length-stayers f 0 (v .legging));
@@ -110,11 +110,11 @@ writes-trade taker d i k v t s q r =
     let p = o .price in
     writes-report _ _ (omega arith, omega arith, omega arith, omega arith, t, o .id) (fill-ranged i k v r)
 
-pub writes-take : (taker s d p fuel k : ℕ) → FourBytes taker → d < 2 → k ≤ 30000 → (v : Venue) → Ranged v → Writes (take fuel taker s d p k v)
-writes-take taker s d p zero k t b q v r = unfold take in (writes-nothing v r)
-writes-take taker s d p (suc fuel) k t b q v r =
-    take-by Writes fuel taker s d p k v (λ _. writes-nothing v r) (λ _ _. writes-nothing v r)
-    (λ _ i o _. writes-then _ _ (writes-trade taker d i (min k (shown o)) v t b (omega arith) r) (writes-take taker s d p fuel _ t b (omega arith)))
+pub writes-at-price : (taker s d p fuel k : ℕ) → FourBytes taker → d < 2 → k ≤ 30000 → (v : Venue) → Ranged v → Writes (tradeAtPrice fuel taker s d p k v)
+writes-at-price taker s d p zero k t b q v r = unfold tradeAtPrice in (writes-nothing v r)
+writes-at-price taker s d p (suc fuel) k t b q v r =
+    at-price-by Writes fuel taker s d p k v (λ _. writes-nothing v r) (λ _ _. writes-nothing v r)
+    (λ _ i o _. writes-then _ _ (writes-trade taker d i (min k (shownSize o)) v t b (omega arith) r) (writes-at-price taker s d p fuel _ t b (omega arith)))
 
 -- An order ------------------------------------------------------------------------------------
 
@@ -162,7 +162,7 @@ writes-hit i l k v f q r =
     writes-then _ _
     (writes-then _ _
     (writes-report _ _ (omega arith, omega arith, omega arith, omega arith, rf .id, cf .id) (fill-ranged i k v r))
-    (writes-take (c .id) (other .series) (other .side) clear k k (cf .id) (other-side c cf (o .series)) (omega arith)))
+    (writes-at-price (c .id) (other .series) (other .side) clear k k (cf .id) (other-side c cf (o .series)) (omega arith)))
     (λ w x. writes-pairOff _ (c .id) _ k (cf .id)
     (net-i32 (opposite (o .side)) (other .side) (l .price) clear (omega arith)
     (omega (arith, clear-small v r (other .series) (opposite (other .side))))) q w x)
@@ -214,8 +214,8 @@ writes-legIn i a b k v p q n r =
     let f = r .complex i in
     writes-then _ _
     (writes-then _ _
-    (writes-take (c .id) (c .series1) (c .side1) a _ _ (f .id) (f .side1) (mul-le-mul (f .ratio1) n) v r)
-    (writes-take (c .id) (c .series2) (c .side2) b _ _ (f .id) (f .side2) (mul-le-mul (f .ratio2) n)))
+    (writes-at-price (c .id) (c .series1) (c .side1) a _ _ (f .id) (f .side1) (mul-le-mul (f .ratio1) n) v r)
+    (writes-at-price (c .id) (c .series2) (c .side2) b _ _ (f .id) (f .side2) (mul-le-mul (f .ratio2) n)))
     (writes-pairOff i (c .id) _ k (f .id) (net-i32 (c .side1) (c .side2) (c .ratio1 * a) (c .ratio2 * b) (mul-le-mul (f .ratio1) p) (mul-le-mul (f .ratio2) q)) n)
 
 writes-legInTurn : (i : ℕ) (v : Venue) → Ranged v → TurnWrites (legInTurn i v)
@@ -243,7 +243,7 @@ unfolding make newLegging
 writes-make number c s d v f h s8 d2 m t r =
     let n = new-fits v c s d f h s8 d2 m t r in
     let a = n .price in
-    let b = shown-small _ (increment v s) d (legPrice v c s d) (m .range) in
+    let b = displayed-small _ (increment v s) d (legPrice v c s d) (m .range) in
     let q = f .quantity in
     writes-then _ _ (writes-remove _ v r)
     (λ w x. writes-report _ _ (f .id, omega arith, omega arith, omega arith, omega arith, omega arith) (counted-ranged number s _ (placed-ranged _ _ w n x)))

@@ -8,7 +8,7 @@ use Prim.Native.Nat.{ℕ, _+_, _*_, _≤_}
 use native.Mathlib.Omega.{arith}
 use native.Mathlib.Decide.{decLt}
 use lib.Dec.{eqb}
-use lib.ListN.{length, length-set, take as firsts, set}
+use lib.ListN.{length, length-set, take, set}
 use lib.Seq.{getD-set-same}
 use borrow.Author.Tests.{eqb-false, not-true}
 use Rattle.rules.specs.declared.Cause.the-variants.{Withdrawn}
@@ -33,14 +33,14 @@ use Rattle.rules.specs.Sums.{total}
 use Rattle.rules.specs.Lengths.{perComplex, perCross, perLeg, perLegging, perRegular, perRound, perUnequal, recordLength}
 use Rattle.rules.proofs.Above.{above, above-most, round-once}
 use Rattle.rules.proofs.Adding.{total-append}
-use Rattle.rules.proofs.Calling.{step-by}
+use Rattle.rules.proofs.CallsLaws.{step-by}
 use Rattle.rules.proofs.Cases.{if-by}
 use Rattle.rules.proofs.Costs.{Apart, Costs, costs-removeOf, costs-report, costs-then, costs-work, costs-works, costs-worksOf, perTrade, settled-costs, share, share-most}
 use Rattle.rules.proofs.Filling.{cx, held-fitsC}
-use Rattle.rules.proofs.Keeping.{Lasts, keeps-eachOf, keeps-settle, keeps-work}
+use Rattle.rules.proofs.EffectsLaws.{Lasts, keeps-eachOf, keeps-settle, keeps-work}
 use Rattle.rules.proofs.Legs.{costs-generate, generation-writes, legOf-most, limited-generation}
 use Rattle.rules.proofs.Matching.{Housed, costs-order}
-use Rattle.rules.proofs.Refusing.{accepted, wellFormed}
+use Rattle.rules.proofs.RefusalsLaws.{accepted, wellFormed}
 use Rattle.rules.proofs.Summing.{due, due-most, due-none, sum, sum-mono, sum-most, sum-plus}
 use Rattle.rules.proofs.Tests.{and-l, and-r}
 use Rattle.rules.proofs.Worth.{evenOpen, fill-le, fillC-le, ofComplex, ofComplex-most, ofEven, perEven, putC-worth, regular-most, spent, spent-settle, spent-then, worth, worth-most}
@@ -89,7 +89,7 @@ same-length k = record { fillR = λ i q w h. h; fillC = λ i q w h. length-set (
 limited-writes : (number n : ℕ) (v : Venue) → ((i : ℕ) → Apart i v) → total recordLength (limitedSweep number n v .reports) ≤ worth perRegular 0 v + (5 + sum share (v .complex))
 unfolding limitedSweep report _⟫_ spent withReached Apart
 limited-writes number n v two =
-    let places = firsts n (goingRound v) in
+    let places = take n (goingRound v) in
     let shares = sum (λ i. share (cx v i)) places in
     let x = idReached v places in
     let u = withReached v x in

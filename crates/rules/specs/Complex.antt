@@ -4,7 +4,7 @@ use mathlib.Core.Bool.{Bool, not, _&&_, _||_}
 use mathlib.Core.List.{List, [], _∷_, _++_}
 use Prim.Native.Nat.{ℕ, zero, suc, _*_, _/_, min}
 use lib.Dec.{leb, ltb, eqb}
-use lib.ListN.{length, take as firsts}
+use lib.ListN.{length, take}
 use lib.IntN.{ℤ, pos, negℤ, _+ℤ_}
 use lib.Signed.{leZ, ltZ}
 use Rattle.rules.specs.declared.Complex.{Complex}
@@ -17,7 +17,7 @@ use Rattle.rules.specs.Records.{crossed, cancelled, looked}
 use Rattle.rules.specs.Effects.{Effect, nothing, report, _⟫_, Turn, ended, turned, repeat}
 use Rattle.rules.specs.Removal.{remove, removeOf, failIf}
 use Rattle.rules.specs.Standing.{settle}
-use Rattle.rules.specs.Trading.{fillRegular, fillComplex, freeComplex, putComplex, take, pairOff}
+use Rattle.rules.specs.Trading.{fillRegular, fillComplex, freeComplex, putComplex, tradeAtPrice, pairOff}
 use Rattle.rules.specs.Generation.{generate}
 
 -- a series of c is closed
@@ -118,8 +118,8 @@ legIn i a b k v =
     let c = complexAt v i in
     let m = c .ratio1 * k in
     let n = c .ratio2 * k in
-    take m (c .id) (c .series1) (c .side1) a m v
-    ⟫ take n (c .id) (c .series2) (c .side2) b n
+    tradeAtPrice m (c .id) (c .series1) (c .side1) a m v
+    ⟫ tradeAtPrice n (c .id) (c .series2) (c .side2) b n
     ⟫ pairOff i (c .id) (net c a b) k
 
 -- "trade the least of open quantity and both sizes": as many units as they fill
@@ -198,7 +198,7 @@ eachOf f (i ∷ places) v = f i v ⟫ eachOf f places
 -- "Kind 11 is a sweep limited to n resting orders …, generation too. It writes record 72 … right after its 64"
 unfoldable pub limitedSweep : (number n : ℕ) → Venue → Effect
 limitedSweep number n v =
-    let places = firsts n (goingRound v) in
+    let places = take n (goingRound v) in
     report (looked (examined n v)) (withReached v (idReached v places))
     ⟫ eachOf work places ⟫ settle ⟫ eachOf (generate number) places
 

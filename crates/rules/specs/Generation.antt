@@ -10,13 +10,13 @@ use Rattle.rules.specs.declared.Legging.{Legging}
 use Rattle.rules.specs.declared.Venue.{Venue}
 use Rattle.rules.specs.declared.Cause.the-variants.{Replaced}
 use Rattle.rules.specs.Base.{if_then_else_, held}
-use Rattle.rules.specs.Words.{within, opposite, signed, customer, otherClass, noGenerations, oneToOne, withLegging, withGenerations, placeOf, complexAt, leggingAt}
+use Rattle.rules.specs.Words.{within, opposite, signTimes, customer, otherClass, noGenerations, oneToOne, withLegging, withGenerations, placeOf, complexAt, leggingAt}
 use Rattle.rules.specs.Settings.{increment}
-use Rattle.rules.specs.Prices.{better, reaches, bestOwn, ownPrice, displayed, away, inBand}
+use Rattle.rules.specs.Prices.{better, reaches, bestOwn, ownPrice, displayedPrice, away, inBand}
 use Rattle.rules.specs.Records.{generated}
 use Rattle.rules.specs.Effects.{Effect, nothing, report, _⟫_}
 use Rattle.rules.specs.Removal.{remove, failIf}
-use Rattle.rules.specs.Standing.{otherLeg, otherClear, otherSize, parentOf, bothOpen, shownWell, verdict, stands}
+use Rattle.rules.specs.Standing.{otherLeg, otherClear, otherSize, parentOf, bothOpen, displayedNoWorse, verdict, stands}
 
 -- The legging order of a leg ------------------------------------------------------------------
 
@@ -27,7 +27,7 @@ asPrice (negsuc n) = 0
 
 -- "Price p = sign × (N - other leg's sign × other clear price)", for the leg of c at side d of series s; (C)(1)(ii)
 unfoldable pub legPrice : Venue → Complex → (series side : ℕ) → ℕ
-legPrice v c s d = asPrice (signed d (c .limit -ℤ signed (otherLeg c s .side) (pos (otherClear v c s))))
+legPrice v c s d = asPrice (signTimes d (c .limit -ℤ signTimes (otherLeg c s .side) (pos (otherClear v c s))))
 
 -- "Quantity: the lesser of open and size at the clear price."
 unfoldable pub newLegging : Venue → Complex → (series side : ℕ) → Legging
@@ -93,9 +93,9 @@ makes number v c s d =
     -- "clear price present"; (C)(1)(ii)
     && held (otherClear v c s)
     -- "displayed price from the increment to 100,000"
-    && within (increment v s) 100000 (displayed (increment v s) d p)
+    && within (increment v s) 100000 (displayedPrice (increment v s) d p)
     -- "not worse than best regular of its side"; (C)(1)(i)
-    && shownWell v s d p
+    && displayedNoWorse v s d p
     -- "p itself not reaching (equal is reaching) any own price opposite in its series": not the best of them
     && not (reachesAny d p (bestOwn v s (opposite d)))
     -- "nor the away price opposite where there is one"; (C)(2)(i)
@@ -114,7 +114,7 @@ unfoldable pub make : (number : ℕ) → Complex → (series side : ℕ) → Ven
 make number c s d v =
     let l = newLegging v c s d in
     remove (λ n _. failIf (eqb n (placeOf s d)) Replaced) v
-    ⟫ (λ w. report (generated (c .id) s d (l .price) (displayed (increment v s) d (l .price)) (l .quantity)) (counted number s (placed (placeOf s d) l w)))
+    ⟫ (λ w. report (generated (c .id) s d (l .price) (displayedPrice (increment v s) d (l .price)) (l .quantity)) (counted number s (placed (placeOf s d) l w)))
 
 unfoldable pub generateLeg : (number : ℕ) → Complex → (series side : ℕ) → Venue → Effect
 generateLeg number c s d v = if held (c .quantity) && makes number v c s d then make number c s d v else nothing v

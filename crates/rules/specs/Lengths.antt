@@ -7,7 +7,7 @@ unfoldable pub recordLength : Report → ℕ
 recordLength (answer number refusal mask count) = 12
 recordLength (trade series side price quantity taker maker) = 22
 recordLength (pair id n quantity) = 16
-recordLength (generated id series side price shown quantity) = 22
+recordLength (generated id series side price displayed quantity) = 22
 recordLength (removed id series side cause) = 11
 recordLength (crossed taker maker n quantity) = 20
 recordLength (cancelled id quantity) = 12

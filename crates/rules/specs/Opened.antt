@@ -1,6 +1,6 @@
 -- `unfolding opened-rules` opens every definition of the rules, for a statement that computes.
 use Rattle.rules.specs.Base.{all, keep, placeWhere, ranked, firstFrom}
-use Rattle.rules.specs.Words.{opposite, signed, within, isId, isSeries, isSide, isClass, isStatus, isQuantity, isAway, isPrice, isLimit}
+use Rattle.rules.specs.Words.{opposite, signTimes, within, isId, isSeries, isSide, isClass, isStatus, isQuantity, isAway, isPrice, isLimit}
 use Rattle.rules.specs.Words.{isRatio, placeOf, freshVenue, regularAt, complexAt, leggingAt, statusOf, withRegular, withComplex, withLegging}
 use Rattle.rules.specs.Words.{withSeries, withEditions, withGenerations, withLast, withReached, isRegularOf, isComplexOf, oneToOne, earlier}
 use Rattle.rules.specs.Words.{earlierComplex}
@@ -9,11 +9,11 @@ use Rattle.rules.specs.Bytes.{u8At, u16At, u32At, asSigned, lengthField,
 use Rattle.rules.specs.Messages.{lengthOf, orderAt, twoLegAt, messageOf, orderFields, twoLegFields, encodeMessage}
 use Rattle.rules.specs.Records.{encode, encodeAll, sheet, causeOf, recordOf, recordsFrom, records}
 use Rattle.rules.specs.Effects.{nothing, report, _⟫_, repeat}
-use Rattle.rules.specs.Prices.{better, betterOf, reaches, restsAt, shown, showsAt, showsFor, bestIn, sizeIn, bestRegular, bestSize, ownPrice}
-use Rattle.rules.specs.Prices.{bestOwn, ownSize, clearPrice, displayed, away, marketBest, weighed, net, taken1, taken2, nearNet, inBand}
+use Rattle.rules.specs.Prices.{better, betterOf, reaches, restsAt, shownSize, showsAt, showsFor, bestIn, sizeIn, bestRegular, bestSize, ownPrice}
+use Rattle.rules.specs.Prices.{bestOwn, ownSize, clearPrice, displayedPrice, away, marketBest, weighed, net, taken1, taken2, nearNet, inBand}
 use Rattle.rules.specs.Removal.{stay, goes, stayers, leavers, remove, failIf, removeOf}
-use Rattle.rules.specs.Standing.{findComplex, parentOf, hasLeg, otherLeg, otherClear, otherSize, bothOpen, shownWell, pairs, verdictOf, verdict, stands, showsAgain, showAgain, settle}
-use Rattle.rules.specs.Trading.{lessRegular, lessComplex, fillRegular, fillComplex, freeRegular, freeComplex, putRegular, putComplex, tradeWith, take, pairOff}
+use Rattle.rules.specs.Standing.{findComplex, parentOf, hasLeg, otherLeg, otherClear, otherSize, bothOpen, displayedNoWorse, pairs, verdictOf, verdict, stands, showsAgain, showAgain, settle}
+use Rattle.rules.specs.Trading.{lessRegular, lessComplex, fillRegular, fillComplex, freeRegular, freeComplex, putRegular, putComplex, tradeWith, tradeAtPrice, pairOff}
 use Rattle.rules.specs.Order.{isMet, shownThenId, priceThenId, atOnce, firstMet, leggingFirst, meet, hit, meetTurn, enterRegular, order}
 use Rattle.rules.specs.Generation.{asPrice, legPrice, newLegging, placed, generationsOf, underCeiling, oneMore, counted, reachesAny, givesWay, othersStand, makes, make, generateLeg, generate}
 use Rattle.rules.specs.Complex.{anyClosed, reversed, respectsLegs, crosses, limitThenId, cross, crossTurn, touches, takenSide, fillsUnit, touch}
@@ -32,15 +32,15 @@ use Rattle.rules.specs.Sums.{total, contracts, contractsAt, paired, cros
 use Rattle.rules.specs.Lengths.{recordLength}
 
 unfoldable pub opened-rules : Unit {0}
-unfolding all keep placeWhere ranked firstFrom opposite signed within isId isSeries isSide isClass isStatus isQuantity isAway isPrice isLimit isRatio
+unfolding all keep placeWhere ranked firstFrom opposite signTimes within isId isSeries isSide isClass isStatus isQuantity isAway isPrice isLimit isRatio
     placeOf freshVenue regularAt complexAt leggingAt statusOf withRegular withComplex withLegging withSeries withEditions withGenerations withLast
     withReached isRegularOf isComplexOf oneToOne earlier earlierComplex isIncrement isPercent isEdition baseFigure sets lastValue inForce figureNow
     increment percent freeEdition enterEdition u8At u16At u32At asSigned lengthField kindField bytes asUnsigned framed lengthOf orderAt twoLegAt
     messageOf orderFields twoLegFields encodeMessage encode encodeAll sheet causeOf recordOf recordsFrom records nothing report _⟫_ repeat better
-    betterOf reaches restsAt shown showsAt showsFor bestIn sizeIn bestRegular bestSize ownPrice bestOwn ownSize clearPrice displayed away marketBest
+    betterOf reaches restsAt shownSize showsAt showsFor bestIn sizeIn bestRegular bestSize ownPrice bestOwn ownSize clearPrice displayedPrice away marketBest
     weighed net taken1 taken2 nearNet inBand stay goes stayers leavers remove failIf removeOf findComplex parentOf hasLeg otherLeg otherClear
-    otherSize bothOpen shownWell pairs verdictOf verdict stands showsAgain showAgain settle lessRegular lessComplex fillRegular fillComplex
-    freeRegular freeComplex putRegular putComplex tradeWith take pairOff isMet shownThenId priceThenId atOnce firstMet leggingFirst meet hit meetTurn
+    otherSize bothOpen displayedNoWorse pairs verdictOf verdict stands showsAgain showAgain settle lessRegular lessComplex fillRegular fillComplex
+    freeRegular freeComplex putRegular putComplex tradeWith tradeAtPrice pairOff isMet shownThenId priceThenId atOnce firstMet leggingFirst meet hit meetTurn
     enterRegular order asPrice legPrice newLegging placed generationsOf underCeiling oneMore counted reachesAny givesWay othersStand makes make
     generateLeg generate anyClosed reversed respectsLegs crosses limitThenId cross crossTurn touches takenSide fillsUnit touch legsIn legIn unitsIn
     legInTurn work complex nextAbove each sweep placesOf goingRound examined idReached eachOf limitedSweep cancelRegular cancelComplex regularPlace

@@ -7,11 +7,11 @@ use Rattle.rules.specs.declared.Legging.{Legging}
 use Rattle.rules.specs.declared.Venue.{Venue}
 use Rattle.rules.specs.Base.{if_then_else_, held, placeWhere, Choice, nobody, picked, first}
 use Rattle.rules.specs.Words.{opposite, regularAt, leggingAt, isComplexOf, earlier}
-use Rattle.rules.specs.Prices.{better, restsAt, reaches, shown, ownPrice}
+use Rattle.rules.specs.Prices.{better, restsAt, reaches, shownSize, ownPrice}
 use Rattle.rules.specs.Records.{trade}
 use Rattle.rules.specs.Effects.{Effect, report, _⟫_, Turn, ended, turned, repeat}
 use Rattle.rules.specs.Standing.{otherLeg, otherClear, legNet, parentOf, settle}
-use Rattle.rules.specs.Trading.{fillRegular, freeRegular, putRegular, tradeWith, take, pairOff}
+use Rattle.rules.specs.Trading.{fillRegular, freeRegular, putRegular, tradeWith, tradeAtPrice, pairOff}
 
 -- Who is met ----------------------------------------------------------------------------------
 
@@ -21,7 +21,7 @@ isMet s d p m = restsAt s (opposite d) m && reaches d p (m .price)
 
 -- (e): "At one price all shown size trades by id, then, in trades of its own, all reserve by id": who shows goes before who does not, and then the earlier
 unfoldable pub shownThenId : Regular → Regular → Bool
-shownThenId a b = if held (shown b) then held (shown a) && earlier a b else (held (shown a) || earlier a b)
+shownThenId a b = if held (shownSize b) then held (shownSize a) && earlier a b else (held (shownSize a) || earlier a b)
 
 -- "best own price first, then regular by id"; at one price as (e) has it
 unfoldable pub priceThenId : Regular → Regular → Bool
@@ -29,7 +29,7 @@ priceThenId a b = better (a .side) (a .price) (b .price) || (eqb (a .price) (b .
 
 -- what of m is traded at once: what it shows or, when that is gone, its reserve, "in trades of its own"
 unfoldable pub atOnce : Regular → ℕ
-atOnce m = if held (shown m) then shown m else m .quantity
+atOnce m = if held (shownSize m) then shownSize m else m .quantity
 
 -- the regular order that the order at place i meets first
 unfoldable pub firstMet : (i : ℕ) → Venue → Choice Regular
@@ -59,7 +59,7 @@ hit i l k v =
     let clear = otherClear v c (o .series) in
     let n = legNet c (o .series) (opposite (o .side)) (l .price) clear in
     report (trade (o .series) (o .side) (l .price) k (o .id) (c .id)) (fillRegular i k v)
-    ⟫ take k (c .id) (leg .series) (leg .side) clear k
+    ⟫ tradeAtPrice k (c .id) (leg .series) (leg .side) clear k
     ⟫ (λ w. pairOff (placeWhere (isComplexOf (c .id)) (w .complex)) (c .id) n k w)
 
 -- "trades at the resting price, each time for the lesser of both quantities"; (e): of what the resting order shows, or of its reserve, "then the legging order"

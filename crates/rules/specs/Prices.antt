@@ -11,7 +11,7 @@ use Rattle.rules.specs.declared.Complex.{Complex}
 use Rattle.rules.specs.declared.Legging.{Legging}
 use Rattle.rules.specs.declared.Venue.{Venue}
 use Rattle.rules.specs.Base.{if_then_else_, held}
-use Rattle.rules.specs.Words.{buy, opposite, signed, leggingAt, listedAt}
+use Rattle.rules.specs.Words.{buy, opposite, signTimes, leggingAt, listedAt}
 use Rattle.rules.specs.Settings.{percent}
 
 -- Prices compared -----------------------------------------------------------------------------
@@ -35,12 +35,12 @@ unfoldable pub restsAt : (series side : ℕ) → Regular → Bool
 restsAt s d o = held (o .quantity) && eqb (o .series) s && eqb (o .side) d
 
 -- what an order shows: what is left of it but for its reserve. (e): "Best price, size, clear price and legging quantity count shown size only."
-unfoldable pub shown : Regular → ℕ
-shown o = o .quantity - o .reserve
+unfoldable pub shownSize : Regular → ℕ
+shownSize o = o .quantity - o .reserve
 
 -- it shows some size in series s at side d
 unfoldable pub showsAt : (series side : ℕ) → Regular → Bool
-showsAt s d o = held (shown o) && eqb (o .series) s && eqb (o .side) d
+showsAt s d o = held (shownSize o) && eqb (o .series) s && eqb (o .side) d
 
 -- and that at price p
 unfoldable pub showsFor : (series side price : ℕ) → Regular → Bool
@@ -58,7 +58,7 @@ unfoldable pub sizeIn : (series side price : ℕ) → List Regular → ℕ
 sizeIn s d p [] = 0
 sizeIn s d p (o ∷ os) =
     let rest = sizeIn s d p os in
-    if showsFor s d p o then shown o + rest else rest
+    if showsFor s d p o then shownSize o + rest else rest
 
 -- "Per series and side: best regular price and its total size"
 unfoldable pub bestRegular : Venue → (series side : ℕ) → ℕ
@@ -93,19 +93,19 @@ clearPrice v s d =
 
 -- "Displayed price of a legging order: its own, down (buy) or up (sell) to the increment"; (C)(2): "rounded to the nearest minimum increment",
 -- and which way by the filing's Item 3
-unfoldable pub displayed : (increment side price : ℕ) → ℕ
-displayed i d p = if eqb d buy then p / i * i else (p + (i - 1)) / i * i
+unfoldable pub displayedPrice : (increment side price : ℕ) → ℕ
+displayedPrice i d p = if eqb d buy then p / i * i else (p + (i - 1)) / i * i
 
 -- "down (buy) or up (sell) to the increment": a multiple of it, not above the price to buy, not below it to sell, and less than one increment away
-pub record Rounds (increment side price shown : ℕ) : Type 0 where
-  pub multiple : shown % increment ≡ 0
-  pub down : eqb side buy ≡ true → (shown ≤ price) × (price < shown + increment)
-  pub up : eqb side buy ≡ false → (price ≤ shown) × (shown < price + increment)
+pub record Rounds (increment side price rounded : ℕ) : Type 0 where
+  pub multiple : rounded % increment ≡ 0
+  pub down : eqb side buy ≡ true → (rounded ≤ price) × (price < rounded + increment)
+  pub up : eqb side buy ≡ false → (price ≤ rounded) × (rounded < price + increment)
 
 -- "the rounding to an increment … be proved those of document 01 for every … price, side and series" (request (c)): of every increment, and no
 -- other price is so rounded
 abbrev pub DisplayedRounds : Type 0
-DisplayedRounds = (i d p : ℕ) → 0 < i → Rounds i d p (displayed i d p) × ((r : ℕ) → Rounds i d p r → r ≡ displayed i d p)
+DisplayedRounds = (i d p : ℕ) → 0 < i → Rounds i d p (displayedPrice i d p) × ((r : ℕ) → Rounds i d p r → r ≡ displayedPrice i d p)
 
 -- The market and the band ---------------------------------------------------------------------
 
@@ -121,7 +121,7 @@ marketBest v s d = betterOf d (away v s d) (bestRegular v s d)
 
 -- what a leg adds to the net: sign × price; request (g): "the net weighs each leg by its ratio"
 unfoldable pub weighed : (ratio side price : ℕ) → ℤ
-weighed r d p = signed d (pos (r * p))
+weighed r d p = signTimes d (pos (r * p))
 
 -- "Net = the sum over both legs of sign × price": of prices a and b at the legs of c
 unfoldable pub net : Complex → (a b : ℕ) → ℤ

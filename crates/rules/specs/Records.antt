@@ -15,7 +15,7 @@ pub data Report : Type 0 where
   answer : (number refusal mask count : ℕ) → Report
   trade : (series side price quantity taker maker : ℕ) → Report
   pair : (id : ℕ) (n : ℤ) (quantity : ℕ) → Report
-  generated : (id series side price shown quantity : ℕ) → Report
+  generated : (id series side price displayed quantity : ℕ) → Report
   removed : (id series side : ℕ) → Cause → Report
   crossed : (taker maker : ℕ) (n : ℤ) (quantity : ℕ) → Report
   cancelled : (id quantity : ℕ) → Report
@@ -53,8 +53,8 @@ encode (trade series side price quantity taker maker) =
 -- 66 pair: complex id u32, net i32, quantity u32
 encode (pair id n quantity) = framed 66 (u32 id ++ i32 n ++ u32 quantity)
 -- 67 generated: complex id u32, series u8, side u8, price u32, displayed u32, quantity u32
-encode (generated id series side price shown quantity) =
-    framed 67 (u32 id ++ u8 series ++ u8 side ++ u32 price ++ u32 shown ++ u32 quantity)
+encode (generated id series side price displayed quantity) =
+    framed 67 (u32 id ++ u8 series ++ u8 side ++ u32 price ++ u32 displayed ++ u32 quantity)
 -- 68 removed: complex id u32, series u8, side u8, cause u8
 encode (removed id series side cause) = framed 68 (u32 id ++ u8 series ++ u8 side ++ u8 (causeNumber cause))
 -- 70 cross: taker id u32, maker id u32, taker's net i32, quantity u32
@@ -129,7 +129,7 @@ abbrev pub Fits : Report → Type 0
 Fits (answer number refusal mask count) = FourBytes number × OneByte refusal × TwoBytes mask × OneByte count
 Fits (trade series side price quantity taker maker) = OneByte series × OneByte side × FourBytes price × FourBytes quantity × FourBytes taker × FourBytes maker
 Fits (pair id n quantity) = FourBytes id × FourSigned n × FourBytes quantity
-Fits (generated id series side price shown quantity) = FourBytes id × OneByte series × OneByte side × FourBytes price × FourBytes shown × FourBytes quantity
+Fits (generated id series side price displayed quantity) = FourBytes id × OneByte series × OneByte side × FourBytes price × FourBytes displayed × FourBytes quantity
 Fits (removed id series side cause) = FourBytes id × OneByte series × OneByte side
 Fits (crossed taker maker n quantity) = FourBytes taker × FourBytes maker × FourSigned n × FourBytes quantity
 Fits (cancelled id quantity) = FourBytes id × FourBytes quantity

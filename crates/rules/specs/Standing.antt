@@ -14,9 +14,9 @@ use Rattle.rules.specs.declared.Cause.the-variants.{Worse, Unpaired, Out
 use Rattle.rules.specs.declared.Verdict.{Verdict}
 use Rattle.rules.specs.declared.Verdict.the-variants.{Stands, Fails}
 use Rattle.rules.specs.Base.{if_then_else_, held}
-use Rattle.rules.specs.Words.{opposite, signed, opened, statusOf, noComplex, isComplexOf, withRegular}
+use Rattle.rules.specs.Words.{opposite, signTimes, opened, statusOf, noComplex, isComplexOf, withRegular}
 use Rattle.rules.specs.Settings.{increment}
-use Rattle.rules.specs.Prices.{better, bestRegular, bestSize, clearPrice, displayed, inBand}
+use Rattle.rules.specs.Prices.{better, bestRegular, bestSize, clearPrice, displayedPrice, inBand}
 use Rattle.rules.specs.Records.{causeNumber}
 use Rattle.rules.specs.Effects.{Effect}
 use Rattle.rules.specs.Removal.{remove}
@@ -51,7 +51,7 @@ otherSize v c s = bestSize v (otherLeg c s .series) (opposite (otherLeg c s .sid
 
 -- the net of price p at side d of series s, a leg of c, and price q at its other leg; one to one, since no other order has legging orders (request (g))
 abbrev pub legNet : Complex → (series side p q : ℕ) → ℤ
-legNet c s d p q = signed d (pos p) +ℤ signed (otherLeg c s .side) (pos q)
+legNet c s d p q = signTimes d (pos p) +ℤ signTimes (otherLeg c s .side) (pos q)
 
 -- The test ------------------------------------------------------------------------------------
 
@@ -60,8 +60,8 @@ unfoldable pub bothOpen : Venue → Complex → Bool
 bothOpen v c = eqb (statusOf v (c .series1)) opened && eqb (statusOf v (c .series2)) opened
 
 -- "its displayed price is no worse than the best regular of its side (else 1)", for own price p at side d of series s; (C)(4)(i)
-unfoldable pub shownWell : Venue → (series side p : ℕ) → Bool
-shownWell v s d p = not (better d (bestRegular v s d) (displayed (increment v s) d p))
+unfoldable pub displayedNoWorse : Venue → (series side p : ℕ) → Bool
+displayedNoWorse v s d p = not (better d (bestRegular v s d) (displayedPrice (increment v s) d p))
 
 -- "the other leg has a clear price, net with it ≤ N, size there ≥ its quantity (else 2)",
 -- for a legging order of c for k contracts at own price p at side d of series s; (C)(4)(ii)
@@ -75,7 +75,7 @@ pairs v c s d p k =
 -- rank: "Cause 5 now comes before cause 2; the order is 1, 5, 2, 6." "N is in band (else 5)"; (C)(4)(v)
 unfoldable pub verdictOf : Venue → Complex → (series side : ℕ) → Legging → Verdict
 verdictOf v c s d l =
-    if not (shownWell v s d (l .price)) then Fails Worse
+    if not (displayedNoWorse v s d (l .price)) then Fails Worse
     else if not (inBand v c (c .limit)) then Fails OutOfBand
     else if not (pairs v c s d (l .price) (l .quantity)) then Fails Unpaired
     else if not (bothOpen v c) then Fails NotOpen

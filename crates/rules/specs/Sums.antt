@@ -19,7 +19,7 @@ unfoldable pub contracts : (id s : ℕ) → Report → ℕ
 contracts id s (answer n x m c) = 0
 contracts id s (trade t d p q taker maker) = if eqb t s && (eqb taker id || eqb maker id) then q else 0
 contracts id s (pair i n q) = 0
-contracts id s (generated i t d p shown q) = 0
+contracts id s (generated i t d p displayed q) = 0
 contracts id s (removed i t d c) = 0
 contracts id s (crossed taker maker n q) = 0
 contracts id s (cancelled i q) = 0
@@ -30,7 +30,7 @@ unfoldable pub contractsAt : (id s p : ℕ) → Report → ℕ
 contractsAt id s p (answer n x m c) = 0
 contractsAt id s p (trade t d price q taker maker) = if eqb price p then contracts id s (trade t d price q taker maker) else 0
 contractsAt id s p (pair i n q) = 0
-contractsAt id s p (generated i t d price shown q) = 0
+contractsAt id s p (generated i t d price displayed q) = 0
 contractsAt id s p (removed i t d c) = 0
 contractsAt id s p (crossed taker maker n q) = 0
 contractsAt id s p (cancelled i q) = 0
@@ -41,7 +41,7 @@ unfoldable pub paired : ℕ → Report → ℕ
 paired id (answer n x m c) = 0
 paired id (trade t d p q taker maker) = 0
 paired id (pair i n q) = if eqb i id then q else 0
-paired id (generated i t d p shown q) = 0
+paired id (generated i t d p displayed q) = 0
 paired id (removed i t d c) = 0
 paired id (crossed taker maker n q) = 0
 paired id (cancelled i q) = 0
@@ -52,7 +52,7 @@ unfoldable pub crossedFor : ℕ → Report → ℕ
 crossedFor id (answer n x m c) = 0
 crossedFor id (trade t d p q taker maker) = 0
 crossedFor id (pair i n q) = 0
-crossedFor id (generated i t d p shown q) = 0
+crossedFor id (generated i t d p displayed q) = 0
 crossedFor id (removed i t d c) = 0
 crossedFor id (crossed taker maker n q) = if eqb taker id || eqb maker id then q else 0
 crossedFor id (cancelled i q) = 0
@@ -63,7 +63,7 @@ unfoldable pub cancelledOf : ℕ → Report → ℕ
 cancelledOf id (answer n x m c) = 0
 cancelledOf id (trade t d p q taker maker) = 0
 cancelledOf id (pair i n q) = 0
-cancelledOf id (generated i t d p shown q) = 0
+cancelledOf id (generated i t d p displayed q) = 0
 cancelledOf id (removed i t d c) = 0
 cancelledOf id (crossed taker maker n q) = 0
 cancelledOf id (cancelled i q) = if eqb i id then q else 0
@@ -74,7 +74,7 @@ unfoldable pub generatedOf : (series : ℕ) → Report → ℕ
 generatedOf s (answer n x m c) = 0
 generatedOf s (trade t d p q taker maker) = 0
 generatedOf s (pair i n q) = 0
-generatedOf s (generated i t d p shown q) = if eqb t s then 1 else 0
+generatedOf s (generated i t d p displayed q) = if eqb t s then 1 else 0
 generatedOf s (removed i t d c) = 0
 generatedOf s (crossed taker maker n q) = 0
 generatedOf s (cancelled i q) = 0

@@ -9,7 +9,7 @@ use Rattle.rules.specs.declared.Venue.{Venue}
 use Rattle.rules.specs.declared.Cause.the-variants.{Executed}
 use Rattle.rules.specs.Base.{held, placeWhere, nobody, picked, first}
 use Rattle.rules.specs.Words.{opposite, regularAt, complexAt, withRegular, withComplex, earlier}
-use Rattle.rules.specs.Prices.{shown, showsFor}
+use Rattle.rules.specs.Prices.{shownSize, showsFor}
 use Rattle.rules.specs.Records.{trade, pair}
 use Rattle.rules.specs.Effects.{Effect, nothing, report, _⟫_}
 use Rattle.rules.specs.Removal.{removeOf}
@@ -73,14 +73,14 @@ tradeWith taker d i k v =
 
 -- "k contracts … (trades by id, taker the complex order)": a taker of side d takes k contracts at price p in series s; the fuel is k.
 -- (e): "A complex order takes shown size only."
-unfoldable pub take : (fuel taker s d p k : ℕ) → Venue → Effect
-take zero taker s d p k v = nothing v
-take (suc fuel) taker s d p k v =
+unfoldable pub tradeAtPrice : (fuel taker s d p k : ℕ) → Venue → Effect
+tradeAtPrice zero taker s d p k v = nothing v
+tradeAtPrice (suc fuel) taker s d p k v =
     elim (held k) [
       | false ↦ nothing v
       | true ↦ elim (first (showsFor s (opposite d) p) earlier (v .regular)) [
         | nobody ↦ nothing v
-        | picked i o ↦ tradeWith taker d i (min k (shown o)) v ⟫ take fuel taker s d p (k - min k (shown o))
+        | picked i o ↦ tradeWith taker d i (min k (shownSize o)) v ⟫ tradeAtPrice fuel taker s d p (k - min k (shownSize o))
       ]
     ]
 

@@ -29,8 +29,8 @@ unfoldable pub opposite : ℕ → ℕ
 opposite d = 1 - d
 
 -- "the sign of a buy leg is +1, of a sell leg -1": sign × z
-unfoldable pub signed : (side : ℕ) → ℤ → ℤ
-signed d z = if eqb d buy then z else negℤ z
+unfoldable pub signTimes : (side : ℕ) → ℤ → ℤ
+signTimes d z = if eqb d buy then z else negℤ z
 
 -- "Class 0 customer, 1 other"
 abbrev pub customer : ℕ

@@ -13,7 +13,7 @@ use Rattle.rules.specs.Bytes.{kindField, u8At, u32At}
 use Rattle.rules.specs.Bytes.{u16At, lengthField}
 use Rattle.rules.specs.Messages.{lengthOf}
 use Rattle.rules.specs.Refusals.{torn}
-use Rattle.rules.proofs.Refusing.{whole}
+use Rattle.rules.proofs.RefusalsLaws.{whole}
 use Rattle.wire.proofs.Numbers.{u16-here}
 use Rattle.reader.specs.declared.Head.the-variants.{End, Torn, Message}
 use Rattle.sets.proofs.Rows.{Well}
@@ -22,7 +22,7 @@ use Rattle.set_check.specs.declared.Front.{Front}
 use Rattle.set_check.specs.declared.Front.the-variants.{Broken, Record}
 use Rattle.set_check.specs.declared.Front.the-variants as F
 use Rattle.set_check.specs.Order.{frontOf}
-use Rattle.sets.specs.Set.{setLength, part, mark, tellsEdition, tellsRegular, tellsComplex, tellsLegging, tellsGeneration, ofWhole, ofShort}
+use Rattle.sets.specs.Set.{setLength, part, sortKey, tellsEdition, tellsRegular, tellsComplex, tellsLegging, tellsGeneration, ofWhole, ofShort}
 
 -- Lengths -------------------------------------------------------------------------------------
 

@@ -11,7 +11,7 @@ use Rattle.rules.specs.Words.{within, isSeries, isSide, oneToOne, placeOf}
 use Rattle.rules.specs.Bytes.{kindField, u8At, u32At}
 use Rattle.rules.specs.Messages.{twoLegAt}
 use Rattle.rules.proofs.Tests.{and-l, and-r}
-use Rattle.sets.specs.Set.{part, mark, generationTold, tellsEdition, tellsRegular, tellsComplex, tellsLegging, tellsGeneration, ofWhole, ofShort, complexTold, hasPlace}
+use Rattle.sets.specs.Set.{part, sortKey, generationTold, tellsEdition, tellsRegular, tellsComplex, tellsLegging, tellsGeneration, ofWhole, ofShort, complexTold, hasPlace}
 use Rattle.set_check.specs.declared.SetProgress.{SetProgress}
 use Rattle.set_check.specs.Order.{opens, ofThis, sameSeries, mayStand, isNext, runWith, few, oneIf, openedAfter, isWhole, onward}
 
@@ -53,30 +53,30 @@ module _ (r : List ℕ) where
 
   -- Marks -------------------------------------------------------------------------------------
 
-  pub mark-increment : (x : ℕ) → kindField r ≡ 7 → x ≡ u32At r 6 → x ≡ mark r
-  unfolding mark
-  mark-increment x e z = rw (eq-eqb (kindField r) 7 e) z
+  pub sort-key-increment : (x : ℕ) → kindField r ≡ 7 → x ≡ u32At r 6 → x ≡ sortKey r
+  unfolding sortKey
+  sort-key-increment x e z = rw (eq-eqb (kindField r) 7 e) z
 
-  pub mark-percent : (x : ℕ) → kindField r ≡ 8 → x ≡ u32At r 5 → x ≡ mark r
-  unfolding mark
-  mark-percent x e z = rw (ne-eqb (kindField r) 7 (λ w. omega arith), eq-eqb (kindField r) 8 e) z
+  pub sort-key-percent : (x : ℕ) → kindField r ≡ 8 → x ≡ u32At r 5 → x ≡ sortKey r
+  unfolding sortKey
+  sort-key-percent x e z = rw (ne-eqb (kindField r) 7 (λ w. omega arith), eq-eqb (kindField r) 8 e) z
 
   module _ (a : kindField r ≡ 7 → ⊥) (b : kindField r ≡ 8 → ⊥) where
-    pub mark-order : (x : ℕ) → part r ≡ 2 → x ≡ u32At r 4 → x ≡ mark r
-    unfolding mark
-    mark-order x e z = rw (ne-eqb (kindField r) 7 a, ne-eqb (kindField r) 8 b, e) z
+    pub sort-key-order : (x : ℕ) → part r ≡ 2 → x ≡ u32At r 4 → x ≡ sortKey r
+    unfolding sortKey
+    sort-key-order x e z = rw (ne-eqb (kindField r) 7 a, ne-eqb (kindField r) 8 b, e) z
 
-    pub mark-legging : (x : ℕ) → part r ≡ 3 → x ≡ placeOf (u8At r 8) (u8At r 9) → x ≡ mark r
-    unfolding mark
-    mark-legging x e z = rw (ne-eqb (kindField r) 7 a, ne-eqb (kindField r) 8 b, e) z
+    pub sort-key-legging : (x : ℕ) → part r ≡ 3 → x ≡ placeOf (u8At r 8) (u8At r 9) → x ≡ sortKey r
+    unfolding sortKey
+    sort-key-legging x e z = rw (ne-eqb (kindField r) 7 a, ne-eqb (kindField r) 8 b, e) z
 
-    pub mark-none : (part r ≡ 2 → ⊥) → (part r ≡ 3 → ⊥) → (part r ≡ 4 → ⊥) → 0 ≡ mark r
-    unfolding mark
-    mark-none x y z = rw (ne-eqb (kindField r) 7 a, ne-eqb (kindField r) 8 b, ne-eqb (part r) 2 x, ne-eqb (part r) 3 y, ne-eqb (part r) 4 z)
+    pub sort-key-none : (part r ≡ 2 → ⊥) → (part r ≡ 3 → ⊥) → (part r ≡ 4 → ⊥) → 0 ≡ sortKey r
+    unfolding sortKey
+    sort-key-none x y z = rw (ne-eqb (kindField r) 7 a, ne-eqb (kindField r) 8 b, ne-eqb (part r) 2 x, ne-eqb (part r) 3 y, ne-eqb (part r) 4 z)
 
-    pub mark-generation : (x : ℕ) → part r ≡ 4 → x ≡ u8At r 4 → x ≡ mark r
-    unfolding mark
-    mark-generation x e z = rw (ne-eqb (kindField r) 7 a, ne-eqb (kindField r) 8 b, e) z
+    pub sort-key-generation : (x : ℕ) → part r ≡ 4 → x ≡ u8At r 4 → x ≡ sortKey r
+    unfolding sortKey
+    sort-key-generation x e z = rw (ne-eqb (kindField r) 7 a, ne-eqb (kindField r) 8 b, e) z
 
   -- Kinds of this set ---------------------------------------------------------------------------
 
@@ -134,7 +134,7 @@ module _ (r : List ℕ) where
     unfolding sameSeries
     same-not e = rw (ne-eqb (st .part) 4 e)
 
-    pub same-so : (k : ℕ) → k ≡ mark r → st .part ≡ 4 → eqb (st .mark) k ≡ sameSeries st r
+    pub same-so : (k : ℕ) → k ≡ sortKey r → st .part ≡ 4 → eqb (st .key) k ≡ sameSeries st r
     unfolding sameSeries
     same-so k z e = rw (eq-eqb (st .part) 4 e, z)
 
@@ -147,17 +147,17 @@ module _ (r : List ℕ) where
     stand-earlier h n = rw (le-ltb (st .part) (part r) h, ne-eqb (st .part) (part r) n)
 
     module _ (e : st .part ≡ part r) where
-      pub stand-risen : st .mark < mark r → true ≡ mayStand st r
+      pub stand-risen : st .key < sortKey r → true ≡ mayStand st r
       unfolding mayStand
-      stand-risen h = rw (le-ltb (st .part) (part r) (omega arith), eq-eqb (st .part) (part r) e, lt-ltb (st .mark) (mark r) h)
+      stand-risen h = rw (le-ltb (st .part) (part r) (omega arith), eq-eqb (st .part) (part r) e, lt-ltb (st .key) (sortKey r) h)
 
-      pub stand-fallen : mark r ≤ st .mark → sameSeries st r ≡ false → false ≡ mayStand st r
+      pub stand-fallen : sortKey r ≤ st .key → sameSeries st r ≡ false → false ≡ mayStand st r
       unfolding mayStand
-      stand-fallen h s = rw (le-ltb (st .part) (part r) (omega arith), eq-eqb (st .part) (part r) e, le-ltb (st .mark) (mark r) h, s)
+      stand-fallen h s = rw (le-ltb (st .part) (part r) (omega arith), eq-eqb (st .part) (part r) e, le-ltb (st .key) (sortKey r) h, s)
 
-      pub stand-told : (k : ℕ) → mark r ≤ st .mark → sameSeries st r ≡ true → k ≡ generationTold r → leb (st .told) k ≡ mayStand st r
+      pub stand-told : (k : ℕ) → sortKey r ≤ st .key → sameSeries st r ≡ true → k ≡ generationTold r → leb (st .told) k ≡ mayStand st r
       unfolding mayStand
-      stand-told k h s z = rw (le-ltb (st .part) (part r) (omega arith), eq-eqb (st .part) (part r) e, le-ltb (st .mark) (mark r) h, s, z)
+      stand-told k h s z = rw (le-ltb (st .part) (part r) (omega arith), eq-eqb (st .part) (part r) e, le-ltb (st .key) (sortKey r) h, s, z)
 
     pub next-opens : (t : Bool) → st .opened < 17 → t ≡ opens st r → t ≡ isNext st r
     unfolding isNext
@@ -309,13 +309,13 @@ module _ (st : SetProgress) where
   few-run a b c d = rw (le-leb (st .editions) 32 a, le-leb (st .regulars) 128 b, le-leb (st .complexes) 32 c, le-leb (st .leggings) 16 d)
 
   -- a standing made of its parts
-  pub onward-made : (r : List ℕ) (a : ℕ) (b : Bool) (k m t e n x l u : ℕ) (p : Bool) → a ≡ openedAfter st → b ≡ isWhole st r → k ≡ part r → m ≡ mark r → t ≡ generationTold r →
+  pub onward-made : (r : List ℕ) (a : ℕ) (b : Bool) (k m t e n x l u : ℕ) (p : Bool) → a ≡ openedAfter st → b ≡ isWhole st r → k ≡ part r → m ≡ sortKey r → t ≡ generationTold r →
       e ≡ oneIf (tellsEdition r) → n ≡ oneIf (tellsRegular r) → x ≡ oneIf (tellsComplex r) → l ≡ oneIf (tellsLegging r) → u ≡ runWith st r → p ≡ (st .placed && hasPlace r) →
       _≡_ {A = SetProgress} (record {
         opened = a;
         whole = b;
         part = k;
-        mark = m;
+        key = m;
         told = t;
         editions = st .editions + e;
         regulars = st .regulars + n;

@@ -10,7 +10,7 @@ use borrow.Author.Tests.{eqb-true, not-false}
 use Rattle.rules.specs.Base.{if_then_else_, all}
 use Rattle.rules.specs.Bytes.{u8At, u16At, lengthField, kindField}
 use Rattle.rules.specs.Refusals.{torn}
-use Rattle.rules.proofs.Refusing.{whole}
+use Rattle.rules.proofs.RefusalsLaws.{whole}
 use Rattle.rules.proofs.Tests.{or-false-l, or-false-r, and-false}
 use Rattle.sets.specs.Set.{Held, broken, row, behind, heldFrom, heldIn, setLength, hasPlace}
 use Rattle.set_check.specs.declared.Front.{Front}

@@ -7,7 +7,7 @@ use lib.ListN.{length}
 use Rattle.rules.specs.Base.{if_then_else_, all}
 use Rattle.rules.specs.Bytes.{u8At, lengthField, kindField}
 use Rattle.rules.specs.Refusals.{torn}
-use Rattle.sets.specs.Set.{Held, broken, row, setLength, part, mark, generationTold, tellsEdition, tellsRegular, tellsComplex, tellsLegging, tellsGeneration, ofWhole, ofShort, hasPlace}
+use Rattle.sets.specs.Set.{Held, broken, row, setLength, part, sortKey, generationTold, tellsEdition, tellsRegular, tellsComplex, tellsLegging, tellsGeneration, ofWhole, ofShort, hasPlace}
 use Rattle.set_check.specs.declared.Front.{Front}
 use Rattle.set_check.specs.declared.Front.the-variants.{End, Broken, Record}
 use Rattle.set_check.specs.declared.SetProgress.{SetProgress}
@@ -33,7 +33,7 @@ noneRead = record {
   opened = 0;
   whole = false;
   part = 0;
-  mark = 0;
+  key = 0;
   told = 0;
   editions = 0;
   regulars = 0;
@@ -55,11 +55,11 @@ ofThis st r = if st .whole then ofWhole r else ofShort r
 
 -- generations of one series
 unfoldable pub sameSeries : SetProgress → List ℕ → Bool
-sameSeries st r = eqb (st .part) 4 && eqb (st .mark) (mark r)
+sameSeries st r = eqb (st .part) 4 && eqb (st .key) (sortKey r)
 
 -- it may stand after the record before it
 unfoldable pub mayStand : SetProgress → List ℕ → Bool
-mayStand st r = ltb (st .part) (part r) || (eqb (st .part) (part r) && (ltb (st .mark) (mark r) || (sameSeries st r && leb (st .told) (generationTold r))))
+mayStand st r = ltb (st .part) (part r) || (eqb (st .part) (part r) && (ltb (st .key) (sortKey r) || (sameSeries st r && leb (st .told) (generationTold r))))
 
 unfoldable pub isNext : SetProgress → List ℕ → Bool
 isNext st r = if ltb (st .opened) opening then opens st r else (ofThis st r && mayStand st r)
@@ -87,7 +87,7 @@ onward st r = record {
   opened = openedAfter st;
   whole = isWhole st r;
   part = part r;
-  mark = mark r;
+  key = sortKey r;
   told = generationTold r;
   editions = st .editions + oneIf (tellsEdition r);
   regulars = st .regulars + oneIf (tellsRegular r);

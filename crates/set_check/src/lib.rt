@@ -8,7 +8,7 @@ ghost use lib.ListN.{drop};
 ghost use Rattle.rules.specs.Base.{held};
 ghost use Rattle.rules.specs.Words.{placeOf, isSeries, isSide, oneToOne};
 ghost use Rattle.rules.specs.Bytes.{u8At, u32At, kindField};
-ghost use Rattle.sets.specs.Set.{setLength, part, mark, generationTold, tellsEdition, tellsRegular, tellsComplex, tellsLegging, tellsGeneration, ofWhole, ofShort, hasPlace, complexTold};
+ghost use Rattle.sets.specs.Set.{setLength, part, sortKey, generationTold, tellsEdition, tellsRegular, tellsComplex, tellsLegging, tellsGeneration, ofWhole, ofShort, hasPlace, complexTold};
 ghost use Rattle.sets.specs.Set.{row, heldIn};
 ghost use Rattle.set_check.specs.Order.{frontOf, noneRead, opens, ofThis, sameSeries, mayStand, isNext, oneIf, openedAfter, isWhole, runWith, onward, few, lookedAt};
 
@@ -187,8 +187,8 @@ pub fn place_of(r: &[u8]) -> u32
 }
 
 // By what the records of a part rise: edition, id, place; of generations the series.
-fn mark_of(r: &[u8]) -> u32
-    ensures { λ k. ⌜ k ≡ mark (now (r .entry)) ⌝ }
+fn sort_key(r: &[u8]) -> u32
+    ensures { λ k. ⌜ k ≡ sortKey (now (r .entry)) ⌝ }
 {
     let kind = kind_of(r);
     if kind == 7 {
@@ -217,13 +217,13 @@ pub fn told_of(r: &[u8]) -> u32
     wire::u32_at(r, 5)
 }
 
-// Where the reading stands: how many of the first records were read, whether the set is a whole one, part, mark and message number of the record before, how
+// Where the reading stands: how many of the first records were read, whether the set is a whole one, part, sort key and message number of the record before, how
 // many of each part there were and of generations of the present series, and whether all had a place.
 pub struct SetProgress {
     opened: u8,
     whole: bool,
     part: u8,
-    mark: u32,
+    key: u32,
     told: u32,
     editions: u8,
     regulars: u8,
@@ -241,7 +241,7 @@ fn none_read() -> SetProgress
         opened: 0,
         whole: false,
         part: 0,
-        mark: 0,
+        key: 0,
         told: 0,
         editions: 0,
         regulars: 0,
@@ -312,7 +312,7 @@ fn same_series(st: SetProgress, r: &[u8]) -> bool
     if st.part != 4 {
         return false;
     }
-    st.mark == mark_of(r)
+    st.key == sort_key(r)
 }
 
 // A record may stand after the one before it.
@@ -326,7 +326,7 @@ fn may_stand(st: SetProgress, r: &[u8]) -> bool
     if st.part != part {
         return false;
     }
-    if st.mark < mark_of(r) {
+    if st.key < sort_key(r) {
         return true;
     }
     if !same_series(st, r) {
@@ -492,7 +492,7 @@ fn passed(st: SetProgress, r: &[u8]) -> SetProgress
         opened: opened_after(st),
         whole: is_whole(st, r),
         part: part_of(r),
-        mark: mark_of(r),
+        key: sort_key(r),
         told: told_of(r),
         editions: st.editions + one_if(tells_edition(r)),
         regulars: st.regulars + one_if(tells_regular(r)),

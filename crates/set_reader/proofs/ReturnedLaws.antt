@@ -11,7 +11,7 @@ use Rattle.sets.specs.Set.{Held, broken, row, heldIn, isSet, hasPlace, carries,
 use Rattle.set_check.specs.Order.{noneRead, goesOn, lookedAt}
 use Rattle.set_tables.specs.Told.{rowIn, ReadableSet}
 use Rattle.set_tables.proofs.Ordered.{set-goes}
-use Rattle.set_tables.proofs.Filling.{row-in}
+use Rattle.set_tables.proofs.TableFilled.{row-in}
 
 -- the set that was looked at
 looked-set : (rs : List (List ℕ)) → lookedAt noneRead (row rs) ≡ (if isSet rs then (if all hasPlace rs then 0 else 9) else 16)

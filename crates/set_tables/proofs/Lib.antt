@@ -1,4 +1,4 @@
 pub mod Ordered
 pub mod Parted
-pub mod Filling
+pub mod TableFilled
 pub mod ToldLaws

@@ -11,7 +11,7 @@ use borrow.Author.Tests.{eqb-true, eqb-false, eq-eqb, ne-eqb, lt-ltb, le-ltb, lt
 use Rattle.rules.specs.Base.{if_then_else_, all, keep}
 use Rattle.rules.specs.Bytes.{u8At, kindField}
 use Rattle.rules.proofs.Tests.{and-in, and-l, and-r, and-false, or-false-l, or-false-r}
-use Rattle.sets.specs.Set.{part, mark, generationTold, mayFollow, inOrder, countOf, ofSeries, fewEnough, ofWhole, ofShort, seriesThen, isSet}
+use Rattle.sets.specs.Set.{part, sortKey, generationTold, mayFollow, inOrder, countOf, ofSeries, fewEnough, ofWhole, ofShort, seriesThen, isSet}
 use Rattle.sets.specs.Set.{tellsEdition, tellsRegular, tellsComplex, tellsLegging, tellsGeneration}
 use Rattle.sets.proofs.Parts.{sort, sort-of, whether}
 use Rattle.set_check.specs.declared.SetProgress.{SetProgress}
@@ -55,16 +55,16 @@ unfolding inOrder
 order-back st r [] h = refl
 order-back st r (q ∷ rs) h = and-in (mayFollow r q) (inOrder (q ∷ rs)) (sym (follows-stands st r q) ∙ h .0) (h .1)
 
--- of a later part, or of the same with a mark that has not fallen
-pub stand-out : (st : SetProgress) (r : List ℕ) → mayStand st r ≡ true → (st .part < part r) ⊎ ((st .part ≡ part r) × (st .mark ≤ mark r))
+-- of a later part, or of the same with a sort key that has not fallen
+pub stand-out : (st : SetProgress) (r : List ℕ) → mayStand st r ≡ true → (st .part < part r) ⊎ ((st .part ≡ part r) × (st .key ≤ sortKey r))
 unfolding mayStand sameSeries
-stand-out st r h = go (ltb (st .part) (part r)) (eqb (st .part) (part r)) (ltb (st .mark) (mark r)) (eqb (st .part) 4) (eqb (st .mark) (mark r)) refl refl refl refl h
+stand-out st r h = go (ltb (st .part) (part r)) (eqb (st .part) (part r)) (ltb (st .key) (sortKey r)) (eqb (st .part) 4) (eqb (st .key) (sortKey r)) refl refl refl refl h
   where
-    go : (a b c d e : Bool) → ltb (st .part) (part r) ≡ a → eqb (st .part) (part r) ≡ b → ltb (st .mark) (mark r) ≡ c → eqb (st .mark) (mark r) ≡ e →
-        (a || (b && (c || (d && e && leb (st .told) (generationTold r))))) ≡ true → (st .part < part r) ⊎ ((st .part ≡ part r) × (st .mark ≤ mark r))
+    go : (a b c d e : Bool) → ltb (st .part) (part r) ≡ a → eqb (st .part) (part r) ≡ b → ltb (st .key) (sortKey r) ≡ c → eqb (st .key) (sortKey r) ≡ e →
+        (a || (b && (c || (d && e && leb (st .told) (generationTold r))))) ≡ true → (st .part < part r) ⊎ ((st .part ≡ part r) × (st .key ≤ sortKey r))
     go true b c d e x y z v k = inl (ltb-true (st .part) (part r) x)
-    go false true true d e x y z v k = let m = ltb-true (st .mark) (mark r) z in inr (eqb-true (st .part) (part r) y, omega arith)
-    go false true false true true x y z v k = let m = eqb-true (st .mark) (mark r) v in inr (eqb-true (st .part) (part r) y, omega arith)
+    go false true true d e x y z v k = let m = ltb-true (st .key) (sortKey r) z in inr (eqb-true (st .part) (part r) y, omega arith)
+    go false true false true true x y z v k = let m = eqb-true (st .key) (sortKey r) v in inr (eqb-true (st .part) (part r) y, omega arith)
     go false true false true false x y z v k = absurd (true≢false (sym k))
     go false true false false e x y z v k = absurd (true≢false (sym k))
     go false false c d e x y z v k = absurd (true≢false (sym k))
@@ -77,9 +77,9 @@ gen-part r e = eqb-true (part r) 4 (sym (sort r .3) ∙ e)
 part-gen : (r : List ℕ) → part r ≡ 4 → tellsGeneration r ≡ true
 part-gen r e = sort r .3 ∙ eq-eqb (part r) 4 e
 
-gen-mark : (r : List ℕ) → tellsGeneration r ≡ true → mark r ≡ u8At r 4
-unfolding mark
-gen-mark r e =
+gen-sort-key : (r : List ℕ) → tellsGeneration r ≡ true → sortKey r ≡ u8At r 4
+unfolding sortKey
+gen-sort-key r e =
     let p = gen-part r e in
     let k : kindField r ≡ 83 = eqb-true (kindField r) 83 (unfold tellsGeneration in e) in
     rw (k, p)
@@ -90,17 +90,17 @@ of-series x r g e = rw (g, eq-eqb (u8At r 4) x e)
 
 -- those of series x so far, where x is the series of the record before
 pub carried : SetProgress → ℕ → ℕ
-carried st x = if eqb (st .part) 4 && eqb (st .mark) x then st .run else 0
+carried st x = if eqb (st .part) 4 && eqb (st .key) x then st .run else 0
 
-carried-is : (st : SetProgress) (x : ℕ) → carried st x ≡ (if eqb (st .part) 4 && eqb (st .mark) x then st .run else 0)
+carried-is : (st : SetProgress) (x : ℕ) → carried st x ≡ (if eqb (st .part) 4 && eqb (st .key) x then st .run else 0)
 unfolding carried
 carried-is st x = refl
 
 -- no more of series x may follow
 abbrev Past : SetProgress → ℕ → Type 0
-Past st x = (4 < st .part) ⊎ ((st .part ≡ 4) × (x < st .mark))
+Past st x = (4 < st .part) ⊎ ((st .part ≡ 4) × (x < st .key))
 
-past-after : (st : SetProgress) (x : ℕ) (r : List ℕ) → (4 < part r) ⊎ ((part r ≡ 4) × (x < mark r)) → Past (onward st r) x
+past-after : (st : SetProgress) (x : ℕ) (r : List ℕ) → (4 < part r) ⊎ ((part r ≡ 4) × (x < sortKey r)) → Past (onward st r) x
 unfolding onward
 past-after st x r p = p
 
@@ -112,7 +112,7 @@ past-not st x r p = go (tellsGeneration r) refl
     go false e = refl
     go true e =
         let k = gen-part r e in
-        let m = gen-mark r e in
+        let m = gen-sort-key r e in
         ne-eqb (u8At r 4) x (λ z. ⊎-elim (λ l. omega arith) (λ l. let y = l .1 in omega arith) p)
 
 past-on : (st : SetProgress) (x : ℕ) (r : List ℕ) → mayStand st r ≡ true → Past st x → Past (onward st r) x
@@ -134,8 +134,8 @@ unfolding carried onward runWith sameSeries
 carried-on st x r h =
     let g : tellsGeneration r ≡ true = and-l (tellsGeneration r) (eqb (u8At r 4) x) (unfold ofSeries in h) in
     let y = eqb-true (u8At r 4) x (and-r (tellsGeneration r) (eqb (u8At r 4) x) (unfold ofSeries in h)) in
-    let m : mark r ≡ x = gen-mark r g ∙ y in
-    rw (gen-part r g, g, m, eq-eqb x x refl) (go (eqb (st .part) 4 && eqb (st .mark) x))
+    let m : sortKey r ≡ x = gen-sort-key r g ∙ y in
+    rw (gen-part r g, g, m, eq-eqb x x refl) (go (eqb (st .part) 4 && eqb (st .key) x))
   where
     go : (t : Bool) → (if t then st .run + oneIf true else oneIf true) ≡ (if t then st .run else 0) + 1
     go true = unfold oneIf in refl
@@ -143,15 +143,15 @@ carried-on st x r h =
 
 carried-off : (st : SetProgress) (x : ℕ) (r : List ℕ) → ofSeries x r ≡ false → carried (onward st r) x ≡ 0
 unfolding carried onward
-carried-off st x r h = go (eqb (part r) 4) (eqb (mark r) x) refl refl
+carried-off st x r h = go (eqb (part r) 4) (eqb (sortKey r) x) refl refl
   where
-    go : (a b : Bool) → eqb (part r) 4 ≡ a → eqb (mark r) x ≡ b → (if a && b then runWith st r else 0) ≡ 0
+    go : (a b : Bool) → eqb (part r) 4 ≡ a → eqb (sortKey r) x ≡ b → (if a && b then runWith st r else 0) ≡ 0
     go false b e f = refl
     go true false e f = refl
     go true true e f =
         let g = part-gen r (eqb-true (part r) 4 e) in
-        let m = gen-mark r g in
-        let y : u8At r 4 ≡ x = sym m ∙ eqb-true (mark r) x f in
+        let m = gen-sort-key r g in
+        let y : u8At r 4 ≡ x = sym m ∙ eqb-true (sortKey r) x f in
         absurd (true≢false (sym (of-series x r g y) ∙ h))
 
 module _ (st : SetProgress) (r : List ℕ) (rs : List (List ℕ)) (x : ℕ) where
@@ -171,26 +171,26 @@ module _ (st : SetProgress) (r : List ℕ) (rs : List (List ℕ)) (x : ℕ) wher
       above : (k : ℕ) → x ≤ k → (k ≡ x → ⊥) → x < k
       above k a b = omega arith
 
-      later : ofSeries x r ≡ false → part r ≡ 4 → x ≤ mark r → (4 < part r) ⊎ ((part r ≡ 4) × (x < mark r))
+      later : ofSeries x r ≡ false → part r ≡ 4 → x ≤ sortKey r → (4 < part r) ⊎ ((part r ≡ 4) × (x < sortKey r))
       later e i j =
           let g = part-gen r i in
-          let y = gen-mark r g in
-          inr (i, above (mark r) j (λ z. true≢false (sym (of-series x r g (sym y ∙ z)) ∙ e)))
+          let y = gen-sort-key r g in
+          inr (i, above (sortKey r) j (λ z. true≢false (sym (of-series x r g (sym y ∙ z)) ∙ e)))
 
       -- the record before was the last of its series
-      stays : ofSeries x r ≡ false → (a b : Bool) → eqb (st .part) 4 ≡ a → eqb (st .mark) x ≡ b → (if a && b then st .run else 0) + countOf (ofSeries x) rs ≤ 20
+      stays : ofSeries x r ≡ false → (a b : Bool) → eqb (st .part) 4 ≡ a → eqb (st .key) x ≡ b → (if a && b then st .run else 0) + countOf (ofSeries x) rs ≤ 20
       stays e false b f k = omega arith
       stays e true false f k = omega arith
       stays e true true f k =
           let p = eqb-true (st .part) 4 f in
-          let m = eqb-true (st .mark) x k in
-          let past : (4 < part r) ⊎ ((part r ≡ 4) × (x < mark r)) = ⊎-elim (λ l. inl (omega arith)) (λ l. let i = l .0 in let j = l .1 in later e (omega arith) (omega arith)) (stand-out st r s) in
+          let m = eqb-true (st .key) x k in
+          let past : (4 < part r) ⊎ ((part r ≡ 4) × (x < sortKey r)) = ⊎-elim (λ l. inl (omega arith)) (λ l. let i = l .0 in let j = l .1 in later e (omega arith) (omega arith)) (stand-out st r s) in
           let z = gone x rs (onward st r) (order-on st r rs o) (past-after st x r past) in
           omega arith
 
       go : (t : Bool) → ofSeries x r ≡ t → countOf (ofSeries x) (r ∷ rs) ≡ oneIf t + countOf (ofSeries x) rs → carried st x + countOf (ofSeries x) (r ∷ rs) ≤ 20
       go true e c = let d = carried-on st x r e in omega arith
-      go false e c = let k = stays e (eqb (st .part) 4) (eqb (st .mark) x) refl refl in let d = carried-is st x in omega arith
+      go false e c = let k = stays e (eqb (st .part) 4) (eqb (st .key) x) refl refl in let d = carried-is st x in omega arith
 
 -- The records after the first ones ---------------------------------------------------------------
 
@@ -212,9 +212,9 @@ module _ (st : SetProgress) (rs : List (List ℕ)) where
 
 -- after the first records
 module _ (st : SetProgress) (after : st .opened ≡ 17) (r : List ℕ) where
-  stage-on : onward st r .opened ≡ 17
+  opened-on : onward st r .opened ≡ 17
   unfolding onward openedAfter
-  stage-on = rw after
+  opened-on = rw after
 
   whole-on : onward st r .whole ≡ st .whole
   unfolding onward isWhole
@@ -238,7 +238,7 @@ fine-none st f =
       regulars = omega arith;
       complexes = omega arith;
       leggings = omega arith;
-      series = λ x. go (eqb (st .part) 4 && eqb (st .mark) x);
+      series = λ x. go (eqb (st .part) 4 && eqb (st .key) x);
     }
   where
     go : (t : Bool) → (if t then st .run else 0) + 0 ≤ 20
@@ -257,9 +257,9 @@ run-on st r rs n h = go (tellsGeneration r) refl
     go : (g : Bool) → tellsGeneration r ≡ g → (if sameSeries st r then st .run + oneIf g else oneIf g) ≤ 20
     go false e = unfold oneIf in (other (sameSeries st r))
     go true e =
-        let k : carried (onward st r) (mark r) ≡ (if sameSeries st r then st .run + oneIf true else oneIf true) =
-        unfold carried onward in (rw (gen-part r e, eq-eqb (mark r) (mark r) refl) (rw e)) in
-        let l = h (mark r) in
+        let k : carried (onward st r) (sortKey r) ≡ (if sameSeries st r then st .run + oneIf true else oneIf true) =
+        unfold carried onward in (rw (gen-part r e, eq-eqb (sortKey r) (sortKey r) refl) (rw e)) in
+        let l = h (sortKey r) in
         omega arith
 
 module _ (st : SetProgress) (after : st .opened ≡ 17) (r : List ℕ) (rs : List (List ℕ)) (f : Few st) where
@@ -310,7 +310,7 @@ goes-fine (r ∷ rs) st after f h =
     let n : (kindsOf (st .whole) r && mayStand st r) ≡ true = sym (next-is st after r) ∙ and-l (isNext st r) (few (onward st r)) a in
     let on = few-out (onward st r) (and-r (isNext st r) (few (onward st r)) a) in
     fine-back st after r rs f (and-l (kindsOf (st .whole) r) (mayStand st r) n) (and-r (kindsOf (st .whole) r) (mayStand st r) n)
-    (goes-fine rs (onward st r) (stage-on st after r) on (and-r (isNext st r && few (onward st r)) (goesOn (onward st r) rs) h))
+    (goes-fine rs (onward st r) (opened-on st after r) on (and-r (isNext st r && few (onward st r)) (goesOn (onward st r) rs) h))
 
 fine-goes : (rs : List (List ℕ)) (st : SetProgress) → st .opened ≡ 17 → Few st → Fine st rs → goesOn st rs ≡ true
 unfolding goesOn all
@@ -320,7 +320,7 @@ fine-goes (r ∷ rs) st after f h =
     let n : isNext st r ≡ true = next-is st after r ∙ and-in (kindsOf (st .whole) r) (mayStand st r) k (h .order .0) in
     let on = fine-on st after r rs f h in
     and-in (isNext st r && few (onward st r)) (goesOn (onward st r) rs) (and-in (isNext st r) (few (onward st r)) n (few-in (onward st r) (on .0)))
-    (fine-goes rs (onward st r) (stage-on st after r) (on .0) (on .1))
+    (fine-goes rs (onward st r) (opened-on st after r) (on .0) (on .1))
 
 -- The first of them -----------------------------------------------------------------------------
 
@@ -490,9 +490,9 @@ module _ (st : SetProgress) (b : Blank st) (r : List ℕ) where
       go false = refl
 
   module _ (early : st .opened < 17) where
-    pub stage-more : onward st r .opened ≡ st .opened + 1
+    pub opened-more : onward st r .opened ≡ st .opened + 1
     unfolding onward openedAfter
-    stage-more = rw (lt-ltb (st .opened) 17 early)
+    opened-more = rw (lt-ltb (st .opened) 17 early)
 
     whole-stays : (st .opened ≡ 0 → ⊥) → onward st r .whole ≡ st .whole
     unfolding onward isWhole
@@ -548,32 +548,32 @@ module _ (st : SetProgress) (s count : ℕ) (at : Before st s (suc count)) where
     after-status : Blank (onward st q)
     after-status = blank-on st (at .blank) q (status-part q (opens-status st s q (at .opened) ∙ is))
 
-    away-stage : onward st q .opened ≡ 2 * s + 2
-    away-stage = let e = stage-more st (at .blank) q early in let f = at .opened in omega arith
+    away-opened : onward st q .opened ≡ 2 * s + 2
+    away-opened = let e = opened-more st (at .blank) q early in let f = at .opened in omega arith
 
     away-early : onward st q .opened < 17
-    away-early = let e = away-stage in let m = at .many in omega arith
+    away-early = let e = away-opened in let m = at .many in omega arith
 
     module _ (r : List ℕ) where
       away-part : opens (onward st q) r ≡ true → part r ≡ 0
       away-part h =
-          no-part r (inr (inr (inr (eqb-true (kindField r) 4 (and-l (eqb (kindField r) 4) (eqb (u8At r 4) s) (sym (opens-away (onward st q) s r away-stage) ∙ h))))))
+          no-part r (inr (inr (inr (eqb-true (kindField r) 4 (and-l (eqb (kindField r) 4) (eqb (u8At r 4) s) (sym (opens-away (onward st q) s r away-opened) ∙ h))))))
 
       away-goes : (rs : List (List ℕ)) → goesOn (onward st q) (r ∷ rs) ≡ ((eqb (kindField r) 4 && eqb (u8At r 4) s) && goesOn (onward (onward st q) r) rs)
       away-goes rs =
           opened (onward st q) after-status r away-early rs away-part
-          ∙ ap (λ (t : Bool). t && goesOn (onward (onward st q) r) rs) (opens-away (onward st q) s r away-stage)
+          ∙ ap (λ (t : Bool). t && goesOn (onward (onward st q) r) rs) (opens-away (onward st q) s r away-opened)
 
       after-away : (eqb (kindField r) 4 && eqb (u8At r 4) s) ≡ true → Before (onward (onward st q) r) (suc s) count
       after-away k =
-          let e = stage-more (onward st q) after-status r away-early in
-          let f = away-stage in
+          let e = opened-more (onward st q) after-status r away-early in
+          let f = away-opened in
           let m = at .many in
-          record { blank = blank-on (onward st q) after-status r (away-part (opens-away (onward st q) s r away-stage ∙ k)); opened = omega arith; many = omega arith }
+          record { blank = blank-on (onward st q) after-status r (away-part (opens-away (onward st q) s r away-opened ∙ k)); opened = omega arith; many = omega arith }
 
       whole-same : onward (onward st q) r .whole ≡ st .whole
       whole-same =
-          let f = away-stage in
+          let f = away-opened in
           let g = at .opened in
           whole-stays (onward st q) after-status r away-early (λ z. omega arith) ∙ whole-stays st (at .blank) q early (λ z. omega arith)
 
@@ -616,7 +616,7 @@ module _ (r : List ℕ) (first : part r ≡ 0) where
 
   before-series : Before (onward noneRead r) 0 8
   before-series =
-      let e = stage-more noneRead none-blank r first-early in
+      let e = opened-more noneRead none-blank r first-early in
       let z : noneRead .opened ≡ 0 = unfold noneRead in refl in
       record { blank = blank-on noneRead none-blank r first; opened = omega arith; many = refl }
 

@@ -11,13 +11,13 @@ use borrow.Author.Tests.{eqb-true, eqb-false, eq-eqb, ne-eqb, lt-ltb, le-ltb, lt
 use Rattle.rules.specs.Base.{if_then_else_, all, keep}
 use Rattle.rules.specs.Bytes.{u8At, kindField}
 use Rattle.rules.proofs.Tests.{and-in, and-l, and-r, or-r}
-use Rattle.sets.specs.Set.{part, mark, inOrder, countOf, ofSeries, isSet, tellsEdition, tellsRegular, tellsComplex, tellsLegging, tellsGeneration, generationTold}
+use Rattle.sets.specs.Set.{part, sortKey, inOrder, countOf, ofSeries, isSet, tellsEdition, tellsRegular, tellsComplex, tellsLegging, tellsGeneration, generationTold}
 use Rattle.sets.proofs.Parts.{sort, sort-of}
 use Rattle.sets.proofs.Lists.{Each, keep-append, keep-none, each-more}
 use Rattle.set_check.specs.declared.SetProgress.{SetProgress}
 use Rattle.set_check.specs.Order.{noneRead, opens, isNext, mayStand, sameSeries, oneIf, onward, few, goesOn}
 use Rattle.set_check.proofs.OrderLaws.{Few, few-out}
-use Rattle.set_tables.proofs.Ordered.{count-more, InOrder, order-on, stand-out, Fine, Blank, blank-few, blank-carried, blank-on, stage-more, goes-fine, none-blank, no-part, set-goes}
+use Rattle.set_tables.proofs.Ordered.{count-more, InOrder, order-on, stand-out, Fine, Blank, blank-few, blank-carried, blank-on, opened-more, goes-fine, none-blank, no-part, set-goes}
 
 -- one step of a set
 module _ (st : SetProgress) (r : List ℕ) (rs : List (List ℕ)) (h : goesOn st (r ∷ rs) ≡ true) where
@@ -87,7 +87,7 @@ tail-of (r ∷ rs) st b s h = go (ltb (st .opened) 17) refl (λ b' s' h'. tail-o
     go true e ih =
         let early = ltb-true (st .opened) 17 e in
         let p = step-part st r rs h early in
-        let k = stage-more st b r early in
+        let k = opened-more st b r early in
         let t = ih (blank-on st b r p) (omega arith) (step-goes st r rs h) in
         record { front = r ∷ t .front; tail = t .tail; split = ap (λ (x : List (List ℕ)). r ∷ x) (t .split); none = (p, t .none); before = t .before; blank = t .blank; fine = t .fine }
 
@@ -114,7 +114,7 @@ long (r ∷ rs) st b s h = go (ltb (st .opened) 17) refl (λ b' s' h'. long rs (
     go false e ih = let l = ltb-false (st .opened) 17 e in omega arith
     go true e ih =
         let early = ltb-true (st .opened) 17 e in
-        let k = stage-more st b r early in
+        let k = opened-more st b r early in
         let i = ih (blank-on st b r (step-part st r rs h early)) (omega arith) (step-goes st r rs h) in
         omega arith
 
@@ -171,43 +171,43 @@ set-series rs h x =
 
 -- none of these tells place n
 abbrev pub Untold : (n : ℕ) → List (List ℕ) → Type 0
-Untold n = Each (λ r. (tellsLegging r && eqb (mark r) n) ≡ false)
+Untold n = Each (λ r. (tellsLegging r && eqb (sortKey r) n) ≡ false)
 
 -- each place is told once
 abbrev pub Alone : List (List ℕ) → Type 0
 Alone [] = Unit {0}
-Alone (r ∷ rs) = (tellsLegging r ≡ true → Untold (mark r) rs) × Alone rs
+Alone (r ∷ rs) = (tellsLegging r ≡ true → Untold (sortKey r) rs) × Alone rs
 
 -- within a part that is not the generations' marks rise
-stand-risen : (st : SetProgress) (r : List ℕ) → mayStand st r ≡ true → st .part ≡ part r → (st .part ≡ 4 → ⊥) → st .mark < mark r
+stand-risen : (st : SetProgress) (r : List ℕ) → mayStand st r ≡ true → st .part ≡ part r → (st .part ≡ 4 → ⊥) → st .key < sortKey r
 unfolding mayStand sameSeries
-stand-risen st r h e n = go (ltb (st .mark) (mark r)) refl (rw (le-ltb (st .part) (part r) (omega arith), eq-eqb (st .part) (part r) e, ne-eqb (st .part) 4 n) at h)
+stand-risen st r h e n = go (ltb (st .key) (sortKey r)) refl (rw (le-ltb (st .part) (part r) (omega arith), eq-eqb (st .part) (part r) e, ne-eqb (st .part) 4 n) at h)
   where
-    go : (t : Bool) → ltb (st .mark) (mark r) ≡ t → (t || false) ≡ true → st .mark < mark r
-    go true f k = ltb-true (st .mark) (mark r) f
+    go : (t : Bool) → ltb (st .key) (sortKey r) ≡ t → (t || false) ≡ true → st .key < sortKey r
+    go true f k = ltb-true (st .key) (sortKey r) f
     go false f k = absurd (true≢false (sym k))
 
 leg-part : (r : List ℕ) → tellsLegging r ≡ true → part r ≡ 3
 leg-part r e = eqb-true (part r) 3 (sym (sort r .2) ∙ e)
 
 abbrev Passed : SetProgress → ℕ → Type 0
-Passed st n = (3 < st .part) ⊎ ((st .part ≡ 3) × (n ≤ st .mark))
+Passed st n = (3 < st .part) ⊎ ((st .part ≡ 3) × (n ≤ st .key))
 
-passed-on : (st : SetProgress) (n : ℕ) (r : List ℕ) → mayStand st r ≡ true → Passed st n → (3 < part r) ⊎ ((part r ≡ 3) × (n < mark r))
+passed-on : (st : SetProgress) (n : ℕ) (r : List ℕ) → mayStand st r ≡ true → Passed st n → (3 < part r) ⊎ ((part r ≡ 3) × (n < sortKey r))
 passed-on st n r h p =
     ⊎-elim (λ l. ⊎-elim (λ k. inl (omega arith)) (λ k. inl (omega arith)) p)
     (λ l. let e = l .0 in ⊎-elim (λ k. inl (omega arith)) (λ k. let i = k .0 in let j = k .1 in let m = stand-risen st r h e (λ z. omega arith) in inr (omega arith, omega arith)) p) (stand-out st r h)
 
-passed-after : (st : SetProgress) (n : ℕ) (r : List ℕ) → (3 < part r) ⊎ ((part r ≡ 3) × (n < mark r)) → Passed (onward st r) n
+passed-after : (st : SetProgress) (n : ℕ) (r : List ℕ) → (3 < part r) ⊎ ((part r ≡ 3) × (n < sortKey r)) → Passed (onward st r) n
 unfolding onward
 passed-after st n r = ⊎-elim (λ l. inl l) (λ l. let i = l .0 in let j = l .1 in inr (i, omega arith))
 
-untold-one : (n : ℕ) (r : List ℕ) → (3 < part r) ⊎ ((part r ≡ 3) × (n < mark r)) → (tellsLegging r && eqb (mark r) n) ≡ false
+untold-one : (n : ℕ) (r : List ℕ) → (3 < part r) ⊎ ((part r ≡ 3) × (n < sortKey r)) → (tellsLegging r && eqb (sortKey r) n) ≡ false
 untold-one n r p = go (tellsLegging r) refl
   where
-    go : (t : Bool) → tellsLegging r ≡ t → (t && eqb (mark r) n) ≡ false
+    go : (t : Bool) → tellsLegging r ≡ t → (t && eqb (sortKey r) n) ≡ false
     go false e = refl
-    go true e = let k = leg-part r e in ne-eqb (mark r) n (λ z. ⊎-elim (λ l. omega arith) (λ l. let j = l .1 in omega arith) p)
+    go true e = let k = leg-part r e in ne-eqb (sortKey r) n (λ z. ⊎-elim (λ l. omega arith) (λ l. let j = l .1 in omega arith) p)
 
 untold : (n : ℕ) (rs : List (List ℕ)) (st : SetProgress) → InOrder st rs → Passed st n → Untold n rs
 untold n [] st h p = tt
@@ -215,13 +215,13 @@ untold n (r ∷ rs) st h p =
     let q = passed-on st n r (h .0) p in
     (untold-one n r q, untold n rs (onward st r) (order-on st r rs (h .1)) (passed-after st n r q))
 
-passed-here : (st : SetProgress) (r : List ℕ) → tellsLegging r ≡ true → Passed (onward st r) (mark r)
+passed-here : (st : SetProgress) (r : List ℕ) → tellsLegging r ≡ true → Passed (onward st r) (sortKey r)
 unfolding onward
 passed-here st r t = inr (leg-part r t, omega arith)
 
 alone : (rs : List (List ℕ)) (st : SetProgress) → InOrder st rs → Alone rs
 alone [] st h = tt
-alone (r ∷ rs) st h = (λ t. untold (mark r) rs (onward st r) (order-on st r rs (h .1)) (passed-here st r t), alone rs (onward st r) (order-on st r rs (h .1)))
+alone (r ∷ rs) st h = (λ t. untold (sortKey r) rs (onward st r) (order-on st r rs (h .1)) (passed-here st r t), alone rs (onward st r) (order-on st r rs (h .1)))
 
 alone-front : (front tail : List (List ℕ)) → Each (λ r. part r ≡ 0) front → Alone tail → Alone (front ++ tail)
 alone-front [] tail h a = a

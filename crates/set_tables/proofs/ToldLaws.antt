@@ -19,13 +19,13 @@ use Rattle.rules.specs.Words.{within, isSeries, isSide, placeOf, noLegging, not
 use Rattle.rules.specs.Bytes.{lengthField, kindField, u8At, u32At}
 use Rattle.rules.specs.Generation.{oneMore}
 use Rattle.rules.proofs.Tests.{and-l, and-r}
-use Rattle.sets.specs.Set.{Held, row, heldIn, countOf, part, mark, ofSeries, tellsRegular, tellsComplex, tellsLegging, tellsGeneration, hasPlace}
+use Rattle.sets.specs.Set.{Held, row, heldIn, countOf, part, sortKey, ofSeries, tellsRegular, tellsComplex, tellsLegging, tellsGeneration, hasPlace}
 use Rattle.sets.specs.Set.{leggingTold, listedTold, generationTold, generationsTold, reachedTold, upward, isSet}
 use Rattle.sets.proofs.Lists.{Each}
 use Rattle.sets.proofs.Parts.{sort}
 use Rattle.sets.proofs.ReadBack.{upward-is}
 use Rattle.set_tables.specs.Told.{rowIn, ReadableSet, leggingOf, listedOf}
-use Rattle.set_tables.proofs.Filling.{Walk, walk-start, walk-end, walk-on, walk-next, Step, row-in}
+use Rattle.set_tables.proofs.TableFilled.{Walk, walk-start, walk-end, walk-on, walk-next, Step, row-in}
 use Rattle.set_tables.proofs.Parted.{Untold, Alone, set-alone, set-long, set-series}
 
 -- one row set, and the others as they were
@@ -159,21 +159,21 @@ listing-end m l at s g h =
 -- what the records from there on tell of a place; if nothing, it is as it was
 pub toldOr : Legging → List (List ℕ) → (n : ℕ) → Legging
 toldOr d [] n = d
-toldOr d (r ∷ rs) n = if tellsLegging r && eqb (mark r) n then leggingOf r else toldOr d rs n
+toldOr d (r ∷ rs) n = if tellsLegging r && eqb (sortKey r) n then leggingOf r else toldOr d rs n
 
 told-none : (rs : List (List ℕ)) (n : ℕ) → toldOr noLegging rs n ≡ leggingTold rs n
 unfolding toldOr leggingTold leggingOf
 told-none [] n = refl
-told-none (r ∷ rs) n = ap (λ (l : Legging). if tellsLegging r && eqb (mark r) n then leggingOf r else l) (told-none rs n)
+told-none (r ∷ rs) n = ap (λ (l : Legging). if tellsLegging r && eqb (sortKey r) n then leggingOf r else l) (told-none rs n)
 
 told-kept : (d : Legging) (rs : List (List ℕ)) (n : ℕ) → Untold n rs → toldOr d rs n ≡ d
 unfolding toldOr
 told-kept d [] n u = refl
 told-kept d (r ∷ rs) n u = rw (u .0) (told-kept d rs n (u .1))
 
-leg-mark : (r : List ℕ) → tellsLegging r ≡ true → mark r ≡ placeOf (u8At r 8) (u8At r 9)
-unfolding mark
-leg-mark r e =
+leg-sort-key : (r : List ℕ) → tellsLegging r ≡ true → sortKey r ≡ placeOf (u8At r 8) (u8At r 9)
+unfolding sortKey
+leg-sort-key r e =
     let p : part r ≡ 3 = eqb-true (part r) 3 (sym (sort r .2) ∙ e) in
     let k : kindField r ≡ 82 = eqb-true (kindField r) 82 (unfold tellsLegging in e) in
     rw (k, p)
@@ -216,14 +216,14 @@ module _ (m : List ℕ) (l : List Legging) (at size : ℕ) (g : Legged m l at si
   abbrev rest : List (List ℕ)
   rest = rowIn (drop next m)
 
-  alone-both : (tellsLegging r ≡ true → Untold (mark r) rest) × Alone rest
+  alone-both : (tellsLegging r ≡ true → Untold (sortKey r) rest) × Alone rest
   alone-both = rw (s .rows) at (g .alone)
 
   placed-both : (hasPlace r && all hasPlace rest) ≡ true
   unfolding all
   placed-both = sym (ap (all hasPlace) (s .rows)) ∙ g .placed
 
-  left-both : (n : ℕ) → (if tellsLegging r && eqb (mark r) n then leggingOf r else toldOr (getD l n noLegging) rest n) ≡ leggingTold (rowIn m) n
+  left-both : (n : ℕ) → (if tellsLegging r && eqb (sortKey r) n then leggingOf r else toldOr (getD l n noLegging) rest n) ≡ leggingTold (rowIn m) n
   unfolding toldOr
   left-both n = sym (ap (λ (rs : List (List ℕ)). toldOr (getD l n noLegging) rs n) (s .rows)) ∙ g .left n
 
@@ -243,7 +243,7 @@ module _ (m : List ℕ) (l : List Legging) (at size : ℕ) (g : Legged m l at si
 
     pub legged-put : (n : ℕ) (x : Legging) → n ≡ placeOf (u8At r 8) (u8At r 9) → x ≡ leggingOf r → Legged m (set l n x) next more
     legged-put n x p y =
-        let k : mark r ≡ n = leg-mark r t ∙ sym p in
+        let k : sortKey r ≡ n = leg-sort-key r t ∙ sym p in
         let o = legged-room n p in
         let q = g .long in
         record {
@@ -254,10 +254,10 @@ module _ (m : List ℕ) (l : List Legging) (at size : ℕ) (g : Legged m l at si
           left = λ i. elim (ℕ-discrete i n) [
             | yes z ↦
                 let u : Untold i rest = rw (k, ← z) at (alone-both .0 t) in
-                let v : (tellsLegging r && eqb (mark r) i) ≡ true = rw (t, eq-eqb (mark r) i (k ∙ sym z)) in
+                let v : (tellsLegging r && eqb (sortKey r) i) ≡ true = rw (t, eq-eqb (sortKey r) i (k ∙ sym z)) in
                 told-kept (getD (set l n x) i noLegging) rest i u ∙ ap (λ (j : ℕ). getD (set l n x) j noLegging) z ∙ getD-set-same l n x noLegging (omega arith) ∙ y ∙ (rw v at (left-both i))
             | no z ↦
-                let v : (tellsLegging r && eqb (mark r) i) ≡ false = rw (t, ne-eqb (mark r) i (λ w. z (sym w ∙ k))) in
+                let v : (tellsLegging r && eqb (sortKey r) i) ≡ false = rw (t, ne-eqb (sortKey r) i (λ w. z (sym w ∙ k))) in
                 ap (λ (d : Legging). toldOr d rest i) (getD-set-other l n i x noLegging z) ∙ (rw v at (left-both i))
           ];
         }

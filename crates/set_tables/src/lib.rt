@@ -19,7 +19,7 @@ use rules::Venue;
 // What a record tells -------------------------------------------------------------------------
 
 // What shows of an order: all of it where it is of kind 1.
-fn shown_of(r: &[u8]) -> u32
+fn display_told(r: &[u8]) -> u32
     ensures { λ n. ⌜ n ≡ regularTold (now (r .entry)) .display ⌝ }
 {
     if set_check::kind_of(r) == 9 {
@@ -33,7 +33,7 @@ fn regular_told(r: &[u8]) -> Regular
     requires { ⌜ 18 ≤ length (now r) ⌝ }
     ensures { λ o. ⌜ o ≡ regularTold (now (r .entry)) ⌝ }
 {
-    wire::order_at(r, shown_of(r))
+    wire::order_at(r, display_told(r))
 }
 
 // The complex order that a record tells.

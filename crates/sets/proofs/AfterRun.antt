@@ -14,15 +14,15 @@ use Rattle.rules.specs.Records.{encodeAll}
 use Rattle.rules.specs.Refusals.{torn}
 use Rattle.rules.specs.Step.{answered, step}
 use Rattle.rules.specs.Calls.{Call, Outcome, after, called, ends, one, run, runFrom}
-use Rattle.rules.proofs.Calling.{encode-append, no-bytes, not-exceeds, oneFrom-by, runFrom-by, torn-not}
-use Rattle.rules.proofs.Refusing.{refusal-own, whole}
-use Rattle.demands.specs.Kept.{SoundAt}
-use Rattle.demands.specs.Most.{most}
-use Rattle.demands.specs.Agree.{Agrees, Ended, NoneFull, Progress, atEnd, atFull, atTorn, begun, byCalls, onward}
+use Rattle.rules.proofs.CallsLaws.{encode-append, no-bytes, not-exceeds, oneFrom-by, runFrom-by, torn-not}
+use Rattle.rules.proofs.RefusalsLaws.{refusal-own, whole}
+use Rattle.demands.specs.Soundness.{SoundAt}
+use Rattle.demands.specs.Most.{mostReportBytes}
+use Rattle.demands.specs.Agree.{Agrees, Ended, NoneFull, Progress, atEnd, atFull, atTorn, freshProgress, byCalls, onward}
 use Rattle.demands.specs.Demand.{byRun, calls, extend, opening, start}
 use Rattle.demands.proofs.Agree.{agree, moved, one-read, shorter, wrote-is}
 use Rattle.demands.proofs.Most.{writes-at-most}
-use Rattle.demands.proofs.Calls.{always-sound, done-fits, fresh-sound, kept}
+use Rattle.demands.proofs.Calls.{always-sound, done-fits, fresh-sound, stays-sound}
 use Rattle.sets.specs.Promises.{CutRun, rooms, runThen}
 use Rattle.sets.proofs.Rows.{length-front}
 use Rattle.sets.proofs.Cutting.{Stands, going}
@@ -55,32 +55,32 @@ at x n v b bs = record { number = x; done = n; venue = v; bytes = b; left = bs }
 
 -- as many calls as a run that ended with 0 did messages, each lent the most that a message writes: none is ended by 10, and they do what the run did
 abbrev as-many : Outcome → List ℕ
-as-many o = replicate (o .done) most
+as-many o = replicate (o .done) mostReportBytes
 
 abbrev CameBy : (v : Venue) (n : ℕ) (bs : List ℕ) (x : ℕ) (b rest : List ℕ) → Outcome → Type 0
 CameBy v n bs x b rest o =
     o .number ≡ 0 → NoneFull (as-many o) (at x n v b (bs ++ rest)) × Came n b rest o (byCalls (as-many o) (at x n v b (bs ++ rest)))
 
 -- a call that is lent so much is not ended by 10
-most-holds : (v : Venue) (n : ℕ) (bs : List ℕ) → SoundAt (suc n) v → suc n < 4294967296 → one v n most bs .returned .number ≢ 10
+most-holds : (v : Venue) (n : ℕ) (bs : List ℕ) → SoundAt (suc n) v → suc n < 4294967296 → one v n mostReportBytes bs .returned .number ≢ 10
 unfolding one called ends after step answered
 most-holds v n bs s few =
     let w = writes-at-most v (s .venue) (suc n) bs in
-    let f = not-exceeds (suc n) most (step v (suc n) bs .effect .reports) (omega arith) (omega arith) in
-    oneFrom-by (λ o. o .number ≢ 10) v n most bs (λ _ e. omega arith) (λ _ e. absurd (true≢false (sym e ∙ f)))
+    let f = not-exceeds (suc n) mostReportBytes (step v (suc n) bs .effect .reports) (omega arith) (omega arith) in
+    oneFrom-by (λ o. o .number ≢ 10) v n mostReportBytes bs (λ _ e. omega arith) (λ _ e. absurd (true≢false (sym e ∙ f)))
     (λ _ _. refusal-own v bs 10 (omega arith) (omega arith))
 
 module _ (v : Venue) (n room : ℕ) (bs : List ℕ) (s : SoundAt (suc n) v) (x : ℕ) (b rest : List ℕ) (t : torn bs ≡ false) (few : suc n < 4294967296) where
-  holds-on : one v n most (bs ++ rest) .returned .number ≢ 10
-  holds-on = rw (one-same bs rest t v n most) (most-holds v n bs s few)
+  holds-on : one v n mostReportBytes (bs ++ rest) .returned .number ≢ 10
+  holds-on = rw (one-same bs rest t v n mostReportBytes) (most-holds v n bs s few)
 
   -- one message more
-  moved-on : onward (at x n v b (bs ++ rest)) (one v n most (bs ++ rest)) ≡
+  moved-on : onward (at x n v b (bs ++ rest)) (one v n mostReportBytes (bs ++ rest)) ≡
       at (step v (suc n) bs .refused) (suc n) (step v (suc n) bs .effect .venue) (b ++ encodeAll (step v (suc n) bs .effect .reports)) (drop (lengthField bs) bs ++ rest)
   unfolding onward
   moved-on =
-      rw (one-same bs rest t v n most, left-same bs rest t)
-      (ap (λ (q : Progress). at (q .number) (q .done) (q .venue) (q .bytes) (drop (lengthField bs) bs ++ rest)) (moved v n room bs s x b most (most-holds v n bs s few)))
+      rw (one-same bs rest t v n mostReportBytes, left-same bs rest t)
+      (ap (λ (q : Progress). at (q .number) (q .done) (q .venue) (q .bytes) (drop (lengthField bs) bs ++ rest)) (moved v n room bs s x b mostReportBytes (most-holds v n bs s few)))
 
   -- and then what comes after it
   done-came : (o : Outcome) →
@@ -113,7 +113,7 @@ came (suc fuel) v n room bs s le x b rest ne =
     (λ _ _ z. absurd (unfold ends in omega arith))
     (λ _ _ z. absurd (unfold ends after in omega arith))
     (λ d t. done-came v n room bs s x b rest (torn-not v n bs t) (d .0) _
-    (came fuel _ (suc n) _ _ (kept v (suc n) (d .0) s bs) (shorter fuel bs le (torn-not v n bs t)) (step v (suc n) bs .refused) _ rest t))
+    (came fuel _ (suc n) _ _ (stays-sound v (suc n) (d .0) s bs) (shorter fuel bs le (torn-not v n bs t)) (step v (suc n) bs .refused) _ rest t))
 
 -- Calls after a run ---------------------------------------------------------------------------
 
@@ -176,19 +176,19 @@ all-by-calls : (before room : ℕ) (first rest later : List ℕ) → run before 
     NoneFull later (at 0 (o .done) (o .venue) (encodeAll (o .reports)) rest) →
     run before first .returned .done + length later ≡ run room (first ++ rest) .returned .done →
     Agrees room (run room (first ++ rest)) (byCalls later (at 0 (o .done) (o .venue) (encodeAll (o .reports)) rest))
-unfolding run called begun
+unfolding run called freshProgress
 all-by-calls before room first rest later z holds n =
     let o = runFrom (length first) freshVenue 0 before first in
     let rs = as-many o in
-    let q = byCalls rs (begun (first ++ rest)) in
+    let q = byCalls rs (freshProgress (first ++ rest)) in
     let l = length-append rs later in
-    let k = length-replicate (o .done) most in
+    let k = length-replicate (o .done) mostReportBytes in
     let c = came (length first) freshVenue 0 before first fresh-sound (omega arith) 0 [] rest (λ w. omega arith) z in
     let e = came-to rest o q (c .1) in
     let later-holds = subst (NoneFull later) (sym e) (holds-same later 0 (q .number) (o .done) (o .venue) (encodeAll (o .reports)) rest holds) in
-    let a = agree room (first ++ rest) (rs ++ later) (holds-append rs later (begun (first ++ rest)) (c .0) later-holds) (omega arith) in
+    let a = agree room (first ++ rest) (rs ++ later) (holds-append rs later (freshProgress (first ++ rest)) (c .0) later-holds) (omega arith) in
     agrees-same room (run room (first ++ rest)) later (q .number) 0 (o .done) (o .venue) (encodeAll (o .reports)) rest (c .1 .number) (λ w. omega arith)
-    (subst (λ (p : Progress). Agrees room (run room (first ++ rest)) (byCalls later p)) e (rw (calls-append rs later (begun (first ++ rest))) at a))
+    (subst (λ (p : Progress). Agrees room (run room (first ++ rest)) (byCalls later p)) e (rw (calls-append rs later (freshProgress (first ++ rest))) at a))
 
 pub cut-run : CutRun
 cut-run before room first rest gs z fit holds n =

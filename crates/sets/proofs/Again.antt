@@ -15,13 +15,13 @@ use Rattle.rules.specs.Bytes.{framed, kindField, u32, u32At, u8At}
 use Rattle.rules.specs.Places.{holdsComplex, holdsRegular}
 use Rattle.rules.proofs.Tests.{and-false}
 use Rattle.sets.specs.Set.{byId, complexRecord, complexTold, generationRecord, generationRecords, generationTold, generationsTold, inOrder}
-use Rattle.sets.specs.Set.{leggingRecords, leggingTold, mark, ofSeries, part, places}
+use Rattle.sets.specs.Set.{leggingRecords, leggingTold, sortKey, ofSeries, part, places}
 use Rattle.sets.specs.Set.{reachedRecords, reachedTold, regularRecord, regularTold, tellsComplex, tellsGeneration, tellsLegging, tellsRegular, upward}
 use Rattle.sets.proofs.Lists.{Each, Rising, each-more, keep-append, keep-every, rising-lower}
 use Rattle.sets.proofs.Pieces.{one-at-most, pieces}
 use Rattle.sets.proofs.Slots.{places-of, slot, told-none, two-slots}
 use Rattle.sets.proofs.Parts.{sort-of, whether}
-use Rattle.sets.proofs.Taken.{GenerationOf, LeggingOf, OrderOf, complexOne, regularOne}
+use Rattle.sets.proofs.PartsRead.{GenerationOf, LeggingOf, OrderOf, complexOne, regularOne}
 
 free-kept : {A : Type 0} (holds : A → Bool) (none : A) → holds none ≡ false → (n : ℕ) → keep holds (replicate n none) ≡ []
 unfolding keep
@@ -70,27 +70,27 @@ abbrev pub complexesOf : List (List ℕ) → List Complex
 complexesOf l = map complexTold (keep tellsComplex l)
 
 -- they are at least as high as the row, and held
-pub regulars-so : (low : ℕ) (l : List (List ℕ)) → Each OrderOf l → Rising mark low l → Each (λ o. (low ≤ o .id) × (holdsRegular o ≡ true)) (regularsOf l)
+pub regulars-so : (low : ℕ) (l : List (List ℕ)) → Each OrderOf l → Rising sortKey low l → Each (λ o. (low ≤ o .id) × (holdsRegular o ≡ true)) (regularsOf l)
 unfolding keep
 regulars-so low [] h u = tt
-regulars-so low (r ∷ l) h u = go (h .0) (regulars-so low l (h .1) (rising-lower mark low (suc (mark r)) l (let z = u .0 in omega arith) (u .1)))
+regulars-so low (r ∷ l) h u = go (h .0) (regulars-so low l (h .1) (rising-lower sortKey low (suc (sortKey r)) l (let z = u .0 in omega arith) (u .1)))
   where
     go : OrderOf r → Each (λ o. (low ≤ o .id) × (holdsRegular o ≡ true)) (regularsOf l) → Each (λ o. (low ≤ o .id) × (holdsRegular o ≡ true))
         (map regularTold (if tellsRegular r then r ∷ keep tellsRegular l else keep tellsRegular l))
     go (regularOne a b c d e) ih = (let z = u .0 in rw a (((omega arith, e), ih)))
     go (complexOne a b c d e) ih = rw a ih
 
-pub complexes-so : (low : ℕ) (l : List (List ℕ)) → Each OrderOf l → Rising mark low l → Each (λ o. (low ≤ o .id) × (holdsComplex o ≡ true)) (complexesOf l)
+pub complexes-so : (low : ℕ) (l : List (List ℕ)) → Each OrderOf l → Rising sortKey low l → Each (λ o. (low ≤ o .id) × (holdsComplex o ≡ true)) (complexesOf l)
 unfolding keep
 complexes-so low [] h u = tt
-complexes-so low (r ∷ l) h u = go (h .0) (complexes-so low l (h .1) (rising-lower mark low (suc (mark r)) l (let z = u .0 in omega arith) (u .1)))
+complexes-so low (r ∷ l) h u = go (h .0) (complexes-so low l (h .1) (rising-lower sortKey low (suc (sortKey r)) l (let z = u .0 in omega arith) (u .1)))
   where
     go : OrderOf r → Each (λ o. (low ≤ o .id) × (holdsComplex o ≡ true)) (complexesOf l) → Each (λ o. (low ≤ o .id) × (holdsComplex o ≡ true))
         (map complexTold (if tellsComplex r then r ∷ keep tellsComplex l else keep tellsComplex l))
     go (regularOne a b c d e) ih = rw b ih
     go (complexOne a b c d e) ih = (let z = u .0 in rw b (((omega arith, e), ih)))
 
-pub books-again : (fuel low : ℕ) (l : List (List ℕ)) → Each OrderOf l → Rising mark low l → length (regularsOf l) + length (complexesOf l) ≤ fuel → byId fuel (regularsOf l) (complexesOf l) ≡ l
+pub books-again : (fuel low : ℕ) (l : List (List ℕ)) → Each OrderOf l → Rising sortKey low l → length (regularsOf l) + length (complexesOf l) ≤ fuel → byId fuel (regularsOf l) (complexesOf l) ≡ l
 unfolding keep
 books-again fuel low [] h u le = regular-left fuel [] (omega arith)
 books-again zero low (r ∷ l) h u le = absurd (some (h .0) le)
@@ -98,7 +98,7 @@ books-again zero low (r ∷ l) h u le = absurd (some (h .0) le)
     some : OrderOf r → length (regularsOf (r ∷ l)) + length (complexesOf (r ∷ l)) ≤ 0 → ⊥
     some (regularOne a b c d e) le = let z = rw a at le in omega arith
     some (complexOne a b c d e) le = let z = rw b at le in omega arith
-books-again (suc fuel) low (r ∷ l) h u le = go (h .0) le (λ n. books-again fuel (suc (mark r)) l (h .1) (u .1) n)
+books-again (suc fuel) low (r ∷ l) h u le = go (h .0) le (λ n. books-again fuel (suc (sortKey r)) l (h .1) (u .1) n)
   where
     go : OrderOf r → length (regularsOf (r ∷ l)) + length (complexesOf (r ∷ l)) ≤ suc fuel → (length (regularsOf l) + length (complexesOf l) ≤ fuel → byId fuel (regularsOf l) (complexesOf l) ≡ l) →
         byId (suc fuel) (regularsOf (r ∷ l)) (complexesOf (r ∷ l)) ≡ r ∷ l
@@ -109,8 +109,8 @@ books-again (suc fuel) low (r ∷ l) h u le = go (h .0) le (λ n. books-again fu
           a,
           b,
           regular-first fuel (regularTold r) (regularsOf l) (complexesOf l)
-              (rw d (each-more (λ o. (suc (mark r) ≤ o .id) × (holdsComplex o ≡ true)) (λ o. suc (mark r) ≤ o .id) (λ o z. z .0) (complexesOf l)
-              (complexes-so (suc (mark r)) l (h .1) (u .1)))) k,
+              (rw d (each-more (λ o. (suc (sortKey r) ≤ o .id) × (holdsComplex o ≡ true)) (λ o. suc (sortKey r) ≤ o .id) (λ o z. z .0) (complexesOf l)
+              (complexes-so (suc (sortKey r)) l (h .1) (u .1)))) k,
           c,
           ih k,
         )
@@ -121,8 +121,8 @@ books-again (suc fuel) low (r ∷ l) h u le = go (h .0) le (λ n. books-again fu
           a,
           b,
           complex-first fuel (regularsOf l) (complexTold r) (complexesOf l)
-              (rw d (each-more (λ o. (suc (mark r) ≤ o .id) × (holdsRegular o ≡ true)) (λ o. suc (mark r) ≤ o .id) (λ o z. z .0) (regularsOf l)
-              (regulars-so (suc (mark r)) l (h .1) (u .1)))) k,
+              (rw d (each-more (λ o. (suc (sortKey r) ≤ o .id) × (holdsRegular o ≡ true)) (λ o. suc (sortKey r) ≤ o .id) (λ o z. z .0) (regularsOf l)
+              (regulars-so (suc (sortKey r)) l (h .1) (u .1)))) k,
           c,
           ih k,
         )
@@ -133,7 +133,7 @@ books-again (suc fuel) low (r ∷ l) h u le = go (h .0) le (λ n. books-again fu
 record Front (s d : ℕ) (l : List (List ℕ)) : Type 0 where
   rest : List (List ℕ)
   is : slot s d (leggingTold l (placeOf s d)) ++ rest ≡ l
-  rises : Rising mark (suc (placeOf s d)) rest
+  rises : Rising sortKey (suc (placeOf s d)) rest
   each : Each LeggingOf rest
   later : (n : ℕ) → placeOf s d < n → leggingTold rest n ≡ leggingTold l n
 
@@ -142,10 +142,10 @@ placed : (s d t e : ℕ) → d ≤ 1 → e ≤ 1 → placeOf s d ≡ placeOf t e
 unfolding placeOf
 placed s d t e a b h = (omega arith, omega arith)
 
-front : (s d : ℕ) (l : List (List ℕ)) → d ≤ 1 → Each LeggingOf l → Rising mark (placeOf s d) l → Front s d l
+front : (s d : ℕ) (l : List (List ℕ)) → d ≤ 1 → Each LeggingOf l → Rising sortKey (placeOf s d) l → Front s d l
 unfolding leggingTold
 front s d [] b h u = record { rest = []; is = refl; rises = tt; each = tt; later = λ n lt. refl }
-front s d (r ∷ l) b h u = whether (mark r) (placeOf s d) here there
+front s d (r ∷ l) b h u = whether (sortKey r) (placeOf s d) here there
   where
     g : LeggingOf r
     g = h .0
@@ -153,21 +153,21 @@ front s d (r ∷ l) b h u = whether (mark r) (placeOf s d) here there
     tells : tellsLegging r ≡ true
     tells = unfold tellsLegging in (rw (g .kind))
 
-    here : mark r ≡ placeOf s d → Front s d (r ∷ l)
+    here : sortKey r ≡ placeOf s d → Front s d (r ∷ l)
     here e =
         let p = placed (u8At r 8) (u8At r 9) s d (g .side) b (sym (g .marked) ∙ e) in
         record {
           rest = l;
-          is = rw (tells, eq-eqb (mark r) (placeOf s d) e, g .quantity, ← p .0, ← p .1, g .spelled);
+          is = rw (tells, eq-eqb (sortKey r) (placeOf s d) e, g .quantity, ← p .0, ← p .1, g .spelled);
           rises = rw (← e) (u .1);
           each = h .1;
-          later = λ n lt. rw (ne-eqb (mark r) n (λ q. omega arith), and-false (tellsLegging r));
+          later = λ n lt. rw (ne-eqb (sortKey r) n (λ q. omega arith), and-false (tellsLegging r));
         }
 
-    there : eqb (mark r) (placeOf s d) ≡ false → Front s d (r ∷ l)
+    there : eqb (sortKey r) (placeOf s d) ≡ false → Front s d (r ∷ l)
     there e =
-        let n = eqb-false (mark r) (placeOf s d) e in
-        let z : suc (placeOf s d) ≤ mark r = (let y = u .0 in omega arith) in
+        let n = eqb-false (sortKey r) (placeOf s d) e in
+        let z : suc (placeOf s d) ≤ sortKey r = (let y = u .0 in omega arith) in
         record {
           rest = r ∷ l;
           is = rw (told-none (placeOf s d) (suc (placeOf s d)) (r ∷ l) (omega arith) ((z, u .1)));
@@ -186,7 +186,7 @@ unfolding upward
 two-upward f n count = refl
 
 -- no place is past the last
-none-past : (s : ℕ) (l : List (List ℕ)) → s ≡ 8 → Each LeggingOf l → Rising mark (2 * s) l → [] ≡ l
+none-past : (s : ℕ) (l : List (List ℕ)) → s ≡ 8 → Each LeggingOf l → Rising sortKey (2 * s) l → [] ≡ l
 unfolding placeOf
 none-past s [] n h u = refl
 none-past s (r ∷ l) n h u = (let a = h .0 .marked in let b = h .0 .series in let c = h .0 .side in let d = u .0 in absurd (omega arith))
@@ -216,7 +216,7 @@ series-first m s l x y ih =
     )
     (x .is)
 
-pub leggings-again : (m s : ℕ) (l : List (List ℕ)) → s + m ≡ 8 → Each LeggingOf l → Rising mark (2 * s) l → leggingRecords s (upward (leggingTold l) (2 * s) (2 * m)) ≡ l
+pub leggings-again : (m s : ℕ) (l : List (List ℕ)) → s + m ≡ 8 → Each LeggingOf l → Rising sortKey (2 * s) l → leggingRecords s (upward (leggingTold l) (2 * s) (2 * m)) ≡ l
 leggings-again zero s l n h u = unfold leggingRecords upward in none-past s l (omega arith) h u
 leggings-again (suc m) s l n h u =
     let p = places-of s in
@@ -243,17 +243,18 @@ numbers-held s (r ∷ l) h = go (ofSeries s r) (numbers-held s l (h .1))
     go true ih = (h .0 .number, ih)
     go false ih = ih
 
-series-again : (s : ℕ) (l : List (List ℕ)) → Each GenerationOf l → map (generationRecord s) (map generationTold (keep (ofSeries s) l)) ≡ keep (λ r. eqb (mark r) s) l
+series-again : (s : ℕ) (l : List (List ℕ)) → Each GenerationOf l → map (generationRecord s) (map generationTold (keep (ofSeries s) l)) ≡ keep (λ r. eqb (sortKey r) s) l
 unfolding keep ofSeries tellsGeneration
 series-again s [] h = refl
 series-again s (r ∷ l) h = rw (h .0 .kind, h .0 .marked) (go (eqb (u8At r 4) s) refl (series-again s l (h .1)))
   where
-    go : (b : Bool) → eqb (u8At r 4) s ≡ b → map (generationRecord s) (map generationTold (keep (ofSeries s) l)) ≡ keep (λ r. eqb (mark r) s) l →
-        map (generationRecord s) (map generationTold (if b then r ∷ keep (ofSeries s) l else keep (ofSeries s) l)) ≡ (if b then r ∷ keep (λ r. eqb (mark r) s) l else keep (λ r. eqb (mark r) s) l)
+    go : (b : Bool) → eqb (u8At r 4) s ≡ b → map (generationRecord s) (map generationTold (keep (ofSeries s) l)) ≡ keep (λ r. eqb (sortKey r) s) l →
+        map (generationRecord s) (map generationTold (if b then r ∷ keep (ofSeries s) l else keep (ofSeries s) l))
+        ≡ (if b then r ∷ keep (λ r. eqb (sortKey r) s) l else keep (λ r. eqb (sortKey r) s) l)
     go true e ih = let q : generationRecord s (generationTold r) ≡ r = rw (← eqb-true (u8At r 4) s e) (h .0 .spelled) in rw (q, ih)
     go false e ih = ih
 
-pub generations-again : (m s : ℕ) (l : List (List ℕ)) → Each GenerationOf l → generationRecords s (upward (generationsTold l) s m) ≡ pieces mark s m l
+pub generations-again : (m s : ℕ) (l : List (List ℕ)) → Each GenerationOf l → generationRecords s (upward (generationsTold l) s m) ≡ pieces sortKey s m l
 unfolding generationRecords upward generationsTold
 generations-again zero s l h = refl
 generations-again (suc m) s l h =
@@ -264,7 +265,7 @@ generations-again (suc m) s l h =
 
 -- a record of it
 abbrev pub ReachedOf : List ℕ → Type 0
-ReachedOf r = (part r ≡ 5) × (held (u32At r 4) ≡ true) × (framed 84 (u32 (u32At r 4)) ≡ r) × (mark r ≡ 0)
+ReachedOf r = (part r ≡ 5) × (held (u32At r 4) ≡ true) × (framed 84 (u32 (u32At r 4)) ≡ r) × (sortKey r ≡ 0)
 
 pub reached-again : (l : List (List ℕ)) → Each ReachedOf l → inOrder l ≡ true → reachedRecords (reachedTold l) ≡ l
 unfolding reachedRecords reachedTold

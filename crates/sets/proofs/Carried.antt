@@ -25,7 +25,7 @@ use Rattle.rules.proofs.Closing.{packed-id}
 use Rattle.rules.proofs.Dating.{edition-free}
 use Rattle.rules.proofs.Finding.{rests-in}
 use Rattle.rules.proofs.Tests.{and-l, and-r, not-out}
-use Rattle.demands.specs.Kept.{Shaped}
+use Rattle.demands.specs.Soundness.{Shaped}
 use Rattle.sets.specs.Set.{complexRecord, complexTold, editionRecord, editionTold, places, regularRecord, regularTold}
 use Rattle.sets.proofs.Lists.{Each, Rising, each-more}
 use Rattle.sets.proofs.Held.{arranged-kept, each-kept, places-are}

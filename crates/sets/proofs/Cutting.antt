@@ -10,11 +10,11 @@ use borrow.Author.Tests.{le-ltb}
 use Rattle.rules.specs.declared.Venue.{Venue}
 use Rattle.rules.specs.Records.{FourBytes}
 use Rattle.rules.specs.Calls.{after, called, ends, one}
-use Rattle.rules.proofs.Calling.{oneFrom-by}
-use Rattle.demands.specs.Kept.{SoundAt}
-use Rattle.demands.specs.Agree.{Progress, begun, byCalls, onward}
+use Rattle.rules.proofs.CallsLaws.{oneFrom-by}
+use Rattle.demands.specs.Soundness.{SoundAt}
+use Rattle.demands.specs.Agree.{Progress, freshProgress, byCalls, onward}
 use Rattle.demands.proofs.Agree.{agree}
-use Rattle.demands.proofs.Calls.{fresh-sound, kept}
+use Rattle.demands.proofs.Calls.{fresh-sound, stays-sound}
 use Rattle.sets.specs.Set.{carries, joined, setOf, writeSet}
 use Rattle.sets.specs.Promises.{Cut, CutCalls, Going, SetsFit, call, carried, cut, goingOn, rooms}
 use Rattle.sets.proofs.ReadBack.{reads-back}
@@ -29,7 +29,7 @@ one-stands : (n room : ℕ) (v : Venue) (bs : List ℕ) → Stands n v → Stand
 unfolding one called ends after
 one-stands n room v bs s =
     oneFrom-by (λ o. Stands (n + o .done) (o .venue)) v n room bs (λ _. rw (add-zero n) s) (λ _ _. rw (add-zero n) s)
-    (λ _ d. rw (add-one n) (record { at = kept v (suc n) (d .0) (s .at) bs; few = d .0 }))
+    (λ _ d. rw (add-one n) (record { at = stays-sound v (suc n) (d .0) (s .at) bs; few = d .0 }))
 
 -- and so does a set
 written : (n room : ℕ) (v : Venue) → Stands n v → length (joined (setOf n v)) ≤ room → writeSet n v room .number ≡ 0
@@ -52,6 +52,6 @@ pub cut-calls : CutCalls
 cut-calls gs p at few fit = going gs p (record { at = at; few = few }) fit
 
 pub cuts : Cut
-unfolding begun
+unfolding freshProgress
 cuts room messages gs fit holds n =
-    rw (going gs (begun messages) (record { at = fresh-sound; few = omega arith }) fit) (agree room messages (rooms gs) holds n)
+    rw (going gs (freshProgress messages) (record { at = fresh-sound; few = omega arith }) fit) (agree room messages (rooms gs) holds n)

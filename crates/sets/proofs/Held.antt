@@ -19,24 +19,24 @@ module _ {A : Type 0} (holds asked blank : A → Bool) (id : A → ℕ) (free : 
   none-kept (x ∷ l) h = rw (free x (and-l (blank x) (all blank l) h)) (none-kept l (and-r (blank x) (all blank l) h))
 
   -- what the held places are
-  pub record Kept (low : ℕ) (l : List A) : Type 0 where
+  pub record RisingHeld (low : ℕ) (l : List A) : Type 0 where
     pub rises : Rising id (suc low) (keep holds l)
     pub asks : Each (λ x. (holds x ≡ true) × (asked x ≡ true)) (keep holds l)
 
-  one-more : (low : ℕ) (x : A) (l : List A) → holds x ≡ true → low < id x → asked x ≡ true → Kept (id x) l → Kept low (x ∷ l)
+  one-more : (low : ℕ) (x : A) (l : List A) → holds x ≡ true → low < id x → asked x ≡ true → RisingHeld (id x) l → RisingHeld low (x ∷ l)
   unfolding keep
   one-more low x l h lt a k = record { rises = rw h ((lt, k .rises)); asks = rw h (((h, a), k .asks)) }
 
-  nothing-more : (low : ℕ) (x : A) (l : List A) → all blank (x ∷ l) ≡ true → Kept low (x ∷ l)
+  nothing-more : (low : ℕ) (x : A) (l : List A) → all blank (x ∷ l) ≡ true → RisingHeld low (x ∷ l)
   nothing-more low x l h = let e = none-kept (x ∷ l) h in record { rises = rw e tt; asks = rw e tt }
 
-  pub arranged-kept : (low : ℕ) (l : List A) → arranged holds asked blank id low l ≡ true → Kept low l
+  pub arranged-kept : (low : ℕ) (l : List A) → arranged holds asked blank id low l ≡ true → RisingHeld low l
   unfolding arranged all
   arranged-kept low [] h = record { rises = unfold keep in tt; asks = unfold keep in tt }
   arranged-kept low (x ∷ l) h = go (holds x) refl h (arranged-kept (id x) l)
     where
       go : (b : Bool) → holds x ≡ b → (if b then ltb low (id x) && asked x && arranged holds asked blank id (id x) l else blank x && all blank l) ≡ true →
-          (arranged holds asked blank id (id x) l ≡ true → Kept (id x) l) → Kept low (x ∷ l)
+          (arranged holds asked blank id (id x) l ≡ true → RisingHeld (id x) l) → RisingHeld low (x ∷ l)
       go true e h ih =
           let z = h in
           one-more low x l e (ltb-true low (id x) (search (and-l, and-r, z) depth 4)) (search (and-l, and-r, z) depth 4)

@@ -5,7 +5,7 @@
 --   Records     each record of a set, its kind and length, and what it tells
 --   Held        the held places of an arranged book
 --   Parts       the part of a set that a record is of
---   Keeping     what is kept of a row of parts
+--   PartsKept   what is kept of a row of parts
 --   Fine        each record of a set: its part, its mark, its place
 --   Merging     the resting orders of both books in one row
 --   Slots       legging orders by place
@@ -18,7 +18,7 @@
 --   AfterRun    and after a run
 --   Spelled     the bytes of a record from what is read at its places
 --   Pieces      a row in order is its pieces one after another
---   Taken       each record that is read, by its part
+--   PartsRead   each record that is read, by its part
 --   Again       the parts of the set of the venue that a set tells
 --   WriteBack   writing what was read
 --   ReadSound   what is read is sound
@@ -27,7 +27,7 @@ pub mod Rows
 pub mod Records
 pub mod Held
 pub mod Parts
-pub mod Keeping
+pub mod PartsKept
 pub mod Fine
 pub mod Merging
 pub mod Slots
@@ -40,7 +40,7 @@ pub mod Cutting
 pub mod AfterRun
 pub mod Spelled
 pub mod Pieces
-pub mod Taken
+pub mod PartsRead
 pub mod Again
 pub mod WriteBack
 pub mod ReadSound

@@ -9,7 +9,7 @@ use lib.ListN.{length}
 use borrow.Author.Tests.{eq-eqb, lt-ltb}
 use Rattle.rules.specs.Base.{if_then_else_, all, keep}
 use Rattle.rules.proofs.Tests.{and-in, and-l, and-r}
-use Rattle.sets.specs.Set.{inOrder, mark, mayFollow, part}
+use Rattle.sets.specs.Set.{inOrder, sortKey, mayFollow, part}
 
 -- each of a list is so
 abbrev pub Each : {A : Type 0} → (A → Type 0) → List A → Type 0
@@ -128,11 +128,11 @@ rising-map f m g low [] e h = tt
 rising-map f m g low (x ∷ l) e h = rw (e .0) ((h .0, rising-map f m g (suc (f x)) l (e .1) (h .1)))
 
 -- a part whose marks rise is in order
-pub rising-order : (k low : ℕ) (l : List (List ℕ)) → Of k l → Rising mark low l → inOrder l ≡ true
+pub rising-order : (k low : ℕ) (l : List (List ℕ)) → Of k l → Rising sortKey low l → inOrder l ≡ true
 unfolding inOrder
 rising-order k low [] h u = refl
 rising-order k low (q ∷ []) h u = refl
-rising-order k low (q ∷ r ∷ l) h u = and-in (mayFollow q r) (inOrder (r ∷ l)) (risen (h .0) (h .1 .0) (u .1 .0)) (rising-order k (suc (mark q)) (r ∷ l) (h .1) (u .1))
+rising-order k low (q ∷ r ∷ l) h u = and-in (mayFollow q r) (inOrder (r ∷ l)) (risen (h .0) (h .1 .0) (u .1 .0)) (rising-order k (suc (sortKey q)) (r ∷ l) (h .1) (u .1))
   where
-    risen : part q ≡ k → part r ≡ k → suc (mark q) ≤ mark r → mayFollow q r ≡ true
-    risen e d lt = unfold mayFollow in (rw (e, d, eq-eqb k k refl, lt-ltb (mark q) (mark r) lt, or-true (ltb k k)))
+    risen : part q ≡ k → part r ≡ k → suc (sortKey q) ≤ sortKey r → mayFollow q r ≡ true
+    risen e d lt = unfold mayFollow in (rw (e, d, eq-eqb k k refl, lt-ltb (sortKey q) (sortKey r) lt, or-true (ltb k k)))

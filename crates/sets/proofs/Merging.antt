@@ -12,7 +12,7 @@ use Rattle.rules.specs.declared.Complex.{Complex}
 use Rattle.rules.specs.Base.{if_then_else_, keep}
 use Rattle.rules.specs.Words.{oneToOne}
 use Rattle.rules.specs.Bytes.{kindField}
-use Rattle.sets.specs.Set.{byId, complexRecord, mark, regularRecord, tellsComplex, tellsRegular}
+use Rattle.sets.specs.Set.{byId, complexRecord, sortKey, regularRecord, tellsComplex, tellsRegular}
 use Rattle.sets.proofs.Lists.{Each, Rising, each-map, each-more, every, keep-every, keep-none, rising-map}
 use Rattle.sets.proofs.Records.{complex-kind, regular-kind}
 
@@ -90,19 +90,19 @@ abbrev pub Apart : List Regular → List Complex → Type 0
 Apart os cs = Each (λ o. Each (λ c. o .id ≡ c .id → ⊥) cs) os
 
 -- so the row rises
-pub merge-rises : (fuel low : ℕ) (os : List Regular) (cs : List Complex) → Each (λ o. mark (regularRecord o) ≡ o .id) os → Each (λ c. mark (complexRecord c) ≡ c .id) cs →
-    Apart os cs → Rising (λ o. o .id) low os → Rising (λ c. c .id) low cs → Rising mark low (byId fuel os cs)
+pub merge-rises : (fuel low : ℕ) (os : List Regular) (cs : List Complex) → Each (λ o. sortKey (regularRecord o) ≡ o .id) os → Each (λ c. sortKey (complexRecord c) ≡ c .id) cs →
+    Apart os cs → Rising (λ o. o .id) low os → Rising (λ c. c .id) low cs → Rising sortKey low (byId fuel os cs)
 unfolding byId
 merge-rises zero low os cs h k a x y = tt
-merge-rises (suc fuel) low [] cs h k a x y = rising-map (λ c. c .id) mark complexRecord low cs k y
-merge-rises (suc fuel) low (o ∷ os) [] h k a x y = rising-map (λ o. o .id) mark regularRecord low (o ∷ os) h x
+merge-rises (suc fuel) low [] cs h k a x y = rising-map (λ c. c .id) sortKey complexRecord low cs k y
+merge-rises (suc fuel) low (o ∷ os) [] h k a x y = rising-map (λ o. o .id) sortKey regularRecord low (o ∷ os) h x
 merge-rises (suc fuel) low (o ∷ os) (c ∷ cs) h k a x y =
     go (ltb (o .id) (c .id)) refl (λ lt. merge-rises fuel (suc (o .id)) os (c ∷ cs) (h .1) k (a .1) (x .1) ((lt, y .1)))
     (λ lt. merge-rises fuel (suc (c .id)) (o ∷ os) cs h (k .1)
     ((a .0 .1, each-more (λ o. Each (λ c. o .id ≡ c .id → ⊥) (c ∷ cs)) (λ o. Each (λ c. o .id ≡ c .id → ⊥) cs) (λ o d. d .1) os (a .1)))
     ((lt, x .1)) (y .1))
   where
-    go : (b : Bool) → ltb (o .id) (c .id) ≡ b → (o .id < c .id → Rising mark (suc (o .id)) (byId fuel os (c ∷ cs))) → (c .id < o .id → Rising mark (suc (c .id)) (byId fuel (o ∷ os) cs)) →
-        Rising mark low (if b then regularRecord o ∷ byId fuel os (c ∷ cs) else complexRecord c ∷ byId fuel (o ∷ os) cs)
+    go : (b : Bool) → ltb (o .id) (c .id) ≡ b → (o .id < c .id → Rising sortKey (suc (o .id)) (byId fuel os (c ∷ cs))) → (c .id < o .id → Rising sortKey (suc (c .id)) (byId fuel (o ∷ os) cs)) →
+        Rising sortKey low (if b then regularRecord o ∷ byId fuel os (c ∷ cs) else complexRecord c ∷ byId fuel (o ∷ os) cs)
     go true e f g = rw (h .0) ((x .0, f (ltb-true (o .id) (c .id) e)))
     go false e f g = rw (k .0) ((y .0, g (let le = ltb-false (o .id) (c .id) e in let n = a .0 .0 in omega arith)))

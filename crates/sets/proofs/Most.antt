@@ -26,7 +26,7 @@ use Rattle.sets.specs.Set.{byId, complexRecord, editionRecord, firstReco
 use Rattle.sets.specs.Set.{leggingRecords, reachedRecords, regularRecord, seriesRecords}
 use Rattle.sets.specs.Promises.{AtMost}
 use Rattle.sets.proofs.Lists.{Each, each-map, every, keep-few}
-use Rattle.sets.proofs.Keeping.{flat}
+use Rattle.sets.proofs.PartsKept.{flat}
 use Rattle.sets.proofs.Written.{frontOf, set-parts, tailOf}
 
 -- the bytes of a row

@@ -13,7 +13,7 @@ use Rattle.rules.specs.Words.{noGenerations}
 use Rattle.rules.specs.Records.{FourBytes}
 use Rattle.rules.specs.Sound.{unfallen}
 use Rattle.rules.proofs.Tests.{and-in, and-l, and-r, free-none, held-pos, if-same, pos-held}
-use Rattle.sets.specs.Set.{generationRecord, generationRecords, generationTold, generationsTold, inOrder, mark, mayFollow, ofSeries, tellsGeneration}
+use Rattle.sets.specs.Set.{generationRecord, generationRecords, generationTold, generationsTold, inOrder, sortKey, mayFollow, ofSeries, tellsGeneration}
 use Rattle.sets.proofs.Lists.{Each, each-append, each-map, each-more, keep-append, keep-few, map-back, order-append}
 use Rattle.sets.proofs.Fine.{Fine, Good, generation-fine, good}
 use Rattle.sets.proofs.Records.{generation-kind, generation-series, generation-tells}
@@ -107,19 +107,19 @@ module _ (s : ℕ) (a : s ≤ 7) where
 block-fine : (s : ℕ) (g : Generations) → s ≤ 7 → Counted g → Each (Fine 4 s) (map (generationRecord s) (keep held (g .messages)))
 block-fine s g a c = numbers-fine s a (keep held (g .messages)) (some-kept (g .messages) (c .fits))
 
-pub generations-good : (s : ℕ) (gs : List Generations) → s + length gs ≤ 8 → Each Counted gs → Each (λ r. Good 4 r × (s ≤ mark r)) (generationRecords s gs)
+pub generations-good : (s : ℕ) (gs : List Generations) → s + length gs ≤ 8 → Each Counted gs → Each (λ r. Good 4 r × (s ≤ sortKey r)) (generationRecords s gs)
 unfolding generationRecords
 generations-good s [] le h = tt
 generations-good s (g ∷ gs) le h =
-    each-append (λ r. Good 4 r × (s ≤ mark r)) (map (generationRecord s) (keep held (g .messages))) (generationRecords (suc s) gs)
-    (each-more (Fine 4 s) (λ r. Good 4 r × (s ≤ mark r)) (λ r f. (good 4 s r f, (let z = f .marked in omega arith)))
+    each-append (λ r. Good 4 r × (s ≤ sortKey r)) (map (generationRecord s) (keep held (g .messages))) (generationRecords (suc s) gs)
+    (each-more (Fine 4 s) (λ r. Good 4 r × (s ≤ sortKey r)) (λ r f. (good 4 s r f, (let z = f .marked in omega arith)))
     (map (generationRecord s) (keep held (g .messages))) (block-fine s g (omega arith) (h .0)))
-    (each-more (λ r. Good 4 r × (suc s ≤ mark r)) (λ r. Good 4 r × (s ≤ mark r)) (λ r f. (f .0, omega arith)) (generationRecords (suc s) gs) (generations-good (suc s) gs (omega arith) (h .1)))
+    (each-more (λ r. Good 4 r × (suc s ≤ sortKey r)) (λ r. Good 4 r × (s ≤ sortKey r)) (λ r f. (f .0, omega arith)) (generationRecords (suc s) gs) (generations-good (suc s) gs (omega arith) (h .1)))
 
 -- a series' record, and one of a later series
-later-follows : (s : ℕ) (q r : List ℕ) → Fine 4 s q → Good 4 r → suc s ≤ mark r → mayFollow q r ≡ true
+later-follows : (s : ℕ) (q r : List ℕ) → Fine 4 s q → Good 4 r → suc s ≤ sortKey r → mayFollow q r ≡ true
 unfolding mayFollow
-later-follows s q r f g lt = rw (f .of, g .of, f .marked, lt-ltb s (mark r) lt)
+later-follows s q r f g lt = rw (f .of, g .of, f .marked, lt-ltb s (sortKey r) lt)
 
 pub generations-order : (s : ℕ) (gs : List Generations) → s + length gs ≤ 8 → Each Counted gs → inOrder (generationRecords s gs) ≡ true
 unfolding generationRecords
@@ -127,7 +127,7 @@ generations-order s [] le h = unfold inOrder in refl
 generations-order s (g ∷ gs) le h =
     order-append (map (generationRecord s) (keep held (g .messages))) (generationRecords (suc s) gs)
     (each-more (Fine 4 s) (λ q. Each (λ r. mayFollow q r ≡ true) (generationRecords (suc s) gs))
-    (λ q f. each-more (λ r. Good 4 r × (suc s ≤ mark r)) (λ r. mayFollow q r ≡ true) (λ r d. later-follows s q r f (d .0) (d .1))
+    (λ q f. each-more (λ r. Good 4 r × (suc s ≤ sortKey r)) (λ r. mayFollow q r ≡ true) (λ r d. later-follows s q r f (d .0) (d .1))
     (generationRecords (suc s) gs) (generations-good (suc s) gs (omega arith) (h .1)))
     (map (generationRecord s) (keep held (g .messages))) (block-fine s g (omega arith) (h .0)))
     (numbers-order s (omega arith) 0 (keep held (g .messages)) (some-kept (g .messages) (h .0 .fits)) (unfallen-kept 0 (g .messages) (h .0 .rises)))

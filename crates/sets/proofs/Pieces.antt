@@ -8,7 +8,7 @@ use lib.Dec.{eqb, leb, ltb}
 use borrow.Author.Tests.{eq-eqb, eqb-false, eqb-true, le-ltb, ltb-true, ne-eqb}
 use Rattle.rules.specs.Base.{keep}
 use Rattle.rules.proofs.Tests.{and-in, and-l, and-r}
-use Rattle.sets.specs.Set.{generationTold, inOrder, mark, mayFollow, part}
+use Rattle.sets.specs.Set.{generationTold, inOrder, sortKey, mayFollow, part}
 use Rattle.sets.proofs.Lists.{Each, Of, Rising, every}
 use Rattle.sets.proofs.Parts.{whether}
 
@@ -73,16 +73,16 @@ follow-part q r h =
     or-out (ltb (part q) (part r)) _ h (λ e. (let z = ltb-true (part q) (part r) e in omega arith))
     (λ e. (let z = eqb-true (part q) (part r) (and-l (eqb (part q) (part r)) _ e) in omega arith))
 
-pub follow-mark : (k : ℕ) (q r : List ℕ) → part q ≡ k → part r ≡ k → mayFollow q r ≡ true → (mark q ≤ mark r) × (eqb k 4 ≡ false → mark q < mark r)
+pub follow-sort-key : (k : ℕ) (q r : List ℕ) → part q ≡ k → part r ≡ k → mayFollow q r ≡ true → (sortKey q ≤ sortKey r) × (eqb k 4 ≡ false → sortKey q < sortKey r)
 unfolding mayFollow
-follow-mark k q r a b h =
+follow-sort-key k q r a b h =
     let z = rw (a, b, le-ltb k k (omega arith), eq-eqb k k refl) at h in
-    or-out (ltb (mark q) (mark r)) (eqb k 4 && eqb (mark q) (mark r) && leb (generationTold q) (generationTold r)) z
-    (λ e. (let x = ltb-true (mark q) (mark r) e in (omega arith, λ _. x)))
+    or-out (ltb (sortKey q) (sortKey r)) (eqb k 4 && eqb (sortKey q) (sortKey r) && leb (generationTold q) (generationTold r)) z
+    (λ e. (let x = ltb-true (sortKey q) (sortKey r) e in (omega arith, λ _. x)))
     (λ e.
-    let y = and-l (eqb k 4 && eqb (mark q) (mark r)) (leb (generationTold q) (generationTold r)) e in
-    let x = eqb-true (mark q) (mark r) (and-r (eqb k 4) (eqb (mark q) (mark r)) y) in
-    (omega arith, λ n. absurd (true≢false (sym (and-l (eqb k 4) (eqb (mark q) (mark r)) y) ∙ n))))
+    let y = and-l (eqb k 4 && eqb (sortKey q) (sortKey r)) (leb (generationTold q) (generationTold r)) e in
+    let x = eqb-true (sortKey q) (sortKey r) (and-r (eqb k 4) (eqb (sortKey q) (sortKey r)) y) in
+    (omega arith, λ n. absurd (true≢false (sym (and-l (eqb k 4) (eqb (sortKey q) (sortKey r)) y) ∙ n))))
 
 -- a row in order does not fall in a number that each record's follower has no less of
 order-climbs : (P : List ℕ → Type 0) (key : List ℕ → ℕ) → ((q r : List ℕ) → P q → P r → mayFollow q r ≡ true → key q ≤ key r) →
@@ -98,20 +98,20 @@ order-climbs P key f low (q ∷ l) p b h = (b .0, after q l (p .0) (p .1) h)
 pub parts-climb : (low : ℕ) (l : List (List ℕ)) → Each (λ r. low ≤ part r) l → inOrder l ≡ true → Climbs part low l
 parts-climb low l b h = order-climbs (λ _. Unit {0}) part (λ q r _ _ e. follow-part q r e) low l (every (λ _. Unit {0}) (λ _. tt) l) b h
 
-pub marks-climb : (k : ℕ) (l : List (List ℕ)) → Of k l → inOrder l ≡ true → Climbs mark 0 l
-marks-climb k l o h = order-climbs (λ r. part r ≡ k) mark (λ q r a b e. follow-mark k q r a b e .0) 0 l o (every (λ r. 0 ≤ mark r) (λ r. omega arith) l) h
+pub sort-keys-climb : (k : ℕ) (l : List (List ℕ)) → Of k l → inOrder l ≡ true → Climbs sortKey 0 l
+sort-keys-climb k l o h = order-climbs (λ r. part r ≡ k) sortKey (λ q r a b e. follow-sort-key k q r a b e .0) 0 l o (every (λ r. 0 ≤ sortKey r) (λ r. omega arith) l) h
 
 -- the marks of other parts rise
-pub marks-rise : (k low : ℕ) → eqb k 4 ≡ false → (l : List (List ℕ)) → Of k l → Each (λ r. low ≤ mark r) l → inOrder l ≡ true → Rising mark low l
+pub sort-keys-rise : (k low : ℕ) → eqb k 4 ≡ false → (l : List (List ℕ)) → Of k l → Each (λ r. low ≤ sortKey r) l → inOrder l ≡ true → Rising sortKey low l
 unfolding inOrder
-marks-rise k low n [] o b h = tt
-marks-rise k low n (q ∷ l) o b h = (b .0, after q l (o .0) (o .1) h)
+sort-keys-rise k low n [] o b h = tt
+sort-keys-rise k low n (q ∷ l) o b h = (b .0, after q l (o .0) (o .1) h)
   where
-    after : (q : List ℕ) (l : List (List ℕ)) → part q ≡ k → Of k l → inOrder (q ∷ l) ≡ true → Rising mark (suc (mark q)) l
+    after : (q : List ℕ) (l : List (List ℕ)) → part q ≡ k → Of k l → inOrder (q ∷ l) ≡ true → Rising sortKey (suc (sortKey q)) l
     after q [] x o h = tt
-    after q (r ∷ l) x o h = (follow-mark k q r x (o .0) (and-l (mayFollow q r) (inOrder (r ∷ l)) h) .1 n, after r l (o .0) (o .1) (and-r (mayFollow q r) (inOrder (r ∷ l)) h))
+    after q (r ∷ l) x o h = (follow-sort-key k q r x (o .0) (and-l (mayFollow q r) (inOrder (r ∷ l)) h) .1 n, after r l (o .0) (o .1) (and-r (mayFollow q r) (inOrder (r ∷ l)) h))
 
 -- one record at most where the mark is always the same
-pub one-at-most : (k : ℕ) → eqb k 4 ≡ false → (q r : List ℕ) (l : List (List ℕ)) → part q ≡ k → part r ≡ k → mark q ≡ mark r → inOrder (q ∷ r ∷ l) ≡ true → ⊥
+pub one-at-most : (k : ℕ) → eqb k 4 ≡ false → (q r : List ℕ) (l : List (List ℕ)) → part q ≡ k → part r ≡ k → sortKey q ≡ sortKey r → inOrder (q ∷ r ∷ l) ≡ true → ⊥
 unfolding inOrder
-one-at-most k n q r l a b e h = let z = follow-mark k q r a b (and-l (mayFollow q r) (inOrder (r ∷ l)) h) .1 n in omega arith
+one-at-most k n q r l a b e h = let z = follow-sort-key k q r a b (and-l (mayFollow q r) (inOrder (r ∷ l)) h) .1 n in omega arith

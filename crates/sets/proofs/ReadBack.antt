@@ -22,7 +22,7 @@ use Rattle.rules.specs.Records.{FourBytes}
 use Rattle.rules.specs.Places.{holdsComplex, holdsEdition, holdsRegular}
 use Rattle.rules.specs.Sound.{follows, listedInRange, sound}
 use Rattle.rules.proofs.Tests.{and-l, free-none}
-use Rattle.demands.specs.Kept.{Shaped}
+use Rattle.demands.specs.Soundness.{Shaped}
 use Rattle.sets.specs.Set.{carries, complexRecord, complexTold, editionRecord, editionTold, firstRecord, generationsTold, heldIn, joined, lastTold}
 use Rattle.sets.specs.Set.{leggingRecords, leggingTold, listedTold, notWritten, numberTold, ofSeries, places, reachedRecords, reachedTold}
 use Rattle.sets.specs.Set.{readRow, row, readSet, regularRecord, regularTold, seriesRecords, setOf}
@@ -32,7 +32,7 @@ use Rattle.sets.proofs.Lists.{Each, each-more, keep-every, map-back}
 use Rattle.sets.proofs.Rows.{row-held}
 use Rattle.sets.proofs.Records.{Tells, first-tells, listed-tells, reached-kind, reached-tells}
 use Rattle.sets.proofs.Parts.{sort-of}
-use Rattle.sets.proofs.Keeping.{Only, complexes-only, editions-only, flat, leggings-only, parts-kept, reached-only, regulars-only, series-only}
+use Rattle.sets.proofs.PartsKept.{Only, complexes-only, editions-only, flat, leggings-only, parts-kept, reached-only, regulars-only, series-only}
 use Rattle.sets.proofs.Fine.{Good}
 use Rattle.sets.proofs.Merging.{merge-complex, merge-regular}
 use Rattle.sets.proofs.Slots.{leggings-told}
@@ -190,14 +190,14 @@ module _ (number : ℕ) (few : FourBytes number) (v : Venue) (w : Shaped v) (c :
   row-back h = rw (is-set v w c number, all-placed v w c number, venue-back, number-back, h)
 
 -- what writing takes, and what it leaves
-pub record Taken (number room : ℕ) (v : Venue) : Type 0 where
+pub record WrittenSet (number room : ℕ) (v : Venue) : Type 0 where
   pub carries : carries number v ≡ true
   pub fits : length (joined (setOf number v)) ≤ room
   pub memory : writeSet number v room .memory ≡ joined (setOf number v) ++ replicate (room - length (joined (setOf number v))) 0
 
-pub taken : (number room : ℕ) (v : Venue) → writeSet number v room .number ≡ 0 → Taken number room v
+pub written-set : (number room : ℕ) (v : Venue) → writeSet number v room .number ≡ 0 → WrittenSet number room v
 unfolding writeSet notWritten
-taken number room v h = go (carries number v) (ltb room (length (joined (setOf number v)))) refl refl h
+written-set number room v h = go (carries number v) (ltb room (length (joined (setOf number v)))) refl refl h
   where
     go : (a b : Bool) → carries number v ≡ a → ltb room (length (joined (setOf number v))) ≡ b →
         (if not a then notWritten 9 room else if b then notWritten 15 room
@@ -206,7 +206,7 @@ taken number room v h = go (carries number v) (ltb room (length (joined (setOf n
           written = length (joined (setOf number v));
           memory = joined (setOf number v) ++ replicate
               (room - length (joined (setOf number v))) 0;
-        }) .number ≡ 0 → Taken number room v
+        }) .number ≡ 0 → WrittenSet number room v
     go true true e f k = absurd (omega arith)
     go true false e f k = record { carries = e; fits = ltb-false room (length (joined (setOf number v))) f; memory = rw (e, f) }
     go false b e f k = absurd (omega arith)
@@ -219,7 +219,7 @@ read-row memory rs h = rw (h, readSet)
 pub reads-back : ReadsBack
 unfolding carries
 reads-back number room v few w h =
-    let t = taken number room v h in
+    let t = written-set number room v h in
     let c = carried v w (and-l (sound v) (follows (suc number) v) (t .carries)) in
     let m = room - length (joined (setOf number v)) in
     rw (t .memory, read-row (joined (setOf number v) ++ replicate m 0) (setOf number v) (row-held (setOf number v) m (rw (set-parts number v) (all-well v w c number))), set-parts number v)

@@ -16,7 +16,7 @@ use Rattle.rules.specs.Records.{FourBytes}
 use Rattle.rules.specs.Generation.{generationsOf}
 use Rattle.rules.specs.Sound.{follows, sound}
 use Rattle.rules.proofs.Tests.{and-l, and-r}
-use Rattle.demands.specs.Kept.{Shaped, SoundAt}
+use Rattle.demands.specs.Soundness.{Shaped, SoundAt}
 use Rattle.demands.proofs.Calls.{fresh-sound}
 use Rattle.sets.specs.Set.{Held, ReadSet, broken, carries, complexTold, countOf, editionTold, fewEnough, generationsTold, hasPlace, heldIn, inOrder, isSet, joined, leggingTold, listedTold}
 use Rattle.sets.specs.Set.{notRead, numberTold, ofSeries, ofShort, ofWhole, part, places, readRow, readSet, regularTold, row, seriesThen}
@@ -24,7 +24,7 @@ use Rattle.sets.specs.Set.{tellsComplex, tellsEdition, tellsGeneration, 
 use Rattle.sets.specs.Promises.{AllBytes, ReadsSound}
 use Rattle.sets.proofs.Lists.{Each}
 use Rattle.sets.proofs.Rows.{held-out}
-use Rattle.sets.proofs.Keeping.{Only, complexes-only, editions-only, regulars-only, series-only}
+use Rattle.sets.proofs.PartsKept.{Only, complexes-only, editions-only, regulars-only, series-only}
 use Rattle.sets.proofs.Spelled.{Clean}
 use Rattle.sets.proofs.WriteBack.{bytes-take, cleans}
 

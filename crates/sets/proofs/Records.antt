@@ -172,7 +172,7 @@ figure-fits e h = go (leb (e .figure) 7) refl h
 pub record EditionTells (e : Edition) : Type 0 where
   pub kind : kindField (editionRecord e) ≡ (if eqb (e .figure) percentage then 8 else 7)
   pub tells : editionTold (editionRecord e) ≡ e
-  pub mark : u32At (editionRecord e) (if eqb (e .figure) percentage then 5 else 6) ≡ e .edition
+  pub sort-key : u32At (editionRecord e) (if eqb (e .figure) percentage then 5 else 6) ≡ e .edition
   pub series : (if eqb (e .figure) percentage then true else isSeries (u8At (editionRecord e) 4)) ≡ true
 
 pub edition-tells : (e : Edition) → editionInRange e ≡ true → EditionTells e
@@ -185,14 +185,14 @@ edition-tells e z =
     go : e .figure ≤ 8 → OneByte (e .value) → FourBytes (e .edition) → FourBytes (e .message) → (t : Bool) → eqb (e .figure) percentage ≡ t → EditionTells e
     go a b c d true q =
         let k = eqb-true (e .figure) percentage q in
-        record { kind = rw q; tells = rw (q, editionTold, byte (e .value) b, word (e .edition) c, word (e .message) d, ← k); mark = rw (q, word (e .edition) c); series = rw q }
+        record { kind = rw q; tells = rw (q, editionTold, byte (e .value) b, word (e .edition) c, word (e .message) d, ← k); sort-key = rw (q, word (e .edition) c); series = rw q }
     go a b c d false q =
         let n = eqb-false (e .figure) percentage q in
         let l : e .figure < 8 = omega arith in
         record {
           kind = rw q;
           tells = rw (q, editionTold, byte (e .figure) (omega arith), byte (e .value) b, word (e .edition) c, word (e .message) d);
-          mark = rw (q, word (e .edition) c);
+          sort-key = rw (q, word (e .edition) c);
           series = rw (q, byte (e .figure) (omega arith)) (and-in (leb 0 (e .figure)) (leb (e .figure) 7) (le-leb 0 (e .figure) (omega arith)) (le-leb (e .figure) 7 (omega arith)));
         }
 

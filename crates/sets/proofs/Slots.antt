@@ -14,7 +14,7 @@ use Rattle.rules.specs.Places.{blankLegging}
 use Rattle.rules.specs.Sound.{leggingSound, leggingsSound}
 use Rattle.rules.proofs.Tests.{and-l, and-r}
 use Rattle.wire.proofs.Encoding.{id-fits, price-fits, quantity-fits}
-use Rattle.sets.specs.Set.{leggingRecord, leggingRecords, leggingTold, mark, tellsLegging}
+use Rattle.sets.specs.Set.{leggingRecord, leggingRecords, leggingTold, sortKey, tellsLegging}
 use Rattle.sets.proofs.Lists.{Each, Rising, rising-lower}
 use Rattle.sets.proofs.Fine.{Good, good, legging-fine}
 use Rattle.sets.proofs.Records.{LeggingTells, legging-tells}
@@ -52,10 +52,10 @@ abbrev pub slot : (s d : ℕ) → Legging → List (List ℕ)
 slot s d l = if held (l .quantity) then leggingRecord s d l ∷ [] else []
 
 -- no record from a later place on tells a place
-pub told-none : (n low : ℕ) (rs : List (List ℕ)) → n < low → Rising mark low rs → leggingTold rs n ≡ noLegging
+pub told-none : (n low : ℕ) (rs : List (List ℕ)) → n < low → Rising sortKey low rs → leggingTold rs n ≡ noLegging
 unfolding leggingTold
 told-none n low [] lt h = refl
-told-none n low (r ∷ rs) lt h = rw (ne-eqb (mark r) n (λ e. omega arith), and-no (tellsLegging r)) (told-none n (suc (mark r)) rs (omega arith) (h .1))
+told-none n low (r ∷ rs) lt h = rw (ne-eqb (sortKey r) n (λ e. omega arith), and-no (tellsLegging r)) (told-none n (suc (sortKey r)) rs (omega arith) (h .1))
   where
     and-no : (b : Bool) → (b && false) ≡ false
     and-no true = refl
@@ -70,33 +70,33 @@ module _ (s d : ℕ) (a : s ≤ 7) (b : d ≤ 1) (l : Legging) (p : Placed l) (r
       go false e = h
 
   -- its mark, and what it tells
-  slot-mark : held (l .quantity) ≡ true → mark (leggingRecord s d l) ≡ placeOf s d
-  slot-mark e = let f = p .full e in legging-fine s d l a b (f .0) (f .1) (f .2) e .marked
+  slot-sort-key : held (l .quantity) ≡ true → sortKey (leggingRecord s d l) ≡ placeOf s d
+  slot-sort-key e = let f = p .full e in legging-fine s d l a b (f .0) (f .1) (f .2) e .marked
 
   slot-tells : held (l .quantity) ≡ true → LeggingTells s d l
   slot-tells e = let f = p .full e in legging-tells s d l (omega arith) (omega arith) (id-fits (l .parent) (f .0)) (price-fits (l .price) (f .1)) (quantity-fits (l .quantity) (f .2))
 
-  slot-rises : Rising mark (suc (placeOf s d)) rest → Rising mark (placeOf s d) (slot s d l ++ rest)
+  slot-rises : Rising sortKey (suc (placeOf s d)) rest → Rising sortKey (placeOf s d) (slot s d l ++ rest)
   slot-rises h = go (held (l .quantity)) refl
     where
-      go : (t : Bool) → held (l .quantity) ≡ t → Rising mark (placeOf s d) ((if t then leggingRecord s d l ∷ [] else []) ++ rest)
-      go true e = rw (slot-mark e) ((omega arith, h))
-      go false e = rising-lower mark (placeOf s d) (suc (placeOf s d)) rest (omega arith) h
+      go : (t : Bool) → held (l .quantity) ≡ t → Rising sortKey (placeOf s d) ((if t then leggingRecord s d l ∷ [] else []) ++ rest)
+      go true e = rw (slot-sort-key e) ((omega arith, h))
+      go false e = rising-lower sortKey (placeOf s d) (suc (placeOf s d)) rest (omega arith) h
 
   slot-other : (n : ℕ) → (placeOf s d ≡ n → ⊥) → leggingTold (slot s d l ++ rest) n ≡ leggingTold rest n
   unfolding leggingTold tellsLegging
   slot-other n ne = go (held (l .quantity)) refl
     where
       go : (t : Bool) → held (l .quantity) ≡ t → leggingTold ((if t then leggingRecord s d l ∷ [] else []) ++ rest) n ≡ leggingTold rest n
-      go true e = rw (slot-mark e, slot-tells e .kind, ne-eqb (placeOf s d) n ne)
+      go true e = rw (slot-sort-key e, slot-tells e .kind, ne-eqb (placeOf s d) n ne)
       go false e = refl
 
-  slot-here : Rising mark (suc (placeOf s d)) rest → leggingTold (slot s d l ++ rest) (placeOf s d) ≡ l
+  slot-here : Rising sortKey (suc (placeOf s d)) rest → leggingTold (slot s d l ++ rest) (placeOf s d) ≡ l
   unfolding leggingTold tellsLegging
   slot-here h = go (held (l .quantity)) refl
     where
       go : (t : Bool) → held (l .quantity) ≡ t → leggingTold ((if t then leggingRecord s d l ∷ [] else []) ++ rest) (placeOf s d) ≡ l
-      go true e = let t = slot-tells e in rw (slot-mark e, t .kind, eq-eqb (placeOf s d) (placeOf s d) refl, t .parent, t .price, t .quantity)
+      go true e = let t = slot-tells e in rw (slot-sort-key e, t .kind, eq-eqb (placeOf s d) (placeOf s d) refl, t .parent, t .price, t .quantity)
       go false e = told-none (placeOf s d) (suc (placeOf s d)) rest (omega arith) h ∙ sym (p .free e)
 
 -- All places ----------------------------------------------------------------------------------
@@ -118,7 +118,7 @@ pub places-of : (s : ℕ) → (placeOf s 0 ≡ 2 * s) × (placeOf s 1 ≡ 2 * s 
 unfolding placeOf
 places-of s = (omega arith, refl)
 
-pub leggings-rise : (s : ℕ) (ls : List Legging) → 2 * s + length ls ≤ 16 → Each Placed ls → Rising mark (2 * s) (leggingRecords s ls)
+pub leggings-rise : (s : ℕ) (ls : List Legging) → 2 * s + length ls ≤ 16 → Each Placed ls → Rising sortKey (2 * s) (leggingRecords s ls)
 unfolding leggingRecords
 leggings-rise s [] le h = tt
 leggings-rise s (l ∷ []) le h = tt
@@ -138,10 +138,10 @@ leggings-told s i (l ∷ k ∷ ls) le h m e = rw (two-slots s l k ls) (go i (λ 
     rest : List (List ℕ)
     rest = leggingRecords (suc s) ls
 
-    rises : Rising mark (suc (placeOf s 1)) rest
+    rises : Rising sortKey (suc (placeOf s 1)) rest
     rises = let p = places-of s in let y : suc (placeOf s 1) ≡ 2 * suc s = omega arith in rw y (leggings-rise (suc s) ls (omega arith) (h .1 .1))
 
-    second : Rising mark (suc (placeOf s 0)) (slot s 1 k ++ rest)
+    second : Rising sortKey (suc (placeOf s 0)) (slot s 1 k ++ rest)
     second = let p = places-of s in let z : suc (placeOf s 0) ≡ placeOf s 1 = omega arith in rw z (slot-rises s 1 (omega arith) (omega arith) k (h .1 .0) rest rises)
 
     go : (i : ℕ) → ((j : ℕ) → leggingTold rest (2 * suc s + j) ≡ getD ls j noLegging) → leggingTold (slot s 0 l ++ (slot s 1 k ++ rest)) (2 * s + i) ≡ getD (l ∷ k ∷ ls) i noLegging

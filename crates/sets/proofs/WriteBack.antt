@@ -17,20 +17,20 @@ use Rattle.rules.specs.Places.{holdsComplex, holdsEdition, holdsRegular}
 use Rattle.rules.proofs.Tests.{and-l, and-r, not-out}
 use Rattle.sets.specs.Set.{byId, carries, editionRecord, editionTold, fewEnough, firstRecord, generationRecords, generationsTold, hasPlace}
 use Rattle.sets.specs.Set.{heldIn, inOrder, isSet, joined, lastTold, leggingRecords, leggingTold, listedTold}
-use Rattle.sets.specs.Set.{mark, notRead, numberTold, ofSeries, ofWhole, part, reachedRecords, readRow, readSet, row, seriesRecords, seriesThen}
+use Rattle.sets.specs.Set.{sortKey, notRead, numberTold, ofSeries, ofWhole, part, reachedRecords, readRow, readSet, row, seriesRecords, seriesThen}
 use Rattle.sets.specs.Set.{setOf, tellsComplex, tellsEdition, tellsGeneration, tellsLegging, tellsRegular, venueTold, writeSet}
 use Rattle.sets.specs.Promises.{AllBytes, BytesBack, WritesBack}
 use Rattle.sets.proofs.Lists.{Each, Of, Rising, each-map, each-more, every, keep-every, map-back}
 use Rattle.sets.proofs.Rows.{AllWell, held-out, rows-are}
 use Rattle.sets.proofs.Records.{Tells}
 use Rattle.sets.proofs.Parts.{sort-of}
-use Rattle.sets.proofs.Keeping.{Only, Parts, complexes-only, editions-only, flat, leggings-only, parts-kept, reached-only, regulars-only, series-only}
+use Rattle.sets.proofs.PartsKept.{Only, Parts, complexes-only, editions-only, flat, leggings-only, parts-kept, reached-only, regulars-only, series-only}
 use Rattle.sets.proofs.Fine.{away-fine, status-fine}
 use Rattle.sets.proofs.Written.{set-parts}
 use Rattle.sets.proofs.ReadBack.{legging-kept, listed-back, reached-kept, read-row, upward-is}
 use Rattle.sets.proofs.Spelled.{Clean, away-spelled, first-spelled, status-spelled}
-use Rattle.sets.proofs.Pieces.{marks-climb, marks-rise, order-split, parts-climb, pieces, pieces-are}
-use Rattle.sets.proofs.Taken.{GenerationOf, LeggingOf, OrderOf, edition-of, generation-of, legging-of, order-of, reached-of}
+use Rattle.sets.proofs.Pieces.{sort-keys-climb, sort-keys-rise, order-split, parts-climb, pieces, pieces-are}
+use Rattle.sets.proofs.PartsRead.{GenerationOf, LeggingOf, OrderOf, edition-of, generation-of, legging-of, order-of, reached-of}
 use Rattle.sets.proofs.Again.{ReachedOf, books-again, complexes-so, complexesOf, generations-again, leggings-again, places-kept, reached-again, regulars-so, regularsOf, upward-same}
 
 -- Bytes ---------------------------------------------------------------------------------------
@@ -128,11 +128,11 @@ record Read (rs : List (List ℕ)) : Type 0 where
   tells : (i : ℕ) → i < length xs → Tells i (getD xs i notListed)
   editions : Each (λ r. (editionRecord (editionTold r) ≡ r) × (held (editionTold r .edition) ≡ true)) e
   orders : Each OrderOf o
-  orders-rise : Rising mark 0 o
+  orders-rise : Rising sortKey 0 o
   leggings : Each LeggingOf l
-  leggings-rise : Rising mark 0 l
+  leggings-rise : Rising sortKey 0 l
   generations : Each GenerationOf g
-  by-series : pieces mark 0 8 g ≡ g
+  by-series : pieces sortKey 0 8 g ≡ g
   reached : Each ReachedOf z
   reached-order : inOrder z ≡ true
 
@@ -293,10 +293,10 @@ module _ (tail : List (List ℕ)) (h : Each Rest tail) (o : inOrder tail ≡ tru
   generations-of : Each GenerationOf (ofPart 4 tail)
   generations-of = each-of 4 GenerationOf (λ r c p w k. generation-of r c p k)
 
-  by-series-of : pieces mark 0 8 (ofPart 4 tail) ≡ ofPart 4 tail
+  by-series-of : pieces sortKey 0 8 (ofPart 4 tail) ≡ ofPart 4 tail
   by-series-of =
-      pieces-are mark 0 8 0 (ofPart 4 tail) (omega arith) (marks-climb 4 (ofPart 4 tail) (of-part 4) (orders-of .2))
-      (each-more GenerationOf (λ r. mark r < 0 + 8) (λ r g. (let a = g .marked in let b = g .series in omega arith)) (ofPart 4 tail) generations-of)
+      pieces-are sortKey 0 8 0 (ofPart 4 tail) (omega arith) (sort-keys-climb 4 (ofPart 4 tail) (of-part 4) (orders-of .2))
+      (each-more GenerationOf (λ r. sortKey r < 0 + 8) (λ r g. (let a = g .marked in let b = g .series in omega arith)) (ofPart 4 tail) generations-of)
 
   read-tail : (first : List ℕ) (rs : List (List ℕ)) (xs : List Listed) → rs ≡ seriesRecords 0 xs ++ tail → Clean first → kindField first ≡ 80 → length xs ≡ 8 →
       ((i : ℕ) → i < length xs → Tells i (getD xs i notListed)) → Of 0 (seriesRecords 0 xs) → Read (first ∷ rs)
@@ -315,9 +315,9 @@ module _ (tail : List (List ℕ)) (h : Each Rest tail) (o : inOrder tail ≡ tru
     tells = t;
     editions = each-of 1 (λ r. (editionRecord (editionTold r) ≡ r) × (held (editionTold r .edition) ≡ true)) (λ r c p w k. edition-of r c p k);
     orders = each-of 2 OrderOf (λ r c p w k. order-of r c p k w);
-    orders-rise = marks-rise 2 0 refl (ofPart 2 tail) (of-part 2) (every (λ r. 0 ≤ mark r) (λ r. omega arith) (ofPart 2 tail)) (orders-of .0);
+    orders-rise = sort-keys-rise 2 0 refl (ofPart 2 tail) (of-part 2) (every (λ r. 0 ≤ sortKey r) (λ r. omega arith) (ofPart 2 tail)) (orders-of .0);
     leggings = each-of 3 LeggingOf (λ r c p w k. legging-of r c p k);
-    leggings-rise = marks-rise 3 0 refl (ofPart 3 tail) (of-part 3) (every (λ r. 0 ≤ mark r) (λ r. omega arith) (ofPart 3 tail)) (orders-of .1);
+    leggings-rise = sort-keys-rise 3 0 refl (ofPart 3 tail) (of-part 3) (every (λ r. 0 ≤ sortKey r) (λ r. omega arith) (ofPart 3 tail)) (orders-of .1);
     generations = generations-of;
     by-series = by-series-of;
     reached = each-of 5 ReachedOf (λ r c p w k. (let z = reached-of r c p k in (k, z .0, z .1, z .2)));

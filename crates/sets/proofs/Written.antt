@@ -20,14 +20,14 @@ use Rattle.rules.specs.Generation.{generationsOf}
 use Rattle.rules.specs.Places.{holdsComplex, holdsEdition, holdsRegular}
 use Rattle.rules.specs.Sound.{listedInRange}
 use Rattle.rules.proofs.Tests.{and-in}
-use Rattle.demands.specs.Kept.{Shaped}
+use Rattle.demands.specs.Soundness.{Shaped}
 use Rattle.sets.specs.Set.{byId, complexRecord, countOf, editionRecord, fewEnough, firstRecord, generationRecord, generationRecords, hasPlace}
-use Rattle.sets.specs.Set.{inOrder, isSet, leggingRecord, leggingRecords, mark}
+use Rattle.sets.specs.Set.{inOrder, isSet, leggingRecord, leggingRecords, sortKey}
 use Rattle.sets.specs.Set.{ofSeries, ofWhole, part, reachedRecords, regularRecord, seriesRecords, seriesThen, setOf, tellsComplex, tellsEdition, tellsGeneration, tellsLegging, tellsRegular}
 use Rattle.sets.proofs.Lists.{Each, all-each, each-append, each-map, each-more, every, keep-few, rising-map, rising-order}
 use Rattle.sets.proofs.Rows.{AllWell, Well}
 use Rattle.sets.proofs.Records.{first-kind, listed-tells}
-use Rattle.sets.proofs.Keeping.{Parts, complexes-only, editions-only, flat, leggings-only, parts-kept, parts-order, regulars-only, series-only}
+use Rattle.sets.proofs.PartsKept.{Parts, complexes-only, editions-only, flat, leggings-only, parts-kept, parts-order, regulars-only, series-only}
 use Rattle.sets.proofs.Fine.{Fine, Good, away-fine, first-fine, good, reached-fine, status-fine}
 use Rattle.sets.proofs.Merging.{merge-complex, merge-each, merge-regular, merge-rises}
 use Rattle.sets.proofs.Slots.{leggings-good, leggings-rise}
@@ -147,7 +147,7 @@ module _ (v : Venue) (w : Shaped v) (c : Carried v) where
           (
             leggings-good 0 (v .legging) (omega arith) (c .legging),
             (
-              each-more (λ r. Good 4 r × (0 ≤ mark r)) (Good 4) (λ r f. f .0) (generationRecords 0 (v .generations))
+              each-more (λ r. Good 4 r × (0 ≤ sortKey r)) (Good 4) (λ r f. f .0) (generationRecords 0 (v .generations))
                   (generations-good 0 (v .generations) (omega arith) (c .generations)),
               (reached-good, tt),
             ),
@@ -167,15 +167,15 @@ module _ (v : Venue) (w : Shaped v) (c : Carried v) where
   orders-order =
       rising-order 2 1 (byId (length os + length cs) os cs) (each-more (Good 2) (λ r. part r ≡ 2) (λ r f. f .of) (byId (length os + length cs) os cs) orders-good)
       (merge-rises (length os + length cs) 1 os cs
-      (each-more (λ o. Fine 2 (o .id) (regularRecord o)) (λ o. mark (regularRecord o) ≡ o .id) (λ o f. f .marked) os (c .regular .fine))
-      (each-more (λ o. Fine 2 (o .id) (complexRecord o)) (λ o. mark (complexRecord o) ≡ o .id) (λ o f. f .marked) cs (c .complex .fine))
+      (each-more (λ o. Fine 2 (o .id) (regularRecord o)) (λ o. sortKey (regularRecord o) ≡ o .id) (λ o f. f .marked) os (c .regular .fine))
+      (each-more (λ o. Fine 2 (o .id) (complexRecord o)) (λ o. sortKey (complexRecord o) ≡ o .id) (λ o f. f .marked) cs (c .complex .fine))
       (c .distinct) (c .regular .rises) (c .complex .rises))
 
   editions-order : inOrder (map editionRecord es) ≡ true
   editions-order =
       rising-order 1 1 (map editionRecord es) (each-more (Good 1) (λ r. part r ≡ 1) (λ r f. f .of) (map editionRecord es) editions-good)
-      (rising-map (λ e. e .edition) mark editionRecord 1 es
-      (each-more (λ e. Fine 1 (e .edition) (editionRecord e)) (λ e. mark (editionRecord e) ≡ e .edition) (λ e f. f .marked) es
+      (rising-map (λ e. e .edition) sortKey editionRecord 1 es
+      (each-more (λ e. Fine 1 (e .edition) (editionRecord e)) (λ e. sortKey (editionRecord e) ≡ e .edition) (λ e f. f .marked) es
       (c .editions .fine)) (c .editions .rises))
 
   leggings-order : inOrder (leggingRecords 0 (v .legging)) ≡ true

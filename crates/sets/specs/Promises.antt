@@ -7,8 +7,8 @@ use Rattle.rules.specs.declared.Venue.{Venue}
 use Rattle.rules.specs.Bytes.{kindField}
 use Rattle.rules.specs.Records.{FourBytes}
 use Rattle.rules.specs.Calls.{one, run}
-use Rattle.demands.specs.Kept.{Shaped, SoundAt}
-use Rattle.demands.specs.Agree.{Agrees, NoneFull, Progress, begun, byCalls, onward, wrote}
+use Rattle.demands.specs.Soundness.{Shaped, SoundAt}
+use Rattle.demands.specs.Agree.{Agrees, NoneFull, Progress, freshProgress, byCalls, onward, wrote}
 use Rattle.sets.specs.Set.{row, heldIn, joined, readSet, setOf, writeSet}
 
 -- Both ways -----------------------------------------------------------------------------------
@@ -49,12 +49,12 @@ pub record ReadsSound : Type 0 where
 -- The most bytes of a set ---------------------------------------------------------------------
 
 -- the first record, eight series, 32 editions, 128 regular and 32 complex orders, 16 legging orders, 20 generations of each series, the id reached
-abbrev pub most : ℕ
-most = 12 + (6 + 13) * 8 + 14 * 32 + 22 * 128 + 23 * 32 + 18 * 16 + 9 * 160 + 8
+abbrev pub mostSetBytes : ℕ
+mostSetBytes = 12 + (6 + 13) * 8 + 14 * 32 + 22 * 128 + 23 * 32 + 18 * 16 + 9 * 160 + 8
 
 -- for a host to lend: memory of so many bytes holds the set of every venue of the declared type
 abbrev pub AtMost : Type 0
-AtMost = (number : ℕ) (v : Venue) → Shaped v → length (joined (setOf number v)) ≤ most
+AtMost = (number : ℕ) (v : Venue) → Shaped v → length (joined (setOf number v)) ≤ mostSetBytes
 
 -- The cut -------------------------------------------------------------------------------------
 
@@ -91,8 +91,8 @@ SetsFit (cut room ∷ gs) p = (length (joined (setOf (p .done) (p .venue))) ≤ 
 -- memory that holds them": with any number of cuts, wherever they are, as many calls as the run did messages write its bytes and leave its venue, given that
 -- each set fits its memory and no call is ended by 10
 abbrev pub Cut : Type 0
-Cut = (room : ℕ) (messages : List ℕ) (gs : List Going) → SetsFit gs (begun messages) → NoneFull (rooms gs) (begun messages) →
-    length (rooms gs) ≡ run room messages .returned .done → Agrees room (run room messages) (goingOn gs (begun messages))
+Cut = (room : ℕ) (messages : List ℕ) (gs : List Going) → SetsFit gs (freshProgress messages) → NoneFull (rooms gs) (freshProgress messages) →
+    length (rooms gs) ≡ run room messages .returned .done → Agrees room (run room messages) (goingOn gs (freshProgress messages))
 
 -- and so after a run of the first part of the list, which ended with number 0 as it did all of it, with the rest left
 unfoldable pub runThen : (room : ℕ) (first rest : List ℕ) → Progress

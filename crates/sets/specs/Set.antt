@@ -168,8 +168,8 @@ part r =
     else 0
 
 -- by what the records of a part rise: edition, id, place; of generations the series
-unfoldable pub mark : List ℕ → ℕ
-mark r =
+unfoldable pub sortKey : List ℕ → ℕ
+sortKey r =
     if eqb (kindField r) 7 then u32At r 6
     else if eqb (kindField r) 8 then u32At r 5
     else if eqb (part r) 2 then u32At r 4
@@ -185,7 +185,7 @@ generationTold r = u32At r 5
 unfoldable pub mayFollow : (before after : List ℕ) → Bool
 mayFollow q r =
     ltb (part q) (part r)
-    || (eqb (part q) (part r) && (ltb (mark q) (mark r) || (eqb (part q) 4 && eqb (mark q) (mark r) && leb (generationTold q) (generationTold r))))
+    || (eqb (part q) (part r) && (ltb (sortKey q) (sortKey r) || (eqb (part q) 4 && eqb (sortKey q) (sortKey r) && leb (generationTold q) (generationTold r))))
 
 unfoldable pub inOrder : List (List ℕ) → Bool
 inOrder [] = true
@@ -261,7 +261,7 @@ listedTold rs s =
 unfoldable pub leggingTold : List (List ℕ) → (place : ℕ) → Legging
 leggingTold [] n = noLegging
 leggingTold (r ∷ rs) n =
-    if tellsLegging r && eqb (mark r) n
+    if tellsLegging r && eqb (sortKey r) n
     then record { parent = u32At r 4; price = u32At r 10; quantity = u32At r 14 }
     else leggingTold rs n
 

@@ -14,10 +14,10 @@ use Rattle.rules.specs.declared.Venue.{Venue}
 use Rattle.rules.specs.declared.Verdict.{Verdict}
 use Rattle.rules.specs.declared.Verdict.the-variants.{Stands}
 use Rattle.rules.specs.Base.{if_then_else_}
-use Rattle.rules.specs.Words.{opposite, signed}
+use Rattle.rules.specs.Words.{opposite, signTimes}
 use Rattle.rules.specs.Settings.{increment}
-use Rattle.rules.specs.Prices.{better, bestRegular, displayed, clearPrice, weighed}
-use Rattle.rules.specs.Standing.{otherLeg, otherClear, otherSize, parentOf, shownWell, pairs, verdictOf, verdict}
+use Rattle.rules.specs.Prices.{better, bestRegular, displayedPrice, clearPrice, weighed}
+use Rattle.rules.specs.Standing.{otherLeg, otherClear, otherSize, parentOf, displayedNoWorse, pairs, verdictOf, verdict}
 use Rattle.places.specs.declared.Level.{Level}
 use Rattle.places.specs.Layout.{levelOf}
 use Rattle.levels.specs.declared.TakenLevels.{TakenLevels}
@@ -37,9 +37,9 @@ on r false e h = absurd (true≢false (rw e at h))
 
 -- Prices --------------------------------------------------------------------------------------
 
-pub shown-is : (v : Venue) (s d p best : ℕ) (t : Bool) → best ≡ bestRegular v s d → t ≡ not (better d best (displayed (increment v s) d p)) → t ≡ shownWell v s d p
-unfolding shownWell
-shown-is v s d p best t eb e = e ∙ ap (λ (x : ℕ). not (better d x (displayed (increment v s) d p))) eb
+pub displayed-is : (v : Venue) (s d p best : ℕ) (t : Bool) → best ≡ bestRegular v s d → t ≡ not (better d best (displayedPrice (increment v s) d p)) → t ≡ displayedNoWorse v s d p
+unfolding displayedNoWorse
+displayed-is v s d p best t eb e = e ∙ ap (λ (x : ℕ). not (better d x (displayedPrice (increment v s) d p))) eb
 
 module _ (c : Complex) (s : ℕ) (o : Leg) (eo : o ≡ otherLeg c s) where
   pub other-in : LegsIn c → o .series < 8
@@ -90,7 +90,7 @@ module _ (v : Venue) (c : Complex) (s d p k x : ℕ) (ex : x ≡ otherClear v c 
   pair-none h = rw (← ex, h)
 
   module _ (h : x ≡ 0 → ⊥) (o : Leg) (eo : o ≡ otherLeg c s) (n m : ℤ) (en : n ≡ weighed 1 d p +ℤ weighed 1 (o .side) x) (em : m ≡ c .limit) where
-    net-is : n ≡ signed d (pos p) +ℤ signed (otherLeg c s .side) (pos x)
+    net-is : n ≡ signTimes d (pos p) +ℤ signTimes (otherLeg c s .side) (pos x)
     unfolding weighed
     net-is = en ∙ rw (one-mul, one-mul, eo) refl
 

@@ -15,7 +15,7 @@ ghost use lib.ListN.{length, getD};
 ghost use Rattle.rules.specs.Step.{mask};
 ghost use Rattle.rules.specs.Words.{noLegging};
 ghost use Rattle.rules.specs.Settings.{increment};
-ghost use Rattle.rules.specs.Prices.{better, displayed};
+ghost use Rattle.rules.specs.Prices.{better, displayedPrice};
 ghost use Rattle.rules.specs.Removal.{remove};
 ghost use Rattle.rules.specs.Standing.{otherClear, pairs, verdictOf, verdict, verdictNumber, settle};
 ghost use Rattle.rules.specs.Generation.{othersStand};
@@ -27,19 +27,19 @@ ghost use Rattle.removal.specs.Causes.{causeAt};
 ghost use Rattle.settling.specs.Parts.{otherTaken};
 
 // A price p at side d of series s, displayed.
-pub fn shown_price(numbers: &[u32], s: u8, d: u8, p: u32) -> u64
+pub fn displayed_in_series(numbers: &[u32], s: u8, d: u8, p: u32) -> u64
     requires { ⌜ (length (now numbers) ≡ size) × (s < 8) × (Figured (now numbers)) ⌝ }
-    ensures { λ r. ⌜ r ≡ displayed (increment (venueOf (now (numbers .entry))) s) d p ⌝ }
+    ensures { λ r. ⌜ r ≡ displayedPrice (increment (venueOf (now (numbers .entry))) s) d p ⌝ }
 {
     arithmetic::displayed_price(prices::increment_of(numbers, s), d, p)
 }
 
 // A price p at side d of series s, displayed, is no worse than best, the best regular of its side.
-pub fn shown_well(numbers: &[u32], best: u32, s: u8, d: u8, p: u32) -> bool
+pub fn displayed_no_worse(numbers: &[u32], best: u32, s: u8, d: u8, p: u32) -> bool
     requires { ⌜ (length (now numbers) ≡ size) × (s < 8) × (Figured (now numbers)) ⌝ }
-    ensures { λ r. ⌜ r ≡ not (better d best (displayed (increment (venueOf (now (numbers .entry))) s) d p)) ⌝ }
+    ensures { λ r. ⌜ r ≡ not (better d best (displayedPrice (increment (venueOf (now (numbers .entry))) s) d p)) ⌝ }
 {
-    !arithmetic::is_better_wide(d, best as u64, shown_price(numbers, s, d, p))
+    !arithmetic::is_better_wide(d, best as u64, displayed_in_series(numbers, s, d, p))
 }
 
 // The level that the leg of c takes that is not in series s.
@@ -91,7 +91,7 @@ pub fn test_order(numbers: &[u32], sides: LegSides, c: Complex, s: u8, d: u8, l:
     requires { ⌜ (length (now numbers) ≡ size) × (SidesOf sides c s d (venueOf (now numbers) .regular)) × (LegsIn c) × (s < 8) × (Figured (now numbers)) ⌝ }
     ensures { λ r. ⌜ r ≡ verdictOf (venueOf (now (numbers .entry))) c s d l ⌝ }
 {
-    if !shown_well(numbers, sides.own, s, d, l.price) {
+    if !displayed_no_worse(numbers, sides.own, s, d, l.price) {
         return Verdict::Fails(Cause::Worse);
     }
     let taken = sides.taken;

@@ -14,13 +14,13 @@ use Rattle.rules.specs.Bytes.{lengthField}
 use Rattle.rules.specs.Records.{ForAll, Fits, Report, encodeAll, records}
 use Rattle.rules.specs.Step.{step}
 use Rattle.rules.specs.Calls.{Outcome, after, called, ends, run, runFrom}
-use Rattle.rules.proofs.Calling.{not-exceeds, run-room, runFrom-by, torn-not}
+use Rattle.rules.proofs.CallsLaws.{not-exceeds, run-room, runFrom-by, torn-not}
 use Rattle.rules.proofs.Reading.{reads-back}
-use Rattle.rules.proofs.Refusing.{whole}
+use Rattle.rules.proofs.RefusalsLaws.{whole}
 use Rattle.rules.proofs.Widths.{each-append}
-use Rattle.demands.specs.Kept.{SoundAt}
-use Rattle.demands.specs.Most.{most}
-use Rattle.demands.proofs.Calls.{fresh-sound, kept, step-fits}
+use Rattle.demands.specs.Soundness.{SoundAt}
+use Rattle.demands.specs.Most.{mostReportBytes}
+use Rattle.demands.proofs.Calls.{fresh-sound, stays-sound, step-fits}
 use Rattle.demands.proofs.Most.{writes-at-most}
 use Rattle.text.specs.Lines.{lineOf, textOf}
 use Rattle.sheet.specs.Sheet.{AnyMemory, left, sheetText, started, textFrom}
@@ -45,16 +45,16 @@ module _ (v : Venue) (n : ℕ) (bs : List ℕ) (s : SoundAt (suc n) v) (some : l
   abbrev next : Venue
   next = step v (suc n) bs .effect .venue
 
-  fits-in : (room : ℕ) → most * length bs ≤ room → length (encodeAll reports) ≤ room
+  fits-in : (room : ℕ) → mostReportBytes * length bs ≤ room → length (encodeAll reports) ≤ room
   fits-in room enough = let w = writes-at-most v (s .venue) (suc n) bs in omega arith
 
   -- the message is torn, and the run ends
-  run-last : (fuel room : ℕ) → most * length bs ≤ room → step v (suc n) bs .refused ≡ 1 → runFrom (suc fuel) v n room bs .reports ≡ reports
+  run-last : (fuel room : ℕ) → mostReportBytes * length bs ≤ room → step v (suc n) bs .refused ≡ 1 → runFrom (suc fuel) v n room bs .reports ≡ reports
   unfolding runFrom after ends
   run-last fuel room enough t = rw (ne-eqb (length bs) 0 some, not-exceeds (suc n) room reports (omega arith) (fits-in room enough), t, runFrom) (append-nil reports)
 
   -- or it goes on
-  run-on : (fuel room : ℕ) → most * length bs ≤ room → step v (suc n) bs .refused ≢ 1 →
+  run-on : (fuel room : ℕ) → mostReportBytes * length bs ≤ room → step v (suc n) bs .refused ≢ 1 →
       runFrom (suc fuel) v n room bs .reports ≡ reports ++ runFrom fuel next (suc n) (room - length (encodeAll reports)) (drop (lengthField bs) bs) .reports
   unfolding runFrom after
   run-on fuel room enough t = rw (ne-eqb (length bs) 0 some, not-exceeds (suc n) room reports (omega arith) (fits-in room enough), ne-eqb (step v (suc n) bs .refused) 1 t, runFrom)
@@ -66,7 +66,7 @@ module _ (v : Venue) (n : ℕ) (bs : List ℕ) (s : SoundAt (suc n) v) (some : l
   fewer : step v (suc n) bs .refused ≢ 1 → suc n + length (drop (lengthField bs) bs) ≤ 4294967295
   fewer t = let q = shorter t (length bs - 1) (omega arith) in omega arith
 
-  roomy : step v (suc n) bs .refused ≢ 1 → (room : ℕ) → most * length bs ≤ room → most * length (drop (lengthField bs) bs) ≤ room - length (encodeAll reports)
+  roomy : step v (suc n) bs .refused ≢ 1 → (room : ℕ) → mostReportBytes * length bs ≤ room → mostReportBytes * length (drop (lengthField bs) bs) ≤ room - length (encodeAll reports)
   roomy t room enough =
       let q = shorter t (length bs - 1) (omega arith) in
       let w = writes-at-most v (s .venue) (suc n) bs in
@@ -75,13 +75,13 @@ module _ (v : Venue) (n : ℕ) (bs : List ℕ) (s : SoundAt (suc n) v) (some : l
 -- The room and the fuel make no difference ----------------------------------------------------
 
 same : (f g : ℕ) (v : Venue) (n r s : ℕ) (bs : List ℕ) → SoundAt (suc n) v → n + length bs ≤ 4294967295 → length bs ≤ f → length bs ≤ g →
-    most * length bs ≤ r → most * length bs ≤ s → runFrom f v n r bs .reports ≡ runFrom g v n s bs .reports
+    mostReportBytes * length bs ≤ r → mostReportBytes * length bs ≤ s → runFrom f v n r bs .reports ≡ runFrom g v n s bs .reports
 same zero g v n r s bs is few a b c d = none zero v n r bs (omega arith) ∙ sym (none g v n s bs (omega arith))
 same (suc f) zero v n r s bs is few a b c d = none (suc f) v n r bs (omega arith) ∙ sym (none zero v n s bs (omega arith))
 same (suc f) (suc g) v n r s bs is few a b c d =
     go (eqb (length bs) 0) refl (eqb (step v (suc n) bs .refused) 1) refl
     (λ some t.
-    same f g (step v (suc n) bs .effect .venue) (suc n) _ _ (drop (lengthField bs) bs) (kept v (suc n) (omega arith) is bs)
+    same f g (step v (suc n) bs .effect .venue) (suc n) _ _ (drop (lengthField bs) bs) (stays-sound v (suc n) (omega arith) is bs)
     (fewer v n bs is some few t) (shorter v n bs is some few t f a) (shorter v n bs is some few t g b)
     (roomy v n bs is some few t r c) (roomy v n bs is some few t s d))
   where
@@ -101,14 +101,15 @@ same (suc f) (suc g) v n r s bs is few a b c d =
         run-on v n bs is some few f r c t ∙ ap (λ (l : List Report). step v (suc n) bs .effect .reports ++ l) (on some t) ∙ sym (run-on v n bs is some few g s d t)
 
 -- a run that was not ended by 10 has the records of one that is lent enough
-filled-not : (fuel : ℕ) (v : Venue) (n r s : ℕ) (bs : List ℕ) → SoundAt (suc n) v → n + length bs ≤ 4294967295 → length bs ≤ fuel → most * length bs ≤ s →
+filled-not : (fuel : ℕ) (v : Venue) (n r s : ℕ) (bs : List ℕ) → SoundAt (suc n) v → n + length bs ≤ 4294967295 → length bs ≤ fuel → mostReportBytes * length bs ≤ s →
     runFrom fuel v n r bs .number ≢ 10 → runFrom fuel v n r bs .reports ≡ runFrom fuel v n s bs .reports
 unfolding ends after
 filled-not zero v n r s bs is few le enough = unfold runFrom in (λ _. refl)
 filled-not (suc fuel) v n r s bs is few le enough =
     go (eqb (length bs) 0) refl
     (λ some t h.
-    filled-not fuel (step v (suc n) bs .effect .venue) (suc n) _ _ (drop (lengthField bs) bs) (kept v (suc n) (omega arith) is bs) (fewer v n bs is some few t) (shorter v n bs is some few t fuel le)
+    filled-not fuel (step v (suc n) bs .effect .venue) (suc n) _ _ (drop (lengthField bs) bs)
+    (stays-sound v (suc n) (omega arith) is bs) (fewer v n bs is some few t) (shorter v n bs is some few t fuel le)
     (roomy v n bs is some few t s enough) h)
   where
     rest : (room : ℕ) → Outcome
@@ -129,7 +130,7 @@ filled-not (suc fuel) v n r s bs is few le enough =
 -- The text ------------------------------------------------------------------------------------
 
 module _ (v : Venue) (n : ℕ) (bs : List ℕ) (s : SoundAt (suc n) v) (some : length bs ≢ 0) (few : n + length bs ≤ 4294967295) where
-  more-fuel : textFrom v n bs ≡ textOf (runFrom (suc (length bs)) v n (most * length bs) bs .reports)
+  more-fuel : textFrom v n bs ≡ textOf (runFrom (suc (length bs)) v n (mostReportBytes * length bs) bs .reports)
   unfolding textFrom
   more-fuel = ap textOf (same (length bs) (suc (length bs)) v n _ _ bs s few (omega arith) (omega arith) (omega arith) (omega arith))
 
@@ -144,7 +145,7 @@ module _ (v : Venue) (n : ℕ) (bs : List ℕ) (s : SoundAt (suc n) v) (some : l
       more-fuel ∙ ap textOf (run-on v n bs s some few (length bs) _ (omega arith) t)
       ∙ text-append (step v (suc n) bs .effect .reports) _
       ∙ ap (λ (rs : List Report). textOf (step v (suc n) bs .effect .reports) ++ textOf rs)
-      (same (length bs) (length l) _ (suc n) _ _ l (kept v (suc n) (omega arith) s bs) (fewer v n bs s some few t) (shorter v n bs s some few t (length bs) (omega arith)) (omega arith)
+      (same (length bs) (length l) _ (suc n) _ _ l (stays-sound v (suc n) (omega arith) s bs) (fewer v n bs s some few t) (shorter v n bs s some few t (length bs) (omega arith)) (omega arith)
       (roomy v n bs s some few t _ (omega arith)) (omega arith))
 
 pub text-none : (v : Venue) (n : ℕ) (bs : List ℕ) → length bs ≡ 0 → textFrom v n bs ≡ []
@@ -162,7 +163,7 @@ run-fits (suc fuel) v n room bs s =
     let more = runFrom fuel (step v (suc n) bs .effect .venue) (suc n) (room - length (encodeAll rs)) (drop (lengthField bs) bs) .reports in
     runFrom-by (λ (o : Outcome). ForAll Fits (o .reports)) v n room bs fuel (λ _. tt) (λ _ _. tt)
     (λ d _. each-append Fits rs [] (step-fits v (s .venue) (suc n) (d .0) bs) tt)
-    (λ d _. each-append Fits rs more (step-fits v (s .venue) (suc n) (d .0) bs) (run-fits fuel _ (suc n) _ (drop (lengthField bs) bs) (kept v (suc n) (d .0) s bs)))
+    (λ d _. each-append Fits rs more (step-fits v (s .venue) (suc n) (d .0) bs) (run-fits fuel _ (suc n) _ (drop (lengthField bs) bs) (stays-sound v (suc n) (d .0) s bs)))
 
 -- a run's report memory reads back
 read-back : (room : ℕ) (m : List ℕ) → records (run room m .report) ≡ runFrom (length m) freshVenue 0 room m .reports
@@ -171,9 +172,10 @@ read-back room m = reads-back room _ (run-fits (length m) freshVenue 0 room m fr
 
 pub begins : (m : List ℕ) → left m started ≡ sheetText m
 unfolding left textFrom sheetText
-begins m = ap textOf (sym (read-back (most * length m) m))
+begins m = ap textOf (sym (read-back (mostReportBytes * length m) m))
 
 pub any-memory : AnyMemory
 unfolding sheetText run called
 any-memory room m few h =
-    ap textOf (read-back room m ∙ filled-not (length m) freshVenue 0 room (most * length m) m fresh-sound (omega arith) (omega arith) (omega arith) h ∙ sym (read-back (most * length m) m))
+    ap textOf (read-back room m ∙ filled-not (length m) freshVenue 0 room (mostReportBytes * length m) m fresh-sound (omega arith) (omega arith) (omega arith) h
+    ∙ sym (read-back (mostReportBytes * length m) m))

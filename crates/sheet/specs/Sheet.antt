@@ -12,8 +12,8 @@ use Rattle.rules.specs.Bytes.{lengthField}
 use Rattle.rules.specs.Words.{freshVenue}
 use Rattle.rules.specs.Records.{records}
 use Rattle.rules.specs.Calls.{run, runFrom}
-use Rattle.demands.specs.Kept.{SoundAt}
-use Rattle.demands.specs.Most.{most}
+use Rattle.demands.specs.Soundness.{SoundAt}
+use Rattle.demands.specs.Most.{mostReportBytes}
 use Rattle.text.specs.Lines.{textOf}
 use Rattle.sheet.specs.declared.Progress.{Progress}
 
@@ -26,7 +26,7 @@ mostText = 26083
 
 -- The sheet of a message list. The run is lent so much that it is not ended by 10: `NeverFills` of the demands.
 unfoldable pub sheetText : (messages : List ℕ) → List ℕ
-sheetText m = textOf (records (run (most * length m) m .report))
+sheetText m = textOf (records (run (mostReportBytes * length m) m .report))
 
 -- It is the sheet of any run that was not ended by 10, whatever its report memory.
 abbrev pub AnyMemory : Type 0
@@ -36,7 +36,7 @@ AnyMemory = (room : ℕ) (m : List ℕ) → length m ≤ 4294967295 → run room
 
 -- the text of the messages of bs upon v, n messages having gone before
 unfoldable pub textFrom : Venue → (n : ℕ) → List ℕ → List ℕ
-textFrom v n bs = textOf (runFrom (length bs) v n (most * length bs) bs .reports)
+textFrom v n bs = textOf (runFrom (length bs) v n (mostReportBytes * length bs) bs .reports)
 
 -- the text that is still to print
 unfoldable pub left : (messages : List ℕ) → Progress → List ℕ
@@ -68,7 +68,7 @@ pub record Prints (m : List ℕ) (p : Progress) (memory : List ℕ) (r : Progres
 
 -- the text that was printed on the way to a progress
 pub data Printed (m : List ℕ) : (text : List ℕ) → Progress → Type 0 where
-  begun : Printed m [] started
+  nonePrinted : Printed m [] started
   more : {text : List ℕ} {p : Progress} (memory : List ℕ) (r : Progress) → Printed m text p → Prints m p memory r → Printed m (text ++ take (r .written) memory) r
 
 -- At the end of the list it is the sheet.

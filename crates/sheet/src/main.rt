@@ -3,7 +3,7 @@ use rules::Venue;
 ghost use mathlib.Core.Path.{_≡_};
 ghost use Prim.Native.Nat.{_≤_, _<_};
 ghost use lib.ListN.{length};
-ghost use Rattle.demands.specs.Most.{most};
+ghost use Rattle.demands.specs.Most.{mostReportBytes};
 ghost use Rattle.sheet.specs.Sheet.{Prints, Stands, messageEnd, mostInput, mostText, started};
 ghost use Rattle.sheet.specs.Inputs.{ReadInto};
 
@@ -43,7 +43,7 @@ fn message_end(rest: &[u8], number: u8) -> usize
 
 // One message more: its lines at the start of `text`.
 fn advance(p: Progress, messages: &[u8], report: &mut [u8], text: &mut [u8]) -> Progress
-    requires { ⌜ (Stands (now messages) p) × (p .at < length (now messages)) × (length (now messages) ≤ mostInput) × (most ≤ length (now report)) × (mostText ≤ length (now text)) ⌝ }
+    requires { ⌜ (Stands (now messages) p) × (p .at < length (now messages)) × (length (now messages) ≤ mostInput) × (mostReportBytes ≤ length (now report)) × (mostText ≤ length (now text)) ⌝ }
     ensures { λ r. ⌜ Prints (now (messages .entry)) p (now (text .exit)) r ⌝ }
 {
     let at = p.at;

@@ -1,4 +1,4 @@
 pub mod Listing
 pub mod Following
-pub mod Ending
+pub mod SessionsLeft
 pub mod Holding

@@ -1,5 +1,5 @@
 pub mod Listed
-pub mod Running
-pub mod Putting
+pub mod SessionRuns
+pub mod SessionMessages
 pub mod Texts
-pub mod Printing
+pub mod ShortLaws

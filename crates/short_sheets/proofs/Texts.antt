@@ -7,7 +7,7 @@ use lib.ListN.{length, length-append}
 use Rattle.rules.specs.Words.{freshVenue}
 use Rattle.rules.specs.Records.{Report, records}
 use Rattle.rules.specs.Calls.{called, run, runFrom}
-use Rattle.rules.proofs.Calling.{run-room}
+use Rattle.rules.proofs.CallsLaws.{run-room}
 use Rattle.rules.proofs.Reading.{reads-back}
 use Rattle.records.specs.Seen.{Seen, seen}
 use Rattle.text.specs.Lines.{decimal, line, textOf, word, words}
@@ -20,8 +20,8 @@ use Rattle.short_sessions.specs.Sessions.{Within}
 use Rattle.short_sessions.specs.Values.{placesOf}
 use Rattle.short_sheets.specs.Short.{Stands, messagesOf, mostText, placesLine, room, sessionText}
 use Rattle.short_sheets.proofs.Listed.{listed}
-use Rattle.short_sheets.proofs.Putting.{stands-on}
-use Rattle.short_sheets.proofs.Running.{ran-session}
+use Rattle.short_sheets.proofs.SessionMessages.{stands-on}
+use Rattle.short_sheets.proofs.SessionRuns.{ran-session}
 
 words-length : (s : List ℕ) → Within 12 s → length (words (map suc s)) ≤ 3 * length s
 unfolding words word Within

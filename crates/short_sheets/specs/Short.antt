@@ -11,7 +11,7 @@ use Rattle.rules.specs.Words.{buy, closed, opened, sell}
 use Rattle.rules.specs.Messages.{encodeMessage}
 use Rattle.rules.specs.Records.{records}
 use Rattle.rules.specs.Calls.{run}
-use Rattle.demands.specs.Most.{most}
+use Rattle.demands.specs.Most.{mostReportBytes}
 use Rattle.text.specs.Lines.{ending, line, textOf}
 use Rattle.short_sessions.specs.Sessions.{Within, following, sessions}
 
@@ -62,7 +62,7 @@ placesLine (p ∷ s) = line (suc p) (map suc s)
 
 -- the bytes of report memory that a session's run is lent: it never fills
 abbrev pub room : ℕ
-room = 3 * most
+room = 3 * mostReportBytes
 
 abbrev pub Completes : Type 0
 Completes = (s : List ℕ) → length s ≤ 3 → Within 12 s → run room (messagesOf s) .returned .number ≡ 0
@@ -87,7 +87,7 @@ pub record Stands (bs memory : List ℕ) (end : ℕ) : Type 0 where
 
 -- the text that was printed before a session
 pub data Printed : (text s : List ℕ) → Type 0 where
-  begun : Printed [] []
+  nonePrinted : Printed [] []
   more : {text s : List ℕ} (memory : List ℕ) (written : ℕ) (t : List ℕ) → Printed text s → Stands (sessionText s) memory written → following 12 s ≡ some t →
       Printed (text ++ take written memory) t
 

@@ -18,7 +18,7 @@ use Rattle.rules.proofs.Tests.{and-l, and-r}
 use Rattle.rules.proofs.Closing.{packed-free}
 use Rattle.rules.proofs.Arranging.{arranged-out, blank-is, blank-free, blank-freeC, closed-same}
 use Rattle.rules.proofs.Editions.{Stepped, dated-steps}
-use Rattle.places.proofs.Orderly.{range-priced, range-displayed}
+use Rattle.places.proofs.Orderly.{range-priced, range-display}
 use Rattle.places.proofs.Fully.{range-bounded}
 use Rattle.venue_numbers.proofs.Loaded.{regular-side, complex-sides, editions-dated}
 use Rattle.places.specs.Layout.{Fully, Loadable, Loaded, venueOf}
@@ -61,7 +61,7 @@ books-load v r c steps =
     record {
       regulars = record { dense = a .dense; blank = λ i h. blank-is _ (a .blanks i h); asked = λ i h. (regular-side _ (ranged i h), range-bounded _ (ranged i h) (shows i h)) };
       complexes = record { dense = b .dense; blank = rw (complexes-packed v c) at (packed-free holdsComplex noComplex (v .complex)); asked = λ i h. complex-sides _ _ (b .asks i h) };
-      orders = record { priced = λ i h. range-priced _ (ranged i h); displayed = λ i h. range-displayed _ (ranged i h); rises = a .rises };
+      orders = record { priced = λ i h. range-priced _ (ranged i h); displays = λ i h. range-display _ (ranged i h); rises = a .rises };
       shows = orders-show v shows (a .blanks);
       increments = steps;
     }

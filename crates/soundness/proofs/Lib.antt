@@ -1,3 +1,3 @@
 pub mod Beside
 pub mod CheckedLaws
-pub mod Following
+pub mod ReadyFor

@@ -7,7 +7,7 @@ use Prim.Native.Nat.{ℕ, zero, suc, _+_, _-_, _≤_, _<_}
 use native.Mathlib.Omega.{arith}
 use native.Mathlib.Decide.{decLt}
 use lib.Dec.{ltb}
-use lib.ListN.{getD, length, length-append, take as firsts}
+use lib.ListN.{getD, length, length-append, take}
 use borrow.Author.Tests.{lt-ltb, le-ltb}
 use Rattle.rules.specs.declared.Complex.{Complex}
 use Rattle.rules.specs.declared.Venue.{Venue}
@@ -124,36 +124,36 @@ module _ (b : List ℕ) (d : Dense b) (s : Rising (venueOf b .complex)) (k : ℕ
 -- The first n of them -------------------------------------------------------------------------
 
 -- n is within the first places
-pub round-within : (n k a : ℕ) (rest : List ℕ) → n ≤ a → placesFrom k n ++ placesFrom 0 0 ≡ firsts n (placesFrom k a ++ rest)
+pub round-within : (n k a : ℕ) (rest : List ℕ) → n ≤ a → placesFrom k n ++ placesFrom 0 0 ≡ take n (placesFrom k a ++ rest)
 unfolding placesFrom
 round-within zero k a rest h = refl
 round-within (suc n) k zero rest h = absurd (omega arith)
 round-within (suc n) k (suc a) rest h = ap (λ (l : List ℕ). k ∷ l) (round-within n (suc k) a rest (omega arith))
 
-first-few : (n k a : ℕ) → n ≤ a → placesFrom k n ≡ firsts n (placesFrom k a)
+first-few : (n k a : ℕ) → n ≤ a → placesFrom k n ≡ take n (placesFrom k a)
 unfolding placesFrom
 first-few zero k a h = refl
 first-few (suc n) k zero h = absurd (omega arith)
 first-few (suc n) k (suc a) h = ap (λ (l : List ℕ). k ∷ l) (first-few n (suc k) a (omega arith))
 
-first-all : (n k a : ℕ) → a ≤ n → placesFrom k a ≡ firsts n (placesFrom k a)
+first-all : (n k a : ℕ) → a ≤ n → placesFrom k a ≡ take n (placesFrom k a)
 unfolding placesFrom
 first-all zero k zero h = refl
 first-all (suc n) k zero h = refl
 first-all zero k (suc a) h = absurd (omega arith)
 first-all (suc n) k (suc a) h = ap (λ (l : List ℕ). k ∷ l) (first-all n (suc k) a (omega arith))
 
-first-past : (n m k a : ℕ) (rest : List ℕ) → n ≡ m + a → placesFrom k a ++ firsts m rest ≡ firsts n (placesFrom k a ++ rest)
+first-past : (n m k a : ℕ) (rest : List ℕ) → n ≡ m + a → placesFrom k a ++ take m rest ≡ take n (placesFrom k a ++ rest)
 unfolding placesFrom
-first-past n m k zero rest e = let h : m ≡ n = omega arith in ap (λ (j : ℕ). firsts j rest) h
+first-past n m k zero rest e = let h : m ≡ n = omega arith in ap (λ (j : ℕ). take j rest) h
 first-past zero m k (suc a) rest e = absurd (omega arith)
 first-past (suc n) m k (suc a) rest e = ap (λ (l : List ℕ). k ∷ l) (first-past n m (suc k) a rest (omega arith))
 
 -- the round goes on at place 0, to `m` places or to all that are left
-pub round-on : (n m k a o : ℕ) → n ≡ m + a → m ≤ o → placesFrom k a ++ placesFrom 0 m ≡ firsts n (placesFrom k a ++ placesFrom 0 o)
+pub round-on : (n m k a o : ℕ) → n ≡ m + a → m ≤ o → placesFrom k a ++ placesFrom 0 m ≡ take n (placesFrom k a ++ placesFrom 0 o)
 round-on n m k a o e h = ap (λ (l : List ℕ). placesFrom k a ++ l) (first-few m 0 o h) ∙ first-past n m k a (placesFrom 0 o) e
 
-pub round-whole : (n m k a o : ℕ) → n ≡ m + a → o ≤ m → placesFrom k a ++ placesFrom 0 o ≡ firsts n (placesFrom k a ++ placesFrom 0 o)
+pub round-whole : (n m k a o : ℕ) → n ≡ m + a → o ≤ m → placesFrom k a ++ placesFrom 0 o ≡ take n (placesFrom k a ++ placesFrom 0 o)
 round-whole n m k a o e h = ap (λ (l : List ℕ). placesFrom k a ++ l) (first-all m 0 o h) ∙ first-past n m k a (placesFrom 0 o) e
 
 -- How many, and the last ----------------------------------------------------------------------
@@ -163,7 +163,7 @@ unfolding placesFrom
 from-length k zero = refl
 from-length k (suc n) = ap (λ (j : ℕ). suc j) (from-length (suc k) n)
 
-pub round-examined : (n : ℕ) (v : Venue) (r : Round) → roundPlaces r ≡ firsts n (goingRound v) → r .above + r .others ≡ examined n v
+pub round-examined : (n : ℕ) (v : Venue) (r : Round) → roundPlaces r ≡ take n (goingRound v) → r .above + r .others ≡ examined n v
 unfolding roundPlaces
 round-examined n v r e =
     let a = from-length (r .first) (r .above) in
@@ -239,7 +239,7 @@ module _ (f : ℕ → Venue → Effect) where
 
 -- the count is told, the orders at its places are worked, settling is done once, and then they generate
 pub limited-law : (number n x id : ℕ) (places : List ℕ) (v v₁ v₂ v₃ v₄ : Venue) (l₀ l₁ l₂ l₃ l₄ : List ℕ) (a₀ a₁ a₂ a₃ a₄ : ℕ) →
-    places ≡ firsts n (goingRound v) → x ≡ examined n v → id ≡ idReached v places → v₁ ≡ withReached v id →
+    places ≡ take n (goingRound v) → x ≡ examined n v → id ≡ idReached v places → v₁ ≡ withReached v id →
     seen l₁ a₁ ≡ seen l₀ a₀ writes (looked x ∷ []) →
     stage v₂ l₂ a₂ ≡ seen l₁ a₁ does eachOf work places v₁ →
     stage v₃ l₃ a₃ ≡ seen l₂ a₂ does settle v₂ →

@@ -22,7 +22,7 @@ use Rattle.rules.specs.Sound.{complexesSound, sound}
 use Rattle.rules.proofs.Tests.{and-l, and-r, and-in, decide}
 use Rattle.rules.proofs.Cases.{each-on, isAbove}
 use Rattle.rules.proofs.Filling.{FewerC, fewerC-refl, fewerC-trans, still-heldC, held-fitsC}
-use Rattle.rules.proofs.Keeping.{keeps-each}
+use Rattle.rules.proofs.EffectsLaws.{keeps-each}
 use Rattle.rules.proofs.Sweeping.{then-same, work-fewer}
 use Rattle.rules.proofs.Arranging.{arranged-out, blank-freeC}
 use Rattle.records.specs.Seen.{seen}

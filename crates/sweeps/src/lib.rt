@@ -3,7 +3,7 @@
 ghost use mathlib.Core.Path.{_≡_};
 ghost use mathlib.Core.List.{_++_};
 ghost use Prim.Native.Nat.{_+_, _-_, _≤_};
-ghost use lib.ListN.{length, take as firsts};
+ghost use lib.ListN.{length, take};
 ghost use Rattle.rules.specs.Generation.{generate};
 ghost use Rattle.rules.specs.Complex.{each, goingRound, examined, idReached, eachOf};
 ghost use Rattle.rules.specs.Complex as complex;
@@ -101,7 +101,7 @@ fn round_start(numbers: &[u32]) -> usize
 // The places of the n orders to look at, or of all where fewer rest.
 fn round_of(numbers: &[u32], n: u8) -> Round
     requires { ⌜ (length (now numbers) ≡ size) × (Dense (now numbers)) × (Rising (venueOf (now numbers) .complex)) ⌝ }
-    ensures { λ r. ⌜ roundPlaces r ≡ firsts n (goingRound (venueOf (now (numbers .entry)))) ⌝ }
+    ensures { λ r. ⌜ roundPlaces r ≡ take n (goingRound (venueOf (now (numbers .entry)))) ⌝ }
     ensures within { λ r. ⌜ (r .first + r .above ≤ complexesUsed (now (numbers .entry))) × (r .others ≤ complexesUsed (now (numbers .entry))) ⌝ }
 {
     let used = places::complexes_used(numbers);

@@ -75,13 +75,13 @@ line-most (pair id n quantity) f =
     let b = signed-length n (f .1) in
     let c = number-length quantity (f .2) in
     simp length-append (omega arith)
-line-most (generated id series side price shown quantity) f =
+line-most (generated id series side price displayed quantity) f =
     let k = decimal-length 1 67 (omega arith) in
     let a = number-length id (f .0) in
     let b = byte-length series (f .1) in
     let c = byte-length side (f .2) in
     let d = number-length price (f .3) in
-    let e = number-length shown (f .4) in
+    let e = number-length displayed (f .4) in
     let f = number-length quantity (f .5) in
     simp length-append (omega arith)
 line-most (removed id series side cause) f =

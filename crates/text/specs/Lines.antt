@@ -52,7 +52,7 @@ lineOf (trade series side price quantity taker maker) = line 65 (series ∷ side
 -- 66 pair: complex id, net, quantity
 lineOf (pair id n quantity) = decimal 66 ++ word id ++ signedWord n ++ word quantity ++ ending
 -- 67 generated: complex id, series, side, price, displayed, quantity
-lineOf (generated id series side price shown quantity) = line 67 (id ∷ series ∷ side ∷ price ∷ shown ∷ quantity ∷ [])
+lineOf (generated id series side price displayed quantity) = line 67 (id ∷ series ∷ side ∷ price ∷ displayed ∷ quantity ∷ [])
 -- 68 removed: complex id, series, side, cause
 lineOf (removed id series side cause) = line 68 (id ∷ series ∷ side ∷ causeNumber cause ∷ [])
 -- 70 cross: taker id, maker id, taker's net, quantity

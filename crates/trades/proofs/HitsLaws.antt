@@ -15,13 +15,13 @@ use Rattle.rules.specs.declared.Leg.{Leg}
 use Rattle.rules.specs.declared.Venue.{Venue}
 use Rattle.rules.specs.declared.Cause.the-variants.{Executed, Withdrawn}
 use Rattle.rules.specs.Base.{if_then_else_, placeWhere}
-use Rattle.rules.specs.Words.{opposite, signed, noComplex, regularAt, complexAt, withComplex, isComplexOf}
+use Rattle.rules.specs.Words.{opposite, signTimes, noComplex, regularAt, complexAt, withComplex, isComplexOf}
 use Rattle.rules.specs.Prices.{weighed, clearPrice}
 use Rattle.rules.specs.Records.{Report, trade, pair, cancelled}
 use Rattle.rules.specs.Effects.{Effect, report, _⟫_}
 use Rattle.rules.specs.Removal.{removeOf}
 use Rattle.rules.specs.Standing.{otherLeg, otherClear, parentOf}
-use Rattle.rules.specs.Trading.{lessComplex, fillRegular, fillComplex, tradeWith, take, pairOff}
+use Rattle.rules.specs.Trading.{lessComplex, fillRegular, fillComplex, tradeWith, tradeAtPrice, pairOff}
 use Rattle.rules.specs.Order.{meet, hit}
 use Rattle.rules.specs.Complex.{complexPlace, restsComplex, cancelRegular, cancelComplex}
 use Rattle.records.specs.Seen.{seen, _writes_}
@@ -33,7 +33,7 @@ use Rattle.places.proofs.Tables.{used-length}
 use Rattle.levels.specs.Grid.{LegsIn}
 use Rattle.book.specs.declared.Found.the-variants as found
 use Rattle.book.specs.Picks.{complexFound}
-use Rattle.book.proofs.Finding.{foundIn, found-is, found-not}
+use Rattle.book.proofs.FirstPlace.{foundIn, found-is, found-not}
 use Rattle.trades.specs.declared.Pairing.{Pairing}
 use Rattle.trades.specs.Hits.{pairingOf}
 
@@ -106,9 +106,9 @@ pub opposite-in : (d : ℕ) → opposite d < 2
 unfolding opposite
 opposite-in d = omega arith
 
-one-of : (d p : ℕ) → weighed 1 d p ≡ signed d (pos p)
+one-of : (d p : ℕ) → weighed 1 d p ≡ signTimes d (pos p)
 unfolding weighed
-one-of d p = let z : 1 * p ≡ p = omega arith in ap (λ (x : ℕ). signed d (pos x)) z
+one-of d p = let z : 1 * p ≡ p = omega arith in ap (λ (x : ℕ). signTimes d (pos x)) z
 
 pub pairing-law : (v : Venue) (l : Legging) (s d : ℕ) (c : Complex) (leg : Leg) (facing near clear : ℕ) (n m : ℤ) →
     c ≡ parentOf v l → leg ≡ otherLeg c s → facing ≡ opposite (leg .side) → clear ≡ clearPrice v (leg .series) facing → near ≡ opposite d →
@@ -121,7 +121,7 @@ pairing-law v l s d c leg facing near clear n m ec eo ef el en e q =
 -- a hit, by what it pairs
 hit-is : (i : ℕ) (l : Legging) (k : ℕ) (v : Venue) → let o = regularAt v i in let p = pairingOf v l (o .series) (o .side) in
     hit i l k v ≡ (report (trade (o .series) (o .side) (l .price) k (o .id) (p .id)) (fillRegular i k v)
-    ⟫ take k (p .id) (p .series) (p .side) (p .clear) k
+    ⟫ tradeAtPrice k (p .id) (p .series) (p .side) (p .clear) k
     ⟫ (λ w. pairOff (complexPlace w (p .id)) (p .id) (p .net) k w))
 unfolding hit pairingOf complexPlace
 hit-is i l k v = refl
@@ -129,16 +129,16 @@ hit-is i l k v = refl
 pub hit-law : (i : ℕ) (l : Legging) (k : ℕ) (v w x y : Venue) (l₀ l₁ l₂ l₃ : List ℕ) (a₀ a₁ a₂ a₃ : ℕ) (o : Regular) (p : Pairing) (n : ℤ) (j : ℕ) →
     n ≡ p .net → o ≡ regularAt v i → p ≡ pairingOf v l (o .series) (o .side) → w ≡ fillRegular i k v →
     seen l₁ a₁ ≡ seen l₀ a₀ writes (trade (o .series) (o .side) (l .price) k (o .id) (p .id) ∷ []) →
-    stage x l₂ a₂ ≡ seen l₁ a₁ does take k (p .id) (p .series) (p .side) (p .clear) k w →
+    stage x l₂ a₂ ≡ seen l₁ a₁ does tradeAtPrice k (p .id) (p .series) (p .side) (p .clear) k w →
     j ≡ complexPlace x (p .id) →
     stage y l₃ a₃ ≡ seen l₂ a₂ does pairOff j (p .id) n k x →
     stage y l₃ a₃ ≡ seen l₀ a₀ does hit i l k v
 hit-law i l k v w x y l₀ l₁ l₂ l₃ a₀ a₁ a₂ a₃ o p n j en eo ep ew h₁ h₂ ej h₃ =
     let step : Regular → Pairing → Effect = λ o p.
     report (trade (o .series) (o .side) (l .price) k (o .id) (p .id)) (fillRegular i k v)
-    ⟫ take k (p .id) (p .series) (p .side) (p .clear) k
+    ⟫ tradeAtPrice k (p .id) (p .series) (p .side) (p .clear) k
     ⟫ (λ z. pairOff (complexPlace z (p .id)) (p .id) (p .net) k z) in
-    follow (seen l₀ a₀) (report (trade (o .series) (o .side) (l .price) k (o .id) (p .id)) (fillRegular i k v) ⟫ take k (p .id) (p .series) (p .side) (p .clear) k)
+    follow (seen l₀ a₀) (report (trade (o .series) (o .side) (l .price) k (o .id) (p .id)) (fillRegular i k v) ⟫ tradeAtPrice k (p .id) (p .series) (p .side) (p .clear) k)
     (λ z. pairOff (complexPlace z (p .id)) (p .id) (p .net) k z) x y l₂ l₃ a₂ a₃
     (told-then _ _ w x (fillRegular i k v) l₀ l₁ l₂ a₀ a₁ a₂ ew h₁ h₂)
     (h₃ ∙ ap (λ (z : ℤ). seen l₂ a₂ does pairOff j (p .id) z k x) en ∙ ap (λ (z : ℕ). seen l₂ a₂ does pairOff z (p .id) (p .net) k x) ej)

@@ -3,7 +3,7 @@ use Prim.Native.Nat.{ℕ}
 use lib.IntN.{pos, _+ℤ_}
 use Rattle.rules.specs.declared.Legging.{Legging}
 use Rattle.rules.specs.declared.Venue.{Venue}
-use Rattle.rules.specs.Words.{opposite, signed}
+use Rattle.rules.specs.Words.{opposite, signTimes}
 use Rattle.rules.specs.Standing.{otherLeg, otherClear, parentOf}
 use Rattle.rules.specs.Order.{hit}
 use Rattle.trades.specs.declared.Pairing.{Pairing}
@@ -19,5 +19,5 @@ pairingOf v l s d =
       series = leg .series;
       side = leg .side;
       clear = clear;
-      net = signed (opposite d) (pos (l .price)) +ℤ signed (leg .side) (pos clear);
+      net = signTimes (opposite d) (pos (l .price)) +ℤ signTimes (leg .side) (pos clear);
     }

@@ -1,4 +1,4 @@
-// What is traded and told: a take, a pair, a hit, a meeting; and what is cancelled.
+// What is traded and told: contracts at one price, a pair, a hit, a meeting; and what is cancelled.
 // Each function says in one equation the venue that it leaves and all that it writes: those of its definition.
 ghost use mathlib.Core.Path.{_≡_};
 ghost use Prim.Native.Nat.{_≤_, _<_, min};
@@ -48,7 +48,7 @@ pub fn at_most(q: u32, n: u64) -> u32
 }
 
 // A taker of a side takes contracts that are shown at a price in a series, by id, until it has all or none are left there.
-pub fn take(
+pub fn trade_at_price(
     numbers: &mut [u32],
     taker: u32,
     series: u8,
@@ -59,7 +59,7 @@ pub fn take(
     at: usize,
 ) -> usize
     requires { ⌜ (length (now numbers) ≡ size) × (Right (now numbers)) ⌝ }
-    ensures { λ r. ⌜ stage (venueOf (now (numbers .exit))) (now (out .exit)) r ≡ seen (now (out .entry)) at does trading.take quantity taker series side price quantity (venueOf (now (numbers .entry))) ⌝ }
+    ensures { λ r. ⌜ stage (venueOf (now (numbers .exit))) (now (out .exit)) r ≡ seen (now (out .entry)) at does trading.tradeAtPrice quantity taker series side price quantity (venueOf (now (numbers .entry))) ⌝ }
     ensures counts { λ _. ⌜ SameCounts (now (numbers .entry)) (now (numbers .exit)) ⌝ }
 {
     let other = opposite_of(side);
@@ -70,7 +70,7 @@ pub fn take(
         let Pick::At(j, m) = found else {
             return pos;
         };
-        let k = at_most(arithmetic::shown_of(m), left);
+        let k = at_most(arithmetic::shown_size(m), left);
         pos = trade_with(numbers, taker, side, j, k, out, pos);
         left -= k as u64;
     }
@@ -160,7 +160,7 @@ pub fn hit(numbers: &mut [u32], i: usize, l: Legging, k: u32, out: &mut [u8], at
     let p = pairing_of(numbers, l, o.series, o.side);
     levels::fill_order(numbers, i, k);
     let traded = records::emit_trade(out, at, o.series, o.side, l.price, k, o.id, p.id);
-    let taken = take(
+    let taken = trade_at_price(
         numbers,
         p.id,
         p.series,

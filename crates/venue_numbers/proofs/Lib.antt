@@ -1,3 +1,3 @@
 pub mod Loaded
 pub mod GenerationsLoaded
-pub mod Starting
+pub mod FreshNumbers

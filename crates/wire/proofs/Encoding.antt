@@ -24,7 +24,7 @@ use Rattle.rules.specs.Sound.{showsFully}
 use Rattle.rules.proofs.Integers.{plus, minus}
 use Rattle.rules.proofs.Tests.{and-l, and-r, not-out}
 use Rattle.rules.proofs.Reading.{byte, word, signed-back, signed-small}
-use Rattle.rules.proofs.Refusing.{wellFormed}
+use Rattle.rules.proofs.RefusalsLaws.{wellFormed}
 use Rattle.rules.proofs.Widths.{complex-fits}
 use Rattle.wire.specs.Brought.{Shows}
 use Rattle.wire.proofs.Decoding.{whole, taken}

@@ -28,7 +28,7 @@ use Rattle.rules.specs.Sums.{generatedOf, total}
 use Rattle.rules.specs.Opened.{opened-rules}
 use Rattle.rules.proofs.Tests.{and-l, and-r}
 use Rattle.demands.specs.Demand.{Accepted, Seen, byRun, calls, extend, opening, parts, start}
-use Rattle.demands.specs.Kept.{SoundAt}
+use Rattle.demands.specs.Soundness.{SoundAt}
 use Rattle.demands.specs.LimitedSweeps.{Stays, looks, looksAll, looksBy, looksIn, resting, round}
 use Rattle.demands.specs.Truth.{venueAfter}
 use Rattle.demands.proofs.Calls.{always-sound}

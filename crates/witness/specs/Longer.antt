@@ -20,7 +20,7 @@ use Rattle.rules.specs.Refusals.{refusal}
 use Rattle.rules.specs.Calls.{settings}
 use Rattle.rules.specs.Sums.{cancelledOf, contracts, crossedFor, generatedOf, openComplex, paired, total}
 use Rattle.demands.specs.Demand.{Accepted, Given, Seen, byRun, calls, opening}
-use Rattle.demands.specs.Kept.{SoundAt}
+use Rattle.demands.specs.Soundness.{SoundAt}
 use Rattle.demands.specs.LimitedSweeps.{Stays, looks, looksAll}
 use Rattle.witness.specs.Witness.{both, bytesOf, order, regularSums, reserved, units}
 

@@ -1,2 +1,2 @@
-pub mod Pairing
+pub mod LegInLaws
 pub mod WorkLaws

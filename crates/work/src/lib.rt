@@ -61,8 +61,8 @@ pub fn leg_in(
     let net = arithmetic::net_of(c.ratio1, c.side1, a, c.ratio2, c.side2, p);
     let one = contracts(c.ratio1, k);
     let two = contracts(c.ratio2, k);
-    let first = trades::take(numbers, c.id, c.series1, c.side1, a, one, out, at);
-    let second = trades::take(numbers, c.id, c.series2, c.side2, p, two, out, first);
+    let first = trades::trade_at_price(numbers, c.id, c.series1, c.side1, a, one, out, at);
+    let second = trades::trade_at_price(numbers, c.id, c.series2, c.side2, p, two, out, first);
     trades::pair_off(numbers, i, c.id, net, k, out, second)
 }
 

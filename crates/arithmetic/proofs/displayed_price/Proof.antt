@@ -5,19 +5,19 @@ use borrow.Author.Needs.{needs}
 use borrow.Author.Tests.{eq-eqb, ne-eqb}
 use native.Mathlib.Omega.{arith}
 use native.Mathlib.Nat.{div-add-mod'}
-use Rattle.rules.specs.Prices.{displayed}
-use Rattle.rules.proofs.Machine.{shown-none}
+use Rattle.rules.specs.Prices.{displayedPrice}
+use Rattle.rules.proofs.Machine.{displayed-none}
 use Rattle.arithmetic.proofs.displayed_price.Statement.{statement}
 use Rattle.arithmetic.proofs.displayed_price.Tie as tie
 
 returns : tie.Need-returns
-returns c = let z = c .if1 .taken in rw z (sym (shown-none _ _))
+returns c = let z = c .if1 .taken in rw z (sym (displayed-none _ _))
 
 mul-result : tie.Need-mul-result
 mul-result c = record { fits = omega (arith, div-add-mod' (c .before .before .args .price) (c .before .before .args .increment)) }
 
 returns-2 : tie.Need-returns-2
-unfolding displayed
+unfolding displayedPrice
 returns-2 c = simp (eq-eqb _ _ (c .if2 .taken))
 
 mul-result-2 : tie.Need-mul-result-2
@@ -25,7 +25,7 @@ mul-result-2 c =
     record { fits = omega (arith, div-add-mod' (c .before .before .args .price + (c .before .before .args .increment - 1)) (c .before .before .args .increment)) }
 
 returns-3 : tie.Need-returns-3
-unfolding displayed
+unfolding displayedPrice
 returns-3 c = simp (ne-eqb _ _ (c .if2 .left))
 
 pub displayed-price-spec : {M : Type 1} → statement M

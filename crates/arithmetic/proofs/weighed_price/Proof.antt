@@ -5,7 +5,7 @@ use native.Mathlib.Nat.{mul-le-mul}
 use borrow.Author.Tests.{eq-eqb, ne-eqb}
 use native.Mathlib.Omega.{arith}
 use lib.IntN.{natAbs, pos}
-use Rattle.rules.specs.Words.{signed}
+use Rattle.rules.specs.Words.{signTimes}
 use Rattle.rules.specs.Prices.{weighed}
 use Rattle.rules.proofs.Integers.{abs-neg}
 use Rattle.rules.proofs.Machine.{neg-fits, neg-ok, cast-of}
@@ -25,7 +25,7 @@ cast-result : tie.Need-cast-result
 cast-result c = let m = product (c .before .args .ratio) (c .before .args .price) (omega arith) (omega arith) in search needs
 
 returns : tie.Need-returns
-unfolding weighed signed
+unfolding weighed signTimes
 returns c =
     let m = product (c .before .args .ratio) (c .before .args .price) (omega arith) (omega arith) in
     let e = cast-of (c .before .args .ratio * c .before .args .price) (omega arith) in
@@ -40,7 +40,7 @@ sub-result c =
     neg-fits (c .before .args .ratio * c .before .args .price) (omega arith)
 
 returns-2 : tie.Need-returns-2
-unfolding weighed signed
+unfolding weighed signTimes
 returns-2 c =
     let m = product (c .before .args .ratio) (c .before .args .price) (omega arith) (omega arith) in
     let e = neg-ok (c .before .args .ratio * c .before .args .price) (omega arith) in

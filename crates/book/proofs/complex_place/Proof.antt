@@ -8,7 +8,7 @@ use Rattle.rules.specs.Complex.{restsComplex, complexPlace}
 use Rattle.places.specs.Layout.{complexIn, complexesUsed, venueOf}
 use Rattle.places.proofs.Parts.{complexes-few}
 use Rattle.book.specs.Picks.{complexFound}
-use Rattle.book.proofs.Finding.{foundIn, found-at, found-none, passed-on, complex-free}
+use Rattle.book.proofs.FirstPlace.{foundIn, found-at, found-none, passed-on, complex-free}
 use borrow.Author.Needs.{needs}
 use Rattle.book.proofs.complex_place.Statement.{statement}
 use Rattle.book.proofs.complex_place.Tie as tie

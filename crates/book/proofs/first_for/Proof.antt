@@ -7,7 +7,7 @@ use Rattle.rules.specs.declared.Regular.{Regular}
 use Rattle.rules.specs.Prices.{showsFor}
 use Rattle.places.specs.Layout.{regularIn, regularsUsed}
 use Rattle.places.proofs.Parts.{regulars-few}
-use Rattle.book.proofs.Finding.{passed-on}
+use Rattle.book.proofs.FirstPlace.{passed-on}
 use Rattle.book.proofs.PicksLaws.{for-key}
 use Rattle.book.proofs.Earliest.{for-at, for-none}
 use borrow.Author.Needs.{needs}

@@ -7,9 +7,9 @@ use lib.ListN.{getD}
 use borrow.Author.Tests.{not-true, not-false}
 use Rattle.rules.specs.Base.{held, first}
 use Rattle.rules.specs.Words.{opposite, noRegular, earlier}
-use Rattle.rules.specs.Prices.{shown, showsFor, bestIn, bestRegular}
+use Rattle.rules.specs.Prices.{shownSize, showsFor, bestIn, bestRegular}
 use Rattle.rules.specs.Generation.{reachesAny}
-use Rattle.places.specs.Layout.{isUnmarked, venueOf, Right}
+use Rattle.places.specs.Layout.{noneShowsAgain, venueOf, Right}
 use Rattle.book.specs.Picks.{pickOf}
 use Rattle.book.proofs.PicksLaws.{fully-some}
 use Rattle.book.proofs.Unmet.{unmet}
@@ -23,8 +23,8 @@ unfolding opposite
 best-regular-requires c κs = search needs
 
 -- every order shows some size
-some : {b : List ℕ} → Right b → isUnmarked b ≡ true → (i : ℕ) → held (getD (venueOf b .regular) i noRegular .quantity) ≡ true → held (shown (getD (venueOf b .regular) i noRegular)) ≡ true
-some r u i h = fully-some _ h (r .orders .displayed i h) (r .marked .shows u i)
+some : {b : List ℕ} → Right b → noneShowsAgain b ≡ true → (i : ℕ) → held (getD (venueOf b .regular) i noRegular .quantity) ≡ true → held (shownSize (getD (venueOf b .regular) i noRegular)) ≡ true
+some r u i h = fully-some _ h (r .orders .displays i h) (r .marked .shows u i)
 
 -- the best price of the other side, as it is asked
 best-asked : (c : tie.After-reaches-any) →

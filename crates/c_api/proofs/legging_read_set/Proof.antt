@@ -1,5 +1,5 @@
 -- `c_api::legging_read_set` meets its contract.
-use Rattle.c_api.proofs.Carrying.{reads-none, reads-short, reads-all}
+use Rattle.c_api.proofs.SetCarried.{reads-none, reads-short, reads-all}
 use borrow.Author.Needs.{needs}
 use Rattle.c_api.proofs.legging_read_set.Statement.{statement}
 use Rattle.c_api.proofs.legging_read_set.Tie as tie

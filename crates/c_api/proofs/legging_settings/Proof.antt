@@ -1,6 +1,6 @@
 -- `c_api::legging_settings` meets its contract.
 use native.Mathlib.Omega.{arith}
-use Rattle.c_api.proofs.Telling.{told-none, told-short, told-all}
+use Rattle.c_api.proofs.SettingsTold.{told-none, told-short, told-all}
 use borrow.Author.Needs.{needs}
 use Rattle.c_api.proofs.legging_settings.Statement.{statement}
 use Rattle.c_api.proofs.legging_settings.Tie as tie

@@ -1,6 +1,6 @@
 -- `c_api::legging_write_set` meets its contract.
 use native.Mathlib.Omega.{arith}
-use Rattle.c_api.proofs.Carrying.{saved-few, saves-none, saves-short, saves-all}
+use Rattle.c_api.proofs.SetCarried.{saved-few, saves-none, saves-short, saves-all}
 use borrow.Author.Needs.{needs}
 use Rattle.c_api.proofs.legging_write_set.Statement.{statement}
 use Rattle.c_api.proofs.legging_write_set.Tie as tie

@@ -1,5 +1,5 @@
 -- `c_api::put_number` meets its contract.
-use Rattle.c_api.proofs.Carrying.{number-put}
+use Rattle.c_api.proofs.SetCarried.{number-put}
 use borrow.Author.Needs.{needs}
 use Rattle.c_api.proofs.put_number.Statement.{statement}
 use Rattle.c_api.proofs.put_number.Tie as tie

@@ -3,7 +3,7 @@ use mathlib.Core.Path.{_≡_}
 use native.Mathlib.Omega.{arith}
 use lib.ListN.{length}
 use Rattle.engine.specs.Hosts.{settingsBytes}
-use Rattle.c_api.proofs.Telling.{put-both}
+use Rattle.c_api.proofs.SettingsTold.{put-both}
 use borrow.Author.Needs.{needs}
 use Rattle.c_api.proofs.put_settings.Statement.{statement}
 use Rattle.c_api.proofs.put_settings.Tie as tie

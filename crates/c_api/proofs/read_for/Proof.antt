@@ -1,5 +1,5 @@
 -- `c_api::read_for` meets its contract.
-use Rattle.c_api.proofs.Carrying.{read-short, read-four}
+use Rattle.c_api.proofs.SetCarried.{read-short, read-four}
 use borrow.Author.Needs.{needs}
 use Rattle.c_api.proofs.read_for.Statement.{statement}
 use Rattle.c_api.proofs.read_for.Tie as tie

@@ -8,7 +8,7 @@ use borrow.Author.Needs.{needs}
 use Rattle.venue_bytes.specs.Held.{venueSize}
 use Rattle.lanes.specs.Memory.{placesAt}
 use Rattle.lanes.proofs.Places.{head-lent}
-use Rattle.lanes.proofs.Writing.{called-head}
+use Rattle.lanes.proofs.MemoryLaws.{called-head}
 use Rattle.dispatch.proofs.call_head.Statement.{statement}
 use Rattle.dispatch.proofs.call_head.Tie as tie
 

@@ -7,7 +7,7 @@ use borrow.Author.Needs.{needs}
 use Rattle.venue_bytes.proofs.Rows.{Written, written-none}
 use Rattle.lanes.specs.Memory.{laneSize, lastAt}
 use Rattle.lanes.proofs.Bytes.{part-length}
-use Rattle.dispatch.proofs.Beginning.{freshRow, four, fresh-room, fresh-next, fresh-all, fresh-none}
+use Rattle.dispatch.proofs.FreshLayer.{freshRow, four, fresh-room, fresh-next, fresh-all, fresh-none}
 use Rattle.dispatch.proofs.legging_layer_fresh.Statement.{statement}
 use Rattle.dispatch.proofs.legging_layer_fresh.Tie as tie
 

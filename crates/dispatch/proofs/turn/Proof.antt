@@ -8,7 +8,7 @@ use borrow.Author.Needs.{needs}
 use Rattle.lanes.specs.Memory.{laneSize, layerFrom}
 use Rattle.dispatch.specs.Hosts.{turnReplyOf}
 use Rattle.lanes.proofs.ChecksLaws.{fails-unsound}
-use Rattle.dispatch.proofs.Calling.{checked-all, Serves, small, lent-size, lent-some, lent-few, lent-short, lent-counted, turn-none, turn-unsound, turn-idle, turn-ended, turn-serves}
+use Rattle.dispatch.proofs.CallWays.{checked-all, Serves, small, lent-size, lent-some, lent-few, lent-short, lent-counted, turn-none, turn-unsound, turn-idle, turn-ended, turn-serves}
 use Rattle.dispatch.proofs.turn.Statement.{statement}
 use Rattle.dispatch.proofs.turn.Tie as tie
 

@@ -1,5 +1,5 @@
 -- `engine::end_call` meets its contract.
-use Rattle.engine.proofs.Calling.{call-ends}
+use Rattle.engine.proofs.OneCallLaws.{call-ends}
 use borrow.Author.Needs.{needs}
 use Rattle.engine.proofs.end_call.Statement.{statement}
 use Rattle.engine.proofs.end_call.Tie as tie

@@ -7,8 +7,8 @@ use borrow.Author.Tests.{not-true, not-false}
 use Rattle.rules.specs.Sound.{sound, follows}
 use Rattle.rules.proofs.Tests.{and-l}
 use Rattle.places.specs.Layout.{Loaded}
-use Rattle.soundness.proofs.Following.{unready, ready-last, ready-next}
-use Rattle.engine.proofs.Calling.{laid-sound, one-unready, one-no-number, one-no-room, one-done}
+use Rattle.soundness.proofs.ReadyFor.{unready, ready-last, ready-next}
+use Rattle.engine.proofs.OneCallLaws.{laid-sound, one-unready, one-no-number, one-no-room, one-done}
 use borrow.Author.Needs.{needs}
 use Rattle.engine.proofs.one_message.Statement.{statement}
 use Rattle.engine.proofs.one_message.Tie as tie

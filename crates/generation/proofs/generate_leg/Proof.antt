@@ -1,5 +1,5 @@
 -- `generation::generate_leg` meets its contract.
-use Rattle.generation.proofs.PartsLaws.{steps-some, made-none, made-alone, made-over, made-is, planned-shown}
+use Rattle.generation.proofs.PartsLaws.{steps-some, made-none, made-alone, made-over, made-is, planned-displayed}
 use Rattle.settling.proofs.PartsLaws.{off, on}
 use Rattle.generation.specs.Parts.{madeBy}
 use Rattle.places.specs.Layout.{venueOf}
@@ -63,7 +63,7 @@ make-leg-requires c κs =
       search needs,
       s .pre .3,
       s .pre .4,
-      rw (w .0) (planned-shown _ (s .args .c) _ _ (p .result) (p .ensures)
+      rw (w .0) (planned-displayed _ (s .args .c) _ _ (p .result) (p .ensures)
           (c .before .before .before .before .before .before .before .before .before .before .before .if1 .left)),
       w .1 .right (s .pre .1) .marked .figures,
     )

@@ -10,17 +10,17 @@ use Rattle.generation.proofs.leg_price.Tie as tie
 returns : tie.Need-returns
 returns c = priced-none _ (c .before .before .before .args .c) _ _ _ (c .before .other-clear .ensures) (c .if1 .taken)
 
-sub-signed-of : tie.Need-sub-signed-of
-sub-signed-of c = let m = c .before .limit-of in let n = c .signed-price in diff-fits {a = m .result} {b = n .result} (record { sfits = m .ok })
+sub-sign-times : tie.Need-sub-sign-times
+sub-sign-times c = let m = c .before .limit-of in let n = c .sign-times-price in diff-fits {a = m .result} {b = n .result} (record { sfits = m .ok })
     (record { sfits = n .ok }) (omega (arith, m .ensures .1, n .ensures .1))
 
-signed-of-requires : tie.Need-signed-of-requires
-signed-of-requires c κs = let m = c .before .limit-of in let n = c .signed-price in
+sign-times-requires : tie.Need-sign-times-requires
+sign-times-requires c κs = let m = c .before .limit-of in let n = c .sign-times-price in
     diff-abs {a = m .result} {b = n .result} (record { sfits = m .ok }) (record { sfits = n .ok }) (omega (arith, m .ensures .1, n .ensures .1))
 
 returns-2 : tie.Need-returns-2
 returns-2 c = let a = c .before .before .before .before .before .before .before .before .before .args in
-    let m = c .before .before .before .before .limit-of in let n = c .before .before .before .signed-price in let u = c .before .before .signed-of in
+    let m = c .before .before .before .before .limit-of in let n = c .before .before .before .sign-times-price in let u = c .before .before .sign-times in
     priced-is _ (a .c) _ _ _ (c .before .before .before .before .before .before .before .other-clear .ensures)
     (c .before .before .before .before .before .before .if1 .left) (c .before .before .before .before .before .other-leg .result)
     (c .before .before .before .before .before .other-leg .ensures) _ _ _ _ _ _ (m .ensures .0) (n .ensures .0)
@@ -29,5 +29,5 @@ returns-2 c = let a = c .before .before .before .before .before .before .before 
 
 pub leg-price-spec : {M : Type 1} → statement M
 leg-price-spec = tie.close
-    (tie.spec (λ c κs. search needs) returns (λ c κs. search needs) (λ c κs. search needs) (λ c κs. search needs) sub-signed-of signed-of-requires
+    (tie.spec (λ c κs. search needs) returns (λ c κs. search needs) (λ c κs. search needs) (λ c κs. search needs) sub-sign-times sign-times-requires
     (λ c κs. search needs) (λ c κs. search needs) returns-2)

@@ -21,7 +21,7 @@ returns c =
           (c .before .before .before .before .before .before .before .before .before .before .before .before .before .before .before .before .before
           .before .before .place-of .ensures)
           (c .before .before .before .before .before .before .before .before .before .before .before .before .before .before .before .before .before
-          .before .before .before .shown-price .ensures) (gone .0) (put .0) (count .0) (c .before .before .emit-generated .ensures),
+          .before .before .before .displayed-in-series .ensures) (gone .0) (put .0) (count .0) (c .before .before .emit-generated .ensures),
       counts-on _ _ _ (counts-on _ _ _ (gone .1) (put .1)) (count .1),
     )
 

@@ -8,8 +8,8 @@ use borrow.Author.Needs.{needs}
 use Rattle.generation.proofs.may_stand.Statement.{statement}
 use Rattle.generation.proofs.may_stand.Tie as tie
 
-stands-clear-requires : tie.Need-stands-clear-requires
-stands-clear-requires c κs =
+price-may-stand-requires : tie.Need-price-may-stand-requires
+price-may-stand-requires c κs =
     let p = c .before .pre in
     let a = c .before .args in
     let v = venueOf (a .numbers .now) in
@@ -17,13 +17,13 @@ stands-clear-requires c κs =
 
 returns : tie.Need-returns
 unfolding mayStand
-returns c = simp (c .before .before .before .pre .5, off _ _ (c .before .stands-clear .ensures) (c .if1 .taken))
+returns c = simp (c .before .before .before .pre .5, off _ _ (c .before .price-may-stand .ensures) (c .if1 .taken))
 
 returns-2 : tie.Need-returns-2
 unfolding mayStand
 returns-2 c =
     let p2 = c .before .before in
-    simp (p2 .before .before .pre .5, on _ _ (p2 .stands-clear .ensures) (c .before .if1 .left)) (c .gives-way .ensures)
+    simp (p2 .before .before .pre .5, on _ _ (p2 .price-may-stand .ensures) (c .before .if1 .left)) (c .gives-way .ensures)
 
 pub may-stand-spec : {M : Type 1} → statement M
-may-stand-spec = tie.close (tie.spec stands-clear-requires returns (λ c κs. search needs) returns-2)
+may-stand-spec = tie.close (tie.spec price-may-stand-requires returns (λ c κs. search needs) returns-2)

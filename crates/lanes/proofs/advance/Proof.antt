@@ -2,7 +2,7 @@
 use mathlib.Core.Path.{_∙_}
 use native.Mathlib.Omega.{arith}
 use borrow.Author.Needs.{needs}
-use Rattle.lanes.proofs.Writing.{done-same, count-same, advanced-put}
+use Rattle.lanes.proofs.MemoryLaws.{done-same, count-same, advanced-put}
 use Rattle.lanes.proofs.advance.Statement.{statement}
 use Rattle.lanes.proofs.advance.Tie as tie
 

@@ -1,6 +1,6 @@
 -- `lanes::count_done` meets its contract.
 use borrow.Author.Needs.{needs}
-use Rattle.lanes.proofs.Writing.{done-put}
+use Rattle.lanes.proofs.MemoryLaws.{done-put}
 use Rattle.lanes.proofs.count_done.Statement.{statement}
 use Rattle.lanes.proofs.count_done.Tie as tie
 

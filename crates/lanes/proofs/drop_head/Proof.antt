@@ -5,7 +5,7 @@ use lib.ListN.{length-set}
 use native.Mathlib.Omega.{arith}
 use borrow.Author.Needs.{needs}
 use Rattle.lanes.specs.Memory.{countAt, placeSize}
-use Rattle.lanes.proofs.Writing.{Moved, moved-none, moved-next, moved-all}
+use Rattle.lanes.proofs.MemoryLaws.{Moved, moved-none, moved-next, moved-all}
 use Rattle.lanes.proofs.drop_head.Statement.{statement}
 use Rattle.lanes.proofs.drop_head.Tie as tie
 

@@ -4,7 +4,7 @@ use lib.Seq.{length-take-le}
 use native.Mathlib.Omega.{arith}
 use borrow.Author.Needs.{needs}
 use Rattle.venue_bytes.specs.Held.{venueSize}
-use Rattle.lanes.proofs.Writing.{fresh-put}
+use Rattle.lanes.proofs.MemoryLaws.{fresh-put}
 use Rattle.lanes.proofs.fresh_lane.Statement.{statement}
 use Rattle.lanes.proofs.fresh_lane.Tie as tie
 

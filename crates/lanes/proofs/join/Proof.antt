@@ -3,7 +3,7 @@ use Prim.Native.Nat.{_+_, _-_, _*_}
 use native.Mathlib.Omega.{arith}
 use borrow.Author.Needs.{needs}
 use Rattle.lanes.specs.Memory.{placesAt, placeSize}
-use Rattle.lanes.proofs.Writing.{joins-put}
+use Rattle.lanes.proofs.MemoryLaws.{joins-put}
 use Rattle.lanes.proofs.join.Statement.{statement}
 use Rattle.lanes.proofs.join.Tie as tie
 

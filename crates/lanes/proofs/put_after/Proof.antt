@@ -4,7 +4,7 @@ use lib.Seq.{length-take-le}
 use native.Mathlib.Omega.{arith}
 use borrow.Author.Needs.{needs}
 use Rattle.venue_bytes.specs.Held.{venueSize}
-use Rattle.lanes.proofs.Writing.{after-refused, after-accepted}
+use Rattle.lanes.proofs.MemoryLaws.{after-refused, after-accepted}
 use Rattle.lanes.proofs.put_after.Statement.{statement}
 use Rattle.lanes.proofs.put_after.Tie as tie
 

@@ -2,7 +2,7 @@
 use mathlib.Core.Path.{refl, _∙_}
 use lib.ListN.{length, length-set}
 use borrow.Author.Needs.{needs}
-use Rattle.lanes.proofs.Writing.{place-put}
+use Rattle.lanes.proofs.MemoryLaws.{place-put}
 use Rattle.lanes.proofs.put_place.Statement.{statement}
 use Rattle.lanes.proofs.put_place.Tie as tie
 

@@ -1,7 +1,7 @@
 -- `levels::add_order` meets its contract.
 use mathlib.Core.Path.{_∙_}
 use native.Mathlib.Omega.{arith}
-use Rattle.levels.proofs.Kept.{place-low, level-small, added}
+use Rattle.levels.proofs.LevelsKept.{place-low, level-small, added}
 use borrow.Author.Needs.{needs}
 use Rattle.levels.proofs.add_order.Statement.{statement}
 use Rattle.levels.proofs.add_order.Tie as tie

@@ -1,7 +1,7 @@
 -- `levels::best_regular` meets its contract.
 use Rattle.places.specs.Layout.{venueOf}
 use Rattle.levels.proofs.Sides.{level-price}
-use Rattle.levels.proofs.Kept.{place-low, level-read}
+use Rattle.levels.proofs.LevelsKept.{place-low, level-read}
 use borrow.Author.Needs.{needs}
 use Rattle.levels.proofs.best_regular.Statement.{statement}
 use Rattle.levels.proofs.best_regular.Tie as tie

@@ -3,8 +3,8 @@ use mathlib.Core.Path.{refl, ap, _∙_}
 use Prim.Native.Nat.{min}
 use native.Mathlib.Omega.{arith}
 use Rattle.places.proofs.Parts.{regulars-few}
-use Rattle.levels.proofs.Joining.{series-in, side-in}
-use Rattle.levels.proofs.Kept.{key-few, filled-off, filled-on, filled-rest}
+use Rattle.levels.proofs.LevelWithOrder.{series-in, side-in}
+use Rattle.levels.proofs.LevelsKept.{key-few, filled-off, filled-on, filled-rest}
 use borrow.Author.Needs.{needs}
 use Rattle.levels.proofs.fill_order.Statement.{statement}
 use Rattle.levels.proofs.fill_order.Tie as tie
@@ -69,7 +69,7 @@ returns-2 c = let start = c .before .before .before .before .before .before .bef
     (c .before .before .before .before .before .before .before .before .before .before .before .before .before .before .fill-regular .ensures .0)
     (c .before .before .before .before .before .before .before .before .before .before .before .before .before .before .fill-regular .ensures .1) _
     (c .before .before .before .before .before .before .before .lesser .ensures ∙ ap (min (start .args .k))
-    (c .before .before .before .before .before .before .before .before .shown-of .ensures))
+    (c .before .before .before .before .before .before .before .before .shown-size .ensures))
     (c .before .before .before .before .before .before .before .before .before .if1 .left) (c .before .before .before .before .before .if2 .taken) _
     refl)
 

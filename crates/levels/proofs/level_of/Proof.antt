@@ -2,7 +2,7 @@
 use mathlib.Core.Path.{refl, sym, _∙_}
 use native.Mathlib.Omega.{arith}
 use borrow.Author.Needs.{needs}
-use Rattle.levels.proofs.Keeping.{Scanned, scanned-none, scanned-past, scanned-on, scanned-all}
+use Rattle.levels.proofs.LevelChanges.{Scanned, scanned-none, scanned-past, scanned-on, scanned-all}
 use Rattle.levels.proofs.level_of.Statement.{statement}
 use Rattle.levels.proofs.level_of.Tie as tie
 

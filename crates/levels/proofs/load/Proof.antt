@@ -1,5 +1,5 @@
 -- `levels::load` meets its contract.
-use Rattle.levels.proofs.Kept.{loaded-all}
+use Rattle.levels.proofs.LevelsKept.{loaded-all}
 use borrow.Author.Needs.{needs}
 use Rattle.levels.proofs.load.Statement.{statement}
 use Rattle.levels.proofs.load.Tie as tie

@@ -3,7 +3,7 @@ use borrow.Author.Needs.{needs}
 use mathlib.Core.Path.{sym, _∙_}
 use native.Mathlib.Omega.{arith}
 use Rattle.places.proofs.Parts.{regulars-few}
-use Rattle.levels.proofs.Kept.{Making, making-start, making-turn, making-bound, making-end, key-few}
+use Rattle.levels.proofs.LevelsKept.{Making, making-start, making-turn, making-bound, making-end, key-few}
 use Rattle.levels.proofs.make_levels.Statement.{statement}
 use Rattle.levels.proofs.make_levels.Tie as tie
 
@@ -13,16 +13,16 @@ Inv-loop b₀ i₀ b i = Making b₀ b i₀ i
 abbrev μ-loop : tie.MeasureT-loop
 μ-loop b₀ i₀ b i = i
 
-clear-levels-requires : tie.Need-clear-levels-requires Inv-loop μ-loop
-clear-levels-requires c κs = c .before .before .pre
+zero-levels-requires : tie.Need-zero-levels-requires Inv-loop μ-loop
+zero-levels-requires c κs = c .before .before .pre
 
 regulars-used-requires : tie.Need-regulars-used-requires Inv-loop μ-loop
-regulars-used-requires c κs = c .before .before .before .clear-levels .kept .0 ∙ c .before .before .before .before .before .before .pre
+regulars-used-requires c κs = c .before .before .before .zero-levels .kept .0 ∙ c .before .before .before .before .before .before .pre
 
 loop-holds : tie.Need-loop-holds Inv-loop μ-loop
 loop-holds c = making-start _ _ _ (c .regulars-used .ensures .0)
-    (c .before .before .before .before .clear-levels .kept .0 ∙ c .before .before .before .before .before .before .before .pre)
-    (c .before .before .before .before .clear-levels .ensures)
+    (c .before .before .before .before .zero-levels .kept .0 ∙ c .before .before .before .before .before .before .before .pre)
+    (c .before .before .before .before .zero-levels .ensures)
 
 regular-at-requires : tie.Need-regular-at-requires Inv-loop μ-loop
 regular-at-requires c κs = let f = regulars-few (c .before .before .before .before .before .before .before .before .before .before .args .numbers .now) in
@@ -58,7 +58,7 @@ same-length : tie.Need-same-length Inv-loop μ-loop
 same-length c = c .before .loop .inv .long ∙ sym (c .before .before .before .before .before .before .before .before .before .pre)
 
 returns : tie.Need-returns Inv-loop μ-loop
-returns c = making-end _ _ _ _ _ (c .before .before .before .before .before .before .clear-levels .ensures) (c .before .loop .inv) (omega (arith, c .loop-test .left))
+returns c = making-end _ _ _ _ _ (c .before .before .before .before .before .before .zero-levels .ensures) (c .before .loop .inv) (omega (arith, c .loop-test .left))
 
 pub make-levels-spec : {M : Type 1} → statement M
 make-levels-spec =
@@ -66,7 +66,7 @@ make-levels-spec =
     (tie.spec
     Inv-loop
     μ-loop
-    clear-levels-requires
+    zero-levels-requires
     regulars-used-requires
     loop-holds
     (λ c. search needs)

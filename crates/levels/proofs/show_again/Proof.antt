@@ -1,12 +1,12 @@
 -- `levels::show_again` meets its contract.
 use mathlib.Core.Path.{sym, _∙_}
-use Rattle.levels.proofs.Kept.{shown-already, shown-again}
+use Rattle.levels.proofs.LevelsKept.{shown-already, shown-again}
 use borrow.Author.Needs.{needs}
 use Rattle.levels.proofs.show_again.Statement.{statement}
 use Rattle.levels.proofs.show_again.Tie as tie
 
 returns : tie.Need-returns
-returns c = shown-already _ (c .before .before .before .before .pre .1) (sym (c .before .is-unmarked .ensures) ∙ c .if1 .taken)
+returns c = shown-already _ (c .before .before .before .before .pre .1) (sym (c .before .none-shows-again .ensures) ∙ c .if1 .taken)
 
 returns-2 : tie.Need-returns-2
 returns-2 c = let x = c .before .before .before .before .before .before .show-again .ensures in

@@ -2,7 +2,7 @@
 use mathlib.Core.Path.{ap, _∙_}
 use Rattle.rules.specs.Words.{opposite, placeOf}
 use Rattle.levels.proofs.Sides.{opposite-in, opposite-side}
-use Rattle.levels.proofs.Kept.{place-low, level-read}
+use Rattle.levels.proofs.LevelsKept.{place-low, level-read}
 use borrow.Author.Needs.{needs}
 use Rattle.levels.proofs.taken_at.Statement.{statement}
 use Rattle.levels.proofs.taken_at.Tie as tie

@@ -3,7 +3,7 @@ use mathlib.Core.Path.{sym, _∙_}
 use native.Mathlib.Omega.{arith}
 use Rattle.places.specs.Layout.{venueOf}
 use Rattle.places.proofs.Parts.{regulars-few, regular-at}
-use Rattle.levels.proofs.Joining.{series-in}
+use Rattle.levels.proofs.LevelWithOrder.{series-in}
 use Rattle.matching.specs.Turns.{turnOf}
 use Rattle.matching.proofs.TurnsLaws.{turn-idle, none-hit, none-end, some-hit, some-meet, met-used}
 use borrow.Author.Needs.{needs}

@@ -7,7 +7,7 @@ use Rattle.records.specs.Seen.{seen}
 use Rattle.records.specs.Stage.{_does_}
 use Rattle.places.specs.Layout.{venueOf}
 use Rattle.venue_numbers.proofs.Loaded.{regular-side}
-use Rattle.places.proofs.Orderly.{range-priced, range-displayed}
+use Rattle.places.proofs.Orderly.{range-priced, range-display}
 use Rattle.places.proofs.Fully.{range-bounded}
 use Rattle.messages.proofs.StepsLaws.{last-dense, last-below}
 use borrow.Author.Needs.{needs}
@@ -30,7 +30,7 @@ order-requires c κs =
       z .side,
       range-priced _ r,
       last-below _ _ _ (p .0) (s .pre .5),
-      range-displayed _ r,
+      range-display _ r,
       range-bounded _ r f .display,
       f,
     )

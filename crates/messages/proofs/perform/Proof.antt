@@ -5,13 +5,13 @@ use Rattle.rules.specs.declared.Message.{Message}
 use Rattle.rules.specs.Refusals.{refusalOf}
 use Rattle.rules.specs.Step.{perform}
 use Rattle.rules.proofs.ByKind.{kinds-left, sweep-left}
-use Rattle.rules.proofs.Refusing.{wellFormed}
+use Rattle.rules.proofs.RefusalsLaws.{wellFormed}
 use Rattle.records.specs.Seen.{seen}
 use Rattle.records.specs.Stage.{_does_}
 use Rattle.wire.specs.Brought.{Shows}
 use Rattle.places.specs.Layout.{venueOf}
 use Rattle.sweeps.proofs.Walking.{sound-rising}
-use Rattle.refusals.proofs.Refusing.{legs-in, away-series, status-series}
+use Rattle.refusals.proofs.RefusalFound.{legs-in, away-series, status-series}
 use Rattle.messages.proofs.StepsLaws.{order-below, order-room, complex-room, cancel-known}
 use borrow.Author.Needs.{needs}
 use Rattle.messages.proofs.perform.Statement.{statement}

@@ -6,12 +6,12 @@ use Rattle.rules.specs.declared.Message.{Message}
 use Rattle.rules.specs.Refusals.{refusalOf}
 use Rattle.rules.specs.Step.{perform}
 use Rattle.rules.proofs.ByKind.{lower-left}
-use Rattle.rules.proofs.Refusing.{wellFormed}
+use Rattle.rules.proofs.RefusalsLaws.{wellFormed}
 use Rattle.records.specs.Seen.{seen}
 use Rattle.records.specs.Stage.{_does_}
 use Rattle.places.specs.Layout.{venueOf}
 use Rattle.sweeps.proofs.Walking.{sound-rising}
-use Rattle.refusals.proofs.Refusing.{increment-set}
+use Rattle.refusals.proofs.RefusalFound.{increment-set}
 use Rattle.messages.proofs.StepsLaws.{increment-place, percent-place}
 use borrow.Author.Needs.{needs}
 use Rattle.messages.proofs.perform_later.Statement.{statement}

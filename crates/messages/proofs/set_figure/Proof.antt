@@ -7,7 +7,7 @@ use Rattle.records.specs.Seen.{seen}
 use Rattle.records.specs.Stage.{_does_}
 use Rattle.places.specs.Layout.{venueOf}
 use Rattle.places.proofs.Beside.{counts-on}
-use Rattle.messages.proofs.Entering.{place-free, figure-set}
+use Rattle.messages.proofs.EditionEntered.{place-free, figure-set}
 use borrow.Author.Needs.{needs}
 use Rattle.messages.proofs.set_figure.Statement.{statement}
 use Rattle.messages.proofs.set_figure.Tie as tie

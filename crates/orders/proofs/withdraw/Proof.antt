@@ -6,7 +6,7 @@ use Rattle.rules.proofs.Tests.{or-r}
 use Rattle.records.specs.Seen.{seen}
 use Rattle.records.specs.Stage.{_does_}
 use Rattle.places.specs.Layout.{venueOf}
-use Rattle.orders.proofs.Finding.{regular-found, regular-used, regular-not, withdraw-regular, withdraw-other}
+use Rattle.orders.proofs.CancelLaws.{regular-found, regular-used, regular-not, withdraw-regular, withdraw-other}
 use borrow.Author.Needs.{needs}
 use Rattle.orders.proofs.withdraw.Statement.{statement}
 use Rattle.orders.proofs.withdraw.Tie as tie

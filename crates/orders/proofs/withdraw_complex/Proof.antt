@@ -6,7 +6,7 @@ use Rattle.rules.specs.Complex.{cancelComplex}
 use Rattle.records.specs.Seen.{seen}
 use Rattle.records.specs.Stage.{_does_}
 use Rattle.places.specs.Layout.{venueOf}
-use Rattle.orders.proofs.Finding.{complex-found, complex-used, complex-not}
+use Rattle.orders.proofs.CancelLaws.{complex-found, complex-used, complex-not}
 use borrow.Author.Needs.{needs}
 use Rattle.orders.proofs.withdraw_complex.Statement.{statement}
 use Rattle.orders.proofs.withdraw_complex.Tie as tie

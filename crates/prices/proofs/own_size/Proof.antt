@@ -2,7 +2,7 @@
 use mathlib.Core.Path.{sym, _∙_}
 use native.Mathlib.Omega.{arith}
 use Rattle.rules.specs.Words.{placeOf}
-use Rattle.levels.proofs.Kept.{level-most}
+use Rattle.levels.proofs.LevelsKept.{level-most}
 use Rattle.places.proofs.Parts.{legging-read}
 use Rattle.prices.proofs.Prices.{size-free, size-same, size-better, size-worse}
 use borrow.Author.Needs.{needs}

@@ -11,7 +11,7 @@ returns : tie.Need-returns
 unfolding encode framed bytes wordBytes
 returns c =
     let s = c .before .before .before .before .before .before .before .before in
-    emitted _ _ _ (generated (s .args .id) (s .args .series) (s .args .side) (s .args .price) (s .args .shown) (s .args .quantity)) (c .before .before .put-words .ensures)
+    emitted _ _ _ (generated (s .args .id) (s .args .series) (s .args .side) (s .args .price) (s .args .displayed) (s .args .quantity)) (c .before .before .put-words .ensures)
     (rw (c .before .before .before .before .before .before .bytes4 .ensures, byte (s .args .series) (s .fits .series .fits), byte (s .args .side) (s .fits .side .fits)))
 
 pub emit-generated-spec : {M : Type 1} → statement M

@@ -4,7 +4,7 @@ use mathlib.Core.Bool.{Bool, not}
 use Rattle.rules.specs.declared.Message.the-variants.{Cancel}
 use Rattle.rules.specs.Refusals.{offIncrement, editionTooLow, inUse, noEditionLeft, idTooLow, onClosed, full, unknown}
 use Rattle.places.specs.Layout.{venueOf}
-use Rattle.refusals.proofs.Refusing.{accepts, refuses-unknown}
+use Rattle.refusals.proofs.RefusalFound.{accepts, refuses-unknown}
 use borrow.Author.Needs.{needs}
 use Rattle.refusals.proofs.cancel_refusal.Statement.{statement}
 use Rattle.refusals.proofs.cancel_refusal.Tie as tie

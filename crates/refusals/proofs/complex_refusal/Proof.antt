@@ -8,7 +8,7 @@ use Rattle.rules.specs.declared.Message.the-variants.{TwoLeg}
 use Rattle.rules.specs.Refusals.{offIncrement, editionTooLow, inUse, noEditionLeft, idTooLow, onClosed, full, unknown}
 use Rattle.places.specs.Layout.{venueOf}
 use Rattle.place_writes.proofs.Closed.{dense-complex}
-use Rattle.refusals.proofs.Refusing.{legs-in, refuses-low, refuses-closed, refuses-full, accepts}
+use Rattle.refusals.proofs.RefusalFound.{legs-in, refuses-low, refuses-closed, refuses-full, accepts}
 use borrow.Author.Needs.{needs}
 use Rattle.refusals.proofs.complex_refusal.Statement.{statement}
 use Rattle.refusals.proofs.complex_refusal.Tie as tie

@@ -1,5 +1,5 @@
 -- `refusals::complex_rests` meets its contract.
-use Rattle.refusals.proofs.Refusing.{complex-told}
+use Rattle.refusals.proofs.RefusalFound.{complex-told}
 use mathlib.Core.Path.{_≡_, refl, sym, ap, _∙_}
 use Rattle.places.specs.Layout.{venueOf}
 use borrow.Author.Needs.{needs}

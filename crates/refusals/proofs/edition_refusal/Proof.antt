@@ -3,7 +3,7 @@ use mathlib.Core.Path.{_≡_, sym, ap, _∙_}
 use lib.Dec.{leb}
 use borrow.Author.Tests.{le-leb, lt-leb, not-true, not-false}
 use Rattle.places.specs.Layout.{venueOf}
-use Rattle.refusals.proofs.Refusing.{edition-low, edition-used, edition-none-left, edition-taken}
+use Rattle.refusals.proofs.RefusalFound.{edition-low, edition-used, edition-none-left, edition-taken}
 use borrow.Author.Needs.{needs}
 use Rattle.refusals.proofs.edition_refusal.Statement.{statement}
 use Rattle.refusals.proofs.edition_refusal.Tie as tie

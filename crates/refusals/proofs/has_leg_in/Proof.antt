@@ -1,6 +1,6 @@
 -- `refusals::has_leg_in` meets its contract.
 use borrow.Author.Tests.{eq-eqb, ne-eqb}
-use Rattle.refusals.proofs.Refusing.{second-leg}
+use Rattle.refusals.proofs.RefusalFound.{second-leg}
 use Rattle.refusals.proofs.has_leg_in.Statement.{statement}
 use Rattle.refusals.proofs.has_leg_in.Tie as tie
 

@@ -5,7 +5,7 @@ use lib.Dec.{eqb}
 use borrow.Author.Tests.{eq-eqb, ne-eqb, not-true, not-false}
 use Rattle.rules.specs.Words.{closed}
 use Rattle.places.specs.Layout.{venueOf}
-use Rattle.refusals.proofs.Refusing.{busy-open, busy-order, idle-legs}
+use Rattle.refusals.proofs.RefusalFound.{busy-open, busy-order, idle-legs}
 use borrow.Author.Needs.{needs}
 use Rattle.refusals.proofs.is_idle.Statement.{statement}
 use Rattle.refusals.proofs.is_idle.Tie as tie

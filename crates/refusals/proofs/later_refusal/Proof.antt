@@ -3,9 +3,9 @@ use mathlib.Core.Path.{_≡_, sym, ap, _∙_}
 use native.Mathlib.Omega.{arith}
 use Rattle.rules.specs.Refusals.{refusalOf}
 use Rattle.rules.proofs.ByKind.{lower-left}
-use Rattle.rules.proofs.Refusing.{wellFormed}
+use Rattle.rules.proofs.RefusalsLaws.{wellFormed}
 use Rattle.places.specs.Layout.{venueOf}
-use Rattle.refusals.proofs.Refusing.{increment-set, increment-refusal, percent-refusal, limited-taken}
+use Rattle.refusals.proofs.RefusalFound.{increment-set, increment-refusal, percent-refusal, limited-taken}
 use borrow.Author.Needs.{needs}
 use Rattle.refusals.proofs.later_refusal.Statement.{statement}
 use Rattle.refusals.proofs.later_refusal.Tie as tie

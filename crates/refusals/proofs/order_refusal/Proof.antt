@@ -10,7 +10,7 @@ use Rattle.rules.specs.Refusals.{offIncrement, editionTooLow, inUse, noEditionL
 use Rattle.places.specs.Layout.{venueOf}
 use Rattle.venue_numbers.proofs.Loaded.{regular-side}
 use Rattle.place_writes.proofs.Closed.{dense-regular}
-use Rattle.refusals.proofs.Refusing.{refuses-off, refuses-low, refuses-closed, refuses-full, accepts}
+use Rattle.refusals.proofs.RefusalFound.{refuses-off, refuses-low, refuses-closed, refuses-full, accepts}
 use borrow.Author.Needs.{needs}
 use Rattle.refusals.proofs.order_refusal.Statement.{statement}
 use Rattle.refusals.proofs.order_refusal.Tie as tie

@@ -3,9 +3,9 @@ use mathlib.Core.Path.{_≡_, sym, ap, _∙_}
 use native.Mathlib.Omega.{arith}
 use Rattle.rules.specs.Refusals.{refusalOf}
 use Rattle.rules.proofs.ByKind.{kinds-left}
-use Rattle.rules.proofs.Refusing.{wellFormed}
+use Rattle.rules.proofs.RefusalsLaws.{wellFormed}
 use Rattle.places.specs.Layout.{venueOf}
-use Rattle.refusals.proofs.Refusing.{never-refused}
+use Rattle.refusals.proofs.RefusalFound.{never-refused}
 use borrow.Author.Needs.{needs}
 use Rattle.refusals.proofs.refusal_of.Statement.{statement}
 use Rattle.refusals.proofs.refusal_of.Tie as tie

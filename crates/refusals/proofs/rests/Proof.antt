@@ -1,5 +1,5 @@
 -- `refusals::rests` meets its contract.
-use Rattle.refusals.proofs.Refusing.{regular-told}
+use Rattle.refusals.proofs.RefusalFound.{regular-told}
 use mathlib.Core.Path.{_≡_, refl, sym, ap, _∙_}
 use mathlib.Core.Bool.{Bool, _||_}
 use Rattle.rules.specs.Complex.{restsRegular, restsComplex}

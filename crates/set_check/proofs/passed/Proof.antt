@@ -29,7 +29,7 @@ returns c = onward-made _ _ _ _ _ _ _ _ _ _ _ _ _
     (c .before .before .before .before .before .before .before .before .before .before .before .before .before .before .before .before .before
     .is-whole .ensures) (c .before .before .before .before .before .before .before .before .before .before .before .before .before .before .before
     .before .part-of .ensures)
-    (c .before .before .before .before .before .before .before .before .before .before .before .before .before .before .before .mark-of .ensures)
+    (c .before .before .before .before .before .before .before .before .before .before .before .before .before .before .before .sort-key .ensures)
     (c .before .before .before .before .before .before .before .before .before .before .before .before .before .before .told-of .ensures)
     (c .before .before .before .before .before .before .before .before .before .before .before .before .one-if .ensures .0 ∙ ap oneIf
     (c .before .before .before .before .before .before .before .before .before .before .before .before .before .tells-edition .ensures))

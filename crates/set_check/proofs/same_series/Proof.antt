@@ -9,7 +9,7 @@ returns : tie.Need-returns
 returns c = same-not _ _ (λ e. omega arith)
 
 returns-2 : tie.Need-returns-2
-returns-2 c = same-so _ _ _ (c .before .mark-of .ensures) (omega arith)
+returns-2 c = same-so _ _ _ (c .before .sort-key .ensures) (omega arith)
 
 pub same-series-spec : {M : Type 1} → statement M
 same-series-spec = tie.close (tie.spec returns (λ c κs. search needs) returns-2)

@@ -7,7 +7,7 @@ use lib.ListN.{length, drop}
 use Rattle.rules.specs.Bytes.{kindField, u32At}
 use Rattle.sets.specs.Set.{reachedTold, venueTold}
 use Rattle.set_tables.specs.Told.{rowIn}
-use Rattle.set_tables.proofs.Filling.{Walk, walk-start, walk-on, walk-next}
+use Rattle.set_tables.proofs.TableFilled.{Walk, walk-start, walk-on, walk-next}
 use Rattle.set_tables.proofs.ToldLaws.{reached-found, reached-skip, reached-none}
 use borrow.Author.Needs.{needs}
 use Rattle.set_tables.proofs.reached_told.Statement.{statement}

@@ -9,7 +9,7 @@ use Rattle.set_tables.proofs.regular_told.Tie as tie
 
 returns : tie.Need-returns
 unfolding regularTold orderAt
-returns c = c .order-at .ensures ∙ ap (λ (x : ℕ). orderAt x (c .before .before .before .args .r .now)) (c .before .shown-of .ensures)
+returns c = c .order-at .ensures ∙ ap (λ (x : ℕ). orderAt x (c .before .before .before .args .r .now)) (c .before .display-told .ensures)
 
 pub regular-told-spec : {M : Type 1} → statement M
 regular-told-spec = tie.close (tie.spec (λ c κs. search needs) (λ c κs. search needs) returns)

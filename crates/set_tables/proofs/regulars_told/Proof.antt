@@ -1,7 +1,7 @@
 -- `set_tables::regulars_told` meets its contract.
 use native.Mathlib.Omega.{arith}
 use mathlib.Core.Path.{_≡_, refl, sym, ap, _∙_}
-use Rattle.set_tables.proofs.Filling.{Filling, walk-on, filling-start, filling-end, filling-skip, filling-room, filling-put}
+use Rattle.set_tables.proofs.TableFilled.{Filling, walk-on, filling-start, filling-end, filling-skip, filling-room, filling-put}
 use lib.ListN.{length}
 use Prim.Native.Nat.{_-_}
 use borrow.Author.Tests.{not-true, not-false}

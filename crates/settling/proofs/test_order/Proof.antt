@@ -1,5 +1,5 @@
 -- `settling::test_order` meets its contract.
-use Rattle.settling.proofs.PartsLaws.{off, on, shown-is}
+use Rattle.settling.proofs.PartsLaws.{off, on, displayed-is}
 use Rattle.levels.proofs.Sides.{own-is}
 use Rattle.places.specs.Layout.{venueOf}
 use Rattle.rules.proofs.Machine.{back}
@@ -15,9 +15,9 @@ use Rattle.settling.proofs.test_order.Tie as tie
 returns : tie.Need-returns
 unfolding verdictOf
 returns c = simp (off _ _
-    (shown-is (venueOf (c .before .before .before .args .numbers .now)) _ _ _ _ _
+    (displayed-is (venueOf (c .before .before .before .args .numbers .now)) _ _ _ _ _
     (own-is _ (c .before .before .before .args .sides) (c .before .before .before .args .c) _ _ (c .before .before .before .pre .1))
-    (c .before .shown-well .ensures)) (c .if1 .taken))
+    (c .before .displayed-no-worse .ensures)) (c .if1 .taken))
 
 in-band-requires : tie.Need-in-band-requires
 in-band-requires c κs =
@@ -33,10 +33,10 @@ returns-2 c =
     let w = c .before .before .limit-of in
     let q = back {z = w .result} (record { sfits = w .ok }) ∙ w .ensures .0 in
     simp (
-      on _ _ (shown-is (venueOf (c .before .before .before .before .before .before .before .args .numbers .now)) _ _ _ _ _
+      on _ _ (displayed-is (venueOf (c .before .before .before .before .before .before .before .args .numbers .now)) _ _ _ _ _
           (own-is _ (c .before .before .before .before .before .before .before .args .sides)
           (c .before .before .before .before .before .before .before .args .c) _ _
-          (c .before .before .before .before .before .before .before .pre .1)) (c .before .before .before .before .before .shown-well .ensures))
+          (c .before .before .before .before .before .before .before .pre .1)) (c .before .before .before .before .before .displayed-no-worse .ensures))
           (c .before .before .before .before .if1 .left),
       off _ _ (c .before .in-band .ensures ∙ ap (inBand (venueOf (a .numbers .now)) (a .c)) q) (c .if2 .taken),
     )
@@ -48,11 +48,11 @@ returns-3 c =
     let w = c .before .before .before .before .limit-of in
     let q = back {z = w .result} (record { sfits = w .ok }) ∙ w .ensures .0 in
     simp (
-      on _ _ (shown-is (venueOf (c .before .before .before .before .before .before .before .before .before .args .numbers .now)) _ _ _ _ _
+      on _ _ (displayed-is (venueOf (c .before .before .before .before .before .before .before .before .before .args .numbers .now)) _ _ _ _ _
           (own-is _ (c .before .before .before .before .before .before .before .before .before .args .sides)
           (c .before .before .before .before .before .before .before .before .before .args .c) _ _
           (c .before .before .before .before .before .before .before .before .before .pre .1))
-          (c .before .before .before .before .before .before .before .shown-well .ensures))
+          (c .before .before .before .before .before .before .before .displayed-no-worse .ensures))
           (c .before .before .before .before .before .before .if1 .left),
       on _ _ (c .before .before .before .in-band .ensures ∙ ap (inBand (venueOf (a .numbers .now)) (a .c)) q) (c .before .before .if2 .left),
       off _ _ (c .before .can-pair .ensures) (c .if3 .taken),
@@ -65,11 +65,11 @@ returns-4 c =
     let w = c .before .before .before .before .before .before .limit-of in
     let q = back {z = w .result} (record { sfits = w .ok }) ∙ w .ensures .0 in
     simp (
-      on _ _ (shown-is (venueOf (c .before .before .before .before .before .before .before .before .before .before .before .args .numbers .now)) _ _ _ _ _
+      on _ _ (displayed-is (venueOf (c .before .before .before .before .before .before .before .before .before .before .before .args .numbers .now)) _ _ _ _ _
           (own-is _ (c .before .before .before .before .before .before .before .before .before .before .before .args .sides)
           (c .before .before .before .before .before .before .before .before .before .before .before .args .c) _ _
           (c .before .before .before .before .before .before .before .before .before .before .before .pre .1))
-          (c .before .before .before .before .before .before .before .before .before .shown-well .ensures))
+          (c .before .before .before .before .before .before .before .before .before .displayed-no-worse .ensures))
           (c .before .before .before .before .before .before .before .before .if1 .left),
       on _ _ (c .before .before .before .before .before .in-band .ensures ∙ ap (inBand (venueOf (a .numbers .now)) (a .c)) q) (c .before .before .before .before .if2 .left),
       on _ _ (c .before .before .before .can-pair .ensures) (c .before .before .if3 .left),
@@ -83,11 +83,11 @@ returns-5 c =
     let w = c .before .before .before .before .before .before .limit-of in
     let q = back {z = w .result} (record { sfits = w .ok }) ∙ w .ensures .0 in
     simp (
-      on _ _ (shown-is (venueOf (c .before .before .before .before .before .before .before .before .before .before .before .args .numbers .now)) _ _ _ _ _
+      on _ _ (displayed-is (venueOf (c .before .before .before .before .before .before .before .before .before .before .before .args .numbers .now)) _ _ _ _ _
           (own-is _ (c .before .before .before .before .before .before .before .before .before .before .before .args .sides)
           (c .before .before .before .before .before .before .before .before .before .before .before .args .c) _ _
           (c .before .before .before .before .before .before .before .before .before .before .before .pre .1))
-          (c .before .before .before .before .before .before .before .before .before .shown-well .ensures))
+          (c .before .before .before .before .before .before .before .before .before .displayed-no-worse .ensures))
           (c .before .before .before .before .before .before .before .before .if1 .left),
       on _ _ (c .before .before .before .before .before .in-band .ensures ∙ ap (inBand (venueOf (a .numbers .now)) (a .c)) q) (c .before .before .before .before .if2 .left),
       on _ _ (c .before .before .before .can-pair .ensures) (c .before .before .if3 .left),

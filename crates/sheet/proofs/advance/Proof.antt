@@ -1,5 +1,5 @@
 use native.Mathlib.Omega.{arith}
-use Rattle.sheet.proofs.Advancing.{one-done, within, advanced}
+use Rattle.sheet.proofs.SheetLaws.{one-done, within, advanced}
 use borrow.Author.Needs.{needs}
 use Rattle.sheet.proofs.advance.Statement.{statement}
 use Rattle.sheet.proofs.advance.Tie as tie

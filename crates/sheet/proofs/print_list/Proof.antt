@@ -4,7 +4,7 @@ use Prim.Native.Nat.{_-_}
 use mathlib.Core.Path.{refl, sym}
 use native.Mathlib.Omega.{arith}
 use lib.ListN.{length}
-use Rattle.sheet.proofs.Advancing.{Going, going-on, going-start}
+use Rattle.sheet.proofs.SheetLaws.{Going, going-on, going-start}
 use Rattle.sheet.proofs.print_list.Statement.{statement}
 use Rattle.sheet.proofs.print_list.Tie as tie
 

@@ -2,8 +2,8 @@ use mathlib.Core.Path.{ap, refl, sym}
 use native.Mathlib.Omega.{arith}
 use lib.Seq.{length-take-le}
 use Rattle.short_sessions.specs.Values.{found, placesOf}
-use Rattle.short_sessions.proofs.Ending.{left, one-less}
-use Rattle.short_sheets.proofs.Printing.{Going, goes-to, going-on, going-start, in-list}
+use Rattle.short_sessions.proofs.SessionsLeft.{left, one-less}
+use Rattle.short_sheets.proofs.ShortLaws.{Going, goes-to, going-on, going-start, in-list}
 use Rattle.short_sheets.proofs.Texts.{short-enough}
 use borrow.Author.Needs.{needs}
 use Rattle.short_sheets.proofs.main.Statement.{statement}

@@ -1,7 +1,7 @@
 use mathlib.Core.Path.{ap, subst}
 use Rattle.short_sessions.specs.Sessions.{Within}
 use Rattle.short_sessions.specs.Values.{placesOf}
-use Rattle.short_sheets.proofs.Putting.{of-none, of-one, of-three, of-two}
+use Rattle.short_sheets.proofs.SessionMessages.{of-none, of-one, of-three, of-two}
 use borrow.Author.Needs.{needs}
 use Rattle.short_sheets.proofs.put_messages.Statement.{statement}
 use Rattle.short_sheets.proofs.put_messages.Tie as tie

@@ -1,6 +1,6 @@
 use mathlib.Core.Path.{sym}
 use lib.Seq.{length-take-le}
-use Rattle.short_sheets.proofs.Running.{report-is}
+use Rattle.short_sheets.proofs.SessionRuns.{report-is}
 use borrow.Author.Needs.{needs}
 use Rattle.short_sheets.proofs.run_session.Statement.{statement}
 use Rattle.short_sheets.proofs.run_session.Tie as tie

@@ -1,7 +1,7 @@
 -- `soundness::load_ready` meets its contract.
 use mathlib.Core.Path.{sym, _∙_}
 use borrow.Author.Tests.{not-true, not-false}
-use Rattle.soundness.proofs.Following.{unready, ready-last, ready-next}
+use Rattle.soundness.proofs.ReadyFor.{unready, ready-last, ready-next}
 use borrow.Author.Needs.{needs}
 use Rattle.soundness.proofs.load_ready.Statement.{statement}
 use Rattle.soundness.proofs.load_ready.Tie as tie

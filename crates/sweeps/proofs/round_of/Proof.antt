@@ -3,7 +3,7 @@ use mathlib.Core.Path.{ap, _∙_}
 use mathlib.Core.List.{_++_}
 use Prim.Native.Nat.{ℕ, _-_}
 use native.Mathlib.Omega.{arith}
-use lib.ListN.{take as firsts}
+use lib.ListN.{take}
 use Rattle.sweeps.specs.Round.{placesFrom, roundPlaces}
 use Rattle.sweeps.proofs.RoundLaws.{round-within, round-on, round-whole}
 use borrow.Author.Needs.{needs}
@@ -16,7 +16,7 @@ returns c =
     let f = c .before .round-start .ensures in
     let u = c .before .before .complexes-used .ensures .0 in
     let t = c .if1 .taken in (
-      round-within (c .before .before .before .before .args .n) _ _ _ (omega (arith, t, u)) ∙ ap (firsts (c .before .before .before .before .args .n)) (f .0),
+      round-within (c .before .before .before .before .args .n) _ _ _ (omega (arith, t, u)) ∙ ap (take (c .before .before .before .before .args .n)) (f .0),
       (omega (arith, t, u, f .1), omega arith),
     )
 
@@ -27,7 +27,7 @@ returns-2 c =
     let u = c .before .before .before .complexes-used in
     let n = c .before .before .before .before .before .args .n in (
       round-on n _ _ _ (f .result) (omega (arith, c .before .if1 .left)) (c .if2 .taken)
-          ∙ ap (λ (x : ℕ). firsts n (placesFrom (f .result) (x - f .result) ++ placesFrom 0 (f .result))) (u .ensures .0) ∙ ap (firsts n) (f .ensures .0),
+          ∙ ap (λ (x : ℕ). take n (placesFrom (f .result) (x - f .result) ++ placesFrom 0 (f .result))) (u .ensures .0) ∙ ap (take n) (f .ensures .0),
       (omega (arith, u .ensures .0, f .ensures .1), omega (arith, c .if2 .taken, f .ensures .1)),
     )
 
@@ -38,7 +38,7 @@ returns-3 c =
     let u = c .before .before .before .complexes-used in
     let n = c .before .before .before .before .before .args .n in (
       round-whole n (n - (u .result - f .result)) _ _ _ (omega (arith, c .before .if1 .left)) (omega (arith, c .if2 .left))
-          ∙ ap (λ (x : ℕ). firsts n (placesFrom (f .result) (x - f .result) ++ placesFrom 0 (f .result))) (u .ensures .0) ∙ ap (firsts n) (f .ensures .0),
+          ∙ ap (λ (x : ℕ). take n (placesFrom (f .result) (x - f .result) ++ placesFrom 0 (f .result))) (u .ensures .0) ∙ ap (take n) (f .ensures .0),
       (omega (arith, u .ensures .0, f .ensures .1), f .ensures .1),
     )
 

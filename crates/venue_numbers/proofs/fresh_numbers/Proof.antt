@@ -4,7 +4,7 @@ use Prim.Native.Nat.{_-_, _≤_}
 use native.Mathlib.Omega.{arith}
 use lib.ListN.{length}
 use borrow.Author.Needs.{needs}
-use Rattle.venue_numbers.proofs.Starting.{openTo, open-length, open-first, open-next, fresh-loaded}
+use Rattle.venue_numbers.proofs.FreshNumbers.{openTo, open-length, open-first, open-next, fresh-loaded}
 use Rattle.venue_numbers.proofs.fresh_numbers.Statement.{statement}
 use Rattle.venue_numbers.proofs.fresh_numbers.Tie as tie
 

@@ -1,7 +1,7 @@
 -- `work::can_leg_in` meets its contract.
 use mathlib.Core.Path.{_∙_}
 use Rattle.rules.proofs.Machine.{back}
-use Rattle.work.proofs.Pairing.{leg-free, leg-none1, leg-none2, leg-over, leg-band}
+use Rattle.work.proofs.LegInLaws.{leg-free, leg-none1, leg-none2, leg-over, leg-band}
 use borrow.Author.Needs.{needs}
 use Rattle.work.proofs.can_leg_in.Statement.{statement}
 use Rattle.work.proofs.can_leg_in.Tie as tie

@@ -4,7 +4,7 @@ use native.Mathlib.Omega.{arith}
 use Rattle.rules.proofs.Machine.{back}
 use Rattle.places.proofs.Parts.{complexes-few, complex-at}
 use Rattle.places.proofs.Beside.{counts-on}
-use Rattle.work.proofs.Pairing.{leg-in-law}
+use Rattle.work.proofs.LegInLaws.{leg-in-law}
 use borrow.Author.Needs.{needs}
 use Rattle.work.proofs.leg_in.Statement.{statement}
 use Rattle.work.proofs.leg_in.Tie as tie
@@ -12,13 +12,13 @@ use Rattle.work.proofs.leg_in.Tie as tie
 complex-at-requires : tie.Need-complex-at-requires
 complex-at-requires c κs = let z = complexes-few (c .before .before .before .args .numbers .now) in (c .before .before .before .pre .0, omega (arith, c .before .before .before .pre .2))
 
-take-requires : tie.Need-take-requires
-take-requires c κs = let p = c .before .before .before .before .before .before .before .before .before .pre in (p .0, p .1)
+trade-at-price-requires : tie.Need-trade-at-price-requires
+trade-at-price-requires c κs = let p = c .before .before .before .before .before .before .before .before .before .pre in (p .0, p .1)
 
-take-requires-2 : tie.Need-take-requires-2
-take-requires-2 c κs =
+trade-at-price-requires-2 : tie.Need-trade-at-price-requires-2
+trade-at-price-requires-2 c κs =
     let p6 = c .before .before .before .before .before .before in
-    let t = p6 .take in
+    let t = p6 .trade-at-price in
     let p = p6 .before .before .before .before .before .before .before .before .before .before .pre in
     (t .kept .0 ∙ p .0, t .ensures .1 .right (p .1))
 
@@ -33,9 +33,9 @@ returns c =
     let a = s .args in
     let w = p23 .net-of in (
       leg-in-law (a .i) (a .a) (a .p) (a .k) _ _ _ _ _ _ _ _ _ _ _ _ _ _ _ _ (p23 .before .complex-at .ensures ∙ sym (complex-at (a .numbers .now) (a .i) (s .pre .2)))
-          (back {z = w .result} (record { sfits = w .ok }) ∙ w .ensures .0) (p21 .before .contracts .ensures) (p21 .contracts2 .ensures) (p18 .take .ensures .0)
-          (p11 .take2 .ensures .0) (p4 .pair-off .ensures .0),
-      counts-on _ _ _ (counts-on _ _ _ (p18 .take .ensures .1) (p11 .take2 .ensures .1)) (p4 .pair-off .ensures .1),
+          (back {z = w .result} (record { sfits = w .ok }) ∙ w .ensures .0) (p21 .before .contracts .ensures) (p21 .contracts2 .ensures) (p18 .trade-at-price .ensures .0)
+          (p11 .trade-at-price2 .ensures .0) (p4 .pair-off .ensures .0),
+      counts-on _ _ _ (counts-on _ _ _ (p18 .trade-at-price .ensures .1) (p11 .trade-at-price2 .ensures .1)) (p4 .pair-off .ensures .1),
     )
 
 pub leg-in-spec : {M : Type 1} → statement M
@@ -46,8 +46,8 @@ leg-in-spec =
     (λ c κs. search needs)
     (λ c κs. search needs)
     (λ c κs. search needs)
-    take-requires
-    take-requires-2
+    trade-at-price-requires
+    trade-at-price-requires-2
     (λ c κs. search needs)
     (λ c. search needs)
     (λ c. search needs)

@@ -9,7 +9,7 @@ use Rattle.levels.specs.Grid.{LegsIn}
 use Rattle.prices.proofs.Prices.{legs-in}
 use Rattle.cross_makers.proofs.Candidates.{off, on}
 use Rattle.removal.proofs.Loops.{Doing, doing-start, doing-turn, doing-end, doing-room, repeat-zero, repeat-stop, repeat-turn}
-use Rattle.work.proofs.Pairing.{leg-stop, leg-short, leg-turn}
+use Rattle.work.proofs.LegInLaws.{leg-stop, leg-short, leg-turn}
 use borrow.Author.Needs.{needs}
 use Rattle.work.proofs.leg_in_all.Statement.{statement}
 use Rattle.work.proofs.leg_in_all.Tie as tie

@@ -1,5 +1,5 @@
 -- `work::units_in` meets its contract.
-use Rattle.work.proofs.Pairing.{units-are}
+use Rattle.work.proofs.LegInLaws.{units-are}
 use borrow.Author.Needs.{needs}
 use Rattle.work.proofs.units_in.Statement.{statement}
 use Rattle.work.proofs.units_in.Tie as tie
