@@ -1,4 +1,4 @@
--- One message and the two calls, by their cases; a call's records fit the report memory, whatever the venue and the bytes.
+-- One message and the calls, by their cases; a call's records fit the report memory, whatever the venue and the bytes.
 use mathlib.Core.Path.{_≡_, refl, sym}
 use mathlib.Core.Bool.{Bool, _&&_, false, not, true}
 use mathlib.Core.Logic.{_≢_}
@@ -18,7 +18,7 @@ use Rattle.rules.specs.Effects.{Effect, nothing}
 use Rattle.rules.specs.Refusals.{full, refusal, torn}
 use Rattle.rules.specs.Step.{StepOutcome, accept, answered, step}
 use Rattle.rules.specs.Sound.{follows, sound}
-use Rattle.rules.specs.Calls.{Outcome, after, called, ends, exceeds, one, oneFrom, run, runFrom}
+use Rattle.rules.specs.Calls.{Outcome, after, called, ends, exceeds, isTaken, one, oneFrom, run, runFrom, runUpon, runUponFrom}
 use Rattle.rules.proofs.Cases.{if-by}
 use Rattle.rules.proofs.RefusalsLaws.{not-torn, whole}
 use Rattle.rules.proofs.Tests.{or-false-l, or-false-r}
@@ -87,18 +87,23 @@ module _ {ℓ} (Q : Outcome → Type ℓ) (v : Venue) (n room : ℕ) (bs : List 
       go false a false b true c = last (within-room (suc n) room (e .reports) b) (eqb-true (x .refused) 1 c)
       go false a false b false c = on (within-room (suc n) room (e .reports) b) (eqb-false (x .refused) 1 c)
 
-  -- what a one-message call asks of the venue and of its number
-  abbrev pub taken : Bool
-  taken = sound v && follows (suc n) v
+  -- a run upon a venue
+  pub runUponFrom-by : (isTaken v n ≡ false → Q (ends 9 v)) → (isTaken v n ≡ true → Q (runFrom (length bs) v n room bs)) → Q (runUponFrom v n room bs)
+  unfolding runUponFrom
+  runUponFrom-by unsound runs = go (isTaken v n) refl
+    where
+      go : (p : Bool) → isTaken v n ≡ p → Q (if not p then ends 9 v else runFrom (length bs) v n room bs)
+      go false a = unsound a
+      go true a = runs a
 
   -- a one-message call
-  pub oneFrom-by : (taken ≡ false → Q (ends 9 v)) → (taken ≡ true → exceeds (suc n) room (e .reports) ≡ true → Q (ends 10 v)) →
-      (taken ≡ true → Done → Q (after e (ends (x .refused) (e .venue)))) →
+  pub oneFrom-by : (isTaken v n ≡ false → Q (ends 9 v)) → (isTaken v n ≡ true → exceeds (suc n) room (e .reports) ≡ true → Q (ends 10 v)) →
+      (isTaken v n ≡ true → Done → Q (after e (ends (x .refused) (e .venue)))) →
       Q (oneFrom v n room bs)
   unfolding oneFrom
-  oneFrom-by unsound full done = go taken refl (exceeds (suc n) room (e .reports)) refl
+  oneFrom-by unsound full done = go (isTaken v n) refl (exceeds (suc n) room (e .reports)) refl
     where
-      go : (p : Bool) → taken ≡ p → (q : Bool) → exceeds (suc n) room (e .reports) ≡ q →
+      go : (p : Bool) → isTaken v n ≡ p → (q : Bool) → exceeds (suc n) room (e .reports) ≡ q →
           Q (if not p then ends 9 v else if q then ends 10 v else after e (ends (x .refused) (e .venue)))
       go false a q b = unsound a
       go true a true b = full a b
@@ -156,6 +161,10 @@ run-room (suc fuel) v n room bs =
     runFrom-by (λ r. length (encodeAll (r .reports)) ≤ room) v n room bs fuel (λ _. ends-room 0 v room) (λ _ _. ends-room 10 v room)
     (λ d _. after-room _ _ room (d .1) (ends-room 1 _ _)) (λ d _. after-room _ _ room (d .1) (run-room fuel _ (suc n) _ _))
 
+pub upon-room : (v : Venue) (n room : ℕ) (bs : List ℕ) → length (encodeAll (runUponFrom v n room bs .reports)) ≤ room
+upon-room v n room bs =
+    runUponFrom-by (λ r. length (encodeAll (r .reports)) ≤ room) v n room bs (λ _. ends-room 9 v room) (λ _. run-room (length bs) v n room bs)
+
 pub one-room : (v : Venue) (n room : ℕ) (bs : List ℕ) → length (encodeAll (oneFrom v n room bs .reports)) ≤ room
 one-room v n room bs =
     oneFrom-by (λ r. length (encodeAll (r .reports)) ≤ room) v n room bs (λ _. ends-room 9 v room) (λ _ _. ends-room 10 v room)
@@ -169,6 +178,10 @@ sheet-length room rs le = simp (length-append, length-replicate) (omega arith)
 pub run-memory : (room : ℕ) (bs : List ℕ) → length (run room bs .report) ≡ room
 unfolding run called
 run-memory room bs = sheet-length room _ (run-room (length bs) freshVenue 0 room bs)
+
+pub upon-memory : (v : Venue) (n room : ℕ) (bs : List ℕ) → length (runUpon v n room bs .report) ≡ room
+unfolding runUpon called
+upon-memory v n room bs = sheet-length room _ (upon-room v n room bs)
 
 pub one-memory : (v : Venue) (n room : ℕ) (bs : List ℕ) → length (one v n room bs .report) ≡ room
 unfolding one called

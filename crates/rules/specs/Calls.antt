@@ -1,5 +1,6 @@
 -- Document 01, "Refusals": "Two calls: a run from fresh over a message list, and one message upon a venue held by value, the caller giving
--- how many messages went before it, a u32; its number is one more." Refusals 9 and 10. And document 02 (d)'s call, which tells the settings.
+-- how many messages went before it, a u32; its number is one more." Refusals 9 and 10. Beyond the documents, a run upon a venue that a host
+-- holds. And document 02 (d)'s call, which tells the settings.
 use mathlib.Core.Bool.{Bool, true, false, not, _&&_, _||_}
 use mathlib.Core.List.{List, [], _∷_, _++_, map}
 use Prim.Native.Nat.{ℕ, zero, suc, _-_}
@@ -50,18 +51,35 @@ ends number v = record { number = number; done = 0; venue = v; reports = [] }
 unfoldable pub after : Effect → Outcome → Outcome
 after e r = record { number = r .number; done = suc (r .done); venue = r .venue; reports = e .reports ++ r .reports }
 
--- The messages of bs upon v, after n messages, with this room left. "A run's number is 1 or 10 if that ended it, else 0".
+-- The four ends of a call that takes messages, each with the venue that it leaves. "A run's number is 1 or 10 if that ended it, else 0".
+-- 0: no message is left
+abbrev pub endOfList : Venue → Outcome
+endOfList = ends 0
+
+-- 1: the last message was torn, and was answered
+abbrev pub afterTorn : Venue → Outcome
+afterTorn = ends 1
+
+-- 9: the venue is unsound, or the number of the first message is not above every kept one
+abbrev pub notTaken : Venue → Outcome
+notTaken = ends 9
+
+-- 10: the next message exceeds, and is not done
+abbrev pub beforeExceeding : Venue → Outcome
+beforeExceeding = ends 10
+
+-- The messages of bs upon v, after n messages, with this room left.
 -- The fuel is the length of bs: a message that does not end the run has a length of at least 4.
 unfoldable pub runFrom : (fuel : ℕ) → Venue → (n room : ℕ) → List ℕ → Outcome
-runFrom zero v n room bs = ends 0 v
+runFrom zero v n room bs = endOfList v
 runFrom (suc fuel) v n room bs =
     let a = step v (suc n) bs in
     elim (eqb (length bs) 0) [
-      | true ↦ ends 0 v
+      | true ↦ endOfList v
       | false ↦ elim (exceeds (suc n) room (a .effect .reports)) [
-        | true ↦ ends 10 v
+        | true ↦ beforeExceeding v
         | false ↦ after (a .effect) (elim (eqb (a .refused) 1) [
-          | true ↦ ends 1 (a .effect .venue)
+          | true ↦ afterTorn (a .effect .venue)
           | false ↦ runFrom fuel (a .effect .venue) (suc n) (room - length (encodeAll (a .effect .reports))) (drop (lengthField bs) bs)
         ])
       ]
@@ -71,14 +89,28 @@ runFrom (suc fuel) v n room bs =
 unfoldable pub run : (room : ℕ) → List ℕ → Call
 run room bs = called room (runFrom (length bs) freshVenue 0 room bs)
 
--- "one message upon a venue", n messages having gone before: "9 before all"; "a one-message call's is 9, 10 or its message's own".
+-- a call upon v, n messages having gone before, does not get 9: v is sound, and the number n + 1 is above every kept one.
 -- 9: "one-message call given an unsound venue": "number 9; the venue as given, all report bytes 0".
 -- 02 (d): "A one-message call whose number is not above every kept edition's gets 9." (m): "must be above every generation's, else 9"
+abbrev pub isTaken : Venue → (n : ℕ) → Bool
+isTaken v n = sound v && follows (suc n) v
+
+-- A run upon a venue, n messages having gone before: "9 before all", as in the one-message call, and then the messages one by one, as a run
+-- does them. With an empty list the number is 9 where the venue is not taken, and else 0. Where n is 4,294,967,295 there is no first number:
+-- every kept number is below n + 1, so only an unsound venue gets 9. As 10 comes before a message only, an empty list gets 0 there too.
+-- A run from fresh is the case of the fresh venue and n = 0 (demands Agree: `FromFresh`).
+unfoldable pub runUponFrom : Venue → (n room : ℕ) → List ℕ → Outcome
+runUponFrom v n room bs = if not (isTaken v n) then notTaken v else runFrom (length bs) v n room bs
+
+unfoldable pub runUpon : Venue → (n room : ℕ) → List ℕ → Call
+runUpon v n room bs = called room (runUponFrom v n room bs)
+
+-- "one message upon a venue", n messages having gone before: "9 before all"; "a one-message call's is 9, 10 or its message's own"
 unfoldable pub oneFrom : Venue → (n room : ℕ) → List ℕ → Outcome
 oneFrom v n room bs =
     let a = step v (suc n) bs in
-    if not (sound v && follows (suc n) v) then ends 9 v
-    else if exceeds (suc n) room (a .effect .reports) then ends 10 v
+    if not (isTaken v n) then notTaken v
+    else if exceeds (suc n) room (a .effect .reports) then beforeExceeding v
     else after (a .effect) (ends (a .refused) (a .effect .venue))
 
 unfoldable pub one : Venue → (n room : ℕ) → List ℕ → Call

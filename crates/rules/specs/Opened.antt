@@ -27,7 +27,7 @@ use Rattle.rules.specs.Refusals.{refusalOf, refusal}
 use Rattle.rules.specs.Step.{setAway, setStatus, setFigure, perform, accept, mask, filled, answered, step}
 use Rattle.rules.specs.Sound.{apart, listedInRange, leggingSound, leggingsSound, showsFully, regularsSound, complexesSound, idsDistinct}
 use Rattle.rules.specs.Sound.{figureInRange, editionInRange, editionsSound, unfallen, generationsSound, sound, follows}
-use Rattle.rules.specs.Calls.{called, exceeds, ends, after, runFrom, run, oneFrom, one, settings}
+use Rattle.rules.specs.Calls.{called, exceeds, ends, after, runFrom, run, runUponFrom, runUpon, oneFrom, one, settings}
 use Rattle.rules.specs.Sums.{total, contracts, contractsAt, paired, crossedFor, cancelledOf, generatedOf, openIn}
 use Rattle.rules.specs.Lengths.{recordLength}
 
@@ -48,6 +48,6 @@ unfolding all keep placeWhere ranked firstFrom opposite signTimes within isId is
     regularInRange twoLegInRange farOf inRange equalRatios decoded complexInRange onIncrement offIncrement editionTooLow idle inUse noEditionLeft
     idTooLow onClosed full unknown refusalOf refusal setAway setStatus setFigure perform accept mask filled answered step apart listedInRange
     leggingSound leggingsSound showsFully regularsSound complexesSound idsDistinct figureInRange editionInRange editionsSound unfallen
-    generationsSound sound follows called exceeds ends after runFrom run oneFrom one settings total contracts contractsAt paired crossedFor
-    cancelledOf generatedOf openIn recordLength
+    generationsSound sound follows called exceeds ends after runFrom run runUponFrom runUpon oneFrom one settings total contracts contractsAt paired
+    crossedFor cancelledOf generatedOf openIn recordLength
 opened-rules = tt

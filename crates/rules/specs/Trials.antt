@@ -27,7 +27,7 @@ use Rattle.rules.specs.Records.{Report, answer, trade, pair, generated, 
 use Rattle.rules.specs.Prices.{inBand}
 use Rattle.rules.specs.Refusals.{decoded, inRange, offIncrement}
 use Rattle.rules.specs.Step.{setAway}
-use Rattle.rules.specs.Calls.{called, run, runFrom, one, settings}
+use Rattle.rules.specs.Calls.{run, runUpon, one, settings}
 use Rattle.rules.specs.Opened.{opened-rules}
 
 -- What is tried -------------------------------------------------------------------------------
@@ -39,7 +39,7 @@ pub data Trial : Type 0 where
   upon : (v : Venue) (before room : ℕ) (bytes : List ℕ) (number done : ℕ) → List Report → (w : Venue) → Trial
   -- one message's bytes, accepted upon the venue that `legged` leaves, and its records
   next : (bytes : List ℕ) → List Report → Trial
-  -- the rest of a run, so many messages having gone before
+  -- a run upon a venue, so many messages having gone before: the same, and the venue returned
   onward : (v : Venue) (before room : ℕ) (bytes : List ℕ) (number done : ℕ) → List Report → (w : Venue) → Trial
   -- a net t against O, which is the offer of series 1 less the bid of series 0
   band : (bid offer : ℕ) (t : ℤ) → Bool → Trial
@@ -128,7 +128,7 @@ outcome (next bytes rs) =
     let c = one leggedVenue 5 100 bytes in
     ended (c .returned .number) (c .returned .done) (c .returned .written) (records (c .report)) (c .report)
 outcome (onward v before room bytes number done rs w) =
-    let c = called room (runFrom (length bytes) v before room bytes) in
+    let c = runUpon v before room bytes in
     returned (c .returned .number) (c .returned .done) (c .returned .written) (records (c .report)) (c .report) (c .returned .venue)
 outcome (band bid offer t b) = near (inBand (setAway 1 0 offer (setAway 0 bid 0 freshVenue)) spread t)
 outcome (ranged m b) = near (inRange (kindField (encodeMessage m)) m && not (offIncrement freshVenue m))

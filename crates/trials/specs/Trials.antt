@@ -909,8 +909,37 @@ lefts =
     ∷ onward freshVenue 0 100 (opens 0 ++ opens 1 ++ pairs 2 1 ++ cancels 1 ++ (4 ∷ 0 ∷ [])) 1 6
     (accepted 1 4 ++ (answer 5 0 0 0 ∷ cancelled 1 1 ∷ answer 6 1 0 0 ∷ [])) (withLast (lone 2) 2)
     ∷ onward (withLast (lone 1) 1) 3 20 (cancels 9 ++ cancels 1) 10 1 (answer 4 8 0 0 ∷ []) (withLast (lone 1) 1)
-    -- "or its number would pass 4,294,967,295"
+    ∷ []
+
+-- A run upon a venue that a host holds --------------------------------------------------------
+
+pub continued : List Trial
+continued =
+    -- the printed session's last message, after one that is refused
+    onward leggedVenue 5 200 (cancels 9 ++ enters 4 0 sell 115 5) 0 2
+    (answer 6 8 5 2 ∷ answer 7 0 0 0 ∷ trade 0 1 115 5 4 3 ∷ trade 1 0 90 5 3 2 ∷ pair 3 (pos 205) 5
+    ∷ removed 3 0 0 Executed ∷ removed 3 1 0 Executed ∷ [])
+    (numbering (5 ∷ []) (5 ∷ []) (withLast (legsUp 0 (rest 1 0 sell 130 15 ∷ rest 2 1 sell 90 7 ∷ []) 0 (both 3 3) 0 noLegging) 4))
+    -- the list is empty
+    ∷ onward leggedVenue 5 20 [] 0 0 [] leggedVenue
+    -- 9: the venue is unsound, also where the list is empty; message 5, whose number two generations have, is not above these
+    ∷ onward twice 7 100 (sweeps ++ sweeps) 9 0 [] twice
+    ∷ onward twice 7 100 [] 9 0 [] twice
+    ∷ onward leggedVenue 4 100 sweeps 9 0 [] leggedVenue
+    ∷ onward leggedVenue 4 100 [] 9 0 [] leggedVenue
+    -- 1: a message of length 3 is torn and answered, and the sweep after it is not done
+    ∷ onward leggedVenue 5 100 (cancels 9 ++ (3 ∷ 0 ∷ 6 ∷ 0 ∷ []) ++ sweeps) 1 2 (answer 6 8 5 2 ∷ answer 7 1 5 2 ∷ []) leggedVenue
+    -- 10: of 57 bytes 12 are written, the cancel's 46 do not fit, and the message after it, whose 12 would, is not done; with 58 all but that one is
+    ∷ onward leggedVenue 5 57 (cancels 9 ++ cancels 3 ++ cancels 9) 10 1 (answer 6 8 5 2 ∷ []) leggedVenue
+    ∷ onward leggedVenue 5 58 (cancels 9 ++ cancels 3 ++ cancels 9) 10 2
+    (answer 6 8 5 2 ∷ answer 7 0 0 0 ∷ cancelled 3 8 ∷ removed 3 0 0 Withdrawn ∷ removed 3 1 0 Withdrawn ∷ [])
+    (numbering (5 ∷ []) (5 ∷ []) (legsUp 0 resting 0 noComplex 0 noLegging))
+    -- "or its number would pass 4,294,967,295": before the second message; before the first, torn or not; and not where the list is empty. 9 before it
     ∷ onward freshVenue 4294967294 100 (sweeps ++ sweeps) 10 1 (answer 4294967295 0 0 0 ∷ []) freshVenue
+    ∷ onward freshVenue 4294967295 100 sweeps 10 0 [] freshVenue
+    ∷ onward freshVenue 4294967295 100 (3 ∷ []) 10 0 [] freshVenue
+    ∷ onward freshVenue 4294967295 100 [] 0 0 [] freshVenue
+    ∷ onward twice 4294967295 100 sweeps 9 0 [] twice
     ∷ []
 
 -- Numbers -------------------------------------------------------------------------------------
@@ -1137,7 +1166,7 @@ traffic =
 
 -- `unfolding staged` opens every trial of these lists, as `opened-rules` does every definition
 unfoldable staged : Unit {0}
-unfolding together wrongs quoted relying inAuction restingBefore keptApart choices dearer respecting pairs gone layouts whole double incrementsBelow edges offers twice refused met settled threeOpen farApart worked awayAlone nearTop made standing base atTop isSound unsound weighed misweighed locked stale staleComplex staleLegging listing market spreading faults lone quoting idle allHeld lefts named numbers withOne half allShown tooShort reserved weighing ratioed oneEach oneEachSheet tenth unequal increments bands dating dated many full finer coarser inAll seasons limited three outbid meeting sellsBoth traffic
+unfolding together wrongs quoted relying inAuction restingBefore keptApart choices dearer respecting pairs gone layouts whole double incrementsBelow edges offers twice refused met settled threeOpen farApart worked awayAlone nearTop made standing base atTop isSound unsound weighed misweighed locked stale staleComplex staleLegging listing market spreading faults lone quoting idle allHeld lefts continued named numbers withOne half allShown tooShort reserved weighing ratioed oneEach oneEachSheet tenth unequal increments bands dating dated many full finer coarser inAll seasons limited three outbid meeting sellsBoth traffic
 staged = tt
 
 -- every trial of a list comes out as it should; asked list by list, which takes the checker less than all at once
@@ -1199,18 +1228,22 @@ lefts-hold : Holds lefts
 unfolding opened-rules tried staged
 lefts-hold = record { out = refl }
 
+continued-hold : Holds continued
+unfolding opened-rules tried staged
+continued-hold = record { out = refl }
+
 numbers-hold : Holds numbers
 unfolding opened-rules tried staged
 numbers-hold = record { out = refl }
 
 pub trials : List Trial
-trials = starred ++ wrongs ++ choices ++ respecting ++ layouts ++ edges ++ refused ++ met ++ settled ++ worked ++ made ++ faults ++ lefts ++ numbers
+trials = starred ++ wrongs ++ choices ++ respecting ++ layouts ++ edges ++ refused ++ met ++ settled ++ worked ++ made ++ faults ++ lefts ++ continued ++ numbers
 
 pub trials-hold : map outcome trials ≡ map expected trials
 unfolding trials
 trials-hold =
     (starred-holds and wrongs-hold and choices-hold and respecting-hold and layouts-hold and edges-hold and refused-hold and met-hold and settled-hold
-    and worked-hold and made-hold and faults-hold and lefts-hold and numbers-hold) .out
+    and worked-hold and made-hold and faults-hold and lefts-hold and continued-hold and numbers-hold) .out
 
 pub reserves-hold : map outcome reserved ≡ map expected reserved
 unfolding opened-rules tried staged
