@@ -227,4 +227,4 @@ more-kept s bs k few = record { told = more-told s bs (k .told) few; under = und
     under s bs k t t8 = unfold onto in (under-step s bs k t t8)
 
 pub ceiling : Ceiling
-ceiling o gs s first s8 = all-keep UnderCeiling (λ s k. sound-out (s .venue) (k .told .sound .venue) .ranged) start-kept more-kept o gs .under s s8 .window first
+ceiling o cs s first s8 = all-keep UnderCeiling (λ s k. sound-out (s .venue) (k .told .sound .venue) .ranged) start-kept more-kept o cs .under s s8 .window first

@@ -172,4 +172,4 @@ more-respected s bs h few = record {
 }
 
 pub crosses-respect : CrossesRespect
-crosses-respect o gs = all-keep Respected (λ s h. sound-out (s .venue) (h .so .sound .venue) .ranged) start-respected more-respected o gs .dealt
+crosses-respect o cs = all-keep Respected (λ s h. sound-out (s .venue) (h .so .sound .venue) .ranged) start-respected more-respected o cs .dealt

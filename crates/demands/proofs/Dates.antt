@@ -83,6 +83,6 @@ unfolding settings settingsNow
 all-figures v w n fine f = rw (fine, f 0, f 1, f 2, f 3, f 4, f 5, f 6, f 7, f 8)
 
 pub dates : Dates
-dates o gs k h =
-    let d = all-keep Dated (λ s d. sound-out (s .venue) (d .told .sound .venue) .ranged) start-dated more-dated o gs in
+dates o cs k h =
+    let d = all-keep Dated (λ s d. sound-out (s .venue) (d .told .sound .venue) .ranged) start-dated more-dated o cs in
     all-figures _ _ k (d .told .sound .venue .is) (λ f. d .known k f h)

@@ -8,10 +8,10 @@ use Rattle.rules.specs.Bytes.{lengthField}
 use Rattle.rules.specs.Records.{ForAll, Fits, FourBytes, encodeAll}
 use Rattle.rules.specs.Effects.{Effect}
 use Rattle.rules.specs.Step.{step}
-use Rattle.rules.specs.Calls.{Outcome, after, called, ends, one, oneFrom, run, runFrom}
-use Rattle.demands.specs.Demand.{Given, Opening, Seen, alone, byRun, calls, extend, opening, parts, start}
+use Rattle.rules.specs.Calls.{Outcome, after, called, ends, one, oneFrom, run, runFrom, runUpon, runUponFrom}
+use Rattle.demands.specs.Demand.{Later, Opening, Seen, alone, byList, byMessage, byRun, callUpon, calls, extend, givenTo, opening, parts, start}
 use Rattle.rules.proofs.Answering.{told}
-use Rattle.rules.proofs.CallsLaws.{one-room, oneFrom-by, run-room, runFrom-by}
+use Rattle.rules.proofs.CallsLaws.{one-room, oneFrom-by, run-room, runFrom-by, runUponFrom-by, upon-room}
 use Rattle.rules.proofs.Reading.{reads-back}
 use Rattle.rules.proofs.Widths.{Ranged, each-append}
 use Rattle.demands.proofs.Account.{onto}
@@ -64,6 +64,10 @@ module _ (P : Seen → Type 0) (ranged : (s : Seen) → P s → Ranged (s .venue
       oneFrom-by (Onward s bs) v (s .done) room bs (λ _. onward-ends s bs 9 a) (λ _ _. onward-ends s bs 10 a)
       (λ _ d. onward-after s e bs _ (told v (ranged s a) (suc (s .done)) bs .fits (d .0)) (onward-ends (onto s bs e) _ _ (more s bs a (d .0))))
 
+  upon-keeps : (s : Seen) (room : ℕ) (bs : List ℕ) → P s → Onward s bs (runUponFrom (s .venue) (s .done) room bs)
+  upon-keeps s room bs a =
+      runUponFrom-by (Onward s bs) (s .venue) (s .done) room bs (λ _. onward-ends s bs 9 a) (λ _. run-keeps (length bs) s room bs a)
+
   -- The calls ---------------------------------------------------------------------------------
 
   -- the report memory gives back the records
@@ -77,11 +81,15 @@ module _ (P : Seen → Type 0) (ranged : (s : Seen) → P s → Ranged (s .venue
       extend-keeps start (g .bytes) (g .room) _ (run-room (length (g .bytes)) freshVenue 0 (g .room) (g .bytes)) (run-keeps (length (g .bytes)) start (g .room) (g .bytes) begins)
   opening-keeps alone = begins
 
-  calls-keep : (gs : List Given) (s : Seen) → P s → P (calls s gs)
-  unfolding calls one
-  calls-keep [] s a = a
-  calls-keep (g ∷ gs) s a =
-      calls-keep gs _ (extend-keeps s (g .bytes) (g .room) _ (one-room (s .venue) (s .done) (g .room) (g .bytes)) (one-keeps s (g .room) (g .bytes) a))
+  call-keeps : (c : Later) (s : Seen) → P s → P (extend s (givenTo c .bytes) (callUpon c (s .venue) (s .done)))
+  unfolding callUpon givenTo one runUpon
+  call-keeps (byMessage g) s a = extend-keeps s (g .bytes) (g .room) _ (one-room (s .venue) (s .done) (g .room) (g .bytes)) (one-keeps s (g .room) (g .bytes) a)
+  call-keeps (byList g) s a = extend-keeps s (g .bytes) (g .room) _ (upon-room (s .venue) (s .done) (g .room) (g .bytes)) (upon-keeps s (g .room) (g .bytes) a)
 
-  pub all-keep : (o : Opening) (gs : List Given) → P (calls (opening o) gs)
-  all-keep o gs = calls-keep gs (opening o) (opening-keeps o)
+  calls-keep : (cs : List Later) (s : Seen) → P s → P (calls s cs)
+  unfolding calls
+  calls-keep [] s a = a
+  calls-keep (c ∷ cs) s a = calls-keep cs _ (call-keeps c s a)
+
+  pub all-keep : (o : Opening) (cs : List Later) → P (calls (opening o) cs)
+  all-keep o cs = calls-keep cs (opening o) (opening-keeps o)

@@ -16,7 +16,7 @@ use Rattle.rules.specs.Records.{ForAll, Report, FourBytes, answer, cancelled, c
 use Rattle.rules.specs.Effects.{Effect, nothing}
 use Rattle.rules.specs.Refusals.{refusal}
 use Rattle.rules.specs.Step.{accept, answered, step}
-use Rattle.demands.specs.Demand.{Given, Opening, Seen, calls, opening, start}
+use Rattle.demands.specs.Demand.{Later, Opening, Seen, calls, opening, start}
 use Rattle.demands.specs.Soundness.{SoundAt}
 use Rattle.demands.specs.Truth.{AnswersOnce, OneMessage, RefusedAlone, Truth, answerOf, answers, answersOf, from, leaves, numbers, venueAfter}
 use Rattle.rules.proofs.CallsLaws.{step-by}
@@ -132,13 +132,13 @@ more-told s bs t few =
       sound = stays-sound v n few (t .sound) bs;
     }
 
-all-told : (o : Opening) (gs : List Given) → Told (calls (opening o) gs)
+all-told : (o : Opening) (cs : List Later) → Told (calls (opening o) cs)
 all-told = all-keep Told (λ s t. sound-out (s .venue) (t .sound .venue) .ranged) start-told more-told
 
 pub truth : Truth
-truth o gs =
-    let s = calls (opening o) gs in
-    let t = all-told o gs in
+truth o cs =
+    let s = calls (opening o) cs in
+    let t = all-told o cs in
     record {
       numbered = numbers-answers (s .reports) ∙ ap numbers (t .told) ∙ numbers-of freshVenue 0 (s .messages) ∙ ap (from 1) (t .messages);
       told = t .told;

@@ -7,7 +7,7 @@ use lib.Dec.{eqb}
 use Rattle.rules.specs.Base.{if_then_else_}
 use Rattle.rules.specs.Words.{within}
 use Rattle.rules.specs.Records.{Report, answer, cancelled, crossed, generated, looked, pair, removed, trade}
-use Rattle.demands.specs.Demand.{Given, Opening, calls, opening}
+use Rattle.demands.specs.Demand.{Later, Opening, calls, opening}
 
 -- how many 67 of a series are of messages whose number passes a test; the first records are of message `now`
 unfoldable pub generatedBy : (ℕ → Bool) → (series now : ℕ) → List Report → ℕ
@@ -24,5 +24,5 @@ generatedBy f s now (looked count ∷ rs) = generatedBy f s now rs
 
 -- of every list of calls, every series, and every 256 messages, numbered from first + 1 to first + 256
 abbrev pub Ceiling : Type 0
-Ceiling = (o : Opening) (gs : List Given) (series first : ℕ) → series < 8 →
-    generatedBy (within (suc first) (first + 256)) series 0 (calls (opening o) gs .reports) ≤ 20
+Ceiling = (o : Opening) (cs : List Later) (series first : ℕ) → series < 8 →
+    generatedBy (within (suc first) (first + 256)) series 0 (calls (opening o) cs .reports) ≤ 20

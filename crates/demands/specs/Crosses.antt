@@ -21,7 +21,7 @@ use Rattle.rules.specs.Prices.{bestRegular, net}
 use Rattle.rules.specs.Trading.{freeComplex, putComplex}
 use Rattle.rules.specs.Complex.{anyClosed, cross, crossTurn, goingRound, idReached, nextAbove, work}
 use Rattle.rules.specs.Refusals.{refusal}
-use Rattle.demands.specs.Demand.{Given, Opening, calls, opening}
+use Rattle.demands.specs.Demand.{Later, Opening, calls, opening}
 use Rattle.demands.specs.Truth.{venueAfter}
 
 -- Moments -------------------------------------------------------------------------------------
@@ -115,6 +115,6 @@ pub data Dealt : List Moment → List Report → Type 0 where
 -- The claim -----------------------------------------------------------------------------------
 
 abbrev pub CrossesRespect : Type 0
-CrossesRespect = (o : Opening) (gs : List Given) →
-    let s = calls (opening o) gs in
+CrossesRespect = (o : Opening) (cs : List Later) →
+    let s = calls (opening o) cs in
     Dealt (inAll freshVenue 0 (s .messages)) (s .reports)

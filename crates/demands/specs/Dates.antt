@@ -8,7 +8,7 @@ use Rattle.rules.specs.declared.Venue.{Venue}
 use Rattle.rules.specs.Words.{freshVenue}
 use Rattle.rules.specs.Settings.{percentage, figureNow}
 use Rattle.rules.specs.Calls.{settings}
-use Rattle.demands.specs.Demand.{Given, Opening, calls, opening}
+use Rattle.demands.specs.Demand.{Later, Opening, calls, opening}
 use Rattle.demands.specs.Truth.{leaves}
 
 -- the settings that the rules read upon a venue
@@ -17,6 +17,6 @@ settingsNow v = record { number = 0; increments = map (figureNow v) (0 ∷ 1 ∷
 
 -- after any list of calls, the settings told of the venue at a message number are those that the rules read when that message had been done
 abbrev pub Dates : Type 0
-Dates = (o : Opening) (gs : List Given) (number : ℕ) →
-    let s = calls (opening o) gs in
+Dates = (o : Opening) (cs : List Later) (number : ℕ) →
+    let s = calls (opening o) cs in
     number ≤ s .done → settings (s .venue) number ≡ settingsNow (leaves freshVenue 0 (take number (s .messages)))

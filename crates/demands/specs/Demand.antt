@@ -7,7 +7,8 @@
 -- quantities are units; of an order one to one, whose unit is a contract of each, that is the same claim. What is quoted below is document 01's
 -- paragraph, sentence by sentence, and the sentence of (g) that replaces one for unequal ratios.
 -- The calls are those of `Calls`. That the compiled ones are `Calls.run` and `Calls.one` is what their contracts in crates/engine/src/lib.rt say, by
--- equation and with no `requires`: `run` and `one_message`, and for a host `legging_run` and `legging_message`.
+-- equation and with no `requires`: `run` and `one_message`, and for a host `legging_run` and `legging_message`. Beyond document 01's list of calls,
+-- runs upon a venue (`Calls.runUpon`) stand in it wherever one-message calls do.
 use mathlib.Core.Path.{_≡_}
 use mathlib.Core.Bool.{false, true}
 use mathlib.Core.List.{List, List·Memᴰ, [], _++_, _∷_}
@@ -32,13 +33,13 @@ use Rattle.rules.specs.Prices.{better, displayedPrice, inBand, restsAt, shownSi
 use Rattle.rules.specs.Standing.{hasLeg, legNet, otherClear, otherLeg, parentOf}
 use Rattle.rules.specs.Trading.{putRegular, tradeAtPrice}
 use Rattle.rules.specs.Order.{hit}
-use Rattle.rules.specs.Calls.{Call, one, run}
+use Rattle.rules.specs.Calls.{Call, one, run, runUpon}
 use Rattle.rules.specs.Sums.{cancelledOf, contracts, contractsAt, crossedFor, openComplex, openRegular, paired, total}
 
 -- The list of calls ---------------------------------------------------------------------------
 
 -- What a call is given: bytes, and a report memory of a length. "Any contents, any report memory": what stood in that memory is no matter,
--- as `run` and `one` say every byte of it.
+-- as `run`, `one` and `runUpon` say every byte of it.
 pub record Given : Type 0 where
   pub room : ℕ
   pub bytes : List ℕ
@@ -81,10 +82,25 @@ unfoldable pub opening : Opening → Seen
 opening (byRun g) = extend start (g .bytes) (run (g .room) (g .bytes))
 opening alone = start
 
+-- a later call: with one message, as document 01's are, or, beyond it, with a list of messages
+pub data Later : Type 0 where
+  byMessage : Given → Later
+  byList : Given → Later
+
+unfoldable pub givenTo : Later → Given
+givenTo (byMessage g) = g
+givenTo (byList g) = g
+
+-- what it does upon a venue, so many messages having gone before
+unfoldable pub callUpon : Later → Venue → (before : ℕ) → Call
+callUpon (byMessage g) v n = one v n (g .room) (g .bytes)
+callUpon (byList g) v n = runUpon v n (g .room) (g .bytes)
+
 -- "each later one upon the venue that the last one returned, with the messages done so far … gone before. Nothing else changes the venue meanwhile."
-unfoldable pub calls : Seen → List Given → Seen
+-- In document 01's list each later call has one message
+unfoldable pub calls : Seen → List Later → Seen
 calls s [] = s
-calls s (g ∷ gs) = calls (extend s (g .bytes) (one (s .venue) (s .done) (g .room) (g .bytes))) gs
+calls s (c ∷ cs) = calls (extend s (givenTo c .bytes) (callUpon c (s .venue) (s .done))) cs
 
 -- Legging orders ------------------------------------------------------------------------------
 
@@ -176,6 +192,6 @@ pub record Holds (s : Seen) : Type 0 where
   pub complexes : (c : Complex) → Accepted s (TwoLeg c) → ComplexAdds s c
   pub orders : (o : Regular) → Accepted s (Order o) → OrderAdds s o
 
--- every opening, and then every list of one-message calls
+-- every opening, and then every list of calls with a message or a list each, in any order
 abbrev pub Demand3 : Type 0
-Demand3 = (o : Opening) (gs : List Given) → Holds (calls (opening o) gs)
+Demand3 = (o : Opening) (cs : List Later) → Holds (calls (opening o) cs)

@@ -7,7 +7,7 @@ use Rattle.rules.specs.declared.Venue.{Venue}
 use Rattle.rules.specs.Bytes.{bytes}
 use Rattle.rules.specs.Records.{ForAll, Fits, Report, encodeAll, records, sheet}
 use Rattle.rules.specs.Step.{step}
-use Rattle.rules.specs.Calls.{one, run}
+use Rattle.rules.specs.Calls.{one, run, runUpon}
 use Rattle.demands.specs.Soundness.{SoundVenue}
 
 -- "the sheet ends at the first zero length or at the end of the report memory": reading so gives back exactly the records written
@@ -22,3 +22,4 @@ StepFits = (v : Venue) → SoundVenue v → (number : ℕ) → number < 42949672
 pub record WholeMemory : Type 0 where
   pub byRun : (room : ℕ) (bytes : List ℕ) → length (run room bytes .report) ≡ room
   pub byOne : (v : Venue) (before room : ℕ) (bytes : List ℕ) → length (one v before room bytes .report) ≡ room
+  pub byRunUpon : (v : Venue) (before room : ℕ) (bytes : List ℕ) → length (runUpon v before room bytes .report) ≡ room

@@ -11,8 +11,7 @@ use Rattle.rules.specs.Records.{FourBytes}
 use Rattle.rules.specs.Generation.{generationsOf}
 use Rattle.rules.specs.Step.{step}
 use Rattle.rules.specs.Sound.{follows, sound}
-use Rattle.rules.specs.Calls.{one}
-use Rattle.demands.specs.Demand.{Given, Opening, calls, opening}
+use Rattle.demands.specs.Demand.{Later, Opening, callUpon, calls, opening}
 
 -- a venue of the declared type: its arrays have their lengths
 pub record Shaped (v : Venue) : Type 0 where
@@ -42,16 +41,16 @@ FreshSound = SoundAt 1 freshVenue
 
 -- so every venue that the calls return is sound
 abbrev pub AlwaysSound : Type 0
-AlwaysSound = (o : Opening) (gs : List Given) →
-    let s = calls (opening o) gs in
+AlwaysSound = (o : Opening) (cs : List Later) →
+    let s = calls (opening o) cs in
     SoundAt (suc (s .done)) (s .venue)
 
--- and a one-message call upon a venue that came from the calls never answers 9
+-- and a call upon a venue that came from the calls never answers 9, with a message or with a list
 abbrev pub NeverNine : Type 0
-NeverNine = (o : Opening) (gs : List Given) (g : Given) →
-    let s = calls (opening o) gs in
-    one (s .venue) (s .done) (g .room) (g .bytes) .returned .number ≢ 9
+NeverNine = (o : Opening) (cs : List Later) (c : Later) →
+    let s = calls (opening o) cs in
+    callUpon c (s .venue) (s .done) .returned .number ≢ 9
 
 -- and the messages done so far, which the next call is given, are a u32
 abbrev pub DoneFits : Type 0
-DoneFits = (o : Opening) (gs : List Given) → FourBytes (calls (opening o) gs .done)
+DoneFits = (o : Opening) (cs : List Later) → FourBytes (calls (opening o) cs .done)

@@ -9,7 +9,7 @@ use Rattle.rules.specs.Words.{freshVenue}
 use Rattle.rules.specs.Records.{Report, answer, trade, pair, generated, removed, crossed, cancelled, looked}
 use Rattle.rules.specs.Refusals.{refusal}
 use Rattle.rules.specs.Step.{mask, filled, step}
-use Rattle.demands.specs.Demand.{Given, Opening, Seen, calls, opening}
+use Rattle.demands.specs.Demand.{Later, Opening, Seen, calls, opening}
 
 -- One message ---------------------------------------------------------------------------------
 
@@ -87,4 +87,4 @@ pub record Truthful (s : Seen) : Type 0 where
   pub venue : s .venue ≡ leaves freshVenue 0 (s .messages)
 
 abbrev pub Truth : Type 0
-Truth = (o : Opening) (gs : List Given) → Truthful (calls (opening o) gs)
+Truth = (o : Opening) (cs : List Later) → Truthful (calls (opening o) cs)

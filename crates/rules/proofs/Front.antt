@@ -153,7 +153,7 @@ module _ (m rest : List ℕ) where
     unfolding refusal
     refusal-same v = ap (λ (d : Decoded). elim d as (λ _. ℕ) [ Taken x ↦ refusalOf v x | Refused n ↦ n ]) decoded-same
 
-    step-same : (v : Venue) (number : ℕ) → step v number (m ++ rest) ≡ step v number m
+    pub step-same : (v : Venue) (number : ℕ) → step v number (m ++ rest) ≡ step v number m
     unfolding step
     step-same v number = rw (refusal-same v) (go (eqb (refusal v m) 0) refl)
       where

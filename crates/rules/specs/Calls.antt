@@ -96,7 +96,7 @@ abbrev pub isTaken : Venue → (n : ℕ) → Bool
 isTaken v n = sound v && follows (suc n) v
 
 -- A run upon a venue, n messages having gone before: "9 before all", as in the one-message call, and then the messages one by one, as a run
--- does them. With an empty list the number is 9 where the venue is not taken, and else 0. Where n is 4,294,967,295 there is no first number:
+-- does them. An empty list gets 9 where the venue is not taken, and else 0. Where n is 4,294,967,295 there is no first number:
 -- every kept number is below n + 1, so only an unsound venue gets 9. As 10 comes before a message only, an empty list gets 0 there too.
 -- A run from fresh is the case of the fresh venue and n = 0 (demands Agree: `FromFresh`).
 unfoldable pub runUponFrom : Venue → (n room : ℕ) → List ℕ → Outcome
