@@ -10,7 +10,7 @@ use Rattle.rules.specs.declared.Venue.{Venue}
 use Rattle.rules.specs.Base.{if_then_else_}
 use Rattle.rules.specs.Records.{Report, records}
 use Rattle.rules.specs.Calls.{Call, one}
-use Rattle.demands.specs.Demand.{Given, Seen, calls, extend, opening, parts, start, Holds}
+use Rattle.demands.specs.Demand.{Holds, Later, Seen, byMessage, callUpon, calls, extend, givenTo, opening, parts, start}
 use Rattle.demands.specs.Truth.{Truthful}
 use Rattle.demands.proofs.Calls.{demand3}
 use Rattle.demands.proofs.Truth.{truth}
@@ -29,10 +29,10 @@ record Onward (s z : Seen) (c : Lane) (ms : List (List ℕ)) (rs : List Report) 
 seen-is : (a b : Seen) → a .venue ≡ b .venue → a .done ≡ b .done → a .messages ≡ b .messages → a .reports ≡ b .reports → a ≡ b
 seen-is a b p q r t = rw (p, q, r, t)
 
-calls-append : (s : Seen) (a b : List Given) → calls s (a ++ b) ≡ calls (calls s a) b
+calls-append : (s : Seen) (a b : List Later) → calls s (a ++ b) ≡ calls (calls s a) b
 unfolding calls
 calls-append s [] b = refl
-calls-append s (g ∷ a) b = calls-append (extend s (g .bytes) (one (s .venue) (s .done) (g .room) (g .bytes))) a b
+calls-append s (c ∷ a) b = calls-append (extend s (givenTo c .bytes) (callUpon c (s .venue) (s .done))) a b
 
 nothing-more : (s : Seen) (c : Lane) → LeftBy s c → Onward s s c [] []
 nothing-more s c o = record { of = o; messages = sym (append-nil (s .messages)); reports = sym (append-nil (s .reports)) }
@@ -40,7 +40,7 @@ nothing-more s c o = record { of = o; messages = sym (append-nil (s .messages));
 -- one call
 one-apart : (l : Layer) (a : Asked) (v : ℕ) (s : Seen) → length (l .lanes) ≡ 4 → v < 4 → LeftBy s (laneAt l v) →
     Onward s (calls s (takes v l a)) (laneAt (after l a) v) (messagesOf (takes v l a)) (tells v l a)
-unfolding takes tells messagesOf after calls
+unfolding takes tells messagesOf after calls callUpon givenTo
 one-apart l (arrival w m) v s four h o = go (arrival-lane l w m v four h)
   where
     go : Arrival v l w m (arrive l w m) → Onward s s (laneAt (arrive l w m .layer) v) [] []
@@ -61,7 +61,7 @@ one-apart l (turning room) v s four h o = go (turn-lane l room v four h)
     once n = unfold parts in (rw (does (s .venue) (s .done) room r (ending (s .venue) (s .done) room (head c)) n .once))
 
     go : LaneAfter v l room (turn l room) →
-        let g : List Given = if eqb (turn l room .served) v then record { room = room; bytes = head c } ∷ [] else [] in
+        let g : List Later = if eqb (turn l room .served) v then byMessage (record { room = room; bytes = head c }) ∷ [] else [] in
         Onward s (calls s g) (laneAt (turn l room .layer) v) (messagesOf g) (if eqb (turn l room .served) v then records (turn l room .report) else [])
     go (took e f p d w) = unfold advanced extend in (
         rw (eq-eqb (turn l room .served) v e, f, p, same)
@@ -94,10 +94,10 @@ each-apart s l list v four h o =
     seen-is _ _ (x .of .venue) (x .of .done) (sym (x .messages)) (sym (x .reports))
 
 pub each-holds : EachHolds
-each-holds o gs l list v four h was =
-    let s = calls (opening o) gs in
-    let is = calls-append (opening o) gs (takenBy v l list) ∙ sym (each-apart s l list v four h was) in
-    (subst Holds is (demand3 o (gs ++ takenBy v l list)), subst Truthful is (truth o (gs ++ takenBy v l list)))
+each-holds o cs l list v four h was =
+    let s = calls (opening o) cs in
+    let is = calls-append (opening o) cs (takenBy v l list) ∙ sym (each-apart s l list v four h was) in
+    (subst Holds is (demand3 o (cs ++ takenBy v l list)), subst Truthful is (truth o (cs ++ takenBy v l list)))
 
 pub fresh-left : FreshLeft
 unfolding calls opening start

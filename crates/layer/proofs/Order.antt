@@ -10,7 +10,7 @@ use lib.Dec.{eqb}
 use lib.ListN.{length, getD, drop, length-set}
 use borrow.Author.Tests.{eq-eqb, ne-eqb}
 use Rattle.rules.specs.Base.{if_then_else_}
-use Rattle.demands.specs.Demand.{Given}
+use Rattle.demands.specs.Demand.{Later, byMessage, givenTo}
 use Rattle.layer.specs.Layer.{Lane, Layer, Arrived, Turned, Asked, arrival, turning, laneAt, withLane, waiting, joins, arrive, next, head, headCall, idle, advanced, serve, turn, after, afterAll}
 use Rattle.layer.specs.Promises.{brings, broughtBy, takes, takenBy, messagesOf, Ordered}
 use Rattle.layer.proofs.Ways.{arrive-by, turn-by}
@@ -66,14 +66,14 @@ wait-split c w = go (c .wait) w
     go [] e = absurd (mathlib.Core.Bool.false≢true e)
     go (x ∷ l) e = refl
 
-pub messages-append : (a b : List Given) → messagesOf (a ++ b) ≡ messagesOf a ++ messagesOf b
+pub messages-append : (a b : List Later) → messagesOf (a ++ b) ≡ messagesOf a ++ messagesOf b
 unfolding messagesOf
 messages-append [] b = refl
-messages-append (g ∷ a) b = ap (λ (z : List (List ℕ)). g .bytes ∷ z) (messages-append a b)
+messages-append (c ∷ a) b = ap (λ (z : List (List ℕ)). givenTo c .bytes ∷ z) (messages-append a b)
 
 -- one call
 one-ordered : (l : Layer) (a : Asked) (v : ℕ) → length (l .lanes) ≡ 4 → v < 4 → laneAt l v .wait ++ brings v l a ≡ messagesOf (takes v l a) ++ laneAt (after l a) v .wait
-unfolding brings takes messagesOf after
+unfolding brings takes messagesOf after givenTo
 one-ordered l (arrival w m) v four h = go (arrival-lane l w m v four h)
   where
     go : Arrival v l w m (arrive l w m) → laneAt l v .wait ++ (if eqb (arrive l w m .number) 0 && eqb w v then m ∷ [] else []) ≡ laneAt (arrive l w m .layer) v .wait
@@ -82,7 +82,7 @@ one-ordered l (arrival w m) v four h = go (arrival-lane l w m v four h)
 one-ordered l (turning room) v four h = go (turn-lane l room v four h)
   where
     go : LaneAfter v l room (turn l room) → laneAt l v .wait ++ [] ≡
-        messagesOf (if eqb (turn l room .served) v then record { room = room; bytes = head (laneAt l v) } ∷ [] else []) ++ laneAt (turn l room .layer) v .wait
+        messagesOf (if eqb (turn l room .served) v then byMessage (record { room = room; bytes = head (laneAt l v) }) ∷ [] else []) ++ laneAt (turn l room .layer) v .wait
     go (took e f _ _ w) = unfold advanced in (rw (eq-eqb (turn l room .served) v e, f, append-nil (laneAt l v .wait)) (wait-split (laneAt l v) w))
     go (left e f) = rw (ne-eqb (turn l room .served) v e, f) (append-nil (laneAt l v .wait))
 

@@ -9,7 +9,7 @@ use lib.ListN.{length, replicate}
 use Rattle.rules.specs.Base.{if_then_else_}
 use Rattle.rules.specs.Records.{Report, records}
 use Rattle.rules.specs.Calls.{Call, one}
-use Rattle.demands.specs.Demand.{Given, Opening, Seen, alone, calls, opening, Holds}
+use Rattle.demands.specs.Demand.{Holds, Later, Opening, Seen, alone, byMessage, calls, givenTo, opening}
 use Rattle.demands.specs.Soundness.{Shaped}
 use Rattle.demands.specs.Most.{mostReportBytes}
 use Rattle.demands.specs.Truth.{Truthful}
@@ -140,17 +140,17 @@ broughtBy v l [] = []
 broughtBy v l (a ∷ rest) = brings v l a ++ broughtBy v (after l a) rest
 
 -- what a call takes from the wait of venue v, with the report memory that was lent for it
-unfoldable pub takes : (v : ℕ) → Layer → Asked → List Given
+unfoldable pub takes : (v : ℕ) → Layer → Asked → List Later
 takes v l (arrival w m) = []
-takes v l (turning room) = if eqb (turn l room .served) v then record { room = room; bytes = head (laneAt l v) } ∷ [] else []
+takes v l (turning room) = if eqb (turn l room .served) v then byMessage (record { room = room; bytes = head (laneAt l v) }) ∷ [] else []
 
-unfoldable pub takenBy : (v : ℕ) → Layer → List Asked → List Given
+unfoldable pub takenBy : (v : ℕ) → Layer → List Asked → List Later
 takenBy v l [] = []
 takenBy v l (a ∷ rest) = takes v l a ++ takenBy v (after l a) rest
 
-unfoldable pub messagesOf : List Given → List (List ℕ)
+unfoldable pub messagesOf : List Later → List (List ℕ)
 messagesOf [] = []
-messagesOf (g ∷ gs) = g .bytes ∷ messagesOf gs
+messagesOf (c ∷ cs) = givenTo c .bytes ∷ messagesOf cs
 
 -- "a venue's own messages keep their order": those that waited and those that came are those that were taken and those that wait now
 abbrev pub Ordered : Type 0
@@ -190,8 +190,8 @@ Apart = (s : Seen) (l : Layer) (list : List Asked) (v : ℕ) → length (l .lane
 
 -- so where a layer's venue was left by a list of calls from fresh, Demand 3 holds of that list and the layer's, and their sheet tells the truth
 abbrev pub EachHolds : Type 0
-EachHolds = (o : Opening) (gs : List Given) (l : Layer) (list : List Asked) (v : ℕ) → length (l .lanes) ≡ 4 → v < 4 → LeftBy (calls (opening o) gs) (laneAt l v) →
-    let s = seenOf v (calls (opening o) gs) l list in
+EachHolds = (o : Opening) (cs : List Later) (l : Layer) (list : List Asked) (v : ℕ) → length (l .lanes) ≡ 4 → v < 4 → LeftBy (calls (opening o) cs) (laneAt l v) →
+    let s = seenOf v (calls (opening o) cs) l list in
     Holds s × Truthful s
 
 -- as every venue of the fresh layer was, by no call

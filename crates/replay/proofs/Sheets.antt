@@ -19,7 +19,7 @@ use Rattle.rules.proofs.Arranging.{closed-same}
 use Rattle.rules.proofs.RefusalsLaws.{accepted}
 use Rattle.rules.proofs.Showing.{again-same}
 use Rattle.rules.proofs.Tests.{and-l, and-r}
-use Rattle.demands.specs.Demand.{Given, Opening, Seen, calls, opening, start}
+use Rattle.demands.specs.Demand.{Later, Opening, Seen, calls, opening, start}
 use Rattle.demands.specs.Soundness.{SoundVenue}
 use Rattle.demands.proofs.Account.{onto}
 use Rattle.demands.proofs.Induction.{all-keep}
@@ -127,7 +127,7 @@ more-sheet s bs h few = record {
       (λ y e q. follows-step y (s .venue) (h .told .sound .venue) e (suc (s .done)) bs ns q));
 }
 
-all-sheets : (o : Opening) (gs : List Given) → Sheet (calls (opening o) gs)
+all-sheets : (o : Opening) (cs : List Later) → Sheet (calls (opening o) cs)
 all-sheets = all-keep Sheet (λ s h. sound-out (s .venue) (h .told .sound .venue) .ranged) start-sheet more-sheet
 
 -- The theorems --------------------------------------------------------------------------------
@@ -136,13 +136,13 @@ one-message : (v : Venue) → SoundVenue v → (number : ℕ) (bs : List ℕ) �
 unfolding upon
 one-message v s number bs = follows-step (upon v (bs ∷ [])) v s (finished-same v s) number bs [] refl
 
-whole-sheet : (o : Opening) (gs : List Given) →
-    let s = calls (opening o) gs in
+whole-sheet : (o : Opening) (cs : List Later) →
+    let s = calls (opening o) cs in
     Follows (upon freshVenue (s .messages)) (record { venue = s .venue; reports = s .reports }) []
-whole-sheet o gs = rw (append-nil (calls (opening o) gs .messages)) at (all-sheets o gs .follows [])
+whole-sheet o cs = rw (append-nil (calls (opening o) cs .messages)) at (all-sheets o cs .follows [])
 
 pub replays : Replays
-replays = record { message = λ v s number bs. one-message v s number bs .venue; list = λ o gs. whole-sheet o gs .venue }
+replays = record { message = λ v s number bs. one-message v s number bs .venue; list = λ o cs. whole-sheet o cs .venue }
 
 pub no-better-passed-over : NoBetterPassedOver
-no-better-passed-over = record { message = λ v s number bs. one-message v s number bs .moments; list = λ o gs. whole-sheet o gs .moments }
+no-better-passed-over = record { message = λ v s number bs. one-message v s number bs .moments; list = λ o cs. whole-sheet o cs .moments }

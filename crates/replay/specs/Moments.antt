@@ -14,7 +14,7 @@ use Rattle.rules.specs.Records.{Report, answer, cancelled, crossed, generated, 
 use Rattle.rules.specs.Prices.{better, ownPrice, restsAt, shownSize, showsAt}
 use Rattle.rules.specs.Step.{step}
 use Rattle.demands.specs.Crosses.{Respects}
-use Rattle.demands.specs.Demand.{Given, Opening, calls, opening}
+use Rattle.demands.specs.Demand.{Later, Opening, calls, opening}
 use Rattle.demands.specs.Soundness.{SoundVenue}
 use Rattle.replay.specs.Replay.{State, next, upon}
 
@@ -87,6 +87,6 @@ AtEach x (r ∷ rs) = AtItsMoment (x .books) r × AtEach (next r x) rs
 pub record NoBetterPassedOver : Type 0 where
   pub message : (v : Venue) → SoundVenue v → (number : ℕ) (message : List ℕ) →
       AtEach (upon v (message ∷ [])) (step v number message .effect .reports)
-  pub list : (o : Opening) (gs : List Given) →
-      let s = calls (opening o) gs in
+  pub list : (o : Opening) (cs : List Later) →
+      let s = calls (opening o) cs in
       AtEach (upon freshVenue (s .messages)) (s .reports)

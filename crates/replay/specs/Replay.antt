@@ -19,7 +19,7 @@ use Rattle.rules.specs.Generation.{counted, placed}
 use Rattle.rules.specs.Complex.{goingRound, idReached}
 use Rattle.rules.specs.Places.{closeGaps}
 use Rattle.rules.specs.Step.{setAway, setFigure, setStatus, step}
-use Rattle.demands.specs.Demand.{Given, Opening, calls, opening}
+use Rattle.demands.specs.Demand.{Later, Opening, calls, opening}
 use Rattle.demands.specs.Soundness.{SoundVenue}
 
 -- What a record says --------------------------------------------------------------------------
@@ -107,6 +107,6 @@ upon v ms = record { books = v; number = 0; messages = ms }
 pub record Replays : Type 0 where
   pub message : (v : Venue) → SoundVenue v → (number : ℕ) (message : List ℕ) →
       finished (replay (upon v (message ∷ [])) (step v number message .effect .reports) .books) ≡ step v number message .effect .venue
-  pub list : (o : Opening) (gs : List Given) →
-      let s = calls (opening o) gs in
+  pub list : (o : Opening) (cs : List Later) →
+      let s = calls (opening o) cs in
       finished (replay (upon freshVenue (s .messages)) (s .reports) .books) ≡ s .venue

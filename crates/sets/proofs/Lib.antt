@@ -15,7 +15,6 @@
 --   ReadBack    reading what was written
 --   Most        the most bytes of a set
 --   Cutting     a day that is cut by sets
---   AfterRun    and after a run
 --   Spelled     the bytes of a record from what is read at its places
 --   Pieces      a row in order is its pieces one after another
 --   PartsRead   each record that is read, by its part
@@ -37,7 +36,6 @@ pub mod Written
 pub mod ReadBack
 pub mod Most
 pub mod Cutting
-pub mod AfterRun
 pub mod Spelled
 pub mod Pieces
 pub mod PartsRead

@@ -1,14 +1,15 @@
 -- What a set promises: it reads back, it is written back, and a day that is cut by sets goes on as if it were not.
 use mathlib.Core.Path.{_≡_}
-use mathlib.Core.List.{List, [], _∷_, _++_}
+use mathlib.Core.List.{List, [], _∷_}
 use Prim.Native.Nat.{ℕ, suc, _+_, _*_, _<_, _≤_}
 use lib.ListN.{length, getD, take}
 use Rattle.rules.specs.declared.Venue.{Venue}
 use Rattle.rules.specs.Bytes.{kindField}
 use Rattle.rules.specs.Records.{FourBytes}
-use Rattle.rules.specs.Calls.{one, run}
+use Rattle.rules.specs.Calls.{runUpon}
 use Rattle.demands.specs.Soundness.{Shaped, SoundAt}
-use Rattle.demands.specs.Agree.{Agrees, NoneFull, Progress, freshProgress, byCalls, onward, wrote}
+use Rattle.demands.specs.Demand.{Later, callUpon}
+use Rattle.demands.specs.Agree.{OfList, Progress, byCalls, onward}
 use Rattle.sets.specs.Set.{row, heldIn, joined, readSet, setOf, writeSet}
 
 -- Both ways -----------------------------------------------------------------------------------
@@ -58,54 +59,43 @@ AtMost = (number : ℕ) (v : Venue) → Shaped v → length (joined (setOf numbe
 
 -- The cut -------------------------------------------------------------------------------------
 
--- what is done with a list of messages: a one-message call, with a report memory of a length, or the venue and its number carried over by a set, in lent
--- memory of a length
+-- what is done with a list of messages: a call, or the venue and its number carried over by a set, in lent memory of a length
 pub data Going : Type 0 where
-  call : (room : ℕ) → Going
+  call : Later → Going
   cut : (room : ℕ) → Going
 
 -- "writing, reading and going on"
 unfoldable pub carried : (room : ℕ) → Progress → Progress
 carried room p =
     let r = readSet (writeSet (p .done) (p .venue) room .memory) in
-    record { number = p .number; done = r .message; venue = r .venue; bytes = p .bytes; left = p .left }
+    record { torn = p .torn; done = r .message; venue = r .venue; bytes = p .bytes; left = p .left }
 
 unfoldable pub goingOn : List Going → Progress → Progress
 goingOn [] p = p
-goingOn (call room ∷ gs) p = goingOn gs (onward p (one (p .venue) (p .done) room (p .left)))
+goingOn (call c ∷ gs) p = goingOn gs (onward p (callUpon c (p .venue) (p .done)))
 goingOn (cut room ∷ gs) p = goingOn gs (carried room p)
 
--- the report memories of the calls, in order
-unfoldable pub rooms : List Going → List ℕ
-rooms [] = []
-rooms (call room ∷ gs) = room ∷ rooms gs
-rooms (cut room ∷ gs) = rooms gs
+-- "without the cut": the calls, in order
+unfoldable pub uncut : List Going → List Later
+uncut [] = []
+uncut (call c ∷ gs) = c ∷ uncut gs
+uncut (cut room ∷ gs) = uncut gs
 
 -- "given memory that holds them": each set's memory holds the set that there is to write when its cut comes (`AtMost`: memory that always does)
 abbrev pub SetsFit : List Going → Progress → Type 0
 SetsFit [] p = Unit {0}
-SetsFit (call room ∷ gs) p = SetsFit gs (onward p (one (p .venue) (p .done) room (p .left)))
+SetsFit (call c ∷ gs) p = SetsFit gs (onward p (callUpon c (p .venue) (p .done)))
 SetsFit (cut room ∷ gs) p = (length (joined (setOf (p .done) (p .venue))) ≤ room) × SetsFit gs (carried room p)
 
 -- "Cutting a message list between any two messages that a run does, writing, reading and going on gives the same records as going on without the cut, given
--- memory that holds them": with any number of cuts, wherever they are, as many calls as the run did messages write its bytes and leave its venue, given that
--- each set fits its memory and no call is ended by 10
-abbrev pub Cut : Type 0
-Cut = (room : ℕ) (messages : List ℕ) (gs : List Going) → SetsFit gs (freshProgress messages) → NoneFull (rooms gs) (freshProgress messages) →
-    length (rooms gs) ≡ run room messages .returned .done → Agrees room (run room messages) (goingOn gs (freshProgress messages))
-
--- and so after a run of the first part of the list, which ended with number 0 as it did all of it, with the rest left
-unfoldable pub runThen : (room : ℕ) (first rest : List ℕ) → Progress
-runThen room first rest =
-    let c = run room first in
-    record { number = c .returned .number; done = c .returned .done; venue = c .returned .venue; bytes = wrote c; left = rest }
-
-abbrev pub CutRun : Type 0
-CutRun = (before room : ℕ) (first rest : List ℕ) (gs : List Going) → run before first .returned .number ≡ 0 →
-    SetsFit gs (runThen before first rest) → NoneFull (rooms gs) (runThen before first rest) →
-    run before first .returned .done + length (rooms gs) ≡ run room (first ++ rest) .returned .done →
-    Agrees room (run room (first ++ rest)) (goingOn gs (runThen before first rest))
-
--- and the same of the calls alone, from a sound venue with its number on: cut or not, they come to the same, a call ended by 10 too
+-- memory that holds them". Of every list of calls, each given a message or a list, from a sound venue with its number on, and with any number of cuts, wherever
+-- they are: cut or not, the calls come to the same, a call ended by 10 too
 abbrev pub CutCalls : Type 0
-CutCalls = (gs : List Going) (p : Progress) → SoundAt (suc (p .done)) (p .venue) → FourBytes (p .done) → SetsFit gs p → goingOn gs p ≡ byCalls (rooms gs) p
+CutCalls = (gs : List Going) (p : Progress) → SoundAt (suc (p .done)) (p .venue) → FourBytes (p .done) → SetsFit gs p → goingOn gs p ≡ byCalls (uncut gs) p
+
+-- and of one list of messages: calls with cuts between any of them that together do as many messages as a run of the list upon the same venue write its bytes
+-- and leave its venue. A day that begins by a run from fresh, is cut at noon and goes on by a run of the rest is the case of the fresh venue and two calls
+abbrev pub Cut : Type 0
+Cut = (p : Progress) (room : ℕ) (gs : List Going) → SoundAt (suc (p .done)) (p .venue) → FourBytes (p .done) → SetsFit gs p → OfList (uncut gs) p →
+    let r = onward p (runUpon (p .venue) (p .done) room (p .left)) in
+    goingOn gs p .done ≡ r .done → goingOn gs p ≡ r

@@ -27,7 +27,7 @@ use Rattle.rules.specs.Calls.{settings}
 use Rattle.rules.specs.Sums.{generatedOf, total}
 use Rattle.rules.specs.Opened.{opened-rules}
 use Rattle.rules.proofs.Tests.{and-l, and-r}
-use Rattle.demands.specs.Demand.{Accepted, Seen, byRun, calls, extend, opening, parts, start}
+use Rattle.demands.specs.Demand.{Accepted, Seen, byRun, callUpon, calls, extend, givenTo, opening, parts, start}
 use Rattle.demands.specs.Soundness.{SoundAt}
 use Rattle.demands.specs.LimitedSweeps.{Stays, looks, looksAll, looksBy, looksIn, resting, round}
 use Rattle.demands.specs.Truth.{venueAfter}
@@ -107,7 +107,7 @@ read = record {
 }
 
 is-read : reading evening ≡ read
-unfolding opened-rules reading read bytesOf regularSums complexSums morning afternoon oneByOne noon evening start extend parts opening calls
+unfolding opened-rules reading read bytesOf regularSums complexSums morning afternoon oneByOne noon evening start extend parts opening calls callUpon givenTo
 is-read = refl
 
 -- the record at a place is among the records

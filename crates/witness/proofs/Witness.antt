@@ -7,7 +7,7 @@ use lib.ListN.{getD, length}
 use borrow.Author.Tests.{ltb-true}
 use Rattle.rules.specs.Records.{Report, answer, cancelled}
 use Rattle.rules.specs.Opened.{opened-rules}
-use Rattle.demands.specs.Demand.{calls, extend, opening, parts, start}
+use Rattle.demands.specs.Demand.{callUpon, calls, extend, givenTo, opening, parts, start}
 use Rattle.witness.specs.Witness.{Witness, arriving, atEnd, bytesOf, causes, kindOf, later, ofKind, regularSums, session, sums, unitSums}
 
 -- what stands at a place of a list is one of it
@@ -17,23 +17,23 @@ at-mem (x ∷ l) zero d r h e = List·Memᴰ·head (sym e)
 at-mem (x ∷ l) (suc n) d r h e = List·Memᴰ·tail (at-mem l n d r (omega arith) e)
 
 told : List·Memᴰ (answer 5 0 5 2) (atEnd .reports)
-unfolding opened-rules bytesOf session later atEnd start extend parts opening calls
+unfolding opened-rules bytesOf session later atEnd start extend parts opening calls callUpon givenTo
 told = at-mem (atEnd .reports) 4 (cancelled 0 0) (answer 5 0 5 2) (ltb-true 4 (length (atEnd .reports)) refl) refl
 
 told-regular : List·Memᴰ (answer 4 0 0 0) (atEnd .reports)
-unfolding opened-rules bytesOf session later atEnd start extend parts opening calls
+unfolding opened-rules bytesOf session later atEnd start extend parts opening calls callUpon givenTo
 told-regular = at-mem (atEnd .reports) 3 (cancelled 0 0) (answer 4 0 0 0) (ltb-true 3 (length (atEnd .reports)) refl) refl
 
 told-units : List·Memᴰ (answer 34 0 0 0) (atEnd .reports)
-unfolding opened-rules bytesOf session later atEnd start extend parts opening calls
+unfolding opened-rules bytesOf session later atEnd start extend parts opening calls callUpon givenTo
 told-units = at-mem (atEnd .reports) 78 (cancelled 0 0) (answer 34 0 0 0) (ltb-true 78 (length (atEnd .reports)) refl) refl
 
 told-reserve : List·Memᴰ (answer 37 0 5 2) (atEnd .reports)
-unfolding opened-rules bytesOf session later atEnd start extend parts opening calls
+unfolding opened-rules bytesOf session later atEnd start extend parts opening calls callUpon givenTo
 told-reserve = at-mem (atEnd .reports) 86 (cancelled 0 0) (answer 37 0 5 2) (ltb-true 86 (length (atEnd .reports)) refl) refl
 
 pub witness : Witness
-unfolding opened-rules bytesOf session later atEnd kindOf ofKind causes sums unitSums regularSums arriving start extend parts opening calls
+unfolding opened-rules bytesOf session later atEnd kindOf ofKind causes sums unitSums regularSums arriving start extend parts opening calls callUpon givenTo
 witness = record {
   done = refl;
   standing = refl;

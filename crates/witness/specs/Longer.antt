@@ -19,7 +19,7 @@ use Rattle.rules.specs.Order.{hit}
 use Rattle.rules.specs.Refusals.{refusal}
 use Rattle.rules.specs.Calls.{settings}
 use Rattle.rules.specs.Sums.{cancelledOf, contracts, crossedFor, generatedOf, openComplex, paired, total}
-use Rattle.demands.specs.Demand.{Accepted, Given, Seen, byRun, calls, opening}
+use Rattle.demands.specs.Demand.{Accepted, Later, Seen, byMessage, byRun, calls, opening}
 use Rattle.demands.specs.Soundness.{SoundAt}
 use Rattle.demands.specs.LimitedSweeps.{Stays, looks, looksAll}
 use Rattle.witness.specs.Witness.{both, bytesOf, order, regularSums, reserved, units}
@@ -52,9 +52,9 @@ morning =
 unfoldable pub afternoon : List (List ℕ)
 afternoon = encodeMessage (LimitedSweep 7) ∷ encodeMessage (order 15 2 1 50 5) ∷ encodeMessage (LimitedSweep 2) ∷ encodeMessage (LimitedSweep 32) ∷ []
 
-unfoldable pub oneByOne : List (List ℕ) → List Given
+unfoldable pub oneByOne : List (List ℕ) → List Later
 oneByOne [] = []
-oneByOne (m ∷ ms) = record { room = 100; bytes = m } ∷ oneByOne ms
+oneByOne (m ∷ ms) = byMessage (record { room = 100; bytes = m }) ∷ oneByOne ms
 
 unfoldable pub noon : Seen
 noon = opening (byRun (record { room = 2000; bytes = bytesOf morning }))

@@ -19,7 +19,7 @@ use Rattle.rules.specs.Standing.{parentOf}
 use Rattle.rules.specs.Trading.{putRegular}
 use Rattle.rules.specs.Order.{hit}
 use Rattle.rules.specs.Sums.{cancelledOf, contracts, crossedFor, openComplex, openRegular, paired, total}
-use Rattle.demands.specs.Demand.{Accepted, Given, Seen, byRun, calls, opening, otherTrades}
+use Rattle.demands.specs.Demand.{Accepted, Later, Seen, byList, byMessage, byRun, calls, opening, otherTrades}
 
 -- The calls -----------------------------------------------------------------------------------
 
@@ -62,32 +62,30 @@ session =
     ∷ both 7 0 0 (pos 210) 2 ∷ Cancel 7 ∷ Sweep
     ∷ []
 
--- and then one-message calls, each with its room
-unfoldable pub later : List Given
+-- and then calls with a message or a list each, each with its room
+unfoldable pub later : List Later
 later =
-    record { room = 100; bytes = encodeMessage (Away 0 115 0) }
-    ∷ record { room = 100; bytes = encodeMessage (Away 1 85 95) }
+    byMessage (record { room = 100; bytes = encodeMessage (Away 0 115 0) })
+    ∷ byMessage (record { room = 100; bytes = encodeMessage (Away 1 85 95) })
     -- a cross: 3
-    ∷ record { room = 100; bytes = encodeMessage (both 8 1 0 (negsuc 204) 1) }
+    ∷ byMessage (record { room = 100; bytes = encodeMessage (both 8 1 0 (negsuc 204) 1) })
     -- 11 bytes hold no answer: this call ends with 10 before its message
-    ∷ record { room = 11; bytes = encodeMessage Sweep }
-    ∷ record { room = 100; bytes = encodeMessage Sweep }
+    ∷ byMessage (record { room = 11; bytes = encodeMessage Sweep })
+    ∷ byMessage (record { room = 100; bytes = encodeMessage Sweep })
     -- the other leg's offer is cancelled, and an away one keeps the limit in band: 2
-    ∷ record { room = 100; bytes = encodeMessage (Cancel 2) }
+    ∷ byMessage (record { room = 100; bytes = encodeMessage (Cancel 2) })
     -- refused: a torn message, and an id that is not above the last
-    ∷ record { room = 100; bytes = 9 ∷ 0 ∷ 6 ∷ [] }
-    ∷ record { room = 100; bytes = encodeMessage (order 8 1 1 90 12) }
-    ∷ record { room = 100; bytes = encodeMessage (order 9 1 1 90 12) }
-    ∷ record { room = 100; bytes = encodeMessage Sweep }
+    ∷ byMessage (record { room = 100; bytes = 9 ∷ 0 ∷ 6 ∷ [] })
+    ∷ byList (record { room = 100; bytes = bytesOf (order 8 1 1 90 12 ∷ order 9 1 1 90 12 ∷ Sweep ∷ []) })
     -- three and one would be sold where two are bid for: 10; two and one are bought, whole units
-    ∷ record { room = 100; bytes = encodeMessage (units 10 1 3 1 (negsuc 419) 1) }
-    ∷ record { room = 100; bytes = encodeMessage (Cancel 10) }
-    ∷ record { room = 100; bytes = encodeMessage (units 11 0 2 1 (pos 350) 3) }
-    ∷ record { room = 100; bytes = encodeMessage Sweep }
+    ∷ byMessage (record { room = 100; bytes = encodeMessage (units 10 1 3 1 (negsuc 419) 1) })
+    ∷ byMessage (record { room = 100; bytes = encodeMessage (Cancel 10) })
+    ∷ byMessage (record { room = 100; bytes = encodeMessage (units 11 0 2 1 (pos 350) 3) })
+    ∷ byMessage (record { room = 100; bytes = encodeMessage Sweep })
     -- a quantity of 10 showing 3: an order for 5 takes 3 and then 2, and of the 5 left 3 show again
-    ∷ record { room = 100; bytes = encodeMessage (Status 7 1) }
-    ∷ record { room = 100; bytes = encodeMessage (reserved 12 7 1 100 10 3) }
-    ∷ record { room = 100; bytes = encodeMessage (order 13 7 0 100 5) }
+    -- one list in two calls: 40 bytes do not hold the last message's records, and the first call ends with 10 before it
+    ∷ byList (record { room = 40; bytes = bytesOf (Status 7 1 ∷ reserved 12 7 1 100 10 3 ∷ order 13 7 0 100 5 ∷ []) })
+    ∷ byList (record { room = 100; bytes = bytesOf (order 13 7 0 100 5 ∷ []) })
     ∷ []
 
 unfoldable pub atEnd : Seen
@@ -143,7 +141,7 @@ unfoldable pub arriving : Venue
 arriving = putRegular 3 (record { id = 14; series = 0; side = 1; price = 115; quantity = 2; display = 2; reserve = 0 }) (atEnd .venue)
 
 pub record Witness : Type 0 where
-  -- 22 messages of the run and 16 later ones; the call with 11 bytes did none
+  -- 22 messages of the run and 16 later ones; the call with 11 bytes did none, and that with 40 bytes two of three
   pub done : atEnd .done ≡ 38
   -- two legging orders stand at the end, for 2 contracts at 115 and 75
   pub standing : leggingAt (atEnd .venue) 0 0 ≡ record { parent = 3; price = 115; quantity = 2 }
