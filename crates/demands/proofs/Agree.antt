@@ -163,6 +163,7 @@ module _ (bs rest : List ℕ) (v : Venue) (number : ℕ) (w : step v number bs .
     where
       all : rest ≡ [] → (step v number (bs ++ rest) ≡ step v number bs) × (drop (lengthField (bs ++ rest)) (bs ++ rest) ≡ drop (lengthField bs) bs ++ rest)
       all e = rw (e, append-nil bs, append-nil (drop (lengthField bs) bs)) (refl, refl)
+
       go : (b : Bool) → eqb (step v number bs .refused) 1 ≡ b →
           (step v number (bs ++ rest) ≡ step v number bs) × (drop (lengthField (bs ++ rest)) (bs ++ rest) ≡ drop (lengthField bs) bs ++ rest)
       go true e = all (w (eqb-true (step v number bs .refused) 1 e))
@@ -306,12 +307,16 @@ run-ends-at (suc fuel) p room s le t =
   where
     a : StepOutcome
     a = step (p .venue) (suc (p .done)) (p .left)
+
     l : List ℕ
     l = drop (lengthField (p .left)) (p .left)
+
     size : ℕ
     size = length (encodeAll (a .effect .reports))
+
     r : Outcome
     r = runFrom fuel (a .effect .venue) (suc (p .done)) (room - size) l
+
     more : size ≤ room → a .refused ≢ 1 → EndedBy (moved a l p) (room - size) r → EndedBy p room (after (a .effect) r)
     more le x e =
         let n = length-append (p .bytes) (encodeAll (a .effect .reports)) in
