@@ -8,17 +8,16 @@ use native.Mathlib.Decide.{decLe}
 use native.Mathlib.Nat.{add-zero, suc-add, zero-add}
 use native.Mathlib.Omega.{arith}
 use lib.Dec.{eqb, eqb·suc-zero}
-use lib.ListN.{drop, drop-of-length-le, length, length-append, length-drop, take, take-append-drop}
+use lib.ListN.{drop, length, length-append, length-drop, take}
 use lib.Seq.{drop-append-le, length-take-le, take-all, take-append-seam}
 use borrow.Author.Tests.{eqb-false, eqb-true, lt-ltb, ne-eqb}
 use Rattle.rules.specs.declared.Venue.{Venue}
 use Rattle.rules.specs.Base.{if_then_else_}
-use Rattle.rules.specs.Words.{freshVenue}
 use Rattle.rules.specs.Bytes.{lengthField}
 use Rattle.rules.specs.Records.{encodeAll, sheet}
 use Rattle.rules.specs.Effects.{Effect}
 use Rattle.rules.specs.Refusals.{refusal, torn}
-use Rattle.rules.specs.Sound.{follows, sound}
+use Rattle.rules.specs.Sound.{sound}
 use Rattle.rules.specs.Step.{StepOutcome, answered, step}
 use Rattle.rules.specs.Calls.{Outcome, after, called, ends, exceeds, isTaken, one, oneFrom, run, runFrom, runUpon, runUponFrom}
 use Rattle.demands.specs.Demand.{Later, byList, byMessage, callUpon, givenTo}
@@ -29,7 +28,7 @@ use Rattle.demands.specs.Most.{mostReportBytes}
 use Rattle.rules.proofs.CallsLaws.{encode-append, no-bytes, not-exceeds, oneFrom-by, runFrom-by, runUponFrom-by, torn-not}
 use Rattle.rules.proofs.Front.{length-same, reads-one, step-same}
 use Rattle.rules.proofs.RefusalsLaws.{not-torn, whole, whole-in}
-use Rattle.rules.proofs.Tests.{and-in, and-l, and-r}
+use Rattle.rules.proofs.Tests.{and-l, and-r}
 use Rattle.demands.proofs.Calls.{fresh-sound, stays-sound}
 use Rattle.demands.proofs.Most.{writes-at-most}
 

@@ -68,7 +68,8 @@ unfoldable pub byCalls : List Later → Progress → Progress
 byCalls [] p = p
 byCalls (c ∷ cs) p = byCalls cs (onward p (callUpon c (p .venue) (p .done)))
 
--- what a call is given stands in front of what is left of the list, and no message is split: where the call returns 1, it is all that is left
+-- What a call is given stands in front of what is left of the list, and no message is split: where the call returns 1, it is given all that is
+-- left.
 pub record InFront (c : Later) (p : Progress) : Type 0 where
   pub rest : List ℕ
   pub is : p .left ≡ givenTo c .bytes ++ rest
@@ -81,15 +82,15 @@ OfList (c ∷ cs) p = InFront c p × OfList cs (onward p (callUpon c (p .venue) 
 
 -- The claim -----------------------------------------------------------------------------------
 
--- Whatever the lengths of the report memories: calls that together do as many messages as a run of the list come to where the run comes: the same venue, the
--- same bytes written, the same rest of the list. Upon every venue, sound or not.
+-- Whatever the lengths of the report memories: calls that together do as many messages as a run of the list come to where the run comes.
+-- They leave the same venue and the same rest of the list, and wrote the same bytes. That holds upon every venue, sound or not.
 abbrev pub Agree : Type 0
 Agree = (p : Progress) (room : ℕ) (cs : List Later) → OfList cs p →
     let r = onward p (runUpon (p .venue) (p .done) room (p .left)) in
     byCalls cs p .done ≡ r .done → byCalls cs p ≡ r
 
--- "A run's number is 1 or 10 if that ended it, else 0", and 9 where it did not begin: by where calls that did the same messages stand, and by what a
--- one-message call would return then that is lent what is left of the run's memory
+-- "A run's number is 1 or 10 if that ended it, else 0", and 9 where it did not begin: by where the calls stand that did the same messages, and
+-- by what a one-message call would then return that is lent what is left of the run's memory
 pub data Ended (room : ℕ) (p : Progress) : (number : ℕ) → Type 0 where
   atEnd : p .torn ≡ false → p .left ≡ [] → Ended room p 0
   atTorn : p .torn ≡ true → Ended room p 1

@@ -1,6 +1,6 @@
 -- One message and the calls, by their cases; a call's records fit the report memory, whatever the venue and the bytes.
 use mathlib.Core.Path.{_≡_, refl, sym}
-use mathlib.Core.Bool.{Bool, _&&_, false, not, true}
+use mathlib.Core.Bool.{Bool, false, not, true}
 use mathlib.Core.Logic.{_≢_}
 use mathlib.Core.List.{List, [], _++_, _∷_, append-assoc}
 use Prim.Native.Nat.{_-_, _<_, _≤_, suc, zero, ℕ}

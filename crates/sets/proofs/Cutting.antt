@@ -9,7 +9,7 @@ use Rattle.rules.specs.declared.Venue.{Venue}
 use Rattle.rules.specs.Records.{FourBytes}
 use Rattle.rules.specs.Effects.{Effect}
 use Rattle.rules.specs.Step.{step}
-use Rattle.rules.specs.Calls.{Outcome, after, called, ends, one, oneFrom, runFrom, runUpon, runUponFrom}
+use Rattle.rules.specs.Calls.{Outcome, after, called, ends, one, oneFrom, runFrom, runUpon}
 use Rattle.rules.proofs.CallsLaws.{oneFrom-by, runFrom-by, runUponFrom-by}
 use Rattle.demands.specs.Demand.{Later, byList, byMessage, callUpon}
 use Rattle.demands.specs.Soundness.{SoundAt}
