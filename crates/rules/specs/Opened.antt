@@ -17,8 +17,8 @@ use Rattle.rules.specs.Trading.{lessRegular, lessComplex, fillRegular, f
 use Rattle.rules.specs.Order.{isMet, shownThenId, priceThenId, atOnce, firstMet, leggingFirst, meet, hit, meetTurn, enterRegular, order}
 use Rattle.rules.specs.Generation.{asPrice, legPrice, newLegging, placed, generationsOf, underCeiling, oneMore, counted, reachesAny, givesWay, othersStand, makes, make, generateLeg, generate}
 use Rattle.rules.specs.Complex.{anyClosed, reversed, respectsLegs, crosses, limitThenId, cross, crossTurn, touches, takenSide, fillsUnit, touch}
-use Rattle.rules.specs.Complex.{legsIn, legIn, unitsIn, legInTurn, work, complex, nextAbove, each, sweep, placesOf, goingRound, examined}
-use Rattle.rules.specs.Complex.{idReached, eachOf, limitedSweep, cancelRegular, cancelComplex, regularPlace, complexPlace, restsRegular}
+use Rattle.rules.specs.Complex.{legsIn, legIn, unitsIn, legInTurn, work, complex, placesOf, restingPlaces, eachOf, sweep, goingRound, examined}
+use Rattle.rules.specs.Complex.{idReached, limitedSweep, cancelRegular, cancelComplex, regularPlace, complexPlace, restsRegular}
 use Rattle.rules.specs.Complex.{restsComplex, cancel}
 use Rattle.rules.specs.Places.{blankRegular, blankComplex, blankEdition, blankLegging, packed, closeGaps, arranged}
 use Rattle.rules.specs.Refusals.{torn, isKind, isLength, regularInRange, twoLegInRange, farOf, inRange, equalRatios, decoded, complexInRange}
@@ -43,7 +43,7 @@ unfolding all keep placeWhere ranked firstFrom opposite signTimes within isId is
     freeRegular freeComplex putRegular putComplex tradeWith tradeAtPrice pairOff isMet shownThenId priceThenId atOnce firstMet leggingFirst meet hit meetTurn
     enterRegular order asPrice legPrice newLegging placed generationsOf underCeiling oneMore counted reachesAny givesWay othersStand makes make
     generateLeg generate anyClosed reversed respectsLegs crosses limitThenId cross crossTurn touches takenSide fillsUnit touch legsIn legIn unitsIn
-    legInTurn work complex nextAbove each sweep placesOf goingRound examined idReached eachOf limitedSweep cancelRegular cancelComplex regularPlace
+    legInTurn work complex placesOf restingPlaces eachOf sweep goingRound examined idReached limitedSweep cancelRegular cancelComplex regularPlace
     complexPlace restsRegular restsComplex cancel blankRegular blankComplex blankEdition blankLegging packed closeGaps arranged torn isKind isLength
     regularInRange twoLegInRange farOf inRange equalRatios decoded complexInRange onIncrement offIncrement editionTooLow idle inUse noEditionLeft
     idTooLow onClosed full unknown refusalOf refusal setAway setStatus setFigure perform accept mask filled answered step apart listedInRange
