@@ -12,9 +12,11 @@ use Rattle.demands.specs.Most.{mostReportBytes}
 
 -- A call reads one message --------------------------------------------------------------------
 
--- "The second reads one message and nothing after it": given any bytes, it does what it does given as many of them as their length says, below 4 or not.
+-- "The second reads one message and nothing after it": given any bytes, it does what it does given as many of them as their length says,
+-- below 4 or not.
 abbrev pub ReadsOne : Type 0
-ReadsOne = (v : Venue) (before room : ℕ) (messages : List ℕ) → one v before room messages ≡ one v before room (take (lengthField messages) messages)
+ReadsOne = (v : Venue) (before room : ℕ) (messages : List ℕ) →
+    one v before room messages ≡ one v before room (take (lengthField messages) messages)
 
 -- Calls one after another ---------------------------------------------------------------------
 
@@ -61,8 +63,8 @@ NoneFull (room ∷ rooms) p =
 
 -- The claim -----------------------------------------------------------------------------------
 
--- "A run's number is 1 or 10 if that ended it, else 0": of a run lent `room` that did what calls have done so far. It is 1 exactly if the last call's
--- number was; 10 if the next call, lent what is left of the memory, is ended by 10 as well; and 0 if no message is left.
+-- "A run's number is 1 or 10 if that ended it, else 0": of a run lent `room` that did what calls have done so far. It is 1 exactly if the
+-- last call's number was; 10 if the next call, lent what is left of the memory, is ended by 10 as well; and 0 if no message is left.
 pub data Ended (room : ℕ) (p : Progress) : (number : ℕ) → Type 0 where
   atEnd : p .number ≢ 1 → p .left ≡ [] → Ended room p 0
   atTorn : p .number ≡ 1 → Ended room p 1
@@ -81,4 +83,5 @@ Agree = (room : ℕ) (messages rooms : List ℕ) → NoneFull rooms (freshProgre
 
 -- "a run whose report memory never fills": lent so many bytes for each byte of the list, a run is not ended by 10
 abbrev pub NeverFills : Type 0
-NeverFills = (room : ℕ) (messages : List ℕ) → length messages ≤ 4294967295 → mostReportBytes * length messages ≤ room → run room messages .returned .number ≢ 10
+NeverFills = (room : ℕ) (messages : List ℕ) → length messages ≤ 4294967295 → mostReportBytes * length messages ≤ room →
+    run room messages .returned .number ≢ 10

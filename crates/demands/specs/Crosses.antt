@@ -1,5 +1,6 @@
--- Request (b), over every list of calls: "A cross is made only if neither party's net is above what best regular prices of both legs would give that
--- party, where both legs have one." Of every 70 written, at its moment: the venue upon which the definition makes that cross.
+-- Request (b), over every list of calls: "A cross is made only if neither party's net is above what best regular prices of both legs
+-- would give that party, where both legs have one." Of every 70 written, at its moment: the venue upon which the definition makes that
+-- cross.
 use mathlib.Core.Path.{_≡_}
 use mathlib.Core.Bool.{true}
 use mathlib.Core.List.{List, [], _∷_, _++_}
@@ -73,7 +74,8 @@ inAll v n (m ∷ ms) = inStep v m ++ inAll (venueAfter v (suc n) m) (suc n) ms
 
 -- What is written at a moment -----------------------------------------------------------------
 
--- "neither party's net is above what best regular prices of both legs would give that party, where both legs have one": of the party c, at net t
+-- "neither party's net is above what best regular prices of both legs would give that party, where both legs have one": of the party c,
+-- at net t
 abbrev pub Respects : Venue → Complex → (t : ℤ) → Type 0
 Respects v c t =
     let a = bestRegular v (c .series1) (opposite (c .side1)) in
@@ -85,7 +87,8 @@ pub record Deal (x : Moment) (r : Report) : Type 0 where
   pub maker : ℕ
   pub quantity : ℕ
   pub is : crossTurn (x .place) (x .venue) ≡ turned (cross (x .place) maker quantity (x .venue))
-  pub told : r ≡ crossed (complexAt (x .venue) (x .place) .id) (complexAt (x .venue) maker .id) (negℤ (complexAt (x .venue) maker .limit)) quantity
+  pub told : r ≡
+      crossed (complexAt (x .venue) (x .place) .id) (complexAt (x .venue) maker .id) (negℤ (complexAt (x .venue) maker .limit)) quantity
   pub taker : Respects (x .venue) (complexAt (x .venue) (x .place)) (negℤ (complexAt (x .venue) maker .limit))
   pub resting : Respects (x .venue) (complexAt (x .venue) maker) (complexAt (x .venue) maker .limit)
 

@@ -1,5 +1,6 @@
 -- Document 01, "Refusals": "Two calls: a run from fresh over a message list, and one message upon a venue held by value, the caller giving
--- how many messages went before it, a u32; its number is one more." Refusals 9 and 10. And document 02 (d)'s call, which tells the settings.
+-- how many messages went before it, a u32; its number is one more." Refusals 9 and 10. And document 02 (d)'s call, which tells the
+-- settings.
 use mathlib.Core.Bool.{Bool, true, false, not, _&&_, _||_}
 use mathlib.Core.List.{List, [], _∷_, _++_, map}
 use Prim.Native.Nat.{ℕ, zero, suc, _-_}
@@ -37,8 +38,8 @@ called room o = record {
   report = sheet room (o .reports);
 }
 
--- 10: "the next message's records, its 64 included, exceed the report bytes left, or its number would pass 4,294,967,295"; "where even a refusal's 64 doesn't
--- fit, the answer is 10"
+-- 10: "the next message's records, its 64 included, exceed the report bytes left, or its number would pass 4,294,967,295"; "where even a
+-- refusal's 64 doesn't fit, the answer is 10"
 unfoldable pub exceeds : (number room : ℕ) → List Report → Bool
 exceeds number room rs = ltb 4294967295 number || ltb room (length (encodeAll rs))
 
@@ -50,9 +51,12 @@ ends number v = record { number = number; done = 0; venue = v; reports = [] }
 unfoldable pub after : Effect → Outcome → Outcome
 after e r = record { number = r .number; done = suc (r .done); venue = r .venue; reports = e .reports ++ r .reports }
 
--- The messages of bs upon v, after n messages, with this room left. "A run's number is 1 or 10 if that ended it, else 0".
--- The fuel is the length of bs: a message that does not end the run has a length of at least 4.
-unfoldable pub runFrom : (fuel : ℕ) → Venue → (n room : ℕ) → List ℕ → Outcome
+-- How the run goes on over the bytes bs upon v, after n messages, with `room` report bytes left. "A run's number is 1 or 10 if that ended
+-- it, else 0". It ends in one of four ways: no byte is left (0); the next message's records do not fit, or its number is too high (10,
+-- and that message is not done); the next message is torn (1, and it is done); or the fuel is used up, which never happens: the fuel is
+-- the length of bs, and a message that does not end the run has at least 4 bytes. Otherwise the message is done and the run goes on after
+-- it.
+unfoldable pub runFrom : (fuel : ℕ) → Venue → (n room : ℕ) → (bs : List ℕ) → Outcome
 runFrom zero v n room bs = ends 0 v
 runFrom (suc fuel) v n room bs =
     let a = step v (suc n) bs in
@@ -84,7 +88,8 @@ oneFrom v n room bs =
 unfoldable pub one : Venue → (n room : ℕ) → List ℕ → Call
 one v n room bs = called room (oneFrom v n room bs)
 
--- Document 02 (d): "tells the eight increments and the percent in force at any message number"; "asked of an unsound venue, the settings are told as 9 and zeros"
+-- Document 02 (d): "tells the eight increments and the percent in force at any message number"; "asked of an unsound venue, the settings
+-- are told as 9 and zeros"
 unfoldable pub settings : Venue → (number : ℕ) → Settings
 settings v n =
     if sound v

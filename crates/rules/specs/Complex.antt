@@ -1,5 +1,5 @@
--- Document 01, "Complex (kind 2)", with "Sweep" and "Cancel"; kind 10 of request (g), whose quantities "outside 65 are units": of kind 2 a unit is one contract
--- of each leg; and the limited sweep of request (m).
+-- Document 01, "Complex (kind 2)", with "Sweep" and "Cancel"; kind 10 of request (g), whose quantities "outside 65 are units": of kind 2
+-- a unit is one contract of each leg; and the limited sweep of request (m).
 use mathlib.Core.Bool.{Bool, true, not, _&&_, _||_}
 use mathlib.Core.List.{List, [], _∷_, _++_}
 use Prim.Native.Nat.{ℕ, suc, _*_, _/_, min}
@@ -11,7 +11,8 @@ use Rattle.rules.specs.declared.Complex.{Complex}
 use Rattle.rules.specs.declared.Venue.{Venue}
 use Rattle.rules.specs.declared.Cause.the-variants.{Executed, Withdrawn, Touched, NoUnit}
 use Rattle.rules.specs.Base.{if_then_else_, held, placeWhere, nobody, picked, first}
-use Rattle.rules.specs.Words.{closed, opposite, placeOf, statusOf, regularAt, complexAt, isRegularOf, isComplexOf, earlierComplex, withReached}
+use Rattle.rules.specs.Words.{closed, opposite, placeOf, statusOf, regularAt, complexAt, isRegularOf, isComplexOf, earlierComplex}
+use Rattle.rules.specs.Words.{withReached}
 use Rattle.rules.specs.Prices.{bestRegular, bestSize, bestOwn, ownSize, net, inBand}
 use Rattle.rules.specs.Records.{crossed, cancelled, looked}
 use Rattle.rules.specs.Effects.{Effect, nothing, report, _⟫_, Turn, ended, turned, repeat}
@@ -26,7 +27,8 @@ anyClosed v c = eqb (statusOf v (c .series1)) closed || eqb (statusOf v (c .seri
 
 -- Cross ---------------------------------------------------------------------------------------
 
--- "with the same series and in each the reversed side, whichever leg is named first"; request (g): "only with the same series and ratios reversed in side"
+-- "with the same series and in each the reversed side, whichever leg is named first"; request (g): "only with the same series and ratios
+-- reversed in side"
 unfoldable pub reversed : Complex → Complex → Bool
 reversed a b =
     (eqb (a .series1) (b .series1) && eqb (a .side1) (opposite (b .side1)) && eqb (a .ratio1) (b .ratio1)
@@ -34,15 +36,16 @@ reversed a b =
     || (eqb (a .series1) (b .series2) && eqb (a .side1) (opposite (b .side2)) && eqb (a .ratio1) (b .ratio2)
     && eqb (a .series2) (b .series1) && eqb (a .side2) (opposite (b .side1)) && eqb (a .ratio2) (b .ratio1))
 
--- Request (b): "A cross is made only if neither party's net is above what best regular prices of both legs would give that party, where both legs
--- have one." For the party c, dealt at net t.
+-- Request (b): "A cross is made only if neither party's net is above what best regular prices of both legs would give that party, where
+-- both legs have one." For the party c, dealt at net t.
 unfoldable pub respectsLegs : Venue → Complex → (t : ℤ) → Bool
 respectsLegs v c t =
     let a = bestRegular v (c .series1) (opposite (c .side1)) in
     let b = bestRegular v (c .series2) (opposite (c .side2)) in
     not (held a && held b) || leZ t (net c a b)
 
--- "N + their N ≥ 0, both nets in band": the resting order m is a candidate for c. Dealt "at the resting limit", m's net is its N and c's is minus that.
+-- "N + their N ≥ 0, both nets in band": the resting order m is a candidate for c. Dealt "at the resting limit", m's net is its N and c's
+-- is minus that.
 unfoldable pub crosses : Venue → Complex → Complex → Bool
 crosses v c m =
     held (m .quantity)
@@ -57,7 +60,8 @@ crosses v c m =
 unfoldable pub limitThenId : Complex → Complex → Bool
 limitThenId a b = ltZ (b .limit) (a .limit) || (not (ltZ (a .limit) (b .limit)) && earlierComplex a b)
 
--- The orders at places i and j cross for k: "Any cross or pair removes the legging orders of each party (3), right after its 70 or 66, the taker's first."
+-- The orders at places i and j cross for k: "Any cross or pair removes the legging orders of each party (3), right after its 70 or 66,
+-- the taker's first."
 unfoldable pub cross : (i j k : ℕ) → Venue → Effect
 cross i j k v =
     let c = complexAt v i in
@@ -96,8 +100,8 @@ fillsUnit v c =
     leb (c .ratio1) (ownSize v (c .series1) (opposite (c .side1)))
     && leb (c .ratio2) (ownSize v (c .series2) (opposite (c .side2)))
 
--- "remove legging orders on those two sides (cause 8; this stands for viii and ix)"; request (g): where the sizes "can't fill a unit, the legging orders on
--- the touched sides go with cause 10 instead of 8"
+-- "remove legging orders on those two sides (cause 8; this stands for viii and ix)"; request (g): where the sizes "can't fill a unit, the
+-- legging orders on the touched sides go with cause 10 instead of 8"
 unfoldable pub touch : (i : ℕ) → Venue → Effect
 touch i v =
     let c = complexAt v i in
@@ -155,8 +159,9 @@ complex number c v =
 
 -- Sweeps --------------------------------------------------------------------------------------
 
--- Of the complex orders cs, the first of which is at place n: the places of those that rest and pass the test f, "earliest first". They come by place, and that
--- is by id: the complex orders of a sound venue rest in rising id (Sound: `complexesSound`), and every venue of the calls is sound (demands: `AlwaysSound`).
+-- Of the complex orders cs, the first of which is at place n: the places of those that rest and pass the test f, "earliest first". They
+-- come by place, and that is by id: the complex orders of a sound venue rest in rising id (Sound: `complexesSound`), and every venue of
+-- the calls is sound (demands: `AlwaysSound`).
 unfoldable pub placesOf : (f : Complex → Bool) → (n : ℕ) → (cs : List Complex) → List ℕ
 placesOf f n [] = []
 placesOf f n (c ∷ cs) = if held (c .quantity) && f c then n ∷ placesOf f (suc n) cs else placesOf f (suc n) cs
@@ -165,7 +170,8 @@ placesOf f n (c ∷ cs) = if held (c .quantity) && f c then n ∷ placesOf f (su
 unfoldable pub restingPlaces : Venue → List ℕ
 restingPlaces v = placesOf (λ _. true) 0 (v .complex)
 
--- f for the order at each of these places in turn. An order that is gone by its turn has left its place free; `work` and `generate` do nothing at a free place.
+-- f for the order at each of these places in turn. An order that is gone by its turn has left its place free; `work` and `generate` do
+-- nothing at a free place.
 unfoldable pub eachOf : (f : ℕ → Venue → Effect) → (places : List ℕ) → Venue → Effect
 eachOf f [] v = nothing v
 eachOf f (i ∷ places) v = f i v ⟫ eachOf f places
@@ -178,8 +184,8 @@ sweep number v =
 
 -- The limited sweep: 02 (m) -------------------------------------------------------------------
 
--- The places of all orders that rest in v, "starting after the last id that a kind 11 looked at and going round by id": first of those with an id above the
--- one reached, then of the others.
+-- The places of all orders that rest in v, in the order in which a limited sweep comes to them, "starting after the last id that a kind
+-- 11 looked at and going round by id": first the places of those with a higher id than the one reached, then the places of the others.
 unfoldable pub goingRound : Venue → List ℕ
 goingRound v =
     placesOf (λ c. ltb (v .reached) (c .id)) 0 (v .complex) ++ placesOf (λ c. not (ltb (v .reached) (c .id))) 0 (v .complex)
