@@ -5,26 +5,25 @@ use mathlib.Core.List.{List, [], _∷_, _++_, append-assoc, append-nil}
 use Prim.Native.Nat.{ℕ, zero, suc}
 use lib.Dec.{eqb}
 use lib.IntN.{negℤ}
-use Rattle.rules.specs.declared.Complex.{Complex}
 use Rattle.rules.specs.declared.Message.{Message}
 use Rattle.rules.specs.declared.Message.the-variants.{Order, TwoLeg, Cancel, Away, Status, Sweep, Increment, Percent, LimitedSweep}
 use Rattle.rules.specs.declared.Venue.{Venue}
-use Rattle.rules.specs.Base.{Choice, nobody, picked, if_then_else_}
+use Rattle.rules.specs.Base.{if_then_else_}
 use Rattle.rules.specs.Words.{complexAt, freshVenue}
 use Rattle.rules.specs.Messages.{messageOf}
 use Rattle.rules.specs.Records.{ForAll, Report, FourBytes}
 use Rattle.rules.specs.Effects.{Effect, Turn, ended, turned, nothing, report, _⟫_, repeat}
-use Rattle.rules.specs.Complex.{anyClosed, cross, crossTurn, each, eachOf, nextAbove, work, complex, limitedSweep, sweep}
+use Rattle.rules.specs.Complex.{anyClosed, cross, crossTurn, eachOf, work, complex, limitedSweep, sweep}
 use Rattle.rules.specs.Generation.{generate}
 use Rattle.rules.specs.Places.{closeGaps}
 use Rattle.rules.specs.Refusals.{refusal}
 use Rattle.rules.specs.Step.{accept, answered, perform, step}
 use Rattle.demands.specs.Demand.{Seen, start}
 use Rattle.demands.specs.Truth.{leaves, venueAfter}
-use Rattle.demands.specs.Crosses.{CrossesRespect, Deal, Dealt, Moment, NoCross, Respects, crossings, deal, inAll, inEach, inEachOf, inMessage, inStep, inWork, none, other}
+use Rattle.demands.specs.Crosses.{CrossesRespect, Deal, Dealt, Moment, NoCross, Respects, crossings, deal, inAll, inEachOf, inMessage, inStep, inWork, none, other}
 use Rattle.rules.proofs.Crossing as law
 use Rattle.rules.proofs.Crossing.{cross-respects, respects}
-use Rattle.rules.proofs.Quiet.{All, Others, all-cancel, all-each, all-eachOf, all-generate, all-legging, all-nothing, all-order, all-removeOf, all-settle, all-touch}
+use Rattle.rules.proofs.Quiet.{All, Others, all-cancel, all-eachOf, all-generate, all-legging, all-nothing, all-order, all-removeOf, all-settle, all-touch}
 use Rattle.demands.proofs.Account.{onto}
 use Rattle.demands.proofs.Induction.{all-keep}
 use Rattle.demands.proofs.SoundnessLaws.{sound-out}
@@ -102,17 +101,6 @@ does-work i v =
     does-if (anyClosed v (complexAt v i)) _ _ _ _ (idle v)
     (does-plain _ _ _ (does-plain _ _ _ (does-crossing i n v) (all-touch NoCross no-cross i _)) (all-legging NoCross no-cross i n _))
 
-does-each : (fuel id : ℕ) (v : Venue) → Does (inEach fuel id v) (each fuel work id v)
-unfolding inEach each
-does-each zero id v = idle v
-does-each (suc fuel) id v = go (nextAbove id v) (λ k w. does-each fuel k w)
-  where
-    go : (x : Choice Complex) → ((k : ℕ) (w : Venue) → Does (inEach fuel k w) (each fuel work k w)) →
-        Does (elim x as (λ _. List Moment) [ nobody ↦ [] | picked i c ↦ inWork i v ++ inEach fuel (c .id) (work i v .venue) ])
-        (elim x as (λ _. Effect) [ nobody ↦ nothing v | picked i c ↦ work i v ⟫ each fuel work (c .id) ])
-    go nobody on = idle v
-    go (picked i c) on = does-then _ _ (work i v) (each fuel work (c .id)) (does-work i v) (on (c .id) _)
-
 does-eachOf : (places : List ℕ) (v : Venue) → Does (inEachOf places v) (eachOf work places v)
 unfolding inEachOf eachOf
 does-eachOf [] v = idle v
@@ -129,7 +117,7 @@ does-perform number (Cancel id) v = no-deals _ (all-cancel NoCross no-cross id v
 does-perform number (Away s bid offer) v = no-deals _ (all-settle NoCross no-cross _)
 does-perform number (Status s x) v = no-deals _ (all-settle NoCross no-cross _)
 does-perform number Sweep v =
-    does-plain _ _ _ (does-plain _ _ _ (does-each 32 0 v) (all-settle NoCross no-cross _)) (all-each NoCross no-cross (generate number) (plain-generate number) 32 0 _)
+    does-plain _ _ _ (does-plain _ _ _ (does-eachOf _ v) (all-settle NoCross no-cross _)) (all-eachOf NoCross no-cross (generate number) (plain-generate number) _ _)
 does-perform number (Increment s i e) v = no-deals _ (all-settle NoCross no-cross _)
 does-perform number (Percent x e) v = no-deals _ (all-settle NoCross no-cross _)
 does-perform number (LimitedSweep n) v =

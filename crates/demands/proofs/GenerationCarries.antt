@@ -3,7 +3,7 @@ use mathlib.Core.Path.{_∙_, _≡_, ap, refl, subst, sym}
 use mathlib.Core.Bool.{Bool, _&&_, false, true}
 use mathlib.Core.Logic.{_≢_, inl, inr}
 use mathlib.Core.List.{List, [], _∷_}
-use Prim.Native.Nat.{_<_, suc, zero, ℕ}
+use Prim.Native.Nat.{_<_, ℕ}
 use native.Mathlib.Decide.{ℕ-discrete}
 use native.Mathlib.Omega.{arith}
 use lib.Dec.{eqb}
@@ -22,19 +22,18 @@ use Rattle.rules.specs.Effects.{Effect, _⟫_, nothing, report}
 use Rattle.rules.specs.Removal.{failIf, remove}
 use Rattle.rules.specs.Standing.{otherLeg, settle}
 use Rattle.rules.specs.Generation.{counted, generate, generateLeg, make, makes, newLegging, placed}
-use Rattle.rules.specs.Complex.{each, eachOf, examined, goingRound, idReached, limitedSweep, sweep, work}
+use Rattle.rules.specs.Complex.{eachOf, examined, goingRound, idReached, limitedSweep, restingPlaces, sweep, work}
 use Rattle.rules.proofs.Afforded.{new-open}
 use Rattle.rules.proofs.AllSettled.{settled}
-use Rattle.rules.proofs.Cases.{each-by, if-by, isAbove}
-use Rattle.rules.proofs.Dating.{steps-generate, steps-leg, steps-limited, steps-swept}
+use Rattle.rules.proofs.Cases.{if-by}
+use Rattle.rules.proofs.Dating.{steps-generate, steps-leg, steps-swept}
 use Rattle.rules.proofs.Editions.{Stepped, steps-same}
 use Rattle.rules.proofs.Filling.{cx}
 use Rattle.rules.proofs.Finding.{LegOf}
 use Rattle.rules.proofs.Generating.{AllStand, Makes, generate-stands, made, place-series, place-side}
 use Rattle.rules.proofs.Hitting.{other-is₁, other-is₂}
 use Rattle.rules.proofs.Ledger.{moved-silent, moves-placed}
-use Rattle.rules.proofs.Picking.{At}
-use Rattle.rules.proofs.Traffic.{Each, looked-each}
+use Rattle.rules.proofs.Traffic.{Each, looked-each, resting-each}
 use Rattle.rules.proofs.Sweeping.{leg-same}
 use Rattle.rules.specs.Sums.{cancelledOf, contracts, crossedFor, paired, total}
 use Rattle.rules.proofs.Tests.{and-r}
@@ -158,38 +157,7 @@ module _ (number i : ℕ) (i32 : i < 32) where
 
 -- Sweep ---------------------------------------------------------------------------------------
 
--- f for each resting order: f carries (and leaves standing)
-each-place : (id : ℕ) (v : Venue) → Fine v → (i : ℕ) (c : Complex) → At noComplex (isAbove id) (v .complex) i c → i < 32
-each-place id v f i c a = let z = a .fits in let l = f .good .len2 in omega arith
-
-pub each-carries : (fn : ℕ → Venue → Effect) → ((i : ℕ) → i < 32 → (v : Venue) → Fine v → Carries v (fn i v)) →
-    (fuel id : ℕ) (v : Venue) → Fine v → Carries v (each fuel fn id v)
-each-carries fn ok zero id v f = unfold each in (carries-nothing v f)
-each-carries fn ok (suc fuel) id v f =
-    each-by (Carries v) fuel fn id v (λ _. carries-nothing v f)
-    (λ i c _ a. let k = ok i (each-place id v f i c a) v f in carries-then _ _ k (each-carries fn ok fuel (c .id) _ (fine-after f k)))
-
-stood-nothing : (v : Venue) → Fine v → AllStand v → Stood v (nothing v)
-unfolding nothing
-stood-nothing v f st = record { carries = carries-nothing v f; stand = st }
-
-pub each-stood : (number fuel id : ℕ) (v : Venue) → Fine v → Stepped v → AllStand v → Stood v (each fuel (generate number) id v)
-each-stood number zero id v f z st = unfold each in (stood-nothing v f st)
-each-stood number (suc fuel) id v f z st =
-    each-by (Stood v) fuel (generate number) id v (λ _. stood-nothing v f st)
-    (λ i c _ a.
-    let k = generate-stood number i (each-place id v f i c a) v f z st in
-    stood-then _ _ (k .carries) (each-stood number fuel (c .id) _ (fine-after f (k .carries)) (steps-generate number i v z) (k .stand)))
-
-pub sweep-stood : (number : ℕ) (v : Venue) → Fine v → Stepped v → Stood v (sweep number v)
-unfolding sweep
-sweep-stood number v f z =
-    let a = each-carries work work-carries 32 0 v f in
-    let b = carries-then _ settle a (settle-carries _ (fine-after f a)) in
-    stood-then _ _ b (each-stood number 32 0 _ (fine-after f b) (steps-swept v z) (settled (each 32 work 0 v)))
-
--- Limited sweep -------------------------------------------------------------------------------
-
+-- f for the order at each of these places: f carries (and leaves standing)
 eachOf-carries : (fn : ℕ → Venue → Effect) → ((i : ℕ) → i < 32 → (v : Venue) → Fine v → Carries v (fn i v)) →
     (places : List ℕ) → Each (λ i. i < 32) places → (v : Venue) → Fine v → Carries v (eachOf fn places v)
 unfolding eachOf
@@ -198,12 +166,27 @@ eachOf-carries fn ok (i ∷ places) h v f =
     let k = ok i (h .0) v f in
     carries-then _ _ k (eachOf-carries fn ok places (h .1) _ (fine-after f k))
 
+stood-nothing : (v : Venue) → Fine v → AllStand v → Stood v (nothing v)
+unfolding nothing
+stood-nothing v f st = record { carries = carries-nothing v f; stand = st }
+
 eachOf-stood : (number : ℕ) (places : List ℕ) → Each (λ i. i < 32) places → (v : Venue) → Fine v → Stepped v → AllStand v → Stood v (eachOf (generate number) places v)
 unfolding eachOf
 eachOf-stood number [] h v f z st = stood-nothing v f st
 eachOf-stood number (i ∷ places) h v f z st =
     let k = generate-stood number i (h .0) v f z st in
     stood-then _ _ (k .carries) (eachOf-stood number places (h .1) _ (fine-after f (k .carries)) (steps-generate number i v z) (k .stand))
+
+pub sweep-stood : (number : ℕ) (v : Venue) → Fine v → Stepped v → Stood v (sweep number v)
+unfolding sweep
+sweep-stood number v f z =
+    let places = restingPlaces v in
+    let low = resting-each (λ i. i < 32) v (λ j l _. (let e = f .good .len2 in omega arith)) in
+    let a = eachOf-carries work work-carries places low v f in
+    let b = carries-then _ settle a (settle-carries _ (fine-after f a)) in
+    stood-then _ _ b (eachOf-stood number places low _ (fine-after f b) (steps-swept places v z) (settled (eachOf work places v)))
+
+-- Limited sweep -------------------------------------------------------------------------------
 
 -- its 72, which tells no quantity
 looked-carries : (k x : ℕ) (v : Venue) → Fine v → Carries v (report (looked k) (withReached v x))
@@ -226,4 +209,4 @@ limited-stood number n v f z =
     (settled (report (looked (examined n v)) u ⟫ eachOf work places)))
   where
     steps-there : (places : List ℕ) (u : Venue) → Stepped u → Stepped ((report (looked (examined n v)) u ⟫ eachOf work places ⟫ settle) .venue)
-    steps-there places u h = unfold report _⟫_ in (steps-limited places u h)
+    steps-there places u h = unfold report _⟫_ in (steps-swept places u h)

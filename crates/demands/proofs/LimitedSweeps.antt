@@ -25,7 +25,7 @@ use Rattle.rules.specs.Standing.{settle, showAgain}
 use Rattle.rules.specs.Trading.{fillComplex, fillRegular, putComplex, putRegular}
 use Rattle.rules.specs.Order.{enterRegular, order}
 use Rattle.rules.specs.Generation.{counted, generate, generateLeg, make, makes, placed}
-use Rattle.rules.specs.Complex.{complex, each, eachOf, examined, goingRound, idReached, limitedSweep, placesOf, sweep, work}
+use Rattle.rules.specs.Complex.{complex, eachOf, examined, goingRound, idReached, limitedSweep, placesOf, sweep, work}
 use Rattle.rules.specs.Places.{closeGaps}
 use Rattle.rules.specs.Refusals.{complexInRange, refusal, twoLegInRange}
 use Rattle.rules.specs.Step.{accept, answered, perform, setAway, setFigure, setStatus, step}
@@ -35,8 +35,8 @@ use Rattle.demands.specs.LimitedSweeps.{InTurn, Limited, LimitedSweeps, 
 use Rattle.rules.proofs.CallsLaws.{step-by}
 use Rattle.rules.proofs.Cases.{if-by}
 use Rattle.rules.proofs.Filling.{cx}
-use Rattle.rules.proofs.EffectsLaws.{Lasts, keeps-cancel, keeps-each, keeps-eachOf, keeps-matching, keeps-settle, keeps-work}
-use Rattle.rules.proofs.Quiet.{All, Others, all-cancel, all-each, all-eachOf, all-generate, all-nothing, all-order, all-settle, all-then, all-work}
+use Rattle.rules.proofs.EffectsLaws.{Lasts, keeps-cancel, keeps-eachOf, keeps-matching, keeps-settle, keeps-work}
+use Rattle.rules.proofs.Quiet.{All, Others, all-cancel, all-eachOf, all-generate, all-nothing, all-order, all-settle, all-then, all-work}
 use Rattle.rules.proofs.Tests.{and-l, and-r}
 use Rattle.rules.proofs.Traffic.{looked-count, round-all}
 use Rattle.demands.proofs.Calls.{stays-sound}
@@ -189,10 +189,6 @@ module _ (r : ℕ) where
   leaves-generate : (n i : ℕ) (v : Venue) → Reached v → Leaves (generate n i v)
   leaves-generate n i v h = record { left = generate-keeps n i v h; silent = says-generate n i v }
 
-  leaves-each : (f : ℕ → Venue → Effect) → ((i : ℕ) (v : Venue) → Reached v → Reached (f i v .venue)) → ((i : ℕ) (v : Venue) → All NoLook (f i v)) →
-      (v : Venue) → Reached v → Leaves (each 32 f 0 v)
-  leaves-each f ok says v h = record { left = keeps-each Reached f ok 32 0 v h; silent = all-each NoLook no-look f says 32 0 v }
-
   leaves-eachOf : (f : ℕ → Venue → Effect) → ((i : ℕ) (v : Venue) → Reached v → Reached (f i v .venue)) → ((i : ℕ) (v : Venue) → All NoLook (f i v)) →
       (places : List ℕ) (v : Venue) → Reached v → Leaves (eachOf f places v)
   leaves-eachOf f ok says places v h = record { left = keeps-eachOf Reached f ok places v h; silent = all-eachOf NoLook no-look f says places v }
@@ -209,7 +205,7 @@ module _ (r : ℕ) where
   leaves-perform n (Away s b o) v but h = leaves-settle _ h
   leaves-perform n (Status s x) v but h = leaves-settle _ h
   leaves-perform n Sweep v but h =
-      leaves-on _ _ (leaves-on _ settle (leaves-each work (keeps-work lasts) says-work v h) leaves-settle) (leaves-each (generate n) (generate-keeps n) (says-generate n))
+      leaves-on _ _ (leaves-on _ settle (leaves-eachOf work (keeps-work lasts) says-work _ v h) leaves-settle) (leaves-eachOf (generate n) (generate-keeps n) (says-generate n) _)
   leaves-perform n (Increment s i e) v but h = leaves-settle _ h
   leaves-perform n (Percent x e) v but h = leaves-settle _ h
   leaves-perform n (LimitedSweep k) v but h = absurd (but k refl)

@@ -31,15 +31,15 @@ use Rattle.rules.specs.Standing.{settle}
 use Rattle.rules.specs.Trading.{fillComplex, fillRegular, freeRegular, lessRegular, pairOff, putComplex, putRegular, tradeAtPrice, tradeWith}
 use Rattle.rules.specs.Order.{enterRegular, hit, meet, meetTurn, order}
 use Rattle.rules.specs.Generation.{generate, generateLeg, make, makes}
-use Rattle.rules.specs.Complex.{anyClosed, cancel, cancelComplex, cancelRegular, complex, cross, crossTurn, each, eachOf, legIn, legInTurn, legsIn}
-use Rattle.rules.specs.Complex.{limitedSweep, restsRegular, sweep, touch, touches, unitsIn, work}
+use Rattle.rules.specs.Complex.{anyClosed, cancel, cancelComplex, cancelRegular, complex, cross, crossTurn, eachOf, legIn, legInTurn, legsIn}
+use Rattle.rules.specs.Complex.{limitedSweep, restingPlaces, restsRegular, sweep, touch, touches, unitsIn, work}
 use Rattle.rules.specs.Refusals.{full, idTooLow, refusal}
 use Rattle.rules.specs.Step.{accept, answered, perform, step}
 use Rattle.rules.specs.Sums.{openIn, total}
 use Rattle.demands.specs.Soundness.{SoundVenue}
 use Rattle.demands.specs.Reserve.{ShownOnly, arriving, takenFrom}
 use Rattle.rules.proofs.Adding.{leavers-silent, open-alone, open-less, open-set, total-append}
-use Rattle.rules.proofs.Cases.{crossTurn-by, each-by, if-by, meetTurn-by, repeat-by}
+use Rattle.rules.proofs.Cases.{crossTurn-by, if-by, meetTurn-by, repeat-by}
 use Rattle.rules.proofs.Again.{again-fewer}
 use Rattle.rules.proofs.Filling.{fill-fewer, fillC-regular, reg}
 use Rattle.rules.proofs.EffectsLaws.{Lasts, hit-from, meet-from}
@@ -221,10 +221,6 @@ module _ (x y : ℕ) where
         if-by (Takes v) (anyClosed v (complexAt v i)) (λ _. takes-nothing v)
         (λ _. takes-then v _ _ (takes-then v _ _ (takes-repeat Any _ cross-turns _ v tt) (touches-here _)) (takes-repeat Any _ leg-turns _ _ tt))
 
-  takes-each : (fuel id : ℕ) (v : Venue) → Takes v (each fuel work id v)
-  takes-each zero id v = unfold each in (takes-nothing v)
-  takes-each (suc fuel) id v = each-by (Takes v) fuel work id v (λ _. takes-nothing v) (λ i c _ _. takes-then v (work i v) _ (works i v) (takes-each fuel (c .id) _))
-
   takes-eachOf : (places : List ℕ) (v : Venue) → Takes v (eachOf work places v)
   unfolding eachOf
   takes-eachOf [] v = takes-nothing v
@@ -273,11 +269,6 @@ module _ (x y : ℕ) where
   none-generate : (number i : ℕ) (v : Venue) → None (generate number i v)
   unfolding generate
   none-generate number i v = none-then _ _ (none-leg number _ _ _ v) (none-leg number _ _ _ _)
-
-  none-each : (number fuel id : ℕ) (v : Venue) → None (each fuel (generate number) id v)
-  none-each number zero id v = unfold each in (none-nothing v)
-  none-each number (suc fuel) id v =
-      each-by None fuel (generate number) id v (λ _. none-nothing v) (λ i c _ _. none-then (generate number i v) _ (none-generate number i v) (none-each number fuel (c .id) _))
 
   none-eachOf : (number : ℕ) (places : List ℕ) (v : Venue) → None (eachOf (generate number) places v)
   unfolding eachOf
@@ -352,7 +343,7 @@ module _ (x y : ℕ) where
   performed number (Cancel id) v h = (let a = none-cancel id v in omega arith)
   performed number (Away s b o) v h = settled v _
   performed number (Status s z) v h = settled v _
-  performed number Sweep v h = within v _ _ (within v _ _ (let a = takes-each 32 0 v in omega arith) (none-settle _)) (none-each number 32 0 _)
+  performed number Sweep v h = within v _ _ (within v _ _ (let a = takes-eachOf (restingPlaces v) v in omega arith) (none-settle _)) (none-eachOf number _ _)
   performed number (Increment s i e) v h = settled v _
   performed number (Percent z e) v h = settled v _
   performed number (LimitedSweep n) v h =

@@ -36,7 +36,7 @@ use Rattle.rules.proofs.Cases.{if-by}
 use Rattle.rules.proofs.Ending.{matching-ends, none-reaches}
 use Rattle.rules.proofs.Filling.{Lesser, cx, lesser-refl, reg}
 use Rattle.rules.proofs.Generating.{Makes, after, made, make-venue}
-use Rattle.rules.proofs.EffectsLaws.{keeps-cancel, keeps-each, keeps-eachOf, keeps-matching, keeps-settle, keeps-work}
+use Rattle.rules.proofs.EffectsLaws.{keeps-cancel, keeps-eachOf, keeps-matching, keeps-settle, keeps-work}
 use Rattle.rules.proofs.Owning.{Below, Own, below-lasts, below-refl, best-own, bid-best, byLegging, byRegular, offer-best, own-below, own-closed, own-pos, rests-lesser, still-there}
 use Rattle.rules.proofs.Settling.{SameOrGone}
 use Rattle.rules.proofs.RefusalsLaws.{wellFormed}
@@ -318,7 +318,7 @@ uncrossed-perform number (Cancel id) v h k = uncrossed-cancel id v (k .uncrossed
 uncrossed-perform number (Away s b o) v h k = uncrossed-settle _ (uncrossed-away s b o v (k .uncrossed))
 uncrossed-perform number (Status s x) v h k = uncrossed-settle _ (uncrossed-status s x v (k .uncrossed))
 uncrossed-perform number Sweep v h k =
-    keeps-each Settled (generate number) (generate-settled number) 32 0 _ (clean-settle _ (keeps-each Clean work clean-work 32 0 v k)) .clean .uncrossed
+    keeps-eachOf Settled (generate number) (generate-settled number) _ _ (clean-settle _ (keeps-eachOf Clean work clean-work _ v k)) .clean .uncrossed
 uncrossed-perform number (Increment s i e) v h k = uncrossed-settle _ (uncrossed-figure number s i e v (k .uncrossed))
 uncrossed-perform number (Percent x e) v h k = uncrossed-settle _ (uncrossed-figure number percentage x e v (k .uncrossed))
 uncrossed-perform number (LimitedSweep n) v h k =

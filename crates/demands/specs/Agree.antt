@@ -17,9 +17,11 @@ use Rattle.demands.specs.Most.{mostReportBytes}
 
 -- A call reads one message --------------------------------------------------------------------
 
--- "The second reads one message and nothing after it": given any bytes, it does what it does given as many of them as their length says, below 4 or not.
+-- "The second reads one message and nothing after it": given any bytes, it does what it does given as many of them as their length says,
+-- below 4 or not.
 abbrev pub ReadsOne : Type 0
-ReadsOne = (v : Venue) (before room : ℕ) (messages : List ℕ) → one v before room messages ≡ one v before room (take (lengthField messages) messages)
+ReadsOne = (v : Venue) (before room : ℕ) (messages : List ℕ) →
+    one v before room messages ≡ one v before room (take (lengthField messages) messages)
 
 -- A run from fresh ----------------------------------------------------------------------------
 

@@ -1,5 +1,5 @@
--- Document 02 (m): "Per series at most 20 are generated in any 256 consecutive messages", in terms of what callers see: a record is of the message
--- whose 64 is the last before it.
+-- Document 02 (m): "Per series at most 20 are generated in any 256 consecutive messages", in terms of what callers see: a record is of
+-- the message whose 64 is the last before it.
 use mathlib.Core.Bool.{Bool, _&&_}
 use mathlib.Core.List.{List, [], _∷_}
 use Prim.Native.Nat.{ℕ, suc, _+_, _<_, _≤_}

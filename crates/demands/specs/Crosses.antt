@@ -1,5 +1,6 @@
--- Request (b), over every list of calls: "A cross is made only if neither party's net is above what best regular prices of both legs would give that
--- party, where both legs have one." Of every 70 written, at its moment: the venue upon which the definition makes that cross.
+-- Request (b), over every list of calls: "A cross is made only if neither party's net is above what best regular prices of both legs
+-- would give that party, where both legs have one." Of every 70 written, at its moment: the venue upon which the definition makes that
+-- cross.
 use mathlib.Core.Path.{_≡_}
 use mathlib.Core.Bool.{true}
 use mathlib.Core.List.{List, [], _∷_, _++_}
@@ -12,14 +13,14 @@ use Rattle.rules.specs.declared.Complex.{Complex}
 use Rattle.rules.specs.declared.Message.{Message}
 use Rattle.rules.specs.declared.Message.the-variants.{Order, TwoLeg, Cancel, Away, Status, Sweep, Increment, Percent, LimitedSweep}
 use Rattle.rules.specs.declared.Venue.{Venue}
-use Rattle.rules.specs.Base.{if_then_else_, held, nobody, picked}
+use Rattle.rules.specs.Base.{if_then_else_, held}
 use Rattle.rules.specs.Words.{complexAt, freshVenue, opposite, withLast, withReached}
 use Rattle.rules.specs.Messages.{messageOf}
 use Rattle.rules.specs.Records.{Report, answer, trade, pair, generated, removed, crossed, cancelled, looked}
 use Rattle.rules.specs.Effects.{ended, turned}
 use Rattle.rules.specs.Prices.{bestRegular, net}
 use Rattle.rules.specs.Trading.{freeComplex, putComplex}
-use Rattle.rules.specs.Complex.{anyClosed, cross, crossTurn, goingRound, idReached, nextAbove, work}
+use Rattle.rules.specs.Complex.{anyClosed, cross, crossTurn, goingRound, idReached, restingPlaces, work}
 use Rattle.rules.specs.Refusals.{refusal}
 use Rattle.demands.specs.Demand.{Later, Opening, calls, opening}
 use Rattle.demands.specs.Truth.{venueAfter}
@@ -41,13 +42,7 @@ crossings (suc turns) i v =
 unfoldable pub inWork : (i : ℕ) → Venue → List Moment
 inWork i v = if anyClosed v (complexAt v i) then [] else crossings (complexAt v i .quantity) i v
 
--- those of `each fuel work`, in a sweep
-unfoldable pub inEach : (fuel id : ℕ) → Venue → List Moment
-inEach zero id v = []
-inEach (suc fuel) id v =
-    elim (nextAbove id v) [ nobody ↦ [] | picked i c ↦ inWork i v ++ inEach fuel (c .id) (work i v .venue) ]
-
--- those of `eachOf work`, in a limited sweep
+-- those of `eachOf work places`, in a sweep
 unfoldable pub inEachOf : (places : List ℕ) → Venue → List Moment
 inEachOf [] v = []
 inEachOf (i ∷ places) v = inWork i v ++ inEachOf places (work i v .venue)
@@ -61,7 +56,7 @@ inMessage (TwoLeg c) v =
 inMessage (Cancel id) v = []
 inMessage (Away s bid offer) v = []
 inMessage (Status s x) v = []
-inMessage Sweep v = inEach 32 0 v
+inMessage Sweep v = inEachOf (restingPlaces v) v
 inMessage (Increment s i e) v = []
 inMessage (Percent x e) v = []
 inMessage (LimitedSweep n) v =
@@ -79,7 +74,8 @@ inAll v n (m ∷ ms) = inStep v m ++ inAll (venueAfter v (suc n) m) (suc n) ms
 
 -- What is written at a moment -----------------------------------------------------------------
 
--- "neither party's net is above what best regular prices of both legs would give that party, where both legs have one": of the party c, at net t
+-- "neither party's net is above what best regular prices of both legs would give that party, where both legs have one": of the party c,
+-- at net t
 abbrev pub Respects : Venue → Complex → (t : ℤ) → Type 0
 Respects v c t =
     let a = bestRegular v (c .series1) (opposite (c .side1)) in
@@ -91,7 +87,8 @@ pub record Deal (x : Moment) (r : Report) : Type 0 where
   pub maker : ℕ
   pub quantity : ℕ
   pub is : crossTurn (x .place) (x .venue) ≡ turned (cross (x .place) maker quantity (x .venue))
-  pub told : r ≡ crossed (complexAt (x .venue) (x .place) .id) (complexAt (x .venue) maker .id) (negℤ (complexAt (x .venue) maker .limit)) quantity
+  pub told : r ≡
+      crossed (complexAt (x .venue) (x .place) .id) (complexAt (x .venue) maker .id) (negℤ (complexAt (x .venue) maker .limit)) quantity
   pub taker : Respects (x .venue) (complexAt (x .venue) (x .place)) (negℤ (complexAt (x .venue) maker .limit))
   pub resting : Respects (x .venue) (complexAt (x .venue) maker) (complexAt (x .venue) maker .limit)
 

@@ -1,6 +1,6 @@
--- Request (m), of kind 11: "a sweep limited to n resting orders …, starting after the last id that a kind 11 looked at and going round by id", and its record
--- 72. Of one message upon a sound venue; and of messages one after another through which two orders stay in rest: limited sweeps look at them in turn, so
--- every order that stays in rest is looked at once in a round.
+-- Request (m), of kind 11: "a sweep limited to n resting orders …, starting after the last id that a kind 11 looked at and going round by
+-- id", and its record 72. Of one message upon a sound venue; and of messages one after another through which two orders stay in rest:
+-- limited sweeps look at them in turn, so every order that stays in rest is looked at once in a round.
 use mathlib.Core.Path.{_≡_}
 use mathlib.Core.Bool.{not}
 use mathlib.Core.Logic.{_≢_, _⊎_}
@@ -110,13 +110,13 @@ pub data InTurn : (x y : ℕ) → List ℕ → Type 0 where
 -- The promise ---------------------------------------------------------------------------------
 
 pub record LimitedSweeps : Type 0 where
-  pub looksAt : (v : Venue) → SoundVenue v → (number : ℕ) (message : List ℕ) (n : ℕ) → messageOf message ≡ LimitedSweep n → refusal v message ≡ 0 →
-      Limited v number message n
+  pub looksAt : (v : Venue) → SoundVenue v → (number : ℕ) (message : List ℕ) (n : ℕ) →
+      messageOf message ≡ LimitedSweep n → refusal v message ≡ 0 → Limited v number message n
   -- "the last id that a kind 11 looked at": every other message leaves it, and writes no 72
   pub others : (v : Venue) (number : ℕ) (message : List ℕ) → ((n : ℕ) → messageOf message ≡ LimitedSweep n → refusal v message ≢ 0) →
       (venueAfter v number message .reached ≡ v .reached) × ForAll NoLook (step v number message .effect .reports)
-  -- Any messages upon a sound venue, whatever else they do: of two orders that stay in rest neither is looked at twice before the other is. So between two
-  -- looks at one of them every other one is looked at once.
+  -- Any messages upon a sound venue, whatever else they do: of two orders that stay in rest neither is looked at twice before the other
+  -- is. So between two looks at one of them every other one is looked at once.
   pub inTurn : (v : Venue) (before : ℕ) → SoundAt (suc before) v → (messages : List (List ℕ)) → before + length messages < 4294967296 →
       (x y : ℕ) → x ≢ y → Stays x v before messages → Stays y v before messages →
       InTurn x y (looksAll v before messages) ⊎ InTurn y x (looksAll v before messages)

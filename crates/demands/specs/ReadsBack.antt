@@ -16,7 +16,8 @@ ReadsBack = (room : ℕ) (rs : List Report) → ForAll Fits rs → length (encod
 
 -- upon a sound venue every record of a message fits its widths
 abbrev pub StepFits : Type 0
-StepFits = (v : Venue) → SoundVenue v → (number : ℕ) → number < 4294967296 → (message : List ℕ) → ForAll Fits (step v number message .effect .reports)
+StepFits = (v : Venue) → SoundVenue v → (number : ℕ) → number < 4294967296 → (message : List ℕ) →
+    ForAll Fits (step v number message .effect .reports)
 
 -- the report memory is all said: it has the length that was lent, whatever the call does
 pub record WholeMemory : Type 0 where

@@ -1,4 +1,5 @@
--- Request (e), "Reserve size": what the trades of one message take from an order that rests, by what it showed when the message began, and in which order.
+-- Request (e), "Reserve size": what the trades of one message take from an order that rests, by what it showed when the message began,
+-- and in which order.
 use mathlib.Core.Path.{_≡_}
 use mathlib.Core.Bool.{not, true, _&&_}
 use mathlib.Core.List.{List, [], _++_, _∷_}
@@ -76,20 +77,20 @@ pub data SizeKind : Type 0 where
   atReserve : SizeKind
   atLegging : SizeKind
 
--- "At one price all shown size trades by id, then, in trades of its own, all reserve by id, then the legging order": trades with makers that stood on side e of
--- series s at price p when the message began, from a kind of size on and there from an id on. That none is passed over is said of each trade at its moment: replay
--- Moments, `InTurn`.
+-- "At one price all shown size trades by id, then, in trades of its own, all reserve by id, then the legging order": trades with makers
+-- that stood on side e of series s at price p when the message began, from a kind of size on and there from an id on. That none is passed over
+-- is said of each trade at its moment: replay Moments, `InTurn`.
 pub data InOrder (v : Venue) (s e p : ℕ) : SizeKind → (low : ℕ) → List Fill → Type 0 where
   noMore : {kind : SizeKind} {low : ℕ} → InOrder v s e p kind low []
   -- of what a maker showed, the ids rising
-  ofShown : {low : ℕ} {rest : List Fill} (i k : ℕ) → restsAt s e (regularAt v i) ≡ true → regularAt v i .price ≡ p → low ≤ regularAt v i .id →
-      k ≤ shownSize (regularAt v i) → InOrder v s e p atShown (suc (regularAt v i .id)) rest →
+  ofShown : {low : ℕ} {rest : List Fill} (i k : ℕ) → restsAt s e (regularAt v i) ≡ true → regularAt v i .price ≡ p →
+      low ≤ regularAt v i .id → k ≤ shownSize (regularAt v i) → InOrder v s e p atShown (suc (regularAt v i .id)) rest →
       InOrder v s e p atShown low (record { maker = regularAt v i .id; quantity = k } ∷ rest)
   -- from here on no more of shown size
   thenReserve : {low : ℕ} {rest : List Fill} → InOrder v s e p atReserve 0 rest → InOrder v s e p atShown low rest
   -- of a maker's reserve, the ids rising from the first one on again
-  ofReserve : {low : ℕ} {rest : List Fill} (i k : ℕ) → restsAt s e (regularAt v i) ≡ true → regularAt v i .price ≡ p → low ≤ regularAt v i .id →
-      k ≤ regularAt v i .reserve → InOrder v s e p atReserve (suc (regularAt v i .id)) rest →
+  ofReserve : {low : ℕ} {rest : List Fill} (i k : ℕ) → restsAt s e (regularAt v i) ≡ true → regularAt v i .price ≡ p →
+      low ≤ regularAt v i .id → k ≤ regularAt v i .reserve → InOrder v s e p atReserve (suc (regularAt v i .id)) rest →
       InOrder v s e p atReserve low (record { maker = regularAt v i .id; quantity = k } ∷ rest)
   -- from here on no more of regular orders
   thenLegging : {low : ℕ} {rest : List Fill} → InOrder v s e p atLegging 0 rest → InOrder v s e p atReserve low rest
@@ -127,7 +128,8 @@ takenFrom x y (crossed taker maker n q) = 0
 takenFrom x y (cancelled i q) = 0
 takenFrom x y (looked n) = 0
 
--- "A complex order takes shown size only": of any message, upon a sound venue, all complex orders together from the order that rests at place i
+-- "A complex order takes shown size only": of any message, upon a sound venue, all complex orders together from the order that rests at
+-- place i
 abbrev pub ShownOnly : Type 0
 ShownOnly = (v : Venue) → SoundVenue v → (number : ℕ) (message : List ℕ) (i : ℕ) → held (regularAt v i .quantity) ≡ true →
     total (takenFrom (arriving (messageOf message)) (regularAt v i .id)) (step v number message .effect .reports)

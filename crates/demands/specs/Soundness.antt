@@ -34,7 +34,8 @@ pub record SoundAt (number : ℕ) (v : Venue) : Type 0 where
 
 -- under every message: any bytes, of every kind, accepted or refused
 abbrev pub StaysSound : Type 0
-StaysSound = (v : Venue) (number : ℕ) → FourBytes number → SoundAt number v → (message : List ℕ) → SoundAt (suc number) (step v number message .effect .venue)
+StaysSound = (v : Venue) (number : ℕ) → FourBytes number → SoundAt number v → (message : List ℕ) →
+    SoundAt (suc number) (step v number message .effect .venue)
 
 abbrev pub FreshSound : Type 0
 FreshSound = SoundAt 1 freshVenue

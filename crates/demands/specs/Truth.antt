@@ -1,4 +1,5 @@
--- The sheet tells the truth about itself: one answer for each message done, numbered without a gap, with the mask and the count of the venue after it.
+-- The sheet tells the truth about itself: one answer for each message done, numbered without a gap, with the mask and the count of the
+-- venue after it.
 use mathlib.Core.Path.{_≡_}
 use mathlib.Core.Logic.{_≢_}
 use mathlib.Core.List.{List, [], _∷_}
@@ -29,7 +30,8 @@ answers (looked count ∷ rs) = answers rs
 unfoldable pub venueAfter : Venue → (number : ℕ) → (message : List ℕ) → Venue
 venueAfter v number m = step v number m .effect .venue
 
--- a message's answer: its number, its refusal or 0, and "the legging places filled after the message; bit n is place n, and the count is its ones"
+-- a message's answer: its number, its refusal or 0, and "the legging places filled after the message; bit n is place n, and the count is
+-- its ones"
 unfoldable pub answerOf : Venue → (number : ℕ) → (message : List ℕ) → Report
 answerOf v number m = answer number (refusal v m) (mask (venueAfter v number m .legging)) (filled (venueAfter v number m .legging))
 

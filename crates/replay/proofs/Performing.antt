@@ -22,8 +22,8 @@ use Rattle.rules.specs.Standing.{settle, showAgain, verdict}
 use Rattle.rules.specs.Trading.{fillComplex, fillRegular, freeComplex, freeRegular, putComplex, putRegular}
 use Rattle.rules.specs.Order.{enterRegular, order}
 use Rattle.rules.specs.Generation.{generate}
-use Rattle.rules.specs.Complex.{cancel, cancelComplex, cancelRegular, complex, complexPlace, each, eachOf, examined, goingRound, idReached}
-use Rattle.rules.specs.Complex.{limitedSweep, regularPlace, restsComplex, restsRegular, sweep, work}
+use Rattle.rules.specs.Complex.{cancel, cancelComplex, cancelRegular, complex, complexPlace, eachOf, examined, goingRound, idReached}
+use Rattle.rules.specs.Complex.{limitedSweep, regularPlace, restingPlaces, restsComplex, restsRegular, sweep, work}
 use Rattle.rules.specs.Refusals.{full, idTooLow, regularInRange, unknown}
 use Rattle.rules.specs.Step.{perform}
 use Rattle.rules.proofs.Cases.{if-by}
@@ -31,7 +31,7 @@ use Rattle.rules.proofs.Filling.{cx, fill-complex, reg}
 use Rattle.rules.proofs.Finding.{where-passes}
 use Rattle.rules.proofs.RefusalsLaws.{Passed, wellFormed}
 use Rattle.rules.proofs.Tests.{and-l, and-r, or-r}
-use Rattle.rules.proofs.Traffic.{looked-each}
+use Rattle.rules.proofs.Traffic.{looked-each, resting-each}
 use Rattle.rules.proofs.Widths.{Ranged, set-each}
 use Rattle.demands.proofs.Admitting.{Joins, JoinsC, complex-admitted, order-admitted, order-ready, withComplexOrder, withOrder}
 use Rattle.demands.proofs.Homes.{Fine, Invariant, after-complex, homes-same}
@@ -39,11 +39,11 @@ use Rattle.demands.proofs.Messages.{order-joins}
 use Rattle.demands.proofs.SoundnessLaws.{range-of}
 use Rattle.replay.specs.Replay.{State, entered, lessenComplex, lessenOrder, lookedAt, next, noted}
 use Rattle.replay.proofs.TellsLaws.{Tells, TellsFrom, from-then, tells-report, tells-then}
-use Rattle.replay.proofs.Placing.{Places, likened, places-each, places-eachOf, places-generate, places-remove, tells-remove}
+use Rattle.replay.proofs.Placing.{Places, likened, places-eachOf, places-generate, places-remove, tells-remove}
 use Rattle.replay.proofs.Lessening.{Apart, good-apart, lessen-complex, lessen-no-complex, lessen-no-order, lessen-order}
 use Rattle.replay.proofs.Passing.{Positive}
 use Rattle.replay.proofs.Arriving.{Arrives, tells-matching}
-use Rattle.replay.proofs.Working.{tells-limited, tells-sweep, tells-work}
+use Rattle.replay.proofs.Working.{tells-sweep, tells-work}
 
 -- Settling and after --------------------------------------------------------------------------
 
@@ -210,6 +210,14 @@ module _ (v : Venue) (k : Invariant v) (number : ℕ) where
         (ends-then w (work j w) settle (tells-work j (joinsC .there) w (complex-admitted v c j joinsC .fine) some) (ends-settle _))
         (places-generate number j _)
 
+  ends-sweep : Ends number v (sweep number v)
+  unfolding sweep
+  ends-sweep =
+      let places = restingPlaces v in
+      let low = resting-each (λ i. i < 32) v (λ j l _. (let e = k .fine .good .len2 in omega arith)) in
+      ends-more v (eachOf work places v ⟫ settle) (eachOf (generate number) places)
+      (ends-then v (eachOf work places v) settle (tells-sweep places low v (k .fine) some) (ends-settle _)) (places-eachOf number places _)
+
   ends-limited : (n : ℕ) → Ends number v (limitedSweep number n v)
   unfolding limitedSweep report withReached
   ends-limited n =
@@ -217,7 +225,7 @@ module _ (v : Venue) (k : Invariant v) (number : ℕ) where
       let u = withReached v (idReached v places) in
       let low = looked-each (λ i. i < 32) n v (λ j l _. (let e = k .fine .good .len2 in omega arith)) in
       ends-more v _ (eachOf (generate number) places)
-      (ends-then v _ settle (tells-then v (report (looked (examined n v)) u) (eachOf work places) (tells-looked n v) (tells-limited places low u (fine-reached _ v (k .fine)) some)) (ends-settle _))
+      (ends-then v _ settle (tells-then v (report (looked (examined n v)) u) (eachOf work places) (tells-looked n v) (tells-sweep places low u (fine-reached _ v (k .fine)) some)) (ends-settle _))
       (places-eachOf number places _)
 
   -- Every message
@@ -228,8 +236,7 @@ module _ (v : Venue) (k : Invariant v) (number : ℕ) where
   performs (Cancel id) p = ends-cancel v (good-apart (k .fine .good)) id (not-false _ (p .known))
   performs (Away s b o) p = ends-settle _
   performs (Status s x) p = ends-settle _
-  performs Sweep p = ends-more v (each 32 work 0 v ⟫ settle) (each 32 (generate number) 0)
-      (ends-then v (each 32 work 0 v) settle (tells-sweep 32 0 v (k .fine) some) (ends-settle _)) (places-each number 32 0 _)
+  performs Sweep p = ends-sweep
   performs (Increment s x e) p = ends-settle _
   performs (Percent x e) p = ends-settle _
   performs (LimitedSweep n) p = ends-limited n

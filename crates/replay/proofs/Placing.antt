@@ -2,7 +2,7 @@
 use mathlib.Core.Path.{_∙_, _≡_, ap, refl, sym}
 use mathlib.Core.Bool.{Bool, _&&_, false, true}
 use mathlib.Core.List.{List, [], _++_, _∷_, append-assoc}
-use Prim.Native.Nat.{_%_, _/_, suc, zero, ℕ}
+use Prim.Native.Nat.{_%_, _/_, suc, ℕ}
 use native.Mathlib.Omega.{arith}
 use lib.ListN.{length, length-append}
 use lib.Seq.{set-at}
@@ -17,8 +17,8 @@ use Rattle.rules.specs.Records.{generated, removed}
 use Rattle.rules.specs.Effects.{Effect, _⟫_, nothing, report}
 use Rattle.rules.specs.Removal.{goes, leavers, remove, stay, stayers}
 use Rattle.rules.specs.Generation.{counted, generate, generateLeg, generationsOf, make, makes, newLegging, placed}
-use Rattle.rules.specs.Complex.{each, eachOf}
-use Rattle.rules.proofs.Cases.{each-by, if-by}
+use Rattle.rules.specs.Complex.{eachOf}
+use Rattle.rules.proofs.Cases.{if-by}
 use Rattle.replay.specs.Replay.{State, next, noted, replay}
 use Rattle.replay.specs.Moments.{AtEach}
 use Rattle.replay.proofs.TellsLaws.{Tells, TellsFrom, each-append, from-report, from-then, replay-append, tells-nothing}
@@ -130,12 +130,6 @@ module _ (number : ℕ) where
   pub places-generate : (i : ℕ) (v : Venue) → Places number v (generate number i v)
   unfolding generate
   places-generate i v = places-then v _ _ (places-leg _ _ _ v) (places-leg _ _ _ _)
-
-  pub places-each : (fuel id : ℕ) (v : Venue) → Places number v (each fuel (generate number) id v)
-  places-each zero id v = unfold each in (places-nothing v)
-  places-each (suc fuel) id v =
-      each-by (Places number v) fuel (generate number) id v (λ _. places-nothing v)
-      (λ i c _ _. places-then v (generate number i v) _ (places-generate i v) (places-each fuel (c .id) _))
 
   pub places-eachOf : (places : List ℕ) (v : Venue) → Places number v (eachOf (generate number) places v)
   unfolding eachOf

@@ -3,12 +3,11 @@
 use mathlib.Core.Path.{_∙_, _≡_, ap, refl, subst, sym}
 use mathlib.Core.List.{List, [], _++_, _∷_}
 use Prim.Native.Nat.{_<_, suc, zero, ℕ}
-use lib.ListN.{length}
 use Rattle.rules.specs.declared.Venue.{Venue}
 use Rattle.rules.specs.Records.{Report}
 use Rattle.rules.specs.Effects.{Effect, Turn, _⟫_, ended, nothing, repeat, report, turned}
-use Rattle.rules.specs.Complex.{each, eachOf}
-use Rattle.rules.proofs.Cases.{each-by, repeat-by}
+use Rattle.rules.specs.Complex.{eachOf}
+use Rattle.rules.proofs.Cases.{repeat-by}
 use Rattle.rules.proofs.Traffic.{Each}
 use Rattle.replay.specs.Replay.{State, next, noted, replay}
 use Rattle.replay.specs.Moments.{AtEach, AtItsMoment}
@@ -78,16 +77,7 @@ tells-repeat P turn ok (suc fuel) v h =
     repeat-by (Tells v) fuel turn v (λ _. tells-nothing v)
     (λ e is. let k = subst (TellsTurn P v) is (ok v h) in tells-then v e _ (k .0) (tells-repeat P turn ok fuel _ (k .1)))
 
--- f for each resting order
-pub tells-each : (P : Venue → Type 0) (f : ℕ → Venue → Effect) →
-    ((i : ℕ) (v : Venue) → i < length (v .complex) → P v → Tells v (f i v) × P (f i v .venue)) →
-    (fuel id : ℕ) (v : Venue) → P v → Tells v (each fuel f id v)
-tells-each P f ok zero id v h = unfold each in (tells-nothing v)
-tells-each P f ok (suc fuel) id v h =
-    each-by (Tells v) fuel f id v (λ _. tells-nothing v)
-    (λ i c _ a. let k = ok i v (a .fits) h in tells-then v (f i v) _ (k .0) (tells-each P f ok fuel (c .id) _ (k .1)))
-
--- and for the order at each of these places
+-- f for the order at each of these places
 pub tells-eachOf : (P : Venue → Type 0) (f : ℕ → Venue → Effect) →
     ((i : ℕ) (v : Venue) → i < 32 → P v → Tells v (f i v) × P (f i v .venue)) →
     (places : List ℕ) → Each (λ i. i < 32) places → (v : Venue) → P v → Tells v (eachOf f places v)

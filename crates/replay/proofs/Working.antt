@@ -19,7 +19,7 @@ use Rattle.rules.specs.Effects.{Effect, Turn, _⟫_, ended, nothing, repeat, re
 use Rattle.rules.specs.Prices.{bestRegular, better, net, ownPrice, showsAt}
 use Rattle.rules.specs.Removal.{remove, removeOf}
 use Rattle.rules.specs.Trading.{fillComplex, lessComplex, pairOff, tradeAtPrice}
-use Rattle.rules.specs.Complex.{anyClosed, crossTurn, each, eachOf, legIn, legInTurn, legsIn, touch, touches, unitsIn, work}
+use Rattle.rules.specs.Complex.{anyClosed, crossTurn, eachOf, legIn, legInTurn, legsIn, touch, touches, unitsIn, work}
 use Rattle.rules.proofs.Cases.{if-by}
 use Rattle.rules.proofs.Ending.{legs-facts}
 use Rattle.rules.proofs.Filling.{Fewer, cx, lg, reg}
@@ -32,7 +32,7 @@ use Rattle.rules.proofs.Tests.{and-l, and-r, free-none}
 use Rattle.rules.proofs.Traffic.{Each}
 use Rattle.demands.proofs.ComplexCarries.{TurnOk, crossTurn-ok, fine-after, legInTurn-ok, repeat-carries, touch-carries, work-carries}
 use Rattle.demands.proofs.Homes.{Fine}
-use Rattle.replay.proofs.TellsLaws.{Any, Tells, TellsTurn, tells-each, tells-eachOf, tells-nothing, tells-repeat, tells-then}
+use Rattle.replay.proofs.TellsLaws.{Any, Tells, TellsTurn, tells-eachOf, tells-nothing, tells-repeat, tells-then}
 use Rattle.replay.proofs.Placing.{tells-remove}
 use Rattle.replay.proofs.Lessening.{Apart, apart-lasts, good-apart}
 use Rattle.replay.proofs.Passing.{Best, Positive, best-price, none-better, positive-kept}
@@ -228,8 +228,5 @@ one-order i w i32 s =
     let k = work-carries i i32 w (s .fine) in
     (tells-work i i32 w (s .fine) (s .priced), record { fine = fine-after (s .fine) k; priced = positive-kept w (work i w .venue) (k .moves .regular) (s .priced) })
 
-pub tells-sweep : (fuel id : ℕ) (v : Venue) → Fine v → Positive v → Tells v (each fuel work id v)
-tells-sweep fuel id v f some = tells-each Swept work (λ i w fits s. one-order i w (let l = s .fine .good .len2 in omega arith) s) fuel id v (record { fine = f; priced = some })
-
-pub tells-limited : (places : List ℕ) → Each (λ i. i < 32) places → (v : Venue) → Fine v → Positive v → Tells v (eachOf work places v)
-tells-limited places low v f some = tells-eachOf Swept work one-order places low v (record { fine = f; priced = some })
+pub tells-sweep : (places : List ℕ) → Each (λ i. i < 32) places → (v : Venue) → Fine v → Positive v → Tells v (eachOf work places v)
+tells-sweep places low v f some = tells-eachOf Swept work one-order places low v (record { fine = f; priced = some })

@@ -14,7 +14,7 @@ use Rattle.rules.specs.Standing.{settle}
 use Rattle.rules.specs.Trading.{freeComplex, putComplex}
 use Rattle.rules.specs.Order.{enterRegular, order}
 use Rattle.rules.specs.Generation.{generate}
-use Rattle.rules.specs.Complex.{cancel, complex, each, eachOf, examined, goingRound, idReached, limitedSweep, sweep, work}
+use Rattle.rules.specs.Complex.{cancel, complex, eachOf, examined, goingRound, idReached, limitedSweep, restingPlaces, sweep, work}
 use Rattle.rules.specs.Step.{perform, setAway, setFigure, setStatus}
 use Rattle.rules.proofs.Generating.{AllStand}
 use Rattle.rules.proofs.Settling.{settle-stands}
@@ -61,8 +61,9 @@ unfolding complex
 complex-stands number c v = (refl, settled _)
 
 pub sweep-stands : (number : ℕ) (v : Venue) →
-    let e = each 32 work 0 v ⟫ settle in
-    (sweep number v ≡ e ⟫ each 32 (generate number) 0) × AllStand (e .venue)
+    let places = restingPlaces v in
+    let e = eachOf work places v ⟫ settle in
+    (sweep number v ≡ e ⟫ eachOf (generate number) places) × AllStand (e .venue)
 unfolding sweep
 sweep-stands number v = (refl, settled _)
 

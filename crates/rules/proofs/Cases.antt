@@ -1,19 +1,18 @@
 -- Each definition that looks at what is there, by its cases: what holds in every case holds of the definition.
 use mathlib.Core.Path.{_≡_, refl}
-use mathlib.Core.Bool.{Bool, true, false, not, _&&_}
+use mathlib.Core.Bool.{Bool, true, false, not}
 use Prim.Native.Nat.{ℕ, suc, _-_, min}
-use lib.Dec.{ltb}
 use Rattle.rules.specs.declared.Regular.{Regular}
 use Rattle.rules.specs.declared.Complex.{Complex}
 use Rattle.rules.specs.declared.Legging.{Legging}
 use Rattle.rules.specs.declared.Venue.{Venue}
 use Rattle.rules.specs.Base.{if_then_else_, held, Choice, nobody, picked, first}
-use Rattle.rules.specs.Words.{opposite, noRegular, noComplex, regularAt, complexAt, leggingAt, earlier, earlierComplex}
+use Rattle.rules.specs.Words.{opposite, noRegular, noComplex, regularAt, complexAt, leggingAt, earlier}
 use Rattle.rules.specs.Effects.{Effect, nothing, _⟫_, Turn, ended, turned, repeat}
 use Rattle.rules.specs.Prices.{shownSize, showsFor}
 use Rattle.rules.specs.Trading.{tradeWith, tradeAtPrice}
 use Rattle.rules.specs.Order.{isMet, priceThenId, atOnce, firstMet, leggingFirst, meet, hit, meetTurn}
-use Rattle.rules.specs.Complex.{crosses, limitThenId, cross, crossTurn, nextAbove, each}
+use Rattle.rules.specs.Complex.{crosses, limitThenId, cross, crossTurn}
 use Rattle.rules.proofs.Picking.{At, Chosen, first-chosen}
 
 -- a choice
@@ -114,28 +113,3 @@ module _ {ℓ} (Q : Turn → Type ℓ) (i : ℕ) (v : Venue) where
       go false e x a = done e
       go true e nobody a = alone e a
       go true e (picked j m) a = meets e j m a
-
--- one order of a sweep: the earliest above an id, if there is one
-abbrev pub isAbove : (id : ℕ) → Complex → Bool
-isAbove id c = held (c .quantity) && ltb id (c .id)
-
-module _ {ℓ} (Q : Effect → Type ℓ) (fuel : ℕ) (f : ℕ → Venue → Effect) (id : ℕ) (v : Venue) where
-  pub each-by : (nextAbove id v ≡ nobody → Q (nothing v)) →
-      ((i : ℕ) (c : Complex) → nextAbove id v ≡ picked i c → At noComplex (isAbove id) (v .complex) i c → Q (f i v ⟫ each fuel f (c .id))) →
-      Q (each (suc fuel) f id v)
-  unfolding each
-  each-by none more = go (nextAbove id v) refl (unfold nextAbove in (first-chosen noComplex (isAbove id) earlierComplex (v .complex)))
-    where
-      go : (x : Choice Complex) → nextAbove id v ≡ x → Chosen noComplex (isAbove id) (v .complex) x →
-          Q (elim x [ nobody ↦ nothing v | picked i c ↦ f i v ⟫ each fuel f (c .id) ])
-      go nobody e a = none e
-      go (picked i c) e a = more i c e a
-
-module _ (fuel : ℕ) (f : ℕ → Venue → Effect) (id : ℕ) (v : Venue) where
-  pub each-done : nextAbove id v ≡ nobody → each (suc fuel) f id v ≡ nothing v
-  unfolding each
-  each-done e = rw (e, each)
-
-  pub each-on : (i : ℕ) (c : Complex) → nextAbove id v ≡ picked i c → each (suc fuel) f id v ≡ f i v ⟫ each fuel f (c .id)
-  unfolding each
-  each-on i c e = rw (e, each)

@@ -26,16 +26,15 @@ use Rattle.rules.specs.Removal.{remove, removeOf}
 use Rattle.rules.specs.Standing.{settle}
 use Rattle.rules.specs.Trading.{fillRegular, fillComplex, tradeAtPrice, pairOff}
 use Rattle.rules.specs.Order.{atOnce, meet, hit}
-use Rattle.rules.specs.Complex.{crosses, cross, crossTurn, touches, touch, legsIn, legIn, unitsIn, legInTurn, anyClosed, work, each, eachOf}
+use Rattle.rules.specs.Complex.{crosses, cross, crossTurn, touches, touch, legsIn, legIn, unitsIn, legInTurn, anyClosed, work, eachOf}
 use Rattle.rules.proofs.Tests.{and-l, and-r, held-pos}
 use Rattle.rules.proofs.Picking.{At}
 use Rattle.rules.specs.Lengths.{recordLength, perRound, perRegular}
 use Rattle.rules.proofs.Summing.{sum, sum-mono, due-held}
-use Rattle.rules.proofs.Above.{above, above-fewer, next-above}
 use Rattle.rules.proofs.Worth.{worth, fill-le, fills-free, fillC-le, even-frees, fillsC-free, spent, spent-nothing, spent-report, spent-then, spent-remove, spent-lower, spent-settle}
 use Rattle.rules.proofs.Sizes.{best-some}
 use Rattle.rules.proofs.TradingLaws.{chain-elsewhere, at-price-chain}
-use Rattle.rules.proofs.Cases.{crossTurn-by, each-by, if-by, repeat-by}
+use Rattle.rules.proofs.Cases.{crossTurn-by, if-by, repeat-by}
 use Rattle.rules.proofs.Ending.{legs-facts, units-some}
 use Rattle.rules.proofs.Filling.{FewerC, SameLegs, cx, fewerC-refl, fill-fewerC, still-heldC}
 use Rattle.rules.proofs.EffectsLaws.{keeps-crossing, keeps-touch}
@@ -381,24 +380,12 @@ costs-work i v two =
     (costs-more _ _ _ _ _ _ (omega (arith, same)) (legging-costs i n _ (apart-fewer i v _ f two)))))
 
 -- the work of a sweep
-pub costs-works : (fuel id : ℕ) (v : Venue) → ((i : ℕ) → Apart i v) → Works (sum (above share id) (v .complex)) v (each fuel work id v)
-costs-works zero id v two = unfold each in (costs-more _ _ 0 _ v _ (omega arith) (costs-nothing _ _ v))
-costs-works (suc fuel) id v two =
-    each-by (Works (sum (above share id) (v .complex)) v) fuel work id v (λ _. costs-more _ _ 0 _ v _ (omega arith) (costs-nothing _ _ v))
-    (λ i c _ a.
-    let own : share (complexAt v i) ≡ share c = unfold complexAt in (ap share (a .at)) in
-    let next = next-above share id v i c a in
-    let less = above-fewer share (λ x y l. let e = share-same (l .legs) in omega arith) (c .id) (work i v .venue .complex) (v .complex) (work-fewer i v) in
-    costs-more _ _ (share (complexAt v i) + sum (above share (c .id)) (work i v .venue .complex)) (sum (above share id) (v .complex)) v _ (omega arith)
-    (costs-then _ _ _ _ v (work i v) (each fuel work (c .id)) (costs-work i v (two i)) (costs-works fuel (c .id) _ (λ j. apart-fewer j v _ (work-fewer i v) (two j)))))
-
--- and of a limited one
-pub costs-worksOf : (places : List ℕ) (v : Venue) → ((i : ℕ) → Apart i v) → Works (sum (λ i. share (cx v i)) places) v (eachOf work places v)
+pub costs-works : (places : List ℕ) (v : Venue) → ((i : ℕ) → Apart i v) → Works (sum (λ i. share (cx v i)) places) v (eachOf work places v)
 unfolding eachOf sum
-costs-worksOf [] v two = costs-nothing _ _ v
-costs-worksOf (i ∷ places) v two =
+costs-works [] v two = costs-nothing _ _ v
+costs-works (i ∷ places) v two =
     let f = work-fewer i v in
     let own : share (complexAt v i) ≡ share (cx v i) = unfold complexAt in refl in
     let rest = sum-mono (λ j. share (cx v j)) (λ j. share (cx (work i v .venue) j)) (λ j. let e = share-same (f .lesser j .legs) in omega arith) places in
     costs-more _ _ (share (complexAt v i) + sum (λ j. share (cx (work i v .venue) j)) places) (share (cx v i) + sum (λ j. share (cx v j)) places) v _ (omega arith)
-    (costs-then _ _ _ _ v (work i v) (eachOf work places) (costs-work i v (two i)) (costs-worksOf places _ (λ j. apart-fewer j v _ f (two j))))
+    (costs-then _ _ _ _ v (work i v) (eachOf work places) (costs-work i v (two i)) (costs-works places _ (λ j. apart-fewer j v _ f (two j))))

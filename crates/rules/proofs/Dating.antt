@@ -25,7 +25,7 @@ use Rattle.rules.specs.Standing.{settle, showAgain}
 use Rattle.rules.specs.Trading.{fillComplex, fillRegular, putComplex, putRegular}
 use Rattle.rules.specs.Order.{enterRegular, order}
 use Rattle.rules.specs.Generation.{counted, generate, generateLeg, make, makes, placed}
-use Rattle.rules.specs.Complex.{complex, each, eachOf, limitedSweep, sweep, work}
+use Rattle.rules.specs.Complex.{complex, eachOf, limitedSweep, sweep, work}
 use Rattle.rules.specs.Places.{arranged, blankEdition, closeGaps, holdsEdition}
 use Rattle.rules.specs.Refusals.{editionTooLow, idle, inUse, noEditionLeft, offIncrement, onIncrement}
 use Rattle.rules.specs.Step.{accept, answered, perform, setAway, setFigure, setStatus, step}
@@ -38,7 +38,7 @@ use Rattle.rules.proofs.Editions.{Stepped, ed, figure-other, past-set, 
 use Rattle.rules.proofs.Filling.{Fewer, fill-fewer, reg, still-held}
 use Rattle.rules.proofs.Finding.{where-passes}
 use Rattle.rules.proofs.Gaps.{fr, was}
-use Rattle.rules.proofs.EffectsLaws.{Lasts, keeps-cancel, keeps-each, keeps-eachOf, keeps-matching, keeps-settle, keeps-work}
+use Rattle.rules.proofs.EffectsLaws.{Lasts, keeps-cancel, keeps-eachOf, keeps-matching, keeps-settle, keeps-work}
 use Rattle.rules.proofs.RefusalsLaws.{Passed, accepted, wellFormed}
 use Rattle.rules.proofs.Tests.{and-in, and-l, and-r, pos-held}
 use Rattle.rules.proofs.Widths.{Ranged, set-each}
@@ -115,8 +115,8 @@ perform-editions number (Cancel id) v = keeps-cancel (has-lasts (v .editions)) i
 perform-editions number (Away t b o) v = keeps-settle (has-lasts (v .editions)) _ refl
 perform-editions number (Status t x) v = keeps-settle (has-lasts (v .editions)) _ refl
 perform-editions number Sweep v =
-    keeps-each (Has (v .editions)) (generate number) (has-generate (v .editions) number) 32 0 _
-    (keeps-settle (has-lasts (v .editions)) _ (keeps-each (Has (v .editions)) work (keeps-work (has-lasts (v .editions))) 32 0 v refl))
+    keeps-eachOf (Has (v .editions)) (generate number) (has-generate (v .editions) number) _ _
+    (keeps-settle (has-lasts (v .editions)) _ (keeps-eachOf (Has (v .editions)) work (keeps-work (has-lasts (v .editions))) _ v refl))
 perform-editions number (Increment s i e) v = keeps-settle (has-lasts (setFigure number s i e v .editions)) _ refl
 perform-editions number (Percent x e) v = keeps-settle (has-lasts (setFigure number percentage x e v .editions)) _ refl
 perform-editions number (LimitedSweep n) v =
@@ -356,7 +356,7 @@ perform-priced number (Cancel id) v p len r h = keeps-cancel priced-lasts id v h
 perform-priced number (Away t b o) v p len r h = keeps-settle priced-lasts _ (priced-same v _ refl refl h)
 perform-priced number (Status t x) v p len r h = keeps-settle priced-lasts _ (priced-same v _ refl refl h)
 perform-priced number Sweep v p len r h =
-    keeps-each Priced (generate number) (priced-generate number) 32 0 _ (keeps-settle priced-lasts _ (keeps-each Priced work (keeps-work priced-lasts) 32 0 v h))
+    keeps-eachOf Priced (generate number) (priced-generate number) _ _ (keeps-settle priced-lasts _ (keeps-eachOf Priced work (keeps-work priced-lasts) _ v h))
 perform-priced number (LimitedSweep n) v p len r h =
     keeps-eachOf Priced (generate number) (priced-generate number) _ _
     (keeps-settle priced-lasts _ (keeps-eachOf Priced work (keeps-work priced-lasts) _ _ (priced-same v _ refl refl h)))
@@ -397,8 +397,8 @@ steps-leg number x t d v = steps-same v _ (has-leg (v .editions) number x t d v 
 pub steps-generate : (number i : ℕ) (v : Venue) → Stepped v → Stepped (generate number i v .venue)
 steps-generate number i v = steps-same v _ (has-generate (v .editions) number i v refl)
 
-pub steps-swept : (v : Venue) → Stepped v → Stepped ((each 32 work 0 v ⟫ settle) .venue)
-steps-swept v h = steps-settled (each 32 work 0 v) (keeps-each Stepped work steps-work 32 0 v h)
+pub steps-swept : (places : List ℕ) (v : Venue) → Stepped v → Stepped ((eachOf work places v ⟫ settle) .venue)
+steps-swept places v h = steps-settled (eachOf work places v) (keeps-eachOf Stepped work steps-work places v h)
 
 -- What was in force stays told ----------------------------------------------------------------
 
@@ -438,7 +438,3 @@ pub step-past : (v : Venue) (number : ℕ) (bs : List ℕ) → length (v .editio
 unfolding step answered nothing
 step-past v number bs len k f lt =
     step-by (λ e. inForce (e .venue) k f ≡ inForce v k f) v number bs (λ h. accept-past number (messageOf bs) v (accepted v bs h) len k f lt) (λ _. refl)
-
--- a limited sweep's orders have been worked
-pub steps-limited : (places : List ℕ) (v : Venue) → Stepped v → Stepped ((eachOf work places v ⟫ settle) .venue)
-steps-limited places v h = steps-settled (eachOf work places v) (keeps-eachOf Stepped work steps-work places v h)

@@ -15,17 +15,10 @@ use Rattle.rules.specs.Removal.{remove, removeOf}
 use Rattle.rules.specs.Standing.{settle, showAgain, verdict}
 use Rattle.rules.specs.Trading.{fillComplex, fillRegular, pairOff, tradeAtPrice, tradeWith}
 use Rattle.rules.specs.Order.{hit, meet, meetTurn}
-use Rattle.rules.specs.Complex.{anyClosed, cancel, cancelComplex, cancelRegular, cross, crossTurn, each, eachOf, legIn, legInTurn, legsIn, restsRegular, unitsIn, touch, touches, work}
-use Rattle.rules.proofs.Cases.{crossTurn-by, each-by, if-by, meetTurn-by, repeat-by, at-price-by}
+use Rattle.rules.specs.Complex.{anyClosed, cancel, cancelComplex, cancelRegular, cross, crossTurn, eachOf, legIn, legInTurn, legsIn, restsRegular, unitsIn, touch, touches, work}
+use Rattle.rules.proofs.Cases.{crossTurn-by, if-by, meetTurn-by, repeat-by, at-price-by}
 
--- f for each resting order of a sweep
-pub keeps-each : (P : Venue → Type 0) (f : ℕ → Venue → Effect) → ((i : ℕ) (v : Venue) → P v → P (f i v .venue)) → (fuel id : ℕ) (v : Venue) → P v → P (each fuel f id v .venue)
-unfolding nothing _⟫_
-keeps-each P f ok zero id v h = unfold each in h
-keeps-each P f ok (suc fuel) id v h =
-    each-by (λ e. P (e .venue)) fuel f id v (λ _. h) (λ i c _ _. keeps-each P f ok fuel (c .id) _ (ok i v h))
-
--- and for each of a limited one
+-- f for each order of a sweep
 pub keeps-eachOf : (P : Venue → Type 0) (f : ℕ → Venue → Effect) → ((i : ℕ) (v : Venue) → P v → P (f i v .venue)) → (places : List ℕ) (v : Venue) → P v → P (eachOf f places v .venue)
 unfolding eachOf nothing _⟫_
 keeps-eachOf P f ok [] v h = h

@@ -2,7 +2,7 @@
 use mathlib.Core.Path.{_≡_, refl, ap, _∙_}
 use mathlib.Core.Bool.{Bool, true, false, _&&_}
 use mathlib.Core.List.{List, [], _∷_}
-use Prim.Native.Nat.{ℕ, zero, suc, _+_, _≤_}
+use Prim.Native.Nat.{ℕ, _+_, _≤_}
 use native.Mathlib.Omega.{arith}
 use lib.ListN.{getD, length, take}
 use Rattle.rules.specs.declared.Complex.{Complex}
@@ -14,13 +14,13 @@ use Rattle.rules.specs.Records.{Report, generated}
 use Rattle.rules.specs.Effects.{Effect, nothing, report, _⟫_}
 use Rattle.rules.specs.Removal.{remove}
 use Rattle.rules.specs.Generation.{counted, placed, makes, make, generateLeg, generate}
-use Rattle.rules.specs.Complex.{each, eachOf, goingRound}
+use Rattle.rules.specs.Complex.{eachOf, goingRound, restingPlaces}
 use Rattle.rules.proofs.Tests.{and-l, and-r}
-use Rattle.rules.proofs.Cases.{each-by, if-by}
+use Rattle.rules.proofs.Cases.{if-by}
 use Rattle.rules.specs.Sums.{total}
 use Rattle.rules.specs.Lengths.{recordLength, perCross, perLegging, perLeg}
 use Rattle.rules.proofs.Summing.{sum, sum-mono, sum-plus, due, due-most}
-use Rattle.rules.proofs.Above.{above, above-most, next-above, round-once}
+use Rattle.rules.proofs.Turns.{round-once, sweep-once}
 use Rattle.rules.proofs.Filling.{cx}
 use Rattle.rules.proofs.Generating.{made}
 use Rattle.rules.proofs.Worth.{evenOpen, ofComplex, ofEven, perEven, worth, placed-worth, spent, spent-report}
@@ -112,21 +112,12 @@ next-generated number i c left v f le g =
       same = g .same ∙ generate-complex number i v;
     }
 
-all-generated : (number fuel id : ℕ) (v : Venue) → Generated (sum (above bothLegs id) (v .complex)) v (each fuel (generate number) id v)
-all-generated number zero id v = unfold each in (none-generated _ v)
-all-generated number (suc fuel) id v =
-    each-by (Generated (sum (above bothLegs id) (v .complex)) v) fuel (generate number) id v (λ _. none-generated _ v)
-    (λ i c _ a.
-    let own : legOf (cx v i) ≡ legOf c = ap legOf (a .at) in
-    let n = next-above bothLegs id v i c a in
-    next-generated number i _ (sum (above bothLegs (c .id))) v (each fuel (generate number) (c .id)) (omega arith) (all-generated number fuel (c .id) _))
-
--- for each of a limited one
-some-generated : (number : ℕ) (places : List ℕ) (v : Venue) → Generated (sum (λ i. bothLegs (cx v i)) places) v (eachOf (generate number) places v)
+-- for each order of a sweep
+all-generated : (number : ℕ) (places : List ℕ) (v : Venue) → Generated (sum (λ i. bothLegs (cx v i)) places) v (eachOf (generate number) places v)
 unfolding eachOf sum
-some-generated number [] v = none-generated _ v
-some-generated number (i ∷ places) v =
-    next-generated number i _ (λ cs. sum (λ j. bothLegs (getD cs j noComplex)) places) v (eachOf (generate number) places) (omega arith) (some-generated number places _)
+all-generated number [] v = none-generated _ v
+all-generated number (i ∷ places) v =
+    next-generated number i _ (λ cs. sum (λ j. bothLegs (getD cs j noComplex)) places) v (eachOf (generate number) places) (omega arith) (all-generated number places _)
 
 -- so it writes no more than the venue is worth
 generated-writes : (c : ℕ) (v : Venue) (e : Effect) → c ≤ sum bothLegs (v .complex) → Generated c v e → total recordLength (e .reports) ≤ worth 0 0 v
@@ -138,12 +129,13 @@ generated-writes c v e le g =
     let m = sum-mono (λ x. ofComplex x + ofEven x) bothLegs legs-worth (v .complex) in
     omega (arith, sum-plus ofComplex ofEven (v .complex))
 
-pub generation-writes : (number fuel id : ℕ) (v : Venue) → total recordLength (each fuel (generate number) id v .reports) ≤ worth 0 0 v
-generation-writes number fuel id v =
-    generated-writes _ v _ (sum-mono bothLegs (above bothLegs id) (above-most bothLegs id) (v .complex)) (all-generated number fuel id v)
+-- the generation of a sweep, upon w, for orders chosen upon v
+pub generation-writes : (number : ℕ) (v w : Venue) → length (w .complex) ≡ length (v .complex) →
+    total recordLength (eachOf (generate number) (restingPlaces v) w .reports) ≤ worth 0 0 w
+generation-writes number v w len = generated-writes _ w _ (sweep-once bothLegs v (w .complex) len) (all-generated number (restingPlaces v) w)
 
--- and a limited one, upon w, for orders chosen upon v
+-- and of a limited one
 pub limited-generation : (number n : ℕ) (v w : Venue) → length (w .complex) ≡ length (v .complex) →
     total recordLength (eachOf (generate number) (take n (goingRound v)) w .reports) ≤ worth 0 0 w
 limited-generation number n v w len =
-    generated-writes _ w _ (round-once bothLegs n v (w .complex) len) (some-generated number (take n (goingRound v)) w)
+    generated-writes _ w _ (round-once bothLegs n v (w .complex) len) (all-generated number (take n (goingRound v)) w)

@@ -22,11 +22,11 @@ use Rattle.rules.specs.Standing.{verdict, settle, showAgain}
 use Rattle.rules.specs.Trading.{fillRegular, tradeWith, tradeAtPrice, pairOff}
 use Rattle.rules.specs.Order.{meet, hit, meetTurn, enterRegular, order}
 use Rattle.rules.specs.Generation.{makes, make, generateLeg, generate}
-use Rattle.rules.specs.Complex.{anyClosed, cross, crossTurn, touches, touch, legsIn, legIn, unitsIn, legInTurn, work, complex, each, sweep}
+use Rattle.rules.specs.Complex.{anyClosed, cross, crossTurn, touches, touch, legsIn, legIn, unitsIn, legInTurn, work, complex, sweep}
 use Rattle.rules.specs.Complex.{eachOf, limitedSweep, cancelRegular, cancelComplex, restsRegular, cancel}
 use Rattle.rules.specs.Places.{closeGaps}
 use Rattle.rules.specs.Step.{perform, accept}
-use Rattle.rules.proofs.Cases.{crossTurn-by, each-by, if-by, meetTurn-by, repeat-by, at-price-by}
+use Rattle.rules.proofs.Cases.{crossTurn-by, if-by, meetTurn-by, repeat-by, at-price-by}
 use Rattle.rules.proofs.ByPlace.{ByPlace, none, next, removed-by-place}
 use Rattle.rules.proofs.Widths.{each-append}
 
@@ -65,11 +65,6 @@ module _ (P : Report → Type 0) (others : Others P) where
   all-repeat turn ok zero v = unfold repeat in (all-nothing v)
   all-repeat turn ok (suc fuel) v =
       repeat-by (All P) fuel turn v (λ _. all-nothing v) (λ e is. all-then e _ (subst AllTurn is (ok v)) (all-repeat turn ok fuel _))
-
-  pub all-each : (f : ℕ → Venue → Effect) → ((i : ℕ) (v : Venue) → All P (f i v)) → (fuel id : ℕ) (v : Venue) → All P (each fuel f id v)
-  all-each f ok zero id v = unfold each in (all-nothing v)
-  all-each f ok (suc fuel) id v =
-      each-by (All P) fuel f id v (λ _. all-nothing v) (λ i c _ _. all-then (f i v) _ (ok i v) (all-each f ok fuel (c .id) _))
 
   pub all-eachOf : (f : ℕ → Venue → Effect) → ((i : ℕ) (v : Venue) → All P (f i v)) → (places : List ℕ) (v : Venue) → All P (eachOf f places v)
   unfolding eachOf
@@ -220,8 +215,8 @@ quiet-perform number (Cancel id) v = all-cancel NoAnswer no-answer id v
 quiet-perform number (Away s bid offer) v = quiet-settle _
 quiet-perform number (Status s x) v = quiet-settle _
 quiet-perform number Sweep v =
-    quiet-then _ _ (quiet-then _ _ (all-each NoAnswer no-answer work quiet-work 32 0 v) (quiet-settle _))
-    (all-each NoAnswer no-answer (generate number) (quiet-generate number) 32 0 _)
+    quiet-then _ _ (quiet-then _ _ (all-eachOf NoAnswer no-answer work quiet-work _ v) (quiet-settle _))
+    (all-eachOf NoAnswer no-answer (generate number) (quiet-generate number) _ _)
 quiet-perform number (Increment s i e) v = quiet-settle _
 quiet-perform number (Percent x e) v = quiet-settle _
 quiet-perform number (LimitedSweep n) v =

@@ -27,7 +27,7 @@ use Rattle.rules.specs.Step.{setAway, setStatus, setFigure, perform, acc
 use Rattle.rules.proofs.Again.{again-fewer}
 use Rattle.rules.proofs.Cases.{if-by}
 use Rattle.rules.proofs.Closing.{length-packed}
-use Rattle.rules.proofs.EffectsLaws.{Lasts, keeps-each, keeps-eachOf, keeps-settle, keeps-matching, keeps-work, keeps-cancel}
+use Rattle.rules.proofs.EffectsLaws.{Lasts, keeps-eachOf, keeps-settle, keeps-matching, keeps-work, keeps-cancel}
 use Rattle.rules.proofs.Removing.{length-stayers}
 
 pub record Sized (r c l s e g : ℕ) (v : Venue) : Type 0 where
@@ -142,7 +142,7 @@ module _ {r c l s e g : ℕ} where
         generations = z .generations;
       })
   perform-sized number Sweep v z =
-      keeps-each (Sized r c l s e g) (generate number) (generate-sized number) 32 0 _ (keeps-settle lasts _ (keeps-each (Sized r c l s e g) work (keeps-work lasts) 32 0 v z))
+      keeps-eachOf (Sized r c l s e g) (generate number) (generate-sized number) _ _ (keeps-settle lasts _ (keeps-eachOf (Sized r c l s e g) work (keeps-work lasts) _ v z))
   perform-sized number (Increment t i k) v z =
       keeps-settle lasts _ (record {
         regular = z .regular;

@@ -32,7 +32,7 @@ use Rattle.rules.proofs.Again.{Shown, again-at}
 use Rattle.rules.proofs.Cases.{if-by}
 use Rattle.rules.proofs.Filling.{reg}
 use Rattle.rules.proofs.Gaps.{fr, was}
-use Rattle.rules.proofs.EffectsLaws.{keeps-each, keeps-eachOf}
+use Rattle.rules.proofs.EffectsLaws.{keeps-eachOf}
 use Rattle.rules.proofs.Tests.{and-l, and-r, pos-held}
 use Rattle.rules.proofs.Widths.{Ranged}
 
@@ -141,7 +141,7 @@ perform-showing number (TwoLeg c) v = generate-showing number _ _ (settle-showin
 perform-showing number (Cancel id) v = settle-showing _
 perform-showing number (Away s b o) v = settle-showing _
 perform-showing number (Status s x) v = settle-showing _
-perform-showing number Sweep v = keeps-each Showing (generate number) (generate-showing number) 32 0 _ (settle-showing _)
+perform-showing number Sweep v = keeps-eachOf Showing (generate number) (generate-showing number) _ _ (settle-showing _)
 perform-showing number (Increment s i e) v = settle-showing _
 perform-showing number (Percent x e) v = settle-showing _
 perform-showing number (LimitedSweep n) v = keeps-eachOf Showing (generate number) (generate-showing number) _ _ (settle-showing _)

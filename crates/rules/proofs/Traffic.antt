@@ -30,7 +30,7 @@ use Rattle.rules.specs.Standing.{settle, showAgain}
 use Rattle.rules.specs.Trading.{fillComplex, fillRegular, putComplex, putRegular}
 use Rattle.rules.specs.Order.{enterRegular, order}
 use Rattle.rules.specs.Generation.{counted, generate, generateLeg, generationsOf, make, makes, oneMore, placed, underCeiling}
-use Rattle.rules.specs.Complex.{cancel, complex, each, eachOf, examined, goingRound, idReached, limitedSweep, placesOf, sweep, work}
+use Rattle.rules.specs.Complex.{cancel, complex, eachOf, examined, goingRound, idReached, limitedSweep, placesOf, restingPlaces, sweep, work}
 use Rattle.rules.specs.Places.{closeGaps}
 use Rattle.rules.specs.Refusals.{idTooLow, refusal}
 use Rattle.rules.specs.Step.{accept, answered, perform, setAway, setFigure, setStatus, step}
@@ -39,11 +39,11 @@ use Rattle.rules.specs.Sums.{generatedOf, total}
 use Rattle.rules.proofs.Adding.{total-append}
 use Rattle.rules.proofs.Arranging.{all-at, all-in}
 use Rattle.rules.proofs.CallsLaws.{step-by}
-use Rattle.rules.proofs.Cases.{each-by, if-by}
+use Rattle.rules.proofs.Cases.{if-by}
 use Rattle.rules.proofs.Filling.{cx}
 use Rattle.rules.proofs.Generating.{made}
-use Rattle.rules.proofs.EffectsLaws.{Lasts, keeps-cancel, keeps-each, keeps-eachOf, keeps-matching, keeps-settle, keeps-work}
-use Rattle.rules.proofs.Quiet.{Plain, Still, all-cancel, all-each, all-eachOf, all-nothing, all-order, all-remove, all-settle, all-then, plain, still-work}
+use Rattle.rules.proofs.EffectsLaws.{Lasts, keeps-cancel, keeps-eachOf, keeps-matching, keeps-settle, keeps-work}
+use Rattle.rules.proofs.Quiet.{Plain, Still, all-cancel, all-eachOf, all-nothing, all-order, all-remove, all-settle, all-then, plain, still-work}
 use Rattle.rules.proofs.RefusalsLaws.{Passed, accepted}
 use Rattle.rules.proofs.Tests.{and-in, and-l, and-r}
 
@@ -165,12 +165,6 @@ tracks-generate : (n i : ℕ) (v : Venue) → Tracks n v (generate n i v)
 unfolding generate
 tracks-generate n i v = tracks-then n v _ _ (tracks-leg n _ _ _ v) (tracks-leg n _ _ _ _)
 
-tracks-each : (n fuel id : ℕ) (v : Venue) → Tracks n v (each fuel (generate n) id v)
-tracks-each n zero id v = unfold each in (tracks-still n v (nothing v) (all-nothing Plain plain v) (unfold nothing in refl))
-tracks-each n (suc fuel) id v =
-    each-by (Tracks n v) fuel (generate n) id v (λ _. tracks-still n v (nothing v) (all-nothing Plain plain v) (unfold nothing in refl))
-    (λ i c _ _. tracks-then n v (generate n i v) _ (tracks-generate n i v) (tracks-each n fuel (c .id) _))
-
 tracks-eachOf : (n : ℕ) (places : List ℕ) (v : Venue) → Tracks n v (eachOf (generate n) places v)
 unfolding eachOf
 tracks-eachOf n [] v = tracks-still n v (nothing v) (all-nothing Plain plain v) (unfold nothing in refl)
@@ -211,9 +205,9 @@ tracks-perform n (Cancel id) v = tracks-still n v (cancel id v) (all-cancel Plai
 tracks-perform n (Away s b o) v = settles n v _ (unfold withSeries in refl)
 tracks-perform n (Status s x) v = settles n v _ (unfold withSeries in refl)
 tracks-perform n Sweep v =
-    settled-then n v _ _ (all-then Plain plain _ _ (all-each Plain plain work still-work 32 0 v) (all-settle Plain plain _))
-    (unfold _⟫_ in (keeps-settle (had-lasts (v .generations)) _ (keeps-each (Had (v .generations)) work (keeps-work (had-lasts (v .generations))) 32 0 v refl)))
-    (tracks-each n 32 0 _)
+    settled-then n v _ _ (all-then Plain plain _ _ (all-eachOf Plain plain work still-work _ v) (all-settle Plain plain _))
+    (unfold _⟫_ in (keeps-settle (had-lasts (v .generations)) _ (keeps-eachOf (Had (v .generations)) work (keeps-work (had-lasts (v .generations))) _ v refl)))
+    (tracks-eachOf n _ _)
 tracks-perform n (Increment s i e) v = settles n v _ (unfold withEditions in refl)
 tracks-perform n (Percent x e) v = settles n v _ (unfold withEditions in refl)
 tracks-perform n (LimitedSweep k) v =
@@ -372,7 +366,7 @@ pub step-above : (v : Venue) (n : ℕ) (bs : List ℕ) → 0 < n → Busy v → 
     all (λ g. all (λ k. ltb k (suc n)) (g .messages)) (step v n bs .effect .venue .generations) ≡ true
 step-above v n bs some b next = levels-next _ n (step-levels v n bs (busy-levels v n some b next))
 
--- A limited sweep's places --------------------------------------------------------------------
+-- A sweep's places ----------------------------------------------------------------------------
 
 -- each number of a list is so
 abbrev pub Each : (ℕ → Type 0) → List ℕ → Type 0
@@ -399,7 +393,12 @@ places-each Q f n (c ∷ cs) h = go (held (c .quantity)) refl (f c) (places-each
     go true e false k = k
     go false e b k = k
 
--- what holds of every resting order's place holds of those looked at
+-- what holds of every resting order's place holds of those of a sweep
+pub resting-each : (Q : ℕ → Type 0) (v : Venue) → ((j : ℕ) → j < length (v .complex) → held (cx v j .quantity) ≡ true → Q j) → Each Q (restingPlaces v)
+unfolding restingPlaces
+resting-each Q v h = places-each Q (λ _. true) 0 (v .complex) (λ j l t. subst Q (sym (zero-add j)) (h j l t))
+
+-- and of those that a limited one looks at
 pub looked-each : (Q : ℕ → Type 0) (n : ℕ) (v : Venue) → ((j : ℕ) → j < length (v .complex) → held (cx v j .quantity) ≡ true → Q j) → Each Q (take n (goingRound v))
 unfolding goingRound
 looked-each Q n v h =
@@ -459,8 +458,8 @@ perform-reached n (Cancel id) v p x h = ends-low h (keeps-cancel ends-lasts id v
 perform-reached n (Away s b o) v p x h = ends-low h (keeps-settle ends-lasts _ (record { reached = refl; last = refl }))
 perform-reached n (Status s y) v p x h = ends-low h (keeps-settle ends-lasts _ (record { reached = refl; last = refl }))
 perform-reached n Sweep v p x h =
-    ends-low h (keeps-each (Ends _ _) (generate n) (ends-generate n) 32 0 _
-    (keeps-settle ends-lasts _ (keeps-each (Ends _ _) work (keeps-work ends-lasts) 32 0 v (record { reached = refl; last = refl }))))
+    ends-low h (keeps-eachOf (Ends _ _) (generate n) (ends-generate n) _ _
+    (keeps-settle ends-lasts _ (keeps-eachOf (Ends _ _) work (keeps-work ends-lasts) _ v (record { reached = refl; last = refl }))))
 perform-reached n (Increment s i e) v p x h = ends-low h (keeps-settle ends-lasts _ (record { reached = refl; last = refl }))
 perform-reached n (Percent y e) v p x h = ends-low h (keeps-settle ends-lasts _ (record { reached = refl; last = refl }))
 perform-reached n (LimitedSweep k) v p x h =

@@ -31,12 +31,12 @@ use Rattle.rules.specs.Standing.{findComplex, otherClear, otherLeg, pare
 use Rattle.rules.specs.Trading.{pairOff, putComplex, putRegular, tradeAtPrice, tradeWith}
 use Rattle.rules.specs.Order.{enterRegular, hit, meet, meetTurn, order}
 use Rattle.rules.specs.Generation.{generate, generateLeg, legPrice, make, makes, newLegging}
-use Rattle.rules.specs.Complex.{anyClosed, cancel, cancelComplex, cancelRegular, complex, complexPlace, cross, crossTurn, each, eachOf}
+use Rattle.rules.specs.Complex.{anyClosed, cancel, cancelComplex, cancelRegular, complex, complexPlace, cross, crossTurn, eachOf}
 use Rattle.rules.specs.Complex.{examined, legIn, legInTurn, legsIn, regularPlace, limitedSweep, restsRegular, sweep, touch, touches, unitsIn}
 use Rattle.rules.specs.Complex.{work}
 use Rattle.rules.specs.Step.{accept, perform}
 use Rattle.rules.proofs.Bounds.{band-first, band-second, clear-small, neg-i32, net-i32, new-fits, regular-small, displayed-small}
-use Rattle.rules.proofs.Cases.{crossTurn-by, each-by, if-by, meetTurn-by, repeat-by, at-price-by}
+use Rattle.rules.proofs.Cases.{crossTurn-by, if-by, meetTurn-by, repeat-by, at-price-by}
 use Rattle.rules.proofs.Filling.{cx, lg, reg}
 use Rattle.rules.proofs.Generating.{Makes, made}
 use Rattle.rules.proofs.Removing.{length-stayers}
@@ -272,11 +272,6 @@ pub writes-settle : (v : Venue) → Ranged v → Writes (settle v)
 unfolding settle
 writes-settle v r = writes-remove (verdict (showAgain v)) (showAgain v) (again-ranged v r)
 
-pub writes-each : (f : ℕ → Venue → Effect) → ((i : ℕ) (v : Venue) → Ranged v → Writes (f i v)) → (fuel id : ℕ) (v : Venue) → Ranged v → Writes (each fuel f id v)
-writes-each f ok zero id v r = unfold each in (writes-nothing v r)
-writes-each f ok (suc fuel) id v r =
-    each-by Writes fuel f id v (λ _. writes-nothing v r) (λ i c _ _. writes-then _ _ (ok i v r) (writes-each f ok fuel (c .id)))
-
 pub writes-eachOf : (f : ℕ → Venue → Effect) → ((i : ℕ) (v : Venue) → Ranged v → Writes (f i v)) → (places : List ℕ) (v : Venue) → Ranged v → Writes (eachOf f places v)
 unfolding eachOf
 writes-eachOf f ok [] v r = writes-nothing v r
@@ -304,7 +299,7 @@ writes-perform number (Cancel id) v h r = writes-cancel id v r
 writes-perform number (Away s b o) v h r = writes-settle _ (away-ranged s b o v h r)
 writes-perform number (Status s x) v h r = writes-settle _ (status-ranged s x v h r)
 writes-perform number Sweep v h r =
-    writes-then _ _ (writes-then _ _ (writes-each work writes-work 32 0 v r) writes-settle) (writes-each (generate number) (writes-generate number) 32 0)
+    writes-then _ _ (writes-then _ _ (writes-eachOf work writes-work _ v r) writes-settle) (writes-eachOf (generate number) (writes-generate number) _)
 writes-perform number (Increment s i e) v h r = writes-settle _ (increment-ranged number s i e v h r)
 writes-perform number (Percent x e) v h r = writes-settle _ (percent-ranged number x e v h r)
 writes-perform number (LimitedSweep n) v h r =

@@ -26,22 +26,22 @@ use Rattle.rules.specs.Removal.{remove}
 use Rattle.rules.specs.Standing.{parentOf, settle, showAgain}
 use Rattle.rules.specs.Trading.{fillComplex, fillRegular, freeComplex, putComplex}
 use Rattle.rules.specs.Generation.{generate}
-use Rattle.rules.specs.Complex.{cancel, cancelComplex, cancelRegular, complex, complexPlace, each, eachOf, examined, goingRound, idReached, limitedSweep, regularPlace, restsRegular, sweep, work}
+use Rattle.rules.specs.Complex.{cancel, cancelComplex, cancelRegular, complex, complexPlace, eachOf, examined, goingRound, idReached, limitedSweep, regularPlace, restingPlaces, restsRegular, sweep, work}
 use Rattle.rules.specs.Refusals.{complexInRange, twoLegInRange}
 use Rattle.rules.specs.Step.{accept, answered, perform, setAway, setFigure, setStatus, step}
 use Rattle.rules.specs.Sums.{total}
 use Rattle.rules.specs.Lengths.{perComplex, perCross, perLeg, perLegging, perRegular, perRound, perUnequal, recordLength}
-use Rattle.rules.proofs.Above.{above, above-most, round-once}
+use Rattle.rules.proofs.Turns.{round-once, sweep-once}
 use Rattle.rules.proofs.Adding.{total-append}
 use Rattle.rules.proofs.CallsLaws.{step-by}
 use Rattle.rules.proofs.Cases.{if-by}
-use Rattle.rules.proofs.Costs.{Apart, Costs, costs-removeOf, costs-report, costs-then, costs-work, costs-works, costs-worksOf, perTrade, settled-costs, share, share-most}
+use Rattle.rules.proofs.Costs.{Apart, Costs, costs-removeOf, costs-report, costs-then, costs-work, costs-works, perTrade, settled-costs, share, share-most}
 use Rattle.rules.proofs.Filling.{cx, held-fitsC}
 use Rattle.rules.proofs.EffectsLaws.{Lasts, keeps-eachOf, keeps-settle, keeps-work}
 use Rattle.rules.proofs.Legs.{costs-generate, generation-writes, legOf-most, limited-generation}
 use Rattle.rules.proofs.Matching.{Housed, costs-order}
 use Rattle.rules.proofs.RefusalsLaws.{accepted, wellFormed}
-use Rattle.rules.proofs.Summing.{due, due-most, due-none, sum, sum-mono, sum-most, sum-plus}
+use Rattle.rules.proofs.Summing.{due, due-most, due-none, sum, sum-most, sum-plus}
 use Rattle.rules.proofs.Tests.{and-l, and-r}
 use Rattle.rules.proofs.Worth.{evenOpen, fill-le, fillC-le, ofComplex, ofComplex-most, ofEven, perEven, putC-worth, regular-most, spent, spent-settle, spent-then, worth, worth-most}
 
@@ -67,23 +67,25 @@ costs-complex number c v two =
     let z = costs-generate number i (e .venue) in
     omega (arith, share-most (complexAt w i), legOf-most (complexAt (e .venue) i))
 
+same-length : (k : ℕ) → Lasts (λ w. length (w .complex) ≡ k)
+unfolding fillRegular fillComplex remove showAgain withRegular withComplex withLegging
+same-length k = record { fillR = λ i q w h. h; fillC = λ i q w h. length-set (w .complex) i _ ∙ h; gone = λ f w h. h; again = λ w h. h }
+
 -- what a sweep generates, the orders that it is generated for pay
 sweep-writes : (number : ℕ) (v : Venue) → ((i : ℕ) → Apart i v) → total recordLength (sweep number v .reports) ≤ worth perRegular 0 v + sum share (v .complex)
 unfolding sweep _⟫_ spent
 sweep-writes number v two =
-    let e = each 32 work 0 v ⟫ settle in
-    let w = settled-costs perRegular 0 (sum (above share 0) (v .complex)) v (each 32 work 0 v) (costs-works 32 0 v two) in
-    let s = sum-mono share (above share 0) (above-most share 0) (v .complex) in
-    let g = generation-writes number 32 0 (e .venue) in
-    rw (total-append recordLength (e .reports) (each 32 (generate number) 0 (e .venue) .reports)) (omega arith)
+    let places = restingPlaces v in
+    let e = eachOf work places v ⟫ settle in
+    let w = settled-costs perRegular 0 (sum (λ i. share (cx v i)) places) v (eachOf work places v) (costs-works places v two) in
+    let s = sweep-once share v (v .complex) refl in
+    let k = same-length (length (v .complex)) in
+    let g = generation-writes number v (e .venue) (keeps-settle k _ (keeps-eachOf (λ w. length (w .complex) ≡ length (v .complex)) work (keeps-work k) places v refl)) in
+    rw (total-append recordLength (e .reports) (eachOf (generate number) places (e .venue) .reports)) (omega arith)
 
 looked-costs : (k x : ℕ) (v : Venue) → Costs perRegular 0 5 v (report (looked k) (withReached v x))
 unfolding recordLength
 looked-costs k x v = costs-report _ _ (looked k) v (withReached v x) (unfold worth withReached in (omega arith))
-
-same-length : (k : ℕ) → Lasts (λ w. length (w .complex) ≡ k)
-unfolding fillRegular fillComplex remove showAgain withRegular withComplex withLegging
-same-length k = record { fillR = λ i q w h. h; fillC = λ i q w h. length-set (w .complex) i _ ∙ h; gone = λ f w h. h; again = λ w h. h }
 
 -- a limited sweep writes its 72 too
 limited-writes : (number n : ℕ) (v : Venue) → ((i : ℕ) → Apart i v) → total recordLength (limitedSweep number n v .reports) ≤ worth perRegular 0 v + (5 + sum share (v .complex))
@@ -95,7 +97,7 @@ limited-writes number n v two =
     let u = withReached v x in
     let first = report (looked (examined n v)) u in
     let e = first ⟫ eachOf work places ⟫ settle in
-    let c = costs-then perRegular 0 5 shares v first (eachOf work places) (looked-costs (examined n v) x v) (costs-worksOf places u two) in
+    let c = costs-then perRegular 0 5 shares v first (eachOf work places) (looked-costs (examined n v) x v) (costs-works places u two) in
     let w = settled-costs perRegular 0 (5 + shares) v (first ⟫ eachOf work places) c in
     let s = round-once share n v (v .complex) refl in
     let k = same-length (length (v .complex)) in

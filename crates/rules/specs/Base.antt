@@ -1,4 +1,5 @@
--- Notions that every section uses and that are not document 01's own: choice by a test, the first in rank, the first place that passes a test.
+-- Notions that every section uses and that are not document 01's own: choice by a test, the first in rank, the first place that passes a
+-- test.
 use mathlib.Core.Bool.{Bool, true, false, not, _&&_}
 use mathlib.Core.List.{List, [], _∷_}
 use Prim.Native.Nat.{ℕ, suc}
@@ -35,18 +36,19 @@ pub data Choice (A : Type 0) : Type 0 where
   picked : ℕ → A → Choice A
 
 module _ {A : Type 0} where
-  -- a candidate a at place n, beside the best of those after it: it is picked unless that one ranks before it
-  unfoldable pub ranked : (A → A → Bool) → ℕ → A → Choice A → Choice A
+  -- What is picked from a candidate a at place n and the candidates after it, of which `later` is the first in rank: a with its place,
+  -- unless `later` ranks before a. `before x y` says that x ranks before y.
+  unfoldable pub ranked : (before : A → A → Bool) → (n : ℕ) → (a : A) → (later : Choice A) → Choice A
   ranked before n a nobody = picked n a
   ranked before n a (picked i b) = if before b a then picked i b else picked n a
 
-  -- among the candidates of a list whose places begin at n, the one before which none ranks
-  unfoldable pub firstFrom : (A → Bool) → (A → A → Bool) → ℕ → List A → Choice A
+  -- among the candidates of a list whose places begin at n, the one before which none ranks; the earlier place of two that rank alike
+  unfoldable pub firstFrom : (candidate : A → Bool) → (before : A → A → Bool) → (n : ℕ) → List A → Choice A
   firstFrom candidate before n [] = nobody
   firstFrom candidate before n (a ∷ rest) =
       let others = firstFrom candidate before (suc n) rest in
       if candidate a then ranked before n a others else others
 
   -- the first in rank of a whole list
-  abbrev pub first : (A → Bool) → (A → A → Bool) → List A → Choice A
+  abbrev pub first : (candidate : A → Bool) → (before : A → A → Bool) → List A → Choice A
   first candidate before l = firstFrom candidate before 0 l

@@ -38,8 +38,8 @@ called room o = record {
   report = sheet room (o .reports);
 }
 
--- 10: "the next message's records, its 64 included, exceed the report bytes left, or its number would pass 4,294,967,295"; "where even a refusal's 64 doesn't
--- fit, the answer is 10"
+-- 10: "the next message's records, its 64 included, exceed the report bytes left, or its number would pass 4,294,967,295"; "where even a
+-- refusal's 64 doesn't fit, the answer is 10"
 unfoldable pub exceeds : (number room : ℕ) → List Report → Bool
 exceeds number room rs = ltb 4294967295 number || ltb room (length (encodeAll rs))
 
@@ -68,9 +68,9 @@ notTaken = ends 9
 abbrev pub beforeExceeding : Venue → Outcome
 beforeExceeding = ends 10
 
--- The messages of bs upon v, after n messages, with this room left.
--- The fuel is the length of bs: a message that does not end the run has a length of at least 4.
-unfoldable pub runFrom : (fuel : ℕ) → Venue → (n room : ℕ) → List ℕ → Outcome
+-- How a run goes on over the bytes bs upon v, after n messages, with `room` report bytes left. Where no end is reached, the message is done
+-- and the run goes on after it. The fuel is the length of bs: a message that does not end the run has at least 4 bytes.
+unfoldable pub runFrom : (fuel : ℕ) → Venue → (n room : ℕ) → (bs : List ℕ) → Outcome
 runFrom zero v n room bs = endOfList v
 runFrom (suc fuel) v n room bs =
     let a = step v (suc n) bs in
@@ -116,7 +116,8 @@ oneFrom v n room bs =
 unfoldable pub one : Venue → (n room : ℕ) → List ℕ → Call
 one v n room bs = called room (oneFrom v n room bs)
 
--- Document 02 (d): "tells the eight increments and the percent in force at any message number"; "asked of an unsound venue, the settings are told as 9 and zeros"
+-- Document 02 (d): "tells the eight increments and the percent in force at any message number"; "asked of an unsound venue, the settings
+-- are told as 9 and zeros"
 unfoldable pub settings : Venue → (number : ℕ) → Settings
 settings v n =
     if sound v

@@ -1,8 +1,8 @@
--- Document 01, "Complex (kind 2)", with "Sweep" and "Cancel"; kind 10 of request (g), whose quantities "outside 65 are units": of kind 2 a unit is one contract
--- of each leg; and the limited sweep of request (m).
-use mathlib.Core.Bool.{Bool, not, _&&_, _||_}
+-- Document 01, "Complex (kind 2)", with "Sweep" and "Cancel"; kind 10 of request (g), whose quantities "outside 65 are units": of kind 2
+-- a unit is one contract of each leg; and the limited sweep of request (m).
+use mathlib.Core.Bool.{Bool, true, not, _&&_, _||_}
 use mathlib.Core.List.{List, [], _∷_, _++_}
-use Prim.Native.Nat.{ℕ, zero, suc, _*_, _/_, min}
+use Prim.Native.Nat.{ℕ, suc, _*_, _/_, min}
 use lib.Dec.{leb, ltb, eqb}
 use lib.ListN.{length, take}
 use lib.IntN.{ℤ, pos, negℤ, _+ℤ_}
@@ -10,8 +10,9 @@ use lib.Signed.{leZ, ltZ}
 use Rattle.rules.specs.declared.Complex.{Complex}
 use Rattle.rules.specs.declared.Venue.{Venue}
 use Rattle.rules.specs.declared.Cause.the-variants.{Executed, Withdrawn, Touched, NoUnit}
-use Rattle.rules.specs.Base.{if_then_else_, held, placeWhere, Choice, nobody, picked, first}
-use Rattle.rules.specs.Words.{closed, opposite, placeOf, statusOf, regularAt, complexAt, isRegularOf, isComplexOf, earlierComplex, withReached}
+use Rattle.rules.specs.Base.{if_then_else_, held, placeWhere, nobody, picked, first}
+use Rattle.rules.specs.Words.{closed, opposite, placeOf, statusOf, regularAt, complexAt, isRegularOf, isComplexOf, earlierComplex}
+use Rattle.rules.specs.Words.{withReached}
 use Rattle.rules.specs.Prices.{bestRegular, bestSize, bestOwn, ownSize, net, inBand}
 use Rattle.rules.specs.Records.{crossed, cancelled, looked}
 use Rattle.rules.specs.Effects.{Effect, nothing, report, _⟫_, Turn, ended, turned, repeat}
@@ -26,7 +27,8 @@ anyClosed v c = eqb (statusOf v (c .series1)) closed || eqb (statusOf v (c .seri
 
 -- Cross ---------------------------------------------------------------------------------------
 
--- "with the same series and in each the reversed side, whichever leg is named first"; request (g): "only with the same series and ratios reversed in side"
+-- "with the same series and in each the reversed side, whichever leg is named first"; request (g): "only with the same series and ratios
+-- reversed in side"
 unfoldable pub reversed : Complex → Complex → Bool
 reversed a b =
     (eqb (a .series1) (b .series1) && eqb (a .side1) (opposite (b .side1)) && eqb (a .ratio1) (b .ratio1)
@@ -34,15 +36,16 @@ reversed a b =
     || (eqb (a .series1) (b .series2) && eqb (a .side1) (opposite (b .side2)) && eqb (a .ratio1) (b .ratio2)
     && eqb (a .series2) (b .series1) && eqb (a .side2) (opposite (b .side1)) && eqb (a .ratio2) (b .ratio1))
 
--- Request (b): "A cross is made only if neither party's net is above what best regular prices of both legs would give that party, where both legs
--- have one." For the party c, dealt at net t.
+-- Request (b): "A cross is made only if neither party's net is above what best regular prices of both legs would give that party, where
+-- both legs have one." For the party c, dealt at net t.
 unfoldable pub respectsLegs : Venue → Complex → (t : ℤ) → Bool
 respectsLegs v c t =
     let a = bestRegular v (c .series1) (opposite (c .side1)) in
     let b = bestRegular v (c .series2) (opposite (c .side2)) in
     not (held a && held b) || leZ t (net c a b)
 
--- "N + their N ≥ 0, both nets in band": the resting order m is a candidate for c. Dealt "at the resting limit", m's net is its N and c's is minus that.
+-- "N + their N ≥ 0, both nets in band": the resting order m is a candidate for c. Dealt "at the resting limit", m's net is its N and c's
+-- is minus that.
 unfoldable pub crosses : Venue → Complex → Complex → Bool
 crosses v c m =
     held (m .quantity)
@@ -57,7 +60,8 @@ crosses v c m =
 unfoldable pub limitThenId : Complex → Complex → Bool
 limitThenId a b = ltZ (b .limit) (a .limit) || (not (ltZ (a .limit) (b .limit)) && earlierComplex a b)
 
--- The orders at places i and j cross for k: "Any cross or pair removes the legging orders of each party (3), right after its 70 or 66, the taker's first."
+-- The orders at places i and j cross for k: "Any cross or pair removes the legging orders of each party (3), right after its 70 or 66,
+-- the taker's first."
 unfoldable pub cross : (i j k : ℕ) → Venue → Effect
 cross i j k v =
     let c = complexAt v i in
@@ -96,8 +100,8 @@ fillsUnit v c =
     leb (c .ratio1) (ownSize v (c .series1) (opposite (c .side1)))
     && leb (c .ratio2) (ownSize v (c .series2) (opposite (c .side2)))
 
--- "remove legging orders on those two sides (cause 8; this stands for viii and ix)"; request (g): where the sizes "can't fill a unit, the legging orders on
--- the touched sides go with cause 10 instead of 8"
+-- "remove legging orders on those two sides (cause 8; this stands for viii and ix)"; request (g): where the sizes "can't fill a unit, the
+-- legging orders on the touched sides go with cause 10 instead of 8"
 unfoldable pub touch : (i : ℕ) → Venue → Effect
 touch i v =
     let c = complexAt v i in
@@ -153,34 +157,40 @@ complex number c v =
     let i = freeComplex v in
     work i (putComplex i c v) ⟫ settle ⟫ generate number i
 
--- the earliest resting order above an id, with its place
-unfoldable pub nextAbove : (id : ℕ) → Venue → Choice Complex
-nextAbove id v = first (λ c. held (c .quantity) && ltb id (c .id)) earlierComplex (v .complex)
+-- Sweeps --------------------------------------------------------------------------------------
 
--- f for each resting order above an id, "earliest first"; the fuel is the number of places
-unfoldable pub each : (fuel : ℕ) → (ℕ → Venue → Effect) → (id : ℕ) → Venue → Effect
-each zero f id v = nothing v
-each (suc fuel) f id v =
-    elim (nextAbove id v) [ nobody ↦ nothing v | picked i c ↦ f i v ⟫ each fuel f (c .id) ]
-
--- "Sweep: all this for each resting order, earliest first, but settle once and then generate."
-unfoldable pub sweep : (number : ℕ) → Venue → Effect
-sweep number v = each 32 work 0 v ⟫ settle ⟫ each 32 (generate number) 0
-
--- The limited sweep: 02 (m) -------------------------------------------------------------------
-
--- of the complex orders from place n on, the places of those that rest and pass a test, earliest first: between messages places are in rising id
-unfoldable pub placesOf : (Complex → Bool) → (n : ℕ) → List Complex → List ℕ
+-- Of the complex orders cs, the first of which is at place n: the places of those that rest and pass the test f, "earliest first". They
+-- come by place, and that is by id: the complex orders of a sound venue rest in rising id (Sound: `complexesSound`), and every venue of
+-- the calls is sound (demands: `AlwaysSound`).
+unfoldable pub placesOf : (f : Complex → Bool) → (n : ℕ) → (cs : List Complex) → List ℕ
 placesOf f n [] = []
 placesOf f n (c ∷ cs) = if held (c .quantity) && f c then n ∷ placesOf f (suc n) cs else placesOf f (suc n) cs
 
--- the resting orders, "starting after the last id that a kind 11 looked at and going round by id": those above it, and then the others. They come by place, and
--- that is by id: the complex orders of a sound venue rest in rising id (Sound: `complexesSound`), and every venue of the calls is sound (demands: `AlwaysSound`)
+-- the places of all orders that rest in v, "earliest first"
+unfoldable pub restingPlaces : Venue → List ℕ
+restingPlaces v = placesOf (λ _. true) 0 (v .complex)
+
+-- f for the order at each of these places in turn. An order that is gone by its turn has left its place free; `work` and `generate` do
+-- nothing at a free place.
+unfoldable pub eachOf : (f : ℕ → Venue → Effect) → (places : List ℕ) → Venue → Effect
+eachOf f [] v = nothing v
+eachOf f (i ∷ places) v = f i v ⟫ eachOf f places
+
+-- "Sweep: all this for each resting order, earliest first, but settle once and then generate."
+unfoldable pub sweep : (number : ℕ) → Venue → Effect
+sweep number v =
+    let places = restingPlaces v in
+    eachOf work places v ⟫ settle ⟫ eachOf (generate number) places
+
+-- The limited sweep: 02 (m) -------------------------------------------------------------------
+
+-- The places of all orders that rest in v, in the order in which a limited sweep comes to them, "starting after the last id that a kind
+-- 11 looked at and going round by id": first the places of those with a higher id than the one reached, then the places of the others.
 unfoldable pub goingRound : Venue → List ℕ
 goingRound v =
     placesOf (λ c. ltb (v .reached) (c .id)) 0 (v .complex) ++ placesOf (λ c. not (ltb (v .reached) (c .id))) 0 (v .complex)
 
--- "the number looked at, the lesser of n and the orders resting when it starts"
+-- "the number looked at, the lesser of n and the orders resting when it starts; one that is gone by its turn counts as looked at"
 unfoldable pub examined : (n : ℕ) → Venue → ℕ
 examined n v = min n (length (goingRound v))
 
@@ -189,11 +199,6 @@ unfoldable pub idReached : Venue → (places : List ℕ) → ℕ
 idReached v [] = v .reached
 idReached v (i ∷ []) = complexAt v i .id
 idReached v (i ∷ j ∷ places) = idReached v (j ∷ places)
-
--- f for the order at each of these places in turn; "one that is gone by its turn counts as looked at": its place is free, and nothing is done there
-unfoldable pub eachOf : (ℕ → Venue → Effect) → (places : List ℕ) → Venue → Effect
-eachOf f [] v = nothing v
-eachOf f (i ∷ places) v = f i v ⟫ eachOf f places
 
 -- "Kind 11 is a sweep limited to n resting orders …, generation too. It writes record 72 … right after its 64"
 unfoldable pub limitedSweep : (number n : ℕ) → Venue → Effect

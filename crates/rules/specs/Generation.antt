@@ -10,7 +10,8 @@ use Rattle.rules.specs.declared.Legging.{Legging}
 use Rattle.rules.specs.declared.Venue.{Venue}
 use Rattle.rules.specs.declared.Cause.the-variants.{Replaced}
 use Rattle.rules.specs.Base.{if_then_else_, held}
-use Rattle.rules.specs.Words.{within, opposite, signTimes, customer, otherClass, noGenerations, oneToOne, withLegging, withGenerations, placeOf, complexAt, leggingAt}
+use Rattle.rules.specs.Words.{within, opposite, signTimes, customer, otherClass, noGenerations, oneToOne, withLegging, withGenerations}
+use Rattle.rules.specs.Words.{placeOf, complexAt, leggingAt}
 use Rattle.rules.specs.Settings.{increment}
 use Rattle.rules.specs.Prices.{better, reaches, bestOwn, ownPrice, displayedPrice, away, inBand}
 use Rattle.rules.specs.Records.{generated}
@@ -71,14 +72,16 @@ givesWay v c d p l =
     better d p (ownPrice l)
     || (eqb p (ownPrice l) && eqb (c .class) customer && eqb (parentOf v l .class) otherClass)
 
--- "no other standing order would then fail its test": of the legging orders from place n on, but the one at place m, each passes in w.
+-- True where each legging order of the list passes its test upon w, the one at place m left aside: "no other standing order would then
+-- fail its test". w is the venue with the new order at its place m; the list begins at place n.
 -- (C)(2)(vi) bars a generation that would cause removals under (C)(4)(ix); 01 bars any that makes a standing order fail its test.
-unfoldable pub othersStand : (w : Venue) (m n : ℕ) → List Legging → Bool
+unfoldable pub othersStand : (w : Venue) → (m n : ℕ) → List Legging → Bool
 othersStand w m n [] = true
 othersStand w m n (l ∷ ls) = (eqb n m || stands (verdict w n l)) && othersStand w m (suc n) ls
 
--- "Made when", for the leg of c at side d of series s, under the message of this number. So p is at most 100,000: a sell price is at most its displayed price; a buy price, which may be
--- above the displayed one, is below 100,000, since "N in band" asks for an offer, regular or away, in its series and p reaches none.
+-- "Made when", for the leg of c at side d of series s, under the message of this number. So p is at most 100,000: a sell price is at most
+-- its displayed price; a buy price, which may be above the displayed one, is below 100,000, since "N in band" asks for an offer, regular
+-- or away, in its series and p reaches none.
 unfoldable pub makes : (number : ℕ) → Venue → Complex → (series side : ℕ) → Bool
 makes number v c s d =
     let p = legPrice v c s d in
@@ -114,7 +117,9 @@ unfoldable pub make : (number : ℕ) → Complex → (series side : ℕ) → Ven
 make number c s d v =
     let l = newLegging v c s d in
     remove (λ n _. failIf (eqb n (placeOf s d)) Replaced) v
-    ⟫ (λ w. report (generated (c .id) s d (l .price) (displayedPrice (increment v s) d (l .price)) (l .quantity)) (counted number s (placed (placeOf s d) l w)))
+    ⟫ (λ w.
+    report (generated (c .id) s d (l .price) (displayedPrice (increment v s) d (l .price)) (l .quantity))
+    (counted number s (placed (placeOf s d) l w)))
 
 unfoldable pub generateLeg : (number : ℕ) → Complex → (series side : ℕ) → Venue → Effect
 generateLeg number c s d v = if held (c .quantity) && makes number v c s d then make number c s d v else nothing v

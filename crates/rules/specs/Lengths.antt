@@ -13,9 +13,10 @@ recordLength (crossed taker maker n quantity) = 20
 recordLength (cancelled id quantity) = 12
 recordLength (looked count) = 5
 
--- What each order pays for when it goes, or in a sweep when its turn comes. A round of legging in writes, beside the trades that use up what their maker
--- shows, a trade for each leg and the pair, 22 + 22 + 16; it uses up all that a level of one leg shows, or frees the complex order. A cross writes 20 and
--- frees a party. An order that arrives trades with each resting order twice at most, with what it shows and with its reserve, 22 + 22.
+-- What each order pays for when it goes, or in a sweep when its turn comes. A round of legging in writes, beside the trades that use up
+-- what their maker shows, a trade for each leg and the pair, 22 + 22 + 16; it uses up all that a level of one leg shows, or frees the
+-- complex order. A cross writes 20 and frees a party. An order that arrives trades with each resting order twice at most, with what it
+-- shows and with its reserve, 22 + 22.
 abbrev pub perRegular : ℕ
 perRegular = 60
 
@@ -23,8 +24,9 @@ perRegular = 60
 abbrev pub perComplex : ℕ
 perComplex = 66
 
--- One of unequal ratios (request (g)) is never generated for. By whole units a round may empty neither level and leave some of the order: it frees nothing, and
--- its two trades and its pair are 22 + 22 + 16; but what is left of one level then fills no unit, so it is the last round of that order's turn.
+-- One of unequal ratios (request (g)) is never generated for. By whole units a round may empty neither level and leave some of the order:
+-- it frees nothing, and its two trades and its pair are 22 + 22 + 16; but what is left of one level then fills no unit, so it is the last
+-- round of that order's turn.
 abbrev pub perRound : ℕ
 perRound = 60
 

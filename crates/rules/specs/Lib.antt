@@ -1,4 +1,4 @@
--- Document 01 as definitions, and what document 02 adds to them, a file for each section, in the order in which each uses the ones before it.
+-- Document 01 as definitions, and what document 02 adds to them: a file for each section; each uses only the ones before it.
 --
 --   "Words and ranges"                       Words
 --   "Message and record bytes"               Bytes, Messages, Records
@@ -31,9 +31,11 @@
 --   e ⟫ f                     the effect e, and then f upon the venue that e left; the records come in that order
 --   held q                    q is not 0: a place holds an order while its quantity is held, a price is there while it is held
 --   fuel                      a bound on the turns of a loop, named where it is given and large enough for every turn there can be
---   x ≡ y, x ≢ y              x is y, x is not y, as a statement;  A × B, A ⊎ B: both statements, one of them;  Unit: the statement that always holds
+--   x ≡ y, x ≢ y              x is y, x is not y, as a statement
+--   A × B, A ⊎ B, Unit        both statements;  one of them;  the statement that always holds
 --   (n : ℕ) → A               for every number n, A;  A → B: if A then B;  List·Memᴰ x xs: x is in the list xs
---   record { f = x; g = y }   the record whose field f is x and whose field g is y;  record R … where: a statement that has these parts, or a type
+--   record { f = x; g = y }   the record whose field f is x and whose field g is y
+--   record R … where          a statement that has these parts, or a type with these fields
 --   unfoldable, abbrev        a definition that a proof opens by name, or one that is always open;  pub: seen by other files
 pub mod Base
 pub mod Words

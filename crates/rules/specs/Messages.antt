@@ -1,4 +1,5 @@
--- Document 01, "Message and record bytes": the messages, kinds 1 to 6, and document 02's: (d) kinds 7 and 8, (e) kind 9, (g) kind 10, (m) kind 11.
+-- Document 01, "Message and record bytes": the messages, kinds 1 to 6, and document 02's: (d) kinds 7 and 8, (e) kind 9, (g) kind 10, (m)
+-- kind 11.
 use mathlib.Core.Path.{_≡_}
 use mathlib.Core.List.{List, [], _++_}
 use Prim.Native.Nat.{ℕ, _-_}
@@ -75,8 +76,9 @@ messageOf bs =
     else if eqb k 10 then TwoLeg (twoLegAt bs (u8At bs 21) (u8At bs 22))
     else LimitedSweep (u8At bs 4)
 
--- A number for each case of the type Message, in the order of the cases. It is no kind of the papers: an order is of kind 1 or 9, a complex order of kind 2 or
--- 10, a limited sweep of kind 11. The paper's kind of a message is the one that `encodeMessage` frames it with.
+-- A number for each case of the type Message, in the order of the cases. It is no kind of the papers: an order is of kind 1 or 9, a
+-- complex order of kind 2 or 10, a limited sweep of kind 11. The paper's kind of a message is the one that `encodeMessage` frames it
+-- with.
 abbrev pub messageForm : Message → ℕ
 messageForm (Order o) = 1
 messageForm (TwoLeg c) = 2
@@ -95,7 +97,8 @@ orderFields o = u32 (o .id) ++ u8 (o .series) ++ u8 (o .side) ++ u32 (o .price) 
 -- the fields of kind 2, which kind 10 begins with
 unfoldable pub twoLegFields : Complex → List ℕ
 twoLegFields c =
-    u32 (c .id) ++ u8 (c .series1) ++ u8 (c .side1) ++ u8 (c .series2) ++ u8 (c .side2) ++ u8 (c .class) ++ i32 (c .limit) ++ u32 (c .quantity)
+    u32 (c .id) ++ u8 (c .series1) ++ u8 (c .side1) ++ u8 (c .series2) ++ u8 (c .side2) ++ u8 (c .class)
+    ++ i32 (c .limit) ++ u32 (c .quantity)
 
 -- the bytes of a message; of an order that shows all of it those of kind 1, of a complex order one to one those of kind 2
 unfoldable pub encodeMessage : Message → List ℕ
@@ -112,6 +115,7 @@ encodeMessage (Increment s i e) = framed 7 (u8 s ++ u8 i ++ u32 e)
 encodeMessage (Percent x e) = framed 8 (u8 x ++ u32 e)
 encodeMessage (LimitedSweep n) = framed 11 (u8 n)
 
--- "the lengths by kind … be proved those of document 01 for every kind" (request (c)): each message has as many bytes as the length of the kind that they tell
+-- "the lengths by kind … be proved those of document 01 for every kind" (request (c)): each message has as many bytes as the length of
+-- the kind that they tell
 abbrev pub KindLengths : Type 0
 KindLengths = (m : Message) → length (encodeMessage m) ≡ lengthOf (kindField (encodeMessage m))

@@ -15,12 +15,15 @@ use Rattle.rules.specs.Trading.{fillRegular, freeRegular, putRegular, tr
 
 -- Who is met ----------------------------------------------------------------------------------
 
--- "It meets the other side while prices cross or are equal": an order of side d at price p in series s meets the regular order m, shown size and reserve
+-- "It meets the other side while prices cross or are equal": an order of side d at price p in series s meets the regular order m, shown
+-- size and reserve
 unfoldable pub isMet : (series side price : ℕ) → Regular → Bool
 isMet s d p m = restsAt s (opposite d) m && reaches d p (m .price)
 
--- (e): "At one price all shown size trades by id, then, in trades of its own, all reserve by id": who shows goes before who does not, and then the earlier
-unfoldable pub shownThenId : Regular → Regular → Bool
+-- True where a is met before b at one price. (e): "At one price all shown size trades by id, then, in trades of its own, all reserve by
+-- id": where b shows something, a must show something too and be the earlier; where b shows nothing, it is enough that a shows something
+-- or is the earlier.
+unfoldable pub shownThenId : (a b : Regular) → Bool
 shownThenId a b = if held (shownSize b) then held (shownSize a) && earlier a b else (held (shownSize a) || earlier a b)
 
 -- "best own price first, then regular by id"; at one price as (e) has it
@@ -62,7 +65,8 @@ hit i l k v =
     ⟫ tradeAtPrice k (c .id) (leg .series) (leg .side) clear k
     ⟫ (λ w. pairOff (placeWhere (isComplexOf (c .id)) (w .complex)) (c .id) n k w)
 
--- "trades at the resting price, each time for the lesser of both quantities"; (e): of what the resting order shows, or of its reserve, "then the legging order"
+-- "trades at the resting price, each time for the lesser of both quantities"; (e): of what the resting order shows, or of its reserve,
+-- "then the legging order"
 unfoldable pub meetTurn : (i : ℕ) → Venue → Turn
 meetTurn i v =
     let o = regularAt v i in

@@ -51,8 +51,10 @@ closeGaps v = withComplex (withRegular v (packed holdsRegular noRegular (v .regu
 
 -- The test of the arrangement -----------------------------------------------------------------
 
--- held places first, in rising number (of orders: their id) from above `low` on and each as asked; then places that are all zero
-unfoldable pub arranged : {A : Type 0} → (holds asked blank : A → Bool) → (A → ℕ) → (low : ℕ) → List A → Bool
+-- True where the places of a list come so: first the held ones, each of which passes the test `asked`, their numbers (of orders: their ids)
+-- rising and all above `low`; then only places that are all zero. `holds`, `blank` and `id` say of a place whether it is held, whether it
+-- is all zero, and its number.
+unfoldable pub arranged : {A : Type 0} → (holds asked blank : A → Bool) → (id : A → ℕ) → (low : ℕ) → List A → Bool
 arranged holds asked blank id low [] = true
 arranged holds asked blank id low (x ∷ l) =
     if holds x

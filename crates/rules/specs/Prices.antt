@@ -34,7 +34,8 @@ reaches d p q = if eqb d buy then leb q p else leb p q
 unfoldable pub restsAt : (series side : ℕ) → Regular → Bool
 restsAt s d o = held (o .quantity) && eqb (o .series) s && eqb (o .side) d
 
--- what an order shows: what is left of it but for its reserve. (e): "Best price, size, clear price and legging quantity count shown size only."
+-- what an order shows: what is left of it but for its reserve. (e): "Best price, size, clear price and legging quantity count shown size
+-- only."
 unfoldable pub shownSize : Regular → ℕ
 shownSize o = o .quantity - o .reserve
 
@@ -91,19 +92,20 @@ clearPrice v s d =
     let best = bestRegular v s d in
     if better d (ownPrice (leggingAt v s d)) best then 0 else best
 
--- "Displayed price of a legging order: its own, down (buy) or up (sell) to the increment"; (C)(2): "rounded to the nearest minimum increment",
--- and which way by the filing's Item 3
+-- "Displayed price of a legging order: its own, down (buy) or up (sell) to the increment"; (C)(2): "rounded to the nearest minimum
+-- increment", and which way by the filing's Item 3
 unfoldable pub displayedPrice : (increment side price : ℕ) → ℕ
 displayedPrice i d p = if eqb d buy then p / i * i else (p + (i - 1)) / i * i
 
--- "down (buy) or up (sell) to the increment": a multiple of it, not above the price to buy, not below it to sell, and less than one increment away
+-- "down (buy) or up (sell) to the increment": a multiple of it, not above the price to buy, not below it to sell, and less than one
+-- increment away
 pub record Rounds (increment side price rounded : ℕ) : Type 0 where
   pub multiple : rounded % increment ≡ 0
   pub down : eqb side buy ≡ true → (rounded ≤ price) × (price < rounded + increment)
   pub up : eqb side buy ≡ false → (price ≤ rounded) × (rounded < price + increment)
 
--- "the rounding to an increment … be proved those of document 01 for every … price, side and series" (request (c)): of every increment, and no
--- other price is so rounded
+-- "the rounding to an increment … be proved those of document 01 for every … price, side and series" (request (c)): of every increment,
+-- and no other price is so rounded
 abbrev pub DisplayedRounds : Type 0
 DisplayedRounds = (i d p : ℕ) → 0 < i → Rounds i d p (displayedPrice i d p) × ((r : ℕ) → Rounds i d p r → r ≡ displayedPrice i d p)
 

@@ -6,7 +6,8 @@ use lib.Dec.{eqb}
 use lib.ListN.{length, drop, replicate}
 use lib.IntN.{ℤ, pos, negsuc}
 use Rattle.rules.specs.declared.Cause.{Cause}
-use Rattle.rules.specs.declared.Cause.the-variants.{Worse, Unpaired, Executed, Withdrawn, OutOfBand, NotOpen, Replaced, Touched, NoUnit}
+use Rattle.rules.specs.declared.Cause.the-variants.{Worse, Unpaired, Executed, Withdrawn, OutOfBand, NotOpen, Replaced, Touched}
+use Rattle.rules.specs.declared.Cause.the-variants.{NoUnit}
 use Rattle.rules.specs.Base.{if_then_else_}
 use Rattle.rules.specs.Bytes.{u8At, u16At, u32At, asSigned, lengthField, kindField, u8, u16, u32, i32, framed}
 
@@ -127,9 +128,11 @@ FourSigned (negsuc n) = n < 2147483648
 
 abbrev pub Fits : Report → Type 0
 Fits (answer number refusal mask count) = FourBytes number × OneByte refusal × TwoBytes mask × OneByte count
-Fits (trade series side price quantity taker maker) = OneByte series × OneByte side × FourBytes price × FourBytes quantity × FourBytes taker × FourBytes maker
+Fits (trade series side price quantity taker maker) =
+    OneByte series × OneByte side × FourBytes price × FourBytes quantity × FourBytes taker × FourBytes maker
 Fits (pair id n quantity) = FourBytes id × FourSigned n × FourBytes quantity
-Fits (generated id series side price displayed quantity) = FourBytes id × OneByte series × OneByte side × FourBytes price × FourBytes displayed × FourBytes quantity
+Fits (generated id series side price displayed quantity) =
+    FourBytes id × OneByte series × OneByte side × FourBytes price × FourBytes displayed × FourBytes quantity
 Fits (removed id series side cause) = FourBytes id × OneByte series × OneByte side
 Fits (crossed taker maker n quantity) = FourBytes taker × FourBytes maker × FourSigned n × FourBytes quantity
 Fits (cancelled id quantity) = FourBytes id × FourBytes quantity

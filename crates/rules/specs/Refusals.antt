@@ -1,5 +1,5 @@
--- Document 01, "Refusals", 1 to 8: "Checked in number order"; and document 02's, (d) 11 to 13: "checked after 4, in this order", (g) 14: "checked after 4
--- and 11 to 13". Where 01 names kind 1, kind 9 is meant too, and where it names kind 2, kind 10.
+-- Document 01, "Refusals", 1 to 8: "Checked in number order"; and document 02's, (d) 11 to 13: "checked after 4, in this order", (g) 14:
+-- "checked after 4 and 11 to 13". Where 01 names kind 1, kind 9 is meant too, and where it names kind 2, kind 10.
 use mathlib.Core.Bool.{Bool, true, false, not, _&&_, _||_}
 use mathlib.Core.List.{List}
 use Prim.Native.Nat.{ℕ, _%_}
@@ -13,7 +13,8 @@ use Rattle.rules.specs.declared.Message.the-variants.{Order, TwoLeg, Can
 use Rattle.rules.specs.declared.Decoded.{Decoded}
 use Rattle.rules.specs.declared.Decoded.the-variants.{Taken, Refused}
 use Rattle.rules.specs.Base.{if_then_else_, held, all}
-use Rattle.rules.specs.Words.{closed, statusOf, oneToOne, within, isId, isSeries, isSide, isClass, isStatus, isQuantity, isAway, isPrice, isLimit, isRatio}
+use Rattle.rules.specs.Words.{closed, statusOf, oneToOne, within, isId, isSeries, isSide, isClass, isStatus, isQuantity, isAway}
+use Rattle.rules.specs.Words.{isPrice, isLimit, isRatio}
 use Rattle.rules.specs.Settings.{isIncrement, isPercent, isEdition, increment, freeEdition}
 use Rattle.rules.specs.Bytes.{u8At, lengthField, kindField}
 use Rattle.rules.specs.Messages.{lengthOf, messageOf}
@@ -34,10 +35,12 @@ isKind = within 1 11
 unfoldable pub isLength : (kind length : ℕ) → Bool
 isLength k n = eqb n (lengthOf k)
 
--- 4: "field outside its range, both legs in one series"; "price off the increment" is asked of the venue, below. (e): a shown quantity "from 1 to the quantity"
+-- 4: "field outside its range, both legs in one series"; "price off the increment" is asked of the venue, below. (e): a shown quantity
+-- "from 1 to the quantity"
 unfoldable pub regularInRange : Regular → Bool
 regularInRange o =
-    isId (o .id) && isSeries (o .series) && isSide (o .side) && isPrice (o .price) && isQuantity (o .quantity) && within 1 (o .quantity) (o .display)
+    isId (o .id) && isSeries (o .series) && isSide (o .side) && isPrice (o .price) && isQuantity (o .quantity)
+    && within 1 (o .quantity) (o .display)
 
 -- of a complex order whose limit goes as far as `far`
 unfoldable pub twoLegInRange : (far : ℕ) → Complex → Bool
@@ -71,8 +74,8 @@ abbrev pub decodedNumber : Decoded → ℕ
 decodedNumber (Taken m) = 0
 decodedNumber (Refused x) = x
 
--- The message at the front of bs, or the first of 1 to 4 and 14 that its bytes meet. 14 is decided here, before 11 to 13, and nothing can tell: 14 is of kind 10
--- alone, and kind 10 meets none of 11 to 13.
+-- The message at the front of bs, or the first of 1 to 4 and 14 that its bytes meet. 14 is decided here, before 11 to 13, and nothing can
+-- tell: 14 is of kind 10 alone, and kind 10 meets none of 11 to 13.
 unfoldable pub decoded : List ℕ → Decoded
 decoded bs =
     if torn bs then Refused 1
@@ -94,29 +97,56 @@ complexInRange c =
 unfoldable pub onIncrement : Venue → Regular → Bool
 onIncrement v o = eqb (o .price % increment v (o .series)) 0
 
+-- Each of these refusals is asked of messages of some kinds; a message of another kind does not meet it. So each says below what it asks
+-- of the kinds that can meet it, and the next three say `false` of the others.
+
+-- asked of orders: f of one of kind 1 or 9, g of one of kind 2 or 10
+abbrev pub ofOrders : (f : Regular → Bool) → (g : Complex → Bool) → Message → Bool
+ofOrders f g (Order o) = f o
+ofOrders f g (TwoLeg c) = g c
+ofOrders f g (Cancel id) = false
+ofOrders f g (Away s bid offer) = false
+ofOrders f g (Status s x) = false
+ofOrders f g Sweep = false
+ofOrders f g (Increment s i e) = false
+ofOrders f g (Percent x e) = false
+ofOrders f g (LimitedSweep n) = false
+
+-- asked of a cancel: f of its id
+abbrev pub ofCancel : (f : (id : ℕ) → Bool) → Message → Bool
+ofCancel f (Order o) = false
+ofCancel f (TwoLeg c) = false
+ofCancel f (Cancel id) = f id
+ofCancel f (Away s bid offer) = false
+ofCancel f (Status s x) = false
+ofCancel f Sweep = false
+ofCancel f (Increment s i e) = false
+ofCancel f (Percent x e) = false
+ofCancel f (LimitedSweep n) = false
+
+-- asked of new settings: f of a kind 7's series and edition, g of a kind 8's edition
+abbrev pub ofSettings : (f : (series edition : ℕ) → Bool) → (g : (edition : ℕ) → Bool) → Message → Bool
+ofSettings f g (Order o) = false
+ofSettings f g (TwoLeg c) = false
+ofSettings f g (Cancel id) = false
+ofSettings f g (Away s bid offer) = false
+ofSettings f g (Status s x) = false
+ofSettings f g Sweep = false
+ofSettings f g (Increment s i e) = f s e
+ofSettings f g (Percent x e) = g e
+ofSettings f g (LimitedSweep n) = false
+
 -- 4: "price off the increment"
 unfoldable pub offIncrement : Venue → Message → Bool
-offIncrement v (Order o) = not (onIncrement v o)
-offIncrement v (TwoLeg c) = false
-offIncrement v (Cancel id) = false
-offIncrement v (Away s bid offer) = false
-offIncrement v (Status s x) = false
-offIncrement v Sweep = false
-offIncrement v (Increment s i e) = false
-offIncrement v (Percent x e) = false
-offIncrement v (LimitedSweep n) = false
+offIncrement v m = ofOrders (λ o. not (onIncrement v o)) (λ c. false) m
 
--- 11: "edition not above the last of either kind, at first 0": not above each that is kept; a free place has edition 0
+-- an edition is not above each that is kept; a free place has edition 0
+abbrev pub notAbove : Venue → (edition : ℕ) → Bool
+notAbove v e = not (all (λ k. ltb (k .edition) e) (v .editions))
+
+-- 11: "edition not above the last of either kind, at first 0"
 unfoldable pub editionTooLow : Venue → Message → Bool
-editionTooLow v (Order o) = false
-editionTooLow v (TwoLeg c) = false
-editionTooLow v (Cancel id) = false
-editionTooLow v (Away s bid offer) = false
-editionTooLow v (Status s x) = false
-editionTooLow v Sweep = false
-editionTooLow v (Increment s i e) = not (all (λ k. ltb (k .edition) e) (v .editions))
-editionTooLow v (Percent x e) = not (all (λ k. ltb (k .edition) e) (v .editions))
-editionTooLow v (LimitedSweep n) = false
+editionTooLow v m = ofSettings (λ s e. notAbove v e) (λ e. notAbove v e) m
 
 -- a series is closed, and no order or leg rests in it
 unfoldable pub idle : Venue → (series : ℕ) → Bool
@@ -127,75 +157,28 @@ idle v s =
 
 -- 12: "kind 7 for a series that isn't closed or has a resting order or leg"
 unfoldable pub inUse : Venue → Message → Bool
-inUse v (Order o) = false
-inUse v (TwoLeg c) = false
-inUse v (Cancel id) = false
-inUse v (Away s bid offer) = false
-inUse v (Status s x) = false
-inUse v Sweep = false
-inUse v (Increment s i e) = not (idle v s)
-inUse v (Percent x e) = false
-inUse v (LimitedSweep n) = false
+inUse v m = ofSettings (λ s e. not (idle v s)) (λ e. false) m
 
 -- 13: "32 editions held already": no place is free
 unfoldable pub noEditionLeft : Venue → Message → Bool
-noEditionLeft v (Order o) = false
-noEditionLeft v (TwoLeg c) = false
-noEditionLeft v (Cancel id) = false
-noEditionLeft v (Away s bid offer) = false
-noEditionLeft v (Status s x) = false
-noEditionLeft v Sweep = false
-noEditionLeft v (Increment s i e) = leb 32 (freeEdition v)
-noEditionLeft v (Percent x e) = leb 32 (freeEdition v)
-noEditionLeft v (LimitedSweep n) = false
+noEditionLeft v m = ofSettings (λ s e. leb 32 (freeEdition v)) (λ e. leb 32 (freeEdition v)) m
 
 -- 5: "id not above the last accepted (kinds 1, 2)"; ids come "each above the last accepted"
 unfoldable pub idTooLow : Venue → Message → Bool
-idTooLow v (Order o) = leb (o .id) (v .last)
-idTooLow v (TwoLeg c) = leb (c .id) (v .last)
-idTooLow v (Cancel id) = false
-idTooLow v (Away s bid offer) = false
-idTooLow v (Status s x) = false
-idTooLow v Sweep = false
-idTooLow v (Increment s i e) = false
-idTooLow v (Percent x e) = false
-idTooLow v (LimitedSweep n) = false
+idTooLow v m = ofOrders (λ o. leb (o .id) (v .last)) (λ c. leb (c .id) (v .last)) m
 
 -- 6: "a series of the order is closed"
 unfoldable pub onClosed : Venue → Message → Bool
-onClosed v (Order o) = eqb (statusOf v (o .series)) closed
-onClosed v (TwoLeg c) = anyClosed v c
-onClosed v (Cancel id) = false
-onClosed v (Away s bid offer) = false
-onClosed v (Status s x) = false
-onClosed v Sweep = false
-onClosed v (Increment s i e) = false
-onClosed v (Percent x e) = false
-onClosed v (LimitedSweep n) = false
+onClosed v m = ofOrders (λ o. eqb (statusOf v (o .series)) closed) (λ c. anyClosed v c) m
 
--- 7: "128 regular (kind 1) or 32 complex (kind 2) rest already, even if the order would trade": no place is free. Orders of kind 10 "share the 32 places"
+-- 7: "128 regular (kind 1) or 32 complex (kind 2) rest already, even if the order would trade": no place is free. Orders of kind 10
+-- "share the 32 places"
 unfoldable pub full : Venue → Message → Bool
-full v (Order o) = leb 128 (freeRegular v)
-full v (TwoLeg c) = leb 32 (freeComplex v)
-full v (Cancel id) = false
-full v (Away s bid offer) = false
-full v (Status s x) = false
-full v Sweep = false
-full v (Increment s i e) = false
-full v (Percent x e) = false
-full v (LimitedSweep n) = false
+full v m = ofOrders (λ o. leb 128 (freeRegular v)) (λ c. leb 32 (freeComplex v)) m
 
 -- 8: "no resting order has the id (kind 3)"
 unfoldable pub unknown : Venue → Message → Bool
-unknown v (Order o) = false
-unknown v (TwoLeg c) = false
-unknown v (Cancel id) = not (restsRegular v id || restsComplex v id)
-unknown v (Away s bid offer) = false
-unknown v (Status s x) = false
-unknown v Sweep = false
-unknown v (Increment s i e) = false
-unknown v (Percent x e) = false
-unknown v (LimitedSweep n) = false
+unknown v m = ofCancel (λ id. not (restsRegular v id || restsComplex v id)) m
 
 -- the first of these that a message meets upon v; 0 where it meets none and is accepted
 unfoldable pub refusalOf : Venue → Message → ℕ

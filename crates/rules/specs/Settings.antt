@@ -1,5 +1,5 @@
--- Document 02 (d), "Settings with dates": the increments and the band's percentage, by editions. A figure is one of nine numbers: 0 to 7 is the
--- increment of that series, 8 the percentage.
+-- Document 02 (d), "Settings with dates": the increments and the band's percentage, by editions. A figure is one of nine numbers: 0 to 7
+-- is the increment of that series, 8 the percentage.
 use mathlib.Core.Bool.{Bool, not, _&&_, _||_}
 use mathlib.Core.List.{List, [], _∷_}
 use Prim.Native.Nat.{ℕ}
@@ -47,8 +47,8 @@ lastValue f x (e ∷ es) = lastValue f (if sets f e then e .value else x) es
 unfoldable pub inForce : Venue → (number figure : ℕ) → ℕ
 inForce v n f = lastValue f (baseFigure f) (keep (λ e. leb (e .message) n) (v .editions))
 
--- "Every band and increment in the rules reads the edition in force": no edition kept has a number above that of the message at hand (`follows`), so
--- it is the last of all that are kept
+-- "Every band and increment in the rules reads the edition in force": no edition kept has a number above that of the message at hand
+-- (`follows`), so it is the last of all that are kept
 unfoldable pub figureNow : Venue → (figure : ℕ) → ℕ
 figureNow v f = lastValue f (baseFigure f) (v .editions)
 

@@ -49,7 +49,8 @@ otherClear v c s = clearPrice v (otherLeg c s .series) (opposite (otherLeg c s .
 unfoldable pub otherSize : Venue → Complex → (series : ℕ) → ℕ
 otherSize v c s = bestSize v (otherLeg c s .series) (opposite (otherLeg c s .side))
 
--- the net of price p at side d of series s, a leg of c, and price q at its other leg; one to one, since no other order has legging orders (request (g))
+-- the net of price p at side d of series s, a leg of c, and price q at its other leg; one to one, since no other order has legging orders
+-- (request (g))
 abbrev pub legNet : Complex → (series side p q : ℕ) → ℤ
 legNet c s d p q = signTimes d (pos p) +ℤ signTimes (otherLeg c s .side) (pos q)
 
@@ -71,8 +72,8 @@ pairs v c s d p k =
     && leZ (legNet c s d p (otherClear v c s)) (c .limit)
     && leb k (otherSize v c s)
 
--- The test of a legging order l of c at side d of series s. 01: "failures go together, with the lowest cause that applies". Request (a) of 02 overtakes the
--- rank: "Cause 5 now comes before cause 2; the order is 1, 5, 2, 6." "N is in band (else 5)"; (C)(4)(v)
+-- The test of a legging order l of c at side d of series s. 01: "failures go together, with the lowest cause that applies". Request (a)
+-- of 02 overtakes the rank: "Cause 5 now comes before cause 2; the order is 1, 5, 2, 6." "N is in band (else 5)"; (C)(4)(v)
 unfoldable pub verdictOf : Venue → Complex → (series side : ℕ) → Legging → Verdict
 verdictOf v c s d l =
     if not (displayedNoWorse v s d (l .price)) then Fails Worse
@@ -111,7 +112,8 @@ showsAgain o = record {
 unfoldable pub showAgain : Venue → Venue
 showAgain v = withRegular v (map showsAgain (v .regular))
 
--- "After every accepted message all are tested against the same state, failures go together". (e): "Before settling, each order shows again"
+-- "After every accepted message all are tested against the same state, failures go together". (e): "Before settling, each order shows
+-- again"
 unfoldable pub settle : Venue → Effect
 settle v =
     let w = showAgain v in

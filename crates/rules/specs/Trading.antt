@@ -16,8 +16,10 @@ use Rattle.rules.specs.Removal.{removeOf}
 
 -- Filling and resting -------------------------------------------------------------------------
 
--- k contracts less, shown size first: neither its reserve nor its shown quantity is more than what is left. "leaving frees the place": its quantity is then 0
-unfoldable pub lessRegular : (k : ℕ) → Regular → Regular
+-- The order o after k of its contracts have traded. They are taken from what it shows first: so its reserve stays as it is, until what is
+-- left is less than the reserve; then all that is left is reserve. Its shown quantity is never more than what is left. "leaving frees the
+-- place": where nothing is left, its quantity is 0.
+unfoldable pub lessRegular : (k : ℕ) → (o : Regular) → Regular
 lessRegular k o = record {
   id = o .id;
   series = o .series;
@@ -28,7 +30,8 @@ lessRegular k o = record {
   reserve = min (o .reserve) (o .quantity - k);
 }
 
-unfoldable pub lessComplex : (k : ℕ) → Complex → Complex
+-- the complex order c after k of its units have traded
+unfoldable pub lessComplex : (k : ℕ) → (c : Complex) → Complex
 lessComplex k c = record {
   id = c .id;
   series1 = c .series1;

@@ -1,5 +1,5 @@
--- Document 01, "Trials": what is tried, the starred ones, and one for each rule that the laws leave open. The others, of 01 and of the requests, are the
--- crate trials' (crates/trials/specs/Trials.antt).
+-- Document 01, "Trials": what is tried, the starred ones, and one for each rule that the laws leave open. The others, of 01 and of the
+-- requests, are the crate trials' (crates/trials/specs/Trials.antt).
 -- A session's messages go in as bytes and its records are read from the report memory's bytes.
 use mathlib.Core.Bool.{Bool, true, false, not, _&&_}
 use mathlib.Core.Path.{_≡_, refl}
@@ -23,7 +23,8 @@ use Rattle.rules.specs.declared.Cause.the-variants.{Executed, OutOfBand,
 use Rattle.rules.specs.Words.{buy, sell, closed, opened, noLegging, freshVenue, withLegging, withGenerations}
 use Rattle.rules.specs.Bytes.{kindField}
 use Rattle.rules.specs.Messages.{encodeMessage}
-use Rattle.rules.specs.Records.{Report, answer, trade, pair, generated, removed, crossed, cancelled, encode, encodeAll, recordOf, records, sheet}
+use Rattle.rules.specs.Records.{Report, answer, trade, pair, generated, removed, crossed, cancelled, encode, encodeAll, recordOf}
+use Rattle.rules.specs.Records.{records, sheet}
 use Rattle.rules.specs.Prices.{inBand}
 use Rattle.rules.specs.Refusals.{decoded, inRange, offIncrement}
 use Rattle.rules.specs.Step.{setAway}
@@ -64,7 +65,18 @@ pub data Outcome : Type 0 where
 
 -- a complex order that sells series 0 and buys series 1
 pub spread : Complex
-spread = record { id = 1; series1 = 0; side1 = sell; series2 = 1; side2 = buy; class = 0; limit = pos 0; quantity = 1; ratio1 = 1; ratio2 = 1 }
+spread = record {
+  id = 1;
+  series1 = 0;
+  side1 = sell;
+  series2 = 1;
+  side2 = buy;
+  class = 0;
+  limit = pos 0;
+  quantity = 1;
+  ratio1 = 1;
+  ratio2 = 1;
+}
 
 pub open1 : (bid : ℕ) → Listed
 open1 b = record { status = opened; bid = b; offer = 0 }
@@ -90,11 +102,33 @@ pub rest : (id series side price quantity : ℕ) → Regular
 rest i s d p q = single i s d p q q
 
 pub both : (id quantity : ℕ) → Complex
-both i q = record { id = i; series1 = 0; side1 = buy; series2 = 1; side2 = buy; class = 1; limit = pos 205; quantity = q; ratio1 = 1; ratio2 = 1 }
+both i q = record {
+  id = i;
+  series1 = 0;
+  side1 = buy;
+  series2 = 1;
+  side2 = buy;
+  class = 1;
+  limit = pos 205;
+  quantity = q;
+  ratio1 = 1;
+  ratio2 = 1;
+}
 
 -- complex order 3 of other ratios and limits
 pub byRatios : (n : ℤ) (r q : ℕ) → Complex
-byRatios n r q = record { id = 3; series1 = 0; side1 = buy; series2 = 1; side2 = buy; class = 1; limit = n; quantity = 8; ratio1 = r; ratio2 = q }
+byRatios n r q = record {
+  id = 3;
+  series1 = 0;
+  side1 = buy;
+  series2 = 1;
+  side2 = buy;
+  class = 1;
+  limit = n;
+  quantity = 8;
+  ratio1 = r;
+  ratio2 = q;
+}
 
 pub leg : (parent price quantity : ℕ) → Legging
 leg i p q = record { parent = i; price = p; quantity = q }
@@ -171,7 +205,18 @@ reserves id s d p q x = encodeMessage (Order (single id s d p q x))
 -- both legs of side d, in series a and b, class 1
 pub pairUp : (id a b d : ℕ) (n : ℤ) (quantity : ℕ) → List ℕ
 pairUp id a b d n q =
-    encodeMessage (TwoLeg (record { id = id; series1 = a; side1 = d; series2 = b; side2 = d; class = 1; limit = n; quantity = q; ratio1 = 1; ratio2 = 1 }))
+    encodeMessage (TwoLeg (record {
+      id = id;
+      series1 = a;
+      side1 = d;
+      series2 = b;
+      side2 = d;
+      class = 1;
+      limit = n;
+      quantity = q;
+      ratio1 = 1;
+      ratio2 = 1;
+    }))
 
 -- buy series 0 and buy series 1, class 1
 pub buysBoth : (id : ℕ) (n : ℤ) (quantity : ℕ) → List ℕ
@@ -242,7 +287,18 @@ starred =
 -- any two legs, of a class
 pub twoLeg : (id s d t e class : ℕ) (n : ℤ) (quantity : ℕ) → List ℕ
 twoLeg id s d t e k n q =
-    encodeMessage (TwoLeg (record { id = id; series1 = s; side1 = d; series2 = t; side2 = e; class = k; limit = n; quantity = q; ratio1 = 1; ratio2 = 1 }))
+    encodeMessage (TwoLeg (record {
+      id = id;
+      series1 = s;
+      side1 = d;
+      series2 = t;
+      side2 = e;
+      class = k;
+      limit = n;
+      quantity = q;
+      ratio1 = 1;
+      ratio2 = 1;
+    }))
 
 -- complex order 3 has legging orders at 115 and 75
 pub legged : List ℕ
@@ -263,7 +319,8 @@ bidding p n = quotes 0 101 0 51 ++ enters 1 0 buy 100 5 ++ enters 2 1 buy p 5 ++
 pub asked : (n : ℤ) → List ℕ
 asked n = quotes 95 105 95 105 ++ buysBoth 1 n 5 ++ twoLeg 2 1 buy 0 buy 1 (pos 190) 5 ++ enters 3 0 sell 100 5 ++ enters 4 1 sell 90 5
 
--- Of rules that every law and theorem leaves open, a trial each (an edit of must-fail/ is refused by it alone); the others are the crate trials'
+-- Of rules that every law and theorem leaves open, a trial each (an edit of must-fail/ is refused by it alone); the others are the crate
+-- trials'
 pub telling : List Trial
 telling =
     -- "both its series are open (else cause 6)"
@@ -271,7 +328,8 @@ telling =
     -- request (a), "Cause 5 now comes before cause 2": both apply at place 0, 5 alone at place 2
     ∷ next (cancels 2) (answer 6 0 0 0 ∷ cancelled 2 12 ∷ removed 3 0 0 OutOfBand ∷ removed 3 1 0 OutOfBand ∷ [])
     -- "at equal price by class 1 while this is class 0": not by class 0
-    ∷ session 200 (opening ++ twoLeg 3 0 buy 1 buy 0 (pos 205) 8 ++ twoLeg 4 0 buy 1 buy 0 (pos 205) 9) 0 6 (leggedSheet ++ (answer 6 0 5 2 ∷ []))
+    ∷ session 200 (opening ++ twoLeg 3 0 buy 1 buy 0 (pos 205) 8 ++ twoLeg 4 0 buy 1 buy 0 (pos 205) 9) 0 6
+    (leggedSheet ++ (answer 6 0 5 2 ∷ []))
     -- a party's net is the one dealt at, not its limit: -150 is what the bids give the taker, whose limit is -140; equal is not above
     ∷ session 200 (bidding 50 (minus 140)) 0 8 (accepted 1 8 ++ (crossed 4 3 (minus 150) 3 ∷ []))
     -- of equal limits the earliest crosses first
@@ -280,7 +338,8 @@ telling =
 
 -- `unfolding tried` opens every trial, as `opened-rules` does every definition
 unfoldable pub tried : Unit {0}
-unfolding outcome expected spread open1 legsUp single rest both byRatios leg resting numbering busy leggedVenue minus opens closes enters reserves pairUp buysBoth cancels sweeps opening accepted awayAdded starred twoLeg legged leggedSheet quotes bidding asked telling
+unfolding outcome expected spread open1 legsUp single rest both byRatios leg resting numbering busy leggedVenue minus opens closes enters
+    reserves pairUp buysBoth cancels sweeps opening accepted awayAdded starred twoLeg legged leggedSheet quotes bidding asked telling
 tried = tt
 
 pub starred-hold : map outcome starred ≡ map expected starred

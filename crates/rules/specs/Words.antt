@@ -99,7 +99,18 @@ abbrev pub noRegular : Regular
 noRegular = record { id = 0; series = 0; side = 0; price = 0; quantity = 0; display = 0; reserve = 0 }
 
 abbrev pub noComplex : Complex
-noComplex = record { id = 0; series1 = 0; side1 = 0; series2 = 0; side2 = 0; class = 0; limit = pos 0; quantity = 0; ratio1 = 0; ratio2 = 0 }
+noComplex = record {
+  id = 0;
+  series1 = 0;
+  side1 = 0;
+  series2 = 0;
+  side2 = 0;
+  class = 0;
+  limit = pos 0;
+  quantity = 0;
+  ratio1 = 0;
+  ratio2 = 0;
+}
 
 abbrev pub noLegging : Legging
 noLegging = record { parent = 0; price = 0; quantity = 0 }
@@ -118,7 +129,8 @@ abbrev pub noGenerations : Generations
 noGenerations = record { messages = replicate 20 0 }
 
 -- "Fresh: no orders, all series closed, no away prices, last id 0."; request (l): "A fresh venue now has every series open."
--- "At most 128 regular and 32 complex orders rest"; 02 (d): "The venue keeps up to 32 editions"; 02 (m): none generated, and no id looked at
+-- "At most 128 regular and 32 complex orders rest"; 02 (d): "The venue keeps up to 32 editions"; 02 (m): none generated, and no id looked
+-- at
 unfoldable pub freshVenue : Venue
 freshVenue = record {
   regular = replicate 128 noRegular;
@@ -147,30 +159,44 @@ listedAt v s = getD (v .series) s notListed
 unfoldable pub statusOf : Venue → (series : ℕ) → ℕ
 statusOf v s = listedAt v s .status
 
--- the venue with one part anew
+-- the venue of these parts
+abbrev pub venueWith : (regular : List Regular) → (complex : List Complex) → (legging : List Legging) → (series : List Listed) →
+    (editions : List Edition) → (generations : List Generations) → (last reached : ℕ) → Venue
+venueWith regular complex legging series editions generations last reached = record {
+  regular = regular;
+  complex = complex;
+  legging = legging;
+  series = series;
+  editions = editions;
+  generations = generations;
+  last = last;
+  reached = reached;
+}
+
+-- the venue v with one part replaced by x
 unfoldable pub withRegular : Venue → List Regular → Venue
-withRegular v x = record { regular = x; complex = v .complex; legging = v .legging; series = v .series; editions = v .editions; generations = v .generations; last = v .last; reached = v .reached }
+withRegular v x = venueWith x (v .complex) (v .legging) (v .series) (v .editions) (v .generations) (v .last) (v .reached)
 
 unfoldable pub withComplex : Venue → List Complex → Venue
-withComplex v x = record { regular = v .regular; complex = x; legging = v .legging; series = v .series; editions = v .editions; generations = v .generations; last = v .last; reached = v .reached }
+withComplex v x = venueWith (v .regular) x (v .legging) (v .series) (v .editions) (v .generations) (v .last) (v .reached)
 
 unfoldable pub withLegging : Venue → List Legging → Venue
-withLegging v x = record { regular = v .regular; complex = v .complex; legging = x; series = v .series; editions = v .editions; generations = v .generations; last = v .last; reached = v .reached }
+withLegging v x = venueWith (v .regular) (v .complex) x (v .series) (v .editions) (v .generations) (v .last) (v .reached)
 
 unfoldable pub withSeries : Venue → List Listed → Venue
-withSeries v x = record { regular = v .regular; complex = v .complex; legging = v .legging; series = x; editions = v .editions; generations = v .generations; last = v .last; reached = v .reached }
+withSeries v x = venueWith (v .regular) (v .complex) (v .legging) x (v .editions) (v .generations) (v .last) (v .reached)
 
 unfoldable pub withEditions : Venue → List Edition → Venue
-withEditions v x = record { regular = v .regular; complex = v .complex; legging = v .legging; series = v .series; editions = x; generations = v .generations; last = v .last; reached = v .reached }
+withEditions v x = venueWith (v .regular) (v .complex) (v .legging) (v .series) x (v .generations) (v .last) (v .reached)
 
 unfoldable pub withGenerations : Venue → List Generations → Venue
-withGenerations v x = record { regular = v .regular; complex = v .complex; legging = v .legging; series = v .series; editions = v .editions; generations = x; last = v .last; reached = v .reached }
+withGenerations v x = venueWith (v .regular) (v .complex) (v .legging) (v .series) (v .editions) x (v .last) (v .reached)
 
 unfoldable pub withLast : Venue → ℕ → Venue
-withLast v x = record { regular = v .regular; complex = v .complex; legging = v .legging; series = v .series; editions = v .editions; generations = v .generations; last = x; reached = v .reached }
+withLast v x = venueWith (v .regular) (v .complex) (v .legging) (v .series) (v .editions) (v .generations) x (v .reached)
 
 unfoldable pub withReached : Venue → ℕ → Venue
-withReached v x = record { regular = v .regular; complex = v .complex; legging = v .legging; series = v .series; editions = v .editions; generations = v .generations; last = v .last; reached = x }
+withReached v x = venueWith (v .regular) (v .complex) (v .legging) (v .series) (v .editions) (v .generations) (v .last) x
 
 -- Resting orders ------------------------------------------------------------------------------
 

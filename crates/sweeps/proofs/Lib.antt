@@ -1,3 +1,3 @@
-pub mod Walking
+pub mod RisingLaws
 pub mod SweepLaws
 pub mod RoundLaws

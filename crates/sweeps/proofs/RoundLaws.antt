@@ -32,7 +32,7 @@ use Rattle.sweeps.specs.Round.{placesFrom, roundPlaces}
 -- The places of a test ------------------------------------------------------------------------
 
 -- where the orders that rest and pass a test are those from place `low` up to `high`
-places-within : (f : Complex → Bool) (n low high : ℕ) (l : List Complex) → low ≤ high →
+pub places-within : (f : Complex → Bool) (n low high : ℕ) (l : List Complex) → low ≤ high →
     ((i : ℕ) → i < low → (held (getD l i noComplex .quantity) && f (getD l i noComplex)) ≡ false) →
     ((i : ℕ) → low ≤ i → i < high → (held (getD l i noComplex .quantity) && f (getD l i noComplex)) ≡ true) →
     ((i : ℕ) → high ≤ i → (held (getD l i noComplex .quantity) && f (getD l i noComplex)) ≡ false) →

@@ -5,7 +5,7 @@ ghost use mathlib.Core.List.{_++_};
 ghost use Prim.Native.Nat.{_+_, _-_, _≤_};
 ghost use lib.ListN.{length, take};
 ghost use Rattle.rules.specs.Generation.{generate};
-ghost use Rattle.rules.specs.Complex.{each, goingRound, examined, idReached, eachOf};
+ghost use Rattle.rules.specs.Complex.{goingRound, examined, idReached, eachOf};
 ghost use Rattle.rules.specs.Complex as complex;
 ghost use Rattle.records.specs.Seen.{seen};
 ghost use Rattle.records.specs.Stage.{stage, _does_};
@@ -13,57 +13,54 @@ ghost use Rattle.places.specs.Layout.{size, complexesUsed, venueOf, Right, Same
 ghost use Rattle.sweeps.specs.Rising.{Rising};
 ghost use Rattle.sweeps.specs.Round.{placesFrom, roundPlaces};
 
-// Each resting complex order is worked, earliest first: ids rise with the places.
-fn work_each(numbers: &mut [u32], out: &mut [u8], at: usize) -> usize
-    requires { ⌜ (length (now numbers) ≡ size) × (Right (now numbers)) × (Rising (venueOf (now numbers) .complex)) ⌝ }
-    ensures { λ r. ⌜ stage (venueOf (now (numbers .exit))) (now (out .exit)) r ≡ seen (now (out .entry)) at does each 32 complex.work 0 (venueOf (now (numbers .entry))) ⌝ }
+// The orders at `count` places from `first` on are worked; at a freed place nothing is done.
+fn work_places(numbers: &mut [u32], first: usize, count: usize, out: &mut [u8], at: usize) -> usize
+    requires { ⌜ (length (now numbers) ≡ size) × (Right (now numbers)) × (first + count ≤ complexesUsed (now numbers)) ⌝ }
+    ensures { λ r. ⌜ stage (venueOf (now (numbers .exit))) (now (out .exit)) r ≡ seen (now (out .entry)) at does eachOf complex.work (placesFrom first count) (venueOf (now (numbers .entry))) ⌝ }
     ensures counts { λ _. ⌜ SameCounts (now (numbers .entry)) (now (numbers .exit)) ⌝ }
 {
-    let used = places::complexes_used(numbers);
     let mut pos = at;
     let mut k: usize = 0;
-    while k < used {
-        let i = k;
+    while k < count {
+        pos = work::work(numbers, first + k, out, pos);
         k += 1;
-        let c = places::complex_at(numbers, i);
-        if c.quantity == 0 {
-            continue;
-        }
-        pos = work::work(numbers, i, out, pos);
     }
     pos
 }
 
-// Generation for each resting complex order, earliest first.
-fn generate_each(numbers: &mut [u32], number: u32, out: &mut [u8], at: usize) -> usize
-    requires { ⌜ (length (now numbers) ≡ size) × (Right (now numbers)) × (Rising (venueOf (now numbers) .complex)) ⌝ }
-    ensures { λ r. ⌜ stage (venueOf (now (numbers .exit))) (now (out .exit)) r ≡ seen (now (out .entry)) at does each 32 (generate number) 0 (venueOf (now (numbers .entry))) ⌝ }
+// Generation for the orders at `count` places from `first` on.
+fn generate_places(
+    numbers: &mut [u32],
+    number: u32,
+    first: usize,
+    count: usize,
+    out: &mut [u8],
+    at: usize,
+) -> usize
+    requires { ⌜ (length (now numbers) ≡ size) × (Right (now numbers)) × (first + count ≤ complexesUsed (now numbers)) ⌝ }
+    ensures { λ r. ⌜ stage (venueOf (now (numbers .exit))) (now (out .exit)) r ≡ seen (now (out .entry)) at does eachOf (generate number) (placesFrom first count) (venueOf (now (numbers .entry))) ⌝ }
     ensures counts { λ _. ⌜ SameCounts (now (numbers .entry)) (now (numbers .exit)) ⌝ }
 {
-    let used = places::complexes_used(numbers);
     let mut pos = at;
     let mut k: usize = 0;
-    while k < used {
-        let i = k;
+    while k < count {
+        pos = generation::generate_order(numbers, number, first + k, out, pos);
         k += 1;
-        let c = places::complex_at(numbers, i);
-        if c.quantity == 0 {
-            continue;
-        }
-        pos = generation::generate_order(numbers, number, i, out, pos);
     }
     pos
 }
 
-// All resting complex orders are worked; then settling, once, and generation.
+// All resting complex orders are worked; then settling, once, and generation. Between messages they rest at the first places, in rising id, and none moves
+// till the end.
 pub fn sweep(numbers: &mut [u32], number: u32, out: &mut [u8], at: usize) -> usize
-    requires { ⌜ (length (now numbers) ≡ size) × (Right (now numbers)) × (Rising (venueOf (now numbers) .complex)) ⌝ }
+    requires { ⌜ (length (now numbers) ≡ size) × (Dense (now numbers)) ⌝ }
     ensures { λ r. ⌜ stage (venueOf (now (numbers .exit))) (now (out .exit)) r ≡ seen (now (out .entry)) at does complex.sweep number (venueOf (now (numbers .entry))) ⌝ }
     ensures counts { λ _. ⌜ SameCounts (now (numbers .entry)) (now (numbers .exit)) ⌝ }
 {
-    let worked = work_each(numbers, out, at);
+    let used = places::complexes_used(numbers);
+    let worked = work_places(numbers, 0, used, out, at);
     let settled = settling::settle_all(numbers, out, worked);
-    generate_each(numbers, number, out, settled)
+    generate_places(numbers, number, 0, used, out, settled)
 }
 
 // The places that a limited sweep looks at: `above` of them from `first` on, and then `others` from 0 on.
@@ -143,43 +140,6 @@ fn last_looked(numbers: &[u32], r: Round) -> u32
         return c.id;
     }
     places::reached_id(numbers)
-}
-
-// The orders at `count` places from `first` on are worked; at a freed place nothing is done.
-fn work_places(numbers: &mut [u32], first: usize, count: usize, out: &mut [u8], at: usize) -> usize
-    requires { ⌜ (length (now numbers) ≡ size) × (Right (now numbers)) × (first + count ≤ complexesUsed (now numbers)) ⌝ }
-    ensures { λ r. ⌜ stage (venueOf (now (numbers .exit))) (now (out .exit)) r ≡ seen (now (out .entry)) at does eachOf complex.work (placesFrom first count) (venueOf (now (numbers .entry))) ⌝ }
-    ensures counts { λ _. ⌜ SameCounts (now (numbers .entry)) (now (numbers .exit)) ⌝ }
-{
-    let mut pos = at;
-    let mut k: usize = 0;
-    while k < count {
-        pos = work::work(numbers, first + k, out, pos);
-        k += 1;
-    }
-    pos
-}
-
-// Generation for the orders at `count` places from `first` on.
-fn generate_places(
-    numbers: &mut [u32],
-    number: u32,
-    first: usize,
-    count: usize,
-    out: &mut [u8],
-    at: usize,
-) -> usize
-    requires { ⌜ (length (now numbers) ≡ size) × (Right (now numbers)) × (first + count ≤ complexesUsed (now numbers)) ⌝ }
-    ensures { λ r. ⌜ stage (venueOf (now (numbers .exit))) (now (out .exit)) r ≡ seen (now (out .entry)) at does eachOf (generate number) (placesFrom first count) (venueOf (now (numbers .entry))) ⌝ }
-    ensures counts { λ _. ⌜ SameCounts (now (numbers .entry)) (now (numbers .exit)) ⌝ }
-{
-    let mut pos = at;
-    let mut k: usize = 0;
-    while k < count {
-        pos = generation::generate_order(numbers, number, first + k, out, pos);
-        k += 1;
-    }
-    pos
 }
 
 // The orders to look at are worked, in the order of the round.

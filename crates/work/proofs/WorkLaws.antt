@@ -6,13 +6,18 @@ use Prim.Native.Nat.{ℕ}
 use Rattle.rules.specs.declared.Complex.{Complex}
 use Rattle.rules.specs.declared.Venue.{Venue}
 use Rattle.rules.specs.Words.{complexAt}
-use Rattle.rules.specs.Effects.{_⟫_, repeat}
+use Rattle.rules.specs.Effects.{Effect, _⟫_, repeat}
 use Rattle.rules.specs.Complex.{anyClosed, crossTurn, touch, legInTurn, work}
+use Rattle.rules.proofs.Sweeping.{gone-works}
 use Rattle.records.specs.Seen.{seen}
 use Rattle.records.specs.Stage.{stage, _does_}
 use Rattle.records.proofs.StageLaws.{follow, does-nothing}
 
 module _ (i : ℕ) (v : Venue) (c : Complex) (ec : c ≡ complexAt v i) where
+  -- the place is free
+  pub work-gone : (l : List ℕ) (at : ℕ) → c .quantity ≡ 0 → stage v l at ≡ seen l at does work i v
+  work-gone l at h = does-nothing v l at ∙ ap (λ (e : Effect). seen l at does e) (sym (gone-works i v (ap (λ (x : Complex). x .quantity) (sym ec) ∙ h)))
+
   pub work-closed : (l : List ℕ) (at : ℕ) → anyClosed v c ≡ true → stage v l at ≡ seen l at does work i v
   unfolding work
   work-closed l at h = rw (← ec, h) (does-nothing v l at)

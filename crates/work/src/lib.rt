@@ -115,13 +115,16 @@ pub fn leg_in_all(numbers: &mut [u32], i: usize, quantity: u32, out: &mut [u8], 
     pos
 }
 
-// The order at place i crosses, touches and legs in, if neither of its series is closed.
+// The order at place i crosses, touches and legs in, if neither of its series is closed. At a free place nothing is done.
 pub fn work(numbers: &mut [u32], i: usize, out: &mut [u8], at: usize) -> usize
     requires { ⌜ (length (now numbers) ≡ size) × (Right (now numbers)) × (i < complexesUsed (now numbers)) ⌝ }
     ensures { λ r. ⌜ stage (venueOf (now (numbers .exit))) (now (out .exit)) r ≡ seen (now (out .entry)) at does complex.work i (venueOf (now (numbers .entry))) ⌝ }
     ensures counts { λ _. ⌜ SameCounts (now (numbers .entry)) (now (numbers .exit)) ⌝ }
 {
     let c = places::complex_at(numbers, i);
+    if c.quantity == 0 {
+        return at;
+    }
     if prices::any_closed(numbers, c) {
         return at;
     }

@@ -10,7 +10,6 @@ use Rattle.records.specs.Seen.{seen}
 use Rattle.records.specs.Stage.{_does_}
 use Rattle.wire.specs.Brought.{Shows}
 use Rattle.places.specs.Layout.{venueOf}
-use Rattle.sweeps.proofs.Walking.{sound-rising}
 use Rattle.refusals.proofs.RefusalFound.{legs-in, away-series, status-series}
 use Rattle.messages.proofs.StepsLaws.{order-below, order-room, complex-room, cancel-known}
 use borrow.Author.Needs.{needs}
@@ -87,7 +86,7 @@ set-status-requires c κs = let s = c .before .before .before .before .before .b
     let e = c .before .before .before .m5 .given .1 in (s .pre .slice, status-series _ _ (sym (ap wellFormed e) ∙ s .pre .formed), s .pre .dense .right)
 
 sweep-requires : tie.Need-sweep-requires
-sweep-requires c κs = let s = c .before .before .before .before .before .before .before .before in (s .pre .slice, s .pre .dense .right, sound-rising _ (s .pre .sound .is))
+sweep-requires c κs = let s = c .before .before .before .before .before .before .before .before in (s .pre .slice, s .pre .dense)
 
 returns-6 : tie.Need-returns-6
 unfolding perform

@@ -10,7 +10,7 @@ use Rattle.rules.proofs.RefusalsLaws.{wellFormed}
 use Rattle.records.specs.Seen.{seen}
 use Rattle.records.specs.Stage.{_does_}
 use Rattle.places.specs.Layout.{venueOf}
-use Rattle.sweeps.proofs.Walking.{sound-rising}
+use Rattle.sweeps.proofs.RisingLaws.{sound-rising}
 use Rattle.refusals.proofs.RefusalFound.{increment-set}
 use Rattle.messages.proofs.StepsLaws.{increment-place, percent-place}
 use borrow.Author.Needs.{needs}

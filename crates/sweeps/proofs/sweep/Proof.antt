@@ -1,41 +1,52 @@
 -- `sweeps::sweep` meets its contract.
-use mathlib.Core.Path.{_∙_}
-use Rattle.sweeps.proofs.SweepLaws.{sweep-law}
-use Rattle.sweeps.proofs.Walking.{swept-rising}
+use mathlib.Core.Path.{ap, _∙_}
+use native.Mathlib.Omega.{arith}
+use Rattle.sweeps.specs.Round.{placesFrom}
+use Rattle.sweeps.proofs.SweepLaws.{all-resting, sweep-law}
 use borrow.Author.Needs.{needs}
 use Rattle.sweeps.proofs.sweep.Statement.{statement}
 use Rattle.places.proofs.Beside.{counts-on}
 use Rattle.sweeps.proofs.sweep.Tie as tie
 
-work-each-requires : tie.Need-work-each-requires
-work-each-requires c κs = c .before .before .before .before .pre
+work-places-requires : tie.Need-work-places-requires
+work-places-requires c κs = let s = c .before .before .before .before .before .before in (s .pre .0, s .pre .1 .right, omega (arith, c .before .before .complexes-used .ensures .0))
 
 settle-all-requires : tie.Need-settle-all-requires
-settle-all-requires c κs = let w = c .before .before .before .before .before .before .work-each in
-    let s = c .before .before .before .before .before .before .before .before .before .before .before in
-    (w .kept .0 ∙ s .pre .0, w .ensures .1 .right (s .pre .1))
+settle-all-requires c κs = let w = c .before .before .before .before .before .before .work-places in
+    let s = c .before .before .before .before .before .before .before .before .before .before .before .before .before in
+    (w .kept .0 ∙ s .pre .0, w .ensures .1 .right (s .pre .1 .right))
 
-generate-each-requires : tie.Need-generate-each-requires
-generate-each-requires c κs =
+generate-places-requires : tie.Need-generate-places-requires
+generate-places-requires c κs =
     let x = c .before .before .before .before .before .before .settle-all in
-    let w = c .before .before .before .before .before .before .before .before .before .before .before .before .before .work-each in
-    let s = c .before .before .before .before .before .before .before .before .before .before .before .before .before .before .before .before .before .before in
-    (x .kept .0 ∙ w .kept .0 ∙ s .pre .0, x .ensures .1 .right (w .ensures .1 .right (s .pre .1)), swept-rising _ _ _ _ _ _ _ _ _ (w .ensures .0) (x .ensures .0) (s .pre .2))
+    let w = c .before .before .before .before .before .before .before .before .before .before .before .before .before .work-places in
+    let u = c .before .before .before .before .before .before .before .before .before .before .before .before .before .before .before .before .complexes-used in
+    let s = c .before .before .before .before .before .before .before .before .before .before .before .before .before .before .before .before .before .before .before .before in (
+      x .kept .0 ∙ w .kept .0 ∙ s .pre .0,
+      x .ensures .1 .right (w .ensures .1 .right (s .pre .1 .right)),
+      omega (arith, u .ensures .0, w .ensures .1 .complexes, x .ensures .1 .complexes),
+    )
 
 returns : tie.Need-returns
 returns c =
-    let g = c .before .before .before .before .generate-each in
+    let g = c .before .before .before .before .generate-places in
     let x = c .before .before .before .before .before .before .before .before .before .before .before .settle-all in
-    let w = c .before .before .before .before .before .before .before .before .before .before .before .before .before .before .before .before .before .before .work-each in
-    (sweep-law _ _ _ _ _ _ _ _ _ _ _ _ _ (w .ensures .0) (x .ensures .0) (g .ensures .0), counts-on _ _ _ (counts-on _ _ _ (w .ensures .1) (x .ensures .1)) (g .ensures .1))
+    let w = c .before .before .before .before .before .before .before .before .before .before .before .before .before .before .before .before .before .before .work-places in
+    let u = c .before .before .before .before .before .before .before .before .before .before .before .before .before .before .before .before .before .before .before .before .before .complexes-used in
+    let s = c .before .before .before .before .before .before .before .before .before .before .before .before .before .before .before .before .before .before .before .before .before .before .before .before .before in (
+      sweep-law _ (placesFrom 0 (u .result)) _ _ _ _ _ _ _ _ _ _ _ _ (ap (placesFrom 0) (u .ensures .0) ∙ all-resting _ (s .pre .1))
+          (w .ensures .0) (x .ensures .0) (g .ensures .0),
+      counts-on _ _ _ (counts-on _ _ _ (w .ensures .1) (x .ensures .1)) (g .ensures .1),
+    )
 
 pub sweep-spec : {M : Type 1} → statement M
 sweep-spec =
     tie.close
     (tie.spec
-    work-each-requires
+    (λ c κs. search needs)
+    work-places-requires
     settle-all-requires
-    generate-each-requires
+    generate-places-requires
     (λ c. search needs)
     (λ c. search needs)
     returns)
