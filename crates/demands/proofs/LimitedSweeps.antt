@@ -2,7 +2,7 @@
 use mathlib.Core.Path.{_∙_, _≡_, ap, refl, subst, sym}
 use mathlib.Core.Bool.{Bool, _&&_, false, not, true}
 use mathlib.Core.Logic.{_≢_, _⊎_, inl, inr, ⊎-swap}
-use mathlib.Core.List.{List, [], _++_, _∷_, map, map-append}
+use mathlib.Core.List.{List, List·Memᴰ, List·Memᴰ·head, List·Memᴰ·tail, Memᴰ·cast, [], _++_, _∷_, map, map-append}
 use Prim.Native.Nat.{_+_, _<_, min, suc, zero, ℕ}
 use native.Mathlib.Decide.{decLt}
 use native.Mathlib.Nat.{add-zero, zero-add}
@@ -31,12 +31,14 @@ use Rattle.rules.specs.Refusals.{complexInRange, refusal, twoLegInRange}
 use Rattle.rules.specs.Step.{accept, answered, perform, setAway, setFigure, setStatus, step}
 use Rattle.demands.specs.Soundness.{SoundAt, SoundVenue}
 use Rattle.demands.specs.Truth.{answerOf, venueAfter}
-use Rattle.demands.specs.LimitedSweeps.{InTurn, Limited, LimitedSweeps, NoLook, Rises, Stays, lastOf, looks, looksAll, looksBy, looksIn, resting, round}
+use Rattle.demands.specs.LimitedSweeps.{Among, InTurn, Limited, LimitedSweeps, NoLook, Rises, Stays, lastOf, looks, looksAll, looksBy, looksIn, resting, round}
 use Rattle.rules.proofs.CallsLaws.{step-by}
 use Rattle.rules.proofs.Cases.{if-by}
-use Rattle.rules.proofs.Filling.{cx}
+use Rattle.rules.proofs.Filling.{FewerC, cx, fewerC-refl, fewerC-trans}
 use Rattle.rules.proofs.EffectsLaws.{Lasts, keeps-cancel, keeps-eachOf, keeps-matching, keeps-settle, keeps-work}
 use Rattle.rules.proofs.Quiet.{All, Others, all-cancel, all-eachOf, all-generate, all-nothing, all-order, all-settle, all-then, all-work}
+use Rattle.rules.proofs.Sweeping.{fewer-lasts, generate-fewer}
+use Rattle.rules.proofs.Takers.{Works, told-eachOf, told-generate, told-remove, told-then, told-work}
 use Rattle.rules.proofs.Tests.{and-l, and-r}
 use Rattle.rules.proofs.Traffic.{looked-count, round-all}
 use Rattle.demands.proofs.Calls.{stays-sound}
@@ -210,6 +212,47 @@ module _ (r : ℕ) where
   leaves-perform n (Percent x e) v but h = leaves-settle _ h
   leaves-perform n (LimitedSweep k) v but h = absurd (but k refl)
 
+-- Who takes and who generates ------------------------------------------------------------------
+
+mem-map : (f : ℕ → ℕ) {i : ℕ} {is : List ℕ} → List·Memᴰ i is → List·Memᴰ (f i) (map f is)
+mem-map f (List·Memᴰ·head e) = List·Memᴰ·head (ap f e)
+mem-map f (List·Memᴰ·tail m) = List·Memᴰ·tail (mem-map f m)
+
+-- a sweep of the orders at some places of v, upon books that have no more of each complex order
+module _ (v : Venue) (places : List ℕ) where
+  abbrev ids : List ℕ
+  ids = map (λ i. complexAt v i .id) places
+
+  abbrev Since : Venue → Type 0
+  Since w = FewerC (w .complex) (v .complex)
+
+  own : (i : ℕ) → List·Memᴰ i places → (w : Venue) → Since w → List·Memᴰ (complexAt w i .id) ids
+  unfolding complexAt
+  own i m w h = Memᴰ·cast (h .lesser i .id) (mem-map (λ i. complexAt v i .id) m)
+
+  works : (x : ℕ) → List·Memᴰ x ids → Works (Among ids) x
+  works x m = record { takes = record { trades = λ _ _ _ _ _. m; pairs = λ _ _. m; removals = λ _ _ _ _. tt }; crosses = λ _ _ _. m }
+
+  among-work : (w : Venue) → Since w → All (Among ids) (eachOf work places w)
+  among-work = told-eachOf (Among ids) Since work places (λ i m w h. (told-work (Among ids) i w (works _ (own i m w h)), keeps-work (fewer-lasts v) i w h))
+
+  among-settle : (w : Venue) → All (Among ids) (settle w)
+  unfolding settle
+  among-settle w = told-remove (Among ids) (λ _ _ _ _. tt) _ _
+
+  among-generate : (number : ℕ) (w : Venue) → Since w → All (Among ids) (eachOf (generate number) places w)
+  among-generate number =
+      told-eachOf (Among ids) Since (generate number) places
+      (λ i m w h. (told-generate (Among ids) (λ _ _ _ _. tt) number i w (λ _ _ _ _ _. own i m w h), fewerC-trans (generate-fewer number i w) h))
+
+  settled-since : (w : Venue) → Since w → Since ((eachOf work places w ⟫ settle) .venue)
+  unfolding _⟫_
+  settled-since w h = keeps-settle (fewer-lasts v) _ (keeps-eachOf Since work (keeps-work (fewer-lasts v)) places w h)
+
+  pub among-sweep : (number : ℕ) (w : Venue) → Since w → All (Among ids) (eachOf work places w ⟫ settle ⟫ eachOf (generate number) places)
+  among-sweep number w h =
+      told-then (Among ids) _ _ (told-then (Among ids) _ _ (among-work w h) (among-settle _)) (among-generate number _ (settled-since w h))
+
 -- a limited sweep from its 72 on, and the gaps closed
 after-look : (number n : ℕ) → Venue → Effect
 after-look number n v =
@@ -222,6 +265,13 @@ after-leaves number n v =
     let r = lastOf (v .reached) (looks n v) in
     leaves-on r _ _ (leaves-on r _ _ (leaves-on r _ settle (leaves-eachOf r work (keeps-work (lasts r)) (says-work r) _ _ (reached-looks n v)) (leaves-settle r))
     (leaves-eachOf r (generate number) (generate-keeps r number) (says-generate r number) _)) (leaves-closed r)
+
+after-among : (number n : ℕ) (v : Venue) → All (Among (looks n v)) (after-look number n v)
+unfolding after-look nothing withReached
+after-among number n v =
+    let places = take n (goingRound v) in
+    subst (λ (ids : List ℕ). All (Among ids) (after-look number n v)) (places-looks n v)
+    (told-then (Among (ids v places)) _ _ (among-sweep v places number _ (fewerC-refl _)) tt)
 
 sweep-reports : (number n : ℕ) (v : Venue) → accept number (LimitedSweep n) v .reports ≡ looked (examined n v) ∷ after-look number n v .reports
 unfolding accept perform limitedSweep report _⟫_ after-look
@@ -246,6 +296,7 @@ limited v s number bs n is ok = record {
   effects = after-look number n v .reports;
   written = written;
   once = after-leaves number n v .silent;
+  only = after-among number n v;
   reached = reached;
 }
   where

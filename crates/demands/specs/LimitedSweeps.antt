@@ -58,6 +58,17 @@ NoLook (crossed taker maker n quantity) = Unit {0}
 NoLook (cancelled id quantity) = Unit {0}
 NoLook (looked count) = ⊥
 
+-- the taker of a 65 or a 70, the order of a 66 and the order of a 67 are among some ids
+abbrev pub Among : (ids : List ℕ) → Report → Type 0
+Among ids (answer number refusal mask count) = Unit {0}
+Among ids (trade series side price quantity taker maker) = List·Memᴰ taker ids
+Among ids (pair id n quantity) = List·Memᴰ id ids
+Among ids (generated id series side price displayed quantity) = List·Memᴰ id ids
+Among ids (removed id series side cause) = Unit {0}
+Among ids (crossed taker maker n quantity) = List·Memᴰ taker ids
+Among ids (cancelled id quantity) = Unit {0}
+Among ids (looked count) = Unit {0}
+
 -- the message of this number, a kind 11 limited to n, accepted upon v
 pub record Limited (v : Venue) (number : ℕ) (message : List ℕ) (n : ℕ) : Type 0 where
   -- the ids that go round are in rising order
@@ -70,6 +81,8 @@ pub record Limited (v : Venue) (number : ℕ) (message : List ℕ) (n : ℕ) : T
   pub effects : List Report
   pub written : step v number message .effect .reports ≡ answerOf v number message ∷ looked (length (looks n v)) ∷ effects
   pub once : ForAll NoLook effects
+  -- "limited to n resting orders …, generation too": only orders that it looks at take, and only they generate
+  pub only : ForAll (Among (looks n v)) effects
   -- the last id looked at, after which the next one starts; where nothing rests, the one before
   pub reached : venueAfter v number message .reached ≡ lastOf (v .reached) (looks n v)
 

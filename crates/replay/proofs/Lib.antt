@@ -1,5 +1,6 @@
 -- Proofs of the statements of specs/, in the order in which each file uses the ones before it:
 --
+--   NegativeWitness  wrong sheets that the claims refuse
 --   TellsLaws   `Tells v e`: the records of the effect e upon v tell the venue that it leaves, and each is as claimed at its moment
 --   Placing     removals and generation, which change legging places alone
 --   Lessening   to lessen the order of an id is to fill its place; ids are apart
@@ -12,6 +13,7 @@
 --   Performing  every accepted message
 --   Sheets      the theorems replays and no-better-passed-over
 --   Witness     the claims are not empty
+pub mod NegativeWitness
 pub mod TellsLaws
 pub mod Placing
 pub mod Lessening

@@ -1,4 +1,5 @@
--- A sheet replayed (Replay), what holds of every trade and cross at its moment (Moments), and that this is not empty (Witness).
+-- A sheet replayed (Replay), what holds of every trade and cross at its moment (Moments), that this is not empty (Witness), and wrong sheets that it refuses (NegativeWitness).
 pub mod Replay
 pub mod Moments
 pub mod Witness
+pub mod NegativeWitness

@@ -1,22 +1,18 @@
 -- After every message all are tested: whatever an accepted message does, every legging order stands when it has settled.
-use mathlib.Core.Path.{_≡_, refl}
 use Prim.Native.Nat.{ℕ}
-use Rattle.rules.specs.declared.Complex.{Complex}
 use Rattle.rules.specs.declared.Message.{Message}
 use Rattle.rules.specs.declared.Message.the-variants.{Away, Cancel, Increment, LimitedSweep, Order, Percent, Status, Sweep, TwoLeg}
 use Rattle.rules.specs.declared.Venue.{Venue}
-use Rattle.rules.specs.Words.{withLast, withReached}
-use lib.ListN.{take}
-use Rattle.rules.specs.Records.{looked}
+use Rattle.rules.specs.Words.{withLast}
 use Rattle.rules.specs.Settings.{percentage}
-use Rattle.rules.specs.Effects.{Effect, _⟫_, report}
+use Rattle.rules.specs.Effects.{Effect, _⟫_}
 use Rattle.rules.specs.Standing.{settle}
-use Rattle.rules.specs.Trading.{freeComplex, putComplex}
 use Rattle.rules.specs.Order.{enterRegular, order}
 use Rattle.rules.specs.Generation.{generate}
-use Rattle.rules.specs.Complex.{cancel, complex, eachOf, examined, goingRound, idReached, limitedSweep, restingPlaces, sweep, work}
+use Rattle.rules.specs.Complex.{cancel, complex, limitedSweep, sweep}
 use Rattle.rules.specs.Step.{perform, setAway, setFigure, setStatus}
 use Rattle.rules.proofs.Generating.{AllStand}
+use Rattle.rules.proofs.EffectsLaws.{keeps-eachOf}
 use Rattle.rules.proofs.Settling.{settle-stands}
 
 pub settle-all : (v : Venue) → AllStand (settle v .venue)
@@ -27,49 +23,38 @@ pub settled : (e : Effect) → AllStand ((e ⟫ settle) .venue)
 unfolding _⟫_
 settled e = settle-all (e .venue)
 
--- a message that generates nothing
-abbrev pub Quiet : Message → Type 0
-Quiet (Order o) = Unit {0}
-Quiet (TwoLeg c) = ⊥
-Quiet (Cancel id) = Unit {0}
-Quiet (Away s bid offer) = Unit {0}
-Quiet (Status s x) = Unit {0}
-Quiet Sweep = ⊥
-Quiet (Increment s i e) = Unit {0}
-Quiet (Percent x e) = Unit {0}
-Quiet (LimitedSweep n) = ⊥
+-- legging orders generated one after another under the message of this number, from the venue w on
+pub data Generates (number : ℕ) (w : Venue) : Venue → Type 0 where
+  none : Generates number w w
+  more : {u : Venue} (i : ℕ) → Generates number w u → Generates number w (generate number i u .venue)
 
--- "After every accepted message all are tested against the same state, failures go together": none is left that fails
-pub perform-stands : (number : ℕ) (m : Message) → Quiet m → (v : Venue) → AllStand (perform number m v .venue)
-unfolding perform order cancel
-perform-stands number (Order o) q v = settled (enterRegular o (withLast v (o .id)))
-perform-stands number (TwoLeg c) q v = absurd q
-perform-stands number (Cancel id) q v = settled _
-perform-stands number (Away s bid offer) q v = settle-all (setAway s bid offer v)
-perform-stands number (Status s x) q v = settle-all (setStatus s x v)
-perform-stands number Sweep q v = absurd q
-perform-stands number (Increment s i e) q v = settle-all (setFigure number s i e v)
-perform-stands number (Percent x e) q v = settle-all (setFigure number percentage x e v)
-perform-stands number (LimitedSweep n) q v = absurd q
+-- a venue that came, by generation alone, from one in which every legging order stands
+pub record Settled (number : ℕ) (v : Venue) : Type 0 where
+  pub venue : Venue
+  pub stand : AllStand venue
+  pub since : Generates number venue v
 
--- A message that generates has settled before it does; `Generating.generate-stands` has that generation keeps it.
-pub complex-stands : (number : ℕ) (c : Complex) (v : Venue) →
-    let i = freeComplex v in
-    let e = work i (putComplex i c v) ⟫ settle in
-    (complex number c v ≡ e ⟫ generate number i) × AllStand (e .venue)
-unfolding complex
-complex-stands number c v = (refl, settled _)
+module _ (number : ℕ) where
+  just : (v : Venue) → AllStand v → Settled number v
+  just v a = record { venue = v; stand = a; since = none }
 
-pub sweep-stands : (number : ℕ) (v : Venue) →
-    let places = restingPlaces v in
-    let e = eachOf work places v ⟫ settle in
-    (sweep number v ≡ e ⟫ eachOf (generate number) places) × AllStand (e .venue)
-unfolding sweep
-sweep-stands number v = (refl, settled _)
+  one-more : (i : ℕ) (v : Venue) → Settled number v → Settled number (generate number i v .venue)
+  one-more i v h = record { venue = h .venue; stand = h .stand; since = more i (h .since) }
 
-pub limited-stands : (number n : ℕ) (v : Venue) →
-    let places = take n (goingRound v) in
-    let e = report (looked (examined n v)) (withReached v (idReached v places)) ⟫ eachOf work places ⟫ settle in
-    (limitedSweep number n v ≡ e ⟫ eachOf (generate number) places) × AllStand (e .venue)
-unfolding limitedSweep
-limited-stands number n v = (refl, settled _)
+  then-generates : (e : Effect) (f : Venue → Effect) → ((v : Venue) → Settled number v → Settled number (f v .venue)) → Settled number ((e ⟫ settle ⟫ f) .venue)
+  unfolding _⟫_
+  then-generates e f ok = ok _ (just _ (settle-all (e .venue)))
+
+  -- "After every accepted message all are tested against the same state, failures go together": none is left that fails when the message generates, and after
+  -- that it does nothing else. `Generating.generate-stands` has that generation keeps it.
+  pub perform-stands : (m : Message) (v : Venue) → Settled number (perform number m v .venue)
+  unfolding perform order complex cancel sweep limitedSweep
+  perform-stands (Order o) v = just _ (settled (enterRegular o (withLast v (o .id))))
+  perform-stands (TwoLeg c) v = then-generates _ _ (one-more _)
+  perform-stands (Cancel id) v = just _ (settled _)
+  perform-stands (Away s bid offer) v = just _ (settle-all (setAway s bid offer v))
+  perform-stands (Status s x) v = just _ (settle-all (setStatus s x v))
+  perform-stands Sweep v = then-generates _ _ (keeps-eachOf (Settled number) (generate number) one-more _)
+  perform-stands (Increment s i e) v = just _ (settle-all (setFigure number s i e v))
+  perform-stands (Percent x e) v = just _ (settle-all (setFigure number percentage x e v))
+  perform-stands (LimitedSweep n) v = then-generates _ _ (keeps-eachOf (Settled number) (generate number) one-more _)

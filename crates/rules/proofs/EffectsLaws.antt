@@ -63,7 +63,7 @@ module _ {P : Venue → Type 0} (lasts : Lasts P) where
   unfolding cross report _⟫_
   cross-from i j k v h = keeps-removeOf _ _ _ (keeps-removeOf _ _ _ (lasts .fillC j k _ h))
 
-  keeps-legIn : (i a b k : ℕ) (v : Venue) → P v → P (legIn i a b k v .venue)
+  pub keeps-legIn : (i a b k : ℕ) (v : Venue) → P v → P (legIn i a b k v .venue)
   unfolding legIn report _⟫_
   keeps-legIn i a b k v h = keeps-pairOff i _ _ k _ (keeps-at-price _ _ _ _ _ _ _ (keeps-at-price _ _ _ _ _ _ v h))
 

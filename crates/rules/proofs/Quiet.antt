@@ -1,34 +1,29 @@
 -- What effects write, upon any venue: what holds of every record but answers, 67, 70 and 72, holds of all that they write but in generation and crossing.
 -- And no effect writes an answer: the only one is the message's own.
-use mathlib.Core.Path.{subst}
-use mathlib.Core.Bool.{_&&_}
-use mathlib.Core.List.{List, [], _∷_}
+use mathlib.Core.List.{List}
 use Prim.Native.Nat.{ℕ, zero, suc}
 use lib.IntN.{ℤ}
 use Rattle.rules.specs.declared.Regular.{Regular}
-use Rattle.rules.specs.declared.Complex.{Complex}
 use Rattle.rules.specs.declared.Legging.{Legging}
 use Rattle.rules.specs.declared.Venue.{Venue}
 use Rattle.rules.specs.declared.Message.{Message}
 use Rattle.rules.specs.declared.Message.the-variants.{Order, TwoLeg, Cancel, Away, Status, Sweep, Increment, Percent, LimitedSweep}
 use Rattle.rules.specs.declared.Cause.{Cause}
 use Rattle.rules.specs.declared.Verdict.{Verdict}
-use Rattle.rules.specs.Base.{held}
-use Rattle.rules.specs.Words.{complexAt}
-use Rattle.rules.specs.Records.{ForAll, Report, answer, trade, pair, generated, removed, crossed, cancelled, looked}
-use Rattle.rules.specs.Effects.{Effect, nothing, report, _⟫_, Turn, ended, turned, repeat}
+use Rattle.rules.specs.Records.{Report, answer, trade, pair, generated, removed, crossed, cancelled, looked}
+use Rattle.rules.specs.Effects.{Effect, nothing, report, _⟫_, Turn, repeat}
 use Rattle.rules.specs.Removal.{remove, removeOf}
-use Rattle.rules.specs.Standing.{verdict, settle, showAgain}
-use Rattle.rules.specs.Trading.{fillRegular, tradeWith, tradeAtPrice, pairOff}
+use Rattle.rules.specs.Standing.{parentOf, verdict, settle, showAgain}
+use Rattle.rules.specs.Trading.{fillRegular, tradeWith}
 use Rattle.rules.specs.Order.{meet, hit, meetTurn, enterRegular, order}
-use Rattle.rules.specs.Generation.{makes, make, generateLeg, generate}
-use Rattle.rules.specs.Complex.{anyClosed, cross, crossTurn, touches, touch, legsIn, legIn, unitsIn, legInTurn, work, complex, sweep}
+use Rattle.rules.specs.Generation.{generate}
+use Rattle.rules.specs.Complex.{touch, legInTurn, work, complex, sweep}
 use Rattle.rules.specs.Complex.{eachOf, limitedSweep, cancelRegular, cancelComplex, restsRegular, cancel}
 use Rattle.rules.specs.Places.{closeGaps}
 use Rattle.rules.specs.Step.{perform, accept}
-use Rattle.rules.proofs.Cases.{crossTurn-by, if-by, meetTurn-by, repeat-by, at-price-by}
-use Rattle.rules.proofs.ByPlace.{ByPlace, none, next, removed-by-place}
-use Rattle.rules.proofs.Widths.{each-append}
+use Rattle.rules.proofs.Cases.{if-by, meetTurn-by}
+pub use Rattle.rules.proofs.Takers.{All}
+use Rattle.rules.proofs.Takers.{Told, Takes, told-eachOf, told-generate, told-legging, told-pair, told-remove, told-repeat, told-take, told-then, told-touch, told-work}
 
 -- Effects -------------------------------------------------------------------------------------
 
@@ -39,9 +34,9 @@ pub record Others (P : Report → Type 0) : Type 0 where
   pub removals : (id s d : ℕ) (c : Cause) → P (removed id s d c)
   pub cancels : (id k : ℕ) → P (cancelled id k)
 
--- P holds of the records of an effect
-abbrev pub All : (P : Report → Type 0) → Effect → Type 0
-All P e = ForAll P (e .reports)
+-- so of each taker's
+takes : {P : Report → Type 0} → Others P → (taker : ℕ) → Takes P taker
+takes others x = record { trades = λ s d p k m. others .trades s d p k x m; pairs = λ n k. others .pairs x n k; removals = others .removals }
 
 module _ (P : Report → Type 0) (others : Others P) where
   pub all-nothing : (v : Venue) → All P (nothing v)
@@ -49,35 +44,19 @@ module _ (P : Report → Type 0) (others : Others P) where
   all-nothing v = tt
 
   pub all-then : (e : Effect) (f : Venue → Effect) → All P e → All P (f (e .venue)) → All P (e ⟫ f)
-  unfolding _⟫_
-  all-then e f h k = each-append P (e .reports) (f (e .venue) .reports) h k
+  all-then = told-then P
 
   all-report : (r : Report) → P r → (v : Venue) → All P (report r v)
   unfolding report
   all-report r h v = (h, tt)
 
   -- Loops
-  abbrev AllTurn : Turn → Type 0
-  AllTurn ended = Unit {0}
-  AllTurn (turned e) = All P e
-
-  all-repeat : (turn : Venue → Turn) → ((v : Venue) → AllTurn (turn v)) → (fuel : ℕ) (v : Venue) → All P (repeat fuel turn v)
-  all-repeat turn ok zero v = unfold repeat in (all-nothing v)
-  all-repeat turn ok (suc fuel) v =
-      repeat-by (All P) fuel turn v (λ _. all-nothing v) (λ e is. all-then e _ (subst AllTurn is (ok v)) (all-repeat turn ok fuel _))
-
   pub all-eachOf : (f : ℕ → Venue → Effect) → ((i : ℕ) (v : Venue) → All P (f i v)) → (places : List ℕ) (v : Venue) → All P (eachOf f places v)
-  unfolding eachOf
-  all-eachOf f ok [] v = all-nothing v
-  all-eachOf f ok (i ∷ places) v = all-then (f i v) _ (ok i v) (all-eachOf f ok places _)
+  all-eachOf f ok places v = told-eachOf P (λ _. Unit {0}) f places (λ i _ w _. (ok i w, tt)) v tt
 
   -- Everything but generation and crossing
-  all-removals : {n : ℕ} {rs : List Report} → ByPlace n rs → ForAll P rs
-  all-removals none = tt
-  all-removals (next m h p c r) = (others .removals _ _ _ c, all-removals r)
-
   pub all-remove : (f : ℕ → Legging → Verdict) (v : Venue) → All P (remove f v)
-  all-remove f v = all-removals (removed-by-place f v)
+  all-remove = told-remove P (others .removals)
 
   pub all-removeOf : (id : ℕ) (c : Cause) (v : Venue) → All P (removeOf id c v)
   unfolding removeOf
@@ -91,46 +70,31 @@ module _ (P : Report → Type 0) (others : Others P) where
   unfolding tradeWith
   all-trade x d i k v = all-report (trade _ d _ k x _) (others .trades _ d _ k x _) (fillRegular i k v)
 
-  all-at-price : (x s d p fuel k : ℕ) (v : Venue) → All P (tradeAtPrice fuel x s d p k v)
-  all-at-price x s d p zero k v = unfold tradeAtPrice in (all-nothing v)
-  all-at-price x s d p (suc fuel) k v =
-      at-price-by (All P) fuel x s d p k v (λ _. all-nothing v) (λ _ _. all-nothing v)
-      (λ _ i o _. all-then _ _ (all-trade x d i _ v) (all-at-price x s d p fuel _ _))
-
-  all-pair : (i id : ℕ) (n : ℤ) (k : ℕ) (v : Venue) → All P (pairOff i id n k v)
-  unfolding pairOff
-  all-pair i id n k v = all-then _ _ (all-report (pair id n k) (others .pairs id n k) _) (all-removeOf id _ _)
-
   all-hit : (i : ℕ) (l : Legging) (k : ℕ) (v : Venue) → All P (hit i l k v)
   unfolding hit
   all-hit i l k v =
-      all-then _ _ (all-then _ _ (all-report (trade _ _ _ k _ _) (others .trades _ _ _ k _ _) _) (all-at-price _ _ _ _ k k _)) (all-pair _ _ _ k _)
+      let by = takes others (parentOf v l .id) in
+      all-then _ _ (all-then _ _ (all-report (trade _ _ _ k _ _) (others .trades _ _ _ k _ _) _) (told-take P _ by _ _ _ k k _)) (told-pair P _ by _ _ k _)
 
   all-meet : (i j k : ℕ) (v : Venue) → All P (meet i j k v)
   unfolding meet
   all-meet i j k v = all-trade _ _ j k _
 
+  abbrev AllTurn : Turn → Type 0
+  AllTurn = Told P (λ _. Unit {0})
+
   all-meetTurn : (i : ℕ) (v : Venue) → AllTurn (meetTurn i v)
-  all-meetTurn i v = meetTurn-by AllTurn i v (λ _. tt) (λ _ _ _. tt) (λ _ _ _. all-hit i _ _ v) (λ _ j m _ _. all-meet i j _ v)
+  all-meetTurn i v = meetTurn-by AllTurn i v (λ _. tt) (λ _ _ _. tt) (λ _ _ _. (all-hit i _ _ v, tt)) (λ _ j m _ _. (all-meet i j _ v, tt))
 
   pub all-order : (o : Regular) (v : Venue) → All P (order o v)
   unfolding order enterRegular
-  all-order o v = all-then _ _ (all-repeat _ (all-meetTurn _) _ _) (all-settle _)
+  all-order o v = all-then _ _ (told-repeat P (λ _. Unit {0}) _ (λ w _. all-meetTurn _ w) _ _ tt) (all-settle _)
 
   pub all-touch : (i : ℕ) (v : Venue) → All P (touch i v)
-  unfolding touch
-  all-touch i v = if-by (All P) (touches v (complexAt v i)) (λ _. all-remove _ v) (λ _. all-nothing v)
-
-  all-legIn : (i a b k : ℕ) (v : Venue) → All P (legIn i a b k v)
-  unfolding legIn
-  all-legIn i a b k v = all-then _ _ (all-then _ _ (all-at-price _ _ _ _ _ _ v) (all-at-price _ _ _ _ _ _ _)) (all-pair i _ _ k _)
-
-  all-legInTurn : (i : ℕ) (v : Venue) → AllTurn (legInTurn i v)
-  unfolding legInTurn
-  all-legInTurn i v = if-by AllTurn (legsIn v (complexAt v i) _ _ && held (unitsIn v (complexAt v i))) (λ _. all-legIn i _ _ _ v) (λ _. tt)
+  all-touch = told-touch P (others .removals)
 
   pub all-legging : (i fuel : ℕ) (v : Venue) → All P (repeat fuel (legInTurn i) v)
-  all-legging i fuel v = all-repeat _ (all-legInTurn i) fuel v
+  all-legging i fuel v = told-legging P i fuel v (takes others _)
 
   pub all-cancel : (id : ℕ) (v : Venue) → All P (cancel id v)
   unfolding cancel cancelRegular cancelComplex
@@ -143,34 +107,13 @@ module _ (P : Report → Type 0) (others : Others P) where
 
   -- Generation
   module _ (made : (id s d p x k : ℕ) → P (generated id s d p x k)) where
-    all-make : (number : ℕ) (c : Complex) (s d : ℕ) (v : Venue) → All P (make number c s d v)
-    unfolding make
-    all-make number c s d v = all-then _ _ (all-remove _ v) (all-report (generated _ _ _ _ _ _) (made _ _ _ _ _ _) _)
-
-    all-leg : (number : ℕ) (c : Complex) (s d : ℕ) (v : Venue) → All P (generateLeg number c s d v)
-    unfolding generateLeg
-    all-leg number c s d v = if-by (All P) (held (c .quantity) && makes number v c s d) (λ _. all-make number c s d v) (λ _. all-nothing v)
-
     pub all-generate : (number i : ℕ) (v : Venue) → All P (generate number i v)
-    unfolding generate
-    all-generate number i v = all-then _ _ (all-leg number _ _ _ v) (all-leg number _ _ _ _)
+    all-generate number i v = told-generate P (others .removals) number i v (made _)
 
   -- Crossing
   module _ (crosses : (x m : ℕ) (n : ℤ) (k : ℕ) → P (crossed x m n k)) where
-    all-cross : (i j k : ℕ) (v : Venue) → All P (cross i j k v)
-    unfolding cross
-    all-cross i j k v =
-        all-then _ _ (all-then _ _ (all-report (crossed _ _ _ k) (crosses _ _ _ k) _) (all-removeOf _ _ _)) (all-removeOf _ _ _)
-
-    all-crossTurn : (i : ℕ) (v : Venue) → AllTurn (crossTurn i v)
-    all-crossTurn i v = crossTurn-by AllTurn i v (λ _. tt) (λ _ _. tt) (λ _ j m _. all-cross i j _ v)
-
     pub all-work : (i : ℕ) (v : Venue) → All P (work i v)
-    unfolding work
-    all-work i v =
-        let n = complexAt v i .quantity in
-        if-by (All P) (anyClosed v (complexAt v i)) (λ _. all-nothing v)
-        (λ _. all-then _ _ (all-then _ _ (all-repeat _ (all-crossTurn i) n v) (all-touch i _)) (all-legging i n _))
+    all-work i v = told-work P i v (record { takes = takes others _; crosses = crosses _ })
 
 -- No answers ----------------------------------------------------------------------------------
 
