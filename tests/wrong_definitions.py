@@ -1,15 +1,21 @@
 #!/usr/bin/env python3
 """Tries wrong definitions, one at a time, and says what refuses each.
 
-    tests/wrong_definitions.py [--seed N] [--count K] [--skip M] [--jobs J] [--log FILE] [FILE ...]
+    tests/wrong_definitions.py [--seed N] [--count K] [--skip M] [--jobs J] [--log FILE] [--list FILE] [FILE ...]
+    tests/wrong_definitions.py --draw --seed N --count K
 
-A list of wrong definitions (tests/wrong_definitions.txt), and then K edits (150) drawn by the seed (1) from all
-places of crates/rules/specs (or of the files named) where an operator, a number, a name or a condition can be
-changed, a conjunct or a step dropped, two steps or two arguments exchanged. Definitions are gone through in an
-order drawn by the seed, one edit of each in a round. With --skip the list and the first M draws are left out, for a
-run in parts. Left out: Trials itself, Opened (a list of names), Lengths (bounds of what is written, for the proofs
-alone), Fields (the widths of fields), and what only states a type. So are edits that tell nothing: the order of a table's rows (`if eqb k 1 .. else
-if eqb k 2 ..`), the arguments of `eqb` exchanged, `leb x 0` for `eqb x 0`.
+The first tries a list of wrong definitions (tests/wrong_definitions.txt, or another), and then K edits (150; 0: the list
+alone) drawn by the seed (1) from all places of crates/rules/specs (or of the files named) where an operator, a number, a
+name or a condition can be changed, a conjunct or a step dropped, two steps or two arguments exchanged. Definitions are
+gone through in an order drawn by the seed, one edit of each in a round. With --skip the list and the first M draws are
+left out, for a run in parts. Left out: Trials itself, Opened (a list of names), Lengths (bounds of what is written, for
+the proofs alone), Fields (the widths of fields), and what only states a type. So are edits that tell nothing: the order
+of a table's rows (`if eqb k 1 .. else if eqb k 2 ..`), the arguments of `eqb` exchanged, `leb x 0` for `eqb x 0`.
+
+The second tries nothing: it prints K entries for the list, drawn in the same way from the definitions of sets, layer,
+replay, feed and short_sessions and from those of the requests (b), (d), (e), (g) and (m) in rules and demands; in replay
+and LimitedSweeps from what is claimed, too. An entry that does not type is told so when it is tried, and is left out of
+the list by hand.
 
 Each edit is tried twice at most:
 
@@ -22,14 +28,15 @@ Each edit is tried twice at most:
    (`file: sets Set` in the list). Where a statement by computation of that crate fails (its Trials or its Witness),
    the edit is refused by its meaning there, too. Else nothing tells a statement that has become false from a proof
    text that does not fit the new form: the list says by hand which statement is false and why, and the crate that has
-   it is checked. Without such a line the edit is told as one that a proof text alone refuses.
+   it is checked. Without such a line the edit is told as one that a proof text alone refuses. An edit of the list that
+   means the same has a line that says why, and is not checked against the proofs.
 
-A run begins with the definitions as they are, which must pass every part and the whole; where they do not, it ends
-there with status 2. A line is printed for each edit; on a terminal a line below them tells how far the run is. The last
-line has the counts. An edit that does not compile is not counted, and another is drawn. Edits that mean the same stand
-in the list with the reason, and are no failure. The status is 1 where an edit survives, or is refused by a proof text
-alone, that is not known to mean the same; where a line of the list fits no definition or does not compile; or where a check ended
-without a verdict. It is 2 for a wrong command line.
+A run begins with the definitions as they are, which must pass every part and the whole, and every crate that is asked;
+where they do not, it ends there with status 2. A line is printed for each edit; on a terminal a line below them tells
+how far the run is. The last line has the counts. An edit that does not compile is not counted, and another is drawn.
+Edits that mean the same stand in the list with the reason, and are no failure. The status is 1 where an edit survives,
+or is refused by a proof text alone, that is not known to mean the same; where a line of the list fits no definition or
+does not compile; or where a check ended without a verdict. It is 2 for a wrong command line.
 """
 import argparse
 import itertools
@@ -50,7 +57,7 @@ FILING = "Filing.antt"  # and the one of the filing's examples
 # a statement by computation that fails, and one that is not computed to its end
 TRIAL = re.compile(r"(?:Trials|Filing)\.antt:\d+:\d+: error: `(?:trials|starred|telling|reserves|units|seasons|traffic|filing)-[\w-]+`: expected type")
 ENDLESS = re.compile(r"(?:Trials|Filing)\.antt:.*steps")
-COMPUTED = re.compile(r"(?:Trials|Filing|Witness|Longer)\.antt:\d+:\d+: error.*(?:expected type|steps)")
+COMPUTED = re.compile(r"(?:specs/(?:Trials|Filing)|proofs/(?:Witness|Longer))\.antt:\d+:\d+: error.*(?:expected type|steps|the two types)")
 TYPES = {"OneByte", "TwoBytes", "FourBytes", "FourSigned", "Fits", "ForAll"}
 SIGNATURE = re.compile(r"\s*(abbrev|unfoldable|pub|use|infix|infixl|data|record|module|--)\b|\s*--")
 # what a name may be mistaken for
@@ -64,7 +71,7 @@ NAMES = {
     "series1": "series2", ".ratio1": ".ratio2", ".ratio2": ".ratio1", "ownSize": "bestSize", "NoUnit": "Touched",
     "Worse": "Unpaired", "Unpaired": "OutOfBand", "OutOfBand": "NotOpen", "NotOpen": "Worse",
     "Executed": "Withdrawn", "Withdrawn": "Executed", "Touched": "Executed", "Replaced": "Touched",
-    "u8": "u16", "u16": "u32", "u32": "u16", "i32": "u32", "u8At": "u16At", "u16At": "u8At", "u32At": "u16At",
+    "≤": "<", "<": "≤", "u8": "u16", "u16": "u32", "u32": "u16", "i32": "u32", "u8At": "u16At", "u16At": "u8At", "u32At": "u16At",
 }
 # a function that may be forgotten: `f x` -> `x`
 FORGOTTEN = {"not", "suc", "opposite", "negℤ", "asSigned", "closeGaps", "natAbs"}
@@ -83,10 +90,27 @@ IMPORTS = {
 }
 # the parts of the trials in the order in which they are tried: those first that cost least for what they refuse
 PARTS = [["starred", "layouts", "edges", "faults", "lefts", "numbers"], ["met", "settled", "made"], ["worked"], ["wrongs"]]
+# what --draw draws from: all definitions of some files, or those named, of the requests (b), (d), (e), (g) and (m); and where claims are drawn, too
+DRAWN = {
+    "sets Set": "", "sets Promises": "", "layer Layer": "", "layer Promises": "", "replay Replay": "", "replay Moments": "", "feed Cursors": "",
+    "feed Feed": "", "feed Sent": "", "feed Turns": "", "short_sessions Sessions": "", "short_sessions Held": "",
+    "demands Ceiling": "", "demands Crosses": "", "demands Dates": "", "demands Reserve": "", "demands LimitedSweeps": "",
+    "rules Settings": "",
+    "rules Complex": "reversed respectsLegs crosses fillsUnit touch legIn unitsIn legInTurn placesOf goingRound examined idReached eachOf limitedSweep",
+    "rules Generation": "generationsOf underCeiling oneMore counted makes make",
+    "rules Order": "isMet shownThenId priceThenId atOnce firstMet meetTurn",
+    "rules Prices": "shown showsAt showsFor sizeIn bestSize ownSize weighed net nearNet inBand",
+    "rules Trading": "lessRegular take", "rules Standing": "showsAgain showAgain settle",
+    "rules Refusals": "isKind twoLegInRange farOf inRange equalRatios complexInRange onIncrement editionTooLow idle inUse noEditionLeft refusalOf",
+    "rules Messages": "lengthOf orderAt twoLegAt messageOf orderFields twoLegFields encodeMessage",
+    "rules Sound": "showsFully regularsSound complexesSound figureInRange editionInRange editionsSound unfallen generationsSound sound follows",
+    "rules Calls": "settings", "rules Step": "setFigure perform", "rules Words": "oneToOne isRatio withEditions withGenerations withReached noEdition noGenerations",
+}
+CLAIMS = {"replay Replay", "replay Moments", "demands LimitedSweeps"}
 WORD = re.compile(r"\s+|--[^\n]*|[()\[\]{}]|;|[^\s()\[\]{};]+")
 OPEN, CLOSE = "([{", ")]}"
 BREAKS = {"&&", "||", "⟫", "∷", "++", "+", "-", "*", "/", "%", "+ℤ", "-ℤ", "*ℤ", "=", ";", "|", "↦", "if", "then", "else",
-          "let", "in", "elim", "record", ":", "→", "<", "×"}
+          "let", "in", "elim", "record", ":", "→", "<", "×", "≡", "≢", "≤", "⊎"}
 LOOSE = {"=", "if", "then", "else", "in", ";", "|", "↦", "⟫"}
 
 
@@ -122,14 +146,31 @@ def clauses(text):
     found = None
     for line in text.split("\n") + [""]:
         indent = len(line) - len(line.lstrip())
-        inside = found and text[found[2]:at].count("{") > text[found[2]:at].count("}")
+        inside = found and sum(text[found[2]:at].count(c) for c in "{[") > sum(text[found[2]:at].count(c) for c in "}]")
         if found and not inside and (not line.strip() or indent <= found[3]):
             yield found[0], found[1], found[2], at - 1
             found = None
         equals = re.search(r" =(?= |$)", line)
-        if not found and equals and not SIGNATURE.match(line) and " : " not in line[:equals.start()]:
+        if not found and indent == 0 and equals and not SIGNATURE.match(line) and " : " not in line[:equals.start()]:
             name = "_⟫_" if " ⟫ " in line[:equals.start()] else line.split()[0]
             found = (name, at, at + equals.end(), indent)
+        at += len(line) + 1
+
+
+def fields(text):
+    """The fields of a file's records and the constructors of its families, as what is claimed: like clauses, the type for the right side."""
+    name, at, found = "", 0, None
+    for line in text.split("\n") + [""]:
+        field = re.match(r"  (?:pub )?(\w+) : ", line)
+        if found and (field or not line.strip() or not line.startswith("    ")):
+            yield found[0], found[1], found[2], at - 1
+            found = None
+        if head := re.match(r"pub (?:record|data) (\w+)", line):
+            name = head.group(1)
+        elif field and name:
+            found = (f"{name}.{field.group(1)}", at, at + field.end())
+        elif not line.strip():
+            name = ""
         at += len(line) + 1
 
 
@@ -299,18 +340,24 @@ def field_edits(text, nodes):
         yield swapped(text, a, b)
 
 
+KINDS = {
+    word_edits: "another word or number", application_edits: "arguments exchanged, or a function forgotten", conjunct_edits: "a condition dropped",
+    step_edits: "a step dropped or exchanged", choice_edits: "a branch dropped or exchanged", field_edits: "two fields exchanged",
+}
+
+
 def edits_of(text, start, end):
-    """All wrong forms of what stands at start to end: the whole text anew, each once."""
+    """All wrong forms of what stands at start to end: what kind of edit, and the whole text anew, each once."""
     seen = {text}
     for nodes in levels(parsed(text, start, end)):
-        for kind in (word_edits, application_edits, conjunct_edits, step_edits, choice_edits, field_edits):
+        for kind, words in KINDS.items():
             for edit in kind(text, nodes):
                 new = text
                 for a, b, put in edit:
                     new = new[:a] + put + new[b:]
                 if new not in seen:
                     seen.add(new)
-                    yield new
+                    yield words, new
 
 
 def one_line(text):
@@ -332,7 +379,7 @@ class Wrong:
 
     def __init__(self, place, why):
         self.crate, self.file = place.split() if " " in place else ("rules", place)
-        self.why, self.olds, self.news, self.false = why, [], [], ""
+        self.why, self.olds, self.news, self.false, self.same = why, [], [], "", ""
 
     def edited(self, text):
         """The file's text with the edit; None where a line of it fits nothing, or several places."""
@@ -359,6 +406,8 @@ def listed(path):
             fixed[-1].news.append(line[5:].replace("\\n", "\n"))
         elif line.startswith("false: "):
             fixed[-1].false = line[7:]
+        elif line.startswith("equal: "):
+            fixed[-1].same = line[7:]
         elif line.startswith("same: "):
             same[line[6:]] = why
     return fixed, same
@@ -378,6 +427,7 @@ def with_imports(text):
     lines = text.split("\n")
     for i, line in enumerate(lines):
         for start, names in IMPORTS.items():
+            start = start.replace("·specs.specs.", ".specs.") if "Rattle.rules.specs." in line else start
             if line.startswith(start):
                 has = line[len(start):-1].split(", ")
                 lines[i] = start + ", ".join(has + [n for n in names if n not in has]) + "}"
@@ -463,30 +513,30 @@ class Copy:
 
 
 class Proofs:
-    """A copy of all crates, in which an edit that no trial of the rules refuses is held against the proofs; made when it is first asked for."""
+    """A copy of all crates, with what is proved of them already, in which an edit that no trial of the rules refuses is held against the proofs."""
 
     def __init__(self, root, place):
         self.root, self.tree, self.lock = root, place, threading.Lock()
-        self.proved = set()  # the crates that are proved as they are
+        shutil.copytree(f"{root}/crates", f"{place}/crates", ignore=shutil.ignore_patterns("must-fail"))
+        shutil.copy(f"{root}/crates.txt", f"{place}/crates.txt")
+        for part in ("stamp", "rlib"):
+            if os.path.isdir(f"{root}/target/{part}"):
+                shutil.copytree(f"{root}/target/{part}", f"{place}/target/{part}")
+
+    def unedited(self, crates):
+        """Why these crates do not pass as they are; nothing where they do."""
+        passed, errors, said = said_by(["rt", "check"] + crates, self.tree, "rt: ok")
+        return "" if passed else (errors + [said])[0]
 
     def tried(self, wrong, name, new):
-        """survives, refused, false, text or NO VERDICT, and why, of an edit of a file of specs/: `wrong` of the list, or None."""
+        """survives, refused, false, text, compiles-not or NO VERDICT, and why, of an edit of a file of specs/: `wrong` of the list, or None."""
         crate = wrong.crate if wrong else "rules"
         false = wrong.false if wrong else ""
         with self.lock:
-            if not os.path.exists(self.tree):
-                shutil.copytree(f"{self.root}/crates", f"{self.tree}/crates", ignore=shutil.ignore_patterns("must-fail"))
-                shutil.copy(f"{self.root}/crates.txt", f"{self.tree}/crates.txt")
-            asked = list(dict.fromkeys([crate] + false.split()[:1]))
-            if not self.proved.issuperset(asked):
-                what, why = self.checked(asked, "")
-                if what != "survives":
-                    return "NO VERDICT", f"{', '.join(asked)} as they are: {why}"
-                self.proved.update(asked)
             path = f"{self.tree}/crates/{crate}/specs/{name}.antt"
             old = read(path)
             write(path, new)
-            found = self.checked(asked, false)
+            found = self.checked(list(dict.fromkeys([crate] + false.split()[:1])), false)
             write(path, old)
             return found
 
@@ -496,31 +546,64 @@ class Proofs:
             return "survives", ""
         if not errors:
             return "NO VERDICT", said
-        if COMPUTED.search(errors[0]):
-            return "refused", errors[0]
+        if computed := [e for e in errors if COMPUTED.search(e)]:
+            return "refused", computed[0]
+        if untyped := [e for e in errors if e.startswith("specs/")]:
+            return "compiles-not", untyped[0]
         return ("false", f"{false}: {errors[0]}") if false else ("text", errors[0])
 
 
+def in_rounds(by_definition, seed):
+    """Edits as (file, definition, edit), definitions in an order by the seed, one edit of each in a round."""
+    order = sorted(by_definition)
+    chance = random.Random(seed)
+    chance.shuffle(order)
+    for place in order:
+        chance.shuffle(by_definition[place])
+    for turn in range(max(len(edits) for edits in by_definition.values())):
+        for place in order:
+            if turn < len(by_definition[place]):
+                yield place[0], place[1], by_definition[place][turn]
+
+
 def drawn(files, seed, wanted):
-    """Edits as (file, definition, new text), definitions in an order by the seed, one edit of each in a round."""
+    """Edits of the files of rules as (file, definition, new text)."""
     by_definition = {}
     for name, text in files.items():
         if name in LEFT_OUT or (wanted and name not in wanted):
             continue
         for definition, _, start, end in clauses(text):
             if definition not in TYPES:
-                by_definition.setdefault((name, definition), []).extend(edits_of(text, start, end))
-    order = sorted(by_definition)
-    chance = random.Random(seed)
-    chance.shuffle(order)
-    for place in order:
-        chance.shuffle(by_definition[place])
-    turn = 0
-    while any(turn < len(by_definition[place]) for place in order):
-        for place in order:
-            if turn < len(by_definition[place]):
-                yield place[0], place[1], by_definition[place][turn]
-        turn += 1
+                by_definition.setdefault((name, definition), []).extend(new for _, new in edits_of(text, start, end))
+    return in_rounds(by_definition, seed)
+
+
+def is_claim(text, name):
+    return bool(re.search(rf"(?m)^(?:\w+ )?pub {re.escape(name)} .*Type 0$", text))
+
+
+def entries(root, seed, count):
+    """So many entries for the list, drawn from DRAWN."""
+    by_definition, texts = {}, {}
+    for place, names in DRAWN.items():
+        crate, file = place.split()
+        text = texts[place] = with_imports(read(f"{root}/crates/{crate}/specs/{file}.antt"))
+        for definition, _, start, end in itertools.chain(clauses(text), fields(text) if place in CLAIMS else []):
+            if (not names or definition in names.split()) and (place in CLAIMS or not is_claim(text, definition)):
+                by_definition.setdefault((place, definition), []).extend(edits_of(text, start, end))
+    for number, (place, definition, (words, new)) in enumerate(itertools.islice(in_rounds(by_definition, seed), count), 1):
+        old, new = differing(texts[place], new)
+        yield f"# drawn {number}: {definition}: {words}\nfile: {place.removeprefix('rules ')}\nold: {old}\nnew: {new}"
+
+
+def differing(old, new):
+    """The lines that differ, as `old` and `new` of the list, with as many lines before them as make them fit one place."""
+    a, b = old.split("\n"), new.split("\n")
+    first = next(i for i, (x, y) in enumerate(zip(a, b)) if x != y)
+    last = next(i for i, (x, y) in enumerate(zip(a[::-1], b[::-1])) if x != y)
+    while old.count("\n".join(a[first:len(a) - last])) > 1:
+        first -= 1
+    return "\\n".join(a[first:len(a) - last]), "\\n".join(b[first:len(b) - last])
 
 
 OUTCOMES = {
@@ -586,7 +669,7 @@ class Run:
         specs = f"{root}/crates/rules/specs"
         self.root, self.folder = root, folder
         self.files = {n[:-5]: with_imports(read(f"{specs}/{n}")) for n in sorted(os.listdir(specs))}
-        fixed, same = listed(f"{root}/tests/wrong_definitions.txt")
+        fixed, same = listed(given.list)
         self.wanted = [w for w in fixed if given.skip == 0 and (not given.files or w.file in given.files)]
         self.tally = Tally(given.count, given.log, same)
         self.tally.total += len(self.wanted)
@@ -601,18 +684,22 @@ class Run:
         return [n for n in names if n not in self.files and not any(n == w.file for w in self.wanted)]
 
     def unedited(self):
-        """Why the definitions as they are do not pass the trials; nothing where they do."""
+        """Why the definitions as they are do not pass the trials and the proofs; nothing where they do."""
         self.tally.progress("the definitions as they are ...")
-        what, why = Copy(self.root, f"{self.folder}/unedited", self.files).tried("Base.antt", self.files["Base"], self.files["Base"])
+        what, why = "survives", ""
+        if self.tally.left or any(w.crate == "rules" for w in self.wanted):
+            what, why = Copy(self.root, f"{self.folder}/unedited", self.files).tried("Base.antt", self.files["Base"], self.files["Base"])
+        if what == "survives":
+            why = self.proofs.unedited(sorted({c for w in self.wanted for c in [w.crate] + w.false.split()[:1]} | {"rules"}))
         self.tally.progress("")
-        return "" if what == "survives" else f"{what}: {why}"
+        return why if what == "survives" else f"{what}: {why}"
 
     def text_of(self, wrong):
         """The file that an edit of the list is of; nothing where there is no such file."""
         if wrong.crate == "rules":
             return self.files.get(wrong.file, "")
         path = f"{self.root}/crates/{wrong.crate}/specs/{wrong.file}.antt"
-        return read(path) if os.path.exists(path) else ""
+        return with_imports(read(path)) if os.path.exists(path) else ""
 
     def next_edit(self):
         """A wrong definition of the list, or one drawn: the file, what the line says, the new text and the one of the list; None at the end."""
@@ -634,8 +721,9 @@ class Run:
         what, why = "survives", ""
         if wrong is None or wrong.crate == "rules":
             what, why = copy.tried(f"{name}.antt", new, self.files[name])
-        if what == "survives" and line in self.tally.same:
-            return "means the same", self.tally.same[line]
+        same = wrong.same if wrong else self.tally.same.get(line, "")
+        if what == "survives" and same:
+            return "means the same", same
         if what == "survives":
             what, why = self.proofs.tried(wrong, name, new)
         return what, why
@@ -652,7 +740,10 @@ class Run:
 
 
 def main():
+    root = os.path.dirname(os.path.dirname(os.path.abspath(__file__)))
     arguments = argparse.ArgumentParser(description=__doc__, formatter_class=argparse.RawDescriptionHelpFormatter)
+    arguments.add_argument("--draw", action="store_true", help="print K entries for the list, and try nothing")
+    arguments.add_argument("--list", default=f"{root}/tests/wrong_definitions.txt", help="a list in another file")
     arguments.add_argument("--seed", type=int, default=1)
     arguments.add_argument("--count", type=int, default=150)
     arguments.add_argument("--skip", type=int, default=0)
@@ -660,7 +751,9 @@ def main():
     arguments.add_argument("--log", default="")
     arguments.add_argument("files", nargs="*", help="names of files of specs/, as Complex")
     given = arguments.parse_args()
-    root = os.path.dirname(os.path.dirname(os.path.abspath(__file__)))
+    if given.draw:
+        print("\n".join(entries(root, given.seed, given.count)))
+        return 0
     folder = tempfile.mkdtemp(prefix="wrong-definitions-")
     try:
         run = Run(given, root, folder)

@@ -1,14 +1,17 @@
 #!/usr/bin/env python3
 """Tries wrong edits of the code, one at a time, and says which of them the prover refuses.
 
-    tests/wrong_edits.py [--seed N] [--each K] [--log FILE] [CRATE ...]
+    tests/wrong_edits.py [--seed N] [--count K] [--log FILE] [CRATE ...]
 
-For each crate (all of crates.txt where none is named) K edits (4) are drawn by the seed (1) from all places of
-src/lib.rt where an operator, a number, a pair of arguments, a returned truth value or a whole statement can be
-changed. Each is made in a copy of the repository, and `rt check CRATE` must refuse it. An edit that does not
-compile is not counted, and another is drawn. Contracts and proofs are never edited.
-A line is printed for each edit; the last line has the counts. The status is 1 where an edit was not refused, or where
-the check ended without a verdict.
+K edits (200) are drawn by the seed (1), as evenly as can be over the crates with code (all of crates.txt where none is
+named), from all places of its source where a comparison can be turned, the operands of an operator exchanged, an
+operator, a number or an index changed, two arguments exchanged, a returned truth value turned, or a statement or a
+whole `if` dropped. Each is made in a copy of the repository. `rt dev CRATE` tries it over what is proved already; where
+that does not refuse it, `rt check CRATE` decides. An edit that does not compile is not counted, and another is drawn.
+Contracts and proofs are never edited. An edit that means the same stands in tests/wrong_edits.txt with the reason, and
+is no failure.
+A line is printed for each edit; the last line has the counts. The status is 1 where an edit that is not known to mean
+the same was not refused, or where the check ended without a verdict; 2 for a wrong command line.
 """
 import argparse
 import os
@@ -19,9 +22,10 @@ import subprocess
 import sys
 import tempfile
 
-OPERATORS = [(" < ", " <= "), (" <= ", " < "), (" == ", " != "), (" != ", " == "),
+OPERATORS = [(" < ", " <= "), (" <= ", " < "), (" == ", " != "), (" != ", " == "), (" < ", " > "),
              (" + ", " - "), (" - ", " + "), (" += ", " -= "), (" * ", " + ")]
 TRUTH = [("return true;", "return false;"), ("return false;", "return true;")]
+OPERANDS = re.compile(r"([\w.]+)( < | <= | - | / | % )([\w.]+)(?![\w.(\[:])")
 
 
 def code_lines(text):
@@ -43,8 +47,12 @@ def edits_of(line):
         while (at := line.find(old, start)) >= 0:
             yield line[:at] + new + line[at + len(old):]
             start = at + 1
-    for number in re.finditer(r"(?<![\w.\[])\d+(?![\w.])", line):
+    for found in OPERANDS.finditer(line):
+        yield line[:found.start()] + found[3] + found[2] + found[1] + line[found.end():]
+    for number in re.finditer(r"(?<![\w.])\d+(?![\w.])", line):
         yield line[:number.start()] + str(int(number.group()) + 1) + line[number.end():]
+    for index in re.finditer(r"(?<=\[)[a-z_]\w*(?=\])", line):
+        yield line[:index.end()] + " + 1" + line[index.end():]
     for pair in re.finditer(r"\(([\w.]+), ([\w.]+)\)|, ([\w.]+), ([\w.]+)(?=[,)])", line):
         first, second = [g for g in pair.groups() if g]
         if first != second:
@@ -56,62 +64,112 @@ def edits_of(line):
         yield ""
 
 
-def candidates(path):
-    text = open(path, encoding="utf-8").read().split("\n")
-    return text, [(n, new) for n in code_lines(text) for new in edits_of(text[n])]
+def branch_end(text, number):
+    """The last line of the `if` without `else` that begins on this line; None where none does."""
+    line = text[number]
+    if not (line.strip().startswith("if ") and line.endswith("{")):
+        return None
+    close = line[:len(line) - len(line.lstrip())] + "}"
+    return next((n for n in range(number, len(text)) if text[n] == close), None)
+
+
+def candidates(text):
+    """Edits as (first line, line after the last, the lines instead)."""
+    for n in code_lines(text):
+        yield from ((n, n + 1, [new] if new else []) for new in edits_of(text[n]))
+        if last := branch_end(text, n):
+            yield n, last + 1, []
+
+
+def source_of(root, crate):
+    """The file of a crate's code: a library's or a program's."""
+    return next(p for p in (f"{root}/crates/{crate}/src/lib.rt", f"{root}/crates/{crate}/src/main.rt") if os.path.exists(p))
+
+
+def read(path):
+    with open(path, encoding="utf-8") as file:
+        return file.read()
+
+
+def said_by(root, command):
+    done = subprocess.run(command, cwd=root, capture_output=True, text=True, check=False)
+    return done.returncode, (done.stdout + done.stderr).split("\n")
 
 
 def verdict(root, crate):
     """refused, compiles-not, NOT REFUSED or NO VERDICT, with the line that says why."""
-    done = subprocess.run(["rt", "check", crate], cwd=root, capture_output=True, text=True, check=False)
-    said = (done.stdout + done.stderr).split("\n")
-    if done.returncode == 0:
+    status, said = said_by(root, ["rt", "dev", crate])
+    if status == 0:
+        status, said = said_by(root, ["rt", "check", crate])
+    if status == 0:
         return "NOT REFUSED", ""
-    if done.returncode != 1:
-        return "NO VERDICT", said[-2] if len(said) > 1 else ""
     for line in said:
         if re.search(r"\.rt:\d+:\d+: error\[", line) and "not proved" not in line:
             return "compiles-not", line
     why = [line for line in said if "error" in line or "NOT PROVED" in line]
-    return ("refused", why[0]) if why else ("NO VERDICT", "")
+    return ("refused", why[0]) if status == 1 and why else ("NO VERDICT", " ".join(said)[-200:])
+
+
+def known(path):
+    """The edits that mean the same: their lines, with the reason."""
+    same, why = {}, ""
+    for line in read(path).split("\n"):
+        if line.startswith("# "):
+            why = line[2:]
+        elif line.startswith("same: "):
+            same[line[6:]] = why
+    return same
+
+
+def one_line(lines):
+    return " ".join(" ".join(lines).split())
+
+
+def tried(tree, crate, seed, count, same):
+    """The outcomes of so many edits of one crate, as (what, line); those that do not compile come in addition."""
+    path = source_of(tree, crate)
+    text = read(path).split("\n")
+    edits = list(candidates(text))
+    random.Random(f"{seed} {crate}").shuffle(edits)
+    for first, end, new in edits:
+        if count == 0:
+            break
+        open(path, "w", encoding="utf-8").write("\n".join(text[:first] + new + text[end:]))
+        what, why = verdict(tree, crate)
+        line = f"{crate}: `{one_line(text[first:end])}` -> `{one_line(new)}`"
+        if what == "NOT REFUSED" and line in same:
+            what, why = "means the same", same[line]
+        count -= what != "compiles-not"
+        yield what, f"{line} at line {first + 1} | {why[:160]}"
+    open(path, "w", encoding="utf-8").write("\n".join(text))
 
 
 def main():
     arguments = argparse.ArgumentParser(description=__doc__, formatter_class=argparse.RawDescriptionHelpFormatter)
     arguments.add_argument("--seed", type=int, default=1)
-    arguments.add_argument("--each", type=int, default=4)
+    arguments.add_argument("--count", type=int, default=200)
     arguments.add_argument("--log", default="")
     arguments.add_argument("crates", nargs="*")
     given = arguments.parse_args()
     root = os.path.dirname(os.path.dirname(os.path.abspath(__file__)))
-    named = given.crates or [l.split(":")[0] for l in open(f"{root}/crates.txt", encoding="utf-8") if ":" in l]
-    copy = tempfile.mkdtemp(prefix="wrong-edits-")
-    tree = f"{copy}/tree"
-    shutil.copytree(root, tree, ignore=shutil.ignore_patterns(".git", "host"))
-    counts = {"refused": 0, "compiles-not": 0, "NOT REFUSED": 0, "NO VERDICT": 0}
-    for crate in named:
-        path = f"{tree}/crates/{crate}/src/lib.rt"
-        if not os.path.exists(path):
-            continue
-        text, all_edits = candidates(path)
-        random.Random(f"{given.seed} {crate}").shuffle(all_edits)
-        left = given.each
-        for number, new in all_edits:
-            if left == 0:
-                break
-            changed = text[:number] + [new] + text[number + 1:]
-            open(path, "w", encoding="utf-8").write("\n".join(changed))
-            what, why = verdict(tree, crate)
-            counts[what] += 1
-            left -= what != "compiles-not"
-            line = f"{what}: {crate}/src/lib.rt:{number + 1}: `{text[number].strip()}` -> `{new.strip()}` | {why[:160]}"
-            print(line, flush=True)
-            if given.log:
-                print(line, file=open(given.log, "a", encoding="utf-8"))
-        open(path, "w", encoding="utf-8").write("\n".join(text))
-    shutil.rmtree(copy)
-    print(f"{counts['refused']} refused, {counts['NOT REFUSED']} not refused, {counts['NO VERDICT']} without a verdict, "
-          f"{counts['compiles-not']} that do not compile")
+    listed = re.findall(r"(?m)^(\w+):", read(f"{root}/crates.txt"))
+    if unknown := [c for c in given.crates if c not in listed]:
+        arguments.error(f"{', '.join(unknown)}: not in crates.txt")
+    with_code = [c for c in given.crates or listed if any(candidates(read(source_of(root, c)).split("\n")))]
+    same = known(f"{root}/tests/wrong_edits.txt")
+    counts = {"refused": 0, "means the same": 0, "NOT REFUSED": 0, "NO VERDICT": 0, "compiles-not": 0}
+    with tempfile.TemporaryDirectory(prefix="wrong-edits-") as copy:
+        tree = f"{copy}/tree"
+        shutil.copytree(root, tree, ignore=shutil.ignore_patterns(".git", "host", "must-fail"))
+        for number, crate in enumerate(with_code):
+            share = given.count * (number + 1) // len(with_code) - given.count * number // len(with_code)
+            for what, line in tried(tree, crate, given.seed, share, same):
+                counts[what] += 1
+                print(f"{what}: {line}", flush=True)
+                if given.log:
+                    print(f"{what}: {line}", file=open(given.log, "a", encoding="utf-8"))
+    print(f"{counts['refused']} refused, {counts['means the same']} that mean the same, {counts['NOT REFUSED']} not refused, "
+          f"{counts['NO VERDICT']} without a verdict, {counts['compiles-not']} that do not compile")
     return 1 if counts["NOT REFUSED"] + counts["NO VERDICT"] else 0
 
 

@@ -37,7 +37,7 @@ use Rattle.rules.specs.Refusals.{full, idTooLow, refusal}
 use Rattle.rules.specs.Step.{accept, answered, perform, step}
 use Rattle.rules.specs.Sums.{openIn, total}
 use Rattle.demands.specs.Soundness.{SoundVenue}
-use Rattle.demands.specs.Reserve.{ShownOnly, arriving, takenFrom}
+use Rattle.demands.specs.Reserve.{OthersBringNone, ShownOnly, arriving, takenFrom}
 use Rattle.rules.proofs.Adding.{leavers-silent, open-alone, open-less, open-set, total-append}
 use Rattle.rules.proofs.Cases.{crossTurn-by, if-by, meetTurn-by, repeat-by}
 use Rattle.rules.proofs.Again.{again-fewer}
@@ -393,3 +393,15 @@ shown-only v s number bs i h = go (eqb (refusal v bs) 0) refl
         0 + took (arriving (messageOf bs)) (reg v i .id) ((if b then accept number (messageOf bs) v else nothing v) .reports) ≤ shownSize (reg v i)
     go true e = let a = most v s i h number (messageOf bs) (accepted v bs (eqb-true (refusal v bs) 0 e)) in omega arith
     go false e = omega arith
+
+pub others-bring-none : OthersBringNone
+unfolding arriving
+others-bring-none (Order o) h = absurd (h o refl)
+others-bring-none (TwoLeg c) h = refl
+others-bring-none (Cancel id) h = refl
+others-bring-none (Away s bid offer) h = refl
+others-bring-none (Status s x) h = refl
+others-bring-none Sweep h = refl
+others-bring-none (Increment s i e) h = refl
+others-bring-none (Percent x e) h = refl
+others-bring-none (LimitedSweep n) h = refl

@@ -3,6 +3,7 @@
 use mathlib.Core.Path.{_≡_}
 use mathlib.Core.Bool.{not, true, _&&_}
 use mathlib.Core.List.{List, [], _++_, _∷_}
+use mathlib.Core.Logic.{_≢_}
 use Prim.Native.Nat.{_≤_, suc, ℕ}
 use lib.Dec.{eqb}
 use Rattle.rules.specs.declared.Message.{Message}
@@ -116,6 +117,10 @@ arriving Sweep = 0
 arriving (Increment s i e) = 0
 arriving (Percent x e) = 0
 arriving (LimitedSweep n) = 0
+
+-- no message but one that brings a regular order has one that arrives
+abbrev pub OthersBringNone : Type 0
+OthersBringNone = (m : Message) → ((o : Regular) → m ≢ Order o) → arriving m ≡ 0
 
 -- the contracts of a trade with a maker, whose taker is not the order x: only the regular order that arrives takes, and complex orders
 unfoldable pub takenFrom : (x maker : ℕ) → Report → ℕ

@@ -1,5 +1,6 @@
 -- Document 02, (k), at work: lines of one list with losses, then each way in which 19, 20 and 21 come, and a 10 beside them.
 use mathlib.Core.Path.{_≡_, refl}
+use mathlib.Core.Bool.{true, false}
 use mathlib.Core.List.{List, [], _∷_, _++_, map}
 use Prim.Native.Nat.{ℕ}
 use lib.ListN.{take}
@@ -11,6 +12,7 @@ use Rattle.rules.specs.Records.{Report, answer}
 use Rattle.rules.specs.Calls.{Call, called}
 use Rattle.rules.specs.Opened.{opened-rules}
 use Rattle.feed.specs.Feed.{numberOf, messageIn, behind, faulty, faultlessFrom, faultless, partsFrom, partsOf, under, later, same, nextBy, next, stopped, first, handedFrom, handed, joined, numbered, feed}
+use Rattle.feed.specs.Sent.{Sent, lineFrom, mainLine, spareLine}
 
 -- a main and a spare line, and a report memory of a length: the call's number, the messages done, and their records. The messages leave the venue fresh.
 pub record Trial : Type 0 where
@@ -127,6 +129,19 @@ full =
     ∷ tight 0 (at 0 sweeps) [] 21 0 []
     ∷ tight 0 [] [] 0 0 []
     ∷ []
+
+-- The lines of a list sent: the first message came over the main line, the second over the spare one, the third over both, and the fourth over none.
+sent : List Sent
+sent =
+    record { message = sweeps; onMain = true; onSpare = false }
+    ∷ record { message = cancels 9; onMain = false; onSpare = true }
+    ∷ record { message = sweeps; onMain = true; onSpare = true }
+    ∷ record { message = cancels 8; onMain = false; onSpare = false }
+    ∷ []
+
+lines-hold : mainLine sent ∷ spareLine sent ∷ [] ≡ (at 1 sweeps ++ at 3 sweeps) ∷ (at 2 (cancels 9) ++ at 3 sweeps) ∷ []
+unfolding opened-rules lineFrom sweeps cancels at sent
+lines-hold = refl
 
 pub trials : List Trial
 trials = lossy ++ stops ++ faulted ++ full

@@ -14,7 +14,7 @@ use Rattle.rules.specs.declared.Generations.{Generations}
 use Rattle.rules.specs.declared.Venue.{Venue}
 use Rattle.rules.specs.Words.{freshVenue, newlyListed, noLegging}
 use Rattle.rules.specs.Opened.{opened-rules}
-use Rattle.sets.specs.Set.{ReadSet, WrittenSet, joined, notRead, notWritten, readSet, writeSet}
+use Rattle.sets.specs.Set.{ReadSet, WrittenSet, joined, readSet, writeSet}
 use Rattle.sets.specs.Opened.{opened-sets}
 
 -- What is tried -------------------------------------------------------------------------------
@@ -43,9 +43,9 @@ pub expected : Trial → Outcome
 expected (writes n v room set) =
     let bytes = joined set in
     written (record { number = 0; written = length bytes; memory = bytes ++ replicate (room - length bytes) 0 })
-expected (keeps n v room answer) = written (notWritten answer room)
+expected (keeps n v room answer) = written (record { number = answer; written = 0; memory = replicate room 0 })
 expected (reads memory v n) = told (record { number = 0; venue = v; message = n })
-expected (answers memory number) = told (notRead number)
+expected (answers memory number) = told (record { number = number; venue = freshVenue; message = 0 })
 
 -- A venue with one of everything ----------------------------------------------------------------
 

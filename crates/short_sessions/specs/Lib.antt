@@ -2,3 +2,4 @@
 pub mod Sessions
 pub mod Values
 pub mod Held
+pub mod Trials
