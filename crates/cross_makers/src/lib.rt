@@ -173,18 +173,18 @@ fn is_either(key: usize, one: usize, two: usize) -> bool
     key == two
 }
 
-// The resting order that c crosses with first. Of the others only those whose legs have the key are read.
+// The resting order that c crosses with first. Of the others only those whose legs and ratios have the key are read.
 pub fn first_cross(numbers: &[u32], c: Complex) -> Maker
     requires { ⌜ (length (now numbers) ≡ size) × (Right (now numbers)) × (LegsIn c) ⌝ }
     ensures { λ r. ⌜ pickedOf r ≡ first (crosses (venueOf (now (numbers .entry))) c) limitThenId (venueOf (now (numbers .entry)) .complex) ⌝ }
 {
-    let straight = places::facing_key(c.series1, c.side1, c.series2, c.side2);
-    let turned = places::facing_key(c.series2, c.side2, c.series1, c.side1);
+    let straight = places::facing_key(c.series1, c.side1, c.ratio1, c.series2, c.side2, c.ratio2);
+    let turned = places::facing_key(c.series2, c.side2, c.ratio2, c.series1, c.side1, c.ratio1);
     let mut best = Maker::Nobody;
     let mut i = places::complexes_used(numbers);
     while 0 < i {
         i -= 1;
-        if !is_either(places::legs_at(numbers, i), straight, turned) {
+        if !is_either(places::cross_key_at(numbers, i), straight, turned) {
             continue;
         }
         let m = places::complex_at(numbers, i);

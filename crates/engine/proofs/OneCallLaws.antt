@@ -20,8 +20,8 @@ use Rattle.places.proofs.Generations.{generations-twenty}
 use Rattle.places.proofs.Parts.{regulars-few, complexes-few}
 use Rattle.places.proofs.Tables.{upto-length, used-length}
 use Rattle.demands.specs.Soundness.{Shaped, SoundVenue}
-use Rattle.messages.specs.declared.Stepped.{Stepped}
-use Rattle.messages.specs.Steps.{Steps}
+use Rattle.answers.specs.declared.Stepped.{Stepped}
+use Rattle.answers.specs.Steps.{Steps}
 use Rattle.engine.specs.Runs.{callOf}
 
 -- numbers stand for a venue of the declared type

@@ -16,8 +16,8 @@ use Rattle.rules.proofs.CallsLaws.{encode-append}
 use Rattle.rules.proofs.Tests.{if-same}
 use Rattle.records.proofs.SeenLaws.{wrote, overflowed, pasted-to, part-all, tail-front, tail-more}
 use Rattle.places.specs.Layout.{size, venueOf}
-use Rattle.messages.specs.declared.Stepped.{Stepped}
-use Rattle.messages.specs.Steps.{Tries}
+use Rattle.answers.specs.declared.Stepped.{Stepped}
+use Rattle.messages.specs.Tries.{Tries}
 use Rattle.engine.specs.Runs.{onto, goesOn, Turned, callOf}
 
 -- An outcome after messages and their records -------------------------------------------------

@@ -24,8 +24,8 @@ use Rattle.reader.specs.declared.Head.{Head}
 use Rattle.reader.specs.Head.{headAt, headNumber, headLength}
 use Rattle.reader.proofs.Heads.{head-torn, head-message, torn-refused, whole-refused}
 use Rattle.places.specs.Layout.{size, venueOf, Dense, Loaded}
-use Rattle.messages.specs.declared.Stepped.{Stepped}
-use Rattle.messages.specs.Steps.{Tries}
+use Rattle.answers.specs.declared.Stepped.{Stepped}
+use Rattle.messages.specs.Tries.{Tries}
 use Rattle.engine.specs.declared.RunProgress.{RunProgress}
 use Rattle.engine.specs.Runs.{goesOn, Advances, callOf}
 use Rattle.engine.proofs.Proceeding.{goes-on, goes-not, turn-ends, too-long, venue-kept, front-kept, length-is, venue-is, turn-does, Sofar}

@@ -19,8 +19,8 @@ use Rattle.rules.proofs.Tests.{and-l, and-r, and-false}
 use Rattle.demands.specs.Soundness.{SoundAt}
 use Rattle.demands.proofs.Calls.{stays-sound, fresh-sound}
 use Rattle.places.specs.Layout.{size, venueOf, Dense, Loaded}
-use Rattle.messages.specs.declared.Stepped.{Stepped}
-use Rattle.messages.specs.Steps.{Tries}
+use Rattle.answers.specs.declared.Stepped.{Stepped}
+use Rattle.messages.specs.Tries.{Tries}
 use Rattle.feed.specs.Feed.{Part, partsOf, faultless, next, message, stop, feed}
 use Rattle.feed.specs.Cursors.{ready, stopOf, partOf, upNext, advanceOf}
 use Rattle.feed.specs.Turns.{hands, fedFrom}

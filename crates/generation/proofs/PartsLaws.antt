@@ -1,6 +1,6 @@
 -- Laws of generation, as the code makes it.
 use mathlib.Core.Path.{_≡_, refl, sym, ap, ap₂, _∙_}
-use mathlib.Core.Bool.{Bool, true, false, not, _&&_, _||_, true≢false, false≢true}
+use mathlib.Core.Bool.{Bool, true, false, not, _&&_, true≢false, false≢true}
 use mathlib.Core.List.{List, [], _∷_}
 use Prim.Native.Nat.{ℕ, _+_, _*_, _/_, _-_, _≤_, _<_, min}
 use native.Mathlib.Omega.{arith}
@@ -40,7 +40,6 @@ use Rattle.places.proofs.Parts.{complex-at, complex-past, legging-at}
 use Rattle.places.specs.declared.Level.{Level}
 use Rattle.levels.specs.Grid.{GridOf, LegsIn}
 use Rattle.prices.proofs.Prices.{legs-in}
-use Rattle.removal.proofs.RemovalLaws.{remove-same}
 use Rattle.generation.specs.Parts.{rangedPrice, pricedLeg, mayGenerate, priceMayStand, mayStand, plannedLeg, madeBy}
 
 -- Signed numbers of 64 bits -------------------------------------------------------------------
@@ -353,17 +352,8 @@ grid-kept g os ps e h = λ s d hs hd. h s d hs hd ∙ ap (levelOf s d) (sym e)
 
 -- The making ----------------------------------------------------------------------------------
 
-same-place : (n k : ℕ) (v : Venue) → n ≡ k → remove (λ m _. failIf (eqb m n || eqb m n) Replaced) v ≡ remove (λ m _. failIf (eqb m k) Replaced) v
-same-place n k v e =
-    remove-same (λ m _. failIf (eqb m n || eqb m n) Replaced) (λ m _. failIf (eqb m k) Replaced) v
-    (λ m q. ap (λ (t : Bool). failIf t Replaced) (one (eqb m n) ∙ ap (eqb m) e))
-  where
-    one : (t : Bool) → (t || t) ≡ t
-    one true = refl
-    one false = refl
-
 pub made-law : (number id s d n displayed : ℕ) (l : Legging) (v v₁ v₂ v₃ : Venue) (o₀ o₁ o₂ : List ℕ) (at mid r : ℕ) → n ≡ placeOf s d → displayed ≡ displayedPrice (increment v s) d (l .price) →
-    stage v₁ o₁ mid ≡ seen o₀ at does remove (λ m _. failIf (eqb m n || eqb m n) Replaced) v →
+    stage v₁ o₁ mid ≡ seen o₀ at does remove (λ m _. failIf (eqb m n) Replaced) v →
     v₂ ≡ placed n l v₁ → v₃ ≡ counted number s v₂ →
     seen o₂ r ≡ seen o₁ mid writes (generated id s d (l .price) displayed (l .quantity) ∷ []) →
     stage v₃ o₂ r ≡ seen o₀ at does madeBy number id s d l v
@@ -371,7 +361,7 @@ unfolding madeBy
 made-law number id s d n displayed l v v₁ v₂ v₃ o₀ o₁ o₂ at mid r en es p q t w =
     follow (seen o₀ at) (remove (λ m _. failIf (eqb m (placeOf s d)) Replaced) v)
     (λ u. report (generated id s d (l .price) (displayedPrice (increment v s) d (l .price)) (l .quantity)) (counted number s (placed (placeOf s d) l u))) v₁ v₃ o₁ o₂ mid r
-    (p ∙ ap (λ (e : Effect). seen o₀ at does e) (same-place n (placeOf s d) v en))
+    (p ∙ ap (λ (k : ℕ). seen o₀ at does remove (λ m _. failIf (eqb m k) Replaced) v) en)
     (does-report v₃ o₂ o₁ r mid (generated id s d (l .price) displayed (l .quantity)) w
     ∙ ap (λ (e : Effect). seen o₁ mid does e)
     (ap₂ (λ (k : ℕ) (u : Venue). report (generated id s d (l .price) k (l .quantity)) u) es (t ∙ ap (counted number s) (q ∙ ap (λ (k : ℕ). placed k l v₁) en))))

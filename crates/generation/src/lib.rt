@@ -218,7 +218,7 @@ fn make_leg(
 {
     let displayed = settling::displayed_in_series(numbers, s, d, l.price) as u32;
     let place = arithmetic::place_of(s, d);
-    let pos = removal::remove_at(numbers, place, place, Cause::Replaced, out, at);
+    let pos = removal::remove_one(numbers, place, Cause::Replaced, out, at);
     place_writes::put_legging(numbers, place, l);
     place_writes::count_generation(numbers, s as usize, number);
     records::emit_generated(out, pos, id, s, d, l.price, displayed, l.quantity)

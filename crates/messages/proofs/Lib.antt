@@ -1,4 +1,2 @@
-pub mod Setting
-pub mod EditionEntered
-pub mod StepsLaws
+pub mod Dispatching
 pub mod Trying

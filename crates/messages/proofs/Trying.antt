@@ -15,8 +15,9 @@ use Rattle.records.specs.Seen.{Seen, seen}
 use Rattle.records.proofs.StageLaws.{stage-venue, stage-written}
 use Rattle.records.proofs.SeenLaws.{writes-in}
 use Rattle.places.specs.Layout.{venueOf, Dense}
-use Rattle.messages.specs.declared.Stepped.{Stepped}
-use Rattle.messages.specs.Steps.{Steps, Tries}
+use Rattle.answers.specs.declared.Stepped.{Stepped}
+use Rattle.answers.specs.Steps.{Steps}
+use Rattle.messages.specs.Tries.{Tries}
 
 -- Numbers copied ------------------------------------------------------------------------------
 

@@ -120,9 +120,17 @@ regularKey o = placeOf (o .series) (o .side)
 unfoldable pub legsKey : Complex → ℕ
 legsKey c = 16 * placeOf (c .series1) (c .side1) + placeOf (c .series2) (c .side2)
 
--- the key (legsKey) of an order whose legs face one of series s at side d and one of t at e
-unfoldable pub facingKey : (s d t e : ℕ) → ℕ
-facingKey s d t e = 16 * placeOf s (opposite d) + placeOf t (opposite e)
+-- the ratios of a complex order as one number
+unfoldable pub ratiosNumber : Complex → ℕ
+ratiosNumber c = 256 * c .ratio1 + c .ratio2
+
+-- the legs and the ratios of a complex order as one number, by which the search for a cross passes over the others
+unfoldable pub crossKey : Complex → ℕ
+crossKey c = 256 * ratiosNumber c + legsKey c
+
+-- the key (crossKey) of an order whose legs face one of series s at side d with ratio q and one of t at e with r
+unfoldable pub facingKey : (s d q t e r : ℕ) → ℕ
+facingKey s d q t e r = 256 * (256 * q + r) + (16 * placeOf s (opposite d) + placeOf t (opposite e))
 
 -- the venue that the numbers stand for
 unfoldable pub venueOf : List ℕ → Venue
@@ -157,10 +165,6 @@ pub record Bounded (o : Regular) : Type 0 where
 -- a limit's number: 2^31 above its value
 unfoldable pub limitNumber : ℤ → ℕ
 limitNumber z = natAbs (z +ℤ pos 2147483648)
-
--- the ratios of a complex order as one number
-unfoldable pub ratiosNumber : Complex → ℕ
-ratiosNumber c = 256 * c .ratio1 + c .ratio2
 
 unfoldable pub complexRow : Complex → List ℕ
 complexRow c = c .id ∷ legsKey c ∷ ratiosNumber c ∷ c .class ∷ limitNumber (c .limit) ∷ c .quantity ∷ []

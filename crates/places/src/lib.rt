@@ -7,7 +7,7 @@ ghost use lib.ListN.{length, getD};
 ghost use Rattle.rules.specs.Settings.{figureNow, freeEdition};
 ghost use Rattle.rules.specs.Generation.{generationsOf};
 ghost use Rattle.rules.specs.Step.{mask};
-ghost use Rattle.places.specs.Layout.{size, regularsUsed, complexesUsed, regularIn, complexIn, leggingIn, listedIn, editionIn, generationsIn, levelIn, regularKey, legsKey, venueOf};
+ghost use Rattle.places.specs.Layout.{size, regularsUsed, complexesUsed, regularIn, complexIn, leggingIn, listedIn, editionIn, generationsIn, levelIn, regularKey, crossKey, venueOf};
 ghost use Rattle.places.specs.Layout.{Figured, facingKey};
 ghost use Rattle.places.specs.Layout.{noneShowsAgain, Right};
 use rules::Complex;
@@ -292,21 +292,24 @@ pub fn complex_at(numbers: &[u32], i: usize) -> Complex
     }
 }
 
-// The legs of what stands at a complex place, as one number.
-pub fn legs_at(numbers: &[u32], i: usize) -> usize
+// The legs and ratios of what stands at a complex place, as one number.
+pub fn cross_key_at(numbers: &[u32], i: usize) -> usize
     requires { ⌜ (length (now numbers) ≡ size) × (i < 32) ⌝ }
-    ensures { λ r. ⌜ r ≡ legsKey (complexIn (now (numbers .entry)) i) ⌝ }
+    ensures { λ r. ⌜ r ≡ crossKey (complexIn (now (numbers .entry)) i) ⌝ }
 {
-    wide(numbers[6 * i + COMPLEX_LEGS_AT] % 256)
+    let legs = wide(numbers[6 * i + COMPLEX_LEGS_AT] % 256);
+    let ratios = wide(numbers[6 * i + COMPLEX_RATIOS_AT] % 65536);
+    256 * ratios + legs
 }
 
-// The key of an order whose legs face these two: the same series, at the opposite sides.
-pub fn facing_key(s: u8, d: u8, t: u8, e: u8) -> usize
-    ensures { λ r. ⌜ r ≡ facingKey s d t e ⌝ }
+// The key of an order whose legs face these two: the same series and ratios, at the opposite sides.
+pub fn facing_key(s: u8, d: u8, q: u8, t: u8, e: u8, r: u8) -> usize
+    ensures { λ x. ⌜ x ≡ facingKey s d q t e r ⌝ }
 {
     let one = arithmetic::place_of(s, arithmetic::opposite_of(d));
     let two = arithmetic::place_of(t, arithmetic::opposite_of(e));
-    16 * one + two
+    let ratios = 256 * (q as usize) + (r as usize);
+    256 * ratios + (16 * one + two)
 }
 
 // The last id accepted.

@@ -1,2 +1,3 @@
 pub mod RefusalFound
 pub mod EditionsLaws
+pub mod Passing

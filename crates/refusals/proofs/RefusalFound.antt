@@ -1,22 +1,18 @@
 -- A message's refusal upon a venue, from the tests that the code makes.
-use mathlib.Core.Path.{_≡_, refl, sym, ap, _∙_}
-use mathlib.Core.Bool.{Bool, true, false, not, _&&_, _||_, true≢false}
-use Prim.Native.Nat.{ℕ, zero, suc, _<_}
-use native.Mathlib.Omega.{arith}
+use mathlib.Core.Path.{_≡_, refl, ap, _∙_}
+use mathlib.Core.Bool.{Bool, true, false, not, _&&_, _||_}
+use Prim.Native.Nat.{ℕ}
 use lib.Dec.{leb, ltb, eqb}
-use borrow.Author.Tests.{leb-true, ne-eqb}
+use borrow.Author.Tests.{ne-eqb}
 use Rattle.rules.specs.declared.Complex.{Complex}
 use Rattle.rules.specs.declared.Venue.{Venue}
 use Rattle.rules.specs.declared.Message.{Message}
-use Rattle.rules.specs.declared.Message.the-variants.{Order, TwoLeg, Cancel, Away, Status, Sweep, Increment, Percent, LimitedSweep}
+use Rattle.rules.specs.declared.Message.the-variants.{Cancel, Away, Status, Sweep, Increment, Percent, LimitedSweep}
 use Rattle.rules.specs.Base.{if_then_else_, held, all}
-use Rattle.rules.specs.Words.{closed, within, isSeries, statusOf}
-use Rattle.rules.specs.Messages.{messageForm}
-use Rattle.rules.specs.Settings.{isIncrement, freeEdition}
+use Rattle.rules.specs.Words.{closed, statusOf}
+use Rattle.rules.specs.Settings.{freeEdition}
 use Rattle.rules.specs.Complex.{regularPlace, complexPlace, restsRegular, restsComplex}
 use Rattle.rules.specs.Refusals.{complexInRange, offIncrement, editionTooLow, idle, inUse, noEditionLeft, idTooLow, onClosed, full, unknown, refusalOf}
-use Rattle.rules.proofs.Tests.{and-l, and-r}
-use Rattle.rules.proofs.RefusalsLaws.{wellFormed}
 use Rattle.rules.proofs.Widths.{complex-fits}
 use Rattle.levels.specs.Grid.{LegsIn}
 use Rattle.book.specs.declared.Found.{Found}
@@ -29,44 +25,34 @@ use Rattle.refusals.specs.Editions.{editionRefusal}
 pub legs-in : (c : Complex) → complexInRange c ≡ true → LegsIn c
 legs-in c z = let f = complex-fits c z in record { first = f .series1; side1 = f .side1; second = f .series2; side2 = f .side2 }
 
-pub away-series : (s bid offer : ℕ) → wellFormed (Away s bid offer) ≡ true → s < 8
-unfolding wellFormed isSeries within
-away-series s bid offer z = let a = leb-true s 7 (search (and-l, and-r, z) depth 8) in omega arith
-
-pub status-series : (s x : ℕ) → wellFormed (Status s x) ≡ true → s < 8
-unfolding wellFormed isSeries within
-status-series s x z = let a = leb-true s 7 (search (and-l, and-r, z) depth 8) in omega arith
-
--- an increment is some number of cents
-pub increment-set : (s x e : ℕ) → wellFormed (Increment s x e) ≡ true → (s < 8) × (0 < x)
-unfolding wellFormed isSeries within
-increment-set s x e z =
-    let a = leb-true s 7 (search (and-l, and-r, z) depth 8) in
-    (omega arith, some x (search (and-l, and-r, z) depth 8))
-  where
-    some : (x : ℕ) → isIncrement x ≡ true → 0 < x
-    some zero h = absurd (true≢false (sym (unfold isIncrement in h)))
-    some (suc x) h = omega arith
-
 -- Each refusal from its test ------------------------------------------------------------------
 
--- forms 4 to 6 meet none
-pub never-refused : (v : Venue) (m : Message) → 3 < messageForm m → messageForm m < 7 → 0 ≡ refusalOf v m
-unfolding refusalOf offIncrement editionTooLow inUse noEditionLeft idTooLow onClosed full unknown
-never-refused v (Order o) h l = absurd (omega arith)
-never-refused v (TwoLeg c) h l = absurd (omega arith)
-never-refused v (Cancel id) h l = absurd (omega arith)
-never-refused v (Away s bid offer) h l = refl
-never-refused v (Status s x) h l = refl
-never-refused v Sweep h l = refl
-never-refused v (Increment s x e) h l = absurd (omega arith)
-never-refused v (Percent x e) h l = absurd (omega arith)
-never-refused v (LimitedSweep n) h l = absurd (omega arith)
+-- kinds 4 to 6, and 11, meet none
+module _ (v : Venue) where
+  pub away-taken : (s bid offer : ℕ) → refusalOf v (Away s bid offer) ≡ 0
+  unfolding refusalOf offIncrement editionTooLow inUse noEditionLeft idTooLow onClosed full unknown
+  away-taken s bid offer = refl
 
--- nor does a limited sweep
-pub limited-taken : (v : Venue) (n : ℕ) → 0 ≡ refusalOf v (LimitedSweep n)
-unfolding refusalOf offIncrement editionTooLow inUse noEditionLeft idTooLow onClosed full unknown
-limited-taken v n = refl
+  pub status-taken : (s x : ℕ) → refusalOf v (Status s x) ≡ 0
+  unfolding refusalOf offIncrement editionTooLow inUse noEditionLeft idTooLow onClosed full unknown
+  status-taken s x = refl
+
+  pub sweep-taken : refusalOf v Sweep ≡ 0
+  unfolding refusalOf offIncrement editionTooLow inUse noEditionLeft idTooLow onClosed full unknown
+  sweep-taken = refl
+
+  pub limited-taken : (n : ℕ) → refusalOf v (LimitedSweep n) ≡ 0
+  unfolding refusalOf offIncrement editionTooLow inUse noEditionLeft idTooLow onClosed full unknown
+  limited-taken n = refl
+
+  -- a cancel meets 8 alone
+  pub cancel-unknown : (id : ℕ) → (restsRegular v id || restsComplex v id) ≡ false → 8 ≡ refusalOf v (Cancel id)
+  unfolding refusalOf offIncrement editionTooLow inUse noEditionLeft idTooLow onClosed full unknown
+  cancel-unknown id h = rw h
+
+  pub cancel-taken : (id : ℕ) → (restsRegular v id || restsComplex v id) ≡ true → refusalOf v (Cancel id) ≡ 0
+  unfolding refusalOf offIncrement editionTooLow inUse noEditionLeft idTooLow onClosed full unknown
+  cancel-taken id h = rw h
 
 module _ (v : Venue) (m : Message) where
   pub refuses-off : offIncrement v m ≡ true → 4 ≡ refusalOf v m
@@ -86,10 +72,6 @@ module _ (v : Venue) (m : Message) where
     pub refuses-full : idTooLow v m ≡ false → onClosed v m ≡ false → full v m ≡ true → 7 ≡ refusalOf v m
     unfolding refusalOf
     refuses-full p q r = rw (a, b, c, d, p, q, r)
-
-    pub refuses-unknown : idTooLow v m ≡ false → onClosed v m ≡ false → full v m ≡ false → unknown v m ≡ true → 8 ≡ refusalOf v m
-    unfolding refusalOf
-    refuses-unknown p q r s = rw (a, b, c, d, p, q, r, s)
 
     pub accepts : idTooLow v m ≡ false → onClosed v m ≡ false → full v m ≡ false → unknown v m ≡ false → 0 ≡ refusalOf v m
     unfolding refusalOf

@@ -1,19 +1,16 @@
 // Which refusal a message gets whose fields are in range, or none.
 use book::Found;
 use rules::Complex;
-use rules::Message;
 use rules::Regular;
 ghost use mathlib.Core.Path.{_≡_};
 ghost use mathlib.Core.Bool.{true, not, _&&_, _||_};
 ghost use Prim.Native.Nat.{_<_};
 ghost use lib.Dec.{ltb, eqb};
 ghost use lib.ListN.{length};
-ghost use Rattle.rules.specs.declared.Message.the-variants.{Order, TwoLeg, Cancel};
+ghost use Rattle.rules.specs.declared.Message.the-variants.{Order, TwoLeg};
 ghost use Rattle.rules.specs.Base.{held, all};
-ghost use Rattle.rules.specs.Messages.{messageForm};
 ghost use Rattle.rules.specs.Complex.{restsRegular, restsComplex};
 ghost use Rattle.rules.specs.Refusals.{regularInRange, complexInRange, offIncrement, idle, refusalOf};
-ghost use Rattle.rules.proofs.RefusalsLaws.{wellFormed};
 ghost use Rattle.places.specs.Layout.{size, venueOf, Figured, Dense};
 ghost use Rattle.refusals.specs.Editions.{editionRefusal};
 
@@ -29,7 +26,7 @@ fn off_increment(numbers: &[u32], o: Regular) -> bool
 }
 
 // The refusal of an order with its fields in their ranges, or 0.
-fn order_refusal(numbers: &[u32], o: Regular) -> u8
+pub fn order_refusal(numbers: &[u32], o: Regular) -> u8
     requires { ⌜ (length (now numbers) ≡ size) × (Dense (now numbers)) × (regularInRange o ≡ true) ⌝ }
     ensures { λ r. ⌜ r ≡ refusalOf (venueOf (now (numbers .entry))) (Order o) ⌝ }
 {
@@ -49,7 +46,7 @@ fn order_refusal(numbers: &[u32], o: Regular) -> u8
 }
 
 // The refusal of a complex order with its fields in their ranges, or 0.
-fn complex_refusal(numbers: &[u32], c: Complex) -> u8
+pub fn complex_refusal(numbers: &[u32], c: Complex) -> u8
     requires { ⌜ (length (now numbers) ≡ size) × (Dense (now numbers)) × (complexInRange c ≡ true) ⌝ }
     ensures { λ r. ⌜ r ≡ refusalOf (venueOf (now (numbers .entry))) (TwoLeg c) ⌝ }
 {
@@ -78,7 +75,7 @@ fn complex_rests(numbers: &[u32], id: u32) -> bool
 }
 
 // An order with an id rests, in one book or the other.
-fn rests(numbers: &[u32], id: u32) -> bool
+pub fn rests(numbers: &[u32], id: u32) -> bool
     requires { ⌜ (length (now numbers) ≡ size) × (Dense (now numbers)) ⌝ }
     ensures { λ r. ⌜ r ≡ (restsRegular (venueOf (now (numbers .entry))) id || restsComplex (venueOf (now (numbers .entry))) id) ⌝ }
 {
@@ -87,17 +84,6 @@ fn rests(numbers: &[u32], id: u32) -> bool
         Found::At(_i) => true,
         Found::Nothing => complex_rests(numbers, id),
     }
-}
-
-// The refusal of a cancel, or 0.
-fn cancel_refusal(numbers: &[u32], id: u32) -> u8
-    requires { ⌜ (length (now numbers) ≡ size) × (Dense (now numbers)) ⌝ }
-    ensures { λ r. ⌜ r ≡ refusalOf (venueOf (now (numbers .entry))) (Cancel id) ⌝ }
-{
-    if rests(numbers, id) {
-        return 0;
-    }
-    8
 }
 
 // Refusals 11 to 13: of editions ----------------------------------------------------------------
@@ -176,7 +162,7 @@ fn no_leg_in(numbers: &[u32], s: u8) -> bool
 }
 
 // A series is closed, and no order or leg rests in it.
-fn is_idle(numbers: &[u32], s: u8) -> bool
+pub fn is_idle(numbers: &[u32], s: u8) -> bool
     requires { ⌜ (length (now numbers) ≡ size) × (s < 8) ⌝ }
     ensures { λ r. ⌜ r ≡ idle (venueOf (now (numbers .entry))) s ⌝ }
 {
@@ -190,7 +176,7 @@ fn is_idle(numbers: &[u32], s: u8) -> bool
 }
 
 // The first of 11 to 13 that a new edition meets; `used` where its figure is the increment of a series in use.
-fn edition_refusal(numbers: &[u32], edition: u32, used: bool) -> u8
+pub fn edition_refusal(numbers: &[u32], edition: u32, used: bool) -> u8
     requires { ⌜ length (now numbers) ≡ size ⌝ }
     ensures { λ r. ⌜ r ≡ editionRefusal (venueOf (now (numbers .entry))) edition used ⌝ }
 {
@@ -204,40 +190,4 @@ fn edition_refusal(numbers: &[u32], edition: u32, used: bool) -> u8
         return 13;
     }
     0
-}
-
-// The first of 11 to 13 that a new setting meets; a limited sweep meets no refusal.
-fn later_refusal(numbers: &[u32], m: Message) -> u8
-    requires { ⌜ (length (now numbers) ≡ size) × (6 < messageForm m) × (wellFormed m ≡ true) ⌝ }
-    ensures { λ r. ⌜ r ≡ refusalOf (venueOf (now (numbers .entry))) m ⌝ }
-{
-    match m {
-        Message::Increment(series, _, edition) => {
-            let used = !is_idle(numbers, series);
-            edition_refusal(numbers, edition, used)
-        }
-        Message::Percent(_, edition) => edition_refusal(numbers, edition, false),
-        Message::LimitedSweep(_) => 0,
-        _ => 0,
-    }
-}
-
-// The first of the refusals 4, 11 to 13 and 5 to 8 that a message meets; 0 where it is accepted. In parts as in `wire::in_range`.
-pub fn refusal_of(numbers: &[u32], m: Message) -> u8
-    requires { ⌜ (length (now numbers) ≡ size) × (Dense (now numbers)) × (wellFormed m ≡ true) ⌝ }
-    ensures { λ r. ⌜ r ≡ refusalOf (venueOf (now (numbers .entry))) m ⌝ }
-{
-    let form = arithmetic::message_form(m);
-    if 6 < form {
-        return later_refusal(numbers, m);
-    }
-    if 3 < form {
-        return 0;
-    }
-    match m {
-        Message::Order(o) => order_refusal(numbers, o),
-        Message::TwoLeg(c) => complex_refusal(numbers, c),
-        Message::Cancel(id) => cancel_refusal(numbers, id),
-        _ => 0,
-    }
 }

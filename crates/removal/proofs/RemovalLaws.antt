@@ -1,5 +1,5 @@
 -- Laws of removal, for the loops that do it place by place.
-use mathlib.Core.Path.{_≡_, refl, sym, ap, _∙_}
+use mathlib.Core.Path.{_≡_, refl, sym, ap, subst, _∙_}
 use mathlib.Core.Bool.{Bool, true, false, not, _||_}
 use mathlib.Core.List.{List, [], _∷_, _++_, append-assoc, append-nil}
 use Prim.Native.Nat.{ℕ, zero, suc, _+_, _*_, _-_, _≤_, _<_, _/_, _%_, _^_}
@@ -154,6 +154,40 @@ module _ (f : ℕ → Legging → Verdict) {b₀ out₀ b out : List ℕ} {at po
   pub removing-room : length out ≡ length out₀
   removing-room = does-room out out₀ pos at (removeFrom f n (venueOf b)) (remove f (venueOf b₀)) (i .left)
 
+-- Two places ----------------------------------------------------------------------------------
+
+-- on to a later place, where those between stand
+removing-to : (f : ℕ → Legging → Verdict) (b₀ out₀ b out : List ℕ) (at pos n : ℕ) → Removing f b₀ out₀ at b out pos n → (k m : ℕ) → m ≡ n + k → m ≤ 16 →
+    ((j : ℕ) (l : Legging) → n ≤ j → j < m → f j l ≡ Stands) → Removing f b₀ out₀ at b out pos m
+removing-to f b₀ out₀ b out at pos n i zero m e h g = let z : n ≡ m = omega arith in subst (λ (x : ℕ). Removing f b₀ out₀ at b out pos x) z i
+removing-to f b₀ out₀ b out at pos n i (suc k) m e h g =
+    removing-to f b₀ out₀ b out at pos (n + 1) (removing-past f i (omega arith) (g n (leggingIn b n) (omega arith) (omega arith))) k m (omega arith) h
+    (λ j l p q. g j l (omega arith) q)
+
+module _ (f : ℕ → Legging → Verdict) (c : Cause) (b out : List ℕ) (at : ℕ) (w : length b ≡ size) (b₁ out₁ : List ℕ) (r : ℕ) (k : length b₁ ≡ length b) where
+  pub one-gone : (n : ℕ) → n < 16 → ((l : Legging) → f n l ≡ Fails c) → ((m : ℕ) (l : Legging) → (m ≡ n → ⊥) → f m l ≡ Stands) →
+      (stage (venueOf b₁) out₁ r ≡ seen out at does removePlace n (Fails c) (venueOf b)) × SameCounts b b₁ →
+      (stage (venueOf b₁) out₁ r ≡ seen out at does remove f (venueOf b)) × SameCounts b b₁
+  one-gone n h x s q =
+      let i = removing-to f b out b out at at 0 (removing-start f b out at w) n n (omega arith) (omega arith) (λ j l _ p. s j l (λ e. omega arith)) in
+      let j = removing-turn f i c b₁ out₁ r h (x (leggingIn b n)) k q in
+      removing-over f j (λ m l p. s m l (λ e. omega arith))
+
+  pub two-gone : (n m : ℕ) → n < m → m < 16 → ((l : Legging) → f n l ≡ Fails c) → ((l : Legging) → f m l ≡ Fails c) →
+      ((j : ℕ) (l : Legging) → (j ≡ n → ⊥) → (j ≡ m → ⊥) → f j l ≡ Stands) →
+      (stage (venueOf b₁) out₁ r ≡ seen out at does removePlace n (Fails c) (venueOf b)) × SameCounts b b₁ →
+      (b₂ out₂ : List ℕ) (t : ℕ) → length b₂ ≡ length b₁ → (stage (venueOf b₂) out₂ t ≡ seen out₁ r does removePlace m (Fails c)
+      (venueOf b₁)) × SameCounts b₁ b₂ →
+      (stage (venueOf b₂) out₂ t ≡ seen out at does remove f (venueOf b)) × SameCounts b b₂
+  two-gone n m h g x y s q b₂ out₂ t k₂ q₂ =
+      let i = removing-to f b out b out at at 0 (removing-start f b out at w) n n (omega arith) (omega arith) (λ j l _ p. s j l (λ e. omega arith)
+      (λ e. omega arith)) in
+      let i₁ = removing-turn f i c b₁ out₁ r (omega arith) (x (leggingIn b n)) k q in
+      let i₂ = removing-to f b out b₁ out₁ at r (n + 1) i₁ (m - (n + 1)) m (omega arith) (omega arith) (λ j l p u. s j l (λ e. omega arith)
+      (λ e. omega arith)) in
+      let i₃ = removing-turn f i₂ c b₂ out₂ t g (y (leggingIn b₁ m)) k₂ q₂ in
+      removing-over f i₃ (λ j l p. s j l (λ e. omega arith) (λ e. omega arith))
+
 -- Verdicts ------------------------------------------------------------------------------------
 
 -- by parent, of what is read at a place
@@ -167,6 +201,15 @@ module _ (id : ℕ) (c : Cause) {l x : Legging} (e : l ≡ x) where
   not-parent h = rw (← e) (simp (ne-eqb _ _ h))
 
 -- by place
+module _ (a n : ℕ) (c : Cause) where
+  pub at-place : n ≡ a → failIf (eqb n a) c ≡ Fails c
+  unfolding failIf
+  at-place h = simp (eq-eqb _ _ h)
+
+  pub at-other : (n ≡ a → ⊥) → failIf (eqb n a) c ≡ Stands
+  unfolding failIf
+  at-other h = simp (ne-eqb _ _ h)
+
 module _ (a b n : ℕ) (c : Cause) where
   pub at-one : n ≡ a → failIf (eqb n a || eqb n b) c ≡ Fails c
   unfolding failIf
@@ -212,7 +255,7 @@ module _ (f g : ℕ → Legging → Verdict) where
       (rw (e, r .0), rw (e, r .1))
 
   -- verdicts that agree on what stands at each place
-  pub remove-same : (v : Venue) → ((n : ℕ) → n < length (v .legging) → f n (getD (v .legging) n noLegging) ≡ g n (getD (v .legging) n noLegging)) → remove f v ≡ remove g v
+  remove-same : (v : Venue) → ((n : ℕ) → n < length (v .legging) → f n (getD (v .legging) n noLegging) ≡ g n (getD (v .legging) n noLegging)) → remove f v ≡ remove g v
   unfolding remove
   remove-same v h =
       let r = same-from 0 (v .legging) (λ i q. let z : 0 + i ≡ i = omega arith in rw z (h i q)) in

@@ -48,7 +48,16 @@ pub fn remove_of(numbers: &mut [u32], parent: u32, cause: Cause, out: &mut [u8],
     pos
 }
 
-// The legging orders at two places go.
+// The legging order at one place goes.
+pub fn remove_one(numbers: &mut [u32], n: usize, cause: Cause, out: &mut [u8], at: usize) -> usize
+    requires { ⌜ (length (now numbers) ≡ size) × (n < 16) ⌝ }
+    ensures { λ r. ⌜ stage (venueOf (now (numbers .exit))) (now (out .exit)) r ≡ seen (now (out .entry)) at does remove (λ m _. failIf (eqb m n) cause) (venueOf (now (numbers .entry))) ⌝ }
+    ensures counts { λ _. ⌜ SameCounts (now (numbers .entry)) (now (numbers .exit)) ⌝ }
+{
+    remove_place(numbers, n, cause, out, at)
+}
+
+// The legging orders at two places go, the one at the lesser place first.
 pub fn remove_at(
     numbers: &mut [u32],
     n1: usize,
@@ -57,25 +66,19 @@ pub fn remove_at(
     out: &mut [u8],
     at: usize,
 ) -> usize
-    requires { ⌜ length (now numbers) ≡ size ⌝ }
+    requires { ⌜ (length (now numbers) ≡ size) × (n1 < 16) × (n2 < 16) ⌝ }
     ensures { λ r. ⌜ stage (venueOf (now (numbers .exit))) (now (out .exit)) r ≡ seen (now (out .entry)) at does remove (λ n _. failIf (eqb n n1 || eqb n n2) cause) (venueOf (now (numbers .entry))) ⌝ }
     ensures counts { λ _. ⌜ SameCounts (now (numbers .entry)) (now (numbers .exit)) ⌝ }
 {
-    let mut pos = at;
-    let mut n: usize = 0;
-    while n < 16 {
-        let place = n;
-        n += 1;
-        if place == n1 {
-            pos = remove_place(numbers, place, cause, out, pos);
-            continue;
-        }
-        if place == n2 {
-            pos = remove_place(numbers, place, cause, out, pos);
-            continue;
-        }
+    if n1 == n2 {
+        return remove_place(numbers, n1, cause, out, at);
     }
-    pos
+    if n2 < n1 {
+        let pos = remove_place(numbers, n2, cause, out, at);
+        return remove_place(numbers, n1, cause, out, pos);
+    }
+    let pos = remove_place(numbers, n1, cause, out, at);
+    remove_place(numbers, n2, cause, out, pos)
 }
 
 // The verdict of a number.

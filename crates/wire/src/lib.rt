@@ -1,18 +1,16 @@
-// Bytes in: little-endian numbers, and messages decoded.
+// Bytes in: little-endian numbers, the fields of messages, and their ranges.
 use rules::Complex;
-use rules::Decoded;
-use rules::Message;
 use rules::Regular;
 ghost use mathlib.Core.Path.{_≡_};
 ghost use mathlib.Core.Bool.{not, _&&_};
-ghost use Prim.Native.Nat.{ℕ, _+_, _-_, _≤_, _<_};
+ghost use Prim.Native.Nat.{_+_, _-_, _≤_, _<_};
 ghost use lib.Dec.{eqb};
 ghost use lib.ListN.{length};
 ghost use Rattle.rules.specs.Words.{within, isSeries, isSide, isStatus, isAway, isLimit};
 ghost use Rattle.rules.specs.Settings.{isIncrement};
 ghost use Rattle.rules.specs.Bytes.{u8At, u16At, u32At, asSigned};
-ghost use Rattle.rules.specs.Messages.{lengthOf, messageForm, orderAt, twoLegAt, messageOf};
-ghost use Rattle.rules.specs.Refusals.{regularInRange, twoLegInRange, farOf, inRange, decoded, complexInRange};
+ghost use Rattle.rules.specs.Messages.{orderAt, twoLegAt};
+ghost use Rattle.rules.specs.Refusals.{regularInRange, twoLegInRange, complexInRange};
 
 // Reading -------------------------------------------------------------------------------------
 
@@ -81,7 +79,7 @@ pub fn byte_at(s: &[u8], at: usize) -> u8
 }
 
 // The number of 16 bits at a position that `s` has.
-fn half_at(s: &[u8], at: usize) -> u16
+pub fn half_at(s: &[u8], at: usize) -> u16
     requires { ⌜ at + 2 ≤ length (now s) ⌝ }
     ensures { λ r. ⌜ r ≡ u16At (now (s .entry)) at ⌝ }
 {
@@ -159,7 +157,7 @@ fn legs_in_range(c: Complex) -> bool
 }
 
 // A complex order's fields are in their ranges, its limit as far as `far`.
-fn two_leg_in_range(far: u32, c: Complex) -> bool
+pub fn two_leg_in_range(far: u32, c: Complex) -> bool
     ensures { λ r. ⌜ r ≡ twoLegInRange far c ⌝ }
 {
     if c.id == 0 {
@@ -197,7 +195,7 @@ pub fn complex_in_range(c: Complex) -> bool
 }
 
 // The fields of away prices are in their ranges.
-fn away_in_range(series: u8, bid: u32, offer: u32) -> bool
+pub fn away_in_range(series: u8, bid: u32, offer: u32) -> bool
     ensures { λ r. ⌜ r ≡ (isSeries series && isAway bid && isAway offer) ⌝ }
 {
     if 7 < series {
@@ -210,7 +208,7 @@ fn away_in_range(series: u8, bid: u32, offer: u32) -> bool
 }
 
 // The fields of a status are in their ranges.
-fn status_in_range(series: u8, status: u8) -> bool
+pub fn status_in_range(series: u8, status: u8) -> bool
     ensures { λ r. ⌜ r ≡ (isSeries series && isStatus status) ⌝ }
 {
     if 7 < series {
@@ -220,7 +218,7 @@ fn status_in_range(series: u8, status: u8) -> bool
 }
 
 // The fields of an increment are in their ranges.
-fn increment_in_range(series: u8, increment: u8) -> bool
+pub fn increment_in_range(series: u8, increment: u8) -> bool
     ensures { λ r. ⌜ r ≡ (isSeries series && isIncrement increment) ⌝ }
 {
     if 7 < series {
@@ -230,59 +228,13 @@ fn increment_in_range(series: u8, increment: u8) -> bool
 }
 
 // A limited sweep looks at 1 to 32 orders.
-fn sweep_in_range(n: u8) -> bool
+pub fn sweep_in_range(n: u8) -> bool
     ensures { λ r. ⌜ r ≡ within 1 32 n ⌝ }
 {
     if n == 0 {
         return false;
     }
     n <= 32
-}
-
-// The fields of a new setting or of a limited sweep are in their ranges; any u32 is an edition.
-fn later_in_range(m: Message) -> bool
-    requires { ⌜ 6 < messageForm m ⌝ }
-    ensures { λ r. ⌜ ((kind : ℕ) → r ≡ inRange kind m) ⌝ }
-{
-    match m {
-        Message::Increment(series, increment, _) => increment_in_range(series, increment),
-        Message::Percent(percent, _) => percent <= 50,
-        Message::LimitedSweep(n) => sweep_in_range(n),
-        _ => false,
-    }
-}
-
-// How far a complex order's limit goes, by its kind.
-fn far_of(kind: u16) -> u32
-    ensures { λ r. ⌜ r ≡ farOf kind ⌝ }
-{
-    if kind == 10 {
-        return 600000;
-    }
-    200000
-}
-
-// Every field of a message of this kind is in its range. In three parts, by the form: of a match of all forms a compiler makes a table of addresses.
-fn in_range(kind: u16, m: Message) -> bool
-    ensures { λ r. ⌜ r ≡ inRange kind m ⌝ }
-{
-    let form = arithmetic::message_form(m);
-    if 6 < form {
-        return later_in_range(m);
-    }
-    if form <= 3 {
-        return match m {
-            Message::Order(o) => regular_in_range(o),
-            Message::TwoLeg(c) => two_leg_in_range(far_of(kind), c),
-            Message::Cancel(id) => id != 0,
-            _ => false,
-        };
-    }
-    match m {
-        Message::Away(series, bid, offer) => away_in_range(series, bid, offer),
-        Message::Status(series, status) => status_in_range(series, status),
-        _ => true,
-    }
 }
 
 // The order at the front of `s`, which shows `display` of its quantity.
@@ -320,87 +272,4 @@ pub fn two_leg_at(s: &[u8], ratio1: u8, ratio2: u8) -> Complex
         ratio1,
         ratio2,
     }
-}
-
-// The message at the front of `s`, of its kind's length, compared in order as in `length_of`.
-fn message_of(s: &[u8]) -> Message
-    requires { ⌜ (4 ≤ length (now s)) × (0 < u16At (now s) 2) × (u16At (now s) 2 ≤ 11) × (lengthOf (u16At (now s) 2) ≤ length (now s)) ⌝ }
-    ensures { λ r. ⌜ r ≡ messageOf (now (s .entry)) ⌝ }
-{
-    let kind = half_at(s, 2);
-    if kind <= 1 {
-        return Message::Order(order_at(s, word_at(s, 14)));
-    }
-    if kind <= 2 {
-        return Message::TwoLeg(two_leg_at(s, 1, 1));
-    }
-    if kind <= 3 {
-        return Message::Cancel(word_at(s, 4));
-    }
-    if kind <= 4 {
-        return Message::Away(byte_at(s, 4), word_at(s, 5), word_at(s, 9));
-    }
-    if kind <= 5 {
-        return Message::Status(byte_at(s, 4), byte_at(s, 5));
-    }
-    if kind <= 6 {
-        return Message::Sweep;
-    }
-    if kind <= 7 {
-        return Message::Increment(byte_at(s, 4), byte_at(s, 5), word_at(s, 6));
-    }
-    if kind <= 8 {
-        return Message::Percent(byte_at(s, 4), word_at(s, 5));
-    }
-    if kind <= 9 {
-        return Message::Order(order_at(s, word_at(s, 18)));
-    }
-    if kind <= 10 {
-        return Message::TwoLeg(two_leg_at(s, byte_at(s, 21), byte_at(s, 22)));
-    }
-    Message::LimitedSweep(byte_at(s, 4))
-}
-
-// Kind 10 has equal ratio bytes.
-fn equal_ratios(s: &[u8], kind: u16) -> bool
-    ensures { λ r. ⌜ r ≡ (eqb kind 10 && eqb (u8At (now (s .entry)) 21) (u8At (now (s .entry)) 22)) ⌝ }
-{
-    if kind != 10 {
-        return false;
-    }
-    u8_at(s, 21) == u8_at(s, 22)
-}
-
-// The message at the front of `s`, or the first of the refusals 1 to 4 and 14 that it meets.
-pub fn decode(s: &[u8]) -> Decoded
-    ensures { λ r. ⌜ r ≡ decoded (now (s .entry)) ⌝ }
-{
-    if s.len() < 4 {
-        return Decoded::Refused(1);
-    }
-    let size = u16_at(s, 0);
-    if size < 4 {
-        return Decoded::Refused(1);
-    }
-    if s.len() < size as usize {
-        return Decoded::Refused(1);
-    }
-    let kind = u16_at(s, 2);
-    if kind == 0 {
-        return Decoded::Refused(2);
-    }
-    if 11 < kind {
-        return Decoded::Refused(2);
-    }
-    if size != arithmetic::length_of(kind) {
-        return Decoded::Refused(3);
-    }
-    let m = message_of(s);
-    if !in_range(kind, m) {
-        return Decoded::Refused(4);
-    }
-    if equal_ratios(s, kind) {
-        return Decoded::Refused(14);
-    }
-    Decoded::Taken(m)
 }

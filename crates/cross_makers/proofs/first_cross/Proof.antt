@@ -30,8 +30,8 @@ loop-holds c =
     let a = c .before .before .before .before .args in
     (omega (arith, e), scan-start (crosses (venueOf (a .numbers .now)) (a .c)) limitThenId (complexIn (a .numbers .now)) _ _ (omega (arith, e)))
 
-legs-at-requires : tie.Need-legs-at-requires Inv-loop μ-loop
-legs-at-requires c κs = let z = complexes-few (c .before .before .before .before .before .before .args .numbers .now) in (c .before .before .before .before .before .before .pre .0, omega arith)
+cross-key-at-requires : tie.Need-cross-key-at-requires Inv-loop μ-loop
+cross-key-at-requires c κs = let z = complexes-few (c .before .before .before .before .before .before .args .numbers .now) in (c .before .before .before .before .before .before .pre .0, omega arith)
 
 loop-again : tie.Need-loop-again Inv-loop μ-loop
 loop-again c =
@@ -40,7 +40,7 @@ loop-again c =
     let h = c .before .before .before .loop-test .taken in (
       omega (arith, l .inv .0),
       scan-past (crosses (venueOf (a .numbers .now)) (a .c)) limitThenId (complexIn (a .numbers .now)) (l .i) (complexesUsed (a .numbers .now)) h (l .inv .0) _ (l .inv .1)
-          (cross-key (a .c) (complexIn (a .numbers .now) (l .i - 1)) (legs-in (a .numbers .now) (l .i - 1)) _ _ _ (c .before .before .legs-at .ensures)
+          (cross-key (a .c) (complexIn (a .numbers .now) (l .i - 1)) (legs-in (a .numbers .now) (l .i - 1)) _ _ _ (c .before .before .cross-key-at .ensures)
           (c .before .before .before .before .before .before .before .facing-key .ensures)
           (c .before .before .before .before .before .before .facing-key2 .ensures) (off _ _ (c .before .is-either .ensures) (c .if1 .taken)) (venueOf (a .numbers .now))),
     )
@@ -95,7 +95,7 @@ first-cross-spec =
     (λ c κs. search needs)
     loop-holds
     (λ c. search needs)
-    legs-at-requires
+    cross-key-at-requires
     (λ c κs. search needs)
     (λ c. search needs)
     loop-again

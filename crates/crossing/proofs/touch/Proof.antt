@@ -1,6 +1,7 @@
 -- `crossing::touch` meets its contract.
 use mathlib.Core.Path.{refl, sym, subst, _∙_}
 use native.Mathlib.Omega.{arith}
+use Rattle.rules.specs.Words.{opposite, placeOf}
 use Rattle.places.proofs.Parts.{complexes-few, complex-at}
 use Rattle.levels.specs.Grid.{LegsIn}
 use Rattle.prices.proofs.Prices.{legs-in}
@@ -39,6 +40,14 @@ returns c =
 touch-cause-requires : tie.Need-touch-cause-requires
 touch-cause-requires c κs = can-touch-requires (c .before .before .before) κs
 
+remove-at-requires : tie.Need-remove-at-requires
+unfolding placeOf opposite
+remove-at-requires c κs =
+    let p13 = c .before .before .before .before .before .before .before .before .before .before .before .before .before in
+    let s = p13 .before .before .before .before in
+    let z = subst LegsIn (sym (p13 .complex-at .ensures)) (legs-in (s .args .numbers .now) (s .args .i)) in
+    (s .pre .0, omega arith, omega arith)
+
 returns-2 : tie.Need-returns-2
 returns-2 c =
     let p4 = c .before .before .before .before in
@@ -70,7 +79,7 @@ touch-spec =
     (λ c κs. search needs)
     (λ c κs. search needs)
     (λ c κs. search needs)
-    (λ c κs. search needs)
+    remove-at-requires
     (λ c. search needs)
     (λ c. search needs)
     returns-2)

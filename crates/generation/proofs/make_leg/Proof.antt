@@ -6,6 +6,10 @@ use borrow.Author.Needs.{needs}
 use Rattle.generation.proofs.make_leg.Statement.{statement}
 use Rattle.generation.proofs.make_leg.Tie as tie
 
+remove-one-requires : tie.Need-remove-one-requires
+unfolding placeOf
+remove-one-requires c κs = search needs
+
 put-legging-requires : tie.Need-put-legging-requires
 unfolding placeOf
 put-legging-requires c κs = search needs
@@ -14,7 +18,7 @@ returns : tie.Need-returns
 returns c =
     let count = c .before .before .before .before .before .before .count-generation .ensures in
     let put = c .before .before .before .before .before .before .before .before .before .before .put-legging .ensures in
-    let gone = c .before .before .before .before .before .before .before .before .before .before .before .before .before .before .before .before .remove-at .ensures in
+    let gone = c .before .before .before .before .before .before .before .before .before .before .before .before .before .before .before .before .remove-one .ensures in
     let s = c .before .before .before .before .before .before .before .before .before .before .before .before .before .before .before .before .before
     .before .before .before .before .before .before .before in (
       made-law _ _ _ _ _ _ (s .args .l) _ _ _ _ _ _ _ _ _ _
@@ -32,7 +36,7 @@ make-leg-spec =
     (λ c κs. search needs)
     (λ c. search needs)
     (λ c κs. search needs)
-    (λ c κs. search needs)
+    remove-one-requires
     put-legging-requires
     (λ c κs. search needs)
     (λ c κs. search needs)

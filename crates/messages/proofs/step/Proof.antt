@@ -1,42 +1,82 @@
 -- `messages::step` meets its contract.
-use mathlib.Core.Path.{_≡_, refl, sym, ap, _∙_}
-use Rattle.places.specs.Layout.{venueOf}
-use Rattle.messages.proofs.StepsLaws.{steps-as, taken-out, taken-shows, step-taken, step-refused}
+use native.Mathlib.Omega.{arith}
+use Rattle.messages.proofs.Dispatching.{torn-steps}
 use borrow.Author.Needs.{needs}
 use Rattle.messages.proofs.step.Statement.{statement}
 use Rattle.messages.proofs.step.Tie as tie
 
-answer-requires : tie.Need-answer-requires
-answer-requires c κs =
-    let s = c .before .before .before .before .before .before .before .before .before in
-    let e = sym (c .before .before .before .decoded .given .1) ∙ c .before .before .before .before .before .decode .ensures in
-    (s .pre .0, s .pre .1, taken-out (s .args .message .now) _ e .1, s .pre .2, taken-shows (s .args .message .now) _ e)
-
 returns : tie.Need-returns
-returns c = let s = c .before .before .before .before .before .before .before .before .before .before .before .before .before .before in
-    steps-as _ _ _ _ _ _ (step-taken (venueOf (s .args .numbers .now)) (s .args .number) (s .args .message .now) _
-    (sym (c .before .before .before .before .before .before .before .before .decoded .given .1)
-    ∙ c .before .before .before .before .before .before .before .before .before .before .decode .ensures))
-    (c .before .before .before .before .answer .ensures)
+returns c = torn-steps _ _ _ _ _ _ _ _ (c .before .before .before .before .before .before .frame-refusal .ensures .refused
+    (c .before .before .before .before .before .if1 .taken)) (c .before .before .refuse .ensures)
+
+half-at-requires : tie.Need-half-at-requires
+half-at-requires c κs = let f = c .before .frame-refusal .ensures .framed (c .if1 .left) in omega arith
+
+first-kinds-requires : tie.Need-first-kinds-requires
+first-kinds-requires c κs =
+    let s = c .before .before .before .before .before .before .before .before .before in (
+      s .pre .0,
+      s .pre .1,
+      s .pre .2,
+      c .before .before .before .before .before .frame-refusal .ensures .framed
+          (c .before .before .before .before .if1 .left),
+      c .before .before .before .half-at .ensures,
+      c .before .before .if2 .taken,
+    )
 
 returns-2 : tie.Need-returns-2
-returns-2 c = let s = c .before .before .before .before .before .before .before .before .before .before .before .before in
-    steps-as _ _ _ _ _ _ (step-refused (venueOf (s .args .numbers .now)) (s .args .number) (s .args .message .now) _
-    (sym (c .before .before .before .before .before .before .decoded2 .given .1)
-    ∙ c .before .before .before .before .before .before .before .before .decode .ensures)) (c .before .before .refuse .ensures)
+returns-2 c = c .before .before .before .before .first-kinds .ensures
+
+market-kinds-requires : tie.Need-market-kinds-requires
+market-kinds-requires c κs =
+    let s = c .before .before .before .before .before .before .before .before .before .before in (
+      s .pre .0,
+      s .pre .1,
+      s .pre .2,
+      c .before .before .before .before .before .before .frame-refusal .ensures .framed
+          (c .before .before .before .before .before .if1 .left),
+      c .before .before .before .before .half-at .ensures,
+      omega arith,
+      c .before .before .if3 .taken,
+    )
+
+returns-3 : tie.Need-returns-3
+returns-3 c = c .before .before .before .before .market-kinds .ensures
+
+later-kinds-requires : tie.Need-later-kinds-requires
+later-kinds-requires c κs =
+    let s = c .before .before .before .before .before .before .before .before .before .before in (
+      s .pre .0,
+      s .pre .1,
+      s .pre .2,
+      c .before .before .before .before .before .before .frame-refusal .ensures .framed
+          (c .before .before .before .before .before .if1 .left),
+      c .before .before .before .before .half-at .ensures,
+      omega arith,
+    )
+
+returns-4 : tie.Need-returns-4
+returns-4 c = c .before .before .before .before .later-kinds .ensures
 
 pub step-spec : {M : Type 1} → statement M
 step-spec =
     tie.close
     (tie.spec
     (λ c κs. search needs)
-    (λ c. search needs)
-    answer-requires
-    (λ c. search needs)
     (λ c κs. search needs)
     (λ c. search needs)
     (λ c. search needs)
     returns
+    half-at-requires
+    first-kinds-requires
     (λ c. search needs)
     (λ c. search needs)
-    returns-2)
+    returns-2
+    market-kinds-requires
+    (λ c. search needs)
+    (λ c. search needs)
+    returns-3
+    later-kinds-requires
+    (λ c. search needs)
+    (λ c. search needs)
+    returns-4)

@@ -6,13 +6,17 @@ use borrow.Author.Needs.{needs}
 use Rattle.places.proofs.facing_key.Statement.{statement}
 use Rattle.places.proofs.facing_key.Tie as tie
 
-mul-result : tie.Need-mul-result
+mul-result-2 : tie.Need-mul-result-2
 unfolding placeOf
-mul-result c = search needs
+mul-result-2 c = search needs
 
 add-result : tie.Need-add-result
 unfolding placeOf
 add-result c = search needs
+
+add-result-2 : tie.Need-add-result-2
+unfolding placeOf
+add-result-2 c = search needs
 
 returns : tie.Need-returns
 unfolding facingKey placeOf
@@ -26,6 +30,10 @@ facing-key-spec =
     (λ c κs. search needs)
     (λ c κs. search needs)
     (λ c κs. search needs)
-    mul-result
+    (λ c. search needs)
+    (λ c. search needs)
+    (λ c. search needs)
+    mul-result-2
     add-result
+    add-result-2
     returns)

@@ -1,0 +1,39 @@
+-- `market_messages::sweep_step` meets its contract.
+use mathlib.Core.Path.{_∙_}
+use Rattle.rules.specs.Step.{perform}
+use Rattle.sweeps.proofs.Walking.{sound-rising}
+use Rattle.refusals.proofs.RefusalFound.{sweep-taken}
+use Rattle.answers.proofs.Answering.{done-steps}
+use borrow.Author.Needs.{needs}
+use Rattle.market_messages.proofs.sweep_step.Statement.{statement}
+use Rattle.market_messages.proofs.sweep_step.Tie as tie
+
+sweep-requires : tie.Need-sweep-requires
+sweep-requires c κs =
+    let s = c .before .before .before .before .before .before .before .before in
+    (s .pre .0, s .pre .1 .right, sound-rising _ (s .pre .2 .is))
+
+finish-requires : tie.Need-finish-requires
+finish-requires c κs =
+    let s = c .before .before .before .before .before .before .before .before .before .before .before .before .before .before .before in (
+      c .before .before .before .before .before .before .sweep .kept .0 ∙ s .pre .0,
+      c .before .before .before .before .before .before .sweep .ensures .1
+          .right (s .pre .1 .right),
+    )
+
+returns : tie.Need-returns
+unfolding perform
+returns c = done-steps _ _ _ _ _ _ _ _ _ _ _ _ (sweep-taken _) (c .before .before .before .before .before .before .before .before .before .before .before
+    .before .before .before .before .before .emit-answer .ensures) (c .before .before .before .before .before .before .before .before .before .before .before
+    .sweep .ensures .0) (c .before .before .before .before .finish .ensures)
+
+pub sweep-step-spec : {M : Type 1} → statement M
+sweep-step-spec =
+    tie.close
+    (tie.spec
+    (λ c κs. search needs)
+    sweep-requires
+    finish-requires
+    (λ c. search needs)
+    (λ c. search needs)
+    returns)
