@@ -26,7 +26,8 @@ use Rattle.rules.specs.Removal.{remove}
 use Rattle.rules.specs.Standing.{parentOf, settle, showAgain}
 use Rattle.rules.specs.Trading.{fillComplex, fillRegular, freeComplex, putComplex}
 use Rattle.rules.specs.Generation.{generate}
-use Rattle.rules.specs.Complex.{cancel, cancelComplex, cancelRegular, complex, complexPlace, eachOf, examined, goingRound, idReached, limitedSweep, regularPlace, restingPlaces, restsRegular, sweep, work}
+use Rattle.rules.specs.Complex.{cancel, cancelComplex, cancelRegular, complex, complexPlace, eachOf, examined, goingRound, idReached}
+use Rattle.rules.specs.Complex.{limitedSweep, regularPlace, restingPlaces, restsRegular, sweep, work}
 use Rattle.rules.specs.Refusals.{complexInRange, twoLegInRange}
 use Rattle.rules.specs.Step.{accept, answered, perform, setAway, setFigure, setStatus, step}
 use Rattle.rules.specs.Sums.{total}

@@ -33,7 +33,8 @@ returns c =
     let x = c .before .before .before .before .before .before .before .before .before .before .before .settle-all in
     let w = c .before .before .before .before .before .before .before .before .before .before .before .before .before .before .before .before .before .before .work-places in
     let u = c .before .before .before .before .before .before .before .before .before .before .before .before .before .before .before .before .before .before .before .before .before .complexes-used in
-    let s = c .before .before .before .before .before .before .before .before .before .before .before .before .before .before .before .before .before .before .before .before .before .before .before .before .before in (
+    let s = c .before .before .before .before .before .before .before .before .before .before .before .before .before .before .before .before .before
+    .before .before .before .before .before .before .before .before in (
       sweep-law _ (placesFrom 0 (u .result)) _ _ _ _ _ _ _ _ _ _ _ _ (ap (placesFrom 0) (u .ensures .0) ∙ all-resting _ (s .pre .1))
           (w .ensures .0) (x .ensures .0) (g .ensures .0),
       counts-on _ _ _ (counts-on _ _ _ (w .ensures .1) (x .ensures .1)) (g .ensures .1),

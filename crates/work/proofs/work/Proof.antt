@@ -44,7 +44,8 @@ leg-in-all-requires : tie.Need-leg-in-all-requires
 leg-in-all-requires c κs =
     let t = c .before .before .before .before .before .before .touch in
     let x = c .before .before .before .before .before .before .before .before .before .before .before .before .before .cross-all in
-    let s = c .before .before .before .before .before .before .before .before .before .before .before .before .before .before .before .before .before .before .before .before .before .before .before .before .before in
+    let s = c .before .before .before .before .before .before .before .before .before .before .before .before .before .before .before .before .before
+    .before .before .before .before .before .before .before .before in
     (t .kept .0 ∙ x .kept .0 ∙ s .pre .0, t .ensures .1 .right (x .ensures .1 .right (s .pre .1)), omega (arith, t .ensures .1 .complexes, x .ensures .1 .complexes, s .pre .2))
 
 returns-3 : tie.Need-returns-3
