@@ -6,13 +6,15 @@
 
 The first error of each edit's log is one of three:
 
-- at a fact: two types differ, a goal does not follow, or a computation does not end as stated. The statement asked for
-  is another one with the edit, and what stood there does not prove it.
-- at a proof text: a name or a field is missing, a text does not parse or has another number of arguments or cases, or a
-  rewriting finds nothing to rewrite. This says nothing of the fact that the edit turns, and the edit wants another form.
-- another.
+- at a fact: two types differ, a goal does not follow, or it is not proved that a contract holds. The statement asked for
+  is another one with the edit, and what stood there does not prove it. An edit is also of this kind where any
+  statement by computation fails (a crate's Trials or Witness): that is a refusal of its meaning.
+- at a proof text: a name or a field is missing, or a text does not parse or has another number of arguments or cases.
+  This says nothing of the fact that the edit turns, and the edit wants another form.
+- another, as a rewriting that finds nothing to rewrite: the goal is another one, and a reader must look whether it is
+  false.
 
-That an edit is refused at a fact does not say that the statement is false: a reader says so, beside the edit.
+Of an edit that is refused at a fact, too, a reader says whether the statement is false, beside the edit.
 The counts are printed, with the names and the first errors of the second and third kind. The status is 1 where there
 are any of them, or an edit has no log; 2 for a wrong command line or where there are no logs at all.
 """
@@ -23,20 +25,22 @@ import re
 import sys
 
 TEXT = re.compile(
-    r"not in scope|has no field|does not parse|no occurrence|is not a constructor|explicit arguments? (?:more|fewer)|takes no argument"
+    r"not in scope|has no field|does not parse|is not a constructor|explicit arguments? (?:more|fewer)|takes no argument"
     r"|was not determined|is not yet determined|both match the case|no case|write each case|cannot be unfolded|is private"
     r"|not a structural call|expected .*, found|unknown name|no such")
+COMPUTED = re.compile(r"(?:specs/(?:Trials|Filing)|proofs/(?:Witness|Longer))\.antt:\d+:\d+: error.*(?:expected type|steps|the two types)")
 FACT = re.compile(
     r"the two (?:types|indices)|expected type|does not follow|no proof of|steps|not proved|give a proof of that|the goal fails|did not conclude"
     r"|is not what|do not agree|refuted|differ")
 
 
-def first_error(log):
-    """The first error of a log, from its place in the crate on; nothing where there is none."""
-    for line in log.split("\n"):
-        if ": error" in line:
-            return re.sub(r"^.*?((?:specs|proofs|src)/\S+: error)", r"\1", line)
-    return ""
+def error_of(log):
+    """The error of a log that tells most, from its place in the crate on: one at a statement by computation, or the first."""
+    lines = log.split("\n")
+    found = [line for line in lines if COMPUTED.search(line)]
+    found += [line for line in lines if ": error" in line]
+    found += [line for line in lines if line.startswith("note: ") and "it is not proved" in line]
+    return re.sub(r"^.*?((?:specs|proofs|src)/\S+: )", r"\1", found[0]) if found else ""
 
 
 def kind_of(error):
@@ -66,7 +70,7 @@ def main():
         arguments.error(f"{given.target}/must-fail has no log of these edits: run `rt must-fail` first")
     counts = {"fact": 0, "text": 0, "another": 0, "no log": 0}
     for name, path in logs.items():
-        error = first_error(read(path)) if os.path.exists(path) else ""
+        error = error_of(read(path)) if os.path.exists(path) else ""
         kind = kind_of(error) if os.path.exists(path) else "no log"
         counts[kind] += 1
         if kind != "fact":

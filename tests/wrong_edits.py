@@ -106,8 +106,9 @@ def verdict(root, crate):
     for line in said:
         if re.search(r"\.rt:\d+:\d+: error\[", line) and "not proved" not in line:
             return "compiles-not", line
-    why = [line for line in said if "error" in line or "NOT PROVED" in line]
-    return ("refused", why[0]) if status == 1 and why else ("NO VERDICT", " ".join(said)[-200:])
+    if status == 1 and any(line.startswith("logic=not-proved") for line in said):
+        return "refused", next((line for line in said if "error" in line or line.startswith("note: /")), "not proved")
+    return "NO VERDICT", " ".join(said)[-200:]
 
 
 def known(path):
