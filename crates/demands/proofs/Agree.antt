@@ -8,7 +8,7 @@ use native.Mathlib.Decide.{decLe}
 use native.Mathlib.Nat.{add-zero, suc-add, zero-add}
 use native.Mathlib.Omega.{arith}
 use lib.Dec.{eqb, eqb·suc-zero}
-use lib.ListN.{drop, length, length-append, length-drop, take}
+use lib.ListN.{drop, length, length-append, length-drop, length-take, take}
 use lib.Seq.{drop-append-le, length-take-le, take-all, take-append-seam}
 use borrow.Author.Tests.{eqb-false, eqb-true, lt-ltb, ne-eqb}
 use Rattle.rules.specs.declared.Venue.{Venue}
@@ -22,7 +22,7 @@ use Rattle.rules.specs.Step.{StepOutcome, answered, step}
 use Rattle.rules.specs.Calls.{Outcome, after, called, ends, exceeds, isTaken, one, oneFrom, run, runFrom, runUpon, runUponFrom}
 use Rattle.demands.specs.Demand.{Later, byList, byMessage, callUpon, givenTo}
 use Rattle.demands.specs.Agree.{Agree, Ended, FromFresh, InFront, NeverFills, OfList, Progress, ReadsOne, RunEnds}
-use Rattle.demands.specs.Agree.{atEnd, atFull, atTorn, atUnsound, freshProgress, byCalls, leftAfter, onward, wrote}
+use Rattle.demands.specs.Agree.{atEnd, atFull, atTorn, atUnsound, freshProgress, byCalls, leftAfter, onward, read, wrote}
 use Rattle.demands.specs.Soundness.{SoundAt}
 use Rattle.demands.specs.Most.{mostReportBytes}
 use Rattle.rules.proofs.CallsLaws.{encode-append, no-bytes, not-exceeds, oneFrom-by, runFrom-by, runUponFrom-by, torn-not}
@@ -46,12 +46,15 @@ torn-same : (v : Venue) (number : ℕ) (bs cs : List ℕ) → torn bs ≡ true �
 unfolding step
 torn-same v number bs cs t u = rw (torn-refused v bs t, torn-refused v cs u)
 
--- so are those of a length below 4, whatever stands behind them
-torn-short : (bs : List ℕ) → torn bs ≡ true → lengthField bs < length bs → torn (take (lengthField bs) bs) ≡ true
+-- of a length below 4 as few bytes are read
+few-read : (bs : List ℕ) → lengthField bs < 4 → length (read bs) < 4
+unfolding read
+few-read bs lt = omega (arith, length-take (lengthField bs) bs)
+
+-- so what is read is torn, whatever stands behind it
+torn-short : (bs : List ℕ) → torn bs ≡ true → lengthField bs < length bs → torn (read bs) ≡ true
 unfolding torn
-torn-short bs t lt =
-    let n = length-take-le (lengthField bs) bs (omega arith) in
-    rw (lt-ltb (length (take (lengthField bs) bs)) 4 (omega (arith, short)))
+torn-short bs t lt = rw (lt-ltb (length (read bs)) 4 (few-read bs short))
   where
     short : lengthField bs < 4
     short = elim (decLe 4 (lengthField bs)) [
@@ -60,10 +63,10 @@ torn-short bs t lt =
     ]
 
 pub one-read : ReadsOne
-unfolding one oneFrom
+unfolding one oneFrom read
 one-read v before room bs = go (torn bs) refl
   where
-    go : (b : Bool) → torn bs ≡ b → one v before room bs ≡ one v before room (take (lengthField bs) bs)
+    go : (b : Bool) → torn bs ≡ b → one v before room bs ≡ one v before room (read bs)
     go false e = reads-one v before room bs e
     go true e = elim (decLe (length bs) (lengthField bs)) [
       | yes le ↦ ap (one v before room) (sym (take-all (lengthField bs) bs le))

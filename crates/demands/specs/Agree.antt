@@ -19,9 +19,11 @@ use Rattle.demands.specs.Most.{mostReportBytes}
 
 -- "The second reads one message and nothing after it": given any bytes, it does what it does given as many of them as their length says,
 -- below 4 or not.
+unfoldable pub read : (messages : List ℕ) → List ℕ
+read bs = take (lengthField bs) bs
+
 abbrev pub ReadsOne : Type 0
-ReadsOne = (v : Venue) (before room : ℕ) (messages : List ℕ) →
-    one v before room messages ≡ one v before room (take (lengthField messages) messages)
+ReadsOne = (v : Venue) (before room : ℕ) (messages : List ℕ) → one v before room messages ≡ one v before room (read messages)
 
 -- A run from fresh ----------------------------------------------------------------------------
 

@@ -1,6 +1,7 @@
 -- Proofs of the statements of specs/, in the order in which each file uses the ones before it:
 --
 --   Lists       laws of lists of records, and of rows that rise
+--   Counts      few enough of each part, both ways
 --   Rows        a row of records in a memory, both ways
 --   Records     each record of a set, its kind and length, and what it tells
 --   Held        the held places of an arranged book
@@ -22,6 +23,7 @@
 --   WriteBack   writing what was read
 --   ReadSound   what is read is sound
 pub mod Lists
+pub mod Counts
 pub mod Rows
 pub mod Records
 pub mod Held

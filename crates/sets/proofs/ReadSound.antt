@@ -1,13 +1,12 @@
 -- What is read from any memory is sound: its books have the declared lengths, since a set has no record too many.
 use mathlib.Core.Path.{_≡_, refl, ap}
-use mathlib.Core.Bool.{Bool, true, false, not, _&&_, _||_, false≢true}
-use mathlib.Core.Logic.{_⊎_, inl, inr, ⊎-elim}
+use mathlib.Core.Bool.{Bool, true, false, not, _&&_, false≢true}
 use mathlib.Core.List.{List, [], _∷_, map}
 use Prim.Native.Nat.{ℕ, zero, suc, _≤_, _<_, _+_}
 use native.Mathlib.Omega.{arith}
-use lib.Dec.{eqb, leb}
+use lib.Dec.{eqb}
 use lib.ListN.{getD, length, length-append, length-map, length-replicate}
-use borrow.Author.Tests.{eqb-true, leb-true, ne-eqb}
+use borrow.Author.Tests.{eqb-true, ne-eqb}
 use Rattle.rules.specs.declared.Generations.{Generations}
 use Rattle.rules.specs.Base.{if_then_else_, all, keep}
 use Rattle.rules.specs.Words.{noComplex, noEdition, noGenerations, noRegular}
@@ -18,13 +17,14 @@ use Rattle.rules.specs.Sound.{follows, sound}
 use Rattle.rules.proofs.Tests.{and-l, and-r}
 use Rattle.demands.specs.Soundness.{Shaped, SoundAt}
 use Rattle.demands.proofs.Calls.{fresh-sound}
-use Rattle.sets.specs.Set.{Held, ReadSet, broken, carries, complexTold, countOf, editionTold, fewEnough, generationsTold, hasPlace, heldIn, inOrder, isSet, joined, leggingTold, listedTold}
+use Rattle.sets.specs.Set.{Held, ReadSet, broken, carries, complexTold, editionTold, fewEnough, generationsTold, hasPlace, heldIn, inOrder, isSet, joined, leggingTold, listedTold}
 use Rattle.sets.specs.Set.{notRead, numberTold, ofSeries, ofShort, ofWhole, part, places, readRow, readSet, regularTold, row, seriesThen}
 use Rattle.sets.specs.Set.{tellsComplex, tellsEdition, tellsGeneration, tellsLegging, tellsRegular, upward, venueTold}
 use Rattle.sets.specs.Promises.{AllBytes, ReadsSound}
 use Rattle.sets.proofs.Lists.{Each}
 use Rattle.sets.proofs.Rows.{held-out}
-use Rattle.sets.proofs.PartsKept.{Only, complexes-only, editions-only, regulars-only, series-only}
+use Rattle.sets.proofs.Counts.{Few, few-out}
+use Rattle.sets.proofs.PartsKept.{Only, complexes-only, editions-only, leggings-only, regulars-only, series-only}
 use Rattle.sets.proofs.Spelled.{Clean}
 use Rattle.sets.proofs.WriteBack.{bytes-take, cleans}
 
@@ -81,47 +81,6 @@ set-tail (r ∷ rs) h = go (eqb (kindField r) 80) refl (eqb (kindField r) 81) re
 
 -- Few enough ----------------------------------------------------------------------------------
 
-record Few (rs : List (List ℕ)) : Type 0 where
-  editions : length (keep tellsEdition rs) ≤ 32
-  regulars : length (keep tellsRegular rs) ≤ 128
-  complexes : length (keep tellsComplex rs) ≤ 32
-  generations : (s : ℕ) → length (keep (ofSeries s) rs) ≤ 20
-
--- none passes a test, or one that does passes another too
-none-or : (f g : List ℕ → Bool) (P : Type 0) → ((r : List ℕ) → f r ≡ true → g r ≡ true → P) → (l : List (List ℕ)) → all g l ≡ true → (length (keep f l) ≡ 0) ⊎ P
-unfolding keep all
-none-or f g P one [] h = inl refl
-none-or f g P one (r ∷ l) h = go (f r) refl (none-or f g P one l (and-r (g r) (all g l) h))
-  where
-    go : (b : Bool) → f r ≡ b → (length (keep f l) ≡ 0) ⊎ P → (length (if b then r ∷ keep f l else keep f l) ≡ 0) ⊎ P
-    go true e k = inr (one r e (and-l (g r) (all g l) h))
-    go false e k = k
-
-module _ (l : List (List ℕ)) (h : fewEnough l ≡ true) where
-  abbrev few-of : List ℕ → Bool
-  few-of r = not (tellsGeneration r) || leb (countOf (ofSeries (u8At r 4)) l) 20
-
-  few-series : all few-of l ≡ true
-  unfolding fewEnough
-  few-series = and-r (leb (countOf tellsEdition l) 32 && leb (countOf tellsRegular l) 128 && leb (countOf tellsComplex l) 32 && leb (countOf tellsLegging l) 16) (all few-of l) h
-
-  few-generations : (s : ℕ) → length (keep (ofSeries s) l) ≤ 20
-  unfolding ofSeries countOf
-  few-generations s =
-      ⊎-elim (λ z. omega arith) (λ z. z)
-      (none-or (ofSeries s) few-of (length (keep (ofSeries s) l) ≤ 20)
-      (λ r e k. leb-true (length (keep (ofSeries s) l)) 20
-      (rw (and-l (tellsGeneration r) (eqb (u8At r 4) s) e, eqb-true (u8At r 4) s (and-r (tellsGeneration r) (eqb (u8At r 4) s) e)) at k)) l few-series)
-
-  few-out : Few l
-  unfolding fewEnough countOf
-  few-out = record {
-    editions = leb-true (length (keep tellsEdition l)) 32 (search (and-l, and-r, h) depth 6);
-    regulars = leb-true (length (keep tellsRegular l)) 128 (search (and-l, and-r, h) depth 6);
-    complexes = leb-true (length (keep tellsComplex l)) 32 (search (and-l, and-r, h) depth 6);
-    generations = few-generations;
-  }
-
 set-few : (rs : List (List ℕ)) → isSet rs ≡ true → Few rs
 set-few rs h =
     let t = set-tail rs h in
@@ -130,6 +89,7 @@ set-few rs h =
       editions = rw (t .same 0 tellsEdition editions-only) (few .editions);
       regulars = rw (t .same 1 tellsRegular regulars-only) (few .regulars);
       complexes = rw (t .same 1 tellsComplex complexes-only) (few .complexes);
+      leggings = rw (t .same 2 tellsLegging leggings-only) (few .leggings);
       generations = λ s. rw (t .same 3 (ofSeries s) (series-only s)) (few .generations s);
     }
 

@@ -1,12 +1,12 @@
 -- The set of a venue that may be carried: its parts, that it is a set, and that all of it has a place.
 use mathlib.Core.Path.{_≡_, refl, ap, _∙_}
-use mathlib.Core.Bool.{Bool, true, false, not, _&&_, _||_}
+use mathlib.Core.Bool.{Bool, true, false, _&&_}
 use mathlib.Core.List.{List, [], _∷_, _++_, append-assoc, append-nil, map}
 use Prim.Native.Nat.{ℕ, suc, _≤_, _+_, _*_}
 use native.Mathlib.Omega.{arith}
-use lib.Dec.{eqb, leb}
+use lib.Dec.{eqb}
 use lib.ListN.{getD, length, length-map}
-use borrow.Author.Tests.{eq-eqb, le-leb, ne-eqb}
+use borrow.Author.Tests.{eq-eqb, ne-eqb}
 use Rattle.rules.specs.declared.Regular.{Regular}
 use Rattle.rules.specs.declared.Complex.{Complex}
 use Rattle.rules.specs.declared.Edition.{Edition}
@@ -15,16 +15,16 @@ use Rattle.rules.specs.declared.Listed.{Listed}
 use Rattle.rules.specs.declared.Venue.{Venue}
 use Rattle.rules.specs.Base.{if_then_else_, all, held, keep}
 use Rattle.rules.specs.Words.{noGenerations}
-use Rattle.rules.specs.Bytes.{framed, u32, u8At}
+use Rattle.rules.specs.Bytes.{framed, u32}
 use Rattle.rules.specs.Generation.{generationsOf}
 use Rattle.rules.specs.Places.{holdsComplex, holdsEdition, holdsRegular}
 use Rattle.rules.specs.Sound.{listedInRange}
-use Rattle.rules.proofs.Tests.{and-in}
 use Rattle.demands.specs.Soundness.{Shaped}
 use Rattle.sets.specs.Set.{byId, complexRecord, countOf, editionRecord, fewEnough, firstRecord, generationRecord, generationRecords, hasPlace}
 use Rattle.sets.specs.Set.{inOrder, isSet, leggingRecord, leggingRecords, sortKey}
-use Rattle.sets.specs.Set.{ofSeries, ofWhole, part, reachedRecords, regularRecord, seriesRecords, seriesThen, setOf, tellsComplex, tellsEdition, tellsGeneration, tellsLegging, tellsRegular}
-use Rattle.sets.proofs.Lists.{Each, all-each, each-append, each-map, each-more, every, keep-few, rising-map, rising-order}
+use Rattle.sets.specs.Set.{ofSeries, ofWhole, part, reachedRecords, regularRecord, seriesRecords, seriesThen, setOf, tellsComplex, tellsEdition, tellsLegging, tellsRegular}
+use Rattle.sets.proofs.Counts.{few-in}
+use Rattle.sets.proofs.Lists.{Each, all-each, each-append, each-map, each-more, keep-few, rising-map, rising-order}
 use Rattle.sets.proofs.Rows.{AllWell, Well}
 use Rattle.sets.proofs.Records.{first-kind, listed-tells}
 use Rattle.sets.proofs.PartsKept.{Parts, complexes-only, editions-only, flat, leggings-only, parts-kept, parts-order, regulars-only, series-only}
@@ -103,10 +103,6 @@ leggings-few s (l ∷ k ∷ ls) = go (held (l .quantity)) (held (k .quantity)) (
     go true false h = omega arith
     go false true h = omega arith
     go false false h = omega arith
-
-or-yes : (a : Bool) → (a || true) ≡ true
-or-yes true = refl
-or-yes false = refl
 
 module _ (v : Venue) (w : Shaped v) (c : Carried v) where
   abbrev os : List Regular
@@ -261,13 +257,14 @@ module _ (v : Venue) (w : Shaped v) (c : Carried v) where
       omega arith
 
   few : fewEnough (flat (tailOf v)) ≡ true
-  unfolding fewEnough
-  few =
-      and-in _ _ (and-in _ _ (and-in _ _ (and-in _ _ (le-leb _ 32 few-editions) (le-leb _ 128 few-regulars)) (le-leb _ 32 few-complexes)) (le-leb _ 16 few-leggings))
-      (all-each (λ r. not (tellsGeneration r) || leb (countOf (ofSeries (u8At r 4)) (flat (tailOf v))) 20) (flat (tailOf v))
-      (every (λ r. (not (tellsGeneration r) || leb (countOf (ofSeries (u8At r 4)) (flat (tailOf v))) 20) ≡ true)
-      (λ r. rw (le-leb (countOf (ofSeries (u8At r 4)) (flat (tailOf v))) 20 (few-generations (u8At r 4))) (or-yes (not (tellsGeneration r))))
-      (flat (tailOf v))))
+  unfolding countOf
+  few = few-in (flat (tailOf v)) (record {
+    editions = few-editions;
+    regulars = few-regulars;
+    complexes = few-complexes;
+    leggings = few-leggings;
+    generations = few-generations;
+  })
 
   -- It is a set -------------------------------------------------------------------------------
 

@@ -307,8 +307,10 @@ pub count16 : List Trial
 count16 =
     answers (memory (many (λ n. increments 7 1 n n) 1 32)) 9
     ∷ answers (memory (many (λ n. increments 7 1 n n) 1 33)) 16
+    ∷ answers (memory (many (λ n. increments 7 1 n n) 1 32 ++ (percents 10 33 33 ∷ []))) 16
     ∷ answers (memory (many (λ n. buysBoth n 8) 1 32)) 9
     ∷ answers (memory (many (λ n. buysBoth n 8) 1 33)) 16
+    ∷ answers (memory (many (λ n. buysBoth n 8) 1 32 ++ (ratioed 33 1 2 ∷ []))) 16
     ∷ answers (memory (many (λ s. stands 3 0 s 115 8) 0 16)) 9
     ∷ answers (memory (many (λ s. stands 3 0 s 115 8) 0 17)) 16
     ∷ answers (memory (replicate 20 (generated 0 10))) 9
@@ -317,7 +319,7 @@ count16 =
     ∷ []
 
 pub count-holds : map outcome count16 ≡ map expected count16
-unfolding opened-rules opened-sets outcome expected begins status away openFrom quiet increments buysBoth stands generated memory many count16
+unfolding opened-rules opened-sets outcome expected begins status away openFrom quiet increments percents buysBoth ratioed stands generated memory many count16
 count-holds = refl
 
 pub regular16 : List Trial
