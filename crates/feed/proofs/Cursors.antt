@@ -41,14 +41,14 @@ number-ahead l at h = let k = length-drop at l in let z = number-some (drop at l
 
 -- Faults --------------------------------------------------------------------------------------
 
--- what is not faulty has a number above the last, and a whole message
-pub fine-above : (last : ℕ) (bs : List ℕ) → faulty last bs ≡ false → last < numberOf bs
-unfolding faulty
-fine-above last bs e = leb-false (numberOf bs) last (or-false-l (leb (numberOf bs) last) (torn (drop 4 bs)) e)
-
+-- what is not faulty has a whole message, and a number above the last
 pub fine-whole : (last : ℕ) (bs : List ℕ) → faulty last bs ≡ false → torn (drop 4 bs) ≡ false
 unfolding faulty
 fine-whole last bs e = or-false-r (leb (numberOf bs) last) (torn (drop 4 bs)) e
+
+pub fine-above : (last : ℕ) (bs : List ℕ) → faulty last bs ≡ false → last < numberOf bs
+unfolding faulty
+fine-above last bs e = leb-false (numberOf bs) last (or-false-l (leb (numberOf bs) last) (torn (drop 4 bs)) e)
 
 pub fine-in : (last : ℕ) (bs : List ℕ) → last < numberOf bs → torn (drop 4 bs) ≡ false → faulty last bs ≡ false
 unfolding faulty
