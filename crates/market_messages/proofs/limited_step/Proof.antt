@@ -2,7 +2,7 @@
 use mathlib.Core.Path.{refl, sym, _∙_}
 use borrow.Author.Tests.{not-true, not-false}
 use Rattle.rules.specs.Step.{perform}
-use Rattle.sweeps.proofs.Walking.{sound-rising}
+use Rattle.sweeps.proofs.RisingLaws.{sound-rising}
 use Rattle.refusals.proofs.RefusalFound.{limited-taken}
 use Rattle.answers.proofs.Answering.{done-steps, out-steps, in-steps}
 use borrow.Author.Needs.{needs}

@@ -1,7 +1,6 @@
 -- `market_messages::sweep_step` meets its contract.
 use mathlib.Core.Path.{_∙_}
 use Rattle.rules.specs.Step.{perform}
-use Rattle.sweeps.proofs.Walking.{sound-rising}
 use Rattle.refusals.proofs.RefusalFound.{sweep-taken}
 use Rattle.answers.proofs.Answering.{done-steps}
 use borrow.Author.Needs.{needs}
@@ -11,7 +10,7 @@ use Rattle.market_messages.proofs.sweep_step.Tie as tie
 sweep-requires : tie.Need-sweep-requires
 sweep-requires c κs =
     let s = c .before .before .before .before .before .before .before .before in
-    (s .pre .0, s .pre .1 .right, sound-rising _ (s .pre .2 .is))
+    (s .pre .0, s .pre .1)
 
 finish-requires : tie.Need-finish-requires
 finish-requires c κs =
