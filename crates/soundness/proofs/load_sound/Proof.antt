@@ -10,7 +10,8 @@ returns : tie.Need-returns
 returns c = checked-not _ _ (sym (c .before .places-sound .ensures) ∙ not-true _ (c .if1 .taken))
 
 load-requires : tie.Need-load-requires
-load-requires c κs = let start = c .before .before .before .before in (start .pre, places-load (start .args .v) (sym (c .before .before .places-sound .ensures) ∙ not-false _ (c .before .if1 .left)))
+load-requires c κs = let start = c .before .before .before .before in
+    record { whole = start .pre; loadable = places-load (start .args .v) (sym (c .before .before .places-sound .ensures) ∙ not-false _ (c .before .if1 .left)) }
 
 orders-sound-requires : tie.Need-orders-sound-requires
 orders-sound-requires c κs =

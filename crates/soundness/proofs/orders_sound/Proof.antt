@@ -39,7 +39,7 @@ returns-3 c = let b = c .before .before .before .before .before .before .before 
     (omega (arith, c .before .before .before .before .before .before .shared-slice-known .given 778))
 
 levels-requires : tie.Need-levels-requires
-levels-requires c κs = c .before .before .before .before .before .before .before .pre
+levels-requires c κs = record { whole = c .before .before .before .before .before .before .before .pre .0; right = c .before .before .before .before .before .before .before .pre .1 }
 
 leggings-sound-requires : tie.Need-leggings-sound-requires
 leggings-sound-requires c κs = let s = c .before .before .before .before .before .before .before .before in (s .pre .0, c .levels .ensures, s .pre .1 .marked .figures)

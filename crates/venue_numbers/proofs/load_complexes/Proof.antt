@@ -34,7 +34,7 @@ returns c = let h = c .before .before .before .before in
     complexes-last _ _ _ _ (h .loop .inv .1) n (omega arith) (free-after holdsComplex noComplex _ (s .args .t2) (h .loop .i) (s .pre .1) (ap not (eq-eqb _ _ (c .if1 .taken))))
 
 write-complex-requires : tie.Need-write-complex-requires Inv-loop μ-loop
-write-complex-requires c κs = (c .before .before .before .before .before .loop .inv .1 .long, omega arith)
+write-complex-requires c κs = record { whole = c .before .before .before .before .before .loop .inv .1 .long; place = omega arith }
 
 loop-again : tie.Need-loop-again Inv-loop μ-loop
 loop-again c = (

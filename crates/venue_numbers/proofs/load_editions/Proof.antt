@@ -19,7 +19,7 @@ loop-holds : tie.Need-loop-holds Inv-loop μ-loop
 loop-holds c = (omega arith, c .before .pre, editions-first _ _ (c .before .pre))
 
 write-edition-requires : tie.Need-write-edition-requires Inv-loop μ-loop
-write-edition-requires c κs = (c .before .before .before .loop .inv .1, omega arith)
+write-edition-requires c κs = record { whole = c .before .before .before .loop .inv .1; place = omega arith }
 
 loop-again : tie.Need-loop-again Inv-loop μ-loop
 loop-again c = let h = c .before .before .before .before .before .before in

@@ -19,7 +19,7 @@ loop-holds : tie.Need-loop-holds Inv-loop μ-loop
 loop-holds c = (omega arith, legging-first _ _ (c .before .pre))
 
 put-legging-requires : tie.Need-put-legging-requires Inv-loop μ-loop
-put-legging-requires c κs = (c .before .before .before .loop .inv .1 .long, omega arith)
+put-legging-requires c κs = record { whole = c .before .before .before .loop .inv .1 .long; place = omega arith }
 
 loop-again : tie.Need-loop-again Inv-loop μ-loop
 unfolding placed

@@ -34,7 +34,7 @@ returns c = let h = c .before .before .before .before in
     regulars-last _ _ _ _ (h .loop .inv .1) n (omega arith) (free-after holdsRegular noRegular _ (s .args .t2) (h .loop .i) (s .pre .1) (ap not (eq-eqb _ _ (c .if1 .taken))))
 
 write-regular-requires : tie.Need-write-regular-requires Inv-loop μ-loop
-write-regular-requires c κs = (c .before .before .before .before .before .loop .inv .1 .long, omega arith)
+write-regular-requires c κs = record { whole = c .before .before .before .before .before .loop .inv .1 .long; place = omega arith }
 
 loop-again : tie.Need-loop-again Inv-loop μ-loop
 loop-again c = (

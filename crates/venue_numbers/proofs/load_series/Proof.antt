@@ -18,7 +18,7 @@ loop-holds : tie.Need-loop-holds Inv-loop μ-loop
 loop-holds c = (omega arith, series-first _ _ (c .before .pre))
 
 put-listed-requires : tie.Need-put-listed-requires Inv-loop μ-loop
-put-listed-requires c κs = (c .before .before .before .loop .inv .1 .long, omega arith)
+put-listed-requires c κs = record { whole = c .before .before .before .loop .inv .1 .long; series = omega arith }
 
 loop-again : tie.Need-loop-again Inv-loop μ-loop
 loop-again c = let h = c .before .before .before .before .before .before in

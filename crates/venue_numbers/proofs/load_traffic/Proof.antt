@@ -20,7 +20,7 @@ loop-holds : tie.Need-loop-holds Inv-loop μ-loop
 loop-holds c = (omega arith, generations-first _ _ (c .before .pre))
 
 put-generations-requires : tie.Need-put-generations-requires Inv-loop μ-loop
-put-generations-requires c κs = (c .before .before .before .loop .inv .1 .long, omega arith)
+put-generations-requires c κs = record { whole = c .before .before .before .loop .inv .1 .long; series = omega arith }
 
 loop-again : tie.Need-loop-again Inv-loop μ-loop
 loop-again c = let h = c .before .before .before .before .before .before in
