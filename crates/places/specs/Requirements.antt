@@ -10,7 +10,7 @@ use Rattle.rules.specs.Complex.{restsRegular, restsComplex}
 use Rattle.rules.specs.Places.{holdsEdition}
 use Rattle.rules.specs.Sound.{showsFully}
 use Rattle.rules.specs.Refusals.{regularInRange}
-use Rattle.places.specs.Layout.{size, Right, Dense, Marked, Figured, regularsUsed, complexesUsed, noneShowsAgain, editionIn, venueOf, Below, Loadable}
+use Rattle.places.specs.Layout.{size, Right, Dense, Marked, Figured, regularsUsed, complexesUsed, noneShowsAgain, editionIn, venueOf, Below, Loadable, RegularsPlaced, ComplexesPlaced}
 use Rattle.rules.specs.declared.Regular.{Regular}
 use Rattle.rules.specs.declared.Complex.{Complex}
 use Rattle.rules.specs.declared.Edition.{Edition}
@@ -31,6 +31,11 @@ pub record DenseNumbers (b : List ℕ) : Type 0 where
 pub record MarkedNumbers (b : List ℕ) : Type 0 where
   pub whole : length b ≡ size
   pub marked : Marked b
+
+-- a whole slice, and the figures are those in force
+pub record FiguredNumbers (b : List ℕ) : Type 0 where
+  pub whole : length b ≡ size
+  pub figures : Figured b
 
 -- a whole slice and a series
 pub record SeriesReady (b : List ℕ) (s : ℕ) : Type 0 where
@@ -193,6 +198,16 @@ pub record DenseOrder (b : List ℕ) (o : Regular) : Type 0 where
 pub record LoadReady (b : List ℕ) (v : Venue) : Type 0 where
   pub whole : length b ≡ size
   pub loadable : Loadable v
+
+-- a whole slice and regular orders that it can stand for
+pub record RegularsLoadReady (b : List ℕ) (l : List Regular) : Type 0 where
+  pub whole : length b ≡ size
+  pub placed : RegularsPlaced l
+
+-- a whole slice and complex orders that it can stand for
+pub record ComplexesLoadReady (b : List ℕ) (l : List Complex) : Type 0 where
+  pub whole : length b ≡ size
+  pub placed : ComplexesPlaced l
 
 -- numbers without gaps, and an order with the id n rests
 pub record DenseRests (b : List ℕ) (n : ℕ) : Type 0 where

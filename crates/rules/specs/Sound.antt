@@ -107,7 +107,7 @@ generationsSound v = all (λ g. unfallen 0 (g .messages) && all (λ n. leb n 429
 
 -- True where the venue is sound. Document 01's conditions stand under its words, document 02's under its own, and *ours* are named: how
 -- places are arranged, and that free places are all zero. A one-message call given a venue that is arranged otherwise gets 9 too; no
--- message leaves a sound venue so (demands: `Kept`).
+-- message leaves a sound venue so (demands: `StaysSound`).
 unfoldable pub sound : Venue → Bool
 sound v =
     -- "fields are in range, resting ids … at most the last id"; *ours*: the arrangement of places

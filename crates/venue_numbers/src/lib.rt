@@ -5,7 +5,8 @@ ghost use Rattle.rules.specs.Words.{freshVenue, withLegging, withSeries, withGe
 ghost use Rattle.rules.specs.Step.{mask};
 ghost use Rattle.places.specs.Layout.{size, venueOf, bitOf};
 ghost use Rattle.places.specs.Layout.{SameCounts};
-ghost use Rattle.places.specs.Layout.{RegularsPlaced, ComplexesPlaced, Loadable, RegularsLoaded, ComplexesLoaded, EditionsLoaded, BesideCounted, Laid, Loaded};
+ghost use Rattle.places.specs.Layout.{RegularsLoaded, ComplexesLoaded, EditionsLoaded, BesideCounted, Laid, Loaded};
+ghost use Rattle.places.specs.Requirements.{LoadReady, RegularsLoadReady, ComplexesLoadReady};
 use rules::Complex;
 use rules::Edition;
 use rules::Generations;
@@ -34,7 +35,7 @@ pub fn fresh_numbers() -> [u32; places::SIZE]
 
 // Places are read until the first free one.
 fn load_regulars(numbers: &mut [u32], l: [Regular; 128])
-    requires { ⌜ (length (now numbers) ≡ size) × RegularsPlaced l ⌝ }
+    requires { ⌜ RegularsLoadReady (now numbers) l ⌝ }
     ensures { λ _. ⌜ RegularsLoaded (now (numbers .entry)) l (now (numbers .exit)) ⌝ }
 {
     let mut i: usize = 0;
@@ -52,7 +53,7 @@ fn load_regulars(numbers: &mut [u32], l: [Regular; 128])
 
 // Places are read until the first free one.
 fn load_complexes(numbers: &mut [u32], l: [Complex; 32])
-    requires { ⌜ (length (now numbers) ≡ size) × ComplexesPlaced l ⌝ }
+    requires { ⌜ ComplexesLoadReady (now numbers) l ⌝ }
     ensures { λ _. ⌜ ComplexesLoaded (now (numbers .entry)) l (now (numbers .exit)) ⌝ }
 {
     let mut i: usize = 0;
@@ -163,7 +164,7 @@ fn count_beside(numbers: &mut [u32])
 
 // A venue's numbers, and what is kept beside them; the levels stay as they are.
 pub fn load(numbers: &mut [u32], v: Venue)
-    requires { ⌜ (length (now numbers) ≡ size) × Loadable v ⌝ }
+    requires { ⌜ LoadReady (now numbers) v ⌝ }
     ensures { λ _. ⌜ Laid v (now (numbers .exit)) ⌝ }
 {
     let generations = v.generations;

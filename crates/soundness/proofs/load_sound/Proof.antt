@@ -17,7 +17,7 @@ orders-sound-requires : tie.Need-orders-sound-requires
 orders-sound-requires c κs =
     let p3 = c .before .before .before in
     let s = p3 .before .before .before .before .before in
-    (p3 .load .kept .0 ∙ s .pre, p3 .load .ensures .dense .right)
+    record { whole = p3 .load .kept .0 ∙ s .pre; right = p3 .load .ensures .dense .right }
 
 returns-2 : tie.Need-returns-2
 returns-2 c = checked _ _ _

@@ -16,7 +16,7 @@ returns c = let m = c .before .before in
     let first = t .before .before .before .before in
     loaded (first .args .v) _ _ _ _ _ _ _ _ _ (t .load-traffic .ensures) (r .load-regulars .ensures) (x .load-complexes .ensures)
     (l .load-leggings .ensures .0) (l .load-leggings .ensures .1) (s .load-series .ensures .0) (s .load-series .ensures .1) (e .load-editions .ensures)
-    (p .put-last .ensures .0) (p .put-last .ensures .1) (m .count-beside .ensures) (first .pre .1 .increments) (first .pre .1 .shows)
+    (p .put-last .ensures .0) (p .put-last .ensures .1) (m .count-beside .ensures) (first .pre .loadable .increments) (first .pre .loadable .shows)
 
 pub load-spec : {M : Type 1} → statement M
 load-spec =
