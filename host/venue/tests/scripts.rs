@@ -10,7 +10,7 @@ use std::process::{Command, Output, Stdio};
 const PRINTED_TEXT: &str = include_str!("sessions/printed.txt");
 
 const CRATES: &str = "# crates\nrules:\nwire: rules\n\nsheet: rules wire io # a program\n\
-    short: rules\nc_api: wire\ndispatch: wire\nother: sheet\n";
+    short_sheets: rules\nc_api: wire\ndispatch: wire\nother: sheet\n";
 
 /// Proves what crates.txt says of a program, and writes it; refuses where the file refuse is
 /// there.
@@ -36,7 +36,7 @@ check)
     prove wire
     shift
     for name in "$@"; do
-        case $name in sheet | short) ;; *) continue ;; esac
+        case $name in sheet | short_sheets) ;; *) continue ;; esac
         prove "$name"
         mkdir -p target/bin
         printf '#!/bin/sh\necho "%s of $(wc -c) bytes"\n' "$name" >"target/bin/$name"
@@ -225,8 +225,8 @@ fn several_crates_are_proved_at_a_time() {
     );
     let mut command = tree.command(&tree.path("bin/short"));
     let (status, printed, _) = told(command.env("RT_JOBS", "7").output().unwrap());
-    assert_eq!((status, printed.as_str()), (0, "short of 0 bytes\n"));
-    assert!(tree.read("calls").contains("check short jobs=7 "));
+    assert_eq!((status, printed.as_str()), (0, "short_sheets of 0 bytes\n"));
+    assert!(tree.read("calls").contains("check short_sheets jobs=7 "));
 }
 
 #[test]
@@ -351,6 +351,29 @@ fn a_long_session_is_cut_where_the_program_stops() {
         most,
         (0, "sheet of 65536 bytes\n".to_string(), String::new())
     );
+}
+
+/// The crates that the scripts name stand in the project's own crates.txt: the one here is a
+/// stand-in, which a crate that is renamed does not reach.
+#[test]
+fn scripts_name_crates_that_there_are() {
+    let top = Path::new(env!("CARGO_MANIFEST_DIR")).join("../..");
+    let crates = fs::read_to_string(top.join("crates.txt")).unwrap();
+    let named = |text: &str| crates.lines().any(|line| line.starts_with(&format!("{text}:")));
+    let mut programs = Vec::new();
+    for entry in fs::read_dir(top.join("bin")).unwrap() {
+        let script = fs::read_to_string(entry.unwrap().path()).unwrap();
+        let proved = script.lines().filter_map(|line| line.strip_prefix("prove_program "));
+        programs.extend(proved.map(str::to_string));
+        let archives = script.lines().find_map(|line| line.strip_prefix("ARCHIVES=("));
+        let archives = archives.map_or("", |rest| rest.trim_end_matches(')'));
+        programs.extend(archives.split_whitespace().map(str::to_string));
+    }
+    programs.sort();
+    assert_eq!(programs, ["c_api", "dispatch", "sheet", "short_sheets"]);
+    for program in programs {
+        assert!(named(&program), "{program} is no crate");
+    }
 }
 
 #[test]
