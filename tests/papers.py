@@ -17,7 +17,7 @@ Says each fault as FILE:LINE: what is wrong, and ends with status 1 where there 
   In a table a column headed "Wrong edit" has must-fail edits after their crate, one headed "Test" functions after their file
   in host/sessions/tests/all, and one headed "Code" functions of crates/*/src alone; one headed by a crate, or by several, has
   their functions; one headed by a file has that file's names; and in one headed "File" each row begins with the file that its
-  names are of. Code of more than a name is not looked at;
+  names are of. Code of more than a name is not looked at, but "step (messages)" between lines of ``` is a function of that crate;
 - every path beginning with crates/, host/, docs/, tests/, include/, examples/ or bin/ exists (NAME and the like stand for any);
 - every definition of crates/rules/specs, but those of Trials and Opened, is named after its file in docs/CROSSWALK.md or
   docs/requests/*.md;
@@ -50,6 +50,7 @@ WORD = re.compile(r"(?:\b([a-z_]+) )?\b(\w+): (?=`)")
 ROW = re.compile(r"(?<![\w(])([A-Z])(\d+)\b")
 READING = re.compile(r"\bReadings? (\d+(?:(?:, | to | and )\d+)*)")
 OF_CRATE = re.compile(r"`\w+`(?:(?:, | and )`\w+`)* \(([a-z_]+)\)")
+DRAWN = re.compile(r"\b(\w+) \(([a-z_]+)\)")
 NAME = re.compile(r"[^\W\d][\w·⟫'-]*|_[^\s`.()]+_")
 
 
@@ -180,6 +181,9 @@ class Papers:
             # A line that is wrapped goes on with its paragraph; one that is indented by four is code unless it goes on so.
             if not prose and line.startswith("    ") or fenced or line.startswith("```"):
                 fenced ^= line.startswith("```")
+                for name, crate in DRAWN.findall(line) if fenced else []:
+                    if name not in self.tree.functions.get(crate, [name]):
+                        self.fault(path, number, f"{name}: no function of crates/{crate}/src")
                 continue
             self.paths(path, number, line)
             if prose and (line.startswith("|") or not line.strip() or re.match(r"\s*(?:[-*#]|\d+\.) ", line)):
