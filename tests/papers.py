@@ -24,7 +24,7 @@ Says each fault as FILE:LINE: what is wrong, and ends with status 1 where there 
 - every path beginning with crates/, host/, docs/, tests/, include/, examples/ or bin/ exists (NAME and the like stand for any);
 - every definition of crates/rules/specs, but those of Trials and Opened, is named after its file in docs/CROSSWALK.md or
   docs/requests/*.md;
-- every row ("W3") that the columns "In 01", "Definitions", "Rule" and "Difference" name has a line under "No." or begins a quotation
+- every row ("W3") that the columns "01", "In 01", "Definitions", "Rule" and "Difference" name has a line under "No." or begins a quotation
   under "01", and every "Reading 14" is a number of docs/DECISIONS.md, section 2;
 - in crates.txt a crate uses only crates above it and has a line that says what it is for, and README's table "Layers" has its layers and crates;
 - no line outside tables and code is longer than 160 characters, and no path of a machine is told;
@@ -224,7 +224,7 @@ class Papers:
             if column == "01":
                 self.rows |= {found[1] for found in re.finditer(r'(?<![\w(])([A-Z]\d+) "', cell)}
         for column, cell in zip(header, cells):
-            if column in ("In 01", "Definitions", "Rule", "Difference"):
+            if column in ("01", "In 01", "Definitions", "Rule", "Difference"):
                 self.said += [(path, number, found[0]) for found in ROW.finditer(SPAN.sub("", cell))]
             before = cells[0] if header[0] == "File" and column != "File" else column
             self.text(path, [(number, cell)], column, before)
