@@ -54,6 +54,7 @@ WORD = re.compile(r"(?:\b([a-z_]+) )?\b(\w+): (?=`)")
 ROW = re.compile(r"(?<![\w(])([A-Z])(\d+)\b")
 READING = re.compile(r"\bReadings? (\d+(?:(?:, | to | and )\d+)*)")
 OF_CRATE = re.compile(r"`\w+`(?:(?:, | and )`\w+`)* \(([a-z_]+)\)")
+COLUMNS_WITH_LINES = ("Definition", "Definitions", "Trial")
 # What a line number stands after in CROSSWALK, and the file word that says of which file a name is.
 LINED = re.compile(r'(?:\b([a-z_]+) )?\b([A-Z]\w*): (?=`)|`([^`]+)` \(\d+\)|(\*?)"([^"]+)" \(\d+\)|Example (\d+) \(\d+\)')
 DECLARED = re.compile(r"(\s*)((?:(?:pub|abbrev|unfoldable|opaque|private|record|data)\s+)*)([^\s:(){}\[\]]+)(?:\s+[({].*?)?\s+:(?:\s|$)")
@@ -313,8 +314,7 @@ class Papers:
             elif not header:
                 header = [cell.strip() for cell in cells]
             else:
-                kinds = (("Definition", "Definitions"), ("Trial",))
-                right = [self.with_lines(path, at + 1, cell) if any(column in kind for kind in kinds) else cell for column, cell in zip(header, cells)]
+                right = [self.with_lines(path, at + 1, cell) if column in COLUMNS_WITH_LINES else cell for column, cell in zip(header, cells)]
                 if right != cells and write:
                     lines[at] = "|".join(right)
                 elif right != cells:
