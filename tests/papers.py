@@ -20,7 +20,7 @@ Says each fault as FILE:LINE: what is wrong, and ends with status 1 where there 
   names are of. Code of more than a name is not looked at;
 - a number in brackets after a name or a quotation in CROSSWALK is its line. In a column headed "Definition" or "Definitions" it is the
   line that declares the name; in one headed "Trial" a line of crates/trials/specs/Trials.antt, or after a star of
-  crates/rules/specs/Trials.antt, that quotes the words, and of "Example 3" the line of crates/trials/specs/Filing.antt;
+  crates/rules/specs/Trials.antt, that quotes the words or begins with them, and of "Example 3" the line of crates/trials/specs/Filing.antt;
 - every path beginning with crates/, host/, docs/, tests/, include/, examples/ or bin/ exists (NAME and the like stand for any);
 - every definition of crates/rules/specs, but those of Trials and Opened, is named after its file in docs/CROSSWALK.md or
   docs/requests/*.md;
@@ -336,7 +336,8 @@ class Papers:
             if name:
                 at = declared_at(file, name)[:1]
             elif words:
-                at = said_at(f"crates/{'rules' if star else 'trials'}/specs/Trials.antt", f'"{words}')
+                trials = f"crates/{'rules' if star else 'trials'}/specs/Trials.antt"
+                at = said_at(trials, f'"{words}') or said_at(trials, f"-- {words}")
             else:
                 at = said_at("crates/trials/specs/Filing.antt", f"-- {example}. ")
             if len(at) == 1:
