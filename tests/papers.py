@@ -1,7 +1,7 @@
 #!/usr/bin/env python3
 """Holds the papers (README.md, docs/*.md, docs/requests/*.md) to the tree.
 
-    tests/papers.py [--names]
+    tests/papers.py [--names | --write]
 
 Says each fault as FILE:LINE: what is wrong, and ends with status 1 where there is one. It asks that
 
@@ -18,16 +18,20 @@ Says each fault as FILE:LINE: what is wrong, and ends with status 1 where there 
   in host/sessions/tests/all, and one headed "Code" functions of crates/*/src alone; one headed by a crate, or by several, has
   their functions; one headed by a file has that file's names; and in one headed "File" each row begins with the file that its
   names are of. Code of more than a name is not looked at, but "step (messages)" between lines of ``` is a function of that crate;
+- a number in brackets after a name or a quotation in CROSSWALK is its line. In a column headed "Definition" or "Definitions" it is the
+  line that declares the name; in one headed "Trial" a line of crates/trials/specs/Trials.antt, or after a star of
+  crates/rules/specs/Trials.antt, that quotes the words or begins with them, and of "Example 3" the line of crates/trials/specs/Filing.antt;
 - every path beginning with crates/, host/, docs/, tests/, include/, examples/ or bin/ exists (NAME and the like stand for any);
 - every definition of crates/rules/specs, but those of Trials and Opened, is named after its file in docs/CROSSWALK.md or
   docs/requests/*.md;
-- every row ("W3") that the columns "In 01", "Definitions" and "Rule" name has a line under "No.", and every "Reading 14" is a number of
-  docs/DECISIONS.md, section 2;
+- every row ("W3") that the columns "01", "In 01", "Definitions", "Rule" and "Difference" name has a line under "No." or begins a quotation
+  under "01", and every "Reading 14" is a number of docs/DECISIONS.md, section 2;
 - in crates.txt a crate uses only crates above it and has a line that says what it is for, and README's table "Layers" has its layers and crates;
 - no line outside tables and code is longer than 160 characters, and no path of a machine is told;
 - docs/ without docs/requests/ is at most 90,000 bytes, and 2,000 more for each request that has landed (docs/requests/a.md and so on).
 
---names prints what the papers may name, a line for each file or crate.
+--names prints what the papers may name, a line for each file or crate. --write puts the lines of the sources into CROSSWALK
+first, where there is one line to put.
 """
 import glob
 import os
@@ -51,6 +55,10 @@ ROW = re.compile(r"(?<![\w(])([A-Z])(\d+)\b")
 READING = re.compile(r"\bReadings? (\d+(?:(?:, | to | and )\d+)*)")
 OF_CRATE = re.compile(r"`\w+`(?:(?:, | and )`\w+`)* \(([a-z_]+)\)")
 DRAWN = re.compile(r"\b(\w+) \(([a-z_]+)\)")
+COLUMNS_WITH_LINES = ("Definition", "Definitions", "Trial")
+# What a line number stands after in CROSSWALK, and the file word that says of which file a name is.
+LINED = re.compile(r'(?:\b([a-z_]+) )?\b([A-Z]\w*): (?=`)|`([^`]+)` \(\d+\)|(\*?)"([^"]+)" \(\d+\)|Example (\d+) \(\d+\)')
+DECLARED = re.compile(r"(\s*)((?:(?:pub|abbrev|unfoldable|opaque|private|record|data)\s+)*)([^\s:(){}\[\]]+)(?:\s+[({].*?)?\s+:(?:\s|$)")
 NAME = re.compile(r"[^\W\d][\w·⟫'-]*|_[^\s`.()]+_")
 
 
@@ -61,19 +69,29 @@ def read(path):
 
 def antt_names(path):
     """The names that a file of definitions or proofs declares, and those of them that are no field or constructor."""
-    declared = re.compile(r"(\s*)((?:(?:pub|abbrev|unfoldable|opaque|private|record|data)\s+)*)([^\s:(){}\[\]]+)(?:\s+[({].*?)?\s+:(?:\s|$)")
     every, own = set(), set()
     in_type = False
     for line in read(path).split("\n"):
         if line and not line[0].isspace():
             in_type = bool(re.match(r"(?:pub\s+)?(?:record|data)\s", line))
-        found = declared.match(line)
+        found = DECLARED.match(line)
         if not found or line.lstrip().startswith("--"):
             continue
         every.add(found[3])
         if not found[1] or not in_type:
             own.add(found[3])
     return every, own
+
+
+def declared_at(path, name):
+    """The lines of a file of definitions that declare a name."""
+    lines = enumerate(read(path).split("\n"), 1) if os.path.exists(path) else ()
+    return [n for n, line in lines if (found := DECLARED.match(line)) and found[3] == name]
+
+
+def said_at(path, words):
+    """The lines of a file whose comment says these words."""
+    return [n for n, line in enumerate(read(path).split("\n"), 1) if re.match(r"\s*-- ", line) and words in line]
 
 
 def code_names(path):
@@ -205,10 +223,13 @@ class Papers:
     def row(self, path, number, header, cells):
         if len(cells) != len(header):
             self.fault(path, number, f"{len(cells)} cells under {len(header)} headings")
-        if header[0] == "No.":
-            self.rows |= rows_of(cells[0])
         for column, cell in zip(header, cells):
-            if column in ("In 01", "Definitions", "Rule"):
+            if column == "No.":
+                self.rows |= rows_of(cell)
+            if column == "01":
+                self.rows |= {found[1] for found in re.finditer(r'(?<![\w(])([A-Z]\d+) "', cell)}
+        for column, cell in zip(header, cells):
+            if column in ("01", "In 01", "Definitions", "Rule", "Difference"):
                 self.said += [(path, number, found[0]) for found in ROW.finditer(SPAN.sub("", cell))]
             before = cells[0] if header[0] == "File" and column != "File" else column
             self.text(path, [(number, cell)], column, before)
@@ -287,6 +308,50 @@ class Papers:
                 for reading in set(re.findall(r"\d+", found[1])) - known:
                     self.fault(path, number, f"reading {reading} is no number of docs/DECISIONS.md, section 2")
 
+    def lined(self, path, write):
+        """That the numbers after names and quotations are the lines of the sources; `write` puts these in."""
+        header, lines = [], read(path).split("\n")
+        for at, line in enumerate(lines):
+            cells = re.split(r"(?<!\\)\|", line)
+            if not line.startswith("|"):
+                header = []
+            elif not header:
+                header = [cell.strip() for cell in cells]
+            else:
+                right = [self.with_lines(path, at + 1, cell) if column in COLUMNS_WITH_LINES else cell for column, cell in zip(header, cells)]
+                if right != cells and write:
+                    lines[at] = "|".join(right)
+                elif right != cells:
+                    self.fault(path, at + 1, f"not the lines of the sources (--write puts them in): {'|'.join(right)}")
+        if write:
+            with open(path, "w", encoding="utf-8") as f:
+                f.write("\n".join(lines))
+
+    def with_lines(self, path, number, cell):
+        """A cell with the lines of the sources."""
+        file = "crates/rules/specs/Lib.antt"
+
+        def placed(found):
+            nonlocal file
+            crate, stem, name, star, words, example = found.groups()
+            if stem:
+                file = f"crates/{crate if crate in self.tree.crates else 'rules'}/specs/{stem}.antt"
+                return found[0]
+            if name:
+                at = declared_at(file, name)[:1]
+            elif words:
+                trials = f"crates/{'rules' if star else 'trials'}/specs/Trials.antt"
+                at = said_at(trials, f'"{words}') or said_at(trials, f"-- {words}")
+            else:
+                at = said_at("crates/trials/specs/Filing.antt", f"-- {example}. ")
+            if len(at) == 1:
+                return re.sub(r"\(\d+\)$", f"({at[0]})", found[0])
+            if not found[0].endswith(tuple(f"({n})" for n in at)):
+                self.fault(path, number, f"{found[0]}: the lines of the sources that have it: {at}")
+            return found[0]
+
+        return LINED.sub(placed, cell)
+
     def rows_named(self):
         for path, number, row in self.said:
             if row not in self.rows:
@@ -333,18 +398,19 @@ def main():
     if words in (["--help"], ["-h"]):
         print(__doc__.strip())
         return 0
-    if words not in ([], ["--names"]):
+    if words not in ([], ["--names"], ["--write"]):
         print(f"papers.py: {' '.join(words)} is not known; try --help", file=sys.stderr)
         return 2
     os.chdir(os.path.join(os.path.dirname(os.path.abspath(__file__)), ".."))
     tree = Tree()
-    if words:
+    if words == ["--names"]:
         for (crate, stem), names in sorted(tree.files.items()):
             print(f"{crate}: {stem}: {' '.join(sorted(names))}")
         for crate, names in sorted(tree.functions.items()):
             print(f"{crate}: code: {' '.join(sorted(names))}")
         return 0
     papers = Papers(tree)
+    papers.lined("docs/CROSSWALK.md", bool(words))
     # CROSSWALK and the requests' pages alone count as naming a definition.
     for path in ["docs/CROSSWALK.md"] + sorted(glob.glob("docs/requests/*.md")):
         papers.paper(path)

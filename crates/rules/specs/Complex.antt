@@ -61,7 +61,7 @@ unfoldable pub limitThenId : Complex → Complex → Bool
 limitThenId a b = ltZ (b .limit) (a .limit) || (not (ltZ (a .limit) (b .limit)) && earlierComplex a b)
 
 -- The orders at places i and j cross for k: "Any cross or pair removes the legging orders of each party (3), right after its 70 or 66,
--- the taker's first."
+-- the taker's first."; (C)(4)(iii)
 unfoldable pub cross : (i j k : ℕ) → Venue → Effect
 cross i j k v =
     let c = complexAt v i in
@@ -101,7 +101,7 @@ fillsUnit v c =
     && leb (c .ratio2) (ownSize v (c .series2) (opposite (c .side2)))
 
 -- "remove legging orders on those two sides (cause 8; this stands for viii and ix)"; request (g): where the sizes "can't fill a unit, the
--- legging orders on the touched sides go with cause 10 instead of 8"
+-- legging orders on the touched sides go with cause 10 instead of 8"; (C)(4)(viii) to (x)
 unfoldable pub touch : (i : ℕ) → Venue → Effect
 touch i v =
     let c = complexAt v i in

@@ -75,7 +75,7 @@ givesWay v c d p l =
 
 -- True where each legging order of the list passes its test upon w, the one at place m left aside: "no other standing order would then
 -- fail its test". w is the venue with the new order at its place m; the list begins at place n.
--- (C)(2)(vi) bars a generation that would cause removals under (C)(4)(ix); 01 bars any that makes a standing order fail its test.
+-- (C)(2)(vi) is another rule: it bars a complex order that itself causes removals under (C)(4)(ix), and 01 lets that order generate.
 unfoldable pub othersStand : (w : Venue) → (m n : ℕ) → List Legging → Bool
 othersStand w m n [] = true
 othersStand w m n (l ∷ ls) = (eqb n m || stands (verdict w n l)) && othersStand w m (suc n) ls
