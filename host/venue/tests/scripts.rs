@@ -359,13 +359,21 @@ fn a_long_session_is_cut_where_the_program_stops() {
 fn scripts_name_crates_that_there_are() {
     let top = Path::new(env!("CARGO_MANIFEST_DIR")).join("../..");
     let crates = fs::read_to_string(top.join("crates.txt")).unwrap();
-    let named = |text: &str| crates.lines().any(|line| line.starts_with(&format!("{text}:")));
+    let named = |text: &str| {
+        crates
+            .lines()
+            .any(|line| line.starts_with(&format!("{text}:")))
+    };
     let mut programs = Vec::new();
     for entry in fs::read_dir(top.join("bin")).unwrap() {
         let script = fs::read_to_string(entry.unwrap().path()).unwrap();
-        let proved = script.lines().filter_map(|line| line.strip_prefix("prove_program "));
+        let proved = script
+            .lines()
+            .filter_map(|line| line.strip_prefix("prove_program "));
         programs.extend(proved.map(str::to_string));
-        let archives = script.lines().find_map(|line| line.strip_prefix("ARCHIVES=("));
+        let archives = script
+            .lines()
+            .find_map(|line| line.strip_prefix("ARCHIVES=("));
         let archives = archives.map_or("", |rest| rest.trim_end_matches(')'));
         programs.extend(archives.split_whitespace().map(str::to_string));
     }
